@@ -63,7 +63,7 @@ pub fn check_present_talks()
 
 /// What was read and written, and what is printed.
 pub fn check_present_is_wired()
-    ensures wired { Wired check_present 1 (text (got_lines check_present 1)) (text (codes "EXTENSIONS INFO GETGITREMOTENAME" ∷ codes "PREPARE" ∷ (codes "CHECKPRESENT " ++ sample_key) ∷ [])) [] }
+    ensures wired { Wired check_present 1 (Some (text (got_lines check_present 1))) (Some (text (codes "EXTENSIONS INFO GETGITREMOTENAME" ∷ codes "PREPARE" ∷ (codes "CHECKPRESENT " ++ sample_key) ∷ []))) [] }
     ensures printed { answer_line check_present 1 Present ≡ codes "1 present" ++ 10 ∷ [] }
     ensures foul { answer_line other_key 1 (EndedAnswer (Foul 13)) ≡ codes "1 foul CHECKPRESENT-SUCCESS WORM--x" ++ 10 ∷ [] }
 {}
