@@ -4,5 +4,6 @@ pub mod Legality
 pub mod Output
 pub mod Parts
 pub mod Projection
+pub mod Room
 pub mod Rows
 pub mod Wires
