@@ -22,7 +22,7 @@ use Rattle.journal_model.specs.Legality.{Legal, may_come, may_stop, may_ask, is_
 use Rattle.journal_model.specs.Room.{room_for, room_of}
 use Rattle.journal_model.proofs.Growing.{Legal-induction}
 use Rattle.journal_model.proofs.Looks.{entry, same_number, both, each_of-append, open_unsettled, settled_all}
-use Rattle.journal_model.proofs.Counting.{same_nat, nat_is_same, same_pair, pair_is_same, Pair, one, many, many-cons, many-append, AtMost, AtMost-length, more_none, more_one, holds, named_none, named_some, named_count, named_length, is_there, filter_at_most, filter_drops}
+use Rattle.journal_model.proofs.Counting.{IsSame, same_nat, nat_is_same, same_pair, pair_is_same, Pair, one, many, many-cons, many-append, AtMost, AtMost-length, more_none, more_one, holds, named_none, named_some, named_count, named_length, is_there, filter_at_most, filter_drops}
 
 -- ---- whom an entry names
 
@@ -131,3 +131,177 @@ grow_none eq f g past group none h =
     let fs = each_of-append f past group ∙ ap (λ (xs : List _). each_of f past ++ xs) none in
     let gs = each_of-append g past group in
     rw (fs, gs) (more_none eq (each_of f past) (each_of g past) (each_of g group) h)
+
+grow_one : {X : Type 0} (eq : X → X → Bool) → IsSame eq → (f g : What → Option X) (past group : List Entry) (x : X) → each_of f group ≡ x ∷ []
+    → many eq x (each_of f past) ≡ 0 → 1 ≤ many eq x (each_of g past)
+    → AtMost eq (each_of f past) (each_of g past) → AtMost eq (each_of f (past ++ group)) (each_of g (past ++ group))
+grow_one eq is f g past group x single none some h =
+    let fs = each_of-append f past group ∙ ap (λ (xs : List _). each_of f past ++ xs) single in
+    let gs = each_of-append g past group in
+    rw (fs, gs) (more_one eq is (each_of f past) (each_of g past) (each_of g group) x h (omega (arith, none, some)))
+
+not_true : (b : Bool) → not b ≡ true → b ≡ false
+not_true false h = refl
+not_true true h = absurd cc
+
+-- ---- claims and answers
+
+claims_is : (t : ℕ) (w : What) → claims t w ≡ holds same_nat t (claimed w)
+claims_is t w = by w
+  where
+    by : (w : What) → claims t w ≡ holds same_nat t (claimed w)
+    by (Claim task child) = refl
+    by w = refl
+
+answers_is : (t : ℕ) (w : What) → answers t w ≡ holds same_nat t (answered w)
+answers_is t (Answered task answer) = refl
+answers_is t w = refl
+
+found : (p : ℕ → Bool) (t : ℕ) (xs : List ℕ) → is_number t (find p xs) ≡ true → (p t ≡ true) × (1 ≤ many same_nat t xs)
+found p t [] h = absurd cc
+found p t (x ∷ xs) h = go (p x) refl h (found p t xs)
+  where
+    all : many same_nat t (x ∷ xs) ≡ one (x == t) + many same_nat t xs
+    all = many-cons same_nat t x xs
+
+    go : (b : Bool) → p x ≡ b → is_number t (cond b (Some x) (find p xs)) ≡ true → (is_number t (find p xs) ≡ true → (p t ≡ true) × (1 ≤ many same_nat t xs))
+        → (p t ≡ true) × (1 ≤ many same_nat t (x ∷ xs))
+    go true e h r =
+        let i : one (x == t) ≡ 1 = ap one h in
+        (subst (λ (y : ℕ). p y ≡ true) (same_number x t h) e, omega (arith, all, i))
+    go false e h r =
+        let s : 1 ≤ many same_nat t xs = (r h).1 in
+        ((r h).0, omega (arith, all, s))
+
+abbrev Claims : Opening → List Entry → Type 0
+Claims o past = AtMost same_nat (each_of claimed past) (numbers_of o)
+
+claims_kept : (o : Opening) (past group : List Entry) → each_of claimed group ≡ [] → Claims o past → Claims o (past ++ group)
+claims_kept o past group none h = rw (each_of-append claimed past group, none, append-nil (each_of claimed past)) h
+
+claims_step : (o : Opening) (past : List Entry) (by : ℕ) (w : What) → Claims o past → may_come o past by w ≡ true
+    → Claims o (past ++ entry by w ∷ due_after o past (entry by w))
+claims_step o past by (Claim task child) h may =
+    let group = entry by (Claim task child) ∷ [] in
+    let free = found (is_free o past) task (numbers_of o) (both _ _ may).0 in
+    let fresh : is_claimed past task ≡ false = not_true (is_claimed past task) (both _ _ free.0).0 in
+    let none = named_none same_nat claimed (claims task) task (claims_is task) past fresh in
+    let some : 1 ≤ many same_nat task (numbers_of o) = free.1 in
+    let a = more_one same_nat nat_is_same (each_of claimed past) (numbers_of o) [] task h (omega (arith, none, some)) in
+    let b : AtMost same_nat (each_of claimed past ++ task ∷ []) (numbers_of o) =
+    subst (λ (xs : List ℕ). AtMost same_nat (each_of claimed past ++ task ∷ []) xs) (append-nil (numbers_of o)) a in
+    rw (each_of-append claimed past group) b
+claims_step o past by w h may =
+    claims_kept o past (entry by w ∷ due_after o past (entry by w)) (due_names claimed (λ c j v. refl) (λ c why. refl) o past by w) h
+
+answers_step : (o : Opening) (past : List Entry) (by : ℕ) (w : What) → AtMost same_nat (each_of answered past) (each_of claimed past) → may_come o past by w ≡ true
+    → AtMost same_nat (each_of answered (past ++ entry by w ∷ due_after o past (entry by w))) (each_of claimed (past ++ entry by w ∷ due_after o past (entry by w)))
+answers_step o past by (Answered task answer) h may =
+    let busy = both _ _ (both _ _ (both _ _ may).0).1 in
+    let none = named_none same_nat answered (answers task) task (answers_is task) past (not_true _ busy.1) in
+    let some = named_some same_nat claimed (claims task) task (claims_is task) past busy.0 in
+    grow_one same_nat nat_is_same answered claimed past (entry by (Answered task answer) ∷ []) task refl none some h
+answers_step o past by w h may =
+    grow_none same_nat answered claimed past (entry by w ∷ due_after o past (entry by w)) (due_names answered (λ c j v. refl) (λ c why. refl) o past by w) h
+
+-- ---- starts, mutes and ends
+
+starts_is : (c : ℕ) (w : What) → starts c w ≡ holds same_nat c (started w)
+starts_is c (Start child slot offer) = refl
+starts_is c w = refl
+
+ends_is : (c : ℕ) (w : What) → ends c w ≡ holds same_nat c (ended w)
+ends_is c (End child why) = refl
+ends_is c w = refl
+
+mutes_is : (c : ℕ) (w : What) → mutes c w ≡ holds same_nat c (muted w)
+mutes_is c (Mute child) = refl
+mutes_is c w = refl
+
+mutes_step : (o : Opening) (past : List Entry) (by : ℕ) (w : What) → AtMost same_nat (each_of muted past) (each_of started past) → may_come o past by w ≡ true
+    → AtMost same_nat (each_of muted (past ++ entry by w ∷ due_after o past (entry by w))) (each_of started (past ++ entry by w ∷ due_after o past (entry by w)))
+mutes_step o past by (Mute child) h may =
+    let t = both (is_started past child) (not (is_mute past child)) may in
+    let none = named_none same_nat muted (mutes child) child (mutes_is child) past (not_true _ t.1) in
+    let some = named_some same_nat started (starts child) child (starts_is child) past t.0 in
+    let due = due_names muted (λ c j v. refl) (λ c why. refl) o past by (Mute child) in
+    grow_one same_nat nat_is_same muted started past (entry by (Mute child) ∷ due_after o past (entry by (Mute child))) child (ap (λ (xs : List ℕ). child ∷ xs) due) none some h
+mutes_step o past by w h may =
+    grow_none same_nat muted started past (entry by w ∷ due_after o past (entry by w)) (due_names muted (λ c j v. refl) (λ c why. refl) o past by w) h
+
+abbrev Ends : List Entry → Type 0
+Ends past = AtMost same_nat (each_of ended past) (each_of started past)
+
+-- a live child may end
+end_grow : (past group : List Entry) (child : ℕ) → each_of ended group ≡ child ∷ [] → is_live past child ≡ true → Ends past → Ends (past ++ group)
+end_grow past group child single live h =
+    let t = both (is_started past child) (not (is_ended past child)) live in
+    let none = named_none same_nat ended (ends child) child (ends_is child) past (not_true _ t.1) in
+    let some = named_some same_nat started (starts child) child (starts_is child) past t.0 in
+    grow_one same_nat nat_is_same ended started past group child single none some h
+
+verdicts_end : (by child : ℕ) (v : Verdict) (ks : List ℕ) → each_of ended (settled_all by child v ks) ≡ []
+verdicts_end by child v ks = verdicts_name ended (λ c j v. refl) by child v ks
+
+ends_step : (o : Opening) (past : List Entry) (by : ℕ) (w : What) → Ends past → may_come o past by w ≡ true
+    → Ends (past ++ entry by w ∷ due_after o past (entry by w))
+ends_step o past by (End child why) h may =
+    end_grow past (entry by (End child why) ∷ due_after o past (entry by (End child why))) child
+    (ap (λ (xs : List ℕ). child ∷ xs) (verdicts_end by child (Ended why) (open_jobs past child))) (both (is_live past child) (may_stop past child why) may).0 h
+ends_step o past by (Mute child) h may = by_life (is_live past child)
+  where
+    by_life : (b : Bool)
+        → Ends (past ++ entry by (Mute child) ∷ made_by by (cond b (map (λ (k : ℕ). Settled child k Unsent) (filter (is_unsent past child) (open_jobs past child))) []))
+    by_life true =
+        let ks = filter (is_unsent past child) (open_jobs past child) in
+        grow_none same_nat ended started past (entry by (Mute child) ∷ settled_all by child Unsent ks) (verdicts_end by child Unsent ks) h
+    by_life false = grow_none same_nat ended started past (entry by (Mute child) ∷ []) refl h
+ends_step o past by (Got child line) h may = by_due (due_by_got o past child line) (got_due o past child line)
+  where
+    by_due : (due : List What) → GotDue past child due → Ends (past ++ entry by (Got child line) ∷ made_by by due)
+    by_due due (inl e) = subst (λ (ws : List What). Ends (past ++ entry by (Got child line) ∷ made_by by ws)) (sym e) (grow_none same_nat ended started past (entry by (Got child line) ∷ []) refl h)
+    by_due due (inr (inl e)) =
+        subst (λ (ws : List What). Ends (past ++ entry by (Got child line) ∷ made_by by ws)) (sym e.1)
+        (end_grow past (entry by (Got child line) ∷ entry by (End child e.0) ∷ settled_all by child (Ended e.0) (open_jobs past child)) child
+        (ap (λ (xs : List ℕ). child ∷ xs) (verdicts_end by child (Ended e.0) (open_jobs past child))) (both (is_live past child) _ may).0 h)
+    by_due due (inr (inr e)) =
+        subst (λ (ws : List What). Ends (past ++ entry by (Got child line) ∷ made_by by ws)) (sym e.3)
+        (grow_none same_nat ended started past (entry by (Got child line) ∷ entry by (Settled child e.0 e.1) ∷ []) refl h)
+ends_step o past by w h may = grow_none same_nat ended started past (entry by w ∷ []) refl h
+
+-- ---- what is written and sent
+
+sends_is : (c : ℕ) (w : What) → sends c w ≡ holds same_nat c (sent w)
+sends_is c (Sent child) = refl
+sends_is c w = refl
+
+writes_is : (c : ℕ) (w : What) → is_there same_nat (writes c w) ≡ holds same_nat c (written w)
+writes_is c (Ask child job task line) = go (child == c)
+  where
+    go : (b : Bool) → is_there same_nat {Y = Option ℕ × List ℕ} (cond b (Some (Some job, line)) None) ≡ b
+    go true = refl
+    go false = refl
+writes_is c (Put child job line) = go (child == c)
+  where
+    go : (b : Bool) → is_there same_nat {Y = Option ℕ × List ℕ} (cond b (Some (None, line)) None) ≡ b
+    go true = refl
+    go false = refl
+writes_is c w = refl
+
+some_left : {X : Type 0} (xs : List X) → not (is_empty xs) ≡ true → 1 ≤ length xs
+some_left [] h = absurd cc
+some_left (x ∷ xs) h = omega arith
+
+sents_step : (o : Opening) (past : List Entry) (by : ℕ) (w : What) → AtMost same_nat (each_of sent past) (each_of written past) → may_come o past by w ≡ true
+    → AtMost same_nat (each_of sent (past ++ entry by w ∷ due_after o past (entry by w))) (each_of written (past ++ entry by w ∷ due_after o past (entry by w)))
+sents_step o past by (Sent child) h may =
+    let sends_many = named_count same_nat sent (sends child) child (sends_is child) past in
+    let counted = length-filter (λ (e : Entry). sends child e.what) past in
+    let writes_many = named_length same_nat written (writes child) child (writes_is child) past in
+    let left = some_left (unsent past child) may in
+    let dropped = length-drop (length (filter (λ (e : Entry). sends child e.what) past)) (each_of (writes child) past) in
+    let room : many same_nat child (each_of sent past) + 1 ≤ many same_nat child (each_of written past) = omega (arith, sends_many, counted, writes_many, left, dropped) in
+    rw (each_of-append sent past (entry by (Sent child) ∷ []), each_of-append written past (entry by (Sent child) ∷ []))
+    (more_one same_nat nat_is_same (each_of sent past) (each_of written past) [] child h room)
+sents_step o past by w h may =
+    grow_none same_nat sent written past (entry by w ∷ due_after o past (entry by w)) (due_names sent (λ c j v. refl) (λ c why. refl) o past by w) h
