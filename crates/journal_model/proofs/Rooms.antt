@@ -1,5 +1,5 @@
 -- A legal journal is no longer than its room.
-use Rattle.std.proofs.Common.{◌≡◌, ℕ, List, [], ◌∷◌, ◌++◌, ◌+◌, ◌*◌, ◌<◌, ◌≤◌, refl, sym, ap, subst, ◌∙◌, Bool, true, false, length, not, ◌==◌, cond, Some, None, Option, arith, ◌⊎◌, inl, inr, drop, length-drop}
+use Rattle.std.proofs.Common.{◌≡◌, ℕ, suc, List, [], ◌∷◌, ◌++◌, ◌+◌, ◌*◌, ◌<◌, ◌≤◌, refl, sym, ap, subst, ◌∙◌, Bool, true, false, length, not, ◌==◌, cond, Some, None, Option, arith, ◌⊎◌, inl, inr, drop, length-drop}
 use Rattle.std.specs.Prelude.{◌&&◌, ◌||◌, map, filter, find}
 use Rattle.std.specs.List.{list_any, cons_option, count_by, sum_by}
 use Rattle.std.proofs.lemmas.List.{append-nil}
@@ -147,11 +147,8 @@ not_true true h = absurd cc
 -- ---- claims and answers
 
 claims_is : (t : ℕ) (w : What) → claims t w ≡ holds same_nat t (claimed w)
-claims_is t w = by w
-  where
-    by : (w : What) → claims t w ≡ holds same_nat t (claimed w)
-    by (Claim task child) = refl
-    by w = refl
+claims_is t (Claim task child) = refl
+claims_is t w = refl
 
 answers_is : (t : ℕ) (w : What) → answers t w ≡ holds same_nat t (answered w)
 answers_is t (Answered task answer) = refl
@@ -305,3 +302,214 @@ sents_step o past by (Sent child) h may =
     (more_one same_nat nat_is_same (each_of sent past) (each_of written past) [] child h room)
 sents_step o past by w h may =
     grow_none same_nat sent written past (entry by w ∷ due_after o past (entry by w)) (due_names sent (λ c j v. refl) (λ c why. refl) o past by w) h
+
+-- ---- verdicts
+
+settles_is : (p : Pair) (w : What) → settles p.0 p.1 w ≡ holds same_pair p (settled w)
+settles_is p (Settled child job verdict) = refl
+settles_is p w = refl
+
+-- the jobs of child
+abbrev pairs : ℕ → List ℕ → List Pair
+pairs child ks = map (λ k. (child, k)) ks
+
+verdicts_settle : (by child : ℕ) (v : Verdict) (ks : List ℕ) → each_of settled (settled_all by child v ks) ≡ pairs child ks
+verdicts_settle by child v [] = refl
+verdicts_settle by child v (k ∷ ks) = ap (λ (xs : List Pair). (child, k) ∷ xs) (verdicts_settle by child v ks)
+
+pairs_other : (child : ℕ) (p : Pair) (ks : List ℕ) → (child == p.0) ≡ false → many same_pair p (pairs child ks) ≡ 0
+pairs_other child p [] e = refl
+pairs_other child p (k ∷ ks) e =
+    let a = many-cons same_pair p (child, k) (pairs child ks) in
+    let b : one (child == p.0 && k == p.1) ≡ 0 = ap (λ (x : Bool). one (x && k == p.1)) e in
+    let r = pairs_other child p ks e in
+    omega (arith, a, b, r)
+
+pairs_same : (child : ℕ) (p : Pair) (ks : List ℕ) → (child == p.0) ≡ true → many same_pair p (pairs child ks) ≡ many same_nat p.1 ks
+pairs_same child p [] e = refl
+pairs_same child p (k ∷ ks) e =
+    let a = many-cons same_pair p (child, k) (pairs child ks) in
+    let b : one (child == p.0 && k == p.1) ≡ one (k == p.1) = ap (λ (x : Bool). one (x && k == p.1)) e in
+    let c = many-cons same_nat p.1 k ks in
+    let r = pairs_same child p ks e in
+    omega (arith, a, b, c, r)
+
+asked_many : (p : Pair) (past : List Entry) → many same_pair p (each_of asked past) ≡ many same_nat p.1 (asked_jobs past p.0)
+asked_many p [] = refl
+asked_many p (e ∷ past) = step e.what (asked_many p past)
+  where
+    step : (w : What) → many same_pair p (each_of asked past) ≡ many same_nat p.1 (asked_jobs past p.0)
+        → many same_pair p (cons_option (asked w) (each_of asked past)) ≡ many same_nat p.1 (cons_option (asks p.0 w) (asked_jobs past p.0))
+    step (Ask child job task line) r = go (child == p.0) refl
+      where
+        a : many same_pair p ((child, job) ∷ each_of asked past) ≡ one (child == p.0 && job == p.1) + many same_pair p (each_of asked past)
+        a = many-cons same_pair p (child, job) (each_of asked past)
+
+        go : (b : Bool) → (child == p.0) ≡ b
+            → many same_pair p ((child, job) ∷ each_of asked past) ≡ many same_nat p.1 (cons_option (cond b (Some job) None) (asked_jobs past p.0))
+        go true e =
+            let b : one (child == p.0 && job == p.1) ≡ one (job == p.1) = ap (λ (x : Bool). one (x && job == p.1)) e in
+            let c = many-cons same_nat p.1 job (asked_jobs past p.0) in
+            omega (arith, a, b, c, r)
+        go false e =
+            let b : one (child == p.0 && job == p.1) ≡ 0 = ap (λ (x : Bool). one (x && job == p.1)) e in
+            omega (arith, a, b, r)
+    step w r = r
+
+abbrev Verdicts : List Entry → Type 0
+Verdicts past = AtMost same_pair (each_of settled past) (each_of asked past)
+
+-- verdicts of open jobs of child
+verdicts_grow : (past group : List Entry) (child : ℕ) (ks : List ℕ) → each_of settled group ≡ pairs child ks
+    → AtMost same_nat ks (open_jobs past child) → Verdicts past → Verdicts (past ++ group)
+verdicts_grow past group child ks named among h p =
+    let a = ap (many same_pair p) (each_of-append settled past group ∙ ap (λ (xs : List Pair). each_of settled past ++ xs) named)
+    ∙ many-append same_pair p (each_of settled past) (pairs child ks) in
+    let b = ap (many same_pair p) (each_of-append asked past group) ∙ many-append same_pair p (each_of asked past) (each_of asked group) in
+    let before : many same_pair p (each_of settled past) ≤ many same_pair p (each_of asked past) = h p in
+    go (child == p.0) refl a b before
+  where
+    go : (x : Bool) → (child == p.0) ≡ x
+        → many same_pair p (each_of settled (past ++ group)) ≡ many same_pair p (each_of settled past) + many same_pair p (pairs child ks)
+        → many same_pair p (each_of asked (past ++ group)) ≡ many same_pair p (each_of asked past) + many same_pair p (each_of asked group)
+        → many same_pair p (each_of settled past) ≤ many same_pair p (each_of asked past)
+        → many same_pair p (each_of settled (past ++ group)) ≤ many same_pair p (each_of asked (past ++ group))
+    go false e a b before = let c = pairs_other child p ks e in omega (arith, a, b, c, before)
+    go true e a b before = by_job (is_settled past p.0 p.1) refl
+      where
+        c : many same_pair p (pairs child ks) ≡ many same_nat p.1 ks
+        c = pairs_same child p ks e
+
+        d : many same_nat p.1 ks ≤ many same_nat p.1 (open_jobs past p.0)
+        d = subst (λ (x : ℕ). many same_nat p.1 ks ≤ many same_nat p.1 (open_jobs past x)) (same_number child p.0 e) (among p.1)
+
+        by_job : (s : Bool) → is_settled past p.0 p.1 ≡ s → many same_pair p (each_of settled (past ++ group)) ≤ many same_pair p (each_of asked (past ++ group))
+        by_job true s =
+            let shut : many same_nat p.1 (open_jobs past p.0) ≡ 0 = filter_drops (λ (j : ℕ). not (is_settled past p.0 j)) p.1 (asked_jobs past p.0) (ap not s) in
+            omega (arith, a, b, c, d, shut, before)
+        by_job false s =
+            let none = named_none same_pair settled (settles p.0 p.1) p (settles_is p) past s in
+            let opened : many same_nat p.1 (open_jobs past p.0) ≤ many same_nat p.1 (asked_jobs past p.0) = filter_at_most (λ (j : ℕ). not (is_settled past p.0 j)) p.1 (asked_jobs past p.0) in
+            let all = asked_many p past in
+            omega (arith, a, b, c, d, none, opened, all)
+
+any_many : (j : ℕ) (ks : List ℕ) → list_any (λ k. k == j) ks ≡ true → 1 ≤ many same_nat j ks
+any_many j [] h = absurd cc
+any_many j (k ∷ ks) h = go (k == j) refl h (any_many j ks)
+  where
+    a : many same_nat j (k ∷ ks) ≡ one (k == j) + many same_nat j ks
+    a = many-cons same_nat j k ks
+
+    go : (b : Bool) → (k == j) ≡ b → (b || list_any (λ k. k == j) ks) ≡ true → (list_any (λ k. k == j) ks ≡ true → 1 ≤ many same_nat j ks) → 1 ≤ many same_nat j (k ∷ ks)
+    go true e h r = let i : one (k == j) ≡ 1 = ap one e in omega (arith, a, i)
+    go false e h r = let s : 1 ≤ many same_nat j ks = r h in omega (arith, a, s)
+
+one_open : (past : List Entry) (child j : ℕ) → is_open past child j ≡ true → AtMost same_nat (j ∷ []) (open_jobs past child)
+one_open past child j opened k = go (j == k) refl
+  where
+    single : many same_nat k (j ∷ []) ≡ one (j == k) + many same_nat k []
+    single = many-cons same_nat k j []
+
+    go : (b : Bool) → (j == k) ≡ b → many same_nat k (j ∷ []) ≤ many same_nat k (open_jobs past child)
+    go true e =
+        let i : one (j == k) ≡ 1 = ap one e in
+        let here : 1 ≤ many same_nat k (open_jobs past child) =
+        subst (λ (x : ℕ). 1 ≤ many same_nat x (open_jobs past child)) (same_number j k e) (any_many j (open_jobs past child) opened) in
+        omega (arith, single, i, here)
+    go false e = let i : one (j == k) ≡ 0 = ap one e in omega (arith, single, i)
+
+verdicts_step : (o : Opening) (past : List Entry) (by : ℕ) (w : What) → Verdicts past → may_come o past by w ≡ true
+    → Verdicts (past ++ entry by w ∷ due_after o past (entry by w))
+verdicts_step o past by (End child why) h may =
+    verdicts_grow past (entry by (End child why) ∷ due_after o past (entry by (End child why))) child (open_jobs past child)
+    (verdicts_settle by child (Ended why) (open_jobs past child)) (λ k. omega arith) h
+verdicts_step o past by (Mute child) h may = by_life (is_live past child)
+  where
+    by_life : (b : Bool)
+        → Verdicts (past ++ entry by (Mute child) ∷ made_by by (cond b (map (λ (k : ℕ). Settled child k Unsent) (filter (is_unsent past child) (open_jobs past child))) []))
+    by_life true =
+        let ks = filter (is_unsent past child) (open_jobs past child) in
+        verdicts_grow past (entry by (Mute child) ∷ settled_all by child Unsent ks) child ks (verdicts_settle by child Unsent ks)
+        (λ k. filter_at_most (is_unsent past child) k (open_jobs past child)) h
+    by_life false = grow_none same_pair settled asked past (entry by (Mute child) ∷ []) refl h
+verdicts_step o past by (Got child line) h may = by_due (due_by_got o past child line) (got_due o past child line)
+  where
+    by_due : (due : List What) → GotDue past child due → Verdicts (past ++ entry by (Got child line) ∷ made_by by due)
+    by_due due (inl e) =
+        subst (λ (ws : List What). Verdicts (past ++ entry by (Got child line) ∷ made_by by ws)) (sym e) (grow_none same_pair settled asked past (entry by (Got child line) ∷ []) refl h)
+    by_due due (inr (inl e)) =
+        subst (λ (ws : List What). Verdicts (past ++ entry by (Got child line) ∷ made_by by ws)) (sym e.1)
+        (verdicts_grow past (entry by (Got child line) ∷ entry by (End child e.0) ∷ settled_all by child (Ended e.0) (open_jobs past child)) child (open_jobs past child)
+        (verdicts_settle by child (Ended e.0) (open_jobs past child)) (λ k. omega arith) h)
+    by_due due (inr (inr e)) =
+        subst (λ (ws : List What). Verdicts (past ++ entry by (Got child line) ∷ made_by by ws)) (sym e.3)
+        (verdicts_grow past (entry by (Got child line) ∷ entry by (Settled child e.0 e.1) ∷ []) child (e.0 ∷ []) refl (one_open past child e.0 e.2) h)
+verdicts_step o past by (Settled child job verdict) h may = absurd cc
+verdicts_step o past by w h may = grow_none same_pair settled asked past (entry by w ∷ []) refl h
+
+-- ---- the sum
+
+abbrev size : {X : Type 0} → (What → Option X) → List Entry → ℕ
+size f journal = length (each_of f journal)
+
+-- each entry is counted by its kind
+balance : (journal : List Entry) → length journal + 2 * size started journal + size asked journal + size written journal
+    ≡ sum_by (λ e. room_for e.what) journal + size claimed journal + size answered journal + size ended journal + size muted journal + size sent journal + size settled journal
+balance [] = refl
+balance (e ∷ past) = step e.what (sum_by-cons (λ (d : Entry). room_for d.what) e past) (balance past)
+  where
+    total : ℕ
+    total = sum_by (λ (d : Entry). room_for d.what) (e ∷ past)
+
+    step : (w : What) → total ≡ room_for w + sum_by (λ d. room_for d.what) past
+        → length past + 2 * size started past + size asked past + size written past
+        ≡ sum_by (λ d. room_for d.what) past + size claimed past + size answered past + size ended past + size muted past + size sent past + size settled past
+        → suc (length past) + 2 * length (cons_option (started w) (each_of started past)) + length (cons_option (asked w) (each_of asked past)) + length (cons_option (written w) (each_of written past))
+        ≡ total + length (cons_option (claimed w) (each_of claimed past)) + length (cons_option (answered w) (each_of answered past)) + length (cons_option (ended w) (each_of ended past))
+        + length (cons_option (muted w) (each_of muted past)) + length (cons_option (sent w) (each_of sent past)) + length (cons_option (settled w) (each_of settled past))
+    step (Claim task child) s r = omega (arith, s, r)
+    step (Start child slot offer) s r = omega (arith, s, r)
+    step (NoStart slot) s r = omega (arith, s, r)
+    step (Ask child job task line) s r = omega (arith, s, r)
+    step (Put child job line) s r = omega (arith, s, r)
+    step (Sent child) s r = omega (arith, s, r)
+    step (Mute child) s r = omega (arith, s, r)
+    step (Got child line) s r = omega (arith, s, r)
+    step (End child why) s r = omega (arith, s, r)
+    step (Settled child job verdict) s r = omega (arith, s, r)
+    step (Lost child task) s r = omega (arith, s, r)
+    step (Answered task answer) s r = omega (arith, s, r)
+
+record Inv (o : Opening) (past : List Entry) : Type 0 where
+  claims : Claims o past
+  answers : AtMost same_nat (each_of answered past) (each_of claimed past)
+  ends : Ends past
+  mutes : AtMost same_nat (each_of muted past) (each_of started past)
+  sents : AtMost same_nat (each_of sent past) (each_of written past)
+  verdicts : Verdicts past
+
+invariant : (o : Opening) (journal : List Entry) → Legal o journal → Inv o journal
+invariant o journal legal =
+    Legal-induction o (Inv o)
+    (record { claims = λ k. omega arith; answers = λ k. omega arith; ends = λ k. omega arith; mutes = λ k. omega arith; sents = λ k. omega arith; verdicts = λ k. omega arith })
+    (λ p e l inv may. record {
+      claims = claims_step o p e.by e.what inv.claims may;
+      answers = answers_step o p e.by e.what inv.answers may;
+      ends = ends_step o p e.by e.what inv.ends may;
+      mutes = mutes_step o p e.by e.what inv.mutes may;
+      sents = sents_step o p e.by e.what inv.sents may;
+      verdicts = verdicts_step o p e.by e.what inv.verdicts may;
+    }) journal legal
+
+pub room_suffices : (o : Opening) (journal : List Entry) → Legal o journal → length journal ≤ room_of o journal
+room_suffices o journal legal =
+    let inv = invariant o journal legal in
+    let tasks = length-range_with_len 1 (length o.tasks) in
+    let claims = AtMost-length same_nat nat_is_same (each_of claimed journal) (numbers_of o) inv.claims in
+    let answers = AtMost-length same_nat nat_is_same (each_of answered journal) (each_of claimed journal) inv.answers in
+    let ends = AtMost-length same_nat nat_is_same (each_of ended journal) (each_of started journal) inv.ends in
+    let mutes = AtMost-length same_nat nat_is_same (each_of muted journal) (each_of started journal) inv.mutes in
+    let sents = AtMost-length same_nat nat_is_same (each_of sent journal) (each_of written journal) inv.sents in
+    let verdicts = AtMost-length same_pair pair_is_same (each_of settled journal) (each_of asked journal) inv.verdicts in
+    let all = balance journal in
+    omega (arith, tasks, claims, answers, ends, mutes, sents, verdicts, all)
