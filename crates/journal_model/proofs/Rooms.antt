@@ -4,7 +4,7 @@ use Rattle.std.specs.Prelude.{◌&&◌, ◌||◌, map, filter, find}
 use Rattle.std.specs.List.{list_any, cons_option, count_by, sum_by}
 use Rattle.std.proofs.lemmas.List.{append-nil}
 use Rattle.std.proofs.lemmas.List.FromFn.{length-range_with_len}
-use Rattle.std.proofs.lemmas.List.Sums.{sum_by-cons, length-filter}
+use Rattle.std.proofs.lemmas.List.Sums.{sum_by-append, sum_by-cons, length-filter}
 use Rattle.annex_model.specs.declared.verdict.Why.{Why}
 use Rattle.annex_model.specs.declared.verdict.Why.TheVariants.{Foul, Version as VersionFault}
 use Rattle.annex_model.specs.declared.verdict.Verdict.{Verdict}
@@ -513,3 +513,44 @@ room_suffices o journal legal =
     let verdicts = AtMost-length same_pair pair_is_same (each_of settled journal) (each_of asked journal) inv.verdicts in
     let all = balance journal in
     omega (arith, tasks, claims, answers, ends, mutes, sents, verdicts, all)
+
+-- ---- what a group adds to the room
+
+abbrev rooms : List Entry → ℕ
+rooms past = sum_by (λ e. room_for e.what) past
+
+rooms-cons : (e : Entry) (past : List Entry) → rooms (e ∷ past) ≡ room_for e.what + rooms past
+rooms-cons e past = sum_by-cons (λ (d : Entry). room_for d.what) e past
+
+verdicts_room : (by child : ℕ) (v : Verdict) (ks : List ℕ) → rooms (settled_all by child v ks) ≡ 0
+verdicts_room by child v [] = refl
+verdicts_room by child v (k ∷ ks) =
+    let first = rooms-cons (entry by (Settled child k v)) (settled_all by child v ks) in
+    let rest = verdicts_room by child v ks in
+    omega (arith, first, rest)
+
+due_room : (o : Opening) (past : List Entry) (by : ℕ) (w : What) → rooms (due_after o past (entry by w)) ≡ 0
+due_room o past by (End child why) = verdicts_room by child (Ended why) (open_jobs past child)
+due_room o past by (Mute child) = by_life (is_live past child)
+  where
+    by_life : (b : Bool) → rooms (made_by by (cond b (map (λ (k : ℕ). Settled child k Unsent) (filter (is_unsent past child) (open_jobs past child))) [])) ≡ 0
+    by_life true = verdicts_room by child Unsent (filter (is_unsent past child) (open_jobs past child))
+    by_life false = refl
+due_room o past by (Got child line) = by_due (due_by_got o past child line) (got_due o past child line)
+  where
+    by_due : (due : List What) → GotDue past child due → rooms (made_by by due) ≡ 0
+    by_due due (inl e) = rw e refl
+    by_due due (inr (inl e)) =
+        let first = rooms-cons (entry by (End child e.0)) (settled_all by child (Ended e.0) (open_jobs past child)) in
+        let rest = verdicts_room by child (Ended e.0) (open_jobs past child) in
+        rw e.1 (omega (arith, first, rest))
+    by_due due (inr (inr e)) = rw e.3 refl
+due_room o past by w = refl
+
+-- a group adds what its first entry takes
+pub room_grows : (o : Opening) (past : List Entry) (e : Entry) → room_of o (past ++ e ∷ due_after o past e) ≡ room_of o past + room_for e.what
+room_grows o past e =
+    let both_rooms = sum_by-append (λ (d : Entry). room_for d.what) past (e ∷ due_after o past e) in
+    let first = rooms-cons e (due_after o past e) in
+    let due = due_room o past e.by e.what in
+    omega (arith, both_rooms, first, due)

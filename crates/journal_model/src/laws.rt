@@ -1,5 +1,5 @@
 // Laws over the definitions, each the contract of a function with nothing to do.
-ghost use Rattle.std.specs.Prelude.{ℕ, ◌≡◌, ◌↔◌, ◌++◌, false, List, [], ◌∷◌, take, IsTrue, Some, slice_get, codes, length};
+ghost use Rattle.std.specs.Prelude.{ℕ, ◌≡◌, ◌≤◌, ◌+◌, ◌↔◌, ◌++◌, false, List, [], ◌∷◌, take, IsTrue, Some, slice_get, codes, length};
 ghost use Rattle.annex_model.specs.declared.verdict.Why.TheVariants.{Closed, Foul};
 ghost use Rattle.annex_model.specs.declared.verdict.Verdict.TheVariants.{Ended, Done};
 ghost use Rattle.annex_model.specs.Messages.{Checkpresent};
@@ -16,6 +16,7 @@ ghost use Rattle.journal_model.specs.Legality.{Legal, LegalByGroups, LegalByPlac
 ghost use Rattle.journal_model.specs.Projection.{JobFits, PartIsAsked};
 ghost use Rattle.journal_model.specs.Wires.{Wired};
 ghost use Rattle.journal_model.specs.Output.{answer_line};
+ghost use Rattle.journal_model.specs.Room.{room_for, room_of};
 ghost use Rattle.journal_model.specs.Rows.{one_check, check_present, not_closed, other_key, not_settled, sample_key, by_main, settled, answered, greeting, asking, two_checks, crossed, unknown_job, tag_left_off};
 
 /// The journal of one check is legal, and so it is before its child is closed.
@@ -93,4 +94,11 @@ pub fn forms_agree()
 pub fn parts_fit()
     ensures fits { (o : Opening) (journal : List Entry) → Legal o journal → (c j : ℕ) → JobFits (replies_at o journal) journal c j }
     ensures asked { (o : Opening) (journal : List Entry) → Legal o journal → (c j : ℕ) → PartIsAsked journal c j }
+{}
+
+/// A legal journal is no longer than its room, to which an entry with what it makes due adds what it takes: none for a
+/// Claim, a Sent, a Mute, an End or an Answer.
+pub fn room_suffices()
+    ensures long { (o : Opening) (journal : List Entry) → Legal o journal → length journal ≤ room_of o journal }
+    ensures grows { (o : Opening) (past : List Entry) (e : Entry) → room_of o (past ++ e ∷ due_after o past e) ≡ room_of o past + room_for e.what }
 {}
