@@ -1,8 +1,7 @@
 -- How often things stand in lists.
-use Rattle.std.proofs.Common.{◌≡◌, ℕ, List, [], ◌∷◌, ◌++◌, ◌+◌, ◌≤◌, refl, sym, ap, subst, ◌∙◌, Bool, true, false, length, not, ◌==◌, cond, Some, None, Option, arith}
+use Rattle.std.proofs.Common.{◌≡◌, ℕ, List, [], ◌∷◌, ◌++◌, ◌+◌, ◌≤◌, refl, sym, ap, subst, ◌∙◌, Bool, true, false, length, ◌==◌, cond, Some, None, Option, arith}
 use Rattle.std.specs.Prelude.{◌&&◌, ◌||◌, filter}
 use Rattle.std.specs.List.{count_by, cons_option}
-use Rattle.std.proofs.lemmas.List.{append-nil}
 use Rattle.std.proofs.lemmas.List.Sums.{sum_by-cons, sum_by-append}
 use Rattle.journal_model.specs.declared.entry.What.{What}
 use Rattle.journal_model.specs.declared.entry.Entry.{Entry}
@@ -69,12 +68,15 @@ module _ {X : Type 0} (eq : X → X → Bool) where
       go false e c r =
           let none : one (eq y k) ≡ 0 = ap one e in
           let s = r (omega (arith, h, c, none)) in
-          let long : length ys ≡ length s.0 + 1 = s.1 in
-          (y ∷ s.0, omega arith, λ z. (
-              let a : many z (y ∷ ys) ≡ one (eq y z) + many z ys = many-cons z y ys in
-              let b : many z (y ∷ s.0) ≡ one (eq y z) + many z s.0 = many-cons z y s.0 in
-              let d : many z ys ≡ one (eq k z) + many z s.0 = s.2 z in
-              omega (arith, a, b, d)))
+          let long : length ys ≡ length s.0 + 1 = s.1 in (
+            y ∷ s.0,
+            omega arith,
+            λ z. (
+                let a : many z (y ∷ ys) ≡ one (eq y z) + many z ys = many-cons z y ys in
+                let b : many z (y ∷ s.0) ≡ one (eq y z) + many z s.0 = many-cons z y s.0 in
+                let d : many z ys ≡ one (eq k z) + many z s.0 = s.2 z in
+                omega (arith, a, b, d)),
+          )
 
   -- a list whose things stand at least as often in another is no longer
   pub AtMost-length : IsSame eq → (xs ys : List X) → AtMost xs ys → length xs ≤ length ys
@@ -86,10 +88,10 @@ module _ {X : Type 0} (eq : X → X → Bool) where
       let s = take_one is x ys (omega (arith, a, b, c)) in
       let long : length ys ≡ length s.0 + 1 = s.1 in
       let r : length xs ≤ length s.0 = AtMost-length is xs s.0 (λ z. (
-          let d : many z (x ∷ xs) ≡ one (eq x z) + many z xs = many-cons z x xs in
-          let e : many z ys ≡ one (eq x z) + many z s.0 = s.2 z in
-          let f : many z (x ∷ xs) ≤ many z ys = h z in
-          omega (arith, d, e, f))) in
+      let d : many z (x ∷ xs) ≡ one (eq x z) + many z xs = many-cons z x xs in
+      let e : many z ys ≡ one (eq x z) + many z s.0 = s.2 z in
+      let f : many z (x ∷ xs) ≤ many z ys = h z in
+      omega (arith, d, e, f))) in
       omega (arith, long, r)
 
   pub more_none : (xs ys zs : List X) → AtMost xs ys → AtMost (xs ++ []) (ys ++ zs)

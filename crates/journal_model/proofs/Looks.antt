@@ -7,11 +7,10 @@ use Rattle.std.proofs.lemmas.List.Folds.{list_any-append}
 use Rattle.std.proofs.lemmas.List.Elements.{filter_map-append}
 use Rattle.std.proofs.lemmas.Bool.Decides.{nat_tests}
 use Rattle.annex_model.specs.declared.verdict.Verdict.{Verdict}
-use Rattle.annex_model.specs.Talks.{Item}
 use Rattle.journal_model.specs.declared.entry.What.{What}
 use Rattle.journal_model.specs.declared.entry.What.TheVariants.{Verdict as Settled, Got}
 use Rattle.journal_model.specs.declared.entry.Entry.{Entry}
-use Rattle.journal_model.specs.Journal.{any, each_of, first_of, asked_jobs, asks, settles, verdict_in, verdict_of, is_settled, is_open, open_jobs, has_spoken, got_lines, line_from, got_from}
+use Rattle.journal_model.specs.Journal.{any, each_of, first_of, asked_jobs, settles, verdict_in, verdict_of, is_settled, is_open, has_spoken, got_lines, line_from, got_from}
 use Rattle.journal_model.specs.Parts.{part_from}
 use Rattle.journal_model.specs.Due.{made_by}
 

@@ -19,13 +19,13 @@ use Rattle.journal_model.specs.declared.opening.Opening.{Opening}
 use Rattle.journal_model.specs.declared.entry.What.{What}
 use Rattle.journal_model.specs.declared.entry.What.TheVariants.{Claim, Start, NoStart, Ask, Put, Sent, Mute, Got, End, Verdict as Settled, Lost, Answer as Answered}
 use Rattle.journal_model.specs.declared.entry.Entry.{Entry}
-use Rattle.journal_model.specs.Journal.{asks, asked_jobs, each_of, first_of, verdict_in, verdict_of, has_spoken, got_from, got_lines, open_jobs, is_open, is_live, is_unsent, addressed}
+use Rattle.journal_model.specs.Journal.{asks, asked_jobs, first_of, verdict_in, verdict_of, has_spoken, got_from, got_lines, open_jobs, is_open, is_live, is_unsent, addressed}
 use Rattle.journal_model.specs.Parts.{part, part_from, is_place, is_for, request_in}
 use Rattle.journal_model.specs.Due.{due_after, made_by, verdict_at, ending, due_by_got, after_line, after_hearing, hearing_of, by_answer, is_version_one, replies_at}
 use Rattle.journal_model.specs.Legality.{Legal, may_come, asks_in_turn, is_greeted}
-use Rattle.journal_model.specs.Projection.{Fits, PartFits, JobFits, PartIsAsked, Ends, Goes, last_place}
+use Rattle.journal_model.specs.Projection.{Fits, PartFits, JobFits, PartIsAsked, Ends, last_place}
 use Rattle.journal_model.proofs.Growing.{Legal-induction}
-use Rattle.journal_model.proofs.PartsGrow.{part-group, and_false, and_right}
+use Rattle.journal_model.proofs.PartsGrow.{part-group, and_false}
 use Rattle.journal_model.proofs.Asking.{asked_text, read_askable}
 use Rattle.journal_model.proofs.Looks.{entry, is_asked, same, same_number, differ, both, either_left, true_not_false, each_of-append, any-append, verdict_of-append, or_none, settled_none, filter_none, unasked_closed, open_unsettled, silent_lines, settled_all, verdicts_part, verdicts_job, verdicts_one, none_unasked}
 

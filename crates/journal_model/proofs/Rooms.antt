@@ -1,7 +1,7 @@
 -- A legal journal is no longer than its room.
-use Rattle.std.proofs.Common.{◌≡◌, ℕ, suc, List, [], ◌∷◌, ◌++◌, ◌+◌, ◌*◌, ◌<◌, ◌≤◌, refl, sym, ap, subst, ◌∙◌, Bool, true, false, length, not, ◌==◌, cond, Some, None, Option, arith, ◌⊎◌, inl, inr, drop, length-drop}
+use Rattle.std.proofs.Common.{◌≡◌, ℕ, suc, List, [], ◌∷◌, ◌++◌, ◌+◌, ◌*◌, ◌≤◌, refl, sym, ap, subst, ◌∙◌, Bool, true, false, length, not, ◌==◌, cond, Some, None, Option, arith, ◌⊎◌, inl, inr, length-drop}
 use Rattle.std.specs.Prelude.{◌&&◌, ◌||◌, map, filter, find}
-use Rattle.std.specs.List.{list_any, cons_option, count_by, sum_by}
+use Rattle.std.specs.List.{list_any, cons_option, sum_by}
 use Rattle.std.proofs.lemmas.List.{append-nil}
 use Rattle.std.proofs.lemmas.List.FromFn.{length-range_with_len}
 use Rattle.std.proofs.lemmas.List.Sums.{sum_by-append, sum_by-cons, length-filter}
@@ -15,13 +15,13 @@ use Rattle.journal_model.specs.declared.opening.Opening.{Opening}
 use Rattle.journal_model.specs.declared.entry.What.{What}
 use Rattle.journal_model.specs.declared.entry.What.TheVariants.{Claim, Start, NoStart, Ask, Put, Sent, Mute, Got, End, Verdict as Settled, Lost, Answer as Answered}
 use Rattle.journal_model.specs.declared.entry.Entry.{Entry}
-use Rattle.journal_model.specs.Journal.{any, each_of, asks, asked_jobs, writes, sends, unsent, settles, starts, ends, mutes, is_settled, is_started, is_ended, is_mute, is_live, is_open, is_unsent, open_jobs, has_spoken, addressed}
+use Rattle.journal_model.specs.Journal.{each_of, asks, asked_jobs, writes, sends, unsent, settles, starts, ends, mutes, is_settled, is_started, is_ended, is_mute, is_live, is_open, is_unsent, open_jobs, has_spoken, addressed}
 use Rattle.journal_model.specs.Parts.{part, request_in}
 use Rattle.journal_model.specs.Due.{Hearing, Aside, Part, Settles, Strange, due_after, due_by_got, made_by, ending, verdict_at, after_line, after_hearing, hearing_of, is_version_one}
-use Rattle.journal_model.specs.Legality.{Legal, may_come, may_stop, may_ask, is_number, is_free, least_free, numbers_of, claims, answers, is_claimed, is_busy, is_claimed_by, has_open_job, is_empty}
+use Rattle.journal_model.specs.Legality.{Legal, may_come, may_stop, is_number, is_free, numbers_of, claims, answers, is_claimed, is_empty}
 use Rattle.journal_model.specs.Room.{room_for, room_of}
 use Rattle.journal_model.proofs.Growing.{Legal-induction}
-use Rattle.journal_model.proofs.Looks.{entry, same_number, both, each_of-append, open_unsettled, settled_all}
+use Rattle.journal_model.proofs.Looks.{entry, same_number, both, each_of-append, settled_all}
 use Rattle.journal_model.proofs.Counting.{IsSame, same_nat, nat_is_same, same_pair, pair_is_same, Pair, one, many, many-cons, many-append, AtMost, AtMost-length, more_none, more_one, holds, named_none, named_some, named_count, named_length, is_there, filter_at_most, filter_drops}
 
 -- ---- whom an entry names

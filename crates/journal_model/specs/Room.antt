@@ -7,7 +7,7 @@ use Rattle.journal_model.specs.declared.entry.Entry.{Entry}
 use Rattle.journal_model.specs.declared.opening.Opening.{Opening}
 
 -- the entry itself, and those that can come of it: a child's end and mute, a request's Sent and verdict, a reply's Sent.
--- Of an entry that can come of another none is counted
+-- An entry that comes of another is counted there and not again
 abbrev pub room_for : What → ℕ
 room_for (Start child slot offer) = 3
 room_for (Ask child job task line) = 3
