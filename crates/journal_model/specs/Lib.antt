@@ -5,5 +5,6 @@ pub mod Links
 pub mod Output
 pub mod Parts
 pub mod Projection
+pub mod Room
 pub mod Rows
 pub mod Wires
