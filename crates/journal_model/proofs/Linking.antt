@@ -1,5 +1,5 @@
 -- Each event of a link keeps it wired to the journal.
-use Rattle.std.proofs.Common.{◌≡◌, ℕ, ◌+◌, ◌≤◌, ◌<◌, List, [], ◌∷◌, ◌++◌, refl, sym, ap, subst, ◌∙◌, Bool, true, false, not, cond, Some, None, Option, length, take, drop, append_assoc, append-nil, arith, length-append, length-drop}
+use Rattle.std.proofs.Common.{zero, suc, ◌≡◌, ℕ, ◌+◌, ◌≤◌, ◌<◌, List, [], ◌∷◌, ◌++◌, refl, sym, ap, subst, ◌∙◌, Bool, true, false, not, cond, Some, None, Option, length, take, drop, append_assoc, append-nil, arith, length-append, length-drop}
 use Rattle.std.specs.Prelude.{◌||◌, IfSome, map, filter, option_and_then, find}
 use Rattle.std.specs.Option.{option_or}
 use Rattle.std.specs.Io.KnownBytes.{Appends}
@@ -10,7 +10,7 @@ use Rattle.annex_model.specs.Lines.{text, Cut}
 use Rattle.annex_model.specs.declared.verdict.Why.{Why}
 use Rattle.annex_model.specs.declared.verdict.Why.TheVariants.{Eof, ReadFault, LongLine}
 use Rattle.journal_model.specs.declared.entry.What.{What}
-use Rattle.journal_model.specs.declared.entry.What.TheVariants.{Ask, Sent, Mute, Got, End}
+use Rattle.journal_model.specs.declared.entry.What.TheVariants.{Start, Ask, Sent, Mute, Got, End}
 use Rattle.journal_model.specs.declared.entry.Entry.{Entry}
 use Rattle.journal_model.specs.Journal.{each_of, writes, sends, mutes, ends, starts, end_why, line_from, why_of, is_ended, is_mute, is_started, got_lines, unsent}
 use Rattle.journal_model.specs.Wires.{Took, RestFits, sent_lines, next_text}
@@ -467,3 +467,58 @@ linked_apart past more c given left taken rf wf held adds h = record {
 
     ended : why_of (past ++ more) c ≡ why_of past c
     ended = why_of-append past more c ∙ ap (option_or (why_of past c)) adds.ends ∙ or_none (why_of past c)
+
+-- two stretches that say nothing of the child
+pub nothing_both : (c : ℕ) (xs ys : List Entry) → Adds c xs [] [] 0 false None → Adds c ys [] [] 0 false None → Adds c (xs ++ ys) [] [] 0 false None
+nothing_both c xs ys a b = record {
+  got = got_more xs ys c [] b.got ∙ append-nil (got_lines xs c) ∙ a.got;
+  written = each_of-append (writes c) xs ys ∙ ap (λ (x : Written). each_of (writes c) xs ++ x) b.written ∙ append-nil (each_of (writes c) xs) ∙ a.written;
+  covers = omega (arith, sent_count-append xs ys c, a.covers, b.covers);
+  mutes = mute_more xs ys c b.mutes ∙ a.mutes;
+  ends = why_of-append xs ys c ∙ ap (λ (o : Option Why). option_or o (why_of ys c)) a.ends ∙ b.ends;
+}
+
+-- a child that was started just now
+pub linked_start : (past : List Entry) (c by slot : ℕ) (offer : Bool) (given left taken : Option (List ℕ)) (rf wf : ℕ)
+    → Adds c past [] [] 0 false None → IfSome given (λ xs. xs ≡ []) → IfSome taken (λ xs. xs ≡ [])
+    → Linked (past ++ record { by = by; what = Start c slot offer } ∷ []) c given left taken rf wf []
+linked_start past c by slot offer given left taken rf wf nothing g t = record {
+  started = any-append (starts c) past one ∙ ap (λ (b : Bool). is_started past c || b) (rw (same c) refl) ∙ or_true (is_started past c);
+  covered = omega (arith, adds.covers);
+  wired = record {
+    heard = told_maps (λ xs. xs ≡ []) (λ read. Cut read (got_lines (past ++ one) c) []) given
+        (λ read e. subst (λ (ls : List (List ℕ)). Cut read ls []) (sym adds.got) (record { whole = e; apart = refl })) g;
+    ended = subst (λ (o : Option Why). IfSome o (λ y. RestFits y [])) (sym adds.ends) tt;
+    took = told_maps (λ xs. xs ≡ []) (Took (past ++ one) c) taken
+        (λ xs e. record {
+          begun = 0;
+          bytes = e ∙ sym (ap (λ (w : Written). text (map (λ (x : Option ℕ × List ℕ). x.1) (take (sent_count (past ++ one) c) w)) ++ []) adds.written ∙ ap (λ (w : Written). text (map (λ (x : Option ℕ × List ℕ). x.1) w) ++ []) (take-nil (sent_count (past ++ one) c)));
+          whole = λ h. refl;
+        }) t;
+  };
+  caused = record {
+    eof = λ e. absurd (none_some Eof (sym adds.ends ∙ e));
+    read = λ e. absurd (none_some ReadFault (sym adds.ends ∙ e));
+    mute = λ e. absurd (not_mute (sym adds.mutes ∙ e));
+  };
+}
+  where
+    one : List Entry
+    one = record { by = by; what = Start c slot offer } ∷ []
+
+    adds : Adds c (past ++ one) [] [] 0 false None
+    adds = nothing_both c past one nothing (record { got = refl; written = refl; covers = refl; mutes = refl; ends = refl })
+
+    or_true : (b : Bool) → (b || true) ≡ true
+    or_true true = refl
+    or_true false = refl
+
+    none_some : (w : Why) → None ≡ Some w → ⊥
+    none_some w e = cc
+
+    not_mute : false ≡ true → ⊥
+    not_mute e = cc
+
+    take-nil : (n : ℕ) → take n (let e : Written = [] in e) ≡ []
+    take-nil zero = refl
+    take-nil (suc n) = refl
