@@ -1,6 +1,4 @@
 // Real children and the real clock, and streams of std that fail.
-ghost use Rattle.std.specs.Prelude.{◌≡◌, true};
-
 use super::*;
 use ann_outside::{Clock, Failed, Programs, Sink, Source, StartError, Started};
 use std::io;
@@ -108,9 +106,7 @@ struct Flaky {
 }
 
 impl Flaky {
-    fn next(&mut self) -> io::Result<usize>
-        ensures { IfOk result (λ n. n ≤ 1) }
-    {
+    fn next(&mut self) -> io::Result<usize> {
         self.calls = self.calls.saturating_add(1);
         match self.calls {
             1 => Err(io::Error::from(ErrorKind::Interrupted)),
