@@ -1,5 +1,5 @@
 -- The calls of a memory object, numbered from 1, and which of them fail.
-use Rattle.std.specs.Prelude.{◌≡◌, ℕ, ◌+◌, ◌-◌, ◌^◌, min, List, Bool, true, false, cond, ◌==◌}
+use Rattle.std.specs.Prelude.{◌≡◌, ℕ, ◌+◌, ◌-◌, ◌^◌, min, List, Bool, cond, ◌==◌}
 use Rattle.std.specs.List.{list_any}
 use Rattle.ann_outside.specs.declared.mem.fails.Fails.{Fails}
 

@@ -1,5 +1,5 @@
 -- What programs in memory hold, and the children that they start.
-use Rattle.std.specs.Prelude.{◌≡◌, ℕ, ◌-◌, ◌^◌, List, [], ◌∷◌, drop, Result, Ok, Err, MatchResult, Bool, true, false}
+use Rattle.std.specs.Prelude.{◌≡◌, ℕ, ◌-◌, ◌^◌, List, [], ◌∷◌, Result, Ok, Err, true, false}
 use Rattle.std.specs.Vec.Iter.{into_iter_items}
 use Rattle.ann_outside.specs.Fails.{Begins, IsCall, fails_next}
 use Rattle.ann_outside.specs.MemSink.{sink_most, sink_fails}
