@@ -1,0 +1,2 @@
+// What lines and messages mean, as definitions that the contracts of other crates cite.
+#![tactic(auto)]
