@@ -1,9 +1,10 @@
-// Keeps names, each once.
 ghost use Rattle.std.specs.Prelude.{◌≡◌};
 
-use hall::held::{Held, NoMemory};
+use ann_key::NoMemory;
+use hall::Held;
 use std::marker::Model;
 
+/// Keeps names, each once and in the order in which they came. A name is a number here.
 #[derive(Drop)]
 pub struct Roll {
     names: Vec<u64>,
@@ -14,16 +15,18 @@ impl Model for Roll {
 
     ghost Value = { List ℕ };
 
-    ghost view = { λ s. s.names.items };
+    ghost view = { λ r. r.names.items };
 }
 
 impl Roll {
+    /// A roll with these names.
     pub fn new(names: Vec<u64>) -> Roll
         ensures { result ≡ names.items }
     {
         Roll { names }
     }
 
+    /// The names in order.
     pub fn names(&self) -> &[u64]
         ensures { result.now ≡ self.now }
     {
@@ -32,7 +35,7 @@ impl Roll {
 }
 
 impl Held for Roll {
-    ghost use Rattle.hall_tests.specs.Meaning.{Enrols};
+    ghost use Rattle.hall_tests.specs.Roll.{Enrols};
 
     type Op = u64;
 
@@ -42,11 +45,11 @@ impl Held for Roll {
 
     type Fixed = ();
 
-    ghost history = { λ s. s };
+    ghost history = { λ r. r };
 
     ghost fixed = { λ _. tt };
 
-    ghost may = { λ _ before by name group reply. Enrols before name group reply };
+    ghost may = { λ _ before _ name group reply. Enrols before name group reply };
 
     ghost made_by = { λ _ _. Unit {0} };
 
@@ -57,9 +60,7 @@ impl Held for Roll {
         if self.names.as_slice().contains(&op) {
             return Ok(false);
         }
-        if self.names.push(op).is_err() {
-            return Err(NoMemory);
-        }
+        self.names.push(op)?;
         Ok(true)
     }
 
