@@ -2,9 +2,9 @@
 use Rattle.std.proofs.lemmas.Option.{same_Some}
 use Rattle.std.proofs.Common.{◌≡◌, ◌==◌, ℕ, zero, suc, ◌+◌, List, [], ◌∷◌, ◌++◌, cond, Bool, true, false, length, map, slice_get, Some, sym, ap, ◌∙◌, refl, subst, append-nil}
 use Rattle.std.proofs.lemmas.List.Sums.{sum_by-cons}
-use Rattle.std.specs.List.{All, count_by}
+use Rattle.std.specs.List.{count_by}
 use Rattle.hall.specs.declared.view.Link.{Link}
-use Rattle.hall.specs.Log.{bit, part, flat, NotBy, Fit, AllFit, AllOf, times, places_by, Allowed, Legal}
+use Rattle.hall.specs.Log.{bit, part, flat, Fit, AllFit, AllOf, times, places_by, Allowed, Legal}
 use Rattle.hall.specs.Passes.{HallValue, PassValue, HasAllOf, HasClosed}
 use Rattle.hall.proofs.Logs.{all_fit-get, groups_by-fit, places_by-append, places_by-none, all-from_get}
 

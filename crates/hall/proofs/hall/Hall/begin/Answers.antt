@@ -3,7 +3,6 @@ use Rattle.atomic_table.specs.Table.{opening}
 use Rattle.hall.specs.Log.{Allowed}
 use Rattle.hall.specs.Rule.{Kept, first_view}
 use Rattle.hall.proofs.Keeps.{begins}
-use Rattle.hall.proofs.Logs.{all-from_get}
 use Rattle.hall.proofs.hall.Hall.begin.Goals as goal
 
 pub new-requires : goal.new-requires
