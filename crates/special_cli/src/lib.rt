@@ -1,13 +1,14 @@
-// A library with one function.
+// The program: what its words ask for, what it prints, and its run.
 #![tactic(auto)]
 
-ghost use Rattle.std.specs.Prelude.{◌≡◌};
-ghost use Rattle.special_cli.specs.Echo.{echo_of};
+mod refusals;
+#[cfg(test)]
+mod tests;
+mod texts;
+mod words;
+mod writing;
 
-// The `ensures` clause is the contract: what `echo` returns is `echo_of` of its argument, a definition
-// in `specs/Echo.antt`, which a caller's clause can cite too.
-pub fn echo(x: usize) -> usize
-    ensures { result ≡ echo_of x }
-{
-    x
-}
+pub use refusals::{refusal, Reason};
+pub use texts::{memory_line, refused_line, usage_line, version_line, CHECK_HELP, HELP};
+pub use words::{command_of, Command};
+pub use writing::write_all;
