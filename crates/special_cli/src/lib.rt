@@ -8,7 +8,7 @@ mod texts;
 mod words;
 mod writing;
 
-pub use refusals::{refusal, Reason};
-pub use texts::{memory_line, refused_line, usage_line, version_line, CHECK_HELP, HELP};
-pub use words::{command_of, Command};
+pub use refusals::{Reason, refusal};
+pub use texts::{CHECK_HELP, HELP, memory_line, refused_line, usage_line, version_line};
+pub use words::{Command, command_of};
 pub use writing::write_all;

@@ -1,4 +1,4 @@
-ghost use Rattle.std.specs.Prelude.{◌≡◌, ◌↔◌, IsNone, None, Some};
+ghost use Rattle.std.specs.Prelude.{◌≡◌, ◌↔◌, None, Some};
 ghost use Rattle.ann_key.specs.KeyRefs.{parts_of, text_of};
 ghost use Rattle.special_cli.specs.Refusals.{refusal_of, refusal_in, IsTaskKey};
 ghost use Rattle.special_cli.specs.Texts.{reason_word};
@@ -45,6 +45,13 @@ impl fmt::Display for Reason {
 /// chunk's, asked in this order. <https://git-annex.branchable.com/internals/key_format/>
 pub fn refusal(key: &[u8]) -> Option<Reason>
     ensures reason { result ≡ refusal_of key.now }
+    ensures fit { (result ≡ None) ↔ IsTaskKey key.now }
+{
+    first_reason(key)
+}
+
+fn first_reason(key: &[u8]) -> Option<Reason>
+    ensures { result ≡ refusal_of key.now }
 {
     match KeyRef::read(key) {
         Ok(key) => unfit(key),
