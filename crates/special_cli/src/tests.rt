@@ -71,11 +71,11 @@ fn first_reason_is_told(rt: HostRuntime) -> Result<(), NoMemory> {
 
 #[test]
 fn texts_end_with_their_line(rt: HostRuntime) -> Result<(), NoMemory> {
-    assert_eq!(rt; version_line(), b"special 0.1.0\n");
-    assert_eq!(rt; usage_line(), b"special: usage\n");
-    assert_eq!(rt; memory_line(), b"special: memory\n");
+    assert_eq!(rt; version_line(), "special 0.1.0\n".as_bytes());
+    assert_eq!(rt; usage_line(), "special: usage\n".as_bytes());
+    assert_eq!(rt; memory_line(), "special: memory\n".as_bytes());
     let late = refused_line(rt.alloc(), 65537, Reason::ChunkKey)?;
-    assert_eq!(rt; late.view(), b"special: line 65537: chunkkey\n");
+    assert_eq!(rt; late.view(), "special: line 65537: chunkkey\n".as_bytes());
     for help in [HELP, CHECK_HELP] {
         assert!(rt; help.contains("special check PROGRAM KEY"));
         assert!(rt; help.ends_with("\n"));
@@ -89,7 +89,7 @@ fn writes_go_piece_by_piece(rt: HostRuntime) -> Result<(), Fail> {
     assert_eq!(rt; write_all(&mut sink, b"1 present\n"), Ok(()));
     assert_eq!(rt; write_all(&mut sink, b""), Ok(()));
     assert_eq!(rt; write_all(&mut sink, b"2 absent\n"), Ok(()));
-    assert_eq!(rt; sink.taken(), b"1 present\n2 absent\n");
+    assert_eq!(rt; sink.taken(), "1 present\n2 absent\n".as_bytes());
     Ok(())
 }
 
@@ -98,6 +98,6 @@ fn failing_write_ends_it(rt: HostRuntime) -> Result<(), Fail> {
     let fails = Vec::from_slice(rt.alloc(), &[3])?;
     let mut sink = MemSink::new(rt.alloc(), 4, fails);
     assert_eq!(rt; write_all(&mut sink, b"special: usage\n"), Err(Failed));
-    assert_eq!(rt; sink.taken(), b"special:");
+    assert_eq!(rt; sink.taken(), "special:".as_bytes());
     Ok(())
 }
