@@ -1,0 +1,4 @@
+//! The settings that a special remote makes and asks for.
+#![tactic(auto)]
+
+mod table;
