@@ -1,2 +1,4 @@
 pub mod Seen
 pub mod Tables
+pub mod PairLists
+pub mod LinkLists

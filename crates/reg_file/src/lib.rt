@@ -1,4 +1,6 @@
 //! The settings that a special remote makes and asks for.
 #![tactic(auto)]
 
+mod links;
+mod logins;
 mod table;
