@@ -52,7 +52,7 @@ keeps_all x [] h = refl
 keeps_all x (l ∷ ls) h =
     ap (λ b. cond (not b) (l ∷ without_link ls x.0 x.1) (without_link ls x.0 x.1)) (sym (is_eq-by_link x l) ∙ ap is_eq h.0) ∙ ap (λ rest. l ∷ rest) (keeps_all x ls h.1)
 
-both : (a b : Bool) → (a && b) ≡ true → (a ≡ true) × (b ≡ true)
+pub both : (a b : Bool) → (a && b) ≡ true → (a ≡ true) × (b ≡ true)
 both true b h = (refl, h)
 both false b h = absurd (false≢true h)
 

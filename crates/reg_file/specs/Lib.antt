@@ -1,3 +1,5 @@
-pub mod Tables
 pub mod Links
 pub mod Logins
+pub mod RegLines
+pub mod Registers
+pub mod Tables

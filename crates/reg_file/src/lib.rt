@@ -1,6 +1,11 @@
 //! The settings that a special remote makes and asks for.
 #![tactic(auto)]
 
+mod line;
 mod links;
 mod logins;
+mod registers;
 mod table;
+
+pub use line::RegLine;
+pub use registers::Registers;

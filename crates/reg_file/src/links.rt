@@ -1,7 +1,7 @@
 // The URLs of keys.
 ghost use Rattle.std.specs.Prelude.{◌≡◌, [], IfOk, OnOk, OnErr, ◌&&◌, nat_eq, bytes_eq, filter, option_map, option_copied, slice_get};
 ghost use Rattle.std.specs.List.{starts_with};
-ghost use Rattle.reg_file.specs.Links.{LinksRise, with_link, without_link, urls_at};
+ghost use Rattle.reg_file.specs.Links.{with_link, without_link, urls_at};
 
 use ann_key::NoMemory;
 use std::alloc::Global;
@@ -40,7 +40,6 @@ impl Links {
     pub(crate) fn add(&mut self, alloc: Global, key: &[u8], url: &[u8]) -> Result<(), NoMemory>
         ensures ok { OnOk result (self.new ≡ with_link self.old key.now url.now) }
         ensures err { OnErr result (self.new ≡ self.old) }
-        ensures rises { OnOk result (LinksRise self.new) }
     {
         let key = Vec::from_slice(alloc, key)?;
         let url = Vec::from_slice(alloc, url)?;
@@ -51,7 +50,6 @@ impl Links {
     pub(crate) fn remove(&mut self, alloc: Global, key: &[u8], url: &[u8]) -> Result<(), NoMemory>
         ensures ok { OnOk result (self.new ≡ without_link self.old key.now url.now) }
         ensures err { OnErr result (self.new ≡ self.old) }
-        ensures rises { OnOk result (LinksRise self.new) }
     {
         let link = (Vec::from_slice(alloc, key)?, Vec::from_slice(alloc, url)?);
         self.links.remove(&link);
@@ -59,8 +57,7 @@ impl Links {
     }
 
     pub(crate) fn url(&self, key: &[u8], prefix: &[u8], n: usize) -> Option<&[u8]>
-        ensures value { option_map (λ url. url.now) result ≡ slice_get (urls_at self.now key.now prefix.now) n }
-        ensures rises { LinksRise self.now }
+        ensures { option_map (λ url. url.now) result ≡ slice_get (urls_at self.now key.now prefix.now) n }
     {
         let link = matching(&self.links, key, prefix, n)?;
         Some(link.1.as_slice())

@@ -1,6 +1,6 @@
 // Users and their passwords.
 ghost use Rattle.std.specs.Prelude.{◌≡◌, [], IfOk, OnOk, OnErr};
-ghost use Rattle.reg_file.specs.Tables.{Rises, put};
+ghost use Rattle.reg_file.specs.Tables.{put};
 
 use ann_key::NoMemory;
 use std::alloc::Global;
@@ -59,7 +59,6 @@ impl Logins {
     ) -> Result<(), NoMemory>
         ensures ok { OnOk result (self.new ≡ put self.old name.now (user.now, password.now)) }
         ensures err { OnErr result (self.new ≡ self.old) }
-        ensures rises { OnOk result (Rises self.new) }
     {
         let name = Vec::from_slice(alloc, name)?;
         let user = Vec::from_slice(alloc, user)?;

@@ -1,6 +1,6 @@
 // Texts under names.
 ghost use Rattle.std.specs.Prelude.{◌≡◌, [], IfOk, OnOk, OnErr, option_map, slice_get, length};
-ghost use Rattle.reg_file.specs.Tables.{Rises, text_at, put, without};
+ghost use Rattle.reg_file.specs.Tables.{text_at, put, without};
 
 use ann_key::NoMemory;
 use std::alloc::Global;
@@ -44,7 +44,6 @@ impl Table {
     pub(crate) fn put(&mut self, alloc: Global, name: &[u8], value: &[u8]) -> Result<(), NoMemory>
         ensures ok { OnOk result (self.new ≡ put self.old name.now value.now) }
         ensures err { OnErr result (self.new ≡ self.old) }
-        ensures rises { OnOk result (Rises self.new) }
     {
         let name = Vec::from_slice(alloc, name)?;
         let value = Vec::from_slice(alloc, value)?;
@@ -53,15 +52,13 @@ impl Table {
     }
 
     pub(crate) fn remove(&mut self, name: &[u8])
-        ensures value { self.new ≡ without self.old name.now }
-        ensures rises { Rises self.new }
+        ensures { self.new ≡ without self.old name.now }
     {
         self.entries.remove(name);
     }
 
     pub(crate) fn len(&self) -> usize
-        ensures value { result ≡ length self.now }
-        ensures rises { Rises self.now }
+        ensures { result ≡ length self.now }
     {
         self.entries.len()
     }

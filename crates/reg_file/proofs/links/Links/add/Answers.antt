@@ -9,8 +9,5 @@ returns-clause-ok c =
     ∙ insert_key-links_of c.self.inside.links.keys (c.in_ok-key.key, c.in_ok-url.url)
     ∙ (λ i. with_link (c.self.view_is i) (c.in_ok-key.ensures.items i) (c.in_ok-url.ensures.items i))
 
-pub returns-clause-rises : goal.returns-clause-rises
-returns-clause-rises c = LinksRise-links_of _ c.in_ok-insert.ensures.ordered
-
 pub invariant_of-self-2 : goal.invariant_of-self-2
 invariant_of-self-2 c = LinksRise-links_of _ c.in_ok-insert.ensures.ordered

@@ -9,8 +9,5 @@ returns-clause-ok c =
     ∙ remove_key-links_of (c.in_ok-from_slice.field-0, c.in_ok-from_slice-2.field-0) c.self.inside.links.keys c.self.invariant
     ∙ (λ i. without_link (c.self.view_is i) (c.in_ok-from_slice.ensures.items i) (c.in_ok-from_slice-2.ensures.items i))
 
-pub returns-clause-rises : goal.returns-clause-rises
-returns-clause-rises c = LinksRise-links_of _ c.remove.ensures.ordered
-
 pub invariant_of-self : goal.invariant_of-self
 invariant_of-self c = LinksRise-links_of _ c.remove.ensures.ordered

@@ -10,8 +10,5 @@ returns-clause-ok c =
     ∙ put-pairs_of c.self.inside.entries.entries c.in_ok-name.name (record { user = c.in_ok-user.user; password = c.in_ok-password.password })
     ∙ (λ i. put (c.self.view_is i) (c.in_ok-name.ensures.items i) (c.in_ok-user.ensures.items i, c.in_ok-password.ensures.items i))
 
-pub returns-clause-rises : goal.returns-clause-rises
-returns-clause-rises c = Rises-pairs_of _ c.in_ok-insert.ensures.ordered
-
 pub invariant_of-self-2 : goal.invariant_of-self-2
 invariant_of-self-2 c = Rises-pairs_of _ c.in_ok-insert.ensures.ordered

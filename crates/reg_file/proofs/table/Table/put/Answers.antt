@@ -9,8 +9,5 @@ returns-clause-ok c =
     ∙ put-texts_of c.self.inside.entries.entries c.in_ok-name.name c.in_ok-value.value
     ∙ (λ i. put (c.self.view_is i) (c.in_ok-name.ensures.items i) (c.in_ok-value.ensures.items i))
 
-pub returns-clause-rises : goal.returns-clause-rises
-returns-clause-rises c = Rises-texts_of _ c.in_ok-insert.ensures.ordered
-
 pub invariant_of-self-2 : goal.invariant_of-self-2
 invariant_of-self-2 c = Rises-texts_of _ c.in_ok-insert.ensures.ordered

@@ -6,11 +6,9 @@ use Rattle.reg_file.proofs.table.Table.remove.Goals as goal
 pub invariant_of-self : goal.invariant_of-self
 invariant_of-self c = Rises-texts_of _ c.remove.ensures.ordered
 
-pub returns-clause-value : goal.returns-clause-value
-returns-clause-value c =
+pub returns : goal.returns
+returns c =
     ap texts_of c.remove.ensures.entries
     ∙ without-texts_of c.self.inside.entries.entries c.args.name.now c.self.invariant
     ∙ ap (λ t. without t c.args.name.now) c.self.view_is
 
-pub returns-clause-rises : goal.returns-clause-rises
-returns-clause-rises c = Rises-texts_of _ c.remove.ensures.ordered
