@@ -78,8 +78,8 @@ filter-links_of p (l ∷ ls) = elim (p (link_of l)) as (λ b. cond b (link_of l 
   | false ↦ filter-links_of p ls
 ]
 
-pub urls_at-links_of : (key prefix : List ℕ) (links : List Link) → urls_at (links_of links) key prefix ≡ map (λ l. l.1.items) (filter (λ l. bytes_eq l.0.items key && starts_with nat_eq l.1.items prefix) links)
-urls_at-links_of key prefix links = ap (map (λ l. l.1)) (filter-links_of (λ l. bytes_eq l.0 key && starts_with nat_eq l.1 prefix) links) ∙ map-links_of (filter (λ l. bytes_eq l.0.items key && starts_with nat_eq l.1.items prefix) links)
+pub urls_at-links_of : (key prefix : List ℕ) (links : List Link) → urls_at (links_of links) key prefix ≡ map (λ l. l.1.items) (filter (λ l. bytes_eq key l.0.items && starts_with nat_eq l.1.items prefix) links)
+urls_at-links_of key prefix links = ap (map (λ l. l.1)) (filter-links_of (λ l. bytes_eq key l.0 && starts_with nat_eq l.1 prefix) links) ∙ map-links_of (filter (λ l. bytes_eq key l.0.items && starts_with nat_eq l.1.items prefix) links)
   where
     map-links_of : (ls : List Link) → map (λ l. l.1) (links_of ls) ≡ map (λ l. l.1.items) ls
     map-links_of [] = refl

@@ -5,13 +5,14 @@ use Rattle.std.specs.declared.cmp.Ordering.TheVariants.{Less, Equal, Greater}
 use Rattle.std.specs.Ordering.{match_ordering, is_eq}
 use Rattle.std.specs.Cmp.{IsTotalOrder}
 use Rattle.std.specs.List.{list_all, list_any}
+use Rattle.std.specs.List.Sorted.{IsStrictlySortedBy}
 use Rattle.ann_key.specs.Keys.{is_key}
 use Rattle.reg_file.specs.Tables.{Texts, Rises, by_bytes, value_at, put, without}
 use Rattle.reg_file.specs.Links.{LinksRise, by_link, is_link, has_link, with_link, without_link}
 use Rattle.std.proofs.Common.{arith}
 use Rattle.std.proofs.lemmas.Bool.Decides.{nat_tests}
 use Rattle.std.proofs.lemmas.Cmp.{nat_list_cmp_total, then_total, on_total}
-use Rattle.reg_file.specs.Registers.{RegisterFile, has_url, SetsOnly, SetsConfig, SetsCreds, SetsWanted, SetsState, SetsUrl, with_config, with_creds, with_wanted, with_state, with_url, is_line, is_word, is_key_word, are_texts, IsKept}
+use Rattle.reg_file.specs.Registers.{RegisterFile, nothing_set, has_url, SetsOnly, SetsConfig, SetsCreds, SetsWanted, SetsState, SetsUrl, with_config, with_creds, with_wanted, with_state, with_url, is_line, is_word, is_key_word, are_texts, IsKept}
 use Rattle.reg_file.proofs.Tables.{same_bytes, itself, value_at-put, value_at-without}
 use Rattle.reg_file.proofs.LinkLists.{same_link, both, is_eq-by_link}
 use Rattle.reg_file.proofs.Orders.{sorted-insert_entry, sorted-insert_key, sorted-filter, sorted-filter_keys}
@@ -126,7 +127,7 @@ sets_url r key url false = record {
 }
 
 -- ---- the texts of each register stay in their classes
-both_true : (a b : Bool) → a ≡ true → b ≡ true → (a && b) ≡ true
+pub both_true : (a b : Bool) → a ≡ true → b ≡ true → (a && b) ≡ true
 both_true a b p q = λ i. p i && q i
 
 module _ {X : Type 0} (p : List ℕ → Bool) (q : X → Bool) where
@@ -172,7 +173,7 @@ pub key_word : (key : List ℕ) → is_key key ≡ true → is_word key ≡ true
 unfolding is_key_word
 key_word key spelled word = both_true _ _ word spelled
 
-links_total : IsTotalOrder by_link
+pub links_total : IsTotalOrder by_link
 links_total = then_total (on_total (λ (l : List ℕ × List ℕ). l.0) nat_list_cmp_total) (on_total (λ (l : List ℕ × List ℕ). l.1) nat_list_cmp_total)
 
 filled : (value : List ℕ) → (length value == 0) ≡ false → nat_lt 0 (length value) ≡ true
@@ -223,3 +224,13 @@ module _ (r : RegisterFile) (kept : IsKept r) where
     config_texts = kept.config_texts; creds_texts = kept.creds_texts; wanted_text = kept.wanted_text; state_texts = kept.state_texts;
     urls_texts = pass-without_link is_key_word is_line r.urls key url kept.urls_texts;
   }
+
+  pub kept_wanted : (expression : List ℕ) → is_line expression ≡ true → IsKept (with_wanted r expression)
+  kept_wanted expression line = record {
+    config_rises = kept.config_rises; creds_rise = kept.creds_rise; state_rises = kept.state_rises; urls_rise = kept.urls_rise;
+    config_texts = kept.config_texts; creds_texts = kept.creds_texts; wanted_text = line; state_texts = kept.state_texts; urls_texts = kept.urls_texts;
+  }
+
+pub kept_nothing : IsKept nothing_set
+unfolding IsStrictlySortedBy
+kept_nothing = record { config_rises = tt; creds_rise = tt; state_rises = tt; urls_rise = tt; config_texts = refl; creds_texts = refl; wanted_text = refl; state_texts = refl; urls_texts = refl }

@@ -33,7 +33,7 @@ without_link links key url = filter (λ link. not (is_link key url link)) links
 
 -- the URLs of the key that begin with the prefix, in their order
 abbrev pub urls_at : Texts → List ℕ → List ℕ → List (List ℕ)
-urls_at links key prefix = map (λ link. link.1) (filter (λ link. bytes_eq link.0 key && starts_with nat_eq link.1 prefix) links)
+urls_at links key prefix = map (λ link. link.1) (filter (λ link. bytes_eq key link.0 && starts_with nat_eq link.1 prefix) links)
 
 -- the texts in the vectors
 abbrev pub link_of : Vec ℕ Global × Vec ℕ Global → List ℕ × List ℕ

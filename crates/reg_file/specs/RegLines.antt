@@ -1,5 +1,5 @@
 -- The set registers one behind the other, as a kept file has them.
-use Rattle.std.specs.Prelude.{ℕ, Bool, ◌&&◌, List, [], ◌∷◌, ◌++◌, map, length, nat_lt, fold}
+use Rattle.std.specs.Prelude.{ℕ, Bool, ◌&&◌, List, [], ◌∷◌, ◌++◌, map, length, nat_lt, fold, true}
 use Rattle.reg_file.specs.declared.line.RegLine.{RegLine}
 use Rattle.reg_file.specs.declared.line.RegLine.TheVariants.{Config, Wanted, State, Url}
 use Rattle.reg_file.specs.Registers.{RegisterFile, nothing_set, with_config, with_wanted, with_state, with_url, is_line, is_word, is_key_word}
@@ -32,3 +32,21 @@ later_lines_of r = wanted_lines r.wanted ++ keyed_lines_of r
 -- by name, the wanted expression, and those of keys; creds have no line
 abbrev pub lines_of : RegisterFile → List Line
 lines_of r = map (λ e. ConfigLine e.0 e.1) r.config ++ later_lines_of r
+
+-- ---- lines that are set again, as a reader of a kept file does
+
+abbrev pub set_by_line : RegisterFile → Line → RegisterFile
+set_by_line r (ConfigLine name value) = with_config r name value
+set_by_line r (WantedLine value) = with_wanted r value
+set_by_line r (StateLine key value) = with_state r key value
+set_by_line r (UrlLine key url) = with_url r key url true
+
+abbrev pub set_by_lines : RegisterFile → List Line → RegisterFile
+set_by_lines r lines = fold set_by_line r lines
+
+-- which texts stand where in a line
+abbrev pub is_fit : Line → Bool
+is_fit (ConfigLine name value) = is_word name && is_line value
+is_fit (WantedLine value) = is_line value
+is_fit (StateLine key value) = is_key_word key && (nat_lt 0 (length value) && is_line value)
+is_fit (UrlLine key url) = is_key_word key && is_line url

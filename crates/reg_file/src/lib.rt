@@ -1,6 +1,7 @@
 //! The settings that a special remote makes and asks for.
 #![tactic(auto)]
 
+pub mod laws;
 mod line;
 mod links;
 mod logins;

@@ -79,7 +79,7 @@ impl Links {
 }
 
 fn matching<'a>(links: &'a BTreeSet<Link>, key: &[u8], prefix: &[u8], n: usize) -> Option<&'a Link>
-    ensures { option_copied result ≡ slice_get (filter (λ link. bytes_eq link.0.items key.now && starts_with nat_eq link.1.items prefix.now) links.now.keys) n }
+    ensures { option_copied result ≡ slice_get (filter (λ link. bytes_eq key.now link.0.items && starts_with nat_eq link.1.items prefix.now) links.now.keys) n }
 {
     links
         .iter()
@@ -88,7 +88,7 @@ fn matching<'a>(links: &'a BTreeSet<Link>, key: &[u8], prefix: &[u8], n: usize) 
 }
 
 fn is_match(link: &Link, key: &[u8], prefix: &[u8]) -> bool
-    ensures { result ≡ (bytes_eq link.now.0.items key.now && starts_with nat_eq link.now.1.items prefix.now) }
+    ensures { result ≡ (bytes_eq key.now link.now.0.items && starts_with nat_eq link.now.1.items prefix.now) }
 {
-    link.0.as_slice() == key && link.1.as_slice().starts_with(prefix)
+    key == link.0.as_slice() && link.1.as_slice().starts_with(prefix)
 }
