@@ -162,6 +162,6 @@ lines_again r kept =
     ∙ ap (λ s. set_by_lines s keyed) (feed_wanted r.config r.wanted)
     ∙ fold-append set_by_line (record nothing_set { config = r.config; wanted = r.wanted }) states urls
     ∙ ap (λ s. set_by_lines s urls) (feed_state (record nothing_set { config = r.config; wanted = r.wanted }) r.state
-      ∙ ap (λ t. record nothing_set { config = r.config; wanted = r.wanted; state = t }) (state_again r.state kept.state_rises (all_filled _ _ r.state kept.state_texts)))
+    ∙ ap (λ t. record nothing_set { config = r.config; wanted = r.wanted; state = t }) (state_again r.state kept.state_rises (all_filled _ _ r.state kept.state_texts)))
     ∙ feed_urls (record nothing_set { config = r.config; wanted = r.wanted; state = r.state }) r.urls
     ∙ ap (λ t. record nothing_set { config = r.config; wanted = r.wanted; state = r.state; urls = t }) (urls_again r.urls kept.urls_rise)

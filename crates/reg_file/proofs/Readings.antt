@@ -79,7 +79,7 @@ module _ (key prefix : List ℕ) where
       ∙ one_url (bytes_eq key l.0) (starts_with nat_eq l.1 prefix) (bytes_eq url l.1) _ (has_link ls key url) (starts_with nat_eq url prefix) (λ e. ap (λ u. starts_with nat_eq u prefix) (same_bytes url l.1 e)) (any_url url ls)
     where
       shown : (b : Bool) → list_any (bytes_eq url) (map (λ l. l.1) (cond b (l ∷ filter (λ l. bytes_eq key l.0 && starts_with nat_eq l.1 prefix) ls) (filter (λ l. bytes_eq key l.0 && starts_with nat_eq l.1 prefix) ls)))
-        ≡ cond b (bytes_eq url l.1 || list_any (bytes_eq url) (urls_at ls key prefix)) (list_any (bytes_eq url) (urls_at ls key prefix))
+          ≡ cond b (bytes_eq url l.1 || list_any (bytes_eq url) (urls_at ls key prefix)) (list_any (bytes_eq url) (urls_at ls key prefix))
       shown true = refl
       shown false = refl
 

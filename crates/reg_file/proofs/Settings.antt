@@ -183,17 +183,28 @@ filled (b ∷ bytes) h = grind (arith, nat_tests)
 module _ (r : RegisterFile) (kept : IsKept r) where
   pub kept_config : (name value : List ℕ) → is_word name ≡ true → is_line value ≡ true → IsKept (with_config r name value)
   kept_config name value word line = record {
-    config_rises = sorted-insert_entry nat_list_cmp_total name value r.config kept.config_rises; creds_rise = kept.creds_rise; state_rises = kept.state_rises; urls_rise = kept.urls_rise;
-    config_texts = pass-put is_word is_line r.config name value word line kept.config_texts; creds_texts = kept.creds_texts;
-    wanted_text = kept.wanted_text; state_texts = kept.state_texts; urls_texts = kept.urls_texts;
+    config_rises = sorted-insert_entry nat_list_cmp_total name value r.config kept.config_rises;
+    creds_rise = kept.creds_rise;
+    state_rises = kept.state_rises;
+    urls_rise = kept.urls_rise;
+    config_texts = pass-put is_word is_line r.config name value word line kept.config_texts;
+    creds_texts = kept.creds_texts;
+    wanted_text = kept.wanted_text;
+    state_texts = kept.state_texts;
+    urls_texts = kept.urls_texts;
   }
 
   pub kept_creds : (setting user password : List ℕ) → is_word setting ≡ true → is_word user ≡ true → is_line password ≡ true → IsKept (with_creds r setting user password)
   kept_creds setting user password word user_word line = record {
-    config_rises = kept.config_rises; creds_rise = sorted-insert_entry nat_list_cmp_total setting (user, password) r.creds kept.creds_rise; state_rises = kept.state_rises; urls_rise = kept.urls_rise;
+    config_rises = kept.config_rises;
+    creds_rise = sorted-insert_entry nat_list_cmp_total setting (user, password) r.creds kept.creds_rise;
+    state_rises = kept.state_rises;
+    urls_rise = kept.urls_rise;
     config_texts = kept.config_texts;
     creds_texts = pass-put is_word (λ v. is_word v.0 && is_line v.1) r.creds setting (user, password) word (both_true _ _ user_word line) kept.creds_texts;
-    wanted_text = kept.wanted_text; state_texts = kept.state_texts; urls_texts = kept.urls_texts;
+    wanted_text = kept.wanted_text;
+    state_texts = kept.state_texts;
+    urls_texts = kept.urls_texts;
   }
 
   pub kept_state : (key value : List ℕ) → is_key_word key ≡ true → is_line value ≡ true → IsKept (with_state r key value)
@@ -202,33 +213,64 @@ module _ (r : RegisterFile) (kept : IsKept r) where
       let file = λ (state : Texts). record r { state = state } in
       elim (length value == 0) as (λ b. (length value == 0) ≡ b → IsKept (file (if b then without r.state key else put r.state key value))) [
         | true ↦ λ _. record {
-          config_rises = kept.config_rises; creds_rise = kept.creds_rise; state_rises = sorted-filter by_bytes _ r.state kept.state_rises; urls_rise = kept.urls_rise;
-          config_texts = kept.config_texts; creds_texts = kept.creds_texts; wanted_text = kept.wanted_text;
-          state_texts = pass-without is_key_word is_text r.state key kept.state_texts; urls_texts = kept.urls_texts;
+          config_rises = kept.config_rises;
+          creds_rise = kept.creds_rise;
+          state_rises = sorted-filter by_bytes _ r.state kept.state_rises;
+          urls_rise = kept.urls_rise;
+          config_texts = kept.config_texts;
+          creds_texts = kept.creds_texts;
+          wanted_text = kept.wanted_text;
+          state_texts = pass-without is_key_word is_text r.state key kept.state_texts;
+          urls_texts = kept.urls_texts;
         }
         | false ↦ λ some. record {
-          config_rises = kept.config_rises; creds_rise = kept.creds_rise; state_rises = sorted-insert_entry nat_list_cmp_total key value r.state kept.state_rises; urls_rise = kept.urls_rise;
-          config_texts = kept.config_texts; creds_texts = kept.creds_texts; wanted_text = kept.wanted_text;
-          state_texts = pass-put is_key_word is_text r.state key value word (both_true _ _ (filled value some) line) kept.state_texts; urls_texts = kept.urls_texts;
+          config_rises = kept.config_rises;
+          creds_rise = kept.creds_rise;
+          state_rises = sorted-insert_entry nat_list_cmp_total key value r.state kept.state_rises;
+          urls_rise = kept.urls_rise;
+          config_texts = kept.config_texts;
+          creds_texts = kept.creds_texts;
+          wanted_text = kept.wanted_text;
+          state_texts = pass-put is_key_word is_text r.state key value word (both_true _ _ (filled value some) line) kept.state_texts;
+          urls_texts = kept.urls_texts;
         }
       ] refl
 
   pub kept_url : (key url : List ℕ) (present : Bool) → is_key_word key ≡ true → is_line url ≡ true → IsKept (with_url r key url present)
   kept_url key url true word line = record {
-    config_rises = kept.config_rises; creds_rise = kept.creds_rise; state_rises = kept.state_rises; urls_rise = sorted-insert_key links_total (key, url) r.urls kept.urls_rise;
-    config_texts = kept.config_texts; creds_texts = kept.creds_texts; wanted_text = kept.wanted_text; state_texts = kept.state_texts;
+    config_rises = kept.config_rises;
+    creds_rise = kept.creds_rise;
+    state_rises = kept.state_rises;
+    urls_rise = sorted-insert_key links_total (key, url) r.urls kept.urls_rise;
+    config_texts = kept.config_texts;
+    creds_texts = kept.creds_texts;
+    wanted_text = kept.wanted_text;
+    state_texts = kept.state_texts;
     urls_texts = pass-with_link is_key_word is_line r.urls key url word line kept.urls_texts;
   }
   kept_url key url false word line = record {
-    config_rises = kept.config_rises; creds_rise = kept.creds_rise; state_rises = kept.state_rises; urls_rise = sorted-filter_keys by_link _ r.urls kept.urls_rise;
-    config_texts = kept.config_texts; creds_texts = kept.creds_texts; wanted_text = kept.wanted_text; state_texts = kept.state_texts;
+    config_rises = kept.config_rises;
+    creds_rise = kept.creds_rise;
+    state_rises = kept.state_rises;
+    urls_rise = sorted-filter_keys by_link _ r.urls kept.urls_rise;
+    config_texts = kept.config_texts;
+    creds_texts = kept.creds_texts;
+    wanted_text = kept.wanted_text;
+    state_texts = kept.state_texts;
     urls_texts = pass-without_link is_key_word is_line r.urls key url kept.urls_texts;
   }
 
   pub kept_wanted : (expression : List ℕ) → is_line expression ≡ true → IsKept (with_wanted r expression)
   kept_wanted expression line = record {
-    config_rises = kept.config_rises; creds_rise = kept.creds_rise; state_rises = kept.state_rises; urls_rise = kept.urls_rise;
-    config_texts = kept.config_texts; creds_texts = kept.creds_texts; wanted_text = line; state_texts = kept.state_texts; urls_texts = kept.urls_texts;
+    config_rises = kept.config_rises;
+    creds_rise = kept.creds_rise;
+    state_rises = kept.state_rises;
+    urls_rise = kept.urls_rise;
+    config_texts = kept.config_texts;
+    creds_texts = kept.creds_texts;
+    wanted_text = line;
+    state_texts = kept.state_texts;
+    urls_texts = kept.urls_texts;
   }
 
 pub kept_nothing : IsKept nothing_set

@@ -94,7 +94,12 @@ impl Registers {
     }
 
     /// Sets the user and the password of the setting.
-    pub fn set_creds(&mut self, setting: &[u8], user: &[u8], password: &[u8]) -> Result<(), NoMemory>
+    pub fn set_creds(
+        &mut self,
+        setting: &[u8],
+        user: &[u8],
+        password: &[u8],
+    ) -> Result<(), NoMemory>
         requires setting { IsTrue (is_word setting.now) }
         requires user { IsTrue (is_word user.now) }
         requires password { IsTrue (is_line password.now) }

@@ -8,4 +8,4 @@ pub returns : goal.returns
 returns c =
     nth_from_yields_List c.nth.result c.nth.new.self c.args.n c.nth.ensures.ran
     (YieldsList-from_filter _ (λ (l : Link). bytes_eq c.args.key.now l.0.items && starts_with nat_eq l.1.items c.args.prefix.now)
-      (YieldsList-from_rest c.args.links.now.keys (c.filter.ensures.source ∙ c.iter.ensures.rest)) c.filter.ensures.closure (λ x b q called. search rules))
+    (YieldsList-from_rest c.args.links.now.keys (c.filter.ensures.source ∙ c.iter.ensures.rest)) c.filter.ensures.closure (λ x b q called. search rules))

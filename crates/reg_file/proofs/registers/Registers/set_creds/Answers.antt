@@ -17,4 +17,3 @@ pub returns-clause-alone : goal.returns-clause-alone
 returns-clause-alone c = on_ok c.put.result c.put.ensures.ok (λ e.
     subst (λ old. SetsCreds old (record (the_view c.self.inside) { creds = c.put.new.self }) c.args.setting.now c.args.user.now c.args.password.now) c.self.view_is
     (subst (λ t. SetsCreds (the_view c.self.inside) (record (the_view c.self.inside) { creds = t }) c.args.setting.now c.args.user.now c.args.password.now) (sym e) (sets_creds _ c.args.setting.now c.args.user.now c.args.password.now)))
-

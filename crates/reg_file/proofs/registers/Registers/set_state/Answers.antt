@@ -25,7 +25,7 @@ invariant_of-self-2 c =
     let some : (length c.args.value.now == 0) ≡ false = sym c.if-is_empty.ensures in
     settled _ c.put.result c.put.ensures.ok c.put.ensures.err
     (λ e. subst (λ t. IsKept (record (the_view c.self.inside) { state = t }))
-      (sym (e ∙ ap (λ b. if b then without c.self.inside.state c.args.key.now else put c.self.inside.state c.args.key.now c.args.value.now) (sym some))) (kept_state _ c.self.invariant c.args.key.now c.args.value.now (key_word _ c.requires.key c.requires.word) c.requires.value))
+    (sym (e ∙ ap (λ b. if b then without c.self.inside.state c.args.key.now else put c.self.inside.state c.args.key.now c.args.value.now) (sym some))) (kept_state _ c.self.invariant c.args.key.now c.args.value.now (key_word _ c.requires.key c.requires.word) c.requires.value))
     (λ e. subst (λ t. IsKept (record (the_view c.self.inside) { state = t })) (sym e) c.self.invariant)
 
 pub returns-clause-alone : goal.returns-clause-alone
@@ -34,4 +34,4 @@ returns-clause-alone c =
     on_ok c.put.result c.put.ensures.ok (λ e.
     subst (λ old. SetsState old (record (the_view c.self.inside) { state = c.put.new.self }) c.args.key.now c.args.value.now) c.self.view_is
     (subst (λ t. SetsState (the_view c.self.inside) (record (the_view c.self.inside) { state = t }) c.args.key.now c.args.value.now)
-      (sym (e ∙ ap (λ b. if b then without c.self.inside.state c.args.key.now else put c.self.inside.state c.args.key.now c.args.value.now) (sym some))) (sets_state _ c.args.key.now c.args.value.now)))
+    (sym (e ∙ ap (λ b. if b then without c.self.inside.state c.args.key.now else put c.self.inside.state c.args.key.now c.args.value.now) (sym some))) (sets_state _ c.args.key.now c.args.value.now)))

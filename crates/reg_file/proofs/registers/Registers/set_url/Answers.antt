@@ -30,4 +30,3 @@ returns-clause-alone c = on_ok c.remove.result c.remove.ensures.ok (λ e.
     subst (λ old. SetsUrl old (record (the_view c.self.inside) { urls = c.remove.new.self }) c.args.key.now c.args.url.now c.args.present) c.self.view_is
     (subst (λ b. SetsUrl (the_view c.self.inside) (record (the_view c.self.inside) { urls = c.remove.new.self }) c.args.key.now c.args.url.now b) (sym c.if-present.false)
     (subst (λ t. SetsUrl (the_view c.self.inside) (record (the_view c.self.inside) { urls = t }) c.args.key.now c.args.url.now false) (sym e) (sets_url _ c.args.key.now c.args.url.now false))))
-

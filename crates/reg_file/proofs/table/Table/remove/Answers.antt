@@ -11,4 +11,3 @@ returns c =
     ap texts_of c.remove.ensures.entries
     ∙ without-texts_of c.self.inside.entries.entries c.args.name.now c.self.invariant
     ∙ ap (λ t. without t c.args.name.now) c.self.view_is
-
