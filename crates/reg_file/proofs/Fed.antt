@@ -1,13 +1,10 @@
 -- Entries in order, put one behind the other into an empty list, give the list itself.
-use Rattle.std.proofs.Common.{◌≡◌, ℕ, ◌==◌, Bool, true, false, cond, ◌&&◌, List, [], ◌∷◌, ◌++◌, map, fold, length, nat_lt, if◌then◌else◌, refl, sym, ap, subst, ◌∙◌, arith}
-use mathlib.Core.Bool.{false≢true}
+use Rattle.std.proofs.Common.{◌≡◌, ℕ, ◌==◌, Bool, true, false, ◌&&◌, List, [], ◌∷◌, ◌++◌, map, fold, length, nat_lt, if◌then◌else◌, refl, sym, ap, ◌∙◌, arith}
 use Rattle.std.specs.declared.cmp.Ordering.{Ordering}
-use Rattle.std.specs.declared.cmp.Ordering.TheVariants.{Less, Equal, Greater}
+use Rattle.std.specs.declared.cmp.Ordering.TheVariants.{Less, Greater}
 use Rattle.std.specs.Ordering.{match_ordering, ordering_reverse}
 use Rattle.std.specs.Cmp.{IsTotalOrder}
 use Rattle.std.specs.Map.{keys_of}
-use Rattle.std.specs.BTreeMap.{insert_entry}
-use Rattle.std.specs.BTreeSet.{insert_key}
 use Rattle.std.specs.List.{AllByRecursion, list_all}
 use Rattle.std.specs.List.Sorted.{IsStrictlySortedBy}
 use Rattle.std.proofs.lemmas.Bool.Decides.{nat_tests}
@@ -15,8 +12,8 @@ use Rattle.std.proofs.lemmas.Cmp.{nat_list_cmp_total}
 use Rattle.std.proofs.lemmas.List.Sums.{fold-append}
 use Rattle.reg_file.specs.Tables.{Texts, by_bytes, put, without, Rises}
 use Rattle.reg_file.specs.Links.{by_link, with_link, LinksRise}
-use Rattle.reg_file.specs.Registers.{RegisterFile, nothing_set, with_state, are_texts, IsKept}
-use Rattle.reg_file.specs.RegLines.{Line, ConfigLine, WantedLine, StateLine, UrlLine, wanted_lines, lines_of, later_lines_of, keyed_lines_of, set_by_line, set_by_lines}
+use Rattle.reg_file.specs.Registers.{RegisterFile, nothing_set, IsKept}
+use Rattle.reg_file.specs.RegLines.{ConfigLine, StateLine, UrlLine, wanted_lines, lines_of, later_lines_of, keyed_lines_of, set_by_line, set_by_lines}
 use Rattle.reg_file.proofs.LinkLists.{both}
 use Rattle.reg_file.proofs.Settings.{links_total}
 

@@ -1,18 +1,18 @@
 -- A set of pairs of vectors, read as links.
-use Rattle.std.proofs.Common.{◌≡◌, ℕ, Bool, true, false, cond, not, ◌&&◌, List, [], ◌∷◌, Vec, Option, option_map, bytes_eq, nat_eq, filter, map, slice_get, sym, ap, subst, refl, ◌∙◌}
+use Rattle.std.proofs.Common.{◌≡◌, ℕ, Bool, true, false, cond, not, ◌&&◌, List, [], ◌∷◌, Vec, bytes_eq, nat_eq, filter, map, sym, ap, subst, refl, ◌∙◌}
 use mathlib.Core.Bool.{false≢true}
 use Rattle.std.specs.declared.alloc.Global.{Global}
 use Rattle.std.specs.declared.cmp.Ordering.{Ordering}
 use Rattle.std.specs.declared.cmp.Ordering.TheVariants.{Less, Equal, Greater}
-use Rattle.std.specs.Ordering.{match_ordering, is_eq, ordering_then, eq_by_cmp}
+use Rattle.std.specs.Ordering.{match_ordering, is_eq, ordering_then}
 use Rattle.std.specs.BTreeMap.{is_at}
 use Rattle.std.specs.BTreeSet.{insert_key}
 use Rattle.std.specs.Set.{remove_key}
-use Rattle.std.specs.List.{AllZip, AllByRecursion, list_any, starts_with}
+use Rattle.std.specs.List.{AllZip, AllByRecursion, starts_with}
 use Rattle.std.specs.List.Sorted.{IsStrictlySortedBy}
 use Rattle.reg_file.specs.Tables.{Texts, by_bytes}
-use Rattle.reg_file.specs.Links.{by_link, LinksRise, is_link, has_link, with_link, without_link, urls_at, link_of, links_of}
-use Rattle.reg_file.proofs.Tables.{is_eq-by_bytes, same_bytes, itself, IsVecCopy, items_of_copy}
+use Rattle.reg_file.specs.Links.{by_link, LinksRise, is_link, with_link, without_link, urls_at, link_of, links_of}
+use Rattle.reg_file.proofs.Tables.{is_eq-by_bytes, same_bytes, IsVecCopy, items_of_copy}
 
 abbrev pub Link : Type 0
 Link = Vec ℕ Global × Vec ℕ Global

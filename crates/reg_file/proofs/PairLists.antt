@@ -1,5 +1,5 @@
 -- A table of logins, read as one of pairs of texts.
-use Rattle.std.proofs.Common.{◌≡◌, ℕ, List, Vec, Option, option_map}
+use Rattle.std.proofs.Common.{◌≡◌, ℕ, List, Vec, option_map}
 use Rattle.std.specs.declared.alloc.Global.{Global}
 use Rattle.std.specs.Map.{lookup, keys_of}
 use Rattle.std.specs.BTreeMap.{insert_entry, is_at}

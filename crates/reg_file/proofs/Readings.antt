@@ -1,8 +1,6 @@
 -- What is read after a setting, and what the URLs that are read are.
-use Rattle.std.proofs.Common.{◌≡◌, ℕ, ◌==◌, Bool, true, false, cond, not, ◌&&◌, ◌||◌, List, [], ◌∷◌, map, filter, length, Option, Some, None, unwrap_or, bytes_eq, nat_eq, if◌then◌else◌, refl, sym, ap, subst, ◌∙◌, arith}
-use mathlib.Core.Bool.{false≢true}
-use Rattle.std.specs.declared.cmp.Ordering.{Ordering}
-use Rattle.std.specs.declared.cmp.Ordering.TheVariants.{Less, Equal, Greater}
+use Rattle.std.proofs.Common.{◌≡◌, ℕ, ◌==◌, Bool, true, false, cond, not, ◌&&◌, ◌||◌, List, [], ◌∷◌, map, filter, length, Option, Some, None, unwrap_or, bytes_eq, nat_eq, if◌then◌else◌, refl, sym, ap, ◌∙◌, arith}
+use Rattle.std.specs.declared.cmp.Ordering.TheVariants.{Less}
 use Rattle.std.specs.Ordering.{ordering_then}
 use Rattle.std.specs.List.{list_all, list_any, starts_with, AllByRecursion}
 use Rattle.std.specs.List.Sorted.{IsStrictlySortedBy}
@@ -10,11 +8,11 @@ use Rattle.std.proofs.lemmas.Bool.Decides.{nat_tests}
 use Rattle.std.proofs.lemmas.Cmp.{nat_list_cmp_total, tied_itself}
 use Rattle.reg_file.specs.Tables.{Texts, by_bytes, value_at, text_at, put, without}
 use Rattle.reg_file.specs.Logins.{Pairs, pair_at}
-use Rattle.reg_file.specs.Links.{by_link, is_link, has_link, with_link, without_link, urls_at, LinksRise}
-use Rattle.reg_file.specs.Registers.{RegisterFile, IsKept, is_line, config_of, creds_of, state_of, has_url, with_config, with_creds, with_state, with_url}
+use Rattle.reg_file.specs.Links.{by_link, is_link, has_link, urls_at, LinksRise}
+use Rattle.reg_file.specs.Registers.{RegisterFile, IsKept, is_line, state_of, has_url, with_state, with_url}
 use Rattle.reg_file.specs.RegLines.{ConfigLine, StateLine, UrlLine, wanted_lines, keyed_lines_of, later_lines_of, lines_of, is_fit}
 use Rattle.std.proofs.lemmas.List.Folds.{list_all-append, list_all-map}
-use Rattle.reg_file.proofs.Tables.{value_at-put, value_at-without, same_bytes, itself}
+use Rattle.reg_file.proofs.Tables.{value_at-put, value_at-without, same_bytes}
 use Rattle.reg_file.proofs.LinkLists.{both}
 use Rattle.reg_file.proofs.Settings.{both_true, has_link-with_link, has_link-without_link}
 

@@ -1,18 +1,18 @@
 -- What a setting does to the registers, and what it keeps.
-use Rattle.std.proofs.Common.{◌≡◌, ◌≢◌, ℕ, ◌<◌, ◌==◌, Bool, true, false, cond, not, ◌&&◌, ◌||◌, List, [], ◌∷◌, length, nat_lt, Option, Some, None, Result, Ok, Err, OnOk, OnErr, bytes_eq, refl, sym, ap, subst, ◌∙◌, if◌then◌else◌}
+use Rattle.std.proofs.Common.{◌≡◌, ◌≢◌, ℕ, ◌==◌, Bool, true, false, cond, not, ◌&&◌, ◌||◌, List, [], ◌∷◌, length, nat_lt, Some, None, Result, Ok, Err, OnOk, OnErr, bytes_eq, refl, sym, ap, ◌∙◌, if◌then◌else◌}
 use mathlib.Core.Bool.{false≢true}
 use Rattle.std.specs.declared.cmp.Ordering.TheVariants.{Less, Equal, Greater}
 use Rattle.std.specs.Ordering.{match_ordering, is_eq}
 use Rattle.std.specs.Cmp.{IsTotalOrder}
-use Rattle.std.specs.List.{list_all, list_any}
+use Rattle.std.specs.List.{list_all}
 use Rattle.std.specs.List.Sorted.{IsStrictlySortedBy}
 use Rattle.ann_key.specs.Keys.{is_key}
-use Rattle.reg_file.specs.Tables.{Texts, Rises, by_bytes, value_at, put, without}
-use Rattle.reg_file.specs.Links.{LinksRise, by_link, is_link, has_link, with_link, without_link}
+use Rattle.reg_file.specs.Tables.{Texts, by_bytes, value_at, put, without}
+use Rattle.reg_file.specs.Links.{by_link, is_link, has_link, with_link, without_link}
 use Rattle.std.proofs.Common.{arith}
 use Rattle.std.proofs.lemmas.Bool.Decides.{nat_tests}
 use Rattle.std.proofs.lemmas.Cmp.{nat_list_cmp_total, then_total, on_total}
-use Rattle.reg_file.specs.Registers.{RegisterFile, nothing_set, has_url, SetsOnly, SetsConfig, SetsCreds, SetsWanted, SetsState, SetsUrl, with_config, with_creds, with_wanted, with_state, with_url, is_line, is_word, is_key_word, are_texts, IsKept}
+use Rattle.reg_file.specs.Registers.{RegisterFile, nothing_set, has_url, SetsOnly, SetsConfig, SetsCreds, SetsWanted, SetsState, SetsUrl, with_config, with_creds, with_wanted, with_state, with_url, is_line, is_word, is_key_word, IsKept}
 use Rattle.reg_file.proofs.Tables.{same_bytes, itself, value_at-put, value_at-without}
 use Rattle.reg_file.proofs.LinkLists.{same_link, both, is_eq-by_link}
 use Rattle.reg_file.proofs.Orders.{sorted-insert_entry, sorted-insert_key, sorted-filter, sorted-filter_keys}

@@ -2,7 +2,7 @@
 use Rattle.std.specs.Prelude.{ℕ, Bool, ◌&&◌, List, [], ◌∷◌, ◌++◌, map, length, nat_lt, fold, true}
 use Rattle.reg_file.specs.declared.line.RegLine.{RegLine}
 use Rattle.reg_file.specs.declared.line.RegLine.TheVariants.{Config, Wanted, State, Url}
-use Rattle.reg_file.specs.Registers.{RegisterFile, nothing_set, with_config, with_wanted, with_state, with_url, is_line, is_word, is_key_word}
+use Rattle.reg_file.specs.Registers.{RegisterFile, with_config, with_wanted, with_state, with_url, is_line, is_word, is_key_word}
 
 pub data Line : Type 0 where
   ConfigLine : List ℕ → List ℕ → Line

@@ -1,5 +1,5 @@
 -- The registers, what reads them, and how a setting changes them.
-use Rattle.std.specs.Prelude.{◌≡◌, ◌≢◌, ℕ, Bool, true, not, ◌==◌, ◌&&◌, ◌||◌, if◌then◌else◌, List, [], length, nat_lt, Option, Some, None, IsTrue, is_none}
+use Rattle.std.specs.Prelude.{◌≡◌, ◌≢◌, ℕ, Bool, not, ◌==◌, ◌&&◌, ◌||◌, if◌then◌else◌, List, [], length, nat_lt, Option, Some, None, IsTrue}
 use Rattle.std.specs.List.{list_all}
 use Rattle.ann_key.specs.Keys.{is_key}
 use Rattle.reg_file.specs.Tables.{Texts, Rises, value_at, text_at, put, without}

@@ -1,5 +1,5 @@
 -- Texts under names, in the rising byte order of the names.
-use Rattle.std.specs.Prelude.{ℕ, Bool, not, ◌&&◌, List, [], map, filter, bytes_eq, unwrap_or, Option, Vec}
+use Rattle.std.specs.Prelude.{ℕ, not, List, [], map, filter, bytes_eq, unwrap_or, Option, Vec}
 use Rattle.std.specs.declared.alloc.Global.{Global}
 use Rattle.std.specs.declared.cmp.Ordering.{Ordering}
 use Rattle.std.specs.Ordering.{nat_cmp}

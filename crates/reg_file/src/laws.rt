@@ -1,11 +1,11 @@
 // Laws over the definitions, each the contract of a function with nothing to do.
-ghost use Rattle.std.specs.Prelude.{◌≡◌, ℕ, Bool, ◌&&◌, ◌||◌, not, List, [], ◌∷◌, IsTrue, bytes_eq, nat_eq, codes, true, false, if◌then◌else◌};
+ghost use Rattle.std.specs.Prelude.{◌≡◌, ℕ, Bool, ◌&&◌, List, [], ◌∷◌, IsTrue, bytes_eq, nat_eq, codes, true, false, if◌then◌else◌};
 ghost use Rattle.std.specs.List.{list_all, list_any, starts_with};
 ghost use Rattle.std.specs.List.Sorted.{IsStrictlySortedBy};
 ghost use Rattle.reg_file.specs.Tables.{by_bytes};
 ghost use Rattle.reg_file.specs.Links.{is_link};
 ghost use Rattle.reg_file.specs.Registers.{RegisterFile, nothing_set, config_of, creds_of, state_of, urls_of, has_url, with_config, with_creds, with_wanted, with_state, with_url, is_line, is_word, is_key_word, IsKept};
-ghost use Rattle.reg_file.specs.RegLines.{ConfigLine, WantedLine, StateLine, UrlLine, lines_of, set_by_lines, is_fit};
+ghost use Rattle.reg_file.specs.RegLines.{ConfigLine, WantedLine, lines_of, set_by_lines, is_fit};
 
 /// What was set is read until the next setting of that register, and each other one as before.
 pub fn what_is_set_is_read()
@@ -45,4 +45,13 @@ pub fn what_is_read_is_kept()
     ensures state { (r : RegisterFile) (key : List ℕ) → IsKept r → IsTrue (is_line (state_of r key)) }
     ensures urls { (r : RegisterFile) (key prefix : List ℕ) → IsKept r → IsTrue (list_all is_line (urls_of r key prefix)) }
     ensures lines { (r : RegisterFile) → IsKept r → IsTrue (list_all is_fit (lines_of r)) }
+{}
+
+/// Settings one after the other, and what is read then.
+pub fn worked_settings()
+    ensures urls { let key = codes "WORM--a" in urls_of (with_url (with_url (with_url (with_url nothing_set key (codes "http://b") true) key (codes "http://a") true) key (codes "ftp://c") true) key (codes "http://b") false) key (codes "http:") ≡ codes "http://a" ∷ [] }
+    ensures other_key { urls_of (with_url nothing_set (codes "WORM--ab") (codes "u") true) (codes "WORM--a") [] ≡ [] }
+    ensures empty_config { lines_of (with_config nothing_set (codes "a") []) ≡ ConfigLine (codes "a") [] ∷ [] }
+    ensures empty_state { lines_of (with_state (with_state nothing_set (codes "WORM--a") (codes "x")) (codes "WORM--a") []) ≡ [] }
+    ensures order { lines_of (with_config (with_wanted (with_config nothing_set (codes "b") (codes "1")) (codes "w")) (codes "a") (codes "2")) ≡ ConfigLine (codes "a") (codes "2") ∷ ConfigLine (codes "b") (codes "1") ∷ WantedLine (codes "w") ∷ [] }
 {}

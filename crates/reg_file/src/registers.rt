@@ -11,7 +11,9 @@ use std::alloc::Global;
 use std::marker::Model;
 
 /// The registers of a remote: config values by name, users and passwords by setting, the wanted
-/// expression, states and URLs by key. Readers take no memory.
+/// expression, states and URLs by key. Readers take no memory, and a setter that finds none has
+/// changed nothing.
+///
 /// <https://git-annex.branchable.com/design/external_special_remote_protocol/> says what a remote
 /// may set and ask for.
 #[derive(Drop)]

@@ -1,4 +1,4 @@
-use Rattle.std.proofs.Common.{◌≡◌, ◌&&◌, bytes_eq, nat_eq, ◌∙◌, rules, List, ℕ}
+use Rattle.std.proofs.Common.{◌&&◌, bytes_eq, nat_eq, ◌∙◌, rules}
 use Rattle.std.specs.List.{starts_with}
 use Rattle.std.proofs.lemmas.Iterator.Consumers.{nth_from_yields_List, YieldsList-from_filter, YieldsList-from_rest}
 use Rattle.reg_file.proofs.LinkLists.{Link}

@@ -1,4 +1,4 @@
-use Rattle.std.proofs.Common.{◌≡◌, Some, ap, sym, ◌∙◌, slice_get, option_map, Bor, List, ℕ}
+use Rattle.std.proofs.Common.{Some, ap, sym, ◌∙◌, slice_get, option_map, Bor, List, ℕ}
 use Rattle.std.proofs.lemmas.Option.{slice_get-map}
 use Rattle.reg_file.specs.Links.{urls_at}
 use Rattle.reg_file.proofs.LinkLists.{urls_at-links_of}

@@ -1,5 +1,5 @@
-use Rattle.std.proofs.Common.{subst, sym, ap, ◌∙◌, List, ℕ, refl}
-use Rattle.reg_file.specs.Registers.{RegisterFile, IsKept, SetsConfig, with_config}
+use Rattle.std.proofs.Common.{subst, sym}
+use Rattle.reg_file.specs.Registers.{IsKept, SetsConfig}
 use Rattle.reg_file.proofs.Settings.{settled, on_ok, sets_config, kept_config}
 use Rattle.reg_file.specs.contracts.registers.Registers.{the_view}
 use Rattle.reg_file.proofs.registers.Registers.set_config.Goals as goal

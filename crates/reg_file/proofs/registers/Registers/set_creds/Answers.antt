@@ -1,10 +1,7 @@
-use Rattle.std.proofs.Common.{◌≡◌, ◌==◌, true, false, if◌then◌else◌, length, subst, sym, ap, ◌∙◌, rules, arith}
-use Rattle.std.proofs.lemmas.Bool.Decides.{nat_tests}
-use Rattle.reg_file.specs.Tables.{put, without}
-use Rattle.reg_file.specs.Links.{with_link, without_link}
-use Rattle.reg_file.specs.Registers.{IsKept, SetsCreds, with_creds}
+use Rattle.std.proofs.Common.{subst, sym}
+use Rattle.reg_file.specs.Registers.{IsKept, SetsCreds}
 use Rattle.reg_file.specs.contracts.registers.Registers.{the_view}
-use Rattle.reg_file.proofs.Settings.{settled, on_ok, key_word, sets_creds, kept_creds}
+use Rattle.reg_file.proofs.Settings.{settled, on_ok, sets_creds, kept_creds}
 use Rattle.reg_file.proofs.registers.Registers.set_creds.Goals as goal
 
 pub invariant_of-self : goal.invariant_of-self

@@ -1,8 +1,6 @@
-use Rattle.std.proofs.Common.{◌≡◌, ◌==◌, true, false, if◌then◌else◌, length, subst, sym, ap, ◌∙◌, rules, arith}
-use Rattle.std.proofs.lemmas.Bool.Decides.{nat_tests}
+use Rattle.std.proofs.Common.{◌≡◌, ◌==◌, true, false, if◌then◌else◌, length, subst, sym, ap, ◌∙◌}
 use Rattle.reg_file.specs.Tables.{put, without}
-use Rattle.reg_file.specs.Links.{with_link, without_link}
-use Rattle.reg_file.specs.Registers.{IsKept, SetsState, with_state}
+use Rattle.reg_file.specs.Registers.{IsKept, SetsState}
 use Rattle.reg_file.specs.contracts.registers.Registers.{the_view}
 use Rattle.reg_file.proofs.Settings.{settled, on_ok, key_word, sets_state, kept_state}
 use Rattle.reg_file.proofs.registers.Registers.set_state.Goals as goal

@@ -1,8 +1,5 @@
-use Rattle.std.proofs.Common.{◌≡◌, ◌==◌, true, false, if◌then◌else◌, length, subst, sym, ap, ◌∙◌, rules, arith}
-use Rattle.std.proofs.lemmas.Bool.Decides.{nat_tests}
-use Rattle.reg_file.specs.Tables.{put, without}
-use Rattle.reg_file.specs.Links.{with_link, without_link}
-use Rattle.reg_file.specs.Registers.{IsKept, SetsUrl, with_url}
+use Rattle.std.proofs.Common.{true, false, subst, sym}
+use Rattle.reg_file.specs.Registers.{IsKept, SetsUrl}
 use Rattle.reg_file.specs.contracts.registers.Registers.{the_view}
 use Rattle.reg_file.proofs.Settings.{settled, on_ok, key_word, sets_url, kept_url}
 use Rattle.reg_file.proofs.registers.Registers.set_url.Goals as goal

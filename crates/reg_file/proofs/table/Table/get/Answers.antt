@@ -1,4 +1,4 @@
-use Rattle.std.proofs.Common.{◌≡◌, ap, sym, ◌∙◌, [], unwrap_or}
+use Rattle.std.proofs.Common.{ap, sym, ◌∙◌, [], unwrap_or}
 use Rattle.std.specs.Option.{option_map}
 use Rattle.reg_file.specs.Tables.{text_at}
 use Rattle.reg_file.proofs.Tables.{value_at-texts_of}
