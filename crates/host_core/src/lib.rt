@@ -1,0 +1,9 @@
+// The core of a run: a journal that stays legal, one event at a time.
+#![tactic(auto)]
+
+mod children;
+mod event;
+mod tasks;
+
+pub use event::{Event, Reply};
+pub use journal_model::{Answer, Entry, Final, Identity, Journal, Opening, Verdict, What, Why};
