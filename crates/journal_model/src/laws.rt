@@ -1,5 +1,5 @@
 // Laws over the definitions, each the contract of a function with nothing to do.
-ghost use Rattle.std.specs.Prelude.{◌≡◌, ◌↔◌, ◌++◌, false, List, [], ◌∷◌, take, IsTrue, Some, slice_get, codes, length};
+ghost use Rattle.std.specs.Prelude.{ℕ, ◌≡◌, ◌≤◌, ◌+◌, ◌↔◌, ◌++◌, false, List, [], ◌∷◌, take, IsTrue, Some, slice_get, codes, length};
 ghost use Rattle.annex_model.specs.declared.verdict.Why.TheVariants.{Closed, Foul};
 ghost use Rattle.annex_model.specs.declared.verdict.Verdict.TheVariants.{Ended, Done};
 ghost use Rattle.annex_model.specs.Messages.{Checkpresent};
@@ -13,8 +13,10 @@ ghost use Rattle.journal_model.specs.Journal.{got_lines};
 ghost use Rattle.journal_model.specs.Parts.{part, part_by_places};
 ghost use Rattle.journal_model.specs.Due.{due_after, replies_at};
 ghost use Rattle.journal_model.specs.Legality.{Legal, LegalByGroups, LegalByPlaces, FirstWrong, owed_after, may_come, MayStand};
+ghost use Rattle.journal_model.specs.Projection.{JobFits, PartIsAsked};
 ghost use Rattle.journal_model.specs.Wires.{Wired};
 ghost use Rattle.journal_model.specs.Output.{answer_line};
+ghost use Rattle.journal_model.specs.Room.{room_for, room_of};
 ghost use Rattle.journal_model.specs.Rows.{one_check, check_present, not_closed, other_key, not_settled, sample_key, by_main, settled, answered, greeting, asking, two_checks, crossed, unknown_job, tag_left_off};
 
 /// The journal of one check is legal, and so it is before its child is closed.
@@ -63,7 +65,7 @@ pub fn check_present_talks()
 
 /// What was read and written, and what is printed.
 pub fn check_present_is_wired()
-    ensures wired { Wired check_present 1 (text (got_lines check_present 1)) (text (codes "EXTENSIONS INFO GETGITREMOTENAME" ∷ codes "PREPARE" ∷ (codes "CHECKPRESENT " ++ sample_key) ∷ [])) [] }
+    ensures wired { Wired check_present 1 (Some (text (got_lines check_present 1))) (Some (text (codes "EXTENSIONS INFO GETGITREMOTENAME" ∷ codes "PREPARE" ∷ (codes "CHECKPRESENT " ++ sample_key) ∷ []))) [] }
     ensures printed { answer_line check_present 1 Present ≡ codes "1 present" ++ 10 ∷ [] }
     ensures foul { answer_line other_key 1 (EndedAnswer (Foul 13)) ≡ codes "1 foul CHECKPRESENT-SUCCESS WORM--x" ++ 10 ∷ [] }
 {}
@@ -86,4 +88,17 @@ pub fn group_keeps_legal()
 pub fn forms_agree()
     ensures places { (o : Opening) (journal : List Entry) → Legal o journal ↔ LegalByPlaces o journal }
     ensures groups { (o : Opening) (journal : List Entry) → Legal o journal ↔ LegalByGroups o journal }
+{}
+
+/// In a legal journal each job's part fits its request and its verdict, and is there exactly where the job was asked.
+pub fn parts_fit()
+    ensures fits { (o : Opening) (journal : List Entry) → Legal o journal → (c j : ℕ) → JobFits (replies_at o journal) journal c j }
+    ensures asked { (o : Opening) (journal : List Entry) → Legal o journal → (c j : ℕ) → PartIsAsked journal c j }
+{}
+
+/// A legal journal is no longer than its room, to which an entry with what it makes due adds what it takes: none for a
+/// Claim, a Sent, a Mute, an End or an Answer.
+pub fn room_suffices()
+    ensures long { (o : Opening) (journal : List Entry) → Legal o journal → length journal ≤ room_of o journal }
+    ensures grows { (o : Opening) (past : List Entry) (e : Entry) → room_of o (past ++ e ∷ due_after o past e) ≡ room_of o past + room_for e.what }
 {}
