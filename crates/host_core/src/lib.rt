@@ -3,6 +3,7 @@
 
 mod children;
 mod event;
+mod lines;
 mod tasks;
 
 pub use event::{Event, Reply};
