@@ -2,8 +2,10 @@
 #![tactic(auto)]
 
 mod children;
+mod due;
 mod event;
 mod lines;
+mod moves;
 mod tasks;
 
 pub use event::{Event, Reply};
