@@ -1,3 +1,6 @@
 pub mod Firsts
 pub mod Parted
 pub mod Written
+pub mod FirstItem
+pub mod Wiring
+pub mod Stepping

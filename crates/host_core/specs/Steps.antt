@@ -1,5 +1,5 @@
 -- What one event appends to the journal, and what is answered.
-use Rattle.std.specs.Prelude.{ℕ, ◌≡◌, ◌+◌, ◌^◌, ◌==◌, ◌&&◌, ◌||◌, not, nat_lt, Bool, true, false, if◌then◌else◌, List, [], ◌∷◌, length, Option, Some, None, IsTrue, filter, option_map}
+use Rattle.std.specs.Prelude.{ℕ, ◌⊎◌, ◌≡◌, ◌+◌, ◌^◌, ◌==◌, ◌&&◌, ◌||◌, not, nat_lt, Bool, true, false, if◌then◌else◌, List, [], ◌∷◌, length, Option, Some, None, IsTrue, filter, option_map}
 use Rattle.std.specs.List.{list_any, list_all}
 use Rattle.annex_model.specs.declared.verdict.Verdict.{Verdict}
 use Rattle.annex_model.specs.Lines.{has_newline}
@@ -10,7 +10,7 @@ use Rattle.journal_model.specs.declared.entry.Entry.{Entry}
 use Rattle.journal_model.specs.declared.opening.Opening.{Opening}
 use Rattle.journal_model.specs.Journal.{is_started, is_ended, is_mute, asked_jobs, verdict_of, unsent, on_wire, why_of, writes}
 use Rattle.journal_model.specs.Due.{due_after}
-use Rattle.journal_model.specs.Legality.{is_empty, count, is_start, is_claimed, numbers_of, least_free, is_prepared, is_in_turn, may_ask, may_stop, is_claimed_by, is_busy, has_open_job}
+use Rattle.journal_model.specs.Legality.{may_come, is_empty, count, is_start, is_claimed, numbers_of, least_free, is_prepared, is_in_turn, may_ask, may_stop, is_claimed_by, is_busy, has_open_job}
 use Rattle.talk_serial.specs.Requests.{message_of}
 use Rattle.host_core.specs.declared.event.Event.{Event}
 use Rattle.host_core.specs.declared.event.Event.TheVariants.{Claim as ClaimEvent, Start as StartEvent, NoStart as NoStartEvent, Ask as AskEvent, Lookup, Look, Got as GotEvent, Stop, Sent as SentEvent, Mute as MuteEvent, Answer as AnswerEvent}
@@ -133,3 +133,7 @@ step_of o past by (SentEvent child) = if is_empty (unsent past child) then odd e
 step_of o past by (MuteEvent child) =
     if is_started past child && not (is_mute past child) then append o past by (Mute child) Done else odd
 step_of o past by (AnswerEvent task answer) = if may_answer past by task then append o past by (Answered task answer) Done else odd
+
+-- the step appends nothing, or an entry that may come, with what it makes due
+abbrev pub Comes : Opening → List Entry → ℕ → Step → Type 0
+Comes o past by s = (s.group ≡ []) ⊎ ((w : What) × (may_come o past by w ≡ true) × (s.group ≡ group_of o past by w))

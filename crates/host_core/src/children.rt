@@ -67,7 +67,7 @@ fn is_start(what: &What) -> bool
 }
 
 /// The job that the entry asks on the child.
-fn asks(what: &What, c: u32) -> Option<u64>
+pub(super) fn asks(what: &What, c: u32) -> Option<u64>
     ensures { result ≡ asks c what.now }
 {
     match what {

@@ -4,9 +4,12 @@
 mod children;
 mod due;
 mod event;
+mod group;
 mod lines;
+mod machine;
 mod moves;
 mod tasks;
 
 pub use event::{Event, Reply};
 pub use journal_model::{Answer, Entry, Final, Identity, Journal, Opening, Verdict, What, Why};
+pub use machine::Core;
