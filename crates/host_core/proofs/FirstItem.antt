@@ -1,10 +1,10 @@
 -- What a job's part begins with, and what was said in an open job.
-use Rattle.std.proofs.Common.{◌≡◌, ◌∙◌, ℕ, zero, suc, ◌+◌, List, [], ◌∷◌, ◌++◌, refl, sym, ap, subst, Bool, true, false, not, cond, Option, Some, None, length, take, append-nil, append_assoc, arith}
-use Rattle.std.specs.Prelude.{◌==◌, ◌&&◌, ◌||◌, slice_get, option_and_then}
+use Rattle.std.proofs.Common.{◌≡◌, ◌∙◌, ℕ, suc, ◌+◌, List, [], ◌∷◌, ◌++◌, refl, sym, ap, subst, Bool, true, false, not, cond, Option, Some, None, length, take, append-nil, append_assoc, arith}
+use Rattle.std.specs.Prelude.{◌==◌, ◌&&◌, slice_get, option_and_then}
 use Rattle.std.specs.List.{prefix_len, list_any, cons_option}
 use Rattle.std.proofs.lemmas.List.Folds.{list_any-append}
 use Rattle.annex_model.specs.Messages.{RemoteMessage, HostMessage, host_reading}
-use Rattle.annex_model.specs.Talks.{Item, Host, Remote, said, awaits}
+use Rattle.annex_model.specs.Talks.{Item, Remote, said}
 use Rattle.annex_model.specs.declared.verdict.Verdict.{Verdict}
 use Rattle.journal_model.specs.declared.opening.Opening.{Opening}
 use Rattle.journal_model.specs.declared.entry.What.{What}
@@ -14,7 +14,7 @@ use Rattle.journal_model.specs.Journal.{asks, asked_jobs, is_open, addressed, ve
 use Rattle.journal_model.specs.Parts.{item_of, part_from, part, request_in, is_for, ends_at}
 use Rattle.journal_model.specs.Due.{hearing_of, replies_at}
 use Rattle.journal_model.specs.Legality.{Legal}
-use Rattle.journal_model.specs.Projection.{Fits, JobFits}
+use Rattle.journal_model.specs.Projection.{Fits}
 use Rattle.journal_model.proofs.Looks.{unasked_closed, open_unsettled, settled_none, each_of-append, is_asked}
 use Rattle.journal_model.proofs.Projecting.{parts_fit}
 use Rattle.talk_serial.specs.Hearings.{heard, heard_as}

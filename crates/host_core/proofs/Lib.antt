@@ -4,3 +4,4 @@ pub mod Written
 pub mod FirstItem
 pub mod Wiring
 pub mod Stepping
+pub mod Choosing

@@ -1,5 +1,5 @@
 -- A text of a file, and the same followed by .part.
-use Rattle.std.proofs.Common.{◌≡◌, ◌∙◌, ℕ, ◌+◌, ◌-◌, ◌<◌, length-drop, List, ◌++◌, refl, sym, ap, subst, Bool, true, false, length, take, drop, arith, length-append}
+use Rattle.std.proofs.Common.{◌≡◌, ◌∙◌, ℕ, ◌+◌, ◌-◌, ◌<◌, length-drop, List, ◌++◌, refl, sym, ap, Bool, true, false, length, take, drop, arith, length-append}
 use Rattle.std.specs.Prelude.{bytes_eq, codes, ◌&&◌}
 use Rattle.std.proofs.lemmas.List.{take-append-drop}
 use Rattle.std.proofs.Math.Seq.{drop-append_seam, take-append_seam, take_all}

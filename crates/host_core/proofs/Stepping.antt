@@ -1,27 +1,25 @@
 -- Each step appends nothing, or a group that may come; and each entry that may come is the first of some event's step.
-use Rattle.std.proofs.Common.{◌≡◌, ℕ, List, [], ◌∷◌, ◌++◌, ◌+◌, refl, sym, ap, subst, ◌∙◌, Bool, true, false, cond, not, Option, Some, None, arith, inl, inr, length, append-nil}
-use Rattle.std.specs.Prelude.{IsTrue, ◌&&◌, ◌||◌, ◌==◌, ◌^◌, ◌⊎◌, nat_lt}
+use Rattle.std.proofs.Common.{◌≡◌, ℕ, List, ◌++◌, ◌+◌, ◌<◌, refl, sym, ap, subst, ◌∙◌, Bool, true, false, cond, not, Option, Some, None, arith, inl, inr, length, append-nil}
+use Rattle.std.specs.Prelude.{◌&&◌, ◌||◌, ◌==◌, ◌^◌, nat_lt}
 use Rattle.std.proofs.lemmas.Bool.Decides.{nat_tests}
 use Rattle.annex_model.specs.declared.verdict.Why.{Why}
 use Rattle.annex_model.specs.Lines.{has_newline}
-use Rattle.annex_model.specs.Messages.{HostMessage, AskExtensions, Prepare, Checkpresent, host_line, host_reading, IsAskable}
-use Rattle.annex_model.proofs.Readings.{canonical_read}
-use Rattle.annex_model.specs.Tags.{untag, tagged_line}
+use Rattle.annex_model.specs.Messages.{HostMessage, host_line, host_reading}
 use Rattle.journal_model.specs.declared.answer.Answer.{Answer}
 use Rattle.journal_model.specs.declared.entry.What.{What}
 use Rattle.journal_model.specs.declared.entry.What.TheVariants.{Claim, Start, NoStart, Ask, Sent, Mute, Got, End, Lost, Answer as Answered}
 use Rattle.journal_model.specs.declared.entry.Entry.{Entry}
 use Rattle.journal_model.specs.declared.opening.Opening.{Opening}
-use Rattle.journal_model.specs.Journal.{is_started, is_ended, is_mute, is_live, unsent, is_tagged, by_tag, addressed, on_wire, open_jobs, asked_jobs, verdict_of}
-use Rattle.journal_model.specs.Legality.{Legal, is_empty, count, is_start, least_free, is_prepared, is_in_turn, may_ask, may_stop, may_come, is_claimed_by, is_busy, has_open_job, is_greeted, may_work, is_number, asks_in_turn}
+use Rattle.journal_model.specs.Journal.{is_started, is_ended, is_mute, is_live, unsent, addressed, on_wire, verdict_of}
+use Rattle.journal_model.specs.Legality.{Legal, is_empty, count, is_start, least_free, is_prepared, is_in_turn, may_ask, may_stop, may_come, is_number, asks_in_turn}
 use Rattle.journal_model.proofs.Growing.{Legal-group}
 use Rattle.journal_model.proofs.Looks.{same, both}
 use Rattle.host_core.specs.declared.event.Event.{Event}
 use Rattle.host_core.specs.declared.event.Event.TheVariants.{Claim as ClaimEvent, Start as StartEvent, NoStart as NoStartEvent, Ask as AskEvent, Lookup, Look, Got as GotEvent, Stop, Sent as SentEvent, Mute as MuteEvent, Answer as AnswerEvent}
-use Rattle.host_core.specs.declared.event.Reply.TheVariants.{Task, Child, Job, Done}
-use Rattle.host_core.specs.Steps.{Step, step_of, group_of, append, odd, only, gone, is_gone, claim, ask, next_job, may_request, may_answer, is_askable, is_asked, settled_so, are_all_claimed, Comes}
+use Rattle.host_core.specs.declared.event.Reply.TheVariants.{Child, Job, Done}
+use Rattle.host_core.specs.Steps.{Step, step_of, group_of, append, odd, only, gone, is_gone, claim, next_job, may_request, may_answer, is_askable, is_asked, settled_so, Comes}
 use Rattle.talk_serial.specs.Requests.{message_of}
-use Rattle.host_core.proofs.Wiring.{wired_turn}
+use Rattle.host_core.proofs.Wiring.{wired_turn, few_jobs}
 
 comes : (o : Opening) (past : List Entry) (by : ℕ) (w : What) (s : Step) → may_come o past by w ≡ true → s.group ≡ group_of o past by w → Comes o past by s
 comes o past by w s may e = inr (w, may, e)
@@ -57,29 +55,29 @@ no_starts_keep o past by slot true e = inr (NoStart slot, e, refl)
 no_starts_keep o past by slot false e = inl refl
 
 asks_keep : (o : Opening) (past : List Entry) (by task child : ℕ) (q : HostMessage) (b ended mute : Bool)
-    → may_request past by task child q ≡ b → is_ended past child ≡ ended → is_mute past child ≡ mute
+    → length past < 2 ^ 64 → may_request past by task child q ≡ b → is_ended past child ≡ ended → is_mute past child ≡ mute
     → Comes o past by (cond b (cond (ended || mute) (append o past by (Lost child task) (gone past child))
     (append o past by (Ask child (next_job past child) task (on_wire past child (next_job past child) (host_line q))) (Job (next_job past child)))) odd)
-asks_keep o past by task child q false ended mute b e m = inl refl
-asks_keep o past by task child q true true mute b e m =
+asks_keep o past by task child q false ended mute few b e m = inl refl
+asks_keep o past by task child q true true mute few b e m =
     let t = both (is_started past child && may_ask past by task child && is_in_turn past child (next_job past child) q) (is_askable q) b in
     let u = both (is_started past child && may_ask past by task child) (is_in_turn past child (next_job past child) q) t.0 in
     let v = both (is_started past child) (may_ask past by task child) u.0 in
     let may : (is_started past child && (is_ended past child || is_mute past child) && may_ask past by task child) ≡ true = rw (v.0, v.1, e) refl in
     inr (Lost child task, may, refl)
-asks_keep o past by task child q true false true b e m =
+asks_keep o past by task child q true false true few b e m =
     let t = both (is_started past child && may_ask past by task child && is_in_turn past child (next_job past child) q) (is_askable q) b in
     let u = both (is_started past child && may_ask past by task child) (is_in_turn past child (next_job past child) q) t.0 in
     let v = both (is_started past child) (may_ask past by task child) u.0 in
     let may : (is_started past child && (is_ended past child || is_mute past child) && may_ask past by task child) ≡ true = rw (v.0, v.1, e, m) refl in
     inr (Lost child task, may, refl)
-asks_keep o past by task child q true false false b e m =
+asks_keep o past by task child q true false false few b e m =
     let j = next_job past child in
     let line = on_wire past child j (host_line q) in
     let t = both (is_started past child && may_ask past by task child && is_in_turn past child j q) (is_askable q) b in
     let u = both (is_started past child && may_ask past by task child) (is_in_turn past child j q) t.0 in
     let v = both (is_started past child) (may_ask past by task child) u.0 in
-    let turn : asks_in_turn past child j line (host_reading (addressed past child line).1) ≡ true = wired_turn past child j q u.1 t.1 in
+    let turn : asks_in_turn past child j line (host_reading (addressed past child line).1) ≡ true = wired_turn past child j q (omega (arith, few, few_jobs past child)) u.1 t.1 in
     let may : ((is_started past child && not (is_ended past child)) && not (is_mute past child) && j == j
     && asks_in_turn past child j line (host_reading (addressed past child line).1) && may_ask past by task child) ≡ true = rw (v.0, e, m, same j, turn, v.1) refl in
     inr (Ask child j task line, may, refl)
@@ -127,24 +125,24 @@ answers_keep : (o : Opening) (past : List Entry) (by task : ℕ) (answer : Answe
 answers_keep o past by task answer true e = inr (Answered task answer, e, refl)
 answers_keep o past by task answer false e = inl refl
 
-pub step_comes : (o : Opening) (past : List Entry) (by : ℕ) (event : Event) → Comes o past by (step_of o past by event)
-step_comes o past by (ClaimEvent child) =
+pub step_comes : (o : Opening) (past : List Entry) (by : ℕ) (event : Event) → length past < 2 ^ 64 → Comes o past by (step_of o past by event)
+step_comes o past by (ClaimEvent child) few =
     claims_keep o past by child (child == 0 && by == 0) (is_started past child) (is_prepared past child) (is_ended past child) (is_mute past child) refl refl refl refl refl
-step_comes o past by (StartEvent slot offer) = starts_keep o past by slot offer (by == 0 && nat_lt (count is_start past) 4294967295) refl
-step_comes o past by (NoStartEvent slot) = no_starts_keep o past by slot (by == 0) refl
-step_comes o past by (AskEvent child task request) =
-    asks_keep o past by task child (message_of request) (may_request past by task child (message_of request)) (is_ended past child) (is_mute past child) refl refl refl
-step_comes o past by (Lookup child job) = lookups_keep o past by child job (is_asked past child job)
-step_comes o past by (Look child) = looks_keep o past by child (is_started past child) (is_gone past child)
-step_comes o past by (GotEvent child line) = gots_keep o past by child line (is_started past child) (has_newline line) (is_ended past child) refl refl refl
-step_comes o past by (Stop child why) = stops_keep o past by child why (is_started past child) (may_stop past child why) (is_ended past child) refl refl refl
-step_comes o past by (SentEvent child) = sents_keep o past by child (is_empty (unsent past child)) refl
-step_comes o past by (MuteEvent child) = mutes_keep o past by child (is_started past child && not (is_mute past child)) refl
-step_comes o past by (AnswerEvent task answer) = answers_keep o past by task answer (may_answer past by task) refl
+step_comes o past by (StartEvent slot offer) few = starts_keep o past by slot offer (by == 0 && nat_lt (count is_start past) 4294967295) refl
+step_comes o past by (NoStartEvent slot) few = no_starts_keep o past by slot (by == 0) refl
+step_comes o past by (AskEvent child task request) few =
+    asks_keep o past by task child (message_of request) (may_request past by task child (message_of request)) (is_ended past child) (is_mute past child) few refl refl refl
+step_comes o past by (Lookup child job) few = lookups_keep o past by child job (is_asked past child job)
+step_comes o past by (Look child) few = looks_keep o past by child (is_started past child) (is_gone past child)
+step_comes o past by (GotEvent child line) few = gots_keep o past by child line (is_started past child) (has_newline line) (is_ended past child) refl refl refl
+step_comes o past by (Stop child why) few = stops_keep o past by child why (is_started past child) (may_stop past child why) (is_ended past child) refl refl refl
+step_comes o past by (SentEvent child) few = sents_keep o past by child (is_empty (unsent past child)) refl
+step_comes o past by (MuteEvent child) few = mutes_keep o past by child (is_started past child && not (is_mute past child)) refl
+step_comes o past by (AnswerEvent task answer) few = answers_keep o past by task answer (may_answer past by task) refl
 
 -- each step keeps a journal legal
-pub Legal-step : (o : Opening) (past : List Entry) (by : ℕ) (event : Event) → Legal o past → Legal o (past ++ (step_of o past by event).group)
-Legal-step o past by event legal = go (step_of o past by event) (step_comes o past by event)
+pub Legal-step : (o : Opening) (past : List Entry) (by : ℕ) (event : Event) → length past < 2 ^ 64 → Legal o past → Legal o (past ++ (step_of o past by event).group)
+Legal-step o past by event few legal = go (step_of o past by event) (step_comes o past by event few)
   where
     go : (s : Step) → Comes o past by s → Legal o (past ++ s.group)
     go s (inl none) = subst (Legal o) (sym (append-nil past) ∙ ap (λ (g : List Entry). past ++ g) (sym none)) legal

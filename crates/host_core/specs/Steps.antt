@@ -1,5 +1,5 @@
 -- What one event appends to the journal, and what is answered.
-use Rattle.std.specs.Prelude.{ℕ, ◌⊎◌, ◌≡◌, ◌+◌, ◌^◌, ◌==◌, ◌&&◌, ◌||◌, not, nat_lt, Bool, true, false, if◌then◌else◌, List, [], ◌∷◌, length, Option, Some, None, IsTrue, filter, option_map}
+use Rattle.std.specs.Prelude.{ℕ, ◌⊎◌, ◌≡◌, ◌+◌, ◌==◌, ◌&&◌, ◌||◌, not, nat_lt, Bool, true, if◌then◌else◌, List, [], ◌∷◌, length, Option, Some, None, filter, option_map}
 use Rattle.std.specs.List.{list_any, list_all}
 use Rattle.annex_model.specs.declared.verdict.Verdict.{Verdict}
 use Rattle.annex_model.specs.Lines.{has_newline}
@@ -137,3 +137,7 @@ step_of o past by (AnswerEvent task answer) = if may_answer past by task then ap
 -- the step appends nothing, or an entry that may come, with what it makes due
 abbrev pub Comes : Opening → List Entry → ℕ → Step → Type 0
 Comes o past by s = (s.group ≡ []) ⊎ ((w : What) × (may_come o past by w ≡ true) × (s.group ≡ group_of o past by w))
+
+-- some event by this number appends the entry, with what it makes due
+abbrev pub Appends : Opening → List Entry → ℕ → What → Type 0
+Appends o past by w = (event : Event) × ((step_of o past by event).group ≡ group_of o past by w)

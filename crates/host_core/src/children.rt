@@ -1,10 +1,11 @@
 // What the journal says of a child and of its jobs: one function for each definition, over the flat list of entries.
-ghost use Rattle.std.specs.Prelude.{◌≡◌, ◌==◌, not, find, option_copied, length};
+ghost use Rattle.std.specs.Prelude.{◌≡◌, ◌==◌, not, find, option_copied, length, IfOk};
 ghost use Rattle.std.specs.List.{list_any};
 ghost use Rattle.journal_model.specs.Journal.{starts, ends, mutes, got_from, sends, settles, asks, offers, verdict_in, end_why, first_of, each_of, any, is_started, is_ended, is_mute, is_live, has_spoken, asked_jobs, is_settled, open_jobs, is_open, verdict_of, why_of};
 ghost use Rattle.journal_model.specs.Legality.{count, is_start, is_empty};
 
 use journal_model::{Entry, Verdict, What, Why};
+use std::alloc::{AllocError, Global};
 
 fn starts(what: &What, c: u32) -> bool
     ensures { result ≡ starts c what.now }
@@ -190,6 +191,31 @@ pub(super) fn first_open(entries: &[Entry], child: u32) -> Option<u64>
     ensures { result ≡ first_of (open_jobs entries.now child) }
 {
     find_open(entries, child)
+}
+
+fn asked_jobs(alloc: Global, entries: &[Entry], child: u32) -> Result<Vec<u64>, AllocError>
+    ensures { IfOk result (λ v. v.items ≡ asked_jobs entries.now child) }
+{
+    entries
+        .iter()
+        .filter_map(|e| asks(&e.what, child))
+        .collect(alloc)
+}
+
+/// The child's open jobs, in rising order.
+pub(super) fn open_jobs(
+    alloc: Global,
+    entries: &[Entry],
+    child: u32,
+) -> Result<Vec<u64>, AllocError>
+    ensures { IfOk result (λ v. v.items ≡ open_jobs entries.now child) }
+{
+    let asked = asked_jobs(alloc, entries, child)?;
+    asked
+        .iter()
+        .copied()
+        .filter(|job| !is_settled(entries, child, *job))
+        .collect(alloc)
 }
 
 pub(super) fn has_no_open_job(entries: &[Entry], child: u32) -> bool

@@ -22,16 +22,24 @@ fn ended_jobs(
 ) -> Result<Vec<Entry>, AllocError>
     ensures { IfOk result (λ v. v.items ≡ made_by by (ended_jobs entries.now child why)) }
 {
-    entries
-        .iter()
-        .filter_map(|e| children::asks(&e.what, child))
-        .filter(|job| !children::is_settled(entries, child, *job))
+    let jobs = children::open_jobs(alloc, entries, child)?;
+    jobs.iter()
         .map(|job| What::Verdict {
             child,
-            job,
+            job: *job,
             verdict: Verdict::Ended { why },
         })
         .map(|what| Entry { by, what })
+        .collect(alloc)
+}
+
+fn unsent(alloc: Global, entries: &[Entry], child: u32) -> Result<Vec<u64>, AllocError>
+    ensures { IfOk result (λ v. v.items ≡ filter (is_unsent entries.now child) (open_jobs entries.now child)) }
+{
+    let jobs = children::open_jobs(alloc, entries, child)?;
+    jobs.iter()
+        .copied()
+        .filter(|job| lines::is_unsent(entries, child, *job))
         .collect(alloc)
 }
 
@@ -44,14 +52,11 @@ fn unsent_jobs(
 ) -> Result<Vec<Entry>, AllocError>
     ensures { IfOk result (λ v. v.items ≡ made_by by (map (λ j. Settled child j Unsent) (filter (is_unsent entries.now child) (open_jobs entries.now child)))) }
 {
-    entries
-        .iter()
-        .filter_map(|e| children::asks(&e.what, child))
-        .filter(|job| !children::is_settled(entries, child, *job))
-        .filter(|job| lines::is_unsent(entries, child, *job))
+    let jobs = unsent(alloc, entries, child)?;
+    jobs.iter()
         .map(|job| What::Verdict {
             child,
-            job,
+            job: *job,
             verdict: Verdict::Unsent,
         })
         .map(|what| Entry { by, what })

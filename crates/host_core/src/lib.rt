@@ -5,6 +5,7 @@ mod children;
 mod due;
 mod event;
 mod group;
+pub mod laws;
 mod lines;
 mod machine;
 mod moves;

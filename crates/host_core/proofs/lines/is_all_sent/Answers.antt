@@ -1,7 +1,6 @@
 use Rattle.std.proofs.Common.{◌∙◌, ap, ℕ, length, not}
 use Rattle.std.specs.Prelude.{filter, nat_lt}
-use Rattle.journal_model.specs.Journal.{each_of, sends}
-use Rattle.host_core.specs.Steps.{written_to}
+use Rattle.journal_model.specs.Journal.{sends}
 use Rattle.host_core.proofs.Written.{all_sent, at_most}
 use Rattle.host_core.proofs.lines.is_all_sent.Goals as goal
 
