@@ -5,3 +5,4 @@ pub mod FirstItem
 pub mod Wiring
 pub mod Stepping
 pub mod Choosing
+pub mod Pushing

@@ -1,5 +1,5 @@
 -- What one event appends to the journal, and what is answered.
-use Rattle.std.specs.Prelude.{ℕ, ◌⊎◌, ◌≡◌, ◌+◌, ◌==◌, ◌&&◌, ◌||◌, not, nat_lt, Bool, true, if◌then◌else◌, List, [], ◌∷◌, length, Option, Some, None, filter, option_map}
+use Rattle.std.specs.Prelude.{ℕ, ◌⊎◌, ◌≡◌, ◌+◌, ◌==◌, ◌&&◌, ◌||◌, not, nat_lt, Bool, true, false, if◌then◌else◌, List, [], ◌∷◌, length, Option, Some, None, filter, option_map}
 use Rattle.std.specs.List.{list_any, list_all}
 use Rattle.annex_model.specs.declared.verdict.Verdict.{Verdict}
 use Rattle.annex_model.specs.Lines.{has_newline}
@@ -66,6 +66,16 @@ may_request past by task child q =
 
 abbrev pub may_answer : List Entry → ℕ → ℕ → Bool
 may_answer past by task = is_claimed_by past by task && is_busy past task && not (has_open_job past task)
+
+-- ---- memory
+
+-- the room for what the event appends was kept before
+abbrev pub takes_no_memory : Event → Bool
+takes_no_memory (StartEvent slot offer) = false
+takes_no_memory (NoStartEvent slot) = false
+takes_no_memory (AskEvent child task request) = false
+takes_no_memory (GotEvent child line) = false
+takes_no_memory _ = true
 
 -- ---- words for the code
 

@@ -5,7 +5,6 @@ ghost use Rattle.journal_model.specs.Journal.{starts, ends, mutes, got_from, sen
 ghost use Rattle.journal_model.specs.Legality.{count, is_start, is_empty};
 
 use journal_model::{Entry, Verdict, What, Why};
-use std::alloc::{AllocError, Global};
 
 fn starts(what: &What, c: u32) -> bool
     ensures { result ≡ starts c what.now }
@@ -191,31 +190,6 @@ pub(super) fn first_open(entries: &[Entry], child: u32) -> Option<u64>
     ensures { result ≡ first_of (open_jobs entries.now child) }
 {
     find_open(entries, child)
-}
-
-fn asked_jobs(alloc: Global, entries: &[Entry], child: u32) -> Result<Vec<u64>, AllocError>
-    ensures { IfOk result (λ v. v.items ≡ asked_jobs entries.now child) }
-{
-    entries
-        .iter()
-        .filter_map(|e| asks(&e.what, child))
-        .collect(alloc)
-}
-
-/// The child's open jobs, in rising order.
-pub(super) fn open_jobs(
-    alloc: Global,
-    entries: &[Entry],
-    child: u32,
-) -> Result<Vec<u64>, AllocError>
-    ensures { IfOk result (λ v. v.items ≡ open_jobs entries.now child) }
-{
-    let asked = asked_jobs(alloc, entries, child)?;
-    asked
-        .iter()
-        .copied()
-        .filter(|job| !is_settled(entries, child, *job))
-        .collect(alloc)
 }
 
 pub(super) fn has_no_open_job(entries: &[Entry], child: u32) -> bool

@@ -77,7 +77,7 @@ fn before_job(entries: &[Entry], child: u32, job: u64) -> usize
         .count()
 }
 
-fn entry_at(entries: &[Entry], at: usize) -> Option<&Entry>
+pub(super) fn entry_at(entries: &[Entry], at: usize) -> Option<&Entry>
     ensures { option_copied result ≡ slice_get entries.now at }
 {
     entries.get(at)

@@ -1,7 +1,7 @@
-ghost use Rattle.std.specs.Prelude.{◌≡◌, ◌≤◌, ◌++◌, [], length, IfOk, OnOk, OnErr};
+ghost use Rattle.std.specs.Prelude.{◌≡◌, ◌≤◌, ◌++◌, [], length, true, IfOk, IsOk, OnOk, OnErr};
 ghost use Rattle.journal_model.specs.Journal.{is_tagged};
 ghost use Rattle.journal_model.specs.Legality.{Legal};
-ghost use Rattle.host_core.specs.Steps.{step_of, unclaimed};
+ghost use Rattle.host_core.specs.Steps.{step_of, takes_no_memory, unclaimed};
 
 use crate::event::{Event, Reply};
 use crate::{group, lines, moves, tasks};
@@ -10,16 +10,19 @@ use journal_model::{Entry, Journal, Opening};
 use std::alloc::Global;
 use std::marker::Model;
 
-/// The core of a run: what it began with, and the journal so far, which is legal.
+/// The core of a run: what it began with, and the journal so far, which is legal. It keeps room for all that can come
+/// of the entries so far.
 #[derive(Drop)]
 pub struct Core {
     alloc: Global,
     opening: Opening,
     entries: Vec<Entry>,
+    room: usize,
 }
 
 impl Model for Core {
-    ghost use Rattle.std.specs.Prelude.{◌≤◌, length};
+    ghost use Rattle.std.specs.Prelude.{◌≤◌, length, vec_capacity};
+    ghost use Rattle.journal_model.specs.Room.{room_of};
     ghost use Rattle.journal_model.specs.Legality.{Legal};
     ghost use Rattle.host_core.specs.Held.{Held};
 
@@ -27,7 +30,7 @@ impl Model for Core {
 
     ghost view = { λ c. record { opening = c.opening; journal = c.entries.items } };
 
-    ghost invariant = { λ c. Legal c.opening c.entries.items × (length c.opening.tasks ≤ 65536) };
+    ghost invariant = { λ c. Legal c.opening c.entries.items × (length c.opening.tasks ≤ 65536) × (room_of c.opening c.entries.items ≤ c.room) × (c.room ≤ vec_capacity c.entries) };
 }
 
 impl Core {
@@ -37,10 +40,13 @@ impl Core {
         ensures opening { IfOk result (λ c. c.opening ≡ opening) }
         ensures empty { IfOk result (λ c. c.journal ≡ []) }
     {
+        let room = 2 * opening.tasks.view().len();
+        let entries = Vec::with_capacity(alloc, room)?;
         Ok(Core {
             alloc,
             opening,
-            entries: Vec::new(alloc),
+            entries,
+            room,
         })
     }
 
@@ -50,11 +56,13 @@ impl Core {
         ensures journal { OnOk result (self.new.journal ≡ self.old.journal ++ (step_of self.old.opening self.old.journal by event).group) }
         ensures opening { self.new.opening ≡ self.old.opening }
         ensures legal { Legal self.new.opening self.new.journal }
+        ensures free { takes_no_memory event ≡ true → IsOk result }
         ensures err { OnErr result (self.new ≡ self.old) }
     {
         let step = moves::move_of(self.alloc, &self.opening, &self.entries, by, event)?;
-        let mut group = group::group_made(self.alloc, &self.entries, by, step.what, step.due)?;
-        self.entries.append(&mut group)?;
+        let more = group::first_room(&step.what);
+        self.room = group::keep_room(&mut self.entries, self.room, more)?;
+        group::push_group(&mut self.entries, by, step.what, step.due);
         Ok(step.reply)
     }
 

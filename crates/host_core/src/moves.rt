@@ -1,11 +1,11 @@
 // What each event appends, and what is answered, found before anything is changed.
-ghost use Rattle.std.specs.Prelude.{◌≡◌, ◌≤◌, length, IfOk, true, Some, None};
+ghost use Rattle.std.specs.Prelude.{◌≡◌, ◌≤◌, length, IfOk, true, Some, None, IsOk};
 ghost use Rattle.annex_model.specs.Messages.{host_line};
 ghost use Rattle.journal_model.specs.Journal.{on_wire};
 ghost use Rattle.journal_model.specs.Legality.{Legal, least_free, may_stop};
 ghost use Rattle.talk_serial.specs.Requests.{message_of};
-ghost use Rattle.host_core.specs.Steps.{step_of, claim, is_askable, is_gone, gone, may_answer};
-ghost use Rattle.host_core.specs.Moves.{IsStep};
+ghost use Rattle.host_core.specs.Steps.{takes_no_memory, step_of, claim, is_askable, is_gone, gone, may_answer};
+ghost use Rattle.host_core.specs.Moves.{IsStep, first_room};
 ghost use Rattle.host_core.specs.declared.due.Due.TheVariants.{Nothing};
 
 use crate::due::{Due, due_by_got};
@@ -63,7 +63,8 @@ fn gone(entries: &[Entry], child: u32) -> Reply
 /// The least free task, claimed for the child.
 fn least(opening: &Opening, entries: &[Entry], by: u32, child: u32) -> Move
     requires { length opening.now.tasks ≤ 65536 }
-    ensures { IsStep entries.now by (claim opening.now entries.now by child (least_free opening.now entries.now)) result }
+    ensures step { IsStep entries.now by (claim opening.now entries.now by child (least_free opening.now entries.now)) result }
+    ensures room { first_room result.what ≡ 0 }
 {
     match tasks::least_free(opening, entries) {
         Some(task) => append(What::Claim { task, child }, Reply::Task(task)),
@@ -79,7 +80,8 @@ fn least(opening: &Opening, entries: &[Entry], by: u32, child: u32) -> Move
 
 fn claim(opening: &Opening, entries: &[Entry], by: u32, child: u32) -> Move
     requires { length opening.now.tasks ≤ 65536 }
-    ensures { IsStep entries.now by (step_of opening.now entries.now by (Event.Claim child)) result }
+    ensures step { IsStep entries.now by (step_of opening.now entries.now by (Event.Claim child)) result }
+    ensures room { first_room result.what ≡ 0 }
 {
     if child == 0 && by == 0 {
         return least(opening, entries, by, child);
@@ -161,7 +163,8 @@ fn ask(
 }
 
 fn lookup(opening: &Opening, entries: &[Entry], by: u32, child: u32, job: u64) -> Move
-    ensures { IsStep entries.now by (step_of opening.now entries.now by (Event.Lookup child job)) result }
+    ensures step { IsStep entries.now by (step_of opening.now entries.now by (Event.Lookup child job)) result }
+    ensures room { first_room result.what ≡ 0 }
 {
     if !children::is_asked(entries, child, job) {
         return only(Reply::Odd);
@@ -173,7 +176,8 @@ fn lookup(opening: &Opening, entries: &[Entry], by: u32, child: u32, job: u64) -
 }
 
 fn look(opening: &Opening, entries: &[Entry], by: u32, child: u32) -> Move
-    ensures { IsStep entries.now by (step_of opening.now entries.now by (Event.Look child)) result }
+    ensures step { IsStep entries.now by (step_of opening.now entries.now by (Event.Look child)) result }
+    ensures room { first_room result.what ≡ 0 }
 {
     if !children::is_started(entries, child) {
         return only(Reply::Odd);
@@ -223,7 +227,8 @@ fn may_stop(entries: &[Entry], child: u32, why: Why) -> bool
 }
 
 fn stop(opening: &Opening, entries: &[Entry], by: u32, child: u32, why: Why) -> Move
-    ensures { IsStep entries.now by (step_of opening.now entries.now by (Event.Stop child why)) result }
+    ensures step { IsStep entries.now by (step_of opening.now entries.now by (Event.Stop child why)) result }
+    ensures room { first_room result.what ≡ 0 }
 {
     if !children::is_started(entries, child) || !may_stop(entries, child, why) {
         return only(Reply::Odd);
@@ -239,7 +244,8 @@ fn stop(opening: &Opening, entries: &[Entry], by: u32, child: u32, why: Why) -> 
 }
 
 fn sent(opening: &Opening, entries: &[Entry], by: u32, child: u32) -> Move
-    ensures { IsStep entries.now by (step_of opening.now entries.now by (Event.Sent child)) result }
+    ensures step { IsStep entries.now by (step_of opening.now entries.now by (Event.Sent child)) result }
+    ensures room { first_room result.what ≡ 0 }
 {
     if lines::is_all_sent(entries, child) {
         only(Reply::Odd)
@@ -249,7 +255,8 @@ fn sent(opening: &Opening, entries: &[Entry], by: u32, child: u32) -> Move
 }
 
 fn mute(opening: &Opening, entries: &[Entry], by: u32, child: u32) -> Move
-    ensures { IsStep entries.now by (step_of opening.now entries.now by (Event.Mute child)) result }
+    ensures step { IsStep entries.now by (step_of opening.now entries.now by (Event.Mute child)) result }
+    ensures room { first_room result.what ≡ 0 }
 {
     if !children::is_started(entries, child) || children::is_mute(entries, child) {
         return only(Reply::Odd);
@@ -275,7 +282,8 @@ fn may_answer(entries: &[Entry], by: u32, task: u32) -> bool
 }
 
 fn answer_task(opening: &Opening, entries: &[Entry], by: u32, task: u32, answer: Answer) -> Move
-    ensures { IsStep entries.now by (step_of opening.now entries.now by (Event.Answer task answer)) result }
+    ensures step { IsStep entries.now by (step_of opening.now entries.now by (Event.Answer task answer)) result }
+    ensures room { first_room result.what ≡ 0 }
 {
     if may_answer(entries, by, task) {
         append(What::Answer { task, answer }, Reply::Done)
@@ -294,7 +302,9 @@ pub(super) fn move_of(
 ) -> Result<Move, NoMemory>
     requires few { length opening.now.tasks ≤ 65536 }
     requires legal { Legal opening.now entries.now }
-    ensures { IfOk result (IsStep entries.now by (step_of opening.now entries.now by event)) }
+    ensures step { IfOk result (IsStep entries.now by (step_of opening.now entries.now by event)) }
+    ensures room { takes_no_memory event ≡ true → IfOk result (λ m. first_room m.what ≡ 0) }
+    ensures free { takes_no_memory event ≡ true → IsOk result }
 {
     let step = match event {
         Event::Claim { child } => claim(opening, entries, by, child),
