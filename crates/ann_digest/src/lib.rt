@@ -2,5 +2,6 @@
 #![tactic(auto)]
 
 mod digest;
+mod hash_kind;
 
 pub use digest::Digest;
