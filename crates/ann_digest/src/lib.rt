@@ -3,5 +3,6 @@
 
 mod digest;
 mod hash_kind;
+mod hasher;
 
 pub use digest::Digest;
