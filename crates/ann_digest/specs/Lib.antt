@@ -1,3 +1,5 @@
+pub mod Checkers
 pub mod Digests
+pub mod Fits
 pub mod Hashers
 pub mod HashKinds

@@ -1,8 +1,12 @@
 // Digests, hash directories, and whether content fits a key.
 #![tactic(auto)]
 
+mod checker;
 mod digest;
+mod fit;
 mod hash_kind;
 mod hasher;
 
+pub use checker::Checker;
 pub use digest::Digest;
+pub use fit::Fit;
