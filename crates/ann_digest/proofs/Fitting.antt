@@ -1,11 +1,11 @@
 -- What a checker says at its end.
-use Rattle.std.proofs.Common.{◌≡◌, ◌≢◌, ◌↔◌, ℕ, List, length, Option, Some, None, refl, sym, ap, subst, ◌∙◌}
+use Rattle.std.proofs.Common.{◌≡◌, ◌↔◌, ℕ, List, length, Option, Some, refl, sym, ap, subst, ◌∙◌}
 use Rattle.hex.specs.Hex.{encode_lower}
 use Rattle.ann_key.specs.Keys.{Parts}
 use Rattle.ann_key.specs.KeyRefs.{parts_of}
 use Rattle.ann_digest.specs.Checkers.{Holds, IsHashing}
-use Rattle.ann_digest.specs.Digests.{digest_bytes, digest_text}
-use Rattle.ann_digest.specs.Fits.{FitsKey, HasSize, IsDigestFor, IsSaidOf, IsTold}
+use Rattle.ann_digest.specs.Digests.{digest_bytes}
+use Rattle.ann_digest.specs.Fits.{FitsKey, HasSize, IsSaidOf, IsTold}
 use Rattle.ann_digest.specs.HashKinds.{digest_by, naming_backend, IsNamed}
 use Rattle.ann_digest.specs.Hashers.{running, Hashes}
 use Rattle.ann_digest.specs.declared.checker.Checker.{Checker}

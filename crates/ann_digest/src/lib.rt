@@ -3,10 +3,15 @@
 
 mod checker;
 mod digest;
+mod directories;
 mod fit;
 mod hash_kind;
 mod hasher;
 
 pub use checker::Checker;
 pub use digest::Digest;
+pub use directories::{lower, mixed};
 pub use fit::Fit;
+
+#[cfg(test)]
+mod tests;
