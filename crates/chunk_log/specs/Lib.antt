@@ -1,0 +1,2 @@
+pub mod ChunkLines
+pub mod Stamps
