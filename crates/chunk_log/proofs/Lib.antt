@@ -1,2 +1,7 @@
+pub mod Counting
 pub mod Digits
+pub mod Inserting
+pub mod InOrder
+pub mod Kept
+pub mod Places
 pub mod Refused

@@ -1,2 +1,3 @@
 pub mod ChunkLines
+pub mod NoteBooks
 pub mod Stamps

@@ -1,13 +1,18 @@
 // Which chunks a remote is known to have.
 #![tactic(auto)]
 
+mod book;
 mod error;
+mod insert;
 mod line;
+mod note;
+mod order;
 mod parts;
 mod scan;
 mod stamp;
 mod written;
 
+pub use book::NoteBook;
 pub use error::ChunkError;
 pub use line::{ChunkLine, read_line};
 pub use stamp::Stamp;
