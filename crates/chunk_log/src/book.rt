@@ -1,10 +1,10 @@
 // Which lines of a chunk log count.
-ghost use Rattle.std.specs.Prelude.{◌≡◌, ◌≤◌, ◌<◌, ℕ, List, [], ◌∷◌, ◌++◌, length, slice_get, true, false, not, OnOk, OnErr, IfOk, IsTrue, MatchOption, Some, None};
+ghost use Rattle.std.specs.Prelude.{◌≡◌, ◌≤◌, ◌<◌, ℕ, List, [], ◌∷◌, ◌++◌, length, slice_get, true, false, not, OnOk, OnErr, IfOk, IsTrue, MatchOption, Some, None, option_map, All};
 ghost use Rattle.std.specs.List.{list_any, prefix_len};
 ghost use Rattle.chunk_log.specs.ChunkLines.{is_space};
 ghost use Rattle.ann_key.specs.KeyRefs.{text_of};
 
-use crate::insert::insert;
+use crate::insert::{copies, insert};
 use crate::line::ChunkLine;
 use crate::note::Note;
 use ann_key::{Key, KeyRef, NoMemory};
@@ -52,5 +52,28 @@ impl NoteBook {
     {
         let key = Key::copy(alloc, key)?;
         insert(&mut self.notes, Note { key, line })
+    }
+
+    /// An equal book.
+    pub fn copy(&self, alloc: Global) -> Result<NoteBook, NoMemory>
+        ensures { IfOk result (λ book. book ≡ self.now) }
+    {
+        let notes = copies(alloc, &self.notes)?;
+        Ok(NoteBook { notes })
+    }
+
+    /// The nth line, by key text, then UUID, then chunk size. It takes no memory.
+    pub fn line(&self, n: usize) -> Option<(KeyRef<'_>, &ChunkLine)>
+        ensures nth { option_map (λ line. record { key = text_of line.0; line = line.1.now }) result ≡ slice_get self.now n }
+        ensures order { IsTrue (in_order self.now) }
+        ensures notes { All IsNote self.now }
+    {
+        let notes = self.notes.as_slice();
+        if n < notes.len() {
+            let note = &notes[n];
+            Some((note.key.view(), &note.line))
+        } else {
+            None
+        }
     }
 }

@@ -1,11 +1,12 @@
 // A note more, at its place.
-ghost use Rattle.std.specs.Prelude.{◌≡◌, ◌≤◌, ◌<◌, ◌++◌, length, take, drop, OnOk, OnErr, IsTrue};
+ghost use Rattle.std.specs.Prelude.{◌≡◌, ◌≤◌, ◌<◌, ◌++◌, length, take, drop, OnOk, OnErr, IfOk, IsTrue};
 ghost use Rattle.std.specs.List.{prefix_len};
 ghost use Rattle.chunk_log.specs.NoteBooks.{inserted, is_before, is_taken, replaced};
 
 use crate::note::Note;
 use crate::order::is_no_later;
 use ann_key::NoMemory;
+use std::alloc::Global;
 
 fn place_of(notes: &[Note], note: &Note) -> usize
     ensures value { result ≡ prefix_len (λ other. is_before other note.now) notes.now }
@@ -45,4 +46,14 @@ pub fn insert(notes: &mut Vec<Note>, note: Note) -> Result<(), NoMemory>
     }
     notes.insert(at, note)?;
     Ok(())
+}
+
+pub fn copies(alloc: Global, notes: &[Note]) -> Result<Vec<Note>, NoMemory>
+    ensures { IfOk result (λ copies. copies.items ≡ notes.now) }
+{
+    let mut copies = Vec::new(alloc);
+    for note in notes {
+        copies.push(note.copy(alloc)?)?;
+    }
+    Ok(copies)
 }

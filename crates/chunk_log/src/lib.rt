@@ -4,6 +4,7 @@
 mod book;
 mod error;
 mod insert;
+mod layouts;
 mod line;
 mod note;
 mod order;
@@ -14,6 +15,7 @@ mod written;
 
 pub use book::NoteBook;
 pub use error::ChunkError;
+pub use layouts::Layouts;
 pub use line::{ChunkLine, read_line};
 pub use stamp::Stamp;
 pub use written::write_line;
