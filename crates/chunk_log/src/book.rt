@@ -4,7 +4,9 @@ ghost use Rattle.std.specs.List.{list_any, prefix_len};
 ghost use Rattle.chunk_log.specs.ChunkLines.{is_space};
 ghost use Rattle.ann_key.specs.KeyRefs.{text_of};
 
+use crate::current::current;
 use crate::insert::{copies, insert};
+use crate::layouts::Layouts;
 use crate::line::ChunkLine;
 use crate::note::Note;
 use ann_key::{Key, KeyRef, NoMemory};
@@ -32,6 +34,7 @@ impl Model for NoteBook {
 
 impl NoteBook {
     ghost use Rattle.chunk_log.specs.NoteBooks.{counting, in_order, IsNote, IsWritable};
+    ghost use Rattle.chunk_log.specs.Current.{IsCurrent};
     ghost use Rattle.chunk_log.specs.declared.note.Note.{Note};
 
     /// No line. It takes no memory.
@@ -75,5 +78,12 @@ impl NoteBook {
         } else {
             None
         }
+    }
+
+    /// The layouts in which the remote has chunks of the key: the newest first, then the largest chunks.
+    pub fn current(&self, alloc: Global, key: KeyRef<'_>, uuid: &str) -> Result<Layouts, NoMemory>
+        ensures { IfOk result (λ layouts. IsCurrent self.now (text_of key.entry) uuid.now layouts) }
+    {
+        current(alloc, &self.notes, key.text(), uuid.as_bytes())
     }
 }

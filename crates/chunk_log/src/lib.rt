@@ -2,6 +2,7 @@
 #![tactic(auto)]
 
 mod book;
+mod current;
 mod error;
 mod insert;
 mod layouts;
@@ -11,6 +12,7 @@ mod order;
 mod parts;
 mod scan;
 mod stamp;
+mod standing;
 mod written;
 
 pub use book::NoteBook;
