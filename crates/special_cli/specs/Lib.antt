@@ -1,4 +1,3 @@
 pub mod Refusals
 pub mod Texts
 pub mod Words
-pub mod Writing

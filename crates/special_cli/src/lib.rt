@@ -6,9 +6,7 @@ mod refusals;
 mod tests;
 mod texts;
 mod words;
-mod writing;
 
 pub use refusals::{Reason, refusal};
 pub use texts::{CHECK_HELP, HELP, memory_line, refused_line, usage_line, version_line};
 pub use words::{Command, command_of};
-pub use writing::write_all;
