@@ -1,11 +1,6 @@
-// The link to one child: what is read of it goes to the core line by line, and what the core has for it is written.
+// The link to one child.
 #![tactic(auto)]
 
-mod door;
-mod lone;
-mod turns;
 mod wire;
 
-pub use door::{Door, OwnDoor};
-pub use lone::Lone;
 pub use wire::Wire;

@@ -1,12 +1,18 @@
 // The program: what its words ask for, what it prints, and its run.
 #![tactic(auto)]
 
+mod checking;
+mod closing;
+mod opening;
+mod pipes;
 mod refusals;
+
 #[cfg(test)]
 mod tests;
 mod texts;
 mod words;
 
+pub use closing::Closing;
 pub use refusals::{Reason, refusal};
 pub use texts::{CHECK_HELP, HELP, memory_line, refused_line, usage_line, version_line};
 pub use words::{Command, command_of};
