@@ -10,6 +10,8 @@ mod lines;
 mod machine;
 mod moves;
 mod tasks;
+#[cfg(test)]
+mod tests;
 
 pub use event::{Event, Reply};
 pub use journal_model::{Answer, Entry, Final, Identity, Journal, Opening, Verdict, What, Why};

@@ -5,6 +5,8 @@
 pub mod laws;
 mod request;
 mod talk;
+#[cfg(test)]
+mod tests;
 
 pub use request::Request;
 pub use talk::{Heard, Talk};
