@@ -1,5 +1,9 @@
 -- Which words and keys end a call before any child, and what a check's journal is.
-use Rattle.std.specs.Prelude.{ℕ, ◌≡◌, List, Option, Some, None, IfSome}
+use Rattle.std.specs.Prelude.{ℕ, ◌≡◌, List, [], ◌∷◌, Option, Some, None, IfSome}
+use Rattle.std.specs.Io.KnownBytes.{Appends}
+use Rattle.journal_model.specs.declared.answer.Answer.{Answer}
+use Rattle.journal_model.specs.declared.answer.Answer.TheVariants.{Present}
+use Rattle.journal_model.specs.Output.{answer_line}
 use Rattle.journal_model.specs.declared.entry.Entry.{Entry}
 use Rattle.journal_model.specs.Due.{replies_at}
 use Rattle.journal_model.specs.Legality.{Legal}
@@ -29,3 +33,15 @@ pub record IsChecked (told : Option ℕ) (key : List ℕ) (journal : List Entry)
   pub clock : IfSome told (λ n. stamp ≡ n)
   pub legal : Legal (check_opening key stamp) journal
   pub parts : (c j : ℕ) → JobFits (replies_at (check_opening key stamp) journal) journal c j
+
+-- the status of an answer that was printed
+abbrev pub status_of : Answer → ℕ
+status_of Present = 0
+status_of answer = 1
+
+-- there is one answer, out gained its line, and the status is the answer's
+pub record IsPrinted (status : ℕ) (taken taken' : Option (List ℕ)) (journal : List Entry) (answers : List Answer) : Type 0 where
+  pub answer : Answer
+  pub one : answers ≡ answer ∷ []
+  pub line : Appends taken taken' (answer_line journal 1 answer)
+  pub status_is : status ≡ status_of answer

@@ -6,18 +6,44 @@ use crate::pipes::Pipes;
 use ann_key::{Key, NoMemory};
 use ann_outside::{Failed, Sink, Source};
 use host_core::{Core, Event, Reply};
-use journal_model::{Answer, Verdict, Why};
+use journal_model::{Answer, Entry, Verdict, What, Why};
 use std::alloc::Global;
 use talk_serial::Request;
 use task_run::check_answer;
-use wire_msg::write_host;
 
 // Tells the core of an event that has no answer to wait for. Where it wants memory, nothing has happened.
-pub(super) fn tell(core: &mut Core, event: Event)
+fn tell(core: &mut Core, event: Event)
     ensures opening { core.new.opening ≡ core.old.opening }
     ensures legal { Legal core.new.opening core.new.journal }
 {
     let _reply = core.step(0, event);
+}
+
+/// Tells the core of the child that was started, and answers its number. None is want of memory.
+pub(super) fn started(core: &mut Core) -> Option<u32>
+    ensures opening { core.new.opening ≡ core.old.opening }
+    ensures legal { Legal core.new.opening core.new.journal }
+{
+    let event = Event::Start {
+        slot: 0,
+        offer: false,
+    };
+    match core.step(0, event) {
+        Ok(Reply::Child(child)) => Some(child),
+        _ => None,
+    }
+}
+
+/// The answer where no child could be started.
+pub(super) fn not_started(core: &mut Core) -> Answer
+    ensures opening { core.new.opening ≡ core.old.opening }
+    ensures legal { Legal core.new.opening core.new.journal }
+{
+    let answer = Answer::StartFault;
+    tell(core, Event::NoStart { slot: 0 });
+    tell(core, Event::Claim { child: 0 });
+    tell(core, Event::Answer { task: 1, answer });
+    answer
 }
 
 // How the job stands.
@@ -80,17 +106,35 @@ fn settle<I: Sink, O: Source>(pipes: &mut Pipes<I, O>, core: &mut Core, job: u64
     Verdict::Ended { why }
 }
 
-// Writes the request's line, and tells the core what came of it.
-fn write<I: Sink, O: Source>(alloc: Global, pipes: &mut Pipes<I, O>, request: &Request) -> Event {
+// The line with its byte 10, which is written whole.
+fn text_of(alloc: Global, line: &[u8]) -> Result<Vec<u8>, NoMemory> {
+    let mut text = Vec::from_slice(alloc, line)?;
+    text.push(b'\n')?;
+    Ok(text)
+}
+
+// Writes the line of the request that was asked last, and says what came of it.
+fn write<I: Sink, O: Source>(
+    alloc: Global,
+    pipes: &mut Pipes<I, O>,
+    entries: &[Entry],
+) -> Event {
     let child = pipes.child();
-    let message = request.message();
-    let Ok(line) = write_host(alloc, &message) else {
-        return Event::Stop {
-            child,
-            why: Why::Memory,
-        };
+    let no_room = Event::Stop {
+        child,
+        why: Why::Memory,
     };
-    match pipes.say(line.view()) {
+    let Some(Entry {
+        what: What::Ask { line, .. },
+        ..
+    }) = entries.last()
+    else {
+        return no_room;
+    };
+    let Ok(text) = text_of(alloc, line.view()) else {
+        return no_room;
+    };
+    match pipes.say(text.as_slice()) {
         Ok(()) => Event::Sent { child },
         Err(Failed) => Event::Mute { child },
     }
@@ -116,7 +160,7 @@ fn ask<I: Sink, O: Source>(
     };
     match core.step(0, event)? {
         Reply::Job(job) => {
-            let event = write(alloc, pipes, request);
+            let event = write(alloc, pipes, core.journal());
             tell(core, event);
             Ok(settle(pipes, core, job))
         }

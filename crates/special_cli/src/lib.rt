@@ -6,6 +6,7 @@ mod closing;
 mod opening;
 mod pipes;
 mod refusals;
+mod top;
 
 #[cfg(test)]
 mod tests;
@@ -14,5 +15,6 @@ mod words;
 
 pub use closing::Closing;
 pub use refusals::{Reason, refusal};
+pub use top::special;
 pub use texts::{CHECK_HELP, HELP, memory_line, refused_line, usage_line, version_line};
 pub use words::{Command, command_of};

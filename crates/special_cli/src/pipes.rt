@@ -44,10 +44,9 @@ impl<I: Sink, O: Source> Pipes<I, O> {
         self.child
     }
 
-    /// Writes the line and its byte 10.
-    pub(super) fn say(&mut self, line: &[u8]) -> Result<(), Failed> {
-        write_all(&mut self.inlet, line)?;
-        write_all(&mut self.inlet, b"\n")
+    /// Writes all of the text.
+    pub(super) fn say(&mut self, text: &[u8]) -> Result<(), Failed> {
+        write_all(&mut self.inlet, text)
     }
 
     /// The next whole line, read as far as need be; an error is why the child has ended.
