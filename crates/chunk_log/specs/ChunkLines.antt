@@ -1,5 +1,5 @@
 -- The lines of a chunk log.
-use Rattle.std.specs.Prelude.{ℕ, ◌≡◌, ◌<◌, ◌==◌, ◌&&◌, Bool, if◌then◌else◌, List, [], ◌∷◌, ◌++◌, Option, Some, None, Result, Ok, Err, codes, decimal}
+use Rattle.std.specs.Prelude.{ℕ, ◌≡◌, ◌==◌, Bool, if◌then◌else◌, List, ◌++◌, Option, Some, None, codes, decimal}
 use Rattle.std.specs.List.{list_any, before_first, after_first, before_last, after_last}
 use Rattle.uuid.specs.Text.{parsed, hyphenated_text, lower}
 use Rattle.ann_key.specs.Numbers.{is_number, value_of}

@@ -5,6 +5,7 @@ mod book;
 mod current;
 mod error;
 mod insert;
+mod laws;
 mod layouts;
 mod line;
 mod note;

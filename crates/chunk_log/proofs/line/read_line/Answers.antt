@@ -1,7 +1,7 @@
-use Rattle.std.proofs.Common.{◌≡◌, ℕ, List, Some, None, Option, sym, ap, ◌∙◌, refl}
+use Rattle.std.proofs.Common.{◌≡◌, sym, ap, ◌∙◌, refl}
 use Rattle.std.specs.List.{before_first, after_first}
 use Rattle.uuid.specs.Text.{hyphenated_text, lower}
-use Rattle.chunk_log.specs.ChunkLines.{count_part, counts_in, is_space, stamp_part, uuid_in, word_part, IsChunkLine}
+use Rattle.chunk_log.specs.ChunkLines.{count_part, is_space, uuid_in, word_part}
 use Rattle.chunk_log.specs.Stamps.{stamp_in}
 use Rattle.chunk_log.proofs.Refused.{without_memory}
 use Rattle.chunk_log.proofs.line.read_line.Goals as goal
