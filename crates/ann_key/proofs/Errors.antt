@@ -1,11 +1,11 @@
 -- Where bytes stop being a key they spell none.
-use Rattle.std.proofs.Common.{◌≡◌, ℕ, ◌+◌, List, [], ◌∷◌, ◌++◌, length, take, drop, refl, sym, ap, subst, ◌∙◌, Bool, true, false, not, cond, Some, None, Option, append_assoc, arith, inl, inr}
-use Rattle.std.specs.Prelude.{◌==◌, ◌&&◌, ◌||◌, nat_lt, nat_le, is_some, ◌⊎◌}
+use Rattle.std.proofs.Common.{◌≡◌, ℕ, ◌+◌, List, [], ◌∷◌, ◌++◌, length, take, drop, refl, sym, ap, subst, ◌∙◌, Bool, true, false, not, cond, Some, None, Option, append_assoc, inl, inr}
+use Rattle.std.specs.Prelude.{◌==◌, ◌&&◌, ◌||◌, nat_lt, is_some, ◌⊎◌}
 use Rattle.std.specs.List.{list_all, prefix_len}
 use Rattle.std.proofs.lemmas.Bool.{eqb-true}
 use Rattle.std.proofs.Math.Seq.{take-append_seam, drop-append_seam}
-use Rattle.ann_key.specs.Numbers.{is_digit, value_of, is_numeral, IsNumeral}
-use Rattle.ann_key.specs.Keys.{Parts, is_backend_byte, is_backend, is_name, IsField, IsChunkField, IsKey, begins, number_at, some_of, field_at, chunk_of, chunk_after, chunk_at, named, timed, sized, key_reading}
+use Rattle.ann_key.specs.Numbers.{is_digit, value_of, is_numeral}
+use Rattle.ann_key.specs.Keys.{Parts, is_backend_byte, is_backend, is_name, IsField, IsChunkField, begins, number_at, some_of, field_at, chunk_of, chunk_after, chunk_at, named, timed, sized, key_reading}
 use Rattle.ann_key.specs.KeyErrors.{first_is, Begun, Fields, ChunkSize, IsFront, IsSizedFront, IsBegun, may_follow, ends_in_number, is_number_of, IsBadBackend, IsBadField, IsBadNumber, IsBadName, IsError}
 use Rattle.ann_key.specs.declared.error.KeyError.{KeyError}
 use Rattle.ann_key.specs.declared.error.KeyError.TheVariants.{Backend, Field, Number, Name}
@@ -14,7 +14,7 @@ use Rattle.ann_key.proofs.Chunks.{front_is}
 
 -- ---- tests
 
-or_false : (a b : Bool) → (a || b) ≡ false → (a ≡ false) × (b ≡ false)
+pub or_false : (a b : Bool) → (a || b) ≡ false → (a ≡ false) × (b ≡ false)
 or_false true b h = absurd cc
 or_false false b h = (refl, h)
 
@@ -22,16 +22,16 @@ and_left : (a b : Bool) → (a && b) ≡ false → b ≡ true → a ≡ false
 and_left true b h e = cc
 and_left false b h e = refl
 
-not_true : (a : Bool) → not a ≡ true → a ≡ false
+pub not_true : (a : Bool) → not a ≡ true → a ≡ false
 not_true true h = absurd cc
 not_true false h = refl
 
-no_dash : (letter : ℕ) (rest : List ℕ) → first_is (λ b. b == 45) rest ≡ false → begins 45 letter rest ≡ false
+pub no_dash : (letter : ℕ) (rest : List ℕ) → first_is (λ b. b == 45) rest ≡ false → begins 45 letter rest ≡ false
 no_dash letter [] h = refl
 no_dash letter (x ∷ []) h = refl
 no_dash letter (x ∷ (y ∷ rest)) h = rw h refl
 
-no_first : (p : ℕ → Bool) (rest : List ℕ) → first_is p rest ≡ false → prefix_len p rest ≡ 0
+pub no_first : (p : ℕ → Bool) (rest : List ℕ) → first_is p rest ≡ false → prefix_len p rest ≡ 0
 no_first p [] h = refl
 no_first p (x ∷ rest) h = rw h refl
 
@@ -100,7 +100,7 @@ mtime_read backend s m rest size mtime class f g d h k b =
     size_read backend s (m ++ rest) size class f (digits_stop 109 mtime m rest g d)
     (λ e. begins_stop 115 109 mtime m rest refl g (k e))
     (λ e. backend_stop 109 mtime m rest g (b e))
-      ∙ ap (timed backend size) (field_scan 109 mtime m rest refl g d h)
+    ∙ ap (timed backend size) (field_scan 109 mtime m rest refl g d h)
 
 -- what may stand behind a front with these fields, as the scan needs it
 pub record Stops (key : Parts) (rest : List ℕ) : Type 0 where
@@ -113,22 +113,22 @@ pub record Stops (key : Parts) (rest : List ℕ) : Type 0 where
 front_text : (text rest : List ℕ) (key : Parts) (s : IsFront text key) → text ++ rest ≡ key.backend ++ (s.size ++ (s.mtime ++ (s.chunk ++ rest)))
 front_text text rest key s =
     ap (λ (x : List ℕ). x ++ rest) (front_is text key s)
-      ∙ append_assoc key.backend (s.size ++ (s.mtime ++ s.chunk)) rest
-      ∙ ap (λ (x : List ℕ). key.backend ++ x) (append_assoc s.size (s.mtime ++ s.chunk) rest ∙ ap (λ (x : List ℕ). s.size ++ x) (append_assoc s.mtime s.chunk rest))
+    ∙ append_assoc key.backend (s.size ++ (s.mtime ++ s.chunk)) rest
+    ∙ ap (λ (x : List ℕ). key.backend ++ x) (append_assoc s.size (s.mtime ++ s.chunk) rest ∙ ap (λ (x : List ℕ). s.size ++ x) (append_assoc s.mtime s.chunk rest))
 
 -- behind a front the name is read
 front_scan : (text rest : List ℕ) (key : Parts) → IsFront text key → Stops key rest
     → key_reading (text ++ rest) ≡ named key.backend key.size key.mtime (Some (key.chunk, rest))
 front_scan text rest key s t =
     ap key_reading (front_text text rest key s)
-      ∙ mtime_read key.backend s.size s.mtime (s.chunk ++ rest) key.size key.mtime s.backend_class s.size_field s.mtime_field
-      (digits_stop_chunk key.chunk s.chunk rest s.chunk_field t.digits)
-      (λ e. begins_stop_chunk 109 key.chunk s.chunk rest refl s.chunk_field (t.mtime e))
-      (λ e f. begins_stop_chunk 115 key.chunk s.chunk rest refl s.chunk_field (t.size e f))
-      (λ e f. backend_stop_chunk key.chunk s.chunk rest s.chunk_field (t.backend e f))
-      ∙ ap (named key.backend key.size key.mtime) (chunk_scan key.chunk s.chunk rest s.chunk_field t.digits t.chunk)
+    ∙ mtime_read key.backend s.size s.mtime (s.chunk ++ rest) key.size key.mtime s.backend_class s.size_field s.mtime_field
+    (digits_stop_chunk key.chunk s.chunk rest s.chunk_field t.digits)
+    (λ e. begins_stop_chunk 109 key.chunk s.chunk rest refl s.chunk_field (t.mtime e))
+    (λ e f. begins_stop_chunk 115 key.chunk s.chunk rest refl s.chunk_field (t.size e f))
+    (λ e f. backend_stop_chunk key.chunk s.chunk rest s.chunk_field (t.backend e f))
+    ∙ ap (named key.backend key.size key.mtime) (chunk_scan key.chunk s.chunk rest s.chunk_field t.digits t.chunk)
 
-empty_chunk : (o : Option (ℕ × ℕ)) (text : List ℕ) → o ≡ None → IsChunkField o text → text ≡ []
+pub empty_chunk : (o : Option (ℕ × ℕ)) (text : List ℕ) → o ≡ None → IsChunkField o text → text ≡ []
 empty_chunk None text e f = f
 empty_chunk (Some c) text e f = absurd cc
 
@@ -139,7 +139,7 @@ chunk_read : (text rest : List ℕ) (key : Parts) → IsFront text key → key.c
     → key_reading (text ++ rest) ≡ named key.backend key.size key.mtime (chunk_at rest)
 chunk_read text rest key s none d h k b =
     ap key_reading (front_text text rest key s ∙ ap (λ (x : List ℕ). key.backend ++ (s.size ++ (s.mtime ++ (x ++ rest)))) (empty_chunk key.chunk s.chunk none s.chunk_field))
-      ∙ mtime_read key.backend s.size s.mtime rest key.size key.mtime s.backend_class s.size_field s.mtime_field d h k b
+    ∙ mtime_read key.backend s.size s.mtime rest key.size key.mtime s.backend_class s.size_field s.mtime_field d h k b
 
 -- ---- numbers
 
@@ -232,12 +232,12 @@ none_left (Some n) e = absurd cc
 -- a number ends, and neither a digit nor a dash follows
 stops_after : (key : Parts) (rest : List ℕ) → ends_in_number (Fields key) ≡ true → first_is (λ b. b == 45 || is_digit b) rest ≡ false → Stops key rest
 stops_after key rest some e = record {
-    digits = no_digit rest e;
-    backend = λ a b c. absurd (none key.size key.mtime key.chunk some a b c);
-    size = λ a b c. no_dash 115 rest d;
-    mtime = λ a b. no_dash 109 rest d;
-    chunk = λ a. no_dash 83 rest d;
-  }
+  digits = no_digit rest e;
+  backend = λ a b c. absurd (none key.size key.mtime key.chunk some a b c);
+  size = λ a b c. no_dash 115 rest d;
+  mtime = λ a b. no_dash 109 rest d;
+  chunk = λ a. no_dash 83 rest d;
+}
   where
     no_digit : (rest : List ℕ) → first_is (λ b. b == 45 || is_digit b) rest ≡ false → prefix_len is_digit rest ≡ 0
     no_digit [] h = refl
@@ -271,8 +271,7 @@ may_parts : (d c m s nc nm ns : Bool) → (d || (c && nc) || (m && nc && nm) || 
 may_parts d c m s nc nm ns h =
     let t : ((d || (c && nc) || (m && nc && nm)) ≡ false) × ((s && nc && nm && ns) ≡ false) = or_false (d || (c && nc) || (m && nc && nm)) (s && nc && nm && ns) h in
     let u : ((d || (c && nc)) ≡ false) × ((m && nc && nm) ≡ false) = or_false (d || (c && nc)) (m && nc && nm) t.0 in
-    let v : (d ≡ false) × ((c && nc) ≡ false) = or_false d (c && nc) u.0 in
-    (
+    let v : (d ≡ false) × ((c && nc) ≡ false) = or_false d (c && nc) u.0 in (
       v.0,
       λ a. and_left c nc v.1 a,
       λ a b. and_left m nc (and_left (m && nc) nm u.1 b) a,
@@ -283,15 +282,15 @@ may_parts d c m s nc nm ns h =
 stops_at_dash : (key : Parts) (more : List ℕ) → first_is (may_follow (Fields key)) more ≡ false → Stops key (45 ∷ more) × (begins 45 45 (45 ∷ more) ≡ false)
 stops_at_dash key [] h = (record { digits = refl; backend = λ a b c. refl; size = λ a b c. refl; mtime = λ a b. refl; chunk = λ a. refl }, refl)
 stops_at_dash key (x ∷ more) h = (
-    record {
-      digits = refl;
-      backend = λ a b c. refl;
-      size = λ a b c. t.3 (none_chunk c) (none_field key.mtime b) (none_field key.size a);
-      mtime = λ a b. t.2 (none_chunk b) (none_field key.mtime a);
-      chunk = λ a. t.1 (none_chunk a);
-    },
-    t.0,
-  )
+  record {
+    digits = refl;
+    backend = λ a b c. refl;
+    size = λ a b c. t.3 (none_chunk c) (none_field key.mtime b) (none_field key.size a);
+    mtime = λ a b. t.2 (none_chunk b) (none_field key.mtime a);
+    chunk = λ a. t.1 (none_chunk a);
+  },
+  t.0,
+)
   where
     t : ((x == 45) ≡ false) × (not (is_some key.chunk) ≡ true → (x == 83) ≡ false)
         × (not (is_some key.chunk) ≡ true → not (is_some key.mtime) ≡ true → (x == 109) ≡ false)
@@ -309,8 +308,8 @@ sized_scan : (text rest : List ℕ) (key : Parts) (s : IsSizedFront text key) �
     → key_reading (text ++ rest) ≡ named key.backend key.size key.mtime (chunk_after (Some (s.size, rest)))
 sized_scan text rest key s d =
     ap key_reading (ap (λ (x : List ℕ). x ++ rest) s.whole ∙ append_assoc s.front (45 ∷ 83 ∷ s.digits) rest)
-      ∙ chunk_read s.front (45 ∷ 83 ∷ (s.digits ++ rest)) key s.is_front s.no_chunk refl (λ e. refl) (λ e f. refl) (λ e f. refl)
-      ∙ ap (λ (x : Option (ℕ × List ℕ)). named key.backend key.size key.mtime (chunk_after x)) (number_read s.size s.digits rest s.numeral d)
+    ∙ chunk_read s.front (45 ∷ 83 ∷ (s.digits ++ rest)) key s.is_front s.no_chunk refl (λ e. refl) (λ e f. refl) (λ e f. refl)
+    ∙ ap (λ (x : Option (ℕ × List ℕ)). named key.backend key.size key.mtime (chunk_after x)) (number_read s.size s.digits rest s.numeral d)
 
 no_chunk_number : (key : Parts) (size : ℕ) (rest : List ℕ) → begins 45 67 rest ≡ false → named key.backend key.size key.mtime (chunk_after (Some (size, rest))) ≡ None
 no_chunk_number key size rest e = rw e refl
@@ -328,30 +327,30 @@ field_error bytes at h = ap key_reading h.whole ∙ by_begun h.begun h.is_begun 
 
     by_begun : (begun : Begun) → IsBegun h.front begun
         → ((ends_in_number begun ≡ true) × (at ≡ length h.front) × (not (first_is (λ b. b == 45 || is_digit b) h.rest) ≡ true))
-          ⊎ ((more : List ℕ) × (h.rest ≡ 45 ∷ more) × (at ≡ length h.front + 1) × (not (first_is (may_follow begun) more) ≡ true))
+        ⊎ ((more : List ℕ) × (h.rest ≡ 45 ∷ more) × (at ≡ length h.front + 1) × (not (first_is (may_follow begun) more) ≡ true))
         → key_reading (h.front ++ h.rest) ≡ None
     by_begun (Fields key) s (inl t) =
         let e : first_is (λ b. b == 45 || is_digit b) h.rest ≡ false = not_true (first_is (λ b. b == 45 || is_digit b) h.rest) t.2 in
         front_scan h.front h.rest key s (stops_after key h.rest t.0 e)
-          ∙ no_dashes key.backend key.size key.mtime key.chunk h.rest (no_dash 45 h.rest (no_dash_there h.rest e))
+        ∙ no_dashes key.backend key.size key.mtime key.chunk h.rest (no_dash 45 h.rest (no_dash_there h.rest e))
     by_begun (Fields key) s (inr (more, is, place, bad)) =
         let u : Stops key (45 ∷ more) × (begins 45 45 (45 ∷ more) ≡ false) = stops_at_dash key more (not_true (first_is (may_follow (Fields key)) more) bad) in
         ap (λ (x : List ℕ). key_reading (h.front ++ x)) is ∙ front_scan h.front (45 ∷ more) key s u.0
-          ∙ no_dashes key.backend key.size key.mtime key.chunk (45 ∷ more) u.1
+        ∙ no_dashes key.backend key.size key.mtime key.chunk (45 ∷ more) u.1
     by_begun (ChunkSize key) s (inl t) =
         let e : first_is (λ b. b == 45 || is_digit b) h.rest ≡ false = not_true (first_is (λ b. b == 45 || is_digit b) h.rest) t.2 in
         sized_scan h.front h.rest key s (no_digit h.rest e) ∙ no_chunk_number key s.size h.rest (no_dash 67 h.rest (no_dash_there h.rest e))
     by_begun (ChunkSize key) s (inr (more, is, place, bad)) =
         let e : first_is (may_follow (ChunkSize key)) more ≡ false = not_true (first_is (may_follow (ChunkSize key)) more) bad in
         ap (λ (x : List ℕ). key_reading (h.front ++ x)) is ∙ sized_scan h.front (45 ∷ more) key s refl
-          ∙ no_chunk_number key s.size (45 ∷ more) (no_second 67 more e)
+        ∙ no_chunk_number key s.size (45 ∷ more) (no_second 67 more e)
 
 -- the letter that stands where `may_follow` lets it
 abbrev Choice : Parts → ℕ → Type 0
 Choice key letter =
     ((letter ≡ 83) × (key.chunk ≡ None))
     ⊎ (((letter ≡ 109) × (key.chunk ≡ None) × (key.mtime ≡ None))
-      ⊎ ((letter ≡ 115) × (key.chunk ≡ None) × (key.mtime ≡ None) × (key.size ≡ None)))
+    ⊎ ((letter ≡ 115) × (key.chunk ≡ None) × (key.mtime ≡ None) × (key.size ≡ None)))
 
 chosen : (key : Parts) (letter : ℕ) → (not (letter == 45) && may_follow (Fields key) letter) ≡ true → Choice key letter
 chosen key letter h = first (or_true (D || (C && nc) || (M && nc && nm)) (S && nc && nm && ns) t.1)
@@ -399,7 +398,7 @@ chosen key letter h = first (or_true (D || (C && nc) || (M && nc && nm)) (S && n
         let w : (S ≡ true) × (nc ≡ true) = both S nc v.0 in
         inr (inr (eqb-true letter 115 w.0, no_error key.chunk w.1, no_field key.mtime v.1, no_field key.size u.1))
 
-empty_field : (letter : ℕ) (o : Option ℕ) (text : List ℕ) → o ≡ None → IsField letter o text → text ≡ []
+pub empty_field : (letter : ℕ) (o : Option ℕ) (text : List ℕ) → o ≡ None → IsField letter o text → text ≡ []
 empty_field letter None text e f = f
 empty_field letter (Some n) text e f = absurd cc
 
@@ -411,21 +410,21 @@ bad_mtime : (front rest : List ℕ) (key : Parts) → IsFront front key → key.
 bad_mtime front rest key s no_chunk no_mtime bad =
     let R : List ℕ = 45 ∷ 109 ∷ rest in
     ap key_reading (front_text front R key s
-      ∙ ap (λ (x : List ℕ). key.backend ++ (s.size ++ (s.mtime ++ (x ++ R)))) (empty_chunk key.chunk s.chunk no_chunk s.chunk_field)
-      ∙ ap (λ (x : List ℕ). key.backend ++ (s.size ++ (x ++ R))) (empty_field 109 key.mtime s.mtime no_mtime s.mtime_field))
-      ∙ size_read key.backend s.size R key.size s.backend_class s.size_field refl (λ e. refl) (λ e. refl)
-      ∙ ap (λ (x : Option (ℕ × List ℕ)). timed key.backend key.size (some_of x)) (bad_run 109 rest refl bad)
+    ∙ ap (λ (x : List ℕ). key.backend ++ (s.size ++ (s.mtime ++ (x ++ R)))) (empty_chunk key.chunk s.chunk no_chunk s.chunk_field)
+    ∙ ap (λ (x : List ℕ). key.backend ++ (s.size ++ (x ++ R))) (empty_field 109 key.mtime s.mtime no_mtime s.mtime_field))
+    ∙ size_read key.backend s.size R key.size s.backend_class s.size_field refl (λ e. refl) (λ e. refl)
+    ∙ ap (λ (x : Option (ℕ × List ℕ)). timed key.backend key.size (some_of x)) (bad_run 109 rest refl bad)
 
 bad_field_size : (front rest : List ℕ) (key : Parts) → IsFront front key → key.chunk ≡ None → key.mtime ≡ None → key.size ≡ None → is_number_of 115 rest ≡ false
     → key_reading (front ++ 45 ∷ 115 ∷ rest) ≡ None
 bad_field_size front rest key s no_chunk no_mtime no_size bad =
     let R : List ℕ = 45 ∷ 115 ∷ rest in
     ap key_reading (front_text front R key s
-      ∙ ap (λ (x : List ℕ). key.backend ++ (s.size ++ (s.mtime ++ (x ++ R)))) (empty_chunk key.chunk s.chunk no_chunk s.chunk_field)
-      ∙ ap (λ (x : List ℕ). key.backend ++ (s.size ++ (x ++ R))) (empty_field 109 key.mtime s.mtime no_mtime s.mtime_field)
-      ∙ ap (λ (x : List ℕ). key.backend ++ (x ++ R)) (empty_field 115 key.size s.size no_size s.size_field))
-      ∙ backend_read key.backend R s.backend_class refl
-      ∙ ap (λ (x : Option (ℕ × List ℕ)). sized key.backend (some_of x)) (bad_run 115 rest refl bad)
+    ∙ ap (λ (x : List ℕ). key.backend ++ (s.size ++ (s.mtime ++ (x ++ R)))) (empty_chunk key.chunk s.chunk no_chunk s.chunk_field)
+    ∙ ap (λ (x : List ℕ). key.backend ++ (s.size ++ (x ++ R))) (empty_field 109 key.mtime s.mtime no_mtime s.mtime_field)
+    ∙ ap (λ (x : List ℕ). key.backend ++ (x ++ R)) (empty_field 115 key.size s.size no_size s.size_field))
+    ∙ backend_read key.backend R s.backend_class refl
+    ∙ ap (λ (x : Option (ℕ × List ℕ)). sized key.backend (some_of x)) (bad_run 115 rest refl bad)
 
 number_error : (bytes : List ℕ) (at : ℕ) → IsBadNumber bytes at → key_reading bytes ≡ None
 number_error bytes at h = ap key_reading h.whole ∙ by_begun h.begun h.is_begun h.is_letter
@@ -453,8 +452,8 @@ number_error bytes at h = ap key_reading h.whole ∙ by_begun h.begun h.is_begun
 name_error : (bytes : List ℕ) (at : ℕ) → IsBadName bytes at → key_reading bytes ≡ None
 name_error bytes at h =
     ap key_reading h.whole
-      ∙ front_scan h.front (45 ∷ 45 ∷ h.name) h.key h.is_front record { digits = refl; backend = λ a b c. refl; size = λ a b c. refl; mtime = λ a b. refl; chunk = λ a. refl }
-      ∙ (let e : is_name h.name ≡ false = not_true (is_name h.name) h.no_name in rw e refl)
+    ∙ front_scan h.front (45 ∷ 45 ∷ h.name) h.key h.is_front record { digits = refl; backend = λ a b c. refl; size = λ a b c. refl; mtime = λ a b. refl; chunk = λ a. refl }
+    ∙ (let e : is_name h.name ≡ false = not_true (is_name h.name) h.no_name in rw e refl)
 
 pub error_reading : (bytes : List ℕ) (e : KeyError) → IsError bytes e → key_reading bytes ≡ None
 error_reading bytes (Backend at) h = backend_error bytes at h

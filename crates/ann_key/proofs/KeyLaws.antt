@@ -1,7 +1,9 @@
 -- The laws of keys.
 use Rattle.std.proofs.Common.{◌≡◌, ℕ, None, Some, Option, refl, sym, ap, subst}
 use Rattle.ann_key.specs.Keys.{Parts, IsKey, with_chunk, without_chunk}
-use Rattle.ann_key.specs.KeyLaws.{BasesStand, ChunksDiffer}
+use Rattle.ann_key.specs.KeyLaws.{BasesStand, ChunksDiffer, ErrorsExclude}
+use Rattle.ann_key.proofs.Spelling.{none_spelled}
+use Rattle.ann_key.proofs.Errors.{error_reading}
 use Rattle.ann_key.proofs.Unique.{spelling_unique, reading_unique}
 
 own_base : (key : Parts) → key.chunk ≡ None → without_chunk key ≡ key
@@ -27,3 +29,6 @@ chunks_differ key text size number s = (others, base)
         let e : ◌≡◌ {A = Option (ℕ × ℕ)} (Some (size, number)) None =
         ap (λ (p : Parts). p.chunk) (reading_unique text (with_chunk size number key) (without_chunk key) s t) in
         absurd cc
+
+pub errors_exclude : ErrorsExclude
+errors_exclude text e key h s = none_spelled text (error_reading text e h) key s

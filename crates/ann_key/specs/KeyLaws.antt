@@ -1,6 +1,8 @@
 -- What follows from the spelling of keys.
 use Rattle.std.specs.Prelude.{ℕ, List, ◌≡◌, None}
 use Rattle.ann_key.specs.Keys.{Parts, IsKey, with_chunk, without_chunk}
+use Rattle.ann_key.specs.KeyErrors.{IsError}
+use Rattle.ann_key.specs.declared.error.KeyError.{KeyError}
 
 -- a key is spelled in one way
 abbrev pub OneSpelling : Type 0
@@ -23,3 +25,7 @@ abbrev pub ChunksDiffer : Type 0
 ChunksDiffer =
     (key : Parts) (text : List ℕ) (size number : ℕ) → IsKey text (with_chunk size number key)
     → ((s n : ℕ) → IsKey text (with_chunk s n key) → (size ≡ s) × (number ≡ n)) × (IsKey text (without_chunk key) → ⊥)
+
+-- where there is an error there is no key
+abbrev pub ErrorsExclude : Type 0
+ErrorsExclude = (text : List ℕ) (e : KeyError) (key : Parts) → IsError text e → IsKey text key → ⊥

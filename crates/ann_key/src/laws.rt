@@ -1,5 +1,5 @@
 // Laws of the spelling of keys: each function's contract is one, and its body does nothing.
-ghost use Rattle.ann_key.specs.KeyLaws.{OneSpelling, OneReading, BasesStand, ChunksDiffer};
+ghost use Rattle.ann_key.specs.KeyLaws.{OneSpelling, OneReading, BasesStand, ChunksDiffer, ErrorsExclude};
 
 pub fn one_spelling()
     ensures { OneSpelling }
@@ -15,4 +15,8 @@ pub fn bases_stand()
 
 pub fn chunks_differ()
     ensures { ChunksDiffer }
+{}
+
+pub fn errors_exclude()
+    ensures { ErrorsExclude }
 {}

@@ -1,0 +1,13 @@
+-- What a source in memory holds.
+use Rattle.std.specs.Prelude.{ℕ, List}
+use Rattle.ann_outside.specs.Pieces.{rest_from}
+use Rattle.ann_outside.specs.declared.mem.fails.Fails.{Fails}
+use Rattle.ann_outside.specs.declared.mem.source.MemSource.{MemSource}
+
+-- the pieces that it has still to give
+abbrev pub source_rest : MemSource → List (List ℕ)
+source_rest s = rest_from s.pieces.items s.piece s.at
+
+-- its reads so far, and which fail
+abbrev pub source_fails : MemSource → Fails
+source_fails s = s.fails

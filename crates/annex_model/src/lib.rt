@@ -1,0 +1,8 @@
+// The protocol of git-annex's external special remotes: its lines, its messages, and what a conversation is.
+// Nothing here knows a journal. https://git-annex.branchable.com/design/external_special_remote_protocol/
+#![tactic(auto)]
+
+pub mod laws;
+pub mod verdict;
+
+pub use verdict::{Final, Verdict, Why};

@@ -1,0 +1,556 @@
+-- A legal journal is no longer than its room.
+use Rattle.std.proofs.Common.{◌≡◌, ℕ, suc, List, [], ◌∷◌, ◌++◌, ◌+◌, ◌*◌, ◌≤◌, refl, sym, ap, subst, ◌∙◌, Bool, true, false, length, not, ◌==◌, cond, Some, None, Option, arith, ◌⊎◌, inl, inr, length-drop}
+use Rattle.std.specs.Prelude.{◌&&◌, ◌||◌, map, filter, find}
+use Rattle.std.specs.List.{list_any, cons_option, sum_by}
+use Rattle.std.proofs.lemmas.List.{append-nil}
+use Rattle.std.proofs.lemmas.List.FromFn.{length-range_with_len}
+use Rattle.std.proofs.lemmas.List.Sums.{sum_by-append, sum_by-cons, length-filter}
+use Rattle.annex_model.specs.declared.verdict.Why.{Why}
+use Rattle.annex_model.specs.declared.verdict.Why.TheVariants.{Foul, Version as VersionFault}
+use Rattle.annex_model.specs.declared.verdict.Verdict.{Verdict}
+use Rattle.annex_model.specs.declared.verdict.Verdict.TheVariants.{Ended, Unsent}
+use Rattle.annex_model.specs.Messages.{RemoteMessage, remote_reading}
+use Rattle.annex_model.specs.Talks.{said}
+use Rattle.journal_model.specs.declared.opening.Opening.{Opening}
+use Rattle.journal_model.specs.declared.entry.What.{What}
+use Rattle.journal_model.specs.declared.entry.What.TheVariants.{Claim, Start, NoStart, Ask, Put, Sent, Mute, Got, End, Verdict as Settled, Lost, Answer as Answered}
+use Rattle.journal_model.specs.declared.entry.Entry.{Entry}
+use Rattle.journal_model.specs.Journal.{each_of, asks, asked_jobs, writes, sends, unsent, settles, starts, ends, mutes, is_settled, is_started, is_ended, is_mute, is_live, is_open, is_unsent, open_jobs, has_spoken, addressed}
+use Rattle.journal_model.specs.Parts.{part, request_in}
+use Rattle.journal_model.specs.Due.{Hearing, Aside, Part, Settles, Strange, due_after, due_by_got, made_by, ending, verdict_at, after_line, after_hearing, hearing_of, is_version_one}
+use Rattle.journal_model.specs.Legality.{Legal, may_come, may_stop, is_number, is_free, numbers_of, claims, answers, is_claimed, is_empty}
+use Rattle.journal_model.specs.Room.{room_for, room_of}
+use Rattle.journal_model.proofs.Growing.{Legal-induction}
+use Rattle.journal_model.proofs.Looks.{entry, same_number, both, each_of-append, settled_all}
+use Rattle.journal_model.proofs.Counting.{IsSame, same_nat, nat_is_same, same_pair, pair_is_same, Pair, one, many, many-cons, many-append, AtMost, AtMost-length, more_none, more_one, holds, named_none, named_some, named_count, named_length, is_there, filter_at_most, filter_drops}
+
+-- ---- whom an entry names
+
+abbrev claimed : What → Option ℕ
+claimed (Claim task child) = Some task
+claimed _ = None
+
+abbrev answered : What → Option ℕ
+answered (Answered task answer) = Some task
+answered _ = None
+
+abbrev started : What → Option ℕ
+started (Start child slot offer) = Some child
+started _ = None
+
+abbrev ended : What → Option ℕ
+ended (End child why) = Some child
+ended _ = None
+
+abbrev muted : What → Option ℕ
+muted (Mute child) = Some child
+muted _ = None
+
+abbrev sent : What → Option ℕ
+sent (Sent child) = Some child
+sent _ = None
+
+abbrev written : What → Option ℕ
+written (Ask child job task line) = Some child
+written (Put child job line) = Some child
+written _ = None
+
+abbrev asked : What → Option Pair
+asked (Ask child job task line) = Some (child, job)
+asked _ = None
+
+abbrev settled : What → Option Pair
+settled (Settled child job verdict) = Some (child, job)
+settled _ = None
+
+-- ---- what a line makes due
+
+-- nothing, the child's end, or the verdict of an open job
+abbrev pub GotDue : List Entry → ℕ → List What → Type 0
+GotDue past child due =
+    (due ≡ []) ⊎ ((why : Why) × (due ≡ ending past child why)) ⊎ ((j : ℕ) × (v : Verdict) × (is_open past child j ≡ true) × (due ≡ Settled child j v ∷ []))
+
+heard_due : (o : Opening) (past : List Entry) (child j : ℕ) (m : RemoteMessage) → is_open past child j ≡ true → (h : Hearing)
+    → GotDue past child (after_hearing o past child j m h)
+heard_due o past child j m opened Aside = inl refl
+heard_due o past child j m opened Part = inl refl
+heard_due o past child j m opened (Settles f) = inr (inr (j, verdict_at f (length past), opened, refl))
+heard_due o past child j m opened Strange = inr (inl (Foul (length past), refl))
+
+line_due : (o : Opening) (past : List Entry) (child : ℕ) (job : Option ℕ) (m : Option RemoteMessage) → GotDue past child (after_line o past child job m)
+line_due o past child job None = inr (inl (Foul (length past), refl))
+line_due o past child None (Some m) = inr (inl (Foul (length past), refl))
+line_due o past child (Some j) (Some m) = by_open (is_open past child j) refl
+  where
+    by_open : (b : Bool) → is_open past child j ≡ b
+        → GotDue past child (cond b (after_hearing o past child j m (hearing_of (request_in (part past child j)) (said (part past child j) ++ Some m ∷ []))) (ending past child (Foul (length past))))
+    by_open true opened = heard_due o past child j m opened (hearing_of (request_in (part past child j)) (said (part past child j) ++ Some m ∷ []))
+    by_open false opened = inr (inl (Foul (length past), refl))
+
+pub got_due : (o : Opening) (past : List Entry) (child : ℕ) (line : List ℕ) → GotDue past child (due_by_got o past child line)
+got_due o past child line = by_speech (has_spoken past child)
+  where
+    by_speech : (b : Bool)
+        → GotDue past child (cond (not b) (cond (is_version_one (remote_reading line)) [] (ending past child (VersionFault (length past))))
+        (after_line o past child (addressed past child line).0 (remote_reading (addressed past child line).1)))
+    by_speech true = line_due o past child (addressed past child line).0 (remote_reading (addressed past child line).1)
+    by_speech false = by_version (is_version_one (remote_reading line))
+      where
+        by_version : (b : Bool) → GotDue past child (cond b [] (ending past child (VersionFault (length past))))
+        by_version true = inl refl
+        by_version false = inr (inl (VersionFault (length past), refl))
+
+-- ---- what is due names nobody but by an end or a verdict
+
+verdicts_name : {X : Type 0} (f : What → Option X) → ((c j : ℕ) (v : Verdict) → f (Settled c j v) ≡ None)
+    → (by child : ℕ) (v : Verdict) (ks : List ℕ) → each_of f (settled_all by child v ks) ≡ []
+verdicts_name f none by child v [] = refl
+verdicts_name f none by child v (k ∷ ks) = rw (none child k v) (verdicts_name f none by child v ks)
+
+due_names : {X : Type 0} (f : What → Option X) → ((c j : ℕ) (v : Verdict) → f (Settled c j v) ≡ None) → ((c : ℕ) (why : Why) → f (End c why) ≡ None)
+    → (o : Opening) (past : List Entry) (by : ℕ) (w : What) → each_of f (due_after o past (entry by w)) ≡ []
+due_names f verdict end o past by (End child why) = verdicts_name f verdict by child (Ended why) (open_jobs past child)
+due_names f verdict end o past by (Mute child) = by_life (is_live past child)
+  where
+    by_life : (b : Bool) → each_of f (made_by by (cond b (map (λ (k : ℕ). Settled child k Unsent) (filter (is_unsent past child) (open_jobs past child))) [])) ≡ []
+    by_life true = verdicts_name f verdict by child Unsent (filter (is_unsent past child) (open_jobs past child))
+    by_life false = refl
+due_names f verdict end o past by (Got child line) = by_due (due_by_got o past child line) (got_due o past child line)
+  where
+    by_due : (due : List What) → GotDue past child due → each_of f (made_by by due) ≡ []
+    by_due due (inl e) = rw e refl
+    by_due due (inr (inl e)) = rw (e.1, end child e.0) (verdicts_name f verdict by child (Ended e.0) (open_jobs past child))
+    by_due due (inr (inr e)) = rw (e.3, verdict child e.0 e.1) refl
+due_names f verdict end o past by w = refl
+
+-- ---- at most as many of one kind as of another
+
+grow_none : {X : Type 0} (eq : X → X → Bool) (f g : What → Option X) (past group : List Entry) → each_of f group ≡ []
+    → AtMost eq (each_of f past) (each_of g past) → AtMost eq (each_of f (past ++ group)) (each_of g (past ++ group))
+grow_none eq f g past group none h =
+    let fs = each_of-append f past group ∙ ap (λ (xs : List _). each_of f past ++ xs) none in
+    let gs = each_of-append g past group in
+    rw (fs, gs) (more_none eq (each_of f past) (each_of g past) (each_of g group) h)
+
+grow_one : {X : Type 0} (eq : X → X → Bool) → IsSame eq → (f g : What → Option X) (past group : List Entry) (x : X) → each_of f group ≡ x ∷ []
+    → many eq x (each_of f past) ≡ 0 → 1 ≤ many eq x (each_of g past)
+    → AtMost eq (each_of f past) (each_of g past) → AtMost eq (each_of f (past ++ group)) (each_of g (past ++ group))
+grow_one eq is f g past group x single none some h =
+    let fs = each_of-append f past group ∙ ap (λ (xs : List _). each_of f past ++ xs) single in
+    let gs = each_of-append g past group in
+    rw (fs, gs) (more_one eq is (each_of f past) (each_of g past) (each_of g group) x h (omega (arith, none, some)))
+
+not_true : (b : Bool) → not b ≡ true → b ≡ false
+not_true false h = refl
+not_true true h = absurd cc
+
+-- ---- claims and answers
+
+claims_is : (t : ℕ) (w : What) → claims t w ≡ holds same_nat t (claimed w)
+claims_is t (Claim task child) = refl
+claims_is t w = refl
+
+answers_is : (t : ℕ) (w : What) → answers t w ≡ holds same_nat t (answered w)
+answers_is t (Answered task answer) = refl
+answers_is t w = refl
+
+found : (p : ℕ → Bool) (t : ℕ) (xs : List ℕ) → is_number t (find p xs) ≡ true → (p t ≡ true) × (1 ≤ many same_nat t xs)
+found p t [] h = absurd cc
+found p t (x ∷ xs) h = go (p x) refl h (found p t xs)
+  where
+    all : many same_nat t (x ∷ xs) ≡ one (x == t) + many same_nat t xs
+    all = many-cons same_nat t x xs
+
+    go : (b : Bool) → p x ≡ b → is_number t (cond b (Some x) (find p xs)) ≡ true → (is_number t (find p xs) ≡ true → (p t ≡ true) × (1 ≤ many same_nat t xs))
+        → (p t ≡ true) × (1 ≤ many same_nat t (x ∷ xs))
+    go true e h r =
+        let i : one (x == t) ≡ 1 = ap one h in
+        (subst (λ (y : ℕ). p y ≡ true) (same_number x t h) e, omega (arith, all, i))
+    go false e h r =
+        let s : 1 ≤ many same_nat t xs = (r h).1 in
+        ((r h).0, omega (arith, all, s))
+
+abbrev Claims : Opening → List Entry → Type 0
+Claims o past = AtMost same_nat (each_of claimed past) (numbers_of o)
+
+claims_kept : (o : Opening) (past group : List Entry) → each_of claimed group ≡ [] → Claims o past → Claims o (past ++ group)
+claims_kept o past group none h = rw (each_of-append claimed past group, none, append-nil (each_of claimed past)) h
+
+claims_step : (o : Opening) (past : List Entry) (by : ℕ) (w : What) → Claims o past → may_come o past by w ≡ true
+    → Claims o (past ++ entry by w ∷ due_after o past (entry by w))
+claims_step o past by (Claim task child) h may =
+    let group = entry by (Claim task child) ∷ [] in
+    let free = found (is_free o past) task (numbers_of o) (both _ _ may).0 in
+    let fresh : is_claimed past task ≡ false = not_true (is_claimed past task) (both _ _ free.0).0 in
+    let none = named_none same_nat claimed (claims task) task (claims_is task) past fresh in
+    let some : 1 ≤ many same_nat task (numbers_of o) = free.1 in
+    let a = more_one same_nat nat_is_same (each_of claimed past) (numbers_of o) [] task h (omega (arith, none, some)) in
+    let b : AtMost same_nat (each_of claimed past ++ task ∷ []) (numbers_of o) =
+    subst (λ (xs : List ℕ). AtMost same_nat (each_of claimed past ++ task ∷ []) xs) (append-nil (numbers_of o)) a in
+    rw (each_of-append claimed past group) b
+claims_step o past by w h may =
+    claims_kept o past (entry by w ∷ due_after o past (entry by w)) (due_names claimed (λ c j v. refl) (λ c why. refl) o past by w) h
+
+answers_step : (o : Opening) (past : List Entry) (by : ℕ) (w : What) → AtMost same_nat (each_of answered past) (each_of claimed past) → may_come o past by w ≡ true
+    → AtMost same_nat (each_of answered (past ++ entry by w ∷ due_after o past (entry by w))) (each_of claimed (past ++ entry by w ∷ due_after o past (entry by w)))
+answers_step o past by (Answered task answer) h may =
+    let busy = both _ _ (both _ _ (both _ _ may).0).1 in
+    let none = named_none same_nat answered (answers task) task (answers_is task) past (not_true _ busy.1) in
+    let some = named_some same_nat claimed (claims task) task (claims_is task) past busy.0 in
+    grow_one same_nat nat_is_same answered claimed past (entry by (Answered task answer) ∷ []) task refl none some h
+answers_step o past by w h may =
+    grow_none same_nat answered claimed past (entry by w ∷ due_after o past (entry by w)) (due_names answered (λ c j v. refl) (λ c why. refl) o past by w) h
+
+-- ---- starts, mutes and ends
+
+starts_is : (c : ℕ) (w : What) → starts c w ≡ holds same_nat c (started w)
+starts_is c (Start child slot offer) = refl
+starts_is c w = refl
+
+ends_is : (c : ℕ) (w : What) → ends c w ≡ holds same_nat c (ended w)
+ends_is c (End child why) = refl
+ends_is c w = refl
+
+mutes_is : (c : ℕ) (w : What) → mutes c w ≡ holds same_nat c (muted w)
+mutes_is c (Mute child) = refl
+mutes_is c w = refl
+
+mutes_step : (o : Opening) (past : List Entry) (by : ℕ) (w : What) → AtMost same_nat (each_of muted past) (each_of started past) → may_come o past by w ≡ true
+    → AtMost same_nat (each_of muted (past ++ entry by w ∷ due_after o past (entry by w))) (each_of started (past ++ entry by w ∷ due_after o past (entry by w)))
+mutes_step o past by (Mute child) h may =
+    let t = both (is_started past child) (not (is_mute past child)) may in
+    let none = named_none same_nat muted (mutes child) child (mutes_is child) past (not_true _ t.1) in
+    let some = named_some same_nat started (starts child) child (starts_is child) past t.0 in
+    let due = due_names muted (λ c j v. refl) (λ c why. refl) o past by (Mute child) in
+    grow_one same_nat nat_is_same muted started past (entry by (Mute child) ∷ due_after o past (entry by (Mute child))) child (ap (λ (xs : List ℕ). child ∷ xs) due) none some h
+mutes_step o past by w h may =
+    grow_none same_nat muted started past (entry by w ∷ due_after o past (entry by w)) (due_names muted (λ c j v. refl) (λ c why. refl) o past by w) h
+
+abbrev Ends : List Entry → Type 0
+Ends past = AtMost same_nat (each_of ended past) (each_of started past)
+
+-- a live child may end
+end_grow : (past group : List Entry) (child : ℕ) → each_of ended group ≡ child ∷ [] → is_live past child ≡ true → Ends past → Ends (past ++ group)
+end_grow past group child single live h =
+    let t = both (is_started past child) (not (is_ended past child)) live in
+    let none = named_none same_nat ended (ends child) child (ends_is child) past (not_true _ t.1) in
+    let some = named_some same_nat started (starts child) child (starts_is child) past t.0 in
+    grow_one same_nat nat_is_same ended started past group child single none some h
+
+verdicts_end : (by child : ℕ) (v : Verdict) (ks : List ℕ) → each_of ended (settled_all by child v ks) ≡ []
+verdicts_end by child v ks = verdicts_name ended (λ c j v. refl) by child v ks
+
+ends_step : (o : Opening) (past : List Entry) (by : ℕ) (w : What) → Ends past → may_come o past by w ≡ true
+    → Ends (past ++ entry by w ∷ due_after o past (entry by w))
+ends_step o past by (End child why) h may =
+    end_grow past (entry by (End child why) ∷ due_after o past (entry by (End child why))) child
+    (ap (λ (xs : List ℕ). child ∷ xs) (verdicts_end by child (Ended why) (open_jobs past child))) (both (is_live past child) (may_stop past child why) may).0 h
+ends_step o past by (Mute child) h may = by_life (is_live past child)
+  where
+    by_life : (b : Bool)
+        → Ends (past ++ entry by (Mute child) ∷ made_by by (cond b (map (λ (k : ℕ). Settled child k Unsent) (filter (is_unsent past child) (open_jobs past child))) []))
+    by_life true =
+        let ks = filter (is_unsent past child) (open_jobs past child) in
+        grow_none same_nat ended started past (entry by (Mute child) ∷ settled_all by child Unsent ks) (verdicts_end by child Unsent ks) h
+    by_life false = grow_none same_nat ended started past (entry by (Mute child) ∷ []) refl h
+ends_step o past by (Got child line) h may = by_due (due_by_got o past child line) (got_due o past child line)
+  where
+    by_due : (due : List What) → GotDue past child due → Ends (past ++ entry by (Got child line) ∷ made_by by due)
+    by_due due (inl e) = subst (λ (ws : List What). Ends (past ++ entry by (Got child line) ∷ made_by by ws)) (sym e) (grow_none same_nat ended started past (entry by (Got child line) ∷ []) refl h)
+    by_due due (inr (inl e)) =
+        subst (λ (ws : List What). Ends (past ++ entry by (Got child line) ∷ made_by by ws)) (sym e.1)
+        (end_grow past (entry by (Got child line) ∷ entry by (End child e.0) ∷ settled_all by child (Ended e.0) (open_jobs past child)) child
+        (ap (λ (xs : List ℕ). child ∷ xs) (verdicts_end by child (Ended e.0) (open_jobs past child))) (both (is_live past child) _ may).0 h)
+    by_due due (inr (inr e)) =
+        subst (λ (ws : List What). Ends (past ++ entry by (Got child line) ∷ made_by by ws)) (sym e.3)
+        (grow_none same_nat ended started past (entry by (Got child line) ∷ entry by (Settled child e.0 e.1) ∷ []) refl h)
+ends_step o past by w h may = grow_none same_nat ended started past (entry by w ∷ []) refl h
+
+-- ---- what is written and sent
+
+sends_is : (c : ℕ) (w : What) → sends c w ≡ holds same_nat c (sent w)
+sends_is c (Sent child) = refl
+sends_is c w = refl
+
+writes_is : (c : ℕ) (w : What) → is_there same_nat (writes c w) ≡ holds same_nat c (written w)
+writes_is c (Ask child job task line) = go (child == c)
+  where
+    go : (b : Bool) → is_there same_nat {Y = Option ℕ × List ℕ} (cond b (Some (Some job, line)) None) ≡ b
+    go true = refl
+    go false = refl
+writes_is c (Put child job line) = go (child == c)
+  where
+    go : (b : Bool) → is_there same_nat {Y = Option ℕ × List ℕ} (cond b (Some (None, line)) None) ≡ b
+    go true = refl
+    go false = refl
+writes_is c w = refl
+
+some_left : {X : Type 0} (xs : List X) → not (is_empty xs) ≡ true → 1 ≤ length xs
+some_left [] h = absurd cc
+some_left (x ∷ xs) h = omega arith
+
+sents_step : (o : Opening) (past : List Entry) (by : ℕ) (w : What) → AtMost same_nat (each_of sent past) (each_of written past) → may_come o past by w ≡ true
+    → AtMost same_nat (each_of sent (past ++ entry by w ∷ due_after o past (entry by w))) (each_of written (past ++ entry by w ∷ due_after o past (entry by w)))
+sents_step o past by (Sent child) h may =
+    let sends_many = named_count same_nat sent (sends child) child (sends_is child) past in
+    let counted = length-filter (λ (e : Entry). sends child e.what) past in
+    let writes_many = named_length same_nat written (writes child) child (writes_is child) past in
+    let left = some_left (unsent past child) may in
+    let dropped = length-drop (length (filter (λ (e : Entry). sends child e.what) past)) (each_of (writes child) past) in
+    let room : many same_nat child (each_of sent past) + 1 ≤ many same_nat child (each_of written past) = omega (arith, sends_many, counted, writes_many, left, dropped) in
+    rw (each_of-append sent past (entry by (Sent child) ∷ []), each_of-append written past (entry by (Sent child) ∷ []))
+    (more_one same_nat nat_is_same (each_of sent past) (each_of written past) [] child h room)
+sents_step o past by w h may =
+    grow_none same_nat sent written past (entry by w ∷ due_after o past (entry by w)) (due_names sent (λ c j v. refl) (λ c why. refl) o past by w) h
+
+-- ---- verdicts
+
+settles_is : (p : Pair) (w : What) → settles p.0 p.1 w ≡ holds same_pair p (settled w)
+settles_is p (Settled child job verdict) = refl
+settles_is p w = refl
+
+-- the jobs of child
+abbrev pairs : ℕ → List ℕ → List Pair
+pairs child ks = map (λ k. (child, k)) ks
+
+verdicts_settle : (by child : ℕ) (v : Verdict) (ks : List ℕ) → each_of settled (settled_all by child v ks) ≡ pairs child ks
+verdicts_settle by child v [] = refl
+verdicts_settle by child v (k ∷ ks) = ap (λ (xs : List Pair). (child, k) ∷ xs) (verdicts_settle by child v ks)
+
+pairs_other : (child : ℕ) (p : Pair) (ks : List ℕ) → (child == p.0) ≡ false → many same_pair p (pairs child ks) ≡ 0
+pairs_other child p [] e = refl
+pairs_other child p (k ∷ ks) e =
+    let a = many-cons same_pair p (child, k) (pairs child ks) in
+    let b : one (child == p.0 && k == p.1) ≡ 0 = ap (λ (x : Bool). one (x && k == p.1)) e in
+    let r = pairs_other child p ks e in
+    omega (arith, a, b, r)
+
+pairs_same : (child : ℕ) (p : Pair) (ks : List ℕ) → (child == p.0) ≡ true → many same_pair p (pairs child ks) ≡ many same_nat p.1 ks
+pairs_same child p [] e = refl
+pairs_same child p (k ∷ ks) e =
+    let a = many-cons same_pair p (child, k) (pairs child ks) in
+    let b : one (child == p.0 && k == p.1) ≡ one (k == p.1) = ap (λ (x : Bool). one (x && k == p.1)) e in
+    let c = many-cons same_nat p.1 k ks in
+    let r = pairs_same child p ks e in
+    omega (arith, a, b, c, r)
+
+asked_many : (p : Pair) (past : List Entry) → many same_pair p (each_of asked past) ≡ many same_nat p.1 (asked_jobs past p.0)
+asked_many p [] = refl
+asked_many p (e ∷ past) = step e.what (asked_many p past)
+  where
+    step : (w : What) → many same_pair p (each_of asked past) ≡ many same_nat p.1 (asked_jobs past p.0)
+        → many same_pair p (cons_option (asked w) (each_of asked past)) ≡ many same_nat p.1 (cons_option (asks p.0 w) (asked_jobs past p.0))
+    step (Ask child job task line) r = go (child == p.0) refl
+      where
+        a : many same_pair p ((child, job) ∷ each_of asked past) ≡ one (child == p.0 && job == p.1) + many same_pair p (each_of asked past)
+        a = many-cons same_pair p (child, job) (each_of asked past)
+
+        go : (b : Bool) → (child == p.0) ≡ b
+            → many same_pair p ((child, job) ∷ each_of asked past) ≡ many same_nat p.1 (cons_option (cond b (Some job) None) (asked_jobs past p.0))
+        go true e =
+            let b : one (child == p.0 && job == p.1) ≡ one (job == p.1) = ap (λ (x : Bool). one (x && job == p.1)) e in
+            let c = many-cons same_nat p.1 job (asked_jobs past p.0) in
+            omega (arith, a, b, c, r)
+        go false e =
+            let b : one (child == p.0 && job == p.1) ≡ 0 = ap (λ (x : Bool). one (x && job == p.1)) e in
+            omega (arith, a, b, r)
+    step w r = r
+
+abbrev Verdicts : List Entry → Type 0
+Verdicts past = AtMost same_pair (each_of settled past) (each_of asked past)
+
+-- verdicts of open jobs of child
+verdicts_grow : (past group : List Entry) (child : ℕ) (ks : List ℕ) → each_of settled group ≡ pairs child ks
+    → AtMost same_nat ks (open_jobs past child) → Verdicts past → Verdicts (past ++ group)
+verdicts_grow past group child ks named among h p =
+    let a = ap (many same_pair p) (each_of-append settled past group ∙ ap (λ (xs : List Pair). each_of settled past ++ xs) named)
+    ∙ many-append same_pair p (each_of settled past) (pairs child ks) in
+    let b = ap (many same_pair p) (each_of-append asked past group) ∙ many-append same_pair p (each_of asked past) (each_of asked group) in
+    let before : many same_pair p (each_of settled past) ≤ many same_pair p (each_of asked past) = h p in
+    go (child == p.0) refl a b before
+  where
+    go : (x : Bool) → (child == p.0) ≡ x
+        → many same_pair p (each_of settled (past ++ group)) ≡ many same_pair p (each_of settled past) + many same_pair p (pairs child ks)
+        → many same_pair p (each_of asked (past ++ group)) ≡ many same_pair p (each_of asked past) + many same_pair p (each_of asked group)
+        → many same_pair p (each_of settled past) ≤ many same_pair p (each_of asked past)
+        → many same_pair p (each_of settled (past ++ group)) ≤ many same_pair p (each_of asked (past ++ group))
+    go false e a b before = let c = pairs_other child p ks e in omega (arith, a, b, c, before)
+    go true e a b before = by_job (is_settled past p.0 p.1) refl
+      where
+        c : many same_pair p (pairs child ks) ≡ many same_nat p.1 ks
+        c = pairs_same child p ks e
+
+        d : many same_nat p.1 ks ≤ many same_nat p.1 (open_jobs past p.0)
+        d = subst (λ (x : ℕ). many same_nat p.1 ks ≤ many same_nat p.1 (open_jobs past x)) (same_number child p.0 e) (among p.1)
+
+        by_job : (s : Bool) → is_settled past p.0 p.1 ≡ s → many same_pair p (each_of settled (past ++ group)) ≤ many same_pair p (each_of asked (past ++ group))
+        by_job true s =
+            let shut : many same_nat p.1 (open_jobs past p.0) ≡ 0 = filter_drops (λ (j : ℕ). not (is_settled past p.0 j)) p.1 (asked_jobs past p.0) (ap not s) in
+            omega (arith, a, b, c, d, shut, before)
+        by_job false s =
+            let none = named_none same_pair settled (settles p.0 p.1) p (settles_is p) past s in
+            let opened : many same_nat p.1 (open_jobs past p.0) ≤ many same_nat p.1 (asked_jobs past p.0) = filter_at_most (λ (j : ℕ). not (is_settled past p.0 j)) p.1 (asked_jobs past p.0) in
+            let all = asked_many p past in
+            omega (arith, a, b, c, d, none, opened, all)
+
+any_many : (j : ℕ) (ks : List ℕ) → list_any (λ k. k == j) ks ≡ true → 1 ≤ many same_nat j ks
+any_many j [] h = absurd cc
+any_many j (k ∷ ks) h = go (k == j) refl h (any_many j ks)
+  where
+    a : many same_nat j (k ∷ ks) ≡ one (k == j) + many same_nat j ks
+    a = many-cons same_nat j k ks
+
+    go : (b : Bool) → (k == j) ≡ b → (b || list_any (λ k. k == j) ks) ≡ true → (list_any (λ k. k == j) ks ≡ true → 1 ≤ many same_nat j ks) → 1 ≤ many same_nat j (k ∷ ks)
+    go true e h r = let i : one (k == j) ≡ 1 = ap one e in omega (arith, a, i)
+    go false e h r = let s : 1 ≤ many same_nat j ks = r h in omega (arith, a, s)
+
+one_open : (past : List Entry) (child j : ℕ) → is_open past child j ≡ true → AtMost same_nat (j ∷ []) (open_jobs past child)
+one_open past child j opened k = go (j == k) refl
+  where
+    single : many same_nat k (j ∷ []) ≡ one (j == k) + many same_nat k []
+    single = many-cons same_nat k j []
+
+    go : (b : Bool) → (j == k) ≡ b → many same_nat k (j ∷ []) ≤ many same_nat k (open_jobs past child)
+    go true e =
+        let i : one (j == k) ≡ 1 = ap one e in
+        let here : 1 ≤ many same_nat k (open_jobs past child) =
+        subst (λ (x : ℕ). 1 ≤ many same_nat x (open_jobs past child)) (same_number j k e) (any_many j (open_jobs past child) opened) in
+        omega (arith, single, i, here)
+    go false e = let i : one (j == k) ≡ 0 = ap one e in omega (arith, single, i)
+
+verdicts_step : (o : Opening) (past : List Entry) (by : ℕ) (w : What) → Verdicts past → may_come o past by w ≡ true
+    → Verdicts (past ++ entry by w ∷ due_after o past (entry by w))
+verdicts_step o past by (End child why) h may =
+    verdicts_grow past (entry by (End child why) ∷ due_after o past (entry by (End child why))) child (open_jobs past child)
+    (verdicts_settle by child (Ended why) (open_jobs past child)) (λ k. omega arith) h
+verdicts_step o past by (Mute child) h may = by_life (is_live past child)
+  where
+    by_life : (b : Bool)
+        → Verdicts (past ++ entry by (Mute child) ∷ made_by by (cond b (map (λ (k : ℕ). Settled child k Unsent) (filter (is_unsent past child) (open_jobs past child))) []))
+    by_life true =
+        let ks = filter (is_unsent past child) (open_jobs past child) in
+        verdicts_grow past (entry by (Mute child) ∷ settled_all by child Unsent ks) child ks (verdicts_settle by child Unsent ks)
+        (λ k. filter_at_most (is_unsent past child) k (open_jobs past child)) h
+    by_life false = grow_none same_pair settled asked past (entry by (Mute child) ∷ []) refl h
+verdicts_step o past by (Got child line) h may = by_due (due_by_got o past child line) (got_due o past child line)
+  where
+    by_due : (due : List What) → GotDue past child due → Verdicts (past ++ entry by (Got child line) ∷ made_by by due)
+    by_due due (inl e) =
+        subst (λ (ws : List What). Verdicts (past ++ entry by (Got child line) ∷ made_by by ws)) (sym e) (grow_none same_pair settled asked past (entry by (Got child line) ∷ []) refl h)
+    by_due due (inr (inl e)) =
+        subst (λ (ws : List What). Verdicts (past ++ entry by (Got child line) ∷ made_by by ws)) (sym e.1)
+        (verdicts_grow past (entry by (Got child line) ∷ entry by (End child e.0) ∷ settled_all by child (Ended e.0) (open_jobs past child)) child (open_jobs past child)
+        (verdicts_settle by child (Ended e.0) (open_jobs past child)) (λ k. omega arith) h)
+    by_due due (inr (inr e)) =
+        subst (λ (ws : List What). Verdicts (past ++ entry by (Got child line) ∷ made_by by ws)) (sym e.3)
+        (verdicts_grow past (entry by (Got child line) ∷ entry by (Settled child e.0 e.1) ∷ []) child (e.0 ∷ []) refl (one_open past child e.0 e.2) h)
+verdicts_step o past by (Settled child job verdict) h may = absurd cc
+verdicts_step o past by w h may = grow_none same_pair settled asked past (entry by w ∷ []) refl h
+
+-- ---- the sum
+
+abbrev size : {X : Type 0} → (What → Option X) → List Entry → ℕ
+size f journal = length (each_of f journal)
+
+-- each entry is counted by its kind
+balance : (journal : List Entry) → length journal + 2 * size started journal + size asked journal + size written journal
+    ≡ sum_by (λ e. room_for e.what) journal + size claimed journal + size answered journal + size ended journal + size muted journal + size sent journal + size settled journal
+balance [] = refl
+balance (e ∷ past) = step e.what (sum_by-cons (λ (d : Entry). room_for d.what) e past) (balance past)
+  where
+    total : ℕ
+    total = sum_by (λ (d : Entry). room_for d.what) (e ∷ past)
+
+    step : (w : What) → total ≡ room_for w + sum_by (λ d. room_for d.what) past
+        → length past + 2 * size started past + size asked past + size written past
+        ≡ sum_by (λ d. room_for d.what) past + size claimed past + size answered past + size ended past + size muted past + size sent past + size settled past
+        → suc (length past) + 2 * length (cons_option (started w) (each_of started past)) + length (cons_option (asked w) (each_of asked past)) + length (cons_option (written w) (each_of written past))
+        ≡ total + length (cons_option (claimed w) (each_of claimed past)) + length (cons_option (answered w) (each_of answered past)) + length (cons_option (ended w) (each_of ended past))
+        + length (cons_option (muted w) (each_of muted past)) + length (cons_option (sent w) (each_of sent past)) + length (cons_option (settled w) (each_of settled past))
+    step (Claim task child) s r = omega (arith, s, r)
+    step (Start child slot offer) s r = omega (arith, s, r)
+    step (NoStart slot) s r = omega (arith, s, r)
+    step (Ask child job task line) s r = omega (arith, s, r)
+    step (Put child job line) s r = omega (arith, s, r)
+    step (Sent child) s r = omega (arith, s, r)
+    step (Mute child) s r = omega (arith, s, r)
+    step (Got child line) s r = omega (arith, s, r)
+    step (End child why) s r = omega (arith, s, r)
+    step (Settled child job verdict) s r = omega (arith, s, r)
+    step (Lost child task) s r = omega (arith, s, r)
+    step (Answered task answer) s r = omega (arith, s, r)
+
+record Inv (o : Opening) (past : List Entry) : Type 0 where
+  claims : Claims o past
+  answers : AtMost same_nat (each_of answered past) (each_of claimed past)
+  ends : Ends past
+  mutes : AtMost same_nat (each_of muted past) (each_of started past)
+  sents : AtMost same_nat (each_of sent past) (each_of written past)
+  verdicts : Verdicts past
+
+invariant : (o : Opening) (journal : List Entry) → Legal o journal → Inv o journal
+invariant o journal legal =
+    Legal-induction o (Inv o)
+    (record { claims = λ k. omega arith; answers = λ k. omega arith; ends = λ k. omega arith; mutes = λ k. omega arith; sents = λ k. omega arith; verdicts = λ k. omega arith })
+    (λ p e l inv may. record {
+      claims = claims_step o p e.by e.what inv.claims may;
+      answers = answers_step o p e.by e.what inv.answers may;
+      ends = ends_step o p e.by e.what inv.ends may;
+      mutes = mutes_step o p e.by e.what inv.mutes may;
+      sents = sents_step o p e.by e.what inv.sents may;
+      verdicts = verdicts_step o p e.by e.what inv.verdicts may;
+    }) journal legal
+
+pub room_suffices : (o : Opening) (journal : List Entry) → Legal o journal → length journal ≤ room_of o journal
+room_suffices o journal legal =
+    let inv = invariant o journal legal in
+    let tasks = length-range_with_len 1 (length o.tasks) in
+    let claims = AtMost-length same_nat nat_is_same (each_of claimed journal) (numbers_of o) inv.claims in
+    let answers = AtMost-length same_nat nat_is_same (each_of answered journal) (each_of claimed journal) inv.answers in
+    let ends = AtMost-length same_nat nat_is_same (each_of ended journal) (each_of started journal) inv.ends in
+    let mutes = AtMost-length same_nat nat_is_same (each_of muted journal) (each_of started journal) inv.mutes in
+    let sents = AtMost-length same_nat nat_is_same (each_of sent journal) (each_of written journal) inv.sents in
+    let verdicts = AtMost-length same_pair pair_is_same (each_of settled journal) (each_of asked journal) inv.verdicts in
+    let all = balance journal in
+    omega (arith, tasks, claims, answers, ends, mutes, sents, verdicts, all)
+
+-- ---- what a group adds to the room
+
+abbrev rooms : List Entry → ℕ
+rooms past = sum_by (λ e. room_for e.what) past
+
+rooms-cons : (e : Entry) (past : List Entry) → rooms (e ∷ past) ≡ room_for e.what + rooms past
+rooms-cons e past = sum_by-cons (λ (d : Entry). room_for d.what) e past
+
+verdicts_room : (by child : ℕ) (v : Verdict) (ks : List ℕ) → rooms (settled_all by child v ks) ≡ 0
+verdicts_room by child v [] = refl
+verdicts_room by child v (k ∷ ks) =
+    let first = rooms-cons (entry by (Settled child k v)) (settled_all by child v ks) in
+    let rest = verdicts_room by child v ks in
+    omega (arith, first, rest)
+
+due_room : (o : Opening) (past : List Entry) (by : ℕ) (w : What) → rooms (due_after o past (entry by w)) ≡ 0
+due_room o past by (End child why) = verdicts_room by child (Ended why) (open_jobs past child)
+due_room o past by (Mute child) = by_life (is_live past child)
+  where
+    by_life : (b : Bool) → rooms (made_by by (cond b (map (λ (k : ℕ). Settled child k Unsent) (filter (is_unsent past child) (open_jobs past child))) [])) ≡ 0
+    by_life true = verdicts_room by child Unsent (filter (is_unsent past child) (open_jobs past child))
+    by_life false = refl
+due_room o past by (Got child line) = by_due (due_by_got o past child line) (got_due o past child line)
+  where
+    by_due : (due : List What) → GotDue past child due → rooms (made_by by due) ≡ 0
+    by_due due (inl e) = rw e refl
+    by_due due (inr (inl e)) =
+        let first = rooms-cons (entry by (End child e.0)) (settled_all by child (Ended e.0) (open_jobs past child)) in
+        let rest = verdicts_room by child (Ended e.0) (open_jobs past child) in
+        rw e.1 (omega (arith, first, rest))
+    by_due due (inr (inr e)) = rw e.3 refl
+due_room o past by w = refl
+
+-- a group adds what its first entry takes
+pub room_grows : (o : Opening) (past : List Entry) (e : Entry) → room_of o (past ++ e ∷ due_after o past e) ≡ room_of o past + room_for e.what
+room_grows o past e =
+    let both_rooms = sum_by-append (λ (d : Entry). room_for d.what) past (e ∷ due_after o past e) in
+    let first = rooms-cons e (due_after o past e) in
+    let due = due_room o past e.by e.what in
+    omega (arith, both_rooms, first, due)

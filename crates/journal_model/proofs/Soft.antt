@@ -1,0 +1,114 @@
+-- A stretch of verdicts, and of an end by a line, leaves a child's lines and writings as they were.
+use Rattle.std.proofs.Common.{◌≡◌, ℕ, List, [], ◌∷◌, refl, sym, subst, ◌∙◌, Bool, true, false, not, cond, Some, None, Option, length}
+use Rattle.std.specs.Prelude.{◌==◌, map, filter, option_and_then, find}
+use Rattle.std.specs.List.{list_all}
+use Rattle.annex_model.specs.declared.verdict.Why.{Why}
+use Rattle.annex_model.specs.declared.verdict.Why.TheVariants.{Foul, Version as VersionFault}
+use Rattle.annex_model.specs.declared.verdict.Verdict.{Verdict}
+use Rattle.annex_model.specs.declared.verdict.Verdict.TheVariants.{Ended, Unsent}
+use Rattle.annex_model.specs.Messages.{RemoteMessage, remote_reading}
+use Rattle.journal_model.specs.declared.entry.What.{What}
+use Rattle.journal_model.specs.declared.entry.What.TheVariants.{Mute, End, Verdict as Settled}
+use Rattle.journal_model.specs.declared.entry.Entry.{Entry}
+use Rattle.journal_model.specs.declared.opening.Opening.{Opening}
+use Rattle.journal_model.specs.Journal.{any, each_of, writes, sends, mutes, ends, end_why, why_of, got_lines, has_spoken, open_jobs, is_open, is_live, is_unsent, addressed}
+use Rattle.journal_model.specs.Parts.{part}
+use Rattle.journal_model.specs.Due.{Hearing, Aside, Part, Settles, Strange, hearing, ending, foul, due_by, due_by_got, after_hearing, after_message, after_line, is_version_one, made_by}
+use Rattle.journal_model.proofs.Looks.{both}
+
+-- a line was due to end the child
+abbrev pub is_soft_why : Why → Bool
+is_soft_why (Foul at) = true
+is_soft_why (VersionFault at) = true
+is_soft_why _ = false
+
+abbrev pub is_soft : What → Bool
+is_soft (Settled child job verdict) = true
+is_soft (End child why) = is_soft_why why
+is_soft _ = false
+
+-- ---- what is due is soft, but for an end that the entry itself is
+
+pub soft_verdicts : (c : ℕ) (v : Verdict) (jobs : List ℕ) → list_all is_soft (map (λ j. Settled c j v) jobs) ≡ true
+soft_verdicts c v [] = refl
+soft_verdicts c v (j ∷ jobs) = soft_verdicts c v jobs
+
+soft_ending : (past : List Entry) (c : ℕ) (why : Why) → is_soft_why why ≡ true → list_all is_soft (ending past c why) ≡ true
+soft_ending past c why h = rw (h, soft_verdicts c (Ended why) (open_jobs past c)) refl
+
+soft_hearing : (o : Opening) (past : List Entry) (c j : ℕ) (m : RemoteMessage) (h : Hearing) → list_all is_soft (after_hearing o past c j m h) ≡ true
+soft_hearing o past c j m Aside = refl
+soft_hearing o past c j m Part = refl
+soft_hearing o past c j m (Settles f) = refl
+soft_hearing o past c j m Strange = soft_ending past c (Foul (length past)) refl
+
+soft_message : (o : Opening) (past : List Entry) (c : ℕ) (job : Option ℕ) (m : RemoteMessage) → list_all is_soft (after_message o past c job m) ≡ true
+soft_message o past c None m = soft_ending past c (Foul (length past)) refl
+soft_message o past c (Some j) m = go (is_open past c j)
+  where
+    go : (b : Bool) → list_all is_soft (cond b (after_hearing o past c j m (hearing (part past c j) m)) (foul past c)) ≡ true
+    go true = soft_hearing o past c j m (hearing (part past c j) m)
+    go false = soft_ending past c (Foul (length past)) refl
+
+soft_line : (o : Opening) (past : List Entry) (c : ℕ) (job : Option ℕ) (m : Option RemoteMessage) → list_all is_soft (after_line o past c job m) ≡ true
+soft_line o past c job None = soft_ending past c (Foul (length past)) refl
+soft_line o past c job (Some m) = soft_message o past c job m
+
+pub soft_got : (o : Opening) (past : List Entry) (c : ℕ) (line : List ℕ) → list_all is_soft (due_by_got o past c line) ≡ true
+soft_got o past c line = go (not (has_spoken past c)) (is_version_one (remote_reading line))
+  where
+    go : (b v : Bool) → list_all is_soft (cond b (cond v [] (ending past c (VersionFault (length past))))
+        (after_line o past c (addressed past c line).0 (remote_reading (addressed past c line).1))) ≡ true
+    go true true = refl
+    go true false = soft_ending past c (VersionFault (length past)) refl
+    go false v = soft_line o past c (addressed past c line).0 (remote_reading (addressed past c line).1)
+
+pub soft_mute : (o : Opening) (past : List Entry) (c : ℕ) → list_all is_soft (due_by o past (Mute c)) ≡ true
+soft_mute o past c = go (is_live past c)
+  where
+    go : (b : Bool) → list_all is_soft (cond b (map (λ j. Settled c j Unsent) (filter (is_unsent past c) (open_jobs past c))) []) ≡ true
+    go true = soft_verdicts c Unsent (filter (is_unsent past c) (open_jobs past c))
+    go false = refl
+
+-- ---- a soft stretch
+
+pub record IsSoft (c : ℕ) (more : List Entry) : Type 0 where
+  pub got : got_lines more c ≡ []
+  pub written : each_of (writes c) more ≡ []
+  pub sent : filter (λ e. sends c e.what) more ≡ []
+  pub muted : any (mutes c) more ≡ false
+  pub why : (w : Why) → why_of more c ≡ Some w → is_soft_why w ≡ true
+
+soft_end : (c by child : ℕ) (why : Why) (more : List Entry) → is_soft_why why ≡ true → IsSoft c more → IsSoft c (record { by = by; what = End child why } ∷ more)
+soft_end c by child why more s h = record {
+  got = h.got;
+  written = h.written;
+  sent = h.sent;
+  muted = h.muted;
+  why = λ w e. go (child == c) refl w e;
+}
+  where
+    go : (b : Bool) → (child == c) ≡ b → (w : Why)
+        → option_and_then (λ (e : Entry). end_why c e.what) (cond b (Some (record { by = by; what = End child why })) (find (λ (e : Entry). ends c e.what) more)) ≡ Some w
+        → is_soft_why w ≡ true
+    go false e w is = h.why w is
+    go true e w is =
+        let here : cond {A = Option Why} (child == c) (Some why) None ≡ Some why = rw e refl in
+        let same : why ≡ w = some_same why w (sym here ∙ is) in
+        subst (λ (x : Why). is_soft_why x ≡ true) same s
+      where
+        some_same : (x y : Why) → Some x ≡ Some y → x ≡ y
+        some_same x y e = cc
+
+pub soft_stretch : (c by : ℕ) (ws : List What) → list_all is_soft ws ≡ true → IsSoft c (made_by by ws)
+soft_stretch c by [] h = record { got = refl; written = refl; sent = refl; muted = refl; why = λ w e. none_some w e }
+  where
+    none_some : (w : Why) → None ≡ Some w → is_soft_why w ≡ true
+    none_some w e = absurd cc
+soft_stretch c by (Settled child job verdict ∷ ws) h =
+    let r = soft_stretch c by ws h in
+    record { got = r.got; written = r.written; sent = r.sent; muted = r.muted; why = r.why }
+soft_stretch c by (End child why ∷ ws) h =
+    let t : (is_soft_why why ≡ true) × (list_all is_soft ws ≡ true) = both (is_soft_why why) (list_all is_soft ws) h in
+    soft_end c by child why (made_by by ws) t.0 (soft_stretch c by ws t.1)
+soft_stretch c by (w ∷ ws) h = absurd cc

@@ -1,0 +1,106 @@
+-- What an entry makes due: the entries that have to stand directly behind it, made by the same number.
+use Rattle.std.specs.Prelude.{ℕ, ◌==◌, not, Bool, true, false, if◌then◌else◌, List, [], ◌∷◌, ◌++◌, length, Option, Some, None, map, filter}
+use Rattle.annex_model.specs.declared.verdict.Why.{Why}
+use Rattle.annex_model.specs.declared.verdict.Why.TheVariants.{Foul, Version as VersionFault}
+use Rattle.annex_model.specs.declared.verdict.Verdict.{Verdict}
+use Rattle.annex_model.specs.declared.verdict.Verdict.TheVariants.{Done as DoneAt, Absent as AbsentAt, Ended, Unsent}
+use Rattle.annex_model.specs.declared.verdict.Final.{Final}
+use Rattle.annex_model.specs.declared.verdict.Final.TheVariants.{Done, Absent}
+use Rattle.annex_model.specs.Messages.{RemoteMessage, Version, HostMessage, remote_reading}
+use Rattle.annex_model.specs.Talks.{Item, is_aside, final_of, awaits, said}
+use Rattle.journal_model.specs.declared.entry.What.{What}
+use Rattle.journal_model.specs.declared.entry.What.TheVariants.{Put, Mute, Got, End, Verdict as Settled}
+use Rattle.journal_model.specs.declared.entry.Entry.{Entry}
+use Rattle.journal_model.specs.declared.opening.Opening.{Opening}
+use Rattle.journal_model.specs.Journal.{open_jobs, is_open, is_live, has_spoken, is_unsent, addressed, on_wire}
+use Rattle.journal_model.specs.Parts.{part, request_in}
+
+-- ---- replies
+
+-- the lines that the message is owed, by the registers and the identity. None of the messages so far wants a reply
+abbrev pub replies : Opening → List Entry → RemoteMessage → List (List ℕ)
+replies o past m = []
+
+-- the replies that the line at this place of the journal is owed
+abbrev pub replies_at : Opening → List Entry → ℕ → List (List ℕ)
+replies_at o journal at = []
+
+-- ---- what a message is to a conversation
+
+pub data Hearing : Type 0 where
+  Aside : Hearing
+  Part : Hearing
+  Settles : Final → Hearing
+  Strange : Hearing
+
+abbrev pub by_answer : Option Final → Bool → Hearing
+by_answer (Some f) waits = Settles f
+by_answer None true = Part
+by_answer None false = Strange
+
+-- behind what the remote said, the message ends the answer, is a part of it, or can't follow
+abbrev pub hearing_of : Option HostMessage → List (Option RemoteMessage) → Hearing
+hearing_of None ms = Strange
+hearing_of (Some q) ms = by_answer (final_of q ms) (awaits q ms)
+
+abbrev pub hearing : List Item → RemoteMessage → Hearing
+hearing part m = if is_aside m then Aside else hearing_of (request_in part) (said part ++ Some m ∷ [])
+
+abbrev pub verdict_at : Final → ℕ → Verdict
+verdict_at Done at = DoneAt at
+verdict_at Absent at = AbsentAt at
+
+-- ---- behind an end, a mute and a line
+
+-- the verdicts of the jobs that c's end settles, in rising order
+abbrev pub ended_jobs : List Entry → ℕ → Why → List What
+ended_jobs past c why = map (λ j. Settled c j (Ended why)) (open_jobs past c)
+
+abbrev pub ending : List Entry → ℕ → Why → List What
+ending past c why = End c why ∷ ended_jobs past c why
+
+-- the line, which would stand next, ends its child as foul
+abbrev pub foul : List Entry → ℕ → List What
+foul past c = ending past c (Foul (length past))
+
+abbrev pub is_version_one : Option RemoteMessage → Bool
+is_version_one (Some (Version n)) = n == 1
+is_version_one _ = false
+
+abbrev pub after_hearing : Opening → List Entry → ℕ → ℕ → RemoteMessage → Hearing → List What
+after_hearing o past c j m Aside = map (λ line. Put c j (on_wire past c j line)) (replies o past m)
+after_hearing o past c j m Part = []
+after_hearing o past c j m (Settles f) = Settled c j (verdict_at f (length past)) ∷ []
+after_hearing o past c j m Strange = foul past c
+
+-- a message for a job that is open; any other ends its child
+abbrev pub after_message : Opening → List Entry → ℕ → Option ℕ → RemoteMessage → List What
+after_message o past c None m = foul past c
+after_message o past c (Some j) m =
+    if is_open past c j then after_hearing o past c j m (hearing (part past c j) m) else foul past c
+
+abbrev pub after_line : Opening → List Entry → ℕ → Option ℕ → Option RemoteMessage → List What
+after_line o past c job None = foul past c
+after_line o past c job (Some m) = after_message o past c job m
+
+-- the first line is the version; a later one goes to the job that it is for
+abbrev pub due_by_got : Opening → List Entry → ℕ → List ℕ → List What
+due_by_got o past c line =
+    if not (has_spoken past c)
+    then (if is_version_one (remote_reading line) then [] else ending past c (VersionFault (length past)))
+    else after_line o past c (addressed past c line).0 (remote_reading (addressed past c line).1)
+
+-- what the entry makes due, where past stands before it. A mute of a live child settles its open jobs that were not sent
+abbrev pub due_by : Opening → List Entry → What → List What
+due_by o past (Got c line) = due_by_got o past c line
+due_by o past (End c why) = ended_jobs past c why
+due_by o past (Mute c) =
+    if is_live past c then map (λ j. Settled c j Unsent) (filter (is_unsent past c) (open_jobs past c)) else []
+due_by o past _ = []
+
+abbrev pub made_by : ℕ → List What → List Entry
+made_by by ws = map (λ w. record { by = by; what = w }) ws
+
+-- the same as entries, made by the same number
+abbrev pub due_after : Opening → List Entry → Entry → List Entry
+due_after o past e = made_by e.by (due_by o past e.what)

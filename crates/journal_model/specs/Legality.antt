@@ -1,0 +1,260 @@
+-- Which journals are legal.
+use Rattle.std.specs.Prelude.{ℕ, ◌≡◌, ◌+◌, ◌-◌, ◌^◌, ◌==◌, ◌&&◌, ◌||◌, not, nat_lt, Bool, true, false, if◌then◌else◌, List, [], ◌∷◌, ◌++◌, length, Option, Some, None, filter, find, IsTrue, take, slice_get, bytes_eq, codes}
+use Rattle.std.specs.List.{list_any, range_with_len}
+use Rattle.task_text.specs.declared.task.Task.{Task}
+use Rattle.annex_model.specs.declared.verdict.Why.{Why}
+use Rattle.annex_model.specs.declared.verdict.Why.TheVariants.{Eof, ReadFault, LongLine, Memory, Closed}
+use Rattle.annex_model.specs.declared.verdict.Verdict.{Verdict}
+use Rattle.annex_model.specs.declared.verdict.Verdict.TheVariants.{Done as DoneAt}
+use Rattle.annex_model.specs.Lines.{has_newline}
+use Rattle.annex_model.specs.Messages.{HostMessage, AskExtensions, Prepare, Checkpresent, remote_reading, host_reading, host_line}
+use Rattle.journal_model.specs.declared.entry.What.{What}
+use Rattle.journal_model.specs.declared.entry.What.TheVariants.{Claim, Start, NoStart, Ask, Put, Sent, Mute, Got, End, Verdict as Settled, Lost, Answer as Answered}
+use Rattle.journal_model.specs.declared.entry.Entry.{Entry}
+use Rattle.journal_model.specs.declared.opening.Opening.{Opening}
+use Rattle.journal_model.specs.Journal.{any, each_of, first_of, offers, got_lines, open_jobs, is_open, is_started, is_ended, is_mute, is_live, is_settled, asked_jobs, verdict_of, unsent, is_tagged, on_wire, addressed}
+use Rattle.journal_model.specs.Due.{due_after, is_version_one}
+
+abbrev pub is_empty : {X : Type 0} → List X → Bool
+is_empty [] = true
+is_empty (x ∷ xs) = false
+
+abbrev pub count : (What → Bool) → List Entry → ℕ
+count p past = length (filter (λ e. p e.what) past)
+
+-- ---- tasks
+
+abbrev pub claims : ℕ → What → Bool
+claims t (Claim task child) = task == t
+claims t _ = false
+
+abbrev pub answers : ℕ → What → Bool
+answers t (Answered task answer) = task == t
+answers t _ = false
+
+abbrev pub is_claimed : List Entry → ℕ → Bool
+is_claimed past t = any (claims t) past
+
+-- a task is busy from its claim to its answer
+abbrev pub is_busy : List Entry → ℕ → Bool
+is_busy past t = is_claimed past t && not (any (answers t) past)
+
+-- two texts of files clash where they are equal, or one is the other followed by .part; an empty one clashes with none
+abbrev pub clashes : List ℕ → List ℕ → Bool
+clashes [] b = false
+clashes a [] = false
+clashes a b = bytes_eq a b || bytes_eq a (b ++ codes ".part") || bytes_eq b (a ++ codes ".part")
+
+-- two tasks that must not be busy at once
+abbrev pub conflicts : Task → Task → Bool
+conflicts s t = bytes_eq s.key t.key || clashes s.file t.file
+
+-- the task of a number, counted from 1
+abbrev pub task_of : Opening → ℕ → Option Task
+task_of o t = if t == 0 then None else slice_get o.tasks (t - 1)
+
+abbrev pub both_conflict : Option Task → Option Task → Bool
+both_conflict (Some s) (Some t) = conflicts s t
+both_conflict s t = false
+
+abbrev pub numbers_of : Opening → List ℕ
+numbers_of o = range_with_len 1 (length o.tasks)
+
+-- not claimed, and no busy task is in its way
+abbrev pub is_free : Opening → List Entry → ℕ → Bool
+is_free o past t =
+    not (is_claimed past t)
+    && not (list_any (λ u. is_busy past u && both_conflict (task_of o u) (task_of o t)) (numbers_of o))
+
+abbrev pub is_number : ℕ → Option ℕ → Bool
+is_number n None = false
+is_number n (Some k) = k == n
+
+abbrev pub least_free : Opening → List Entry → Option ℕ
+least_free o past = find (is_free o past) (numbers_of o)
+
+-- the task is claimed by this number, for this child
+abbrev pub claims_with : ℕ → ℕ → ℕ → Entry → Bool
+claims_with by t c e = e.by == by && claims_for t c e.what
+  where
+    claims_for : ℕ → ℕ → What → Bool
+    claims_for t c (Claim task child) = task == t && child == c
+    claims_for t c _ = false
+
+abbrev pub is_claimed_by : List Entry → ℕ → ℕ → Bool
+is_claimed_by past by t = list_any (λ e. e.by == by && claims t e.what) past
+
+abbrev pub job_for : ℕ → What → Option (ℕ × ℕ)
+job_for t (Ask child job task line) = if task == t then Some (child, job) else None
+job_for t _ = None
+
+abbrev pub has_open_job : List Entry → ℕ → Bool
+has_open_job past t = list_any (λ q. is_open past q.0 q.1) (each_of (job_for t) past)
+
+-- a request for task 0 is the main thread's own; any other belongs to a busy task of this number and child, which has no open job
+abbrev pub may_work : List Entry → ℕ → ℕ → ℕ → Bool
+may_work past by t c =
+    (t == 0 && by == 0)
+    || (list_any (claims_with by t c) past && is_busy past t && not (has_open_job past t))
+
+-- the task that the entry claims for c
+abbrev pub claimed_for : ℕ → What → Option ℕ
+claimed_for c (Claim task child) = if child == c then Some task else None
+claimed_for c _ = None
+
+abbrev pub has_busy_task : List Entry → ℕ → Bool
+has_busy_task past c = list_any (is_busy past) (each_of (claimed_for c) past)
+
+-- ---- the greeting
+
+abbrev pub is_done : Option Verdict → Bool
+is_done (Some (DoneAt at)) = true
+is_done _ = false
+
+-- the child's first line was VERSION 1
+abbrev pub said_version : List Entry → ℕ → Bool
+said_version past c = is_version (first_of (got_lines past c))
+  where
+    is_version : Option (List ℕ) → Bool
+    is_version None = false
+    is_version (Some line) = is_version_one (remote_reading line)
+
+-- its job 1, which is PREPARE, is done
+abbrev pub is_prepared : List Entry → ℕ → Bool
+is_prepared past c = is_done (verdict_of past c 1)
+
+-- some request may be asked as this job of c: job 0 behind the version, job 1 behind job 0, and later jobs of a prepared child
+abbrev pub is_greeted : List Entry → ℕ → ℕ → Bool
+is_greeted past c job =
+    if job == 0 then said_version past c
+    else if job == 1 then is_settled past c 0
+    else is_prepared past c
+
+-- the names of extensions that c is told
+abbrev pub offered_names : List Entry → ℕ → List ℕ
+offered_names past c =
+    if any (offers c) past then codes "INFO GETGITREMOTENAME ASYNC" else codes "INFO GETGITREMOTENAME"
+
+-- the request is the one of its turn: EXTENSIONS is job 0, PREPARE is job 1, any other is later
+abbrev pub is_in_turn : List Entry → ℕ → ℕ → HostMessage → Bool
+is_in_turn past c job (AskExtensions names) = job == 0 && bytes_eq names (offered_names past c)
+is_in_turn past c job Prepare = job == 1
+is_in_turn past c job (Checkpresent key) = nat_lt 1 job
+
+-- the line is the canonical one of a request in its turn
+abbrev pub asks_in_turn : List Entry → ℕ → ℕ → List ℕ → Option HostMessage → Bool
+asks_in_turn past c job line None = false
+asks_in_turn past c job line (Some q) = is_in_turn past c job q && bytes_eq line (on_wire past c job (host_line q))
+
+-- ---- what an event may append first
+
+abbrev pub is_start : What → Bool
+is_start (Start child slot offer) = true
+is_start _ = false
+
+-- a job of c may be asked by this number for this task, but for the child's end or mute
+abbrev pub may_ask : List Entry → ℕ → ℕ → ℕ → Bool
+may_ask past by t c =
+    is_greeted past c (length (asked_jobs past c)) && may_work past by t c
+    && (is_tagged past c || is_empty (open_jobs past c))
+
+-- why a child may be ended by an event of its own
+abbrev pub may_stop : List Entry → ℕ → Why → Bool
+may_stop past c Eof = true
+may_stop past c ReadFault = true
+may_stop past c LongLine = true
+may_stop past c Memory = true
+may_stop past c Closed = is_empty (open_jobs past c) && not (has_busy_task past c)
+may_stop past c _ = false
+
+-- An event by this number may append this entry first. A reply and a verdict stand only where they are due.
+abbrev pub may_come : Opening → List Entry → ℕ → What → Bool
+may_come o past by (Claim task child) =
+    is_number task (least_free o past)
+    && ((child == 0 && by == 0) || (is_prepared past child && is_live past child && not (is_mute past child)))
+may_come o past by (Start child slot offer) = by == 0 && child == count is_start past + 1 && nat_lt child (2 ^ 32)
+may_come o past by (NoStart slot) = by == 0
+may_come o past by (Ask child job task line) =
+    is_live past child && not (is_mute past child) && job == length (asked_jobs past child)
+    && asks_in_turn past child job line (host_reading (addressed past child line).1) && may_ask past by task child
+may_come o past by (Put child job line) = false
+may_come o past by (Sent child) = not (is_empty (unsent past child))
+may_come o past by (Mute child) = is_started past child && not (is_mute past child)
+may_come o past by (Got child line) = is_live past child && not (has_newline line)
+may_come o past by (End child why) = is_live past child && may_stop past child why
+may_come o past by (Settled child job verdict) = false
+may_come o past by (Lost child task) = is_started past child && (is_ended past child || is_mute past child) && may_ask past by task child
+may_come o past by (Answered task answer) = is_claimed_by past by task && is_busy past task && not (has_open_job past task)
+
+-- ---- legal
+
+-- the entry may stand behind past, after which the entries of owed are due
+abbrev pub MayStand : Opening → List Entry → List Entry → Entry → Type 0
+MayStand o past [] e = IsTrue (may_come o past e.by e.what)
+MayStand o past (d ∷ ds) e = e ≡ d
+
+-- what is due behind it
+abbrev pub still_owed : Opening → List Entry → List Entry → Entry → List Entry
+still_owed o past [] e = due_after o past e
+still_owed o past (d ∷ ds) e = ds
+
+abbrev pub owed_from : Opening → List Entry → List Entry → List Entry → List Entry
+owed_from o past owed [] = owed
+owed_from o past owed (e ∷ rest) = owed_from o (past ++ e ∷ []) (still_owed o past owed e) rest
+
+-- the entries that are due at the journal's end
+abbrev pub owed_after : Opening → List Entry → List Entry
+owed_after o journal = owed_from o [] [] journal
+
+-- each entry of rest may stand where it does
+abbrev pub StandsFrom : Opening → List Entry → List Entry → List Entry → Type 0
+StandsFrom o past owed [] = Unit {0}
+StandsFrom o past owed (e ∷ rest) = MayStand o past owed e × StandsFrom o (past ++ e ∷ []) (still_owed o past owed e) rest
+
+-- each entry is the next that is due, or nothing is due and an event may append it first; and nothing is due at the end
+pub record Legal (o : Opening) (journal : List Entry) : Type 0 where
+  pub stands : StandsFrom o [] [] journal
+  pub nothing_due : owed_after o journal ≡ []
+
+-- this entry, at this place, is the first that may not stand
+pub record FirstWrong (o : Opening) (journal : List Entry) (at : ℕ) (e : Entry) : Type 0 where
+  pub there : slice_get journal at ≡ Some e
+  pub before : StandsFrom o [] [] (take at journal)
+  pub wrong : MayStand o (take at journal) (owed_after o (take at journal)) e → ⊥
+
+-- each entry may stand, but entries are still due at the end
+pub record Unfinished (o : Opening) (journal : List Entry) : Type 0 where
+  pub stands : StandsFrom o [] [] journal
+  pub due : owed_after o journal ≡ [] → ⊥
+
+-- the number of an entry's kind
+abbrev pub kind_of : What → ℕ
+kind_of (Claim task child) = 1
+kind_of (Start child slot offer) = 2
+kind_of (NoStart slot) = 3
+kind_of (Ask child job task line) = 4
+kind_of (Put child job line) = 5
+kind_of (Sent child) = 6
+kind_of (Mute child) = 7
+kind_of (Got child line) = 8
+kind_of (End child why) = 9
+kind_of (Settled child job verdict) = 10
+kind_of (Lost child task) = 11
+kind_of (Answered task answer) = 12
+
+-- ---- the same by places
+
+pub record LegalByPlaces (o : Opening) (journal : List Entry) : Type 0 where
+  pub each : (past rest : List Entry) (e : Entry) → journal ≡ past ++ e ∷ rest → MayStand o past (owed_after o past) e
+  pub nothing_due : owed_after o journal ≡ []
+
+-- ---- the same by groups
+
+-- the journal is past followed by the groups that these entries begin, each of which may come
+abbrev pub IsGroups : Opening → List Entry → List Entry → List Entry → Type 0
+IsGroups o past [] journal = journal ≡ past
+IsGroups o past (e ∷ firsts) journal = IsTrue (may_come o past e.by e.what) × IsGroups o (past ++ e ∷ due_after o past e) firsts journal
+
+-- the journal is made of groups, each an entry that an event may append and what it makes due
+abbrev pub LegalByGroups : Opening → List Entry → Type 0
+LegalByGroups o journal = (firsts : List Entry) × IsGroups o [] firsts journal

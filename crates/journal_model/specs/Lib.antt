@@ -1,0 +1,10 @@
+pub mod Due
+pub mod Journal
+pub mod Legality
+pub mod Links
+pub mod Output
+pub mod Parts
+pub mod Projection
+pub mod Room
+pub mod Rows
+pub mod Wires

@@ -1,0 +1,40 @@
+-- What is printed of an answer.
+use Rattle.std.specs.Prelude.{ℕ, List, [], ◌∷◌, ◌++◌, Option, Some, None, codes, decimal}
+use Rattle.annex_model.specs.declared.verdict.Why.{Why}
+use Rattle.annex_model.specs.declared.verdict.Why.TheVariants.{Eof, ReadFault, LongLine, Memory, Closed, Foul, Version}
+use Rattle.journal_model.specs.declared.answer.Answer.{Answer}
+use Rattle.journal_model.specs.declared.answer.Answer.TheVariants.{Present, Absent, Unsent, StartFault, Memory as NoRoom, Ended}
+use Rattle.journal_model.specs.declared.entry.What.{What}
+use Rattle.journal_model.specs.declared.entry.What.TheVariants.{Answer as Answered}
+use Rattle.journal_model.specs.declared.entry.Entry.{Entry}
+use Rattle.journal_model.specs.Journal.{each_of, line_at}
+
+-- a child that ended, by why. A foul line is told as it stood on the wire. No answer tells of a child that was closed
+abbrev pub why_words : List Entry → Why → List ℕ
+why_words journal Eof = codes "ended eof"
+why_words journal ReadFault = codes "ended readfault"
+why_words journal LongLine = codes "ended longline"
+why_words journal Memory = codes "memory"
+why_words journal Closed = codes "ended closed"
+why_words journal (Foul at) = codes "foul " ++ line_at journal at
+why_words journal (Version at) = codes "ended version"
+
+abbrev pub answer_words : List Entry → Answer → List ℕ
+answer_words journal Present = codes "present"
+answer_words journal Absent = codes "absent"
+answer_words journal Unsent = codes "unsent"
+answer_words journal StartFault = codes "startfault"
+answer_words journal NoRoom = codes "memory"
+answer_words journal (Ended why) = why_words journal why
+
+-- the line of a task: its number, a space, the words, byte 10
+abbrev pub answer_line : List Entry → ℕ → Answer → List ℕ
+answer_line journal task answer = decimal task ++ 32 ∷ answer_words journal answer ++ 10 ∷ []
+
+abbrev pub answer_in : What → Option (ℕ × Answer)
+answer_in (Answered task answer) = Some (task, answer)
+answer_in _ = None
+
+-- the answers that the journal gave, each with its task
+abbrev pub answers_in : List Entry → List (ℕ × Answer)
+answers_in journal = each_of answer_in journal

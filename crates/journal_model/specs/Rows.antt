@@ -1,0 +1,129 @@
+-- The worked journals: one check over one child, with changes; and two checks over one tagged child.
+use Rattle.std.specs.Prelude.{ℕ, true, false, List, [], ◌∷◌, ◌++◌, codes}
+use Rattle.task_text.specs.declared.task.Task.{Task}
+use Rattle.task_text.specs.declared.task.Work.TheVariants.{Check}
+use Rattle.annex_model.specs.declared.verdict.Why.TheVariants.{Closed, Foul}
+use Rattle.annex_model.specs.declared.verdict.Verdict.TheVariants.{Done, Absent, Ended}
+use Rattle.journal_model.specs.declared.answer.Answer.TheVariants.{Present, Absent as AbsentAnswer}
+use Rattle.journal_model.specs.declared.entry.What.{What}
+use Rattle.journal_model.specs.declared.entry.What.TheVariants.{Claim, Start, Ask, Sent, Got, End, Verdict as Settled, Answer as Answered}
+use Rattle.journal_model.specs.declared.entry.Entry.{Entry}
+use Rattle.journal_model.specs.declared.opening.Opening.{Opening}
+
+abbrev pub sample_key : List ℕ
+sample_key = codes "SHA256E-s0--e3b0c44298fc1c149afbf4c8996fb92427ae41e4649b934ca495991b7852b855"
+
+abbrev pub check_of : List ℕ → Task
+check_of key = record { work = Check; key = key; file = [] }
+
+abbrev pub opening_of : List Task → Opening
+opening_of tasks = record { tasks = tasks; identity = record { uuid = codes "00000000-0000-0000-0000-000000000000"; name = codes "remote"; gitdir = codes ".git" }; stamp = 1700000000000000 }
+
+abbrev pub one_check : Opening
+one_check = opening_of (check_of sample_key ∷ [])
+
+abbrev pub by_main : What → Entry
+by_main w = record { by = 0; what = w }
+
+abbrev pub greeting : List Entry
+greeting =
+    by_main (Start 1 0 false)
+    ∷ by_main (Got 1 (codes "VERSION 1"))
+    ∷ by_main (Ask 1 0 0 (codes "EXTENSIONS INFO GETGITREMOTENAME"))
+    ∷ by_main (Sent 1)
+    ∷ by_main (Got 1 (codes "EXTENSIONS"))
+    ∷ by_main (Settled 1 0 (Done 4))
+    ∷ by_main (Ask 1 1 0 (codes "PREPARE"))
+    ∷ by_main (Sent 1)
+    ∷ by_main (Got 1 (codes "PREPARE-SUCCESS"))
+    ∷ by_main (Settled 1 1 (Done 8))
+    ∷ []
+
+abbrev pub asking : List Entry
+asking =
+    by_main (Claim 1 1)
+    ∷ by_main (Ask 1 2 1 (codes "CHECKPRESENT " ++ sample_key))
+    ∷ by_main (Sent 1)
+    ∷ []
+
+abbrev pub success_of : List ℕ → Entry
+success_of key = by_main (Got 1 (codes "CHECKPRESENT-SUCCESS " ++ key))
+
+abbrev pub settled : Entry
+settled = by_main (Settled 1 2 (Done 13))
+
+abbrev pub answered : Entry
+answered = by_main (Answered 1 Present)
+
+abbrev pub closed : Entry
+closed = by_main (End 1 Closed)
+
+abbrev pub check_present : List Entry
+check_present = greeting ++ asking ++ success_of sample_key ∷ settled ∷ answered ∷ closed ∷ []
+
+-- with another key at place 13
+abbrev pub other_key : List Entry
+other_key = greeting ++ asking ++ success_of (codes "WORM--x") ∷ settled ∷ answered ∷ closed ∷ []
+
+-- with entry 16 taken out, and with entry 14 taken out
+abbrev pub not_closed : List Entry
+not_closed = greeting ++ asking ++ success_of sample_key ∷ settled ∷ answered ∷ []
+
+abbrev pub not_settled : List Entry
+not_settled = greeting ++ asking ++ success_of sample_key ∷ answered ∷ closed ∷ []
+
+-- ---- two checks over one tagged child
+
+abbrev pub two_checks : Opening
+two_checks = opening_of (check_of (codes "WORM--a") ∷ check_of (codes "WORM--b") ∷ [])
+
+abbrev pub tagged_greeting : List Entry
+tagged_greeting =
+    by_main (Start 1 0 true)
+    ∷ by_main (Got 1 (codes "VERSION 1"))
+    ∷ by_main (Ask 1 0 0 (codes "EXTENSIONS INFO GETGITREMOTENAME ASYNC"))
+    ∷ by_main (Sent 1)
+    ∷ by_main (Got 1 (codes "EXTENSIONS ASYNC INFO"))
+    ∷ by_main (Settled 1 0 (Done 4))
+    ∷ by_main (Ask 1 1 0 (codes "J 1 PREPARE"))
+    ∷ by_main (Sent 1)
+    ∷ by_main (Got 1 (codes "J 1 PREPARE-SUCCESS"))
+    ∷ by_main (Settled 1 1 (Done 8))
+    ∷ by_main (Claim 1 1)
+    ∷ by_main (Ask 1 2 1 (codes "J 2 CHECKPRESENT WORM--a"))
+    ∷ by_main (Claim 2 1)
+    ∷ by_main (Ask 1 3 2 (codes "J 3 CHECKPRESENT WORM--b"))
+    ∷ []
+
+-- the second is answered first
+abbrev pub crossed : List Entry
+crossed =
+    tagged_greeting
+    ++ by_main (Got 1 (codes "J 3 CHECKPRESENT-SUCCESS WORM--b"))
+    ∷ by_main (Settled 1 3 (Done 14))
+    ∷ by_main (Got 1 (codes "J 02 CHECKPRESENT-FAILURE WORM--a"))
+    ∷ by_main (Settled 1 2 (Absent 16))
+    ∷ by_main (Answered 1 AbsentAnswer)
+    ∷ by_main (Answered 2 Present)
+    ∷ by_main (End 1 Closed)
+    ∷ []
+
+-- a line for a job that was never asked ends the child and both jobs
+abbrev pub unknown_job : List Entry
+unknown_job =
+    tagged_greeting
+    ++ by_main (Got 1 (codes "J 9 CHECKPRESENT-SUCCESS WORM--a"))
+    ∷ by_main (End 1 (Foul 14))
+    ∷ by_main (Settled 1 2 (Ended (Foul 14)))
+    ∷ by_main (Settled 1 3 (Ended (Foul 14)))
+    ∷ []
+
+-- a line without a tag ends them too
+abbrev pub tag_left_off : List Entry
+tag_left_off =
+    tagged_greeting
+    ++ by_main (Got 1 (codes "CHECKPRESENT-SUCCESS WORM--a"))
+    ∷ by_main (End 1 (Foul 14))
+    ∷ by_main (Settled 1 2 (Ended (Foul 14)))
+    ∷ by_main (Settled 1 3 (Ended (Foul 14)))
+    ∷ []

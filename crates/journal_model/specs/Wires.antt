@@ -1,0 +1,43 @@
+-- What was read of a child and written to it.
+use Rattle.std.specs.Prelude.{ℕ, ◌≡◌, ◌≤◌, ◌<◌, ◌||◌, not, true, List, [], ◌∷◌, ◌++◌, length, take, map, filter, Option, Some, IsTrue, IfSome}
+use Rattle.annex_model.specs.declared.verdict.Why.{Why}
+use Rattle.annex_model.specs.declared.verdict.Why.TheVariants.{Eof, ReadFault, LongLine}
+use Rattle.annex_model.specs.Lines.{text, has_newline, Cut}
+use Rattle.journal_model.specs.declared.entry.Entry.{Entry}
+use Rattle.journal_model.specs.Journal.{each_of, writes, sends, unsent, is_mute, is_ended, why_of, got_lines}
+
+-- the lines written to c that a Sent covers
+abbrev pub sent_lines : List Entry → ℕ → List (List ℕ)
+sent_lines journal c = map (λ w. w.1) (take (length (filter (λ e. sends c e.what) journal)) (each_of (writes c) journal))
+
+-- the text of the next line to c, if there is one
+abbrev pub next_text : List (Option ℕ × List ℕ) → List ℕ
+next_text [] = []
+next_text (w ∷ ws) = text (w.1 ∷ [])
+
+-- what an end says of the bytes that were read and not fed: no line is left in them, or they begin with more than a line may be
+abbrev pub RestFits : Why → List ℕ → Type 0
+RestFits Eof rest = IsTrue (not (has_newline rest))
+RestFits ReadFault rest = IsTrue (not (has_newline rest))
+RestFits LongLine rest = (65537 ≤ length rest) × IsTrue (not (has_newline (take 65537 rest)))
+RestFits _ rest = Unit {0}
+
+-- What was taken is the text of the sent lines, and behind an end or a mute the first bytes of the next line, which may be
+-- none or all of them.
+pub record Took (journal : List Entry) (c : ℕ) (taken : List ℕ) : Type 0 where
+  pub begun : ℕ
+  pub bytes : taken ≡ text (sent_lines journal c) ++ take begun (next_text (unsent journal c))
+  pub whole : IsTrue (not (is_mute journal c || is_ended journal c)) → begun ≡ 0
+
+-- What was read is the lines got from c and then the rest, and what was taken is what was sent, where the halves tell it.
+pub record Wired (journal : List Entry) (c : ℕ) (given taken : Option (List ℕ)) (rest : List ℕ) : Type 0 where
+  pub heard : IfSome given (λ read. Cut read (got_lines journal c) rest)
+  pub ended : IfSome (why_of journal c) (λ why. RestFits why rest)
+  pub took : IfSome taken (Took journal c)
+
+-- An end and a mute have their causes: at an end of its output the child's outlet has nothing left, where it tells it; a fault
+-- of reading or writing was counted.
+pub record Caused (journal : List Entry) (c : ℕ) (left : Option (List ℕ)) (read_faults write_faults : ℕ) : Type 0 where
+  pub eof : why_of journal c ≡ Some Eof → IfSome left (λ bytes. bytes ≡ [])
+  pub read : why_of journal c ≡ Some ReadFault → 0 < read_faults
+  pub mute : is_mute journal c ≡ true → 0 < write_faults

@@ -1,0 +1,104 @@
+// Laws over the definitions, each the contract of a function with nothing to do.
+ghost use Rattle.std.specs.Prelude.{ℕ, ◌≡◌, ◌≤◌, ◌+◌, ◌↔◌, ◌++◌, false, List, [], ◌∷◌, take, IsTrue, Some, slice_get, codes, length};
+ghost use Rattle.annex_model.specs.declared.verdict.Why.TheVariants.{Closed, Foul};
+ghost use Rattle.annex_model.specs.declared.verdict.Verdict.TheVariants.{Ended, Done};
+ghost use Rattle.annex_model.specs.Messages.{Checkpresent};
+ghost use Rattle.annex_model.specs.Talks.{Conv, ConvFront, Talking};
+ghost use Rattle.annex_model.specs.Lines.{text};
+ghost use Rattle.journal_model.specs.declared.answer.Answer.TheVariants.{Present, Ended as EndedAnswer};
+ghost use Rattle.journal_model.specs.declared.entry.What.TheVariants.{Claim, Ask, Sent, Got, End, Verdict as Settled, Answer as Answered};
+ghost use Rattle.journal_model.specs.declared.entry.Entry.{Entry};
+ghost use Rattle.journal_model.specs.declared.opening.Opening.{Opening};
+ghost use Rattle.journal_model.specs.Journal.{got_lines};
+ghost use Rattle.journal_model.specs.Parts.{part, part_by_places};
+ghost use Rattle.journal_model.specs.Due.{due_after, replies_at};
+ghost use Rattle.journal_model.specs.Legality.{Legal, LegalByGroups, LegalByPlaces, FirstWrong, owed_after, may_come, MayStand};
+ghost use Rattle.journal_model.specs.Projection.{JobFits, PartIsAsked};
+ghost use Rattle.journal_model.specs.Wires.{Wired};
+ghost use Rattle.journal_model.specs.Output.{answer_line};
+ghost use Rattle.journal_model.specs.Room.{room_for, room_of};
+ghost use Rattle.journal_model.specs.Rows.{one_check, check_present, not_closed, other_key, not_settled, sample_key, by_main, settled, answered, greeting, asking, two_checks, crossed, unknown_job, tag_left_off};
+
+/// The journal of one check is legal, and so it is before its child is closed.
+pub fn check_present_is_legal()
+    ensures legal { Legal one_check check_present }
+    ensures open { Legal one_check not_closed }
+    ensures long { length check_present ≡ 17 }
+{}
+
+/// A final line of another key makes the child's end due, and the verdict of its job.
+pub fn other_key_is_foul()
+    ensures due { owed_after one_check (take 14 other_key) ≡ by_main (End 1 (Foul 13)) ∷ by_main (Settled 1 2 (Ended (Foul 13))) ∷ [] }
+    ensures illegal { Legal one_check other_key → ⊥ }
+    ensures first { FirstWrong one_check other_key 14 settled }
+{}
+
+/// Where the verdict is left out, it is due where the answer stands.
+pub fn missing_verdict_is_illegal()
+    ensures due { owed_after one_check (take 14 not_settled) ≡ settled ∷ [] }
+    ensures illegal { Legal one_check not_settled → ⊥ }
+    ensures first { FirstWrong one_check not_settled 14 answered }
+{}
+
+/// Entries that may not come: an Ask before the greeting allows it, a Claim of a claimed task, a Sent with nothing to send,
+/// a verdict without a final line, an End as closed with an open job, a Got behind an End.
+pub fn refused_entries()
+    ensures ask_early { may_come one_check (take 1 check_present) 0 (Ask 1 0 0 (codes "EXTENSIONS INFO GETGITREMOTENAME")) ≡ false }
+    ensures prepare_early { may_come one_check (take 5 check_present) 0 (Ask 1 1 0 (codes "PREPARE")) ≡ false }
+    ensures request_early { may_come one_check (take 8 check_present) 0 (Ask 1 2 1 (codes "CHECKPRESENT " ++ sample_key)) ≡ false }
+    ensures other_number { may_come one_check (take 11 check_present) 1 (Ask 1 2 1 (codes "CHECKPRESENT " ++ sample_key)) ≡ false }
+    ensures second_claim { may_come one_check (take 11 check_present) 0 (Claim 1 1) ≡ false }
+    ensures nothing_to_send { may_come one_check (take 13 check_present) 0 (Sent 1) ≡ false }
+    ensures no_final { may_come one_check (take 13 check_present) 0 (Settled 1 2 (Done 13)) ≡ false }
+    ensures open_job { may_come one_check (take 13 check_present) 0 (End 1 Closed) ≡ false }
+    ensures answer_early { may_come one_check (take 13 check_present) 0 (Answered 1 Present) ≡ false }
+    ensures after_end { may_come one_check check_present 0 (Got 1 (codes "VERSION 1")) ≡ false }
+{}
+
+/// The part of the check is a conversation, and goes on to one before its last line.
+pub fn check_present_talks()
+    ensures conversation { Conv (replies_at one_check check_present) (Checkpresent sample_key) (part check_present 1 2) }
+    ensures front { ConvFront (replies_at one_check check_present) (Checkpresent sample_key) (part (take 13 check_present) 1 2) }
+    ensures so_far { Talking (replies_at one_check check_present) (Checkpresent sample_key) (part (take 13 check_present) 1 2) }
+    ensures same { part_by_places check_present 1 2 ≡ part check_present 1 2 }
+{}
+
+/// What was read and written, and what is printed.
+pub fn check_present_is_wired()
+    ensures wired { Wired check_present 1 (Some (text (got_lines check_present 1))) (Some (text (codes "EXTENSIONS INFO GETGITREMOTENAME" ∷ codes "PREPARE" ∷ (codes "CHECKPRESENT " ++ sample_key) ∷ []))) [] }
+    ensures printed { answer_line check_present 1 Present ≡ codes "1 present" ++ 10 ∷ [] }
+    ensures foul { answer_line other_key 1 (EndedAnswer (Foul 13)) ≡ codes "1 foul CHECKPRESENT-SUCCESS WORM--x" ++ 10 ∷ [] }
+{}
+
+/// Over a tagged child two jobs may be open at once, and their lines may cross.
+pub fn crossed_is_legal()
+    ensures legal { Legal two_checks crossed }
+    ensures first { Conv (replies_at two_checks crossed) (Checkpresent (codes "WORM--a")) (part crossed 1 2) }
+    ensures second { Conv (replies_at two_checks crossed) (Checkpresent (codes "WORM--b")) (part crossed 1 3) }
+    ensures unknown { Legal two_checks unknown_job }
+    ensures left_off { Legal two_checks tag_left_off }
+{}
+
+/// An entry that may come, with what it makes due, keeps a journal legal.
+pub fn group_keeps_legal()
+    ensures { (o : Opening) (past : List Entry) (e : Entry) → Legal o past → IsTrue (may_come o past e.by e.what) → Legal o (past ++ e ∷ due_after o past e) }
+{}
+
+/// Three ways to say which journals are legal: along the list, place by place, and group by group.
+pub fn forms_agree()
+    ensures places { (o : Opening) (journal : List Entry) → Legal o journal ↔ LegalByPlaces o journal }
+    ensures groups { (o : Opening) (journal : List Entry) → Legal o journal ↔ LegalByGroups o journal }
+{}
+
+/// In a legal journal each job's part fits its request and its verdict, and is there exactly where the job was asked.
+pub fn parts_fit()
+    ensures fits { (o : Opening) (journal : List Entry) → Legal o journal → (c j : ℕ) → JobFits (replies_at o journal) journal c j }
+    ensures asked { (o : Opening) (journal : List Entry) → Legal o journal → (c j : ℕ) → PartIsAsked journal c j }
+{}
+
+/// A legal journal is no longer than its room, to which an entry with what it makes due adds what it takes: none for a
+/// Claim, a Sent, a Mute, an End or an Answer.
+pub fn room_suffices()
+    ensures long { (o : Opening) (journal : List Entry) → Legal o journal → length journal ≤ room_of o journal }
+    ensures grows { (o : Opening) (past : List Entry) (e : Entry) → room_of o (past ++ e ∷ due_after o past e) ≡ room_of o past + room_for e.what }
+{}

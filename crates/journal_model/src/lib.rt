@@ -1,0 +1,14 @@
+// The journal of a run: what it keeps, which journals are legal, and what they mean.
+#![tactic(auto)]
+
+mod answer;
+mod entry;
+mod journal;
+pub mod laws;
+mod opening;
+
+pub use annex_model::{Final, Verdict, Why};
+pub use answer::Answer;
+pub use entry::{Entry, What};
+pub use journal::Journal;
+pub use opening::{Identity, Opening};
