@@ -1,7 +1,7 @@
 -- What follows from the lines that count, and from the text of lines.
 use Rattle.std.specs.Prelude.{ℕ, ◌≡◌, ◌-◌, ◌%◌, ◌^◌, ◌<◌, List, [], ◌∷◌, ◌++◌}
-use Rattle.chunk_log.specs.ChunkLines.{line_text, IsChunkLine}
-use Rattle.chunk_log.specs.NoteBooks.{counting, IsWritable}
+use Rattle.chunk_log.specs.ChunkLines.{line_text, IsChunkLine, IsWritable}
+use Rattle.chunk_log.specs.NoteBooks.{counting}
 use Rattle.chunk_log.specs.declared.line.ChunkLine.{ChunkLine}
 use Rattle.chunk_log.specs.declared.note.Note.{Note}
 use Rattle.chunk_log.specs.declared.stamp.Stamp.{Stamp}
