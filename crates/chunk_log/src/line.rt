@@ -12,7 +12,7 @@ use uuid::Uuid;
 
 /// How many chunks of a size a remote has of a key, and since when. A count of 0 says that it has none.
 ///
-/// <https://git-annex.branchable.com/internals/#index13h2>
+/// <https://git-annex.branchable.com/internals/>
 #[derive(Drop)]
 pub struct ChunkLine {
     pub stamp: Stamp,
