@@ -1,6 +1,5 @@
 -- A note more counts as it should.
-use Rattle.std.proofs.Common.{◌≡◌, ℕ, ◌<◌, ◌≤◌, Bool, true, false, cond, List, [], ◌∷◌, ◌++◌, filter, fold, Option, Some, None, refl, sym, ap, ◌∙◌, arith}
-use Rattle.std.specs.Prelude.{◌==◌, ◌&&◌, ◌||◌, nat_le, nat_lt}
+use Rattle.std.proofs.Common.{◌≡◌, ℕ, Bool, true, false, cond, List, [], ◌∷◌, ◌++◌, filter, fold, Option, Some, None, refl, sym, ap, ◌∙◌, arith}
 use Rattle.std.specs.List.{list_all}
 use Rattle.std.specs.Ordering.{is_lt}
 use Rattle.std.specs.declared.cmp.Ordering.{Ordering}
@@ -8,7 +7,7 @@ use Rattle.std.specs.declared.cmp.Ordering.TheVariants.{Less, Equal, Greater}
 use Rattle.std.proofs.lemmas.Bool.{and_parts}
 use Rattle.std.proofs.lemmas.Bool.Decides.{nat_tests}
 use Rattle.std.proofs.lemmas.Cmp.{alike_right}
-use Rattle.chunk_log.specs.NoteBooks.{counting, in_order, inserted, is_before, is_no_later, is_of, newer, place_cmp, placed}
+use Rattle.chunk_log.specs.NoteBooks.{in_order, inserted, is_before, is_no_later, is_of, newer, place_cmp, placed}
 use Rattle.chunk_log.specs.declared.line.ChunkLine.{ChunkLine}
 use Rattle.chunk_log.specs.declared.note.Note.{Note}
 use Rattle.chunk_log.specs.declared.stamp.Stamp.{Stamp}
@@ -47,7 +46,7 @@ step test line x xs = go (test x)
     go true = refl
     go false = refl
 
-pushed : (test : Note → Bool) (line : Option ChunkLine) (xs : List Note) (note : Note)
+pub pushed : (test : Note → Bool) (line : Option ChunkLine) (xs : List Note) (note : Note)
     → go_on test line (xs ++ note ∷ []) ≡ cond (test note) (newer (go_on test line xs) note) (go_on test line xs)
 pushed test line [] note = step test line note [] ∙ go (test note)
   where

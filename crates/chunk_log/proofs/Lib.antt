@@ -1,8 +1,11 @@
 pub mod Counting
+pub mod Cuts
 pub mod Digits
 pub mod Inserting
 pub mod InOrder
 pub mod Kept
 pub mod Newest
 pub mod Places
+pub mod ReadBack
 pub mod Refused
+pub mod StampBack

@@ -1,5 +1,5 @@
 -- The lines of a chunk log.
-use Rattle.std.specs.Prelude.{ℕ, ◌≡◌, ◌<◌, ◌==◌, ◌&&◌, Bool, if◌then◌else◌, List, [], ◌∷◌, ◌++◌, Option, Some, None, Result, Ok, Err, codes, decimal}
+use Rattle.std.specs.Prelude.{ℕ, ◌≡◌, ◌<◌, ◌==◌, Bool, if◌then◌else◌, List, ◌++◌, Option, Some, None, codes, decimal}
 use Rattle.std.specs.List.{list_any, before_first, after_first, before_last, after_last}
 use Rattle.uuid.specs.Text.{parsed, hyphenated_text, lower}
 use Rattle.ann_key.specs.Numbers.{is_number, value_of}
@@ -60,6 +60,12 @@ IsRefused text NoMemory = (line : ChunkLine) × IsChunkLine text line
 -- a UUID in its written form
 abbrev pub IsWrittenUuid : List ℕ → Type 0
 IsWrittenUuid uuid = (bytes : List ℕ) × (parsed uuid ≡ Some bytes) × (uuid ≡ hyphenated_text lower bytes)
+
+-- what a line can be written with
+pub record IsWritable (line : ChunkLine) : Type 0 where
+  pub uuid : IsWrittenUuid line.uuid
+  pub chunk : 0 < line.chunk
+  pub nanos : line.stamp.nanos < 1000000000
 
 -- the line as it is written
 abbrev pub line_text : ChunkLine → List ℕ

@@ -1,5 +1,6 @@
 pub mod ChunkLines
 pub mod Current
 pub mod Found
+pub mod LogLaws
 pub mod NoteBooks
 pub mod Stamps

@@ -1,11 +1,11 @@
 -- Which lines of a chunk log count.
-use Rattle.std.specs.Prelude.{ℕ, ◌≡◌, ◌<◌, ◌==◌, ◌&&◌, ◌||◌, not, nat_le, nat_lt, bytes_eq, Bool, true, false, IsTrue, if◌then◌else◌, List, [], ◌∷◌, fold, filter, map, Option, Some, None}
+use Rattle.std.specs.Prelude.{ℕ, ◌≡◌, ◌==◌, ◌&&◌, ◌||◌, nat_le, nat_lt, bytes_eq, Bool, true, false, if◌then◌else◌, List, [], ◌∷◌, fold, filter, Option, Some, None}
 use Rattle.std.specs.List.{list_all, list_any}
 use Rattle.std.specs.Ordering.{is_eq, is_lt, nat_cmp, on, then_cmp}
 use Rattle.std.specs.declared.cmp.Ordering.{Ordering}
 use Rattle.std.specs.declared.cmp.Ordering.TheVariants.{Less, Equal, Greater}
 use Rattle.std.specs.Cmp.Lexicographic.{slice_cmp}
-use Rattle.chunk_log.specs.ChunkLines.{is_space, IsWrittenUuid}
+use Rattle.chunk_log.specs.ChunkLines.{is_space, IsWritable}
 use Rattle.chunk_log.specs.declared.line.ChunkLine.{ChunkLine}
 use Rattle.chunk_log.specs.declared.note.Note.{Note}
 use Rattle.chunk_log.specs.declared.stamp.Stamp.{Stamp}
@@ -38,12 +38,6 @@ is_before a b = is_lt (place_cmp a b)
 abbrev pub in_order : List Note → Bool
 in_order [] = true
 in_order (note ∷ notes) = list_all (is_before note) notes && in_order notes
-
--- what a line can be written with
-pub record IsWritable (line : ChunkLine) : Type 0 where
-  pub uuid : IsWrittenUuid line.uuid
-  pub chunk : 0 < line.chunk
-  pub nanos : line.stamp.nanos < 1000000000
 
 pub record IsNote (note : Note) : Type 0 where
   pub key : list_any is_space note.key ≡ true → ⊥

@@ -1,7 +1,7 @@
 // Which lines of a chunk log count.
 ghost use Rattle.std.specs.Prelude.{◌≡◌, ◌≤◌, ◌<◌, ℕ, List, [], ◌∷◌, ◌++◌, length, slice_get, true, false, not, OnOk, OnErr, IfOk, IsTrue, MatchOption, Some, None, option_map, All};
 ghost use Rattle.std.specs.List.{list_any, prefix_len};
-ghost use Rattle.chunk_log.specs.ChunkLines.{is_space};
+ghost use Rattle.chunk_log.specs.ChunkLines.{is_space, IsWritable};
 ghost use Rattle.ann_key.specs.KeyRefs.{text_of};
 
 use crate::current::current;
@@ -33,7 +33,7 @@ impl Model for NoteBook {
 }
 
 impl NoteBook {
-    ghost use Rattle.chunk_log.specs.NoteBooks.{counting, in_order, IsNote, IsWritable};
+    ghost use Rattle.chunk_log.specs.NoteBooks.{counting, in_order, IsNote};
     ghost use Rattle.chunk_log.specs.Current.{IsCurrent};
     ghost use Rattle.chunk_log.specs.declared.note.Note.{Note};
 

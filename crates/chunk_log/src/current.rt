@@ -13,7 +13,9 @@ use std::cmp::Reverse;
 fn is_current(note: &Note, key: &[u8], uuid: &[u8]) -> bool
     ensures { result ≡ is_current key.now uuid.now note.now }
 {
-    note.key.view().text() == key && note.line.uuid.view().as_bytes() == uuid && note.line.count != 0
+    note.key.view().text() == key
+        && note.line.uuid.view().as_bytes() == uuid
+        && note.line.count != 0
 }
 
 fn found_of(note: &Note) -> Found

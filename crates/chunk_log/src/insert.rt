@@ -12,7 +12,10 @@ fn place_of(notes: &[Note], note: &Note) -> usize
     ensures value { result ≡ prefix_len (λ other. is_before other note.now) notes.now }
     ensures bound { result ≤ length notes.now }
 {
-    notes.iter().take_while(|other| other.place_cmp(note).is_lt()).count()
+    notes
+        .iter()
+        .take_while(|other| other.place_cmp(note).is_lt())
+        .count()
 }
 
 fn is_taken(notes: &[Note], note: &Note) -> bool

@@ -5,6 +5,7 @@ mod book;
 mod current;
 mod error;
 mod insert;
+mod laws;
 mod layouts;
 mod line;
 mod note;
@@ -21,3 +22,6 @@ pub use layouts::Layouts;
 pub use line::{ChunkLine, read_line};
 pub use stamp::Stamp;
 pub use written::write_line;
+
+#[cfg(test)]
+mod tests;

@@ -1,7 +1,7 @@
 // The lines of a chunk log.
-ghost use Rattle.std.specs.Prelude.{◌≡◌, IfOk, MatchResult};
+ghost use Rattle.std.specs.Prelude.{◌≡◌, ◌<◌, IfOk, IfSome, MatchResult, Some};
 ghost use Rattle.uuid.specs.Text.{hyphenated_text, lower, parsed};
-ghost use Rattle.chunk_log.specs.ChunkLines.{counts_in, uuid_in, IsChunkLine, IsRefused};
+ghost use Rattle.chunk_log.specs.ChunkLines.{counts_in, uuid_in, IsChunkLine, IsRefused, IsWritable};
 
 use crate::error::ChunkError;
 use crate::scan;
@@ -12,7 +12,7 @@ use uuid::Uuid;
 
 /// How many chunks of a size a remote has of a key, and since when. A count of 0 says that it has none.
 ///
-/// <https://git-annex.branchable.com/internals/#index13h2>
+/// <https://git-annex.branchable.com/internals/>
 #[derive(Drop)]
 pub struct ChunkLine {
     pub stamp: Stamp,
@@ -25,7 +25,8 @@ pub struct ChunkLine {
 
 /// Reads a line, as in `1287290776.765152s UUID:10240 9`.
 pub fn read_line(alloc: Global, line: &[u8]) -> Result<ChunkLine, ChunkError>
-    ensures { MatchResult result (λ read. IsChunkLine line.now read) (λ error. IsRefused line.now error) }
+    ensures read { MatchResult result (λ read. IsChunkLine line.now read) (λ error. IsRefused line.now error) }
+    ensures writable { IfOk result (λ read. IsWritable read) }
 {
     let Some(stamp) = Stamp::read(scan::before_first(line, b' ')) else {
         return Err(ChunkError::BadStamp);
@@ -67,7 +68,8 @@ fn parsed(text: &[u8]) -> Option<Uuid>
 }
 
 fn counts_in(word: &[u8], count: &[u8]) -> Option<(u64, u64)>
-    ensures { result ≡ counts_in word.now count.now }
+    ensures value { result ≡ counts_in word.now count.now }
+    ensures chunk { IfSome result (λ counts. 0 < counts.0) }
 {
     match scan::number(scan::after_last(word, b':')) {
         Some(chunk) if chunk != 0 => match scan::number(count) {
@@ -79,7 +81,8 @@ fn counts_in(word: &[u8], count: &[u8]) -> Option<(u64, u64)>
 }
 
 fn written(alloc: Global, uuid: Uuid) -> Result<Text, NoMemory>
-    ensures { IfOk result (λ text. text ≡ hyphenated_text lower uuid) }
+    ensures text { IfOk result (λ text. text ≡ hyphenated_text lower uuid) }
+    ensures parsed { IfOk result (λ text. parsed text ≡ Some uuid) }
 {
     let mut buffer = [0; 36];
     Text::copy(alloc, uuid.hyphenated().encode_lower(&mut buffer))

@@ -20,7 +20,12 @@ impl Note {
         ensures { result ≡ place_cmp self.now other.now }
     {
         let key = self.key.view().text().cmp(other.key.view().text());
-        let uuid = self.line.uuid.view().as_bytes().cmp(other.line.uuid.view().as_bytes());
+        let uuid = self
+            .line
+            .uuid
+            .view()
+            .as_bytes()
+            .cmp(other.line.uuid.view().as_bytes());
         key.then(uuid).then(self.line.chunk.cmp(&other.line.chunk))
     }
 

@@ -1,5 +1,5 @@
 // The parts of a stamp's text.
-ghost use Rattle.std.specs.Prelude.{◌≡◌, ◌≤◌, ◌<◌, ◌-◌, ◌++◌, length, replicate, true};
+ghost use Rattle.std.specs.Prelude.{◌≡◌, ◌≤◌, ◌<◌, ◌-◌, ◌++◌, length, replicate, true, IfSome};
 ghost use Rattle.std.specs.List.{list_all};
 ghost use Rattle.ann_key.specs.Numbers.{is_digit, value_of};
 ghost use Rattle.chunk_log.specs.Stamps.{nanos_in, seconds_in};
@@ -17,7 +17,8 @@ pub fn seconds(digits: &[u8]) -> Option<u64>
 }
 
 pub fn nanos(fraction: &[u8]) -> Option<u32>
-    ensures { result ≡ nanos_in fraction.now }
+    ensures value { result ≡ nanos_in fraction.now }
+    ensures small { IfSome result (λ nanos. nanos < 1000000000) }
 {
     match fraction {
         [] => Some(0),
@@ -34,7 +35,8 @@ pub fn nanos(fraction: &[u8]) -> Option<u32>
 fn billionths(digits: &[u8]) -> u32
     requires few { length digits.now ≤ 9 }
     requires digits { list_all is_digit digits.now ≡ true }
-    ensures { result ≡ value_of (digits.now ++ replicate (9 - length digits.now) 48) }
+    ensures value { result ≡ value_of (digits.now ++ replicate (9 - length digits.now) 48) }
+    ensures small { result < 1000000000 }
 {
     let mut nanos = 0;
     for digit in digits {

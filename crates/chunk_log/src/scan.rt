@@ -30,7 +30,11 @@ pub fn after_first(bytes: &[u8], byte: u8) -> &[u8]
     ensures { result.now ≡ after_first (λ b. b == byte) bytes.now }
 {
     let at = first(bytes, byte);
-    if at < bytes.len() { &bytes[at + 1..] } else { &bytes[at..] }
+    if at < bytes.len() {
+        &bytes[at + 1..]
+    } else {
+        &bytes[at..]
+    }
 }
 
 pub fn before_last(bytes: &[u8], byte: u8) -> &[u8]

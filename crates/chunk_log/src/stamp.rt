@@ -1,5 +1,5 @@
 // When a line was written.
-ghost use Rattle.std.specs.Prelude.{◌≡◌};
+ghost use Rattle.std.specs.Prelude.{◌≡◌, ◌<◌, IfSome};
 
 use crate::parts::{nanos, seconds};
 use crate::scan;
@@ -16,7 +16,8 @@ impl Stamp {
 
     /// The stamp that the text spells, as in `1287290776.765152s`.
     pub(super) fn read(text: &[u8]) -> Option<Stamp>
-        ensures { result ≡ stamp_in text.now }
+        ensures value { result ≡ stamp_in text.now }
+        ensures small { IfSome result (λ stamp. stamp.nanos < 1000000000) }
     {
         match text {
             [body @ .., b's'] => Stamp::read_body(body),
@@ -25,7 +26,8 @@ impl Stamp {
     }
 
     fn read_body(body: &[u8]) -> Option<Stamp>
-        ensures { result ≡ stamp_in_body body.now }
+        ensures value { result ≡ stamp_in_body body.now }
+        ensures small { IfSome result (λ stamp. stamp.nanos < 1000000000) }
     {
         let dot = scan::first(body, b'.');
         match seconds(&body[..dot]) {

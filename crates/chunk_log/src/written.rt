@@ -1,6 +1,6 @@
 // Lines as they are written.
-ghost use Rattle.std.specs.Prelude.{◌≡◌, ◌++◌, ◌<◌, ◌/◌, IfOk, codes, decimal, string_bytes};
-ghost use Rattle.chunk_log.specs.ChunkLines.{line_text, IsWrittenUuid};
+ghost use Rattle.std.specs.Prelude.{◌≡◌, ◌++◌, IfOk, string_bytes};
+ghost use Rattle.chunk_log.specs.ChunkLines.{line_text, IsWritable};
 ghost use Rattle.chunk_log.specs.Stamps.{digit, micros_text};
 
 use crate::line::ChunkLine;
@@ -9,9 +9,7 @@ use std::alloc::{AllocError, Global};
 
 /// The line as it is written, with the stamp cut to millionths of a second.
 pub fn write_line(alloc: Global, line: &ChunkLine) -> Result<Bytes, NoMemory>
-    requires uuid { IsWrittenUuid line.now.uuid }
-    requires chunk { 0 < line.now.chunk }
-    requires nanos { line.now.stamp.nanos < 1000000000 }
+    requires { IsWritable line.now }
     ensures { IfOk result (λ text. text ≡ line_text line.now) }
 {
     let seconds = line.stamp.seconds;

@@ -1,4 +1,4 @@
-use Rattle.std.proofs.Common.{◌<◌, ◌≤◌, arith}
+use Rattle.std.proofs.Common.{◌<◌, arith}
 use Rattle.chunk_log.proofs.Digits.{small}
 use Rattle.chunk_log.proofs.parts.billionths.Goals as goal
 

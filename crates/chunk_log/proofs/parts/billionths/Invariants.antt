@@ -1,4 +1,4 @@
-use Rattle.std.proofs.Common.{◌≡◌, ◌<◌, ◌≤◌, ◌^◌, ◌-◌, ◌++◌, length, replicate, take}
+use Rattle.std.proofs.Common.{◌≡◌, ◌<◌, ◌^◌, ◌-◌, ◌++◌, length, replicate, take}
 use Rattle.ann_key.specs.Numbers.{value_of}
 use Rattle.chunk_log.proofs.parts.billionths.Given as goal
 

@@ -1,7 +1,4 @@
-use Rattle.std.proofs.Common.{◌≡◌, ℕ, List, ◌++◌, ◌∷◌, [], subst, sym, ap}
-use Rattle.std.specs.Prelude.{OnOk}
-use Rattle.ann_key.specs.KeyRefs.{text_of}
-use Rattle.chunk_log.specs.NoteBooks.{counting, inserted, IsNote}
+use Rattle.chunk_log.specs.NoteBooks.{IsNote}
 use Rattle.chunk_log.specs.declared.note.Note.{Note}
 use Rattle.chunk_log.proofs.Kept.{counted, kept}
 use Rattle.chunk_log.proofs.book.NoteBook.add.Goals as goal

@@ -1,0 +1,23 @@
+-- What follows from the lines that count, and from the text of lines.
+use Rattle.std.specs.Prelude.{ℕ, ◌≡◌, ◌-◌, ◌%◌, ◌^◌, ◌<◌, List, [], ◌∷◌, ◌++◌}
+use Rattle.chunk_log.specs.ChunkLines.{line_text, IsChunkLine, IsWritable}
+use Rattle.chunk_log.specs.NoteBooks.{counting}
+use Rattle.chunk_log.specs.declared.line.ChunkLine.{ChunkLine}
+use Rattle.chunk_log.specs.declared.note.Note.{Note}
+use Rattle.chunk_log.specs.declared.stamp.Stamp.{Stamp}
+
+-- where a book counts as a list of notes does, it still does with one note more on both sides
+abbrev pub CountingGoesOn : Type 0
+CountingGoesOn =
+    (book all : List Note) (note : Note) (key uuid : List ℕ) (chunk : ℕ) → counting book key uuid chunk ≡ counting all key uuid chunk
+    → counting (book ++ note ∷ []) key uuid chunk ≡ counting (all ++ note ∷ []) key uuid chunk
+
+-- a stamp as it is read back: what is less than a millionth of a second is gone
+abbrev pub cut : Stamp → Stamp
+cut stamp = record { seconds = stamp.seconds; nanos = stamp.nanos - stamp.nanos % 1000 }
+
+-- what was written is read as the same line, with its stamp cut
+abbrev pub ReadsBack : Type 0
+ReadsBack =
+    (line : ChunkLine) → IsWritable line → line.stamp.seconds < 2 ^ 64 → line.chunk < 2 ^ 64 → line.count < 2 ^ 64
+    → IsChunkLine (line_text line) (record { stamp = cut line.stamp; uuid = line.uuid; chunk = line.chunk; count = line.count })
