@@ -1,3 +1,8 @@
+pub mod Asks
 pub mod Doors
+pub mod Events
+pub mod Fills
+pub mod Firsts
 pub mod Links
-pub mod Parts
+pub mod Replies
+pub mod Turns

@@ -6,7 +6,7 @@ ghost use Rattle.child_link.specs.Doors.{Stepped};
 ghost use Rattle.host_core.specs.Steps.{takes_no_memory};
 
 use ann_key::NoMemory;
-use host_core::{Core, Event, Reply};
+use host_core::{Event, Reply};
 
 /// The way of one role to the core: it steps the core under a number of its own.
 pub trait Door {
@@ -30,35 +30,16 @@ pub trait Door {
         ensures stepped { Stepped (opening self.old) (number self.old) (alone self.old) (seen self.old) (seen self.new) event result }
         ensures legal { Legal (opening self.new) (seen self.new) }
         ensures free { takes_no_memory event ≡ true → IsOk result }
-        ensures same { (opening self.new ≡ opening self.old) × (number self.new ≡ number self.old) × (alone self.new ≡ alone self.old) }
+        ensures opening { opening self.new ≡ opening self.old }
+        ensures number { number self.new ≡ number self.old }
+        ensures alone { alone self.new ≡ alone self.old }
         ensures loans { loans self.new ≡ loans self.old };
 
     /// Waits until the journal may have grown, or returns sooner.
     fn rest(&mut self)
         ensures seen { seen self.new ≡ seen self.old }
-        ensures same { (opening self.new ≡ opening self.old) × (number self.new ≡ number self.old) × (alone self.new ≡ alone self.old) }
+        ensures opening { opening self.new ≡ opening self.old }
+        ensures number { number self.new ≡ number self.old }
+        ensures alone { alone self.new ≡ alone self.old }
         ensures loans { loans self.new ≡ loans self.old };
-}
-
-/// The door of the main thread, which owns the core between rounds. Its number is 0.
-pub struct OwnDoor<'a> {
-    pub core: &'a mut Core,
-}
-
-impl<'a> Door for OwnDoor<'a> {
-    ghost opening = { λ d. d.core.now.opening };
-
-    ghost number = { λ d. 0 };
-
-    ghost seen = { λ d. d.core.now.journal };
-
-    ghost alone = { λ d. true };
-
-    ghost loans = { λ d. d.core.ghost_name ∷ [] };
-
-    fn step(&mut self, event: Event) -> Result<Reply, NoMemory> {
-        self.core.step(0, event)
-    }
-
-    fn rest(&mut self) {}
 }

@@ -2,10 +2,10 @@
 #![tactic(auto)]
 
 mod door;
+mod events;
 mod lone;
-mod turns;
 mod wire;
 
-pub use door::{Door, OwnDoor};
+pub use door::Door;
 pub use lone::Lone;
 pub use wire::Wire;

@@ -181,3 +181,15 @@ fresh o journal l =
     let nothing = before c unstarted_before in
     nothing_both c past more nothing (other_child o past c e.by e.what (unstarted o past c e.by e.what may unstarted_before nothing))))
     journal l
+
+-- what a mute makes due ends no child
+pub mute_ends_none : (o : Opening) (past : List Entry) (child c by : ℕ) → is_ended (made_by by (due_by o past (Mute child))) c ≡ false
+mute_ends_none o past child c by = go (is_live past child)
+  where
+    settled : (jobs : List ℕ) → is_ended (made_by by (map (λ j. Settled child j Unsent) jobs)) c ≡ false
+    settled [] = refl
+    settled (j ∷ jobs) = settled jobs
+
+    go : (b : Bool) → is_ended (made_by by (cond b (map (λ j. Settled child j Unsent) (filter (is_unsent past child) (open_jobs past child))) [])) c ≡ false
+    go true = settled (filter (is_unsent past child) (open_jobs past child))
+    go false = refl

@@ -1,6 +1,6 @@
 -- Each event of a link keeps it wired to the journal.
 use Rattle.std.proofs.Common.{zero, suc, ◌≡◌, ℕ, ◌+◌, ◌≤◌, ◌<◌, List, [], ◌∷◌, ◌++◌, refl, sym, ap, subst, ◌∙◌, Bool, true, false, not, cond, Some, None, Option, length, take, drop, append_assoc, append-nil, arith, length-append, length-drop}
-use Rattle.std.specs.Prelude.{◌||◌, IfSome, map, filter, option_and_then, find}
+use Rattle.std.specs.Prelude.{◌||◌, IfSome, map, filter, option_and_then, find, is_some}
 use Rattle.std.specs.Option.{option_or}
 use Rattle.std.specs.Io.KnownBytes.{Appends}
 use Rattle.std.proofs.lemmas.List.{take-append-le}
@@ -50,6 +50,16 @@ unended (e ∷ past) c h = go (ends c e.what) refl (either_left (ends c e.what) 
         → option_and_then (λ (x : Entry). end_why c x.what) (cond b (Some e) (find (λ (x : Entry). ends c x.what) past)) ≡ None
     go true h k r = absurd cc (h, k)
     go false h k r = r
+
+-- it has ended where there is a reason
+pub why_is_end : (past : List Entry) (c : ℕ) → is_some (why_of past c) ≡ is_ended past c
+why_is_end [] c = refl
+why_is_end (e ∷ past) c = go (ends c e.what) refl (why_is_end past c)
+  where
+    go : (b : Bool) → ends c e.what ≡ b → is_some (why_of past c) ≡ is_ended past c
+        → is_some (option_and_then (λ (x : Entry). end_why c x.what) (cond b (Some e) (find (λ (x : Entry). ends c x.what) past))) ≡ (b || is_ended past c)
+    go true h r = let w = ends_why c e.what h in rw w.1 refl
+    go false h r = r
 
 text-append : (xs ys : List (List ℕ)) → text (xs ++ ys) ≡ text xs ++ text ys
 text-append [] ys = refl

@@ -66,7 +66,7 @@ settled _ = None
 -- ---- what a line makes due
 
 -- nothing, the child's end, or the verdict of an open job
-abbrev GotDue : List Entry → ℕ → List What → Type 0
+abbrev pub GotDue : List Entry → ℕ → List What → Type 0
 GotDue past child due =
     (due ≡ []) ⊎ ((why : Why) × (due ≡ ending past child why)) ⊎ ((j : ℕ) × (v : Verdict) × (is_open past child j ≡ true) × (due ≡ Settled child j v ∷ []))
 
@@ -87,7 +87,7 @@ line_due o past child (Some j) (Some m) = by_open (is_open past child j) refl
     by_open true opened = heard_due o past child j m opened (hearing_of (request_in (part past child j)) (said (part past child j) ++ Some m ∷ []))
     by_open false opened = inr (inl (Foul (length past), refl))
 
-got_due : (o : Opening) (past : List Entry) (child : ℕ) (line : List ℕ) → GotDue past child (due_by_got o past child line)
+pub got_due : (o : Opening) (past : List Entry) (child : ℕ) (line : List ℕ) → GotDue past child (due_by_got o past child line)
 got_due o past child line = by_speech (has_spoken past child)
   where
     by_speech : (b : Bool)

@@ -1,0 +1,155 @@
+-- What one event appends to the journal, and what is answered.
+use Rattle.std.specs.Prelude.{ℕ, ◌≡◌, ◌+◌, ◌^◌, ◌==◌, ◌&&◌, ◌||◌, not, nat_lt, Bool, true, false, if◌then◌else◌, List, [], ◌∷◌, ◌++◌, length, Option, Some, None, IsTrue, filter, option_map}
+use Rattle.std.specs.List.{list_any, list_all}
+use Rattle.annex_model.specs.declared.verdict.Verdict.{Verdict}
+use Rattle.annex_model.specs.Lines.{has_newline}
+use Rattle.annex_model.specs.Messages.{HostMessage, AskExtensions, Prepare, Checkpresent, host_line, is_sent_key}
+use Rattle.journal_model.specs.declared.entry.What.{What}
+use Rattle.journal_model.specs.declared.entry.What.TheVariants.{Claim, Start, NoStart, Ask, Sent, Mute, Got, End, Lost, Answer as Answered}
+use Rattle.journal_model.specs.declared.entry.Entry.{Entry}
+use Rattle.journal_model.specs.declared.opening.Opening.{Opening}
+use Rattle.journal_model.specs.Journal.{is_started, is_ended, is_mute, asked_jobs, verdict_of, unsent, on_wire, why_of, writes}
+use Rattle.journal_model.specs.Due.{due_after}
+use Rattle.journal_model.specs.Legality.{is_empty, count, is_start, is_claimed, numbers_of, least_free, is_prepared, is_in_turn, may_ask, may_stop, is_claimed_by, is_busy, has_open_job}
+use Rattle.talk_serial.specs.Requests.{message_of}
+use Rattle.host_core.specs.declared.event.Event.{Event}
+use Rattle.host_core.specs.declared.event.Event.TheVariants.{Claim as ClaimEvent, Start as StartEvent, NoStart as NoStartEvent, Ask as AskEvent, Lookup, Look, Got as GotEvent, Stop, Sent as SentEvent, Fetch, Mute as MuteEvent, Answer as AnswerEvent}
+use Rattle.host_core.specs.declared.event.Reply.{Reply}
+use Rattle.host_core.specs.declared.event.Reply.TheVariants.{Task, Child, Job, Verdict as Settled, Wait, NoTask, Gone, Line, Over, Done, Odd}
+
+pub record Step : Type 0 where
+  pub reply : Reply
+  pub group : List Entry
+
+-- ---- the kinds of steps
+
+-- the event may not come
+abbrev pub odd : Step
+odd = record { reply = Odd; group = [] }
+
+-- an answer that appends nothing
+abbrev pub only : Reply → Step
+only reply = record { reply = reply; group = [] }
+
+-- the entry, and what it makes due
+abbrev pub group_of : Opening → List Entry → ℕ → What → List Entry
+group_of o past by w = record { by = by; what = w } ∷ due_after o past (record { by = by; what = w })
+
+abbrev pub append : Opening → List Entry → ℕ → What → Reply → Step
+append o past by w reply = record { reply = reply; group = group_of o past by w }
+
+-- ---- conditions
+
+abbrev pub is_gone : List Entry → ℕ → Bool
+is_gone past child = is_ended past child || is_mute past child
+
+-- why the child ended, which is nothing where it is but mute
+abbrev pub gone : List Entry → ℕ → Reply
+gone past child = Gone (why_of past child)
+
+abbrev pub is_asked : List Entry → ℕ → ℕ → Bool
+is_asked past child job = list_any (λ k. k == job) (asked_jobs past child)
+
+-- each field of the message is of its class
+abbrev pub is_askable : HostMessage → Bool
+is_askable (AskExtensions names) = true
+is_askable Prepare = true
+is_askable (Checkpresent key) = is_sent_key key
+
+abbrev pub next_job : List Entry → ℕ → ℕ
+next_job past child = length (asked_jobs past child)
+
+-- the request may be the next job of the child
+abbrev pub may_request : List Entry → ℕ → ℕ → ℕ → HostMessage → Bool
+may_request past by task child q =
+    is_started past child && may_ask past by task child && is_in_turn past child (next_job past child) q && is_askable q
+
+abbrev pub may_answer : List Entry → ℕ → ℕ → Bool
+may_answer past by task = is_claimed_by past by task && is_busy past task && not (has_open_job past task)
+
+-- ---- words for the code
+
+-- the job that a line written to the child asks, if it asks one
+abbrev pub written_to : ℕ → What → Option (Option ℕ)
+written_to c w = option_map (λ l. l.0) (writes c w)
+
+abbrev pub got_line : What → List ℕ
+got_line (Got child line) = line
+got_line _ = []
+
+-- ---- steps that have more than one outcome
+
+abbrev pub are_all_claimed : Opening → List Entry → Bool
+are_all_claimed o past = list_all (is_claimed past) (numbers_of o)
+
+-- the tasks that are left
+abbrev pub unclaimed : Opening → List Entry → List ℕ
+unclaimed o past = filter (λ t. not (is_claimed past t)) (numbers_of o)
+
+-- the least free task is claimed for the child
+abbrev pub claim : Opening → List Entry → ℕ → ℕ → Option ℕ → Step
+claim o past by child (Some task) = append o past by (Claim task child) (Task task)
+claim o past by child None = only (if are_all_claimed o past then NoTask else Wait)
+
+-- the job is asked, or lost where the child is gone
+abbrev pub ask : Opening → List Entry → ℕ → ℕ → ℕ → HostMessage → Step
+ask o past by task child q =
+    if is_gone past child then append o past by (Lost child task) (gone past child)
+    else append o past by (Ask child (next_job past child) task (on_wire past child (next_job past child) (host_line q))) (Job (next_job past child))
+
+abbrev pub settled_so : Option Verdict → Reply
+settled_so (Some verdict) = Settled verdict
+settled_so None = Wait
+
+-- the next line that no Sent covers, with its byte 10
+abbrev pub next_line : List (Option ℕ × List ℕ) → Reply
+next_line [] = Wait
+next_line (w ∷ ws) = Line (w.1 ++ 10 ∷ [])
+
+-- ---- the table of events
+
+abbrev pub step_of : Opening → List Entry → ℕ → Event → Step
+step_of o past by (ClaimEvent child) =
+    if child == 0 && by == 0 then claim o past by child (least_free o past)
+    else if not (is_started past child && is_prepared past child) then odd
+    else if is_gone past child then only (gone past child)
+    else claim o past by child (least_free o past)
+step_of o past by (StartEvent slot offer) =
+    if by == 0 && nat_lt (count is_start past) 4294967295
+    then append o past by (Start (count is_start past + 1) slot offer) (Child (count is_start past + 1))
+    else odd
+step_of o past by (NoStartEvent slot) = if by == 0 then append o past by (NoStart slot) Done else odd
+step_of o past by (AskEvent child task request) =
+    if may_request past by task child (message_of request) then ask o past by task child (message_of request) else odd
+step_of o past by (Lookup child job) = if is_asked past child job then only (settled_so (verdict_of past child job)) else odd
+step_of o past by (Look child) =
+    if not (is_started past child) then odd
+    else if is_gone past child then only (gone past child)
+    else only Done
+step_of o past by (GotEvent child line) =
+    if not (is_started past child) || has_newline line then odd
+    else if is_ended past child then only (gone past child)
+    else append o past by (Got child line) Done
+step_of o past by (Stop child why) =
+    if not (is_started past child && may_stop past child why) then odd
+    else if is_ended past child then only (gone past child)
+    else append o past by (End child why) Done
+step_of o past by (SentEvent child) = if is_empty (unsent past child) then odd else append o past by (Sent child) Done
+step_of o past by (Fetch child) =
+    if not (is_started past child) then odd
+    else if is_gone past child then only Over
+    else only (next_line (unsent past child))
+step_of o past by (MuteEvent child) =
+    if is_started past child && not (is_mute past child) then append o past by (Mute child) Done else odd
+step_of o past by (AnswerEvent task answer) = if may_answer past by task then append o past by (Answered task answer) Done else odd
+
+-- the room of what these events append was taken before
+abbrev pub takes_no_memory : Event → Bool
+takes_no_memory (ClaimEvent child) = true
+takes_no_memory (Lookup child job) = true
+takes_no_memory (Look child) = true
+takes_no_memory (Stop child why) = true
+takes_no_memory (SentEvent child) = true
+takes_no_memory (MuteEvent child) = true
+takes_no_memory (AnswerEvent task answer) = true
+takes_no_memory _ = false

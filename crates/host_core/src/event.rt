@@ -1,0 +1,90 @@
+use ann_key::Bytes;
+use journal_model::{Answer, Verdict, Why};
+use talk_serial::Request;
+
+/// What is asked of the core, or told to it.
+#[derive(Drop)]
+pub enum Event {
+    /// A task to do over this child, or over none where it is 0.
+    Claim {
+        child: u32,
+    },
+    /// A child was started in that slot, and ASYNC is to be offered to it or not.
+    Start {
+        slot: u32,
+        offer: bool,
+    },
+    /// No child could be started in that slot.
+    NoStart {
+        slot: u32,
+    },
+    /// A request of the task, or of the greeting where that is 0.
+    Ask {
+        child: u32,
+        task: u32,
+        request: Request,
+    },
+    /// How the job stands.
+    Lookup {
+        child: u32,
+        job: u64,
+    },
+    /// How the child stands.
+    Look {
+        child: u32,
+    },
+    /// The child said a line, here without its byte 10.
+    Got {
+        child: u32,
+        line: Bytes,
+    },
+    /// The child is at its end.
+    Stop {
+        child: u32,
+        why: Why,
+    },
+    /// The next line for the child was written whole.
+    Sent {
+        child: u32,
+    },
+    /// The next line to write to the child.
+    Fetch {
+        child: u32,
+    },
+    /// Writing to the child failed.
+    Mute {
+        child: u32,
+    },
+    /// The answer of a task.
+    Answer {
+        task: u32,
+        answer: Answer,
+    },
+}
+
+/// What the core answers.
+#[derive(Drop)]
+pub enum Reply {
+    /// This task is claimed.
+    Task(u32),
+    /// The child has this number.
+    Child(u32),
+    /// The request is this job of its child.
+    Job(u64),
+    /// The job is settled so.
+    Verdict(Verdict),
+    /// The job is open, or each task that is left is in the way of a busy one.
+    Wait,
+    /// Each task is claimed.
+    NoTask,
+    /// The child ended so, or is mute where there is no reason.
+    Gone { why: Option<Why> },
+    /// The next line for the child, with its byte 10.
+    Line(Bytes),
+    /// There is nothing more to do.
+    Over,
+    /// It is in the journal, or needn't be.
+    Done,
+    /// The event may not come here. Nothing has changed.
+    Odd,
+}
