@@ -1,5 +1,5 @@
 -- What one event appends to the journal, and what is answered.
-use Rattle.std.specs.Prelude.{ℕ, ◌≡◌, ◌+◌, ◌^◌, ◌==◌, ◌&&◌, ◌||◌, not, nat_lt, Bool, true, false, if◌then◌else◌, List, [], ◌∷◌, ◌++◌, length, Option, Some, None, IsTrue, filter, option_map}
+use Rattle.std.specs.Prelude.{ℕ, ◌⊎◌, ◌≡◌, ◌+◌, ◌==◌, ◌&&◌, ◌||◌, not, nat_lt, Bool, true, false, if◌then◌else◌, List, [], ◌∷◌, length, Option, Some, None, filter, option_map}
 use Rattle.std.specs.List.{list_any, list_all}
 use Rattle.annex_model.specs.declared.verdict.Verdict.{Verdict}
 use Rattle.annex_model.specs.Lines.{has_newline}
@@ -10,12 +10,12 @@ use Rattle.journal_model.specs.declared.entry.Entry.{Entry}
 use Rattle.journal_model.specs.declared.opening.Opening.{Opening}
 use Rattle.journal_model.specs.Journal.{is_started, is_ended, is_mute, asked_jobs, verdict_of, unsent, on_wire, why_of, writes}
 use Rattle.journal_model.specs.Due.{due_after}
-use Rattle.journal_model.specs.Legality.{is_empty, count, is_start, is_claimed, numbers_of, least_free, is_prepared, is_in_turn, may_ask, may_stop, is_claimed_by, is_busy, has_open_job}
+use Rattle.journal_model.specs.Legality.{may_come, is_empty, count, is_start, is_claimed, numbers_of, least_free, is_prepared, is_in_turn, may_ask, may_stop, is_claimed_by, is_busy, has_open_job}
 use Rattle.talk_serial.specs.Requests.{message_of}
 use Rattle.host_core.specs.declared.event.Event.{Event}
-use Rattle.host_core.specs.declared.event.Event.TheVariants.{Claim as ClaimEvent, Start as StartEvent, NoStart as NoStartEvent, Ask as AskEvent, Lookup, Look, Got as GotEvent, Stop, Sent as SentEvent, Fetch, Mute as MuteEvent, Answer as AnswerEvent}
+use Rattle.host_core.specs.declared.event.Event.TheVariants.{Claim as ClaimEvent, Start as StartEvent, NoStart as NoStartEvent, Ask as AskEvent, Lookup, Look, Got as GotEvent, Stop, Sent as SentEvent, Mute as MuteEvent, Answer as AnswerEvent}
 use Rattle.host_core.specs.declared.event.Reply.{Reply}
-use Rattle.host_core.specs.declared.event.Reply.TheVariants.{Task, Child, Job, Verdict as Settled, Wait, NoTask, Gone, Line, Over, Done, Odd}
+use Rattle.host_core.specs.declared.event.Reply.TheVariants.{Task, Child, Job, Verdict as Settled, Wait, NoTask, Gone, Done, Odd}
 
 pub record Step : Type 0 where
   pub reply : Reply
@@ -67,6 +67,16 @@ may_request past by task child q =
 abbrev pub may_answer : List Entry → ℕ → ℕ → Bool
 may_answer past by task = is_claimed_by past by task && is_busy past task && not (has_open_job past task)
 
+-- ---- memory
+
+-- the room for what the event appends was kept before
+abbrev pub takes_no_memory : Event → Bool
+takes_no_memory (StartEvent slot offer) = false
+takes_no_memory (NoStartEvent slot) = false
+takes_no_memory (AskEvent child task request) = false
+takes_no_memory (GotEvent child line) = false
+takes_no_memory _ = true
+
 -- ---- words for the code
 
 -- the job that a line written to the child asks, if it asks one
@@ -101,11 +111,6 @@ abbrev pub settled_so : Option Verdict → Reply
 settled_so (Some verdict) = Settled verdict
 settled_so None = Wait
 
--- the next line that no Sent covers, with its byte 10
-abbrev pub next_line : List (Option ℕ × List ℕ) → Reply
-next_line [] = Wait
-next_line (w ∷ ws) = Line (w.1 ++ 10 ∷ [])
-
 -- ---- the table of events
 
 abbrev pub step_of : Opening → List Entry → ℕ → Event → Step
@@ -135,21 +140,14 @@ step_of o past by (Stop child why) =
     else if is_ended past child then only (gone past child)
     else append o past by (End child why) Done
 step_of o past by (SentEvent child) = if is_empty (unsent past child) then odd else append o past by (Sent child) Done
-step_of o past by (Fetch child) =
-    if not (is_started past child) then odd
-    else if is_gone past child then only Over
-    else only (next_line (unsent past child))
 step_of o past by (MuteEvent child) =
     if is_started past child && not (is_mute past child) then append o past by (Mute child) Done else odd
 step_of o past by (AnswerEvent task answer) = if may_answer past by task then append o past by (Answered task answer) Done else odd
 
--- the room of what these events append was taken before
-abbrev pub takes_no_memory : Event → Bool
-takes_no_memory (ClaimEvent child) = true
-takes_no_memory (Lookup child job) = true
-takes_no_memory (Look child) = true
-takes_no_memory (Stop child why) = true
-takes_no_memory (SentEvent child) = true
-takes_no_memory (MuteEvent child) = true
-takes_no_memory (AnswerEvent task answer) = true
-takes_no_memory _ = false
+-- the step appends nothing, or an entry that may come, with what it makes due
+abbrev pub Comes : Opening → List Entry → ℕ → Step → Type 0
+Comes o past by s = (s.group ≡ []) ⊎ ((w : What) × (may_come o past by w ≡ true) × (s.group ≡ group_of o past by w))
+
+-- some event by this number appends the entry, with what it makes due
+abbrev pub Appends : Opening → List Entry → ℕ → What → Type 0
+Appends o past by w = (event : Event) × ((step_of o past by event).group ≡ group_of o past by w)

@@ -47,10 +47,6 @@ pub enum Event {
     Sent {
         child: u32,
     },
-    /// The next line to write to the child.
-    Fetch {
-        child: u32,
-    },
     /// Writing to the child failed.
     Mute {
         child: u32,
@@ -63,7 +59,7 @@ pub enum Event {
 }
 
 /// What the core answers.
-#[derive(Drop)]
+#[derive(Clone, Copy, PartialEq, Eq, Debug)]
 pub enum Reply {
     /// This task is claimed.
     Task(u32),
@@ -79,10 +75,6 @@ pub enum Reply {
     NoTask,
     /// The child ended so, or is mute where there is no reason.
     Gone { why: Option<Why> },
-    /// The next line for the child, with its byte 10.
-    Line(Bytes),
-    /// There is nothing more to do.
-    Over,
     /// It is in the journal, or needn't be.
     Done,
     /// The event may not come here. Nothing has changed.

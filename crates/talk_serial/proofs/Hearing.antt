@@ -1,13 +1,12 @@
 -- What is heard, and what may stand behind a talk so far.
-use Rattle.std.proofs.Common.{◌≡◌, ℕ, List, [], ◌∷◌, ◌++◌, refl, sym, ap, ◌∙◌, subst, Bool, true, false, Option, Some, None}
-use Rattle.std.specs.Prelude.{IsSome, IsTrue}
+use Rattle.std.proofs.Common.{◌≡◌, ℕ, List, [], ◌∷◌, ◌++◌, refl, sym, ap, ◌∙◌, Bool, true, false, Option, Some, None}
+use Rattle.std.specs.Prelude.{IsSome}
 use Rattle.annex_model.specs.declared.verdict.Final.{Final}
 use Rattle.annex_model.specs.Messages.{RemoteMessage, Version, Extensions, PrepareSuccess, CheckpresentSuccess, CheckpresentFailure, HostMessage, AskExtensions, Prepare, Checkpresent, remote_reading}
-use Rattle.annex_model.specs.Talks.{Item, Conv, Talking, is_aside, spells_aside, item_is_aside, final_of, awaits, said}
+use Rattle.annex_model.specs.Talks.{Item, Conv, Talking, spells_aside, final_of, awaits, said}
 use Rattle.annex_model.proofs.TalksGrow.{said-push, replied-push, Conv-push}
-use Rattle.journal_model.specs.Due.{by_answer, hearing_of}
-use Rattle.talk_serial.specs.declared.talk.Heard.{Heard}
-use Rattle.talk_serial.specs.declared.talk.Heard.TheVariants.{Aside as HeardAside, Part as HeardPart, Settled, Foul}
+use Rattle.journal_model.specs.Due.{by_answer}
+use Rattle.talk_serial.specs.declared.talk.Heard.TheVariants.{Settled, Foul}
 use Rattle.talk_serial.specs.Hearings.{heard_as, heard, from_remote}
 
 pub settled_final : (o : Option Final) (w : Bool) (f : Final) → heard_as (by_answer o w) ≡ Settled f → o ≡ Some f
@@ -43,9 +42,10 @@ pub settled_conv : (replies : ℕ → List (List ℕ)) (q : HostMessage) (part :
     → Conv replies q (part ++ from_remote at text ∷ []) × (final_of q (said (part ++ from_remote at text ∷ [])) ≡ Some f)
 settled_conv replies q part at text m f talks reads h =
     let final : final_of q (said part ++ Some m ∷ []) ≡ Some f = settled_final (final_of q (said part ++ Some m ∷ [])) (awaits q (said part ++ Some m ∷ [])) f h in
-    let with_text : final_of q (said part ++ remote_reading text ∷ []) ≡ Some f = ap (λ (o : Option RemoteMessage). final_of q (said part ++ o ∷ [])) reads ∙ final in
-    (Conv-push replies q part at text (ap spells_aside reads) talks (some_is (final_of q (said part ++ remote_reading text ∷ [])) f with_text),
-    ap (final_of q) (said_with part at text m reads) ∙ final)
+    let with_text : final_of q (said part ++ remote_reading text ∷ []) ≡ Some f = ap (λ (o : Option RemoteMessage). final_of q (said part ++ o ∷ [])) reads ∙ final in (
+      Conv-push replies q part at text (ap spells_aside reads) talks (some_is (final_of q (said part ++ remote_reading text ∷ [])) f with_text),
+      ap (final_of q) (said_with part at text m reads) ∙ final,
+    )
 
 pub conv_settled : (q : HostMessage) (part : List Item) (at : ℕ) (text : List ℕ) (m : RemoteMessage) (f : Final)
     → remote_reading text ≡ Some m → final_of q (said (part ++ from_remote at text ∷ [])) ≡ Some f → heard q (said part) m ≡ Settled f
@@ -59,9 +59,10 @@ pub foul_blocks : (replies : ℕ → List (List ℕ)) (q : HostMessage) (part : 
 foul_blocks replies q part at text m reads h =
     let both = foul_final (final_of q (said part ++ Some m ∷ [])) (awaits q (said part ++ Some m ∷ [])) h in
     let final : final_of q (said (part ++ from_remote at text ∷ [])) ≡ None = ap (final_of q) (said_with part at text m reads) ∙ both.0 in
-    let waits : awaits q (said (part ++ from_remote at text ∷ [])) ≡ false = ap (awaits q) (said_with part at text m reads) ∙ both.1 in
-    ((λ conv. none_not (final_of q (said (part ++ from_remote at text ∷ []))) final conv.answer),
-    (λ talking. not_both (awaits q (said (part ++ from_remote at text ∷ []))) waits talking.waits))
+    let waits : awaits q (said (part ++ from_remote at text ∷ [])) ≡ false = ap (awaits q) (said_with part at text m reads) ∙ both.1 in (
+      (λ conv. none_not (final_of q (said (part ++ from_remote at text ∷ []))) final conv.answer),
+      (λ talking. not_both (awaits q (said (part ++ from_remote at text ∷ []))) waits talking.waits),
+    )
   where
     not_both : (b : Bool) → b ≡ false → b ≡ true → ⊥
     not_both b e f = cc

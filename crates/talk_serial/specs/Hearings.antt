@@ -1,5 +1,5 @@
 -- What a message is to a talk.
-use Rattle.std.specs.Prelude.{ℕ, ◌≡◌, ◌↔◌, Bool, true, false, if◌then◌else◌, List, [], ◌∷◌, ◌++◌, Option, Some, None, IsSome, IsTrue}
+use Rattle.std.specs.Prelude.{ℕ, ◌≡◌, ◌↔◌, Bool, true, false, if◌then◌else◌, List, [], ◌∷◌, ◌++◌, Option, Some, IsSome, IsTrue}
 use Rattle.annex_model.specs.declared.verdict.Final.{Final}
 use Rattle.annex_model.specs.Messages.{RemoteMessage, HostMessage, remote_reading}
 use Rattle.annex_model.specs.Talks.{Item, Remote, Conv, Talking, is_aside, final_of, awaits, said}

@@ -10,15 +10,11 @@ use wire_msg::HostMsg;
 #[derive(Drop)]
 pub enum Request {
     /// Which extensions of the protocol the remote knows. The host knows INFO and GETGITREMOTENAME, and offers ASYNC or not.
-    Extensions {
-        offer: bool,
-    },
+    Extensions { offer: bool },
     /// To get ready.
     Prepare,
     /// Whether the remote has the key's content.
-    CheckPresent {
-        key: Key,
-    },
+    CheckPresent { key: Key },
 }
 
 fn names(offer: bool) -> &'static [u8]

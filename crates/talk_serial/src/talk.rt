@@ -51,8 +51,10 @@ fn whole_answer(request: &Request, message: &RemoteMsg<'_>) -> Option<Final>
     match (request, message) {
         (Request::Extensions { .. }, RemoteMsg::Extensions(_)) => Some(Final::Done),
         (Request::Prepare, RemoteMsg::PrepareSuccess) => Some(Final::Done),
-        (Request::CheckPresent { key }, RemoteMsg::CheckpresentSuccess(said)) if same(said.text(), key.view().text()) => Some(Final::Done),
-        (Request::CheckPresent { key }, RemoteMsg::CheckpresentFailure(said)) if same(said.text(), key.view().text()) => Some(Final::Absent),
+        (Request::CheckPresent { key }, RemoteMsg::CheckpresentSuccess(said))
+            if same(said.text(), key.view().text()) => Some(Final::Done),
+        (Request::CheckPresent { key }, RemoteMsg::CheckpresentFailure(said))
+            if same(said.text(), key.view().text()) => Some(Final::Absent),
         _ => None,
     }
 }

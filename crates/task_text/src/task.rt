@@ -4,7 +4,7 @@ use ann_key::{Key, NoMemory, Text};
 use std::alloc::Global;
 use std::marker::Model;
 
-/// What a task does.
+/// What a task does with its key.
 #[derive(Clone, Copy, Debug, PartialEq, Eq)]
 pub enum Work {
     Store,
@@ -13,7 +13,7 @@ pub enum Work {
     Drop,
 }
 
-/// A task. `file` is empty for Check and Drop.
+/// One task. The file is empty for Check and Drop.
 #[derive(Drop)]
 pub struct Task {
     pub work: Work,
@@ -34,6 +34,41 @@ impl Model for Tasks {
     ghost Value = { List Task };
 
     ghost view = { λ t. t.list.items };
+}
+
+impl Work {
+    ghost use Rattle.task_text.specs.Works.{names_file, word_of, work_of};
+
+    const ALL: [Work; 4] = [Work::Store, Work::Get, Work::Check, Work::Drop];
+
+    /// The word that begins a task's line.
+    pub fn word(self) -> &'static [u8]
+        ensures { result.now ≡ word_of self }
+    {
+        match self {
+            Work::Store => b"store",
+            Work::Get => b"get",
+            Work::Check => b"check",
+            Work::Drop => b"drop",
+        }
+    }
+
+    /// The work of this word.
+    pub fn read(word: &[u8]) -> Option<Work>
+        ensures { result ≡ work_of word.now }
+    {
+        Work::ALL.iter().copied().find(|work| work.word() == word)
+    }
+
+    /// Whether a task of this work names a file.
+    pub fn names_file(self) -> bool
+        ensures { result ≡ names_file self }
+    {
+        match self {
+            Work::Store | Work::Get => true,
+            Work::Check | Work::Drop => false,
+        }
+    }
 }
 
 impl Task {
@@ -62,7 +97,7 @@ fn copy_all(alloc: Global, tasks: &[Task]) -> Result<Vec<Task>, NoMemory>
 }
 
 impl Tasks {
-    /// The tasks of the list, in its order. It takes no memory.
+    /// These tasks. It takes no memory.
     pub fn new(list: Vec<Task>) -> Tasks
         ensures { result ≡ list.items }
     {

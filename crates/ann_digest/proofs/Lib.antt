@@ -1,0 +1,4 @@
+pub mod Fitting
+pub mod HexText
+pub mod Namings
+pub mod Zeros

@@ -1,0 +1,6 @@
+pub mod Checkers
+pub mod Digests
+pub mod Directories
+pub mod Fits
+pub mod Hashers
+pub mod HashKinds

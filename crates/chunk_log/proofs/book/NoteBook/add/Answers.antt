@@ -1,0 +1,18 @@
+use Rattle.std.proofs.Common.{◌≡◌, ℕ, List, ◌++◌, ◌∷◌, [], subst, sym, ap}
+use Rattle.std.specs.Prelude.{OnOk}
+use Rattle.ann_key.specs.KeyRefs.{text_of}
+use Rattle.chunk_log.specs.NoteBooks.{counting, inserted, IsNote}
+use Rattle.chunk_log.specs.declared.note.Note.{Note}
+use Rattle.chunk_log.proofs.Kept.{counted, kept}
+use Rattle.chunk_log.proofs.book.NoteBook.add.Goals as goal
+
+pub invariant_of-self : goal.invariant_of-self
+invariant_of-self c =
+    let note : Note = record { key = c.in_ok-key.key; line = c.args.line } in
+    let own : IsNote (record { key = c.in_ok-key.key; line = c.args.line }) = record { key = rw c.in_ok-key.ensures c.requires.key; line = c.requires.line } in
+    kept c.insert.result note c.self.inside.notes.items c.insert.new.notes.items c.insert.ensures.ok c.insert.ensures.err c.self.invariant.0 c.self.invariant.1 own
+
+pub returns-clause-counts : goal.returns-clause-counts
+returns-clause-counts c =
+    let note : Note = record { key = c.in_ok-key.key; line = c.args.line } in
+    rw (← c.in_ok-key.ensures, ← c.self.view_is) (counted c.insert.result note c.self.inside.notes.items c.insert.new.notes.items c.insert.ensures.ok c.self.invariant.0)

@@ -1,0 +1,5 @@
+pub mod ChunkLines
+pub mod Current
+pub mod Found
+pub mod NoteBooks
+pub mod Stamps

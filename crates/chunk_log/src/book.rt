@@ -1,0 +1,89 @@
+// Which lines of a chunk log count.
+ghost use Rattle.std.specs.Prelude.{◌≡◌, ◌≤◌, ◌<◌, ℕ, List, [], ◌∷◌, ◌++◌, length, slice_get, true, false, not, OnOk, OnErr, IfOk, IsTrue, MatchOption, Some, None, option_map, All};
+ghost use Rattle.std.specs.List.{list_any, prefix_len};
+ghost use Rattle.chunk_log.specs.ChunkLines.{is_space};
+ghost use Rattle.ann_key.specs.KeyRefs.{text_of};
+
+use crate::current::current;
+use crate::insert::{copies, insert};
+use crate::layouts::Layouts;
+use crate::line::ChunkLine;
+use crate::note::Note;
+use ann_key::{Key, KeyRef, NoMemory};
+use std::alloc::Global;
+use std::marker::Model;
+
+/// The lines that count: of each key, UUID and chunk size the newest one, at a tie the one that was added last.
+#[derive(Drop)]
+pub struct NoteBook {
+    notes: Vec<Note>,
+}
+
+impl Model for NoteBook {
+    ghost use Rattle.std.specs.Prelude.{List, IsTrue, All};
+    ghost use Rattle.chunk_log.specs.declared.note.Note.{Note};
+
+    ghost Value = { List Note };
+
+    ghost use Rattle.chunk_log.specs.NoteBooks.{in_order, IsNote};
+
+    ghost view = { λ b. b.notes.items };
+
+    ghost invariant = { λ b. IsTrue (in_order b.notes.items) × All IsNote b.notes.items };
+}
+
+impl NoteBook {
+    ghost use Rattle.chunk_log.specs.NoteBooks.{counting, in_order, IsNote, IsWritable};
+    ghost use Rattle.chunk_log.specs.Current.{IsCurrent};
+    ghost use Rattle.chunk_log.specs.declared.note.Note.{Note};
+
+    /// No line. It takes no memory.
+    pub fn new(alloc: Global) -> NoteBook
+        ensures { result ≡ [] }
+    {
+        NoteBook {
+            notes: Vec::new(alloc),
+        }
+    }
+
+    /// Adds a line of a key.
+    pub fn add(&mut self, alloc: Global, key: KeyRef<'_>, line: ChunkLine) -> Result<(), NoMemory>
+        requires key { list_any is_space (text_of key) ≡ true → ⊥ }
+        requires line { IsWritable line }
+        ensures counts { OnOk result ((key' uuid : List ℕ) (chunk : ℕ) → counting self.new key' uuid chunk ≡ counting (self.old ++ record { key = text_of key.entry; line = line } ∷ []) key' uuid chunk) }
+        ensures err { OnErr result (self.new ≡ self.old) }
+    {
+        let key = Key::copy(alloc, key)?;
+        insert(&mut self.notes, Note { key, line })
+    }
+
+    /// An equal book.
+    pub fn copy(&self, alloc: Global) -> Result<NoteBook, NoMemory>
+        ensures { IfOk result (λ book. book ≡ self.now) }
+    {
+        let notes = copies(alloc, &self.notes)?;
+        Ok(NoteBook { notes })
+    }
+
+    /// The nth line, by key text, then UUID, then chunk size. It takes no memory.
+    pub fn line(&self, n: usize) -> Option<(KeyRef<'_>, &ChunkLine)>
+        ensures nth { option_map (λ line. record { key = text_of line.0; line = line.1.now }) result ≡ slice_get self.now n }
+        ensures order { IsTrue (in_order self.now) }
+        ensures notes { All IsNote self.now }
+    {
+        let notes = self.notes.as_slice();
+        if n < notes.len() {
+            let note = &notes[n];
+            Some((note.key.view(), &note.line))
+        } else {
+            None
+        }
+    }
+
+    /// The layouts in which the remote has chunks of the key: the newest first, then the largest chunks.
+    pub fn current(&self, alloc: Global, key: KeyRef<'_>, uuid: &str) -> Result<Layouts, NoMemory>
+        ensures { IfOk result (λ layouts. IsCurrent self.now (text_of key.entry) uuid.now layouts) }
+    {
+        current(alloc, &self.notes, key.text(), uuid.as_bytes())
+    }
+}

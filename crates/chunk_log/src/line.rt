@@ -1,0 +1,86 @@
+// The lines of a chunk log.
+ghost use Rattle.std.specs.Prelude.{◌≡◌, IfOk, MatchResult};
+ghost use Rattle.uuid.specs.Text.{hyphenated_text, lower, parsed};
+ghost use Rattle.chunk_log.specs.ChunkLines.{counts_in, uuid_in, IsChunkLine, IsRefused};
+
+use crate::error::ChunkError;
+use crate::scan;
+use crate::stamp::Stamp;
+use ann_key::{NoMemory, Text};
+use std::alloc::Global;
+use uuid::Uuid;
+
+/// How many chunks of a size a remote has of a key, and since when. A count of 0 says that it has none.
+///
+/// <https://git-annex.branchable.com/internals/#index13h2>
+#[derive(Drop)]
+pub struct ChunkLine {
+    pub stamp: Stamp,
+    /// The remote's UUID, in lower case and with hyphens.
+    pub uuid: Text,
+    /// The size of a chunk in bytes.
+    pub chunk: u64,
+    pub count: u64,
+}
+
+/// Reads a line, as in `1287290776.765152s UUID:10240 9`.
+pub fn read_line(alloc: Global, line: &[u8]) -> Result<ChunkLine, ChunkError>
+    ensures { MatchResult result (λ read. IsChunkLine line.now read) (λ error. IsRefused line.now error) }
+{
+    let Some(stamp) = Stamp::read(scan::before_first(line, b' ')) else {
+        return Err(ChunkError::BadStamp);
+    };
+    let behind = scan::after_first(line, b' ');
+    let word = scan::before_first(behind, b' ');
+    let Some(uuid) = uuid_in(word) else {
+        return Err(ChunkError::BadUuid);
+    };
+    let Some((chunk, count)) = counts_in(word, scan::after_first(behind, b' ')) else {
+        return Err(ChunkError::BadCount);
+    };
+    let uuid = written(alloc, uuid)?;
+    Ok(ChunkLine {
+        stamp,
+        uuid,
+        chunk,
+        count,
+    })
+}
+
+fn uuid_in(word: &[u8]) -> Option<Uuid>
+    ensures { result ≡ uuid_in word.now }
+{
+    if scan::has(word, b':') {
+        parsed(scan::before_last(word, b':'))
+    } else {
+        None
+    }
+}
+
+fn parsed(text: &[u8]) -> Option<Uuid>
+    ensures { result ≡ parsed text.now }
+{
+    match Uuid::try_parse_ascii(text) {
+        Ok(uuid) => Some(uuid),
+        Err(_) => None,
+    }
+}
+
+fn counts_in(word: &[u8], count: &[u8]) -> Option<(u64, u64)>
+    ensures { result ≡ counts_in word.now count.now }
+{
+    match scan::number(scan::after_last(word, b':')) {
+        Some(chunk) if chunk != 0 => match scan::number(count) {
+            Some(count) => Some((chunk, count)),
+            None => None,
+        },
+        _ => None,
+    }
+}
+
+fn written(alloc: Global, uuid: Uuid) -> Result<Text, NoMemory>
+    ensures { IfOk result (λ text. text ≡ hyphenated_text lower uuid) }
+{
+    let mut buffer = [0; 36];
+    Text::copy(alloc, uuid.hyphenated().encode_lower(&mut buffer))
+}

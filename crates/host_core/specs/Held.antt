@@ -1,0 +1,8 @@
+use Rattle.std.specs.Prelude.{List}
+use Rattle.journal_model.specs.declared.entry.Entry.{Entry}
+use Rattle.journal_model.specs.declared.opening.Opening.{Opening}
+
+-- what contracts see of a core
+pub record Held : Type 0 where
+  pub opening : Opening
+  pub journal : List Entry

@@ -1,0 +1,229 @@
+// What the journal says of the tasks.
+ghost use Rattle.std.specs.Prelude.{◌≡◌, ◌≤◌, ◌^◌, ◌&&◌, ◌==◌, ◌++◌, find, length, not, option_copied, bytes_eq, codes};
+ghost use Rattle.std.specs.List.{list_any, list_all, range_with_len};
+ghost use Rattle.journal_model.specs.Journal.{each_of};
+ghost use Rattle.journal_model.specs.Legality.{claims, answers, is_claimed, is_busy, clashes, conflicts, task_of, both_conflict, numbers_of, is_free, least_free, claims_with, is_claimed_by, job_for, has_open_job, may_work, claimed_for, has_busy_task};
+ghost use Rattle.host_core.specs.Steps.{are_all_claimed, unclaimed};
+
+use crate::children;
+use journal_model::{Entry, Opening, What};
+use task_text::Task;
+
+fn claims(what: &What, t: u32) -> bool
+    ensures { result ≡ claims t what.now }
+{
+    match what {
+        What::Claim { task, .. } => *task == t,
+        _ => false,
+    }
+}
+
+fn answers(what: &What, t: u32) -> bool
+    ensures { result ≡ answers t what.now }
+{
+    match what {
+        What::Answer { task, .. } => *task == t,
+        _ => false,
+    }
+}
+
+pub(super) fn is_claimed(entries: &[Entry], task: u32) -> bool
+    ensures { result ≡ is_claimed entries.now task }
+{
+    entries.iter().any(|e| claims(&e.what, task))
+}
+
+fn is_answered(entries: &[Entry], task: u32) -> bool
+    ensures { result ≡ list_any (λ e. answers task e.what) entries.now }
+{
+    entries.iter().any(|e| answers(&e.what, task))
+}
+
+/// Whether the task is claimed and not answered.
+pub(super) fn is_busy(entries: &[Entry], task: u32) -> bool
+    ensures { result ≡ is_busy entries.now task }
+{
+    is_claimed(entries, task) && !is_answered(entries, task)
+}
+
+fn same(one: &[u8], other: &[u8]) -> bool
+    ensures { result ≡ bytes_eq one.now other.now }
+{
+    one == other
+}
+
+/// Whether the text is the other one followed by `.part`.
+fn is_part_of(text: &[u8], other: &[u8]) -> bool
+    ensures { result ≡ bytes_eq text.now (other.now ++ codes ".part") }
+{
+    if text.len() < 5 {
+        return false;
+    }
+    let at = text.len() - 5;
+    let begins = same(&text[..at], other);
+    let ends = same(&text[at..], b".part");
+    begins && ends
+}
+
+fn clashes(a: &[u8], b: &[u8]) -> bool
+    ensures { result ≡ clashes a.now b.now }
+{
+    if a.is_empty() || b.is_empty() {
+        return false;
+    }
+    a == b || is_part_of(a, b) || is_part_of(b, a)
+}
+
+fn conflicts(one: &Task, other: &Task) -> bool
+    ensures { result ≡ conflicts one.now other.now }
+{
+    one.key.view().text() == other.key.view().text()
+        || clashes(one.file.view().as_bytes(), other.file.view().as_bytes())
+}
+
+/// The task of a number, counted from 1.
+fn task_of(opening: &Opening, number: u32) -> Option<&Task>
+    ensures { option_copied result ≡ task_of opening.now number }
+{
+    if number == 0 {
+        None
+    } else {
+        opening.tasks.view().get(number as usize - 1)
+    }
+}
+
+fn both_conflict(opening: &Opening, one: u32, other: u32) -> bool
+    ensures { result ≡ both_conflict (task_of opening.now one) (task_of opening.now other) }
+{
+    let Some(one) = task_of(opening, one) else {
+        return false;
+    };
+    let Some(other) = task_of(opening, other) else {
+        return false;
+    };
+    conflicts(one, other)
+}
+
+/// How many tasks there are.
+pub(super) fn task_count(opening: &Opening) -> u32
+    requires { length opening.now.tasks ≤ 65536 }
+    ensures { result ≡ length opening.now.tasks }
+{
+    opening.tasks.view().len() as u32
+}
+
+/// Whether a busy task is in the task's way.
+fn is_in_way(opening: &Opening, entries: &[Entry], task: u32) -> bool
+    requires { length opening.now.tasks ≤ 65536 }
+    ensures { result ≡ list_any (λ u. is_busy entries.now u && both_conflict (task_of opening.now u) (task_of opening.now task)) (numbers_of opening.now) }
+{
+    (1..task_count(opening) + 1).any(|other| is_busy(entries, other)
+        && both_conflict(opening, other, task))
+}
+
+fn is_free(opening: &Opening, entries: &[Entry], task: u32) -> bool
+    requires { length opening.now.tasks ≤ 65536 }
+    ensures { result ≡ is_free opening.now entries.now task }
+{
+    !is_claimed(entries, task) && !is_in_way(opening, entries, task)
+}
+
+/// The first task that is free to be claimed.
+pub(super) fn least_free(opening: &Opening, entries: &[Entry]) -> Option<u32>
+    requires { length opening.now.tasks ≤ 65536 }
+    ensures { result ≡ least_free opening.now entries.now }
+{
+    (1..task_count(opening) + 1).find(|task| is_free(opening, entries, *task))
+}
+
+pub(super) fn are_all_claimed(opening: &Opening, entries: &[Entry]) -> bool
+    requires { length opening.now.tasks ≤ 65536 }
+    ensures { result ≡ are_all_claimed opening.now entries.now }
+{
+    (1..task_count(opening) + 1).all(|task| is_claimed(entries, task))
+}
+
+fn claims_with(entry: &Entry, by: u32, t: u32, c: u32) -> bool
+    ensures { result ≡ claims_with by t c entry.now }
+{
+    match &entry.what {
+        What::Claim { task, child } => entry.by == by && *task == t && *child == c,
+        _ => false,
+    }
+}
+
+fn is_claimed_for(entries: &[Entry], by: u32, task: u32, child: u32) -> bool
+    ensures { result ≡ list_any (claims_with by task child) entries.now }
+{
+    entries.iter().any(|e| claims_with(e, by, task, child))
+}
+
+/// Whether the number has claimed the task.
+pub(super) fn is_claimed_by(entries: &[Entry], by: u32, task: u32) -> bool
+    ensures { result ≡ is_claimed_by entries.now by task }
+{
+    entries.iter().any(|e| e.by == by && claims(&e.what, task))
+}
+
+/// The job that the entry asks for the task, and its child.
+fn job_for(what: &What, t: u32) -> Option<(u32, u64)>
+    ensures { result ≡ job_for t what.now }
+{
+    match what {
+        What::Ask {
+            child,
+            job,
+            task,
+            ..
+        } if *task == t => Some((*child, *job)),
+        _ => None,
+    }
+}
+
+pub(super) fn has_open_job(entries: &[Entry], task: u32) -> bool
+    ensures { result ≡ has_open_job entries.now task }
+{
+    entries
+        .iter()
+        .filter_map(|e| job_for(&e.what, task))
+        .any(|q| children::is_open(entries, q.0, q.1))
+}
+
+/// Whether a request for the task may be made by this number over the child.
+pub(super) fn may_work(entries: &[Entry], by: u32, task: u32, child: u32) -> bool
+    ensures { result ≡ may_work entries.now by task child }
+{
+    task == 0 && by == 0
+        || is_claimed_for(entries, by, task, child)
+            && is_busy(entries, task)
+            && !has_open_job(entries, task)
+}
+
+/// The task that the entry claims for the child.
+fn claimed_for(what: &What, c: u32) -> Option<u32>
+    ensures { result ≡ claimed_for c what.now }
+{
+    match what {
+        What::Claim { task, child } if *child == c => Some(*task),
+        _ => None,
+    }
+}
+
+pub(super) fn has_busy_task(entries: &[Entry], child: u32) -> bool
+    ensures { result ≡ has_busy_task entries.now child }
+{
+    entries
+        .iter()
+        .filter_map(|e| claimed_for(&e.what, child))
+        .any(|task| is_busy(entries, task))
+}
+
+/// How many tasks are not claimed.
+pub(super) fn unclaimed(opening: &Opening, entries: &[Entry]) -> u32
+    requires { length opening.now.tasks ≤ 65536 }
+    ensures { result ≡ length (unclaimed opening.now entries.now) }
+{
+    (1..task_count(opening) + 1)
+        .filter(|task| !is_claimed(entries, *task))
+        .count() as u32
+}

@@ -1,0 +1,5 @@
+pub mod Links
+pub mod Logins
+pub mod RegLines
+pub mod Registers
+pub mod Tables

@@ -1,0 +1,14 @@
+//! The settings that a special remote makes and asks for.
+#![tactic(auto)]
+
+pub mod laws;
+mod line;
+mod links;
+mod logins;
+mod registers;
+mod table;
+#[cfg(test)]
+mod tests;
+
+pub use line::RegLine;
+pub use registers::Registers;

@@ -1,0 +1,94 @@
+// The URLs of keys.
+ghost use Rattle.std.specs.Prelude.{◌≡◌, [], IfOk, OnOk, OnErr, ◌&&◌, nat_eq, bytes_eq, filter, option_map, option_copied, slice_get};
+ghost use Rattle.std.specs.List.{starts_with};
+ghost use Rattle.reg_file.specs.Links.{with_link, without_link, urls_at};
+
+use ann_key::NoMemory;
+use std::alloc::Global;
+use std::collections::BTreeSet;
+use std::marker::Model;
+
+// A key and its URL.
+type Link = (Vec<u8>, Vec<u8>);
+
+/// Keys and their URLs, in rising byte order of the keys and then of the URLs.
+#[derive(Drop)]
+pub(crate) struct Links {
+    links: BTreeSet<Link>,
+}
+
+impl Model for Links {
+    ghost use Rattle.reg_file.specs.Tables.{Texts};
+    ghost use Rattle.reg_file.specs.Links.{LinksRise, links_of};
+
+    ghost Value = { Texts };
+
+    ghost view = { λ l. links_of l.links.keys };
+
+    ghost invariant = { λ l. LinksRise (links_of l.links.keys) };
+}
+
+impl Links {
+    pub(crate) fn new(alloc: Global) -> Links
+        ensures { result ≡ [] }
+    {
+        Links {
+            links: BTreeSet::new(alloc),
+        }
+    }
+
+    pub(crate) fn add(&mut self, alloc: Global, key: &[u8], url: &[u8]) -> Result<(), NoMemory>
+        ensures ok { OnOk result (self.new ≡ with_link self.old key.now url.now) }
+        ensures err { OnErr result (self.new ≡ self.old) }
+    {
+        let key = Vec::from_slice(alloc, key)?;
+        let url = Vec::from_slice(alloc, url)?;
+        self.links.insert((key, url))?;
+        Ok(())
+    }
+
+    pub(crate) fn remove(&mut self, alloc: Global, key: &[u8], url: &[u8]) -> Result<(), NoMemory>
+        ensures ok { OnOk result (self.new ≡ without_link self.old key.now url.now) }
+        ensures err { OnErr result (self.new ≡ self.old) }
+    {
+        let link = (Vec::from_slice(alloc, key)?, Vec::from_slice(alloc, url)?);
+        self.links.remove(&link);
+        Ok(())
+    }
+
+    pub(crate) fn url(&self, key: &[u8], prefix: &[u8], n: usize) -> Option<&[u8]>
+        ensures { option_map (λ url. url.now) result ≡ slice_get (urls_at self.now key.now prefix.now) n }
+    {
+        let link = matching(&self.links, key, prefix, n)?;
+        Some(link.1.as_slice())
+    }
+
+    pub(crate) fn entry(&self, n: usize) -> Option<(&[u8], &[u8])>
+        ensures { option_map (λ e. (e.0.now, e.1.now)) result ≡ slice_get self.now n }
+    {
+        let (key, url) = self.links.iter().nth(n)?;
+        Some((key.as_slice(), url.as_slice()))
+    }
+
+    pub(crate) fn copy(&self) -> Result<Links, NoMemory>
+        ensures { IfOk result (λ l. l ≡ self.now) }
+    {
+        let links = self.links.clone()?;
+        Ok(Links { links })
+    }
+}
+
+fn matching<'a>(links: &'a BTreeSet<Link>, key: &[u8], prefix: &[u8], n: usize) -> Option<&'a Link>
+    ensures { option_copied result ≡ slice_get (filter (λ link. bytes_eq key.now link.0.items && starts_with nat_eq link.1.items prefix.now) links.now.keys) n }
+{
+    links
+        .iter()
+        .filter(|link| is_match(link, key, prefix))
+        .nth(n)
+}
+
+fn is_match(link: &Link, key: &[u8], prefix: &[u8]) -> bool
+    ensures { result ≡ (bytes_eq key.now link.now.0.items && starts_with nat_eq link.now.1.items prefix.now) }
+{
+    key == link.0.as_slice() && link.1.as_slice().starts_with(prefix)
+}

@@ -1,0 +1,23 @@
+-- Why a key is refused.
+use Rattle.std.specs.Prelude.{ℕ, ◌≡◌, not, if◌then◌else◌, List, Option, Some, None, is_some, IsTrue}
+use Rattle.ann_key.specs.Keys.{Parts, IsKey, key_reading, is_sendable}
+use Rattle.special_cli.specs.declared.refusals.Reason.{Reason}
+use Rattle.special_cli.specs.declared.refusals.Reason.TheVariants.{Key, Unsendable, ChunkKey}
+
+-- the first that holds of the bytes and of the parts that they spell
+abbrev pub refusal_in : List ℕ → Option Parts → Option Reason
+refusal_in bytes None = Some Key
+refusal_in bytes (Some parts) =
+    if not (is_sendable bytes) then Some Unsendable
+    else if is_some parts.chunk then Some ChunkKey
+    else None
+
+abbrev pub refusal_of : List ℕ → Option Reason
+refusal_of bytes = refusal_in bytes (key_reading bytes)
+
+-- the bytes spell a key that can stand in a request and has no chunk fields
+pub record IsTaskKey (bytes : List ℕ) : Type 0 where
+  pub parts : Parts
+  pub key : IsKey bytes parts
+  pub sendable : IsTrue (is_sendable bytes)
+  pub whole : parts.chunk ≡ None

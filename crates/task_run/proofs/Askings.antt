@@ -1,0 +1,200 @@
+-- What a longer journal says of the requests of a task.
+use Rattle.std.proofs.Common.{◌≡◌, ℕ, List, [], ◌∷◌, ◌++◌, refl, sym, ap, subst, ◌∙◌, append_assoc, Bool, true, false, not, ◌==◌, cond, Some, None, Option}
+use Rattle.std.specs.Prelude.{◌||◌, option_map, filter}
+use Rattle.std.specs.List.{list_any, cons_option}
+use Rattle.std.specs.Option.{option_or}
+use Rattle.std.proofs.lemmas.List.{append-nil}
+use Rattle.annex_model.specs.declared.verdict.Verdict.{Verdict}
+use Rattle.annex_model.specs.Messages.{HostMessage, host_reading}
+use Rattle.journal_model.specs.declared.entry.What.{What}
+use Rattle.journal_model.specs.declared.entry.What.TheVariants.{Ask, Lost}
+use Rattle.journal_model.specs.declared.entry.Entry.{Entry}
+use Rattle.journal_model.specs.Journal.{any, each_of, asked_jobs, asks, is_settled, is_open, verdict_of, why_of, addressed}
+use Rattle.journal_model.specs.Legality.{job_for, has_open_job}
+use Rattle.journal_model.proofs.Looks.{entry, is_asked, same, same_number, either_left, either_right, true_not_false, verdict_of-append, unsettled}
+use Rattle.task_run.specs.TaskRuns.{Asking, asking_of, askings_from, askings, lost_verdict}
+
+-- the entry is a request of task t, or stands for one
+abbrev pub asks_for : ℕ → What → Bool
+asks_for t (Ask child job task line) = task == t
+asks_for t (Lost child task) = task == t
+asks_for t _ = false
+
+-- ---- along the list
+
+cons_option-append : {X : Type 0} (o : Option X) (xs ys : List X) → cons_option o xs ++ ys ≡ cons_option o (xs ++ ys)
+cons_option-append None xs ys = refl
+cons_option-append (Some x) xs ys = refl
+
+pub askings_from-append : (journal : List Entry) (t : ℕ) (past xs ys : List Entry)
+    → askings_from journal t past (xs ++ ys) ≡ askings_from journal t past xs ++ askings_from journal t (past ++ xs) ys
+askings_from-append journal t past [] ys = ap (λ (p : List Entry). askings_from journal t p ys) (sym (append-nil past))
+askings_from-append journal t past (e ∷ xs) ys =
+    let o = asking_of journal t past e.what in
+    let one = askings_from journal t (past ++ e ∷ []) xs in
+    ap (cons_option o) (askings_from-append journal t (past ++ e ∷ []) xs ys
+    ∙ ap (λ (p : List Entry). one ++ askings_from journal t p ys) (append_assoc past (e ∷ []) xs))
+    ∙ sym (cons_option-append o one (askings_from journal t (past ++ e ∷ xs) ys))
+
+unasked_entry : (journal : List Entry) (t : ℕ) (past : List Entry) (w : What) → asks_for t w ≡ false → asking_of journal t past w ≡ None
+unasked_entry journal t past (Ask child job task line) h = rw h refl
+unasked_entry journal t past (Lost child task) h = rw h refl
+unasked_entry journal t past w h = refl
+
+-- entries that ask nothing for the task
+pub askings_from-none : (journal : List Entry) (t : ℕ) (past xs : List Entry) → any (asks_for t) xs ≡ false → askings_from journal t past xs ≡ []
+askings_from-none journal t past [] h = refl
+askings_from-none journal t past (e ∷ xs) h =
+    ap (λ (o : Option Asking). cons_option o (askings_from journal t (past ++ e ∷ []) xs))
+    (unasked_entry journal t past e.what (either_left (asks_for t e.what) (any (asks_for t) xs) h))
+    ∙ askings_from-none journal t (past ++ e ∷ []) xs (either_right (asks_for t e.what) (any (asks_for t) xs) h)
+
+-- ---- the same verdicts
+
+-- the jobs are settled alike in both
+abbrev SameVerdicts : List Entry → List Entry → List (ℕ × ℕ) → Type 0
+SameVerdicts j k [] = Unit {0}
+SameVerdicts j k (q ∷ qs) = (verdict_of j q.0 q.1 ≡ verdict_of k q.0 q.1) × SameVerdicts j k qs
+
+abbrev asked_so : List Entry → ℕ → List ℕ → Verdict → Asking
+asked_so past child line v = record { request = host_reading (addressed past child line).1; verdict = v }
+
+askings_from-alike : (j k : List Entry) (t : ℕ) (past xs : List Entry) → SameVerdicts j k (each_of (job_for t) xs)
+    → askings_from j t past xs ≡ askings_from k t past xs
+askings_from-alike j k t past [] h = refl
+askings_from-alike j k t past (e ∷ xs) h = step e.what h (askings_from-alike j k t (past ++ e ∷ []) xs)
+  where
+    step : (w : What) → SameVerdicts j k (cons_option (job_for t w) (each_of (job_for t) xs))
+        → (SameVerdicts j k (each_of (job_for t) xs) → askings_from j t (past ++ e ∷ []) xs ≡ askings_from k t (past ++ e ∷ []) xs)
+        → cons_option (asking_of j t past w) (askings_from j t (past ++ e ∷ []) xs)
+        ≡ cons_option (asking_of k t past w) (askings_from k t (past ++ e ∷ []) xs)
+    step (Ask child job task line) h r = go (task == t) h
+      where
+        go : (b : Bool) → SameVerdicts j k (cons_option (cond b (Some (child, job)) None) (each_of (job_for t) xs))
+            → cons_option (cond b (option_map (asked_so past child line) (verdict_of j child job)) None) (askings_from j t (past ++ e ∷ []) xs)
+            ≡ cons_option (cond b (option_map (asked_so past child line) (verdict_of k child job)) None) (askings_from k t (past ++ e ∷ []) xs)
+        go true h = rw h.0 (ap (cons_option (option_map (asked_so past child line) (verdict_of k child job))) (r h.1))
+        go false h = r h
+    step (Lost child task) h r = ap (cons_option (asking_of j t past (Lost child task))) (r h)
+    step w h r = r h
+
+-- ---- settled jobs keep their verdicts
+
+abbrev AllAsked : List Entry → List (ℕ × ℕ) → Type 0
+AllAsked past [] = Unit {0}
+AllAsked past (q ∷ qs) = (is_asked past q.0 q.1 ≡ true) × AllAsked past qs
+
+or_right : (a b : Bool) → b ≡ true → (a || b) ≡ true
+or_right true b h = refl
+or_right false b h = h
+
+or_left : (a b : Bool) → a ≡ true → (a || b) ≡ true
+or_left true b h = refl
+or_left false b h = absurd cc
+
+asked_behind : (o : Option ℕ) (ks : List ℕ) (j : ℕ) → list_any (λ k. k == j) ks ≡ true → list_any (λ k. k == j) (cons_option o ks) ≡ true
+asked_behind None ks j h = h
+asked_behind (Some k) ks j h = or_right (k == j) (list_any (λ k. k == j) ks) h
+
+all_behind : (by : ℕ) (w : What) (xs : List Entry) (qs : List (ℕ × ℕ)) → AllAsked xs qs → AllAsked (entry by w ∷ xs) qs
+all_behind by w xs [] h = tt
+all_behind by w xs (q ∷ qs) h = (asked_behind (asks q.0 w) (asked_jobs xs q.0) q.1 h.0, all_behind by w xs qs h.1)
+
+asked_first : (by child job task : ℕ) (line : List ℕ) (xs : List Entry) → is_asked (entry by (Ask child job task line) ∷ xs) child job ≡ true
+asked_first by child job task line xs =
+    rw (same child) (or_left (job == job) (list_any (λ k. k == job) (asked_jobs xs child)) (same job))
+
+all_asked : (t : ℕ) (xs : List Entry) → AllAsked xs (each_of (job_for t) xs)
+all_asked t [] = tt
+all_asked t (e ∷ xs) = step e.what (all_asked t xs)
+  where
+    step : (w : What) → AllAsked xs (each_of (job_for t) xs) → AllAsked (entry e.by w ∷ xs) (cons_option (job_for t w) (each_of (job_for t) xs))
+    step (Ask child job task line) r = go (task == t) (all_behind e.by (Ask child job task line) xs (each_of (job_for t) xs) r)
+      where
+        go : (b : Bool) → AllAsked (entry e.by (Ask child job task line) ∷ xs) (each_of (job_for t) xs)
+            → AllAsked (entry e.by (Ask child job task line) ∷ xs) (cons_option (cond b (Some (child, job)) None) (each_of (job_for t) xs))
+        go true more = (asked_first e.by child job task line xs, more)
+        go false more = more
+    step w r = all_behind e.by w xs (each_of (job_for t) xs) r
+
+-- a job that was asked and not settled is open
+unsettled_open : (past : List Entry) (c j : ℕ) (ks : List ℕ) → list_any (λ k. k == j) ks ≡ true → is_settled past c j ≡ false
+    → list_any (λ k. k == j) (filter (λ k. not (is_settled past c k)) ks) ≡ true
+unsettled_open past c j [] a h = absurd cc
+unsettled_open past c j (k ∷ ks) a h = by_number (k == j) refl a (λ b. unsettled_open past c j ks b h)
+  where
+    by_number : (b : Bool) → (k == j) ≡ b → (b || list_any (λ k. k == j) ks) ≡ true
+        → (list_any (λ k. k == j) ks ≡ true → list_any (λ k. k == j) (filter (λ k. not (is_settled past c k)) ks) ≡ true)
+        → list_any (λ k. k == j) (cond (not (is_settled past c k)) (k ∷ filter (λ k. not (is_settled past c k)) ks) (filter (λ k. not (is_settled past c k)) ks)) ≡ true
+    by_number true e a r =
+        let here : is_settled past c k ≡ false = subst (λ (x : ℕ). is_settled past c x ≡ false) (sym (same_number k j e)) h in
+        rw here (or_left (k == j) (list_any (λ k. k == j) (filter (λ k. not (is_settled past c k)) ks)) e)
+    by_number false e a r = go (is_settled past c k) (r a)
+      where
+        go : (b : Bool) → list_any (λ k. k == j) (filter (λ k. not (is_settled past c k)) ks) ≡ true
+            → list_any (λ k. k == j) (cond (not b) (k ∷ filter (λ k. not (is_settled past c k)) ks) (filter (λ k. not (is_settled past c k)) ks)) ≡ true
+        go true r = r
+        go false r = or_right (k == j) (list_any (λ k. k == j) (filter (λ k. not (is_settled past c k)) ks)) r
+
+kept : (past more : List Entry) (c j : ℕ) → is_asked past c j ≡ true → is_open past c j ≡ false → verdict_of (past ++ more) c j ≡ verdict_of past c j
+kept past more c j a h = verdict_of-append c j past more ∙ by_verdict (verdict_of past c j) refl
+  where
+    by_verdict : (o : Option Verdict) → verdict_of past c j ≡ o → option_or o (verdict_of more c j) ≡ o
+    by_verdict (Some v) e = refl
+    by_verdict None e = true_not_false (is_open past c j) (unsettled_open past c j (asked_jobs past c) a (unsettled past c j e)) h
+
+all_kept : (past more : List Entry) (qs : List (ℕ × ℕ)) → AllAsked past qs → list_any (λ q. is_open past q.0 q.1) qs ≡ false
+    → SameVerdicts (past ++ more) past qs
+all_kept past more [] a h = tt
+all_kept past more (q ∷ qs) a h = (
+  kept past more q.0 q.1 a.0 (either_left (is_open past q.0 q.1) (list_any (λ q. is_open past q.0 q.1) qs) h),
+  all_kept past more qs a.1 (either_right (is_open past q.0 q.1) (list_any (λ q. is_open past q.0 q.1) qs) h),
+)
+
+-- ---- the askings of a longer journal
+
+-- those of a task that has no open job, and then what is asked later
+pub askings-append : (past more : List Entry) (t : ℕ) → has_open_job past t ≡ false
+    → askings (past ++ more) t ≡ askings past t ++ askings_from (past ++ more) t past more
+askings-append past more t h =
+    askings_from-append (past ++ more) t [] past more
+    ∙ ap (λ (xs : List Asking). xs ++ askings_from (past ++ more) t past more)
+    (askings_from-alike (past ++ more) past t [] past (all_kept past more (each_of (job_for t) past) (all_asked t past) h))
+
+-- entries that ask nothing for the task add nothing
+pub askings-unasked : (past more : List Entry) (t : ℕ) → has_open_job past t ≡ false → any (asks_for t) more ≡ false
+    → askings (past ++ more) t ≡ askings past t
+askings-unasked past more t h none =
+    askings-append past more t h
+    ∙ ap (λ (xs : List Asking). askings past t ++ xs) (askings_from-none (past ++ more) t past more none)
+    ∙ append-nil (askings past t)
+
+-- a request that was settled in the end
+pub askings-ask : (past more : List Entry) (t by child job : ℕ) (line : List ℕ) (request : Option HostMessage) (v : Verdict)
+    → has_open_job past t ≡ false → any (asks_for t) more ≡ false
+    → host_reading (addressed past child line).1 ≡ request
+    → verdict_of (past ++ entry by (Ask child job t line) ∷ more) child job ≡ Some v
+    → askings (past ++ entry by (Ask child job t line) ∷ more) t ≡ askings past t ++ record { request = request; verdict = v } ∷ []
+askings-ask past more t by child job line request v h none reading settled =
+    let e = entry by (Ask child job t line) in
+    let journal = past ++ e ∷ more in
+    let rest : askings_from journal t (past ++ e ∷ []) more ≡ [] = askings_from-none journal t (past ++ e ∷ []) more none in
+    let first : asking_of journal t past (Ask child job t line) ≡ Some (record { request = request; verdict = v }) =
+    rw (same t) (rw settled (ap (λ (r : Option HostMessage). Some (record { request = r; verdict = v })) reading)) in
+    askings-append past (e ∷ more) t h
+    ∙ ap (λ (xs : List Asking). askings past t ++ xs)
+    (ap (λ (o : Option Asking). cons_option o (askings_from journal t (past ++ e ∷ []) more)) first
+    ∙ ap (cons_option (Some (record { request = request; verdict = v }))) rest)
+
+-- a request that found its child ended or mute
+pub askings-lost : (past more : List Entry) (t by child : ℕ) → has_open_job past t ≡ false → any (asks_for t) more ≡ false
+    → askings (past ++ entry by (Lost child t) ∷ more) t ≡ askings past t ++ record { request = None; verdict = lost_verdict (why_of past child) } ∷ []
+askings-lost past more t by child h none =
+    let e = entry by (Lost child t) in
+    let journal = past ++ e ∷ more in
+    let rest : askings_from journal t (past ++ e ∷ []) more ≡ [] = askings_from-none journal t (past ++ e ∷ []) more none in
+    let first : asking_of journal t past (Lost child t) ≡ Some (record { request = None; verdict = lost_verdict (why_of past child) }) = rw (same t) refl in
+    askings-append past (e ∷ more) t h
+    ∙ ap (λ (xs : List Asking). askings past t ++ xs)
+    (ap (λ (o : Option Asking). cons_option o (askings_from journal t (past ++ e ∷ []) more)) first
+    ∙ ap (cons_option (Some (record { request = None; verdict = lost_verdict (why_of past child) }))) rest)
