@@ -12,7 +12,9 @@ use Rattle.journal_model.specs.declared.entry.What.{What}
 use Rattle.journal_model.specs.declared.entry.What.TheVariants.{Claim, Start, NoStart, Ask, Put, Sent, Mute, Got, End, Verdict as Settled, Lost, Answer as Answered}
 use Rattle.journal_model.specs.declared.entry.Entry.{Entry}
 use Rattle.journal_model.specs.declared.opening.Opening.{Opening}
-use Rattle.journal_model.specs.Journal.{asks, starts, is_started, is_ended, is_mute, is_settled, asked_jobs, verdict_of, open_jobs, unsent}
+use Rattle.journal_model.specs.Legality.{Legal}
+use Rattle.journal_model.proofs.Closing.{ended_settled}
+use Rattle.journal_model.specs.Journal.{asks, starts, ends, is_started, is_ended, is_mute, is_settled, asked_jobs, verdict_of, open_jobs, unsent}
 use Rattle.journal_model.specs.Due.{due_by, due_by_got, made_by}
 use Rattle.journal_model.specs.Wires.{RestFits}
 use Rattle.journal_model.proofs.Looks.{both, each_of-append, any-append, unsettled}
@@ -180,3 +182,21 @@ started_on old new c g a =
 
 pub settled_some : (past : List Entry) (c j : ℕ) → is_settled past c j ≡ true → verdict_of past c j ≡ None → ⊥
 settled_some past c j s n = let u : is_settled past c j ≡ false = unsettled past c j n in let bad : true ≡ false = sym s ∙ u in absurd cc
+
+pub ended_on : (old new : List Entry) (c : ℕ) → GoesOn old new → is_ended old c ≡ true → is_ended new c ≡ true
+ended_on old new c g a =
+    ap (λ (x : List Entry). is_ended x c) g.is ∙ any-append (ends c) old g.more ∙ ap (λ (b : Bool). b || is_ended g.more c) a
+
+-- the same, by the child's number under another name
+pub asked_after : (old new : List Entry) (c d j : ℕ) → d ≡ c → GoesOn old new → is_asked old c j ≡ true → is_asked new d j ≡ true
+asked_after old new c d j e g a = ap (λ (k : ℕ). is_asked new k j) e ∙ asked_on old new c j g a
+
+pub started_after : (old new : List Entry) (c d : ℕ) → d ≡ c → GoesOn old new → is_started old c ≡ true → is_started new d ≡ true
+started_after old new c d e g a = ap (is_started new) e ∙ started_on old new c g a
+
+-- a job of a child that has ended has a verdict
+pub has_verdict : {A : Type 0} (o : Opening) (past journal : List Entry) (c d j : ℕ) → Legal o journal → GoesOn past journal → d ≡ c → is_ended past c ≡ true → is_asked journal d j ≡ true
+    → None ≡ verdict_of journal d j → A
+has_verdict o past journal c d j legal g e over asked none =
+    let ended : is_ended journal d ≡ true = ap (is_ended journal) e ∙ ended_on past journal c g over in
+    absurd (settled_some journal d j (ended_settled o journal legal d j ended asked) (sym none))

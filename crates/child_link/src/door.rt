@@ -6,7 +6,7 @@ ghost use Rattle.child_link.specs.Doors.{Stepped};
 ghost use Rattle.host_core.specs.Steps.{takes_no_memory};
 
 use ann_key::NoMemory;
-use host_core::{Event, Reply};
+use host_core::{Core, Event, Reply};
 
 /// The way of one role to the core: it steps the core under a number of its own.
 pub trait Door {
@@ -42,4 +42,27 @@ pub trait Door {
         ensures number { number self.new ≡ number self.old }
         ensures alone { alone self.new ≡ alone self.old }
         ensures loans { loans self.new ≡ loans self.old };
+}
+
+/// The main thread's door of a core that nobody else steps.
+pub struct OwnDoor<'a> {
+    pub core: &'a mut Core,
+}
+
+impl<'a> Door for OwnDoor<'a> {
+    ghost opening = { λ d. d.core.now.opening };
+
+    ghost number = { λ d. 0 };
+
+    ghost seen = { λ d. d.core.now.journal };
+
+    ghost alone = { λ d. true };
+
+    ghost loans = { λ d. d.core.ghost_name ∷ [] };
+
+    fn step(&mut self, event: Event) -> Result<Reply, NoMemory> {
+        self.core.step(0, event)
+    }
+
+    fn rest(&mut self) {}
 }

@@ -4,8 +4,10 @@
 mod door;
 mod events;
 mod lone;
+#[cfg(test)]
+mod tests;
 mod wire;
 
-pub use door::Door;
+pub use door::{Door, OwnDoor};
 pub use lone::Lone;
 pub use wire::Wire;

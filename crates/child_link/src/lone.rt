@@ -477,7 +477,7 @@ impl<I: Sink, O: Source> Lone<I, O> {
         for _ in 0..u64::MAX {
             match self.settle_next(door, job) {
                 Settling::Settled(verdict) => return verdict,
-                Settling::Over => break,
+                Settling::Over => return self.settle_last(door, job),
                 Settling::Again => {}
             }
         }
