@@ -27,10 +27,11 @@ use Rattle.child_link.proofs.Turning.{links_ask}
 pub may_copy : (past : List Entry) (by t c d : ℕ) (r s : Request) → d ≡ c → s ≡ r → may_request past by t c (message_of r) ≡ true → may_request past by t d (message_of s) ≡ true
 may_copy past by t c d r s e f h = ap (λ (k : ℕ). may_request past by t k (message_of s)) e ∙ ap (λ (x : Request). may_request past by t c (message_of x)) f ∙ h
 
-pub asked_copy : (o : Opening) (old new : List Entry) (by t c d : ℕ) (r s : Request) (a : Asked) → d ≡ c → s ≡ r
-    → IsAsked o old new by d t (message_of s) a → IsAsked o old new by c t (message_of r) a
-asked_copy o old new by t c d r s a e f h =
-    subst (λ (x : Request). IsAsked o old new by c t (message_of x) a) f (subst (λ (k : ℕ). IsAsked o old new by k t (message_of s) a) e h)
+pub asked_copy : (o : Opening) (old new : List Entry) (by t c d : ℕ) (r s : Request) (a b : Asked) → d ≡ c → s ≡ r → a ≡ b
+    → IsAsked o old new by d t (message_of s) a → IsAsked o old new by c t (message_of r) b
+asked_copy o old new by t c d r s a b e f k h =
+    subst (λ (x : Asked). IsAsked o old new by c t (message_of r) x) k
+    (subst (λ (x : Request). IsAsked o old new by c t (message_of x) a) f (subst (λ (n : ℕ). IsAsked o old new by n t (message_of s) a) e h))
 
 module _ (o : Opening) (old mid : List Entry) (by c t : ℕ) (q : HostMessage) where
   -- it was asked as a job
