@@ -15,9 +15,9 @@ use Rattle.journal_model.specs.Legality.{Legal, is_empty, count, is_start, least
 use Rattle.journal_model.proofs.Growing.{Legal-group}
 use Rattle.journal_model.proofs.Looks.{same, both}
 use Rattle.host_core.specs.declared.event.Event.{Event}
-use Rattle.host_core.specs.declared.event.Event.TheVariants.{Claim as ClaimEvent, Start as StartEvent, NoStart as NoStartEvent, Ask as AskEvent, Lookup, Look, Got as GotEvent, Stop, Sent as SentEvent, Mute as MuteEvent, Answer as AnswerEvent}
-use Rattle.host_core.specs.declared.event.Reply.TheVariants.{Child, Job, Done}
-use Rattle.host_core.specs.Steps.{Step, step_of, group_of, append, odd, only, gone, is_gone, claim, next_job, may_request, may_answer, is_askable, is_asked, settled_so, Comes}
+use Rattle.host_core.specs.declared.event.Event.TheVariants.{Claim as ClaimEvent, Start as StartEvent, NoStart as NoStartEvent, Ask as AskEvent, Lookup, Look, Fetch, Got as GotEvent, Stop, Sent as SentEvent, Mute as MuteEvent, Answer as AnswerEvent}
+use Rattle.host_core.specs.declared.event.Reply.TheVariants.{Child, Job, Over, Done}
+use Rattle.host_core.specs.Steps.{Step, step_of, group_of, append, odd, only, gone, is_gone, claim, next_job, may_request, may_answer, is_askable, is_asked, settled_so, next_line, Comes}
 use Rattle.talk_serial.specs.Requests.{message_of}
 use Rattle.host_core.proofs.Wiring.{wired_turn, few_jobs}
 
@@ -91,6 +91,11 @@ looks_keep o past by child true true = inl refl
 looks_keep o past by child true false = inl refl
 looks_keep o past by child false b = inl refl
 
+fetches_keep : (o : Opening) (past : List Entry) (by child : ℕ) (a b : Bool) → Comes o past by (cond (not a) odd (cond b (only Over) (only (next_line (unsent past child)))))
+fetches_keep o past by child true true = inl refl
+fetches_keep o past by child true false = inl refl
+fetches_keep o past by child false b = inl refl
+
 gots_keep : (o : Opening) (past : List Entry) (by child : ℕ) (line : List ℕ) (started newline ended : Bool)
     → is_started past child ≡ started → has_newline line ≡ newline → is_ended past child ≡ ended
     → Comes o past by (cond (not started || newline) odd (cond ended (only (gone past child)) (append o past by (Got child line) Done)))
@@ -134,6 +139,7 @@ step_comes o past by (AskEvent child task request) few =
     asks_keep o past by task child (message_of request) (may_request past by task child (message_of request)) (is_ended past child) (is_mute past child) few refl refl refl
 step_comes o past by (Lookup child job) few = lookups_keep o past by child job (is_asked past child job)
 step_comes o past by (Look child) few = looks_keep o past by child (is_started past child) (is_gone past child)
+step_comes o past by (Fetch child) few = fetches_keep o past by child (is_started past child) (is_gone past child)
 step_comes o past by (GotEvent child line) few = gots_keep o past by child line (is_started past child) (has_newline line) (is_ended past child) refl refl refl
 step_comes o past by (Stop child why) few = stops_keep o past by child why (is_started past child) (may_stop past child why) (is_ended past child) refl refl refl
 step_comes o past by (SentEvent child) few = sents_keep o past by child (is_empty (unsent past child)) refl

@@ -1,6 +1,6 @@
 -- The lines that were written, counted and looked up without the lines.
-use Rattle.std.proofs.Common.{subst, ◌≡◌, ◌∙◌, ℕ, List, [], ◌∷◌, refl, sym, ap, Bool, true, false, cond, Option, Some, None, length, drop, map, not, arith, zero, suc}
-use Rattle.std.specs.Prelude.{is_some, ◌||◌, ◌==◌, filter, option_map, nat_lt, option_and_then, find}
+use Rattle.std.proofs.Common.{subst, ◌≡◌, ◌∙◌, ◌++◌, ℕ, List, [], ◌∷◌, refl, sym, ap, Bool, true, false, cond, Option, Some, None, length, drop, map, not, arith, zero, suc}
+use Rattle.std.specs.Prelude.{is_some, ◌||◌, ◌==◌, filter, option_map, nat_lt, option_and_then, find, slice_get}
 use Rattle.std.specs.List.{list_any, cons_option}
 use Rattle.std.proofs.lemmas.Bool.Decides.{nat_tests}
 use Rattle.std.proofs.Math.Dec.{leb}
@@ -11,7 +11,9 @@ use Rattle.journal_model.specs.declared.entry.Entry.{Entry}
 use Rattle.journal_model.specs.Journal.{first_of, each_of, writes, is_job, got_from, line_from, got_lines, unsent, sends, is_unsent}
 use Rattle.journal_model.specs.Due.{is_version_one}
 use Rattle.journal_model.specs.Legality.{is_empty, said_version}
-use Rattle.host_core.specs.Steps.{written_to, got_line}
+use Rattle.host_core.specs.Steps.{written_to, got_line, next_line}
+use Rattle.host_core.specs.Moves.{is_written, hosts_line, next_reply}
+use Rattle.host_core.specs.declared.event.Reply.TheVariants.{Line as Written}
 use Rattle.host_core.proofs.Firsts.{first_given}
 
 abbrev Line : Type 0
@@ -149,3 +151,78 @@ said_found past c e h =
 
 pub said_nothing : (past : List Entry) (c : ℕ) → None ≡ find (λ d. got_from c d.what) past → false ≡ said_version past c
 said_nothing past c h = sym (said_is past c ∙ ap (λ (o : Option Entry). is_version (option_and_then (λ d. line_from c d.what) o)) (sym h))
+
+-- ---- the next line to write
+
+-- the line of an entry that writes one
+abbrev written_in : What → Line
+written_in (Ask child job task line) = (Some job, line)
+written_in (Put child job line) = (None, line)
+written_in _ = (None, [])
+
+written_is : (c : ℕ) (w : What) → (l : Line) → writes c w ≡ Some l → written_in w ≡ l
+written_is c (Ask child job task line) l h = go (child == c) h
+  where
+    go : (b : Bool) → cond b (Some (Some job, line)) None ≡ Some l → (Some job, line) ≡ l
+    go true e = cc
+    go false e = absurd cc
+written_is c (Put child job line) l h = go (child == c) h
+  where
+    go : (b : Bool) → cond b (Some (None, line)) None ≡ Some l → (None, line) ≡ l
+    go true e = cc
+    go false e = absurd cc
+written_is c (Claim task child) l h = absurd cc
+written_is c (Start child slot offer) l h = absurd cc
+written_is c (NoStart slot) l h = absurd cc
+written_is c (Sent child) l h = absurd cc
+written_is c (Mute child) l h = absurd cc
+written_is c (Got child line) l h = absurd cc
+written_is c (End child why) l h = absurd cc
+written_is c (Settled child job verdict) l h = absurd cc
+written_is c (Lost child task) l h = absurd cc
+written_is c (Answered task answer) l h = absurd cc
+
+hosts_is : (w : What) → (written_in w).1 ≡ hosts_line w
+hosts_is (Ask child job task line) = refl
+hosts_is (Put child job line) = refl
+hosts_is (Claim task child) = refl
+hosts_is (Start child slot offer) = refl
+hosts_is (NoStart slot) = refl
+hosts_is (Sent child) = refl
+hosts_is (Mute child) = refl
+hosts_is (Got child line) = refl
+hosts_is (End child why) = refl
+hosts_is (Settled child job verdict) = refl
+hosts_is (Lost child task) = refl
+hosts_is (Answered task answer) = refl
+
+written_by : (c : ℕ) (past : List Entry) → each_of (writes c) past ≡ map (λ (e : Entry). written_in e.what) (filter (λ e. is_written c e.what) past)
+written_by c [] = refl
+written_by c (e ∷ past) = go (writes c e.what) refl (written_by c past)
+  where
+    go : (o : Option Line) → writes c e.what ≡ o → each_of (writes c) past ≡ map (λ (d : Entry). written_in d.what) (filter (λ d. is_written c d.what) past)
+        → cons_option o (each_of (writes c) past) ≡ map (λ (d : Entry). written_in d.what) (cond (is_some o) (e ∷ filter (λ d. is_written c d.what) past) (filter (λ d. is_written c d.what) past))
+    go (Some l) h r = let same : written_in e.what ≡ l = written_is c e.what l h in rw (same, r) refl
+    go None h r = r
+
+nth_drop : {X : Type 0} (n : ℕ) (xs : List X) → first_of (drop n xs) ≡ slice_get xs n
+nth_drop zero [] = refl
+nth_drop zero (x ∷ xs) = refl
+nth_drop (suc n) [] = refl
+nth_drop (suc n) (x ∷ xs) = nth_drop n xs
+
+unsent_by : (past : List Entry) (c : ℕ) → unsent past c ≡ map (λ (e : Entry). written_in e.what) (drop (length (filter (λ e. sends c e.what) past)) (filter (λ e. is_written c e.what) past))
+unsent_by past c =
+    let n = length (filter (λ e. sends c e.what) past) in
+    ap (drop n) (written_by c past) ∙ drop_map (λ (e : Entry). written_in e.what) n (filter (λ e. is_written c e.what) past)
+
+next_in : (es : List Entry) (o : Option Entry) → o ≡ first_of es → next_line (map (λ (e : Entry). written_in e.what) es) ≡ next_reply (option_map (λ e. hosts_line e.what ++ 10 ∷ []) o)
+next_in [] o h = rw h refl
+next_in (e ∷ es) o h = rw h (ap (λ (l : List ℕ). Written (l ++ 10 ∷ [])) (hosts_is e.what))
+
+pub next_found : (past : List Entry) (c n : ℕ) (o : Option Entry) → n ≡ length (filter (λ e. sends c e.what) past) → o ≡ slice_get (filter (λ e. is_written c e.what) past) n
+    → next_reply (option_map (λ e. hosts_line e.what ++ 10 ∷ []) o) ≡ next_line (unsent past c)
+next_found past c n o e h =
+    let ws : List Entry = filter (λ e. is_written c e.what) past in
+    let k = length (filter (λ e. sends c e.what) past) in
+    sym (ap next_line (unsent_by past c) ∙ next_in (drop k ws) o (h ∙ ap (slice_get ws) e ∙ sym (nth_drop k ws)))

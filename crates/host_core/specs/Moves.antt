@@ -1,5 +1,5 @@
 -- Words for the core's code: an entry's due entries in short, and what a job's part begins with.
-use Rattle.std.specs.Prelude.{ℕ, ◌≡◌, ◌==◌, ◌&&◌, ◌||◌, not, Bool, false, if◌then◌else◌, List, [], ◌∷◌, length, Option, Some, None, map, filter, option_and_then, take, slice_get}
+use Rattle.std.specs.Prelude.{ℕ, ◌≡◌, ◌==◌, ◌&&◌, ◌||◌, not, Bool, false, if◌then◌else◌, List, [], ◌∷◌, length, Option, Some, None, map, filter, option_and_then, is_some, take, slice_get}
 use Rattle.annex_model.specs.declared.verdict.Why.TheVariants.{Version as VersionFault}
 use Rattle.annex_model.specs.declared.verdict.Verdict.{Verdict}
 use Rattle.annex_model.specs.declared.verdict.Verdict.TheVariants.{Unsent}
@@ -8,12 +8,14 @@ use Rattle.annex_model.specs.Talks.{Item}
 use Rattle.journal_model.specs.declared.entry.What.{What}
 use Rattle.journal_model.specs.declared.entry.What.TheVariants.{Ask, Put, Verdict as Settled}
 use Rattle.journal_model.specs.declared.entry.Entry.{Entry}
-use Rattle.journal_model.specs.Journal.{asks, each_of, is_settled, open_jobs, is_unsent}
+use Rattle.journal_model.specs.Journal.{asks, each_of, writes, is_settled, open_jobs, is_unsent}
 use Rattle.journal_model.specs.Room.{room_for}
 use Rattle.journal_model.specs.Due.{hearing_of, ending, ended_jobs, made_by, is_version_one}
 use Rattle.host_core.specs.declared.due.Due.{Due}
 use Rattle.host_core.specs.declared.due.Due.TheVariants.{Nothing, Settle, EndOf, EndedJobs, UnsentJobs}
 use Rattle.host_core.specs.declared.moves.Move.{Move}
+use Rattle.host_core.specs.declared.event.Reply.{Reply}
+use Rattle.host_core.specs.declared.event.Reply.TheVariants.{Wait, Line}
 use Rattle.host_core.specs.Steps.{Step}
 
 -- the verdicts of the open jobs whose requests were not written whole
@@ -47,6 +49,15 @@ abbrev pub hosts_line : What → List ℕ
 hosts_line (Ask child job task line) = line
 hosts_line (Put child job line) = line
 hosts_line _ = []
+
+-- the entry writes a line to the child
+abbrev pub is_written : ℕ → What → Bool
+is_written c w = is_some (writes c w)
+
+-- what is answered where this is the next line to write
+abbrev pub next_reply : Option (List ℕ) → Reply
+next_reply None = Wait
+next_reply (Some line) = Line line
 
 abbrev pub first_text : List Item → Option (List ℕ)
 first_text [] = None

@@ -1,5 +1,5 @@
 -- What one event appends to the journal, and what is answered.
-use Rattle.std.specs.Prelude.{ℕ, ◌⊎◌, ◌≡◌, ◌+◌, ◌==◌, ◌&&◌, ◌||◌, not, nat_lt, Bool, true, false, if◌then◌else◌, List, [], ◌∷◌, length, Option, Some, None, filter, option_map}
+use Rattle.std.specs.Prelude.{ℕ, ◌⊎◌, ◌≡◌, ◌+◌, ◌==◌, ◌&&◌, ◌||◌, not, nat_lt, Bool, true, false, if◌then◌else◌, List, [], ◌∷◌, ◌++◌, length, Option, Some, None, filter, option_map}
 use Rattle.std.specs.List.{list_any, list_all}
 use Rattle.annex_model.specs.declared.verdict.Verdict.{Verdict}
 use Rattle.annex_model.specs.Lines.{has_newline}
@@ -13,9 +13,9 @@ use Rattle.journal_model.specs.Due.{due_after}
 use Rattle.journal_model.specs.Legality.{may_come, is_empty, count, is_start, is_claimed, numbers_of, least_free, is_prepared, is_in_turn, may_ask, may_stop, is_claimed_by, is_busy, has_open_job}
 use Rattle.talk_serial.specs.Requests.{message_of}
 use Rattle.host_core.specs.declared.event.Event.{Event}
-use Rattle.host_core.specs.declared.event.Event.TheVariants.{Claim as ClaimEvent, Start as StartEvent, NoStart as NoStartEvent, Ask as AskEvent, Lookup, Look, Got as GotEvent, Stop, Sent as SentEvent, Mute as MuteEvent, Answer as AnswerEvent}
+use Rattle.host_core.specs.declared.event.Event.TheVariants.{Claim as ClaimEvent, Start as StartEvent, NoStart as NoStartEvent, Ask as AskEvent, Lookup, Look, Fetch, Got as GotEvent, Stop, Sent as SentEvent, Mute as MuteEvent, Answer as AnswerEvent}
 use Rattle.host_core.specs.declared.event.Reply.{Reply}
-use Rattle.host_core.specs.declared.event.Reply.TheVariants.{Task, Child, Job, Verdict as Settled, Wait, NoTask, Gone, Done, Odd}
+use Rattle.host_core.specs.declared.event.Reply.TheVariants.{Task, Child, Job, Verdict as Settled, Line, Wait, NoTask, Gone, Over, Done, Odd}
 
 pub record Step : Type 0 where
   pub reply : Reply
@@ -74,6 +74,7 @@ abbrev pub takes_no_memory : Event → Bool
 takes_no_memory (StartEvent slot offer) = false
 takes_no_memory (NoStartEvent slot) = false
 takes_no_memory (AskEvent child task request) = false
+takes_no_memory (Fetch child) = false
 takes_no_memory (GotEvent child line) = false
 takes_no_memory _ = true
 
@@ -111,6 +112,11 @@ abbrev pub settled_so : Option Verdict → Reply
 settled_so (Some verdict) = Settled verdict
 settled_so None = Wait
 
+-- the first of the lines that are to be written, with its byte 10
+abbrev pub next_line : List (Option ℕ × List ℕ) → Reply
+next_line [] = Wait
+next_line (w ∷ ws) = Line (w.1 ++ 10 ∷ [])
+
 -- ---- the table of events
 
 abbrev pub step_of : Opening → List Entry → ℕ → Event → Step
@@ -131,6 +137,10 @@ step_of o past by (Look child) =
     if not (is_started past child) then odd
     else if is_gone past child then only (gone past child)
     else only Done
+step_of o past by (Fetch child) =
+    if not (is_started past child) then odd
+    else if is_gone past child then only Over
+    else only (next_line (unsent past child))
 step_of o past by (GotEvent child line) =
     if not (is_started past child) || has_newline line then odd
     else if is_ended past child then only (gone past child)

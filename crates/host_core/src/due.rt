@@ -56,7 +56,8 @@ fn is_hosts(what: &What, c: u32, j: u64) -> bool
     }
 }
 
-fn hosts_line(what: &What) -> &[u8]
+/// The line that the entry writes.
+pub(super) fn hosts_line(what: &What) -> &[u8]
     ensures { result.now ≡ hosts_line what.now }
 {
     match what {

@@ -33,6 +33,10 @@ pub enum Event {
     Look {
         child: u32,
     },
+    /// The next line for the child that was not written whole.
+    Fetch {
+        child: u32,
+    },
     /// The child said a line, here without its byte 10.
     Got {
         child: u32,
@@ -59,7 +63,7 @@ pub enum Event {
 }
 
 /// What the core answers.
-#[derive(Clone, Copy, PartialEq, Eq, Debug)]
+#[derive(Drop)]
 pub enum Reply {
     /// This task is claimed.
     Task(u32),
@@ -69,12 +73,16 @@ pub enum Reply {
     Job(u64),
     /// The job is settled so.
     Verdict(Verdict),
-    /// The job is open, or each task that is left is in the way of a busy one.
+    /// This line is to be written to the child, with its byte 10.
+    Line(Bytes),
+    /// The job is open, each task that is left is in the way of a busy one, or no line is to be written.
     Wait,
     /// Each task is claimed.
     NoTask,
     /// The child ended so, or is mute where there is no reason.
     Gone { why: Option<Why> },
+    /// The child has ended or is mute, so that nothing is written to it.
+    Over,
     /// It is in the journal, or needn't be.
     Done,
     /// The event may not come here. Nothing has changed.

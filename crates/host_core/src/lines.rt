@@ -1,5 +1,5 @@
 // What the lines of the journal say: the greeting, tags, and what is still to be written.
-ghost use Rattle.std.specs.Prelude.{◌≡◌, ◌==◌, ◌≤◌, ◌++◌, filter, length, if◌then◌else◌, find, option_copied, option_map, IfOk, bytes_eq, codes, Some, drop};
+ghost use Rattle.std.specs.Prelude.{◌≡◌, ◌==◌, ◌≤◌, ◌++◌, ◌∷◌, [], slice_get, filter, length, if◌then◌else◌, find, option_copied, option_map, IfOk, bytes_eq, codes, Some, drop};
 ghost use Rattle.std.specs.List.{list_any, slice_split};
 ghost use Rattle.annex_model.specs.Lines.{has_newline};
 ghost use Rattle.annex_model.specs.Messages.{remote_reading, host_line, is_sent_key, is_space, IsAskable};
@@ -8,8 +8,10 @@ ghost use Rattle.journal_model.specs.Journal.{each_of, first_of, line_at, is_tag
 ghost use Rattle.journal_model.specs.Due.{is_version_one};
 ghost use Rattle.journal_model.specs.Legality.{said_version, is_prepared, is_greeted, is_in_turn, is_empty, may_ask, is_done, offered_names};
 ghost use Rattle.talk_serial.specs.Requests.{message_of, names_of};
-ghost use Rattle.host_core.specs.Steps.{is_askable, may_request, next_job, written_to, got_line};
+ghost use Rattle.host_core.specs.Steps.{is_askable, may_request, next_job, written_to, got_line, next_line};
+ghost use Rattle.host_core.specs.Moves.{is_written, hosts_line, next_reply};
 
+use crate::due::hosts_line;
 use crate::{children, tasks};
 use ann_key::{Bytes, Key, NoMemory};
 use journal_model::{Entry, Verdict, What};
@@ -278,6 +280,12 @@ fn writes(what: &What, c: u32) -> Option<Option<u64>>
     }
 }
 
+fn is_written(what: &What, c: u32) -> bool
+    ensures { result ≡ is_written c what.now }
+{
+    writes(what, c).is_some()
+}
+
 /// How many lines for the child were written whole.
 fn sents(entries: &[Entry], child: u32) -> usize
     ensures { result ≡ length (filter (λ e. sends child e.what) entries.now) }
@@ -294,11 +302,42 @@ fn written(entries: &[Entry], child: u32) -> usize
         .count()
 }
 
+fn with_newline(alloc: Global, line: &[u8]) -> Result<Bytes, NoMemory>
+    ensures { IfOk result (λ b. b ≡ line.now ++ 10 ∷ []) }
+{
+    let mut bytes = Vec::from_slice(alloc, line)?;
+    bytes.push(10)?;
+    Ok(Bytes::from_vec(bytes))
+}
+
 /// Whether each line for the child was written whole.
 pub(super) fn is_all_sent(entries: &[Entry], child: u32) -> bool
     ensures { result ≡ is_empty (unsent entries.now child) }
 {
     written(entries, child) <= sents(entries, child)
+}
+
+fn nth_written(entries: &[Entry], child: u32, n: usize) -> Option<&Entry>
+    ensures { option_copied result ≡ slice_get (filter (λ e. is_written child e.what) entries.now) n }
+{
+    entries
+        .iter()
+        .filter(|e| is_written(&e.what, child))
+        .nth(n)
+}
+
+/// The first of the lines for the child that were not written whole, with its byte 10.
+pub(super) fn next_line(
+    alloc: Global,
+    entries: &[Entry],
+    child: u32,
+) -> Result<Option<Bytes>, NoMemory>
+    ensures { IfOk result (λ line. next_reply line ≡ next_line (unsent entries.now child)) }
+{
+    match nth_written(entries, child, sents(entries, child)) {
+        Some(e) => Ok(Some(with_newline(alloc, hosts_line(&e.what))?)),
+        None => Ok(None),
+    }
 }
 
 fn is_job(job: u64, of: Option<u64>) -> bool

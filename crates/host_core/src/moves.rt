@@ -189,6 +189,27 @@ fn look(opening: &Opening, entries: &[Entry], by: u32, child: u32) -> Move
     }
 }
 
+fn fetch(
+    alloc: Global,
+    opening: &Opening,
+    entries: &[Entry],
+    by: u32,
+    child: u32,
+) -> Result<Move, NoMemory>
+    ensures { IfOk result (IsStep entries.now by (step_of opening.now entries.now by (Event.Fetch child))) }
+{
+    if !children::is_started(entries, child) {
+        return Ok(only(Reply::Odd));
+    }
+    if is_gone(entries, child) {
+        return Ok(only(Reply::Over));
+    }
+    match lines::next_line(alloc, entries, child)? {
+        Some(line) => Ok(only(Reply::Line(line))),
+        None => Ok(only(Reply::Wait)),
+    }
+}
+
 fn got(
     alloc: Global,
     opening: &Opening,
@@ -317,6 +338,7 @@ pub(super) fn move_of(
         } => ask(alloc, opening, entries, by, child, task, &request)?,
         Event::Lookup { child, job } => lookup(opening, entries, by, child, job),
         Event::Look { child } => look(opening, entries, by, child),
+        Event::Fetch { child } => fetch(alloc, opening, entries, by, child)?,
         Event::Got { child, line } => got(alloc, opening, entries, by, child, line)?,
         Event::Stop { child, why } => stop(opening, entries, by, child, why),
         Event::Sent { child } => sent(opening, entries, by, child),

@@ -1,0 +1,5 @@
+pub mod Firsts
+pub mod Replying
+pub mod Turning
+pub mod Versions
+pub mod Asking

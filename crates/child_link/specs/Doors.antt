@@ -1,0 +1,46 @@
+-- What a step through a door does to the journal that the door has seen.
+use Rattle.std.specs.Prelude.{ℕ, ◌≡◌, ◌==◌, not, Bool, true, false, List, [], ◌++◌, Result, IsTrue, MatchResult}
+use Rattle.std.specs.List.{list_all}
+use Rattle.ann_key.specs.declared.bytes.NoMemory.{NoMemory}
+use Rattle.journal_model.specs.declared.entry.What.{What}
+use Rattle.journal_model.specs.declared.entry.What.TheVariants.{Ask, Lost}
+use Rattle.journal_model.specs.declared.entry.Entry.{Entry}
+use Rattle.journal_model.specs.declared.opening.Opening.{Opening}
+use Rattle.host_core.specs.declared.event.Event.{Event}
+use Rattle.host_core.specs.declared.event.Reply.{Reply}
+use Rattle.host_core.specs.Steps.{step_of}
+
+-- none of the entries is of this number
+abbrev pub are_others : ℕ → List Entry → Bool
+are_others number entries = list_all (λ e. not (e.by == number)) entries
+
+-- Others may have made entries behind those that were seen; where the door is alone they have made none. Then stands what the
+-- event appends there by the door's number, and the reply is the event's. Where no memory is found nothing is appended.
+pub record Stepped (o : Opening) (number : ℕ) (alone : Bool) (old new : List Entry) (event : Event) (result : Result Reply NoMemory) : Type 0 where
+  pub others : List Entry
+  pub apart : IsTrue (are_others number others)
+  pub none : alone ≡ true → others ≡ []
+  pub made : MatchResult result
+    (λ reply. (reply ≡ (step_of o (old ++ others) number event).reply) × (new ≡ (old ++ others) ++ (step_of o (old ++ others) number event).group))
+    (λ _. new ≡ old ++ others)
+
+-- the event's reply, and behind what was seen the event's group
+abbrev pub Makes : Opening → ℕ → List Entry → List Entry → Event → Reply → Type 0
+Makes o number old new event reply =
+    (reply ≡ (step_of o old number event).reply) × (new ≡ old ++ (step_of o old number event).group)
+
+-- a step where the door is alone
+abbrev pub SteppedAlone : Opening → ℕ → List Entry → List Entry → Event → Result Reply NoMemory → Type 0
+SteppedAlone o number old new event result = MatchResult result (Makes o number old new event) (λ _. new ≡ old)
+
+-- the entry asks for a task
+abbrev pub is_asking : What → Bool
+is_asking (Ask child job task line) = true
+is_asking (Lost child task) = true
+is_asking _ = false
+
+-- the journal has grown, and nothing was asked
+pub record GoesOn (old new : List Entry) : Type 0 where
+  pub more : List Entry
+  pub is : new ≡ old ++ more
+  pub quiet : list_all (λ e. not (is_asking e.what)) more ≡ true

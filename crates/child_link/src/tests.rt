@@ -1,0 +1,1 @@
+// A child in memory, from its greeting to its verdicts.
