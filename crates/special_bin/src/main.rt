@@ -4,26 +4,28 @@
 use ann_os::{OsClock, OsErrors, OsInput, OsOutput, OsPrograms};
 use special_cli::special;
 use std::env;
-use std::rt::Env;
 use std::process::ExitCode;
+use std::rt::Env;
 
-// The words behind the program's own name; none where they aren't UTF-8, which is out of the grammar.
-fn words_of<R: Env + AllocGlobal>(rt: &R) -> Vec<String> {
+// The words behind the program's own name; none where they aren't UTF-8, which is out of the grammar. None is want of
+// memory.
+fn words_of<R: Env + AllocGlobal>(rt: &R) -> Option<Vec<String>> {
     let mut words = Vec::new(rt.alloc());
-    let Ok(mut args) = env::args(rt) else {
-        return words;
+    let Ok(args) = env::args(rt) else {
+        return Some(words);
     };
-    let _own = args.next();
-    for word in args {
+    for word in args.skip(1) {
         if words.push(word).is_err() {
-            break;
+            return None;
         }
     }
-    words
+    Some(words)
 }
 
 fn main(rt: HostRuntime) -> ExitCode {
-    let words = words_of(&rt);
+    let Some(words) = words_of(&rt) else {
+        return ExitCode::from(7);
+    };
     let mut input = OsInput::new(rt.stdin());
     let mut out = OsOutput::new(rt.stdout());
     let mut err = OsErrors::new(rt.stderr());

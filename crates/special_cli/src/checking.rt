@@ -114,20 +114,18 @@ fn text_of(alloc: Global, line: &[u8]) -> Result<Vec<u8>, NoMemory> {
 }
 
 // Writes the line of the request that was asked last, and says what came of it.
-fn write<I: Sink, O: Source>(
-    alloc: Global,
-    pipes: &mut Pipes<I, O>,
-    entries: &[Entry],
-) -> Event {
+fn write<I: Sink, O: Source>(alloc: Global, pipes: &mut Pipes<I, O>, entries: &[Entry]) -> Event {
     let child = pipes.child();
     let no_room = Event::Stop {
         child,
         why: Why::Memory,
     };
-    let Some(Entry {
-        what: What::Ask { line, .. },
-        ..
-    }) = entries.last()
+    let Some(
+        Entry {
+            what: What::Ask { line, .. },
+            ..
+        },
+    ) = entries.last()
     else {
         return no_room;
     };

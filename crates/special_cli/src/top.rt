@@ -177,11 +177,13 @@ where
     ensures legal { Legal core.old.opening core.old.journal → Legal core.new.opening core.new.journal }
 {
     match programs.start(program) {
-        Ok(Started {
-            inlet,
-            outlet,
-            stub,
-        }) => {
+        Ok(
+            Started {
+                inlet,
+                outlet,
+                stub,
+            },
+        ) => {
             let started = checking::started(core);
             let mut pipes = Pipes::new(alloc, started.unwrap_or(0), inlet, outlet);
             let answer = match started {

@@ -1,0 +1,7 @@
+// Tests that cross crates: whole checks over children in memory and over real ones.
+#![tactic(auto)]
+
+#[cfg(test)]
+mod checks;
+#[cfg(test)]
+mod real;
