@@ -21,8 +21,8 @@ pub record Stepped (o : Opening) (number : ℕ) (alone : Bool) (old new : List E
   pub apart : IsTrue (are_others number others)
   pub none : alone ≡ true → others ≡ []
   pub made : MatchResult result
-    (λ reply. (reply ≡ (step_of o (old ++ others) number event).reply) × (new ≡ (old ++ others) ++ (step_of o (old ++ others) number event).group))
-    (λ _. new ≡ old ++ others)
+      (λ reply. (reply ≡ (step_of o (old ++ others) number event).reply) × (new ≡ (old ++ others) ++ (step_of o (old ++ others) number event).group))
+      (λ _. new ≡ old ++ others)
 
 -- the event's reply, and behind what was seen the event's group
 abbrev pub Makes : Opening → ℕ → List Entry → List Entry → Event → Reply → Type 0

@@ -508,7 +508,12 @@ impl<I: Sink, O: Source> Lone<I, O> {
 
     /// Asks one request, writes its line, and goes on until it is settled. `NoMemory` comes only before it is asked; later
     /// want of memory ends the child.
-    pub fn ask<D: Door>(&mut self, door: &mut D, task: u32, request: &Request) -> Result<Verdict, NoMemory>
+    pub fn ask<D: Door>(
+        &mut self,
+        door: &mut D,
+        task: u32,
+        request: &Request,
+    ) -> Result<Verdict, NoMemory>
         requires alone { D.alone door.old ≡ true }
         requires started { is_started (D.seen door.old) self.old.child ≡ true }
         requires may { may_request (D.seen door.old) (D.number door.old) task self.old.child (message_of request.now) ≡ true }

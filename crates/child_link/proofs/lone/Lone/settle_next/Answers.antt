@@ -21,7 +21,7 @@ returns-in-Fed g c = record {
   asked = asked_after (g.D.Door.seen c.look_up.new.door) (g.D.Door.seen c.turn.new.door) c.send.new.self.child c.args.self.now.child c.args.job (sym c.send.ensures.child) c.turn.ensures.goes c.look_up.ensures.asked;
   linked = λ before. c.turn.ensures.linked (c.look_up.ensures.linked (c.send.ensures.linked before));
   goes = goes_both (g.D.Door.seen c.args.door.now) (g.D.Door.seen c.look_up.new.door) (g.D.Door.seen c.turn.new.door)
-    (goes_both (g.D.Door.seen c.args.door.now) (g.D.Door.seen c.send.new.door) (g.D.Door.seen c.look_up.new.door) c.send.ensures.goes c.look_up.ensures.goes) c.turn.ensures.goes;
+      (goes_both (g.D.Door.seen c.args.door.now) (g.D.Door.seen c.send.new.door) (g.D.Door.seen c.look_up.new.door) c.send.ensures.goes c.look_up.ensures.goes) c.turn.ensures.goes;
   child = c.turn.ensures.child ∙ c.look_up.ensures.child ∙ c.send.ensures.child;
   legal = λ before. c.turn.ensures.legal (c.look_up.ensures.legal (c.send.ensures.legal before));
   opening = c.turn.ensures.opening ∙ c.look_up.ensures.opening ∙ c.send.ensures.opening;
