@@ -1,9 +1,7 @@
 // Command lines, the lines that are printed of a run's end, and keys that are refused.
 use super::*;
 use ann_key::NoMemory;
-use ann_outside::{Failed, MemSink};
 use std::alloc::Global;
-use std::test::Fail;
 
 fn words(alloc: Global, texts: &[&str]) -> Result<Vec<String>, NoMemory> {
     let mut words = Vec::new(alloc);
@@ -80,24 +78,5 @@ fn texts_end_with_their_line(rt: HostRuntime) -> Result<(), NoMemory> {
         assert!(rt; help.contains("special check PROGRAM KEY"));
         assert!(rt; help.ends_with("\n"));
     }
-    Ok(())
-}
-
-#[test]
-fn writes_go_piece_by_piece(rt: HostRuntime) -> Result<(), Fail> {
-    let mut sink = MemSink::new(rt.alloc(), 4, Vec::new(rt.alloc()));
-    assert_eq!(rt; write_all(&mut sink, b"1 present\n"), Ok(()));
-    assert_eq!(rt; write_all(&mut sink, b""), Ok(()));
-    assert_eq!(rt; write_all(&mut sink, b"2 absent\n"), Ok(()));
-    assert_eq!(rt; sink.taken(), "1 present\n2 absent\n".as_bytes());
-    Ok(())
-}
-
-#[test]
-fn failing_write_ends_it(rt: HostRuntime) -> Result<(), Fail> {
-    let fails = Vec::from_slice(rt.alloc(), &[3])?;
-    let mut sink = MemSink::new(rt.alloc(), 4, fails);
-    assert_eq!(rt; write_all(&mut sink, b"special: usage\n"), Err(Failed));
-    assert_eq!(rt; sink.taken(), "special:".as_bytes());
     Ok(())
 }

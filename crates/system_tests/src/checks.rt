@@ -10,6 +10,7 @@ use std::test::Fail;
 const KEY: &str = "SHA256E-s0--e3b0c44298fc1c149afbf4c8996fb92427ae41e4649b934ca495991b7852b855";
 
 // What a call leaves, as far as the tests look at it.
+#[derive(Drop)]
 struct Left {
     status: u8,
     out: Vec<u8>,
