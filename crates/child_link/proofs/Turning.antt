@@ -1,5 +1,5 @@
 -- Each thing that a link does keeps it linked, and asks nothing.
-use Rattle.std.proofs.Common.{◌≡◌, ℕ, ◌+◌, ◌<◌, ◌≤◌, List, [], ◌∷◌, ◌++◌, refl, sym, ap, subst, ◌∙◌, Bool, true, false, not, Some, None, Option, length, take, append_assoc, append-nil}
+use Rattle.std.proofs.Common.{◌≡◌, ℕ, ◌<◌, List, [], ◌∷◌, ◌++◌, refl, sym, ap, subst, ◌∙◌, Bool, true, false, not, None, Option, take, append_assoc, append-nil}
 use Rattle.std.specs.Prelude.{IfSome, ◌==◌, ◌||◌}
 use Rattle.std.proofs.lemmas.List.Folds.{list_any-append}
 use Rattle.std.specs.List.{list_all, list_any}
@@ -9,7 +9,7 @@ use Rattle.annex_model.specs.declared.verdict.Why.{Why}
 use Rattle.annex_model.specs.declared.verdict.Why.TheVariants.{Eof, ReadFault}
 use Rattle.annex_model.specs.declared.verdict.Verdict.TheVariants.{Ended}
 use Rattle.journal_model.specs.declared.entry.What.{What}
-use Rattle.journal_model.specs.declared.entry.What.TheVariants.{Claim, Start, NoStart, Ask, Put, Sent, Mute, Got, End, Verdict as Settled, Lost, Answer as Answered}
+use Rattle.journal_model.specs.declared.entry.What.TheVariants.{Ask, Sent, Mute, Got, End, Verdict as Settled}
 use Rattle.journal_model.specs.declared.entry.Entry.{Entry}
 use Rattle.journal_model.specs.declared.opening.Opening.{Opening}
 use Rattle.journal_model.specs.Legality.{Legal}

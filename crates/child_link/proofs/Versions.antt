@@ -1,5 +1,5 @@
 -- What a child that had said nothing says by the first line that is fed.
-use Rattle.std.proofs.Common.{◌≡◌, ℕ, List, [], ◌∷◌, ◌++◌, refl, sym, ap, subst, ◌∙◌, Bool, true, false, not, ◌==◌, cond, Some, None, Option}
+use Rattle.std.proofs.Common.{◌≡◌, ℕ, List, ◌++◌, refl, sym, ap, ◌∙◌, Bool, true, false, ◌==◌, cond, Some, None, Option}
 use Rattle.std.specs.Prelude.{IfNone, IsTrue, IsFalse, ◌||◌, is_some}
 use Rattle.std.specs.List.{cons_option}
 use Rattle.annex_model.specs.declared.verdict.Why.{Why}

@@ -1,10 +1,8 @@
 -- What follows for a check from its key, refused or not.
-use Rattle.std.proofs.Common.{◌≡◌, ℕ, List, Option, Some, None, refl, sym, subst, ap, ◌∙◌}
-use Rattle.std.specs.Prelude.{IfSome, IfNone, IsSome, option_map}
-use Rattle.special_cli.specs.declared.words.Command.{Command}
-use Rattle.special_cli.specs.declared.words.Command.TheVariants.{Check as CheckCommand}
+use Rattle.std.proofs.Common.{◌≡◌, ℕ, List, Option, Some, None, refl, sym, subst}
+use Rattle.std.specs.Prelude.{IfSome, IfNone, IsSome}
 use Rattle.special_cli.specs.declared.refusals.Reason.{Reason}
-use Rattle.special_cli.specs.Words.{Wish, Check, command_shown}
+use Rattle.special_cli.specs.Words.{Wish, Check}
 use Rattle.special_cli.specs.Endings.{key_in}
 use Rattle.special_cli.specs.Refusals.{refusal_of}
 

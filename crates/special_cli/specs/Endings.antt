@@ -8,7 +8,7 @@ use Rattle.journal_model.specs.declared.entry.Entry.{Entry}
 use Rattle.journal_model.specs.Due.{replies_at}
 use Rattle.journal_model.specs.Legality.{Legal}
 use Rattle.journal_model.specs.Projection.{JobFits}
-use Rattle.special_cli.specs.Words.{Wish, Check, Help, CheckHelp, Version}
+use Rattle.special_cli.specs.Words.{Wish, Check}
 use Rattle.special_cli.specs.Refusals.{refusal_of}
 use Rattle.special_cli.specs.Openings.{check_opening}
 use Rattle.special_cli.specs.declared.refusals.Reason.{Reason}

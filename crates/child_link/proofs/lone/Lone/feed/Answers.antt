@@ -1,4 +1,4 @@
-use Rattle.std.proofs.Common.{ap, ◌∙◌, ◌++◌, sym, subst, ℕ, List, refl}
+use Rattle.std.proofs.Common.{ap, ◌∙◌, sym, subst, ℕ, List, refl}
 use Rattle.annex_model.specs.Lines.{has_newline}
 use Rattle.annex_model.specs.declared.verdict.Why.TheVariants.{Memory}
 use Rattle.journal_model.specs.declared.entry.What.TheVariants.{Got, End}

@@ -1,4 +1,4 @@
-use Rattle.std.proofs.Common.{ℕ, List, subst, ap, ◌∙◌, take}
+use Rattle.std.proofs.Common.{ℕ, List, subst, ◌∙◌, take}
 use Rattle.std.specs.Io.KnownBytes.{Appends}
 use Rattle.journal_model.specs.declared.entry.What.TheVariants.{Sent, Mute}
 use Rattle.child_link.proofs.Turning.{links_sent, links_mute, goes_mute, of_child}

@@ -1,4 +1,4 @@
-use Rattle.std.proofs.Common.{refl, ◌∙◌, sym, ap}
+use Rattle.std.proofs.Common.{refl}
 use Rattle.child_link.proofs.Turning.{live_before, fed_before}
 use Rattle.child_link.proofs.lone.Lone.turn.Goals as goal
 
