@@ -1,8 +1,8 @@
 #!/bin/sh
 # A git-annex external special remote over a folder, for trying out `special`: the content of a key is the file of
-# its name. The folder is $REMOTE_DIR, or `store`. It speaks VERSION 1 of
+# its name. The folder is $REMOTE_DIR, or `store` beside this script. It speaks VERSION 1 of
 # https://git-annex.branchable.com/design/external_special_remote_protocol/ and knows CHECKPRESENT alone.
-dir=${REMOTE_DIR:-store}
+dir=${REMOTE_DIR:-$(dirname "$0")/store}
 echo "VERSION 1"
 while IFS= read -r line; do
   word=${line%% *}
