@@ -1,6 +1,6 @@
 -- A child that has ended has no open job.
-use Rattle.std.proofs.Common.{◌≡◌, ℕ, List, [], ◌∷◌, ◌++◌, refl, sym, ap, subst, ◌∙◌, Bool, true, false, not, ◌==◌, cond, Some, None, Option, inl, inr, length, append-nil}
-use Rattle.std.specs.Prelude.{◌&&◌, ◌||◌, map, filter}
+use Rattle.std.proofs.Common.{◌≡◌, ℕ, List, [], ◌∷◌, ◌++◌, refl, sym, ap, subst, ◌∙◌, Bool, true, false, not, ◌==◌, cond, inl, inr, length, append-nil}
+use Rattle.std.specs.Prelude.{◌&&◌, ◌||◌, filter}
 use Rattle.std.specs.List.{list_any, list_all}
 use Rattle.annex_model.specs.declared.verdict.Why.{Why}
 use Rattle.annex_model.specs.declared.verdict.Verdict.{Verdict}
@@ -10,11 +10,11 @@ use Rattle.journal_model.specs.declared.entry.What.TheVariants.{Claim, Start, No
 use Rattle.journal_model.specs.declared.entry.Entry.{Entry}
 use Rattle.journal_model.specs.declared.opening.Opening.{Opening}
 use Rattle.annex_model.specs.Messages.{host_reading}
-use Rattle.journal_model.specs.Journal.{each_of, asks, settles, ends, is_ended, is_mute, is_started, is_live, is_settled, asked_jobs, open_jobs, addressed}
-use Rattle.journal_model.specs.Due.{due_by, due_by_got, due_after, made_by, ending}
+use Rattle.journal_model.specs.Journal.{asks, settles, ends, is_ended, is_mute, is_started, is_live, is_settled, asked_jobs, open_jobs, addressed}
+use Rattle.journal_model.specs.Due.{due_by, due_by_got, due_after, made_by}
 use Rattle.journal_model.specs.Legality.{Legal, may_come, may_ask, asks_in_turn}
 use Rattle.journal_model.proofs.Growing.{Legal-induction}
-use Rattle.journal_model.proofs.Looks.{entry, is_asked, settled_all, both, same, same_number, either_left, either_right, each_of-append, any-append}
+use Rattle.journal_model.proofs.Looks.{entry, is_asked, settled_all, both, same, same_number, each_of-append, any-append}
 use Rattle.journal_model.proofs.Rooms.{GotDue, got_due}
 use Rattle.journal_model.proofs.Soft.{is_soft, soft_got, soft_mute, soft_verdicts}
 use Rattle.journal_model.proofs.Fresh.{mute_ends_none}

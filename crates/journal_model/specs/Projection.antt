@@ -5,7 +5,7 @@ use Rattle.annex_model.specs.declared.verdict.Final.{Final}
 use Rattle.annex_model.specs.declared.verdict.Final.TheVariants.{Done, Absent}
 use Rattle.annex_model.specs.declared.verdict.Verdict.{Verdict}
 use Rattle.annex_model.specs.declared.verdict.Verdict.TheVariants.{Done as DoneAt, Absent as AbsentAt, Ended, Unsent}
-use Rattle.annex_model.specs.Messages.{HostMessage, IsAskable}
+use Rattle.annex_model.specs.Messages.{HostMessage, RemoteMessage, IsAskable}
 use Rattle.annex_model.specs.Talks.{Item, Conv, ConvFront, Talking, final_of, said}
 use Rattle.journal_model.specs.declared.entry.Entry.{Entry}
 use Rattle.journal_model.specs.Journal.{verdict_of, asked_jobs}
@@ -46,3 +46,10 @@ JobFits replies journal c j = Fits replies (part journal c j) (verdict_of journa
 -- the part is empty exactly where the job was not asked
 abbrev pub PartIsAsked : List Entry → ℕ → ℕ → Type 0
 PartIsAsked journal c j = (part journal c j ≡ []) ↔ (list_any (λ k. k == j) (asked_jobs journal c) ≡ false)
+
+-- The verdict is one that some answer to the request ends with, or there was no answer.
+abbrev pub IsNamed : HostMessage → Verdict → Type 0
+IsNamed q (DoneAt at) = (ms : List (Option RemoteMessage)) × (final_of q ms ≡ Some Done)
+IsNamed q (AbsentAt at) = (ms : List (Option RemoteMessage)) × (final_of q ms ≡ Some Absent)
+IsNamed q (Ended why) = Unit {0}
+IsNamed q Unsent = Unit {0}

@@ -1,10 +1,11 @@
 -- What was read of a child and written to it.
-use Rattle.std.specs.Prelude.{ℕ, ◌≡◌, ◌≤◌, ◌<◌, ◌||◌, not, true, List, [], ◌∷◌, ◌++◌, length, take, map, filter, Option, Some, IsTrue, IfSome}
+use Rattle.std.specs.Prelude.{ℕ, ◌≡◌, ◌≤◌, ◌<◌, ◌&&◌, ◌||◌, not, Bool, true, List, [], ◌∷◌, ◌++◌, length, take, map, filter, Option, Some, IsTrue, IfSome}
 use Rattle.annex_model.specs.declared.verdict.Why.{Why}
 use Rattle.annex_model.specs.declared.verdict.Why.TheVariants.{Eof, ReadFault, LongLine}
 use Rattle.annex_model.specs.Lines.{text, has_newline, Cut}
 use Rattle.journal_model.specs.declared.entry.Entry.{Entry}
-use Rattle.journal_model.specs.Journal.{each_of, writes, sends, unsent, is_mute, is_ended, why_of, got_lines}
+use Rattle.journal_model.specs.Journal.{each_of, writes, sends, unsent, is_mute, is_ended, why_of, got_lines, got_from, has_spoken, is_tagged, open_jobs}
+use Rattle.journal_model.specs.Legality.{is_empty}
 
 -- the lines written to c that a Sent covers
 abbrev pub sent_lines : List Entry → ℕ → List (List ℕ)
@@ -41,3 +42,16 @@ pub record Caused (journal : List Entry) (c : ℕ) (left : Option (List ℕ)) (r
   pub eof : why_of journal c ≡ Some Eof → IfSome left (λ bytes. bytes ≡ [])
   pub read : why_of journal c ≡ Some ReadFault → 0 < read_faults
   pub mute : is_mute journal c ≡ true → 0 < write_faults
+
+-- a line of c may be fed: it is the first, or a job of c is open, or its tag says which job it is for
+abbrev pub may_hear : List Entry → ℕ → Bool
+may_hear past c = not (has_spoken past c) || (is_tagged past c || not (is_empty (open_jobs past c)))
+
+abbrev pub heard_from : ℕ → List Entry → List Entry → Bool
+heard_from c past [] = true
+heard_from c past (e ∷ rest) = (not (got_from c e.what) || may_hear past c) && heard_from c (past ++ e ∷ []) rest
+
+-- Each line got of c was fed where it might be. So no child is ended as foul for a line that was not asked for: what it says
+-- too early lies in the rest until then.
+abbrev pub is_heard_in_turn : List Entry → ℕ → Bool
+is_heard_in_turn journal c = heard_from c [] journal

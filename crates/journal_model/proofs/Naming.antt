@@ -1,0 +1,52 @@
+-- A job's verdict is one that its request may have.
+use Rattle.std.proofs.Common.{◌≡◌, ℕ, List, [], ◌∷◌, ◌++◌, refl, sym, subst, ◌∙◌, false, Some, Option, length}
+use Rattle.annex_model.specs.declared.verdict.Verdict.{Verdict}
+use Rattle.annex_model.specs.declared.verdict.Verdict.TheVariants.{Done, Absent, Ended, Unsent}
+use Rattle.annex_model.specs.Messages.{HostMessage, host_reading}
+use Rattle.annex_model.specs.Talks.{Item, Host, said}
+use Rattle.journal_model.specs.declared.opening.Opening.{Opening}
+use Rattle.journal_model.specs.declared.entry.What.TheVariants.{Ask}
+use Rattle.journal_model.specs.declared.entry.Entry.{Entry}
+use Rattle.journal_model.specs.Journal.{addressed, verdict_of}
+use Rattle.journal_model.specs.Parts.{part, part_from, request_in}
+use Rattle.journal_model.specs.Due.{replies_at}
+use Rattle.journal_model.specs.Legality.{Legal}
+use Rattle.journal_model.specs.Projection.{Fits, PartFits, IsNamed}
+use Rattle.journal_model.proofs.Looks.{is_asked, same}
+use Rattle.journal_model.proofs.PartsGrow.{part_from-append}
+use Rattle.journal_model.proofs.Projecting.{parts_fit, asked_parts}
+
+by_fit : (replies : ℕ → List (List ℕ)) (q : HostMessage) (p : List Item) (v : Verdict) → PartFits replies q p (Some v) → IsNamed q v
+by_fit replies q p (Done at) h = (said p, h.final)
+by_fit replies q p (Absent at) h = (said p, h.final)
+by_fit replies q p (Ended why) h = tt
+by_fit replies q p Unsent h = tt
+
+same_some : {A : Type 0} (x y : A) → Some x ≡ Some y → x ≡ y
+same_some x y e = cc
+
+by_part : (replies : ℕ → List (List ℕ)) (q : HostMessage) (p : List Item) (v : Verdict) → request_in p ≡ Some q → Fits replies p (Some v) → IsNamed q v
+by_part replies q [] v first f = absurd cc
+by_part replies q (i ∷ is) v first f =
+    let is_q : f.0 ≡ q = same_some f.0 q (sym f.1 ∙ first) in
+    by_fit replies q (i ∷ is) v (subst (λ (r : HostMessage). PartFits replies r (i ∷ is) (Some v)) is_q f.3)
+
+module _ (o : Opening) (past more : List Entry) (c by job task : ℕ) (line : List ℕ) (q : HostMessage) where
+  abbrev asked : Entry
+  asked = record { by = by; what = Ask c job task line }
+
+  -- the part begins with the request
+  first : Legal o past → is_asked past c job ≡ false → host_reading (addressed past c line).1 ≡ Some q → request_in (part (past ++ asked ∷ more) c job) ≡ Some q
+  first legal fresh reads =
+      let none : part past c job ≡ [] = (asked_parts o past legal c job).1 fresh in
+      let own : part_from c job past (asked ∷ more) ≡ record { side = Host; at = length past; text = (addressed past c line).1 } ∷ part_from c job (past ++ asked ∷ []) more =
+      rw (same c, same job) refl in
+      let whole : part (past ++ asked ∷ more) c job ≡ part past c job ++ part_from c job past (asked ∷ more) = part_from-append c job [] past (asked ∷ more) (λ p. refl) in
+      rw (whole, none, own) reads
+
+  pub named : Legal o past → is_asked past c job ≡ false → host_reading (addressed past c line).1 ≡ Some q → Legal o (past ++ asked ∷ more)
+      → (v : Verdict) → verdict_of (past ++ asked ∷ more) c job ≡ Some v → IsNamed q v
+  named legal fresh reads after v is =
+      let journal : List Entry = past ++ asked ∷ more in
+      by_part (replies_at o journal) q (part journal c job) v (first legal fresh reads)
+      (subst (λ (x : Option Verdict). Fits (replies_at o journal) (part journal c job) x) is (parts_fit o journal after c job))
