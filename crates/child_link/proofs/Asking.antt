@@ -1,20 +1,28 @@
 -- What asking a request comes to, over journals.
-use Rattle.std.proofs.Common.{◌≡◌, ℕ, List, [], ◌∷◌, ◌++◌, refl, sym, ap, subst, ◌∙◌, Bool, true, false, ◌==◌, cond, Some, None, Option, inl, inr}
-use Rattle.std.specs.Prelude.{◌||◌}
+use Rattle.std.proofs.Common.{◌≡◌, ◌<◌, ◌≤◌, ◌^◌, arith, length, append_assoc, ℕ, List, [], ◌∷◌, ◌++◌, refl, sym, ap, subst, ◌∙◌, Bool, true, false, ◌==◌, cond, Some, None, Option, inl, inr}
+use Rattle.std.specs.Prelude.{◌||◌, ◌&&◌}
 use Rattle.std.specs.List.{list_any, cons_option}
 use Rattle.std.proofs.lemmas.List.Folds.{list_any-append}
 use Rattle.annex_model.specs.declared.verdict.Why.{Why}
 use Rattle.annex_model.specs.declared.verdict.Verdict.{Verdict}
-use Rattle.annex_model.specs.Messages.{HostMessage, host_line}
+use Rattle.annex_model.specs.Messages.{HostMessage, host_line, host_reading}
 use Rattle.journal_model.specs.declared.entry.What.TheVariants.{Ask, Lost as LostEntry}
 use Rattle.journal_model.specs.declared.entry.Entry.{Entry}
 use Rattle.journal_model.specs.declared.opening.Opening.{Opening}
-use Rattle.journal_model.specs.Journal.{asks, starts, is_started, asked_jobs, on_wire, verdict_of}
+use Rattle.journal_model.specs.Legality.{Legal, may_ask, is_in_turn}
+use Rattle.journal_model.proofs.PartsGrow.{and_right}
+use Rattle.journal_model.specs.Projection.{IsNamed}
+use Rattle.journal_model.proofs.Projecting.{invariant}
+use Rattle.journal_model.proofs.Naming.{named}
+use Rattle.journal_model.specs.Journal.{addressed, asks, starts, is_started, asked_jobs, on_wire, verdict_of}
 use Rattle.journal_model.proofs.Looks.{same, each_of-append, any-append}
 use Rattle.journal_model.proofs.Linking.{linked_apart}
+use Rattle.journal_model.proofs.Heard.{heard_on}
 use Rattle.talk_serial.specs.declared.request.Request.{Request}
 use Rattle.talk_serial.specs.Requests.{message_of}
-use Rattle.host_core.specs.Steps.{group_of, is_asked, may_request}
+use Rattle.host_core.specs.Steps.{group_of, is_asked, is_askable, may_request, next_job}
+use Rattle.host_core.proofs.Wiring.{askable_is, wired_text}
+use Rattle.annex_model.proofs.Readings.{canonical_read}
 use Rattle.child_link.specs.declared.events.Asked.{Asked}
 use Rattle.child_link.specs.declared.events.Asked.TheVariants.{Job, Lost}
 use Rattle.child_link.specs.Doors.{GoesOn}
@@ -26,6 +34,9 @@ use Rattle.child_link.proofs.Turning.{links_ask}
 -- the request may be asked under its other names
 pub may_copy : (past : List Entry) (by t c d : ℕ) (r s : Request) → d ≡ c → s ≡ r → may_request past by t c (message_of r) ≡ true → may_request past by t d (message_of s) ≡ true
 may_copy past by t c d r s e f h = ap (λ (k : ℕ). may_request past by t k (message_of s)) e ∙ ap (λ (x : Request). may_request past by t c (message_of x)) f ∙ h
+
+pub may_askable : (past : List Entry) (by t c : ℕ) (q : HostMessage) → may_request past by t c q ≡ true → is_askable q ≡ true
+may_askable past by t c q h = and_right (is_started past c && may_ask past by t c && is_in_turn past c (next_job past c) q) (is_askable q) h
 
 pub asked_copy : (o : Opening) (old new : List Entry) (by t c d : ℕ) (r s : Request) (a b : Asked) → d ≡ c → s ≡ r → a ≡ b
     → IsAsked o old new by d t (message_of s) a → IsAsked o old new by c t (message_of r) b
@@ -64,6 +75,20 @@ module _ (o : Opening) (old mid : List Entry) (by c t : ℕ) (q : HostMessage) w
       settled = ap (verdict_of new c) (sym h.0) ∙ v;
     }
 
+    -- its verdict is one that the request may have
+    pub asked_named : (new : List Entry) (verdict : Verdict) (o' : Opening) → o' ≡ o → job < 2 ^ 64 → is_askable q ≡ true → GoesOn mid new
+        → Legal o old → Legal o' new → verdict_of new c job ≡ Some verdict → IsNamed q verdict
+    asked_named new verdict o' same_o small askable g before after v =
+        let line : List ℕ = on_wire old c job (host_line q) in
+        let all : new ≡ old ++ record { by = by; what = Ask c job t line } ∷ g.more =
+        g.is ∙ ap (λ (x : List Entry). x ++ g.more) h.3 ∙ append_assoc old (group_of o old by (Ask c job t line)) g.more in
+        let few : length (asked_jobs old c) ≤ job = omega (arith, h.0) in
+        let reads : host_reading (addressed old c line).1 ≡ Some q =
+        ap host_reading (wired_text old c job (host_line q) small) ∙ canonical_read q (askable_is q askable) in
+        named o old g.more c by job t line q before ((invariant o old before).fresh c job few) reads
+        (subst (λ (x : List Entry). Legal o x) all (subst (λ (x : Opening). Legal x new) same_o after)) verdict
+        (subst (λ (x : List Entry). verdict_of x c job ≡ Some verdict) all v)
+
   -- it was lost
   pub asked_lost : (why : Option Why) → IsAsked o old mid by c t q (Lost why) → HasAsked o old mid by c t q (lost_as why)
   asked_lost why h = inr record { made = h.2; lost = ap lost_as h.0 }
@@ -77,4 +102,5 @@ module _ {I O : Type 0} (taken : I → Option (List ℕ)) (wf : I → ℕ) (give
   links_lost why h before =
       subst (λ (j : List Entry). IsLinked taken wf given left rf j link) (sym h.2)
       (linked_apart past (group_of o past by (LostEntry link.child t)) link.child (given link.outlet) (left link.outlet) (taken link.inlet) (rf link.outlet) (wf link.inlet) link.held
-      record { got = refl; written = refl; covers = refl; mutes = refl; ends = refl } before)
+      record { got = refl; written = refl; covers = refl; mutes = refl; ends = refl } before.0,
+      heard_on link.child past (group_of o past by (LostEntry link.child t)) refl before.1)

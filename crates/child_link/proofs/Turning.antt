@@ -1,5 +1,5 @@
--- Each thing that a link does keeps it linked, and asks nothing.
-use Rattle.std.proofs.Common.{◌≡◌, ℕ, ◌<◌, List, [], ◌∷◌, ◌++◌, refl, sym, ap, subst, ◌∙◌, Bool, true, false, not, None, Option, take, append_assoc, append-nil}
+-- Each thing that a link does keeps it linked, and is the link's own.
+use Rattle.std.proofs.Common.{◌≡◌, ℕ, ◌<◌, List, [], ◌∷◌, ◌++◌, refl, sym, ap, subst, ◌∙◌, Bool, true, false, not, None, Some, Option, take, append_assoc, append-nil}
 use Rattle.std.specs.Prelude.{IfSome, ◌==◌, ◌||◌}
 use Rattle.std.proofs.lemmas.List.Folds.{list_any-append}
 use Rattle.std.specs.List.{list_all, list_any}
@@ -16,30 +16,31 @@ use Rattle.journal_model.specs.Legality.{Legal}
 use Rattle.journal_model.proofs.Closing.{ended_settled}
 use Rattle.journal_model.specs.Journal.{asks, starts, ends, is_started, is_ended, is_mute, is_settled, asked_jobs, verdict_of, open_jobs, unsent}
 use Rattle.journal_model.specs.Due.{due_by, due_by_got, made_by}
-use Rattle.journal_model.specs.Wires.{RestFits}
+use Rattle.journal_model.specs.Wires.{RestFits, may_hear}
+use Rattle.journal_model.proofs.Heard.{heard_on, heard_got}
 use Rattle.journal_model.proofs.Looks.{both, each_of-append, any-append, unsettled}
 use Rattle.journal_model.proofs.Soft.{is_soft, soft_stretch, soft_got, soft_mute, soft_verdicts}
 use Rattle.journal_model.proofs.Linking.{linked_got, linked_stop, linked_ask, linked_sent, linked_mute, linked_read}
 use Rattle.journal_model.proofs.Fresh.{mute_ends_none}
 use Rattle.host_core.specs.Steps.{group_of, is_asked}
-use Rattle.child_link.specs.Doors.{GoesOn, is_asking}
+use Rattle.child_link.specs.Doors.{GoesOn, is_of_link}
 use Rattle.child_link.specs.Fills.{Fills}
 use Rattle.child_link.specs.Turns.{HasFed}
 use Rattle.child_link.specs.Links.{LinkValue, IsLinked}
 
--- ---- nothing is asked
+-- ---- nothing but a link's entries
 
-soft_quiet : (by : ℕ) (ws : List What) → list_all is_soft ws ≡ true → list_all (λ (e : Entry). not (is_asking e.what)) (made_by by ws) ≡ true
+soft_quiet : (by : ℕ) (ws : List What) → list_all is_soft ws ≡ true → list_all (λ (e : Entry). is_of_link e.what) (made_by by ws) ≡ true
 soft_quiet by [] h = refl
 soft_quiet by (Settled child job verdict ∷ ws) h = soft_quiet by ws h
 soft_quiet by (End child why ∷ ws) h = soft_quiet by ws (both (is_soft (End child why)) (list_all is_soft ws) h).1
 soft_quiet by (w ∷ ws) h = absurd cc
 
-all-append : (xs ys : List Entry) → list_all (λ (e : Entry). not (is_asking e.what)) xs ≡ true → list_all (λ (e : Entry). not (is_asking e.what)) ys ≡ true
-    → list_all (λ (e : Entry). not (is_asking e.what)) (xs ++ ys) ≡ true
+all-append : (xs ys : List Entry) → list_all (λ (e : Entry). is_of_link e.what) xs ≡ true → list_all (λ (e : Entry). is_of_link e.what) ys ≡ true
+    → list_all (λ (e : Entry). is_of_link e.what) (xs ++ ys) ≡ true
 all-append [] ys h k = k
 all-append (x ∷ xs) ys h k =
-    let t : (not (is_asking x.what) ≡ true) × (list_all (λ (e : Entry). not (is_asking e.what)) xs ≡ true) = both (not (is_asking x.what)) (list_all (λ (e : Entry). not (is_asking e.what)) xs) h in
+    let t : (is_of_link x.what ≡ true) × (list_all (λ (e : Entry). is_of_link e.what) xs ≡ true) = both (is_of_link x.what) (list_all (λ (e : Entry). is_of_link e.what) xs) h in
     rw (t.0, all-append xs ys t.1 k) refl
 
 pub goes_nowhere : (old new : List Entry) → new ≡ old → GoesOn old new
@@ -52,7 +53,7 @@ goes_both a b c x y = record {
   quiet = all-append x.more y.more x.quiet y.quiet;
 }
 
-goes_soft : (past : List Entry) (by : ℕ) (w : What) (ws : List What) (new : List Entry) → is_asking w ≡ false → list_all is_soft ws ≡ true
+goes_soft : (past : List Entry) (by : ℕ) (w : What) (ws : List What) (new : List Entry) → is_of_link w ≡ true → list_all is_soft ws ≡ true
     → new ≡ past ++ record { by = by; what = w } ∷ made_by by ws → GoesOn past new
 goes_soft past by w ws new a s e = record { more = record { by = by; what = w } ∷ made_by by ws; is = e; quiet = rw (a, soft_quiet by ws s) refl }
 
@@ -97,13 +98,14 @@ module _ {I O : Type 0} (taken : I → Option (List ℕ)) (wf : I → ℕ) (give
 
   -- a line was fed
   pub links_got : (line : List ℕ) → new ≡ past ++ group_of o past by (Got old.child line) → after ≡ record old { held = after.held }
-      → is_ended past old.child ≡ false
+      → is_ended past old.child ≡ false → may_hear past old.child ≡ true
       → ((bytes : List ℕ) (lines : List (List ℕ)) → Cut bytes lines old.held → Cut bytes (lines ++ line ∷ []) after.held) → Before → After
-  links_got line e same live cut h =
+  links_got line e same live may cut h =
       subst (λ (j : List Entry). IsLinked taken wf given left rf j after) (sym e)
       (subst (λ (l : LinkValue I O). IsLinked taken wf given left rf (past ++ group_of o past by (Got old.child line)) l) (sym same)
       (linked_got past (made_by by (due_by_got o past old.child line)) old.child by line (given old.outlet) (left old.outlet) (taken old.inlet) (rf old.outlet) (wf old.inlet) old.held after.held
-      (soft_stretch old.child by (due_by_got o past old.child line) (soft_got o past old.child line)) live cut h))
+      (soft_stretch old.child by (due_by_got o past old.child line) (soft_got o past old.child line)) live cut h.0,
+      heard_got old.child by line past (made_by by (due_by_got o past old.child line)) (soft_stretch old.child by (due_by_got o past old.child line) (soft_got o past old.child line)).got may h.1))
 
   -- the child was ended
   pub links_stop : (why : Why) → new ≡ past ++ group_of o past by (End old.child why) → after ≡ old
@@ -112,7 +114,8 @@ module _ {I O : Type 0} (taken : I → Option (List ℕ)) (wf : I → ℕ) (give
       subst (λ (j : List Entry). IsLinked taken wf given left rf j after) (sym e)
       (subst (λ (l : LinkValue I O). IsLinked taken wf given left rf (past ++ group_of o past by (End old.child why)) l) (sym same)
       (linked_stop past (made_by by (due_by o past (End old.child why))) old.child by why (given old.outlet) (left old.outlet) (taken old.inlet) (rf old.outlet) (wf old.inlet) old.held
-      (soft_stretch old.child by (due_by o past (End old.child why)) (soft_verdicts old.child (Ended why) (open_jobs past old.child))) live fits eof fault h))
+      (soft_stretch old.child by (due_by o past (End old.child why)) (soft_verdicts old.child (Ended why) (open_jobs past old.child))) live fits eof fault h.0,
+      heard_on old.child past (group_of o past by (End old.child why)) (soft_stretch old.child by (due_by o past (End old.child why)) (soft_verdicts old.child (Ended why) (open_jobs past old.child))).got h.1))
 
   -- more was read
   pub links_read : (piece : List ℕ) → new ≡ past → after ≡ record old { outlet = after.outlet; held = after.held } → is_ended past old.child ≡ false
@@ -121,7 +124,8 @@ module _ {I O : Type 0} (taken : I → Option (List ℕ)) (wf : I → ℕ) (give
   links_read piece e same live grows silent cut h =
       subst (λ (j : List Entry). IsLinked taken wf given left rf j after) (sym e)
       (subst (λ (l : LinkValue I O). IsLinked taken wf given left rf past l) (sym same)
-      (linked_read past old.child piece (given old.outlet) (given after.outlet) (left old.outlet) (left after.outlet) (taken old.inlet) (rf old.outlet) (rf after.outlet) (wf old.inlet) old.held after.held live grows silent cut h))
+      (linked_read past old.child piece (given old.outlet) (given after.outlet) (left old.outlet) (left after.outlet) (taken old.inlet) (rf old.outlet) (rf after.outlet) (wf old.inlet) old.held after.held live grows silent cut h.0,
+      h.1))
 
   -- one read was made, while the journal stood still
   pub links_fill : new ≡ past → Fills given old after → is_ended past old.child ≡ false → Before → After
@@ -133,7 +137,8 @@ module _ {I O : Type 0} (taken : I → Option (List ℕ)) (wf : I → ℕ) (give
   links_ask job task line e same live loud h =
       subst (λ (j : List Entry). IsLinked taken wf given left rf j after) (sym e)
       (subst (λ (l : LinkValue I O). IsLinked taken wf given left rf (past ++ group_of o past by (Ask old.child job task line)) l) (sym same)
-      (linked_ask past old.child by job task line (given old.outlet) (left old.outlet) (taken old.inlet) (rf old.outlet) (wf old.inlet) old.held live loud h))
+      (linked_ask past old.child by job task line (given old.outlet) (left old.outlet) (taken old.inlet) (rf old.outlet) (wf old.inlet) old.held live loud h.0,
+      heard_on old.child past (group_of o past by (Ask old.child job task line)) refl h.1))
 
   -- the next line was written whole
   pub links_sent : (w : Option ℕ × List ℕ) (ws : List (Option ℕ × List ℕ)) → new ≡ past ++ group_of o past by (Sent old.child) → after ≡ record old { inlet = after.inlet }
@@ -142,7 +147,8 @@ module _ {I O : Type 0} (taken : I → Option (List ℕ)) (wf : I → ℕ) (give
   links_sent w ws e same live loud next grows silent h =
       subst (λ (j : List Entry). IsLinked taken wf given left rf j after) (sym e)
       (subst (λ (l : LinkValue I O). IsLinked taken wf given left rf (past ++ group_of o past by (Sent old.child)) l) (sym same)
-      (linked_sent past old.child by w ws (given old.outlet) (left old.outlet) (taken old.inlet) (taken after.inlet) (rf old.outlet) (wf old.inlet) (wf after.inlet) old.held live loud next grows silent h))
+      (linked_sent past old.child by w ws (given old.outlet) (left old.outlet) (taken old.inlet) (taken after.inlet) (rf old.outlet) (wf old.inlet) (wf after.inlet) old.held live loud next grows silent h.0,
+      heard_on old.child past (group_of o past by (Sent old.child)) refl h.1))
 
   -- writing stopped in the next line
   pub links_mute : (n : ℕ) (w : Option ℕ × List ℕ) (ws : List (Option ℕ × List ℕ)) → new ≡ past ++ group_of o past by (Mute old.child) → after ≡ record old { inlet = after.inlet }
@@ -152,7 +158,8 @@ module _ {I O : Type 0} (taken : I → Option (List ℕ)) (wf : I → ℕ) (give
       subst (λ (j : List Entry). IsLinked taken wf given left rf j after) (sym e)
       (subst (λ (l : LinkValue I O). IsLinked taken wf given left rf (past ++ group_of o past by (Mute old.child)) l) (sym same)
       (linked_mute past (made_by by (due_by o past (Mute old.child))) old.child by n w ws (given old.outlet) (left old.outlet) (taken old.inlet) (taken after.inlet) (rf old.outlet) (wf old.inlet) (wf after.inlet) old.held
-      (soft_stretch old.child by (due_by o past (Mute old.child)) (soft_mute o past old.child)) (mute_ends_none o past old.child old.child by) live loud next grows silent fault h))
+      (soft_stretch old.child by (due_by o past (Mute old.child)) (soft_mute o past old.child)) (mute_ends_none o past old.child old.child by) live loud next grows silent fault h.0,
+      heard_on old.child past (group_of o past by (Mute old.child)) (soft_stretch old.child by (due_by o past (Mute old.child)) (soft_mute o past old.child)).got h.1))
 
 -- what was fed behind a look, over the journal before it
 pub fed_before : (o o' : Opening) (past past' new : List Entry) (by by' c : ℕ) (line : List ℕ) → past' ≡ past → o' ≡ o → by' ≡ by
@@ -168,6 +175,14 @@ fed_before o o' past past' new by by' c line p q n live h = record {
 
 pub live_before : (past past' : List Entry) (c d : ℕ) (b : Bool) → past' ≡ past → d ≡ c → b ≡ is_ended past d → b ≡ false → is_ended past' c ≡ false
 live_before past past' c d b p e t f = ap (λ (j : List Entry). is_ended j c) p ∙ ap (is_ended past) (sym e) ∙ sym t ∙ f
+
+pub unanswered : {A : Type 0} (o : Option A) → ((x : A) → o ≡ Some x → ⊥) → o ≡ None
+unanswered None h = refl
+unanswered (Some x) h = absurd (h x refl)
+
+-- a child that was to be heard is so still, by its number under another name
+pub hears_before : (past new : List Entry) (c d : ℕ) → new ≡ past → d ≡ c → may_hear past c ≡ true → may_hear new d ≡ true
+hears_before past new c d p e h = ap (λ (j : List Entry). may_hear j d) p ∙ ap (may_hear past) e ∙ h
 
 -- ---- what stays as the journal goes on
 

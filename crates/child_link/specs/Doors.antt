@@ -3,7 +3,7 @@ use Rattle.std.specs.Prelude.{ℕ, ◌≡◌, ◌==◌, not, Bool, true, false, 
 use Rattle.std.specs.List.{list_all}
 use Rattle.ann_key.specs.declared.bytes.NoMemory.{NoMemory}
 use Rattle.journal_model.specs.declared.entry.What.{What}
-use Rattle.journal_model.specs.declared.entry.What.TheVariants.{Ask, Lost}
+use Rattle.journal_model.specs.declared.entry.What.TheVariants.{Put, Sent, Mute, Got, End, Verdict as Settled}
 use Rattle.journal_model.specs.declared.entry.Entry.{Entry}
 use Rattle.journal_model.specs.declared.opening.Opening.{Opening}
 use Rattle.host_core.specs.declared.event.Event.{Event}
@@ -33,14 +33,18 @@ Makes o number old new event reply =
 abbrev pub SteppedAlone : Opening → ℕ → List Entry → List Entry → Event → Result Reply NoMemory → Type 0
 SteppedAlone o number old new event result = MatchResult result (Makes o number old new event) (λ _. new ≡ old)
 
--- the entry asks for a task
-abbrev pub is_asking : What → Bool
-is_asking (Ask child job task line) = true
-is_asking (Lost child task) = true
-is_asking _ = false
+-- the entry is of a child's link: what was written to the child or heard of it, and what came of that
+abbrev pub is_of_link : What → Bool
+is_of_link (Put child job line) = true
+is_of_link (Sent child) = true
+is_of_link (Mute child) = true
+is_of_link (Got child line) = true
+is_of_link (End child why) = true
+is_of_link (Settled child job verdict) = true
+is_of_link _ = false
 
--- the journal has grown, and nothing was asked
+-- the journal has grown by entries of links alone: nothing was started, claimed, asked or answered
 pub record GoesOn (old new : List Entry) : Type 0 where
   pub more : List Entry
   pub is : new ≡ old ++ more
-  pub quiet : list_all (λ e. not (is_asking e.what)) more ≡ true
+  pub quiet : list_all (λ e. is_of_link e.what) more ≡ true

@@ -1,10 +1,11 @@
-ghost use Rattle.std.specs.Prelude.{◌≡◌, ◌<◌, ◌≤◌, ◌++◌, ◌∷◌, [], ℕ, List, Option, Some, None, true, false, not, length, take, IsTrue, IsFalse, OnOk, OnErr, IfSome, IfNone, IsSome, IfOk};
+ghost use Rattle.std.specs.Prelude.{◌≡◌, ◌<◌, ◌≤◌, ◌^◌, ◌++◌, ◌∷◌, [], ℕ, List, Option, Some, None, true, false, not, length, take, IsTrue, IsFalse, OnOk, OnErr, IfSome, IfNone, IsSome, IfOk};
 ghost use Rattle.std.specs.Io.KnownBytes.{Appends};
 ghost use Rattle.annex_model.specs.declared.verdict.Why.TheVariants.{Eof, ReadFault, LongLine, Memory};
 ghost use Rattle.journal_model.specs.declared.entry.What.TheVariants.{Got};
 ghost use Rattle.journal_model.specs.Journal.{is_started, is_ended, has_spoken, why_of, verdict_of};
 ghost use Rattle.journal_model.specs.Legality.{Legal, may_stop, said_version};
-ghost use Rattle.journal_model.specs.Wires.{RestFits};
+ghost use Rattle.journal_model.specs.Projection.{IsNamed};
+ghost use Rattle.journal_model.specs.Wires.{RestFits, may_hear};
 ghost use Rattle.wire_line.specs.Held.{has_line, first_line, TakesLine};
 ghost use Rattle.host_core.specs.Steps.{group_of, is_asked, may_request};
 ghost use Rattle.talk_serial.specs.Requests.{message_of};
@@ -114,15 +115,17 @@ impl<I: Sink, O: Source> Lone<I, O> {
         self.splitter.drop_line();
     }
 
-    // Feeds the first line, and takes it away. Where there is no memory the child ends.
+    // Feeds the first line in its turn, and takes it away. Where there is no memory the child ends.
     fn feed<D: Door>(&mut self, door: &mut D, line: Bytes) -> bool
         requires alone { D.alone door.old ≡ true }
         requires started { is_started (D.seen door.old) self.old.child ≡ true }
         requires live { is_ended (D.seen door.old) self.old.child ≡ false }
+        requires turn { IsTrue (may_hear (D.seen door.old) self.old.child) }
         requires line { IsTrue (has_line 65536 self.old.held) × (line ≡ first_line self.old.held) }
         ensures linked { IsLinked I.taken I.faults O.given O.left O.faults (D.seen door.old) self.old → IsLinked I.taken I.faults O.given O.left O.faults (D.seen door.new) self.new }
         ensures goes { GoesOn (D.seen door.old) (D.seen door.new) }
         ensures child { self.new.child ≡ self.old.child }
+        ensures numbers { (I.number self.new.inlet ≡ I.number self.old.inlet) × (O.number self.new.outlet ≡ O.number self.old.outlet) }
         ensures fed { IsTrue result → D.seen door.new ≡ D.seen door.old ++ group_of (D.opening door.old) (D.seen door.old) (D.number door.old) (Got self.old.child line) }
         ensures over { IsFalse result → is_ended (D.seen door.new) self.old.child ≡ true }
         ensures legal { Legal (D.opening door.old) (D.seen door.old) → Legal (D.opening door.new) (D.seen door.new) }
@@ -156,6 +159,7 @@ impl<I: Sink, O: Source> Lone<I, O> {
         ensures linked { IsLinked I.taken I.faults O.given O.left O.faults (D.seen door.old) self.old → IsLinked I.taken I.faults O.given O.left O.faults (D.seen door.new) self.new }
         ensures goes { GoesOn (D.seen door.old) (D.seen door.new) }
         ensures child { self.new.child ≡ self.old.child }
+        ensures numbers { (I.number self.new.inlet ≡ I.number self.old.inlet) × (O.number self.new.outlet ≡ O.number self.old.outlet) }
         ensures over { is_ended (D.seen door.new) self.old.child ≡ true }
         ensures legal { Legal (D.opening door.old) (D.seen door.old) → Legal (D.opening door.new) (D.seen door.new) }
         ensures opening { D.opening door.new ≡ D.opening door.old }
@@ -170,6 +174,7 @@ impl<I: Sink, O: Source> Lone<I, O> {
     // One read of the outlet.
     fn fill(&mut self) -> Fill
         ensures fills { Fills O.given self.old self.new }
+        ensures number { O.number self.new.outlet ≡ O.number self.old.outlet }
         ensures kept { is_got result ≡ false → self.new.held ≡ self.old.held }
         ensures end { result ≡ Fill.End → IfSome (O.left self.new.outlet) (λ bytes. bytes ≡ []) }
         ensures fault { result ≡ Fill.Fault → 0 < O.faults self.new.outlet }
@@ -186,6 +191,7 @@ impl<I: Sink, O: Source> Lone<I, O> {
         ensures linked { IsLinked I.taken I.faults O.given O.left O.faults (D.seen door.old) self.old → IsLinked I.taken I.faults O.given O.left O.faults (D.seen door.new) self.new }
         ensures goes { GoesOn (D.seen door.old) (D.seen door.new) }
         ensures child { self.new.child ≡ self.old.child }
+        ensures numbers { (I.number self.new.inlet ≡ I.number self.old.inlet) × (O.number self.new.outlet ≡ O.number self.old.outlet) }
         ensures read { IsTrue result → D.seen door.new ≡ D.seen door.old }
         ensures over { IsFalse result → is_ended (D.seen door.new) self.old.child ≡ true }
         ensures legal { Legal (D.opening door.old) (D.seen door.old) → Legal (D.opening door.new) (D.seen door.new) }
@@ -216,6 +222,7 @@ impl<I: Sink, O: Source> Lone<I, O> {
     // Writes the whole line to the inlet.
     fn write(&mut self, line: &[u8]) -> Result<(), Failed>
         ensures same { self.new ≡ record self.old { inlet = self.new.inlet } }
+        ensures number { I.number self.new.inlet ≡ I.number self.old.inlet }
         ensures ok { OnOk result (Appends (I.taken self.old.inlet) (I.taken self.new.inlet) line.now) }
         ensures prefix { (n : ℕ) × Appends (I.taken self.old.inlet) (I.taken self.new.inlet) (take n line.now) }
         ensures silent { I.taken self.old.inlet ≡ None → I.taken self.new.inlet ≡ None }
@@ -232,6 +239,7 @@ impl<I: Sink, O: Source> Lone<I, O> {
         ensures linked { IsLinked I.taken I.faults O.given O.left O.faults (D.seen door.old) self.old → IsLinked I.taken I.faults O.given O.left O.faults (D.seen door.new) self.new }
         ensures goes { GoesOn (D.seen door.old) (D.seen door.new) }
         ensures child { self.new.child ≡ self.old.child }
+        ensures numbers { (I.number self.new.inlet ≡ I.number self.old.inlet) × (O.number self.new.outlet ≡ O.number self.old.outlet) }
         ensures legal { Legal (D.opening door.old) (D.seen door.old) → Legal (D.opening door.new) (D.seen door.new) }
         ensures opening { D.opening door.new ≡ D.opening door.old }
         ensures number { D.number door.new ≡ D.number door.old }
@@ -253,6 +261,7 @@ impl<I: Sink, O: Source> Lone<I, O> {
         ensures linked { IsLinked I.taken I.faults O.given O.left O.faults (D.seen door.old) self.old → IsLinked I.taken I.faults O.given O.left O.faults (D.seen door.new) self.new }
         ensures goes { GoesOn (D.seen door.old) (D.seen door.new) }
         ensures child { self.new.child ≡ self.old.child }
+        ensures numbers { (I.number self.new.inlet ≡ I.number self.old.inlet) × (O.number self.new.outlet ≡ O.number self.old.outlet) }
         ensures over { is_ended (D.seen door.new) self.old.child ≡ true }
         ensures legal { Legal (D.opening door.old) (D.seen door.old) → Legal (D.opening door.new) (D.seen door.new) }
         ensures opening { D.opening door.new ≡ D.opening door.old }
@@ -266,13 +275,15 @@ impl<I: Sink, O: Source> Lone<I, O> {
         }
     }
 
-    // One look at the child, and one line or one read of it.
+    // One look at the child, and one line or one read of it, where it is to be heard.
     fn turn<D: Door>(&mut self, door: &mut D) -> Turn
         requires alone { D.alone door.old ≡ true }
         requires started { is_started (D.seen door.old) self.old.child ≡ true }
+        requires turn { IsTrue (may_hear (D.seen door.old) self.old.child) }
         ensures linked { IsLinked I.taken I.faults O.given O.left O.faults (D.seen door.old) self.old → IsLinked I.taken I.faults O.given O.left O.faults (D.seen door.new) self.new }
         ensures goes { GoesOn (D.seen door.old) (D.seen door.new) }
         ensures child { self.new.child ≡ self.old.child }
+        ensures numbers { (I.number self.new.inlet ≡ I.number self.old.inlet) × (O.number self.new.outlet ≡ O.number self.old.outlet) }
         ensures fed { result ≡ Turn.Fed → HasFed (D.opening door.old) (D.seen door.old) (D.seen door.new) (D.number door.old) self.old.child }
         ensures read { result ≡ Turn.Read → D.seen door.new ≡ D.seen door.old }
         ensures over { result ≡ Turn.Over → is_ended (D.seen door.new) self.old.child ≡ true }
@@ -321,6 +332,7 @@ impl<I: Sink, O: Source> Lone<I, O> {
         ensures linked { IsLinked I.taken I.faults O.given O.left O.faults (D.seen door.old) self.old → IsLinked I.taken I.faults O.given O.left O.faults (D.seen door.new) self.new }
         ensures goes { GoesOn (D.seen door.old) (D.seen door.new) }
         ensures child { self.new.child ≡ self.old.child }
+        ensures numbers { (I.number self.new.inlet ≡ I.number self.old.inlet) × (O.number self.new.outlet ≡ O.number self.old.outlet) }
         ensures legal { Legal (D.opening door.old) (D.seen door.old) → Legal (D.opening door.new) (D.seen door.new) }
         ensures opening { D.opening door.new ≡ D.opening door.old }
         ensures number { D.number door.new ≡ D.number door.old }
@@ -348,6 +360,7 @@ impl<I: Sink, O: Source> Lone<I, O> {
         ensures linked { IsLinked I.taken I.faults O.given O.left O.faults (D.seen door.old) self.old → IsLinked I.taken I.faults O.given O.left O.faults (D.seen door.new) self.new }
         ensures goes { GoesOn (D.seen door.old) (D.seen door.new) }
         ensures child { self.new.child ≡ self.old.child }
+        ensures numbers { (I.number self.new.inlet ≡ I.number self.old.inlet) × (O.number self.new.outlet ≡ O.number self.old.outlet) }
         ensures legal { Legal (D.opening door.old) (D.seen door.old) → Legal (D.opening door.new) (D.seen door.new) }
         ensures opening { D.opening door.new ≡ D.opening door.old }
         ensures number { D.number door.new ≡ D.number door.old }
@@ -365,9 +378,11 @@ impl<I: Sink, O: Source> Lone<I, O> {
     fn hear_line<D: Door>(&mut self, door: &mut D) -> bool
         requires alone { D.alone door.old ≡ true }
         requires started { is_started (D.seen door.old) self.old.child ≡ true }
+        requires turn { IsTrue (may_hear (D.seen door.old) self.old.child) }
         ensures linked { IsLinked I.taken I.faults O.given O.left O.faults (D.seen door.old) self.old → IsLinked I.taken I.faults O.given O.left O.faults (D.seen door.new) self.new }
         ensures goes { GoesOn (D.seen door.old) (D.seen door.new) }
         ensures child { self.new.child ≡ self.old.child }
+        ensures numbers { (I.number self.new.inlet ≡ I.number self.old.inlet) × (O.number self.new.outlet ≡ O.number self.old.outlet) }
         ensures fed { IsTrue result → HasFed (D.opening door.old) (D.seen door.old) (D.seen door.new) (D.number door.old) self.old.child }
         ensures over { IsFalse result → is_ended (D.seen door.new) self.old.child ≡ true }
         ensures legal { Legal (D.opening door.old) (D.seen door.old) → Legal (D.opening door.new) (D.seen door.new) }
@@ -399,6 +414,7 @@ impl<I: Sink, O: Source> Lone<I, O> {
         ensures linked { IsLinked I.taken I.faults O.given O.left O.faults (D.seen door.old) self.old → IsLinked I.taken I.faults O.given O.left O.faults (D.seen door.new) self.new }
         ensures goes { GoesOn (D.seen door.old) (D.seen door.new) }
         ensures child { self.new.child ≡ self.old.child }
+        ensures numbers { (I.number self.new.inlet ≡ I.number self.old.inlet) × (O.number self.new.outlet ≡ O.number self.old.outlet) }
         ensures legal { Legal (D.opening door.old) (D.seen door.old) → Legal (D.opening door.new) (D.seen door.new) }
         ensures opening { D.opening door.new ≡ D.opening door.old }
         ensures number { D.number door.new ≡ D.number door.old }
@@ -419,6 +435,7 @@ impl<I: Sink, O: Source> Lone<I, O> {
         ensures linked { IsLinked I.taken I.faults O.given O.left O.faults (D.seen door.old) self.old → IsLinked I.taken I.faults O.given O.left O.faults (D.seen door.new) self.new }
         ensures goes { GoesOn (D.seen door.old) (D.seen door.new) }
         ensures child { self.new.child ≡ self.old.child }
+        ensures numbers { (I.number self.new.inlet ≡ I.number self.old.inlet) × (O.number self.new.outlet ≡ O.number self.old.outlet) }
         ensures legal { Legal (D.opening door.old) (D.seen door.old) → Legal (D.opening door.new) (D.seen door.new) }
         ensures opening { D.opening door.new ≡ D.opening door.old }
         ensures number { D.number door.new ≡ D.number door.old }
@@ -445,6 +462,7 @@ impl<I: Sink, O: Source> Lone<I, O> {
         ensures linked { IsLinked I.taken I.faults O.given O.left O.faults (D.seen door.old) self.old → IsLinked I.taken I.faults O.given O.left O.faults (D.seen door.new) self.new }
         ensures goes { GoesOn (D.seen door.old) (D.seen door.new) }
         ensures child { self.new.child ≡ self.old.child }
+        ensures numbers { (I.number self.new.inlet ≡ I.number self.old.inlet) × (O.number self.new.outlet ≡ O.number self.old.outlet) }
         ensures legal { Legal (D.opening door.old) (D.seen door.old) → Legal (D.opening door.new) (D.seen door.new) }
         ensures opening { D.opening door.new ≡ D.opening door.old }
         ensures number { D.number door.new ≡ D.number door.old }
@@ -464,10 +482,12 @@ impl<I: Sink, O: Source> Lone<I, O> {
         requires started { is_started (D.seen door.old) self.old.child ≡ true }
         requires asked { is_asked (D.seen door.old) self.old.child job ≡ true }
         requires legal { Legal (D.opening door.old) (D.seen door.old) }
+        ensures small { job < 2 ^ 64 }
         ensures verdict { verdict_of (D.seen door.new) self.old.child job ≡ Some result }
         ensures linked { IsLinked I.taken I.faults O.given O.left O.faults (D.seen door.old) self.old → IsLinked I.taken I.faults O.given O.left O.faults (D.seen door.new) self.new }
         ensures goes { GoesOn (D.seen door.old) (D.seen door.new) }
         ensures child { self.new.child ≡ self.old.child }
+        ensures numbers { (I.number self.new.inlet ≡ I.number self.old.inlet) × (O.number self.new.outlet ≡ O.number self.old.outlet) }
         ensures legal { Legal (D.opening door.old) (D.seen door.old) → Legal (D.opening door.new) (D.seen door.new) }
         ensures opening { D.opening door.new ≡ D.opening door.old }
         ensures number { D.number door.new ≡ D.number door.old }
@@ -495,6 +515,7 @@ impl<I: Sink, O: Source> Lone<I, O> {
         ensures linked { IsLinked I.taken I.faults O.given O.left O.faults (D.seen door.old) self.old → IsLinked I.taken I.faults O.given O.left O.faults (D.seen door.new) self.new }
         ensures goes { GoesOn (D.seen door.old) (D.seen door.new) }
         ensures child { self.new.child ≡ self.old.child }
+        ensures numbers { (I.number self.new.inlet ≡ I.number self.old.inlet) × (O.number self.new.outlet ≡ O.number self.old.outlet) }
         ensures legal { Legal (D.opening door.old) (D.seen door.old) → Legal (D.opening door.new) (D.seen door.new) }
         ensures opening { D.opening door.new ≡ D.opening door.old }
         ensures number { D.number door.new ≡ D.number door.old }
@@ -518,9 +539,11 @@ impl<I: Sink, O: Source> Lone<I, O> {
         requires started { is_started (D.seen door.old) self.old.child ≡ true }
         requires may { may_request (D.seen door.old) (D.number door.old) task self.old.child (message_of request.now) ≡ true }
         ensures asked { IfOk result (HasAsked (D.opening door.old) (D.seen door.old) (D.seen door.new) (D.number door.old) self.old.child task (message_of request.now)) }
+        ensures named { Legal (D.opening door.old) (D.seen door.old) → IfOk result (IsNamed (message_of request.now)) }
         ensures none { OnErr result ((D.seen door.new ≡ D.seen door.old) × (self.new ≡ self.old)) }
         ensures linked { IsLinked I.taken I.faults O.given O.left O.faults (D.seen door.old) self.old → IsLinked I.taken I.faults O.given O.left O.faults (D.seen door.new) self.new }
         ensures child { self.new.child ≡ self.old.child }
+        ensures numbers { (I.number self.new.inlet ≡ I.number self.old.inlet) × (O.number self.new.outlet ≡ O.number self.old.outlet) }
         ensures legal { Legal (D.opening door.old) (D.seen door.old) → Legal (D.opening door.new) (D.seen door.new) }
         ensures opening { D.opening door.new ≡ D.opening door.old }
         ensures number { D.number door.new ≡ D.number door.old }

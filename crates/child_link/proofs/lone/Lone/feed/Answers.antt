@@ -32,7 +32,7 @@ returns-in-Ok-clause-linked g c =
     links_got g.I.Sink.taken g.I.Sink.faults g.O.Source.given g.O.Source.left g.O.Source.faults (g.D.Door.opening c.args.door.now) (g.D.Door.seen c.args.door.now)
     (g.D.Door.seen c.got.new.door) (g.D.Door.number c.args.door.now) c.args.self.now c.drop_line.new.self c.args.line
     (of_child (g.D.Door.opening c.args.door.now) (g.D.Door.seen c.args.door.now) (g.D.Door.seen c.got.new.door) (g.D.Door.number c.args.door.now) (λ (k : ℕ). Got k c.args.line) c.child-child.ensures c.in-Ok.ensures.ok)
-    c.drop_line.ensures.same c.requires.live cut
+    c.drop_line.ensures.same c.requires.live c.requires.turn cut
 
 pub returns-in-Err-clause-goes : goal.returns-in-Err-clause-goes
 returns-in-Err-clause-goes g c =

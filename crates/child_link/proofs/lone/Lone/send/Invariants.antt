@@ -12,6 +12,7 @@ invariant-loop g l = record {
       → IsLinked g.I.Sink.taken g.I.Sink.faults g.O.Source.given g.O.Source.left g.O.Source.faults (g.D.Door.seen l.door) l.self;
   goes : GoesOn (g.D.Door.seen l.initial.door) (g.D.Door.seen l.door);
   child : l.self.child ≡ l.initial.self.child;
+  numbers : (g.I.Sink.number l.self.inlet ≡ g.I.Sink.number l.initial.self.inlet) × (g.O.Source.number l.self.outlet ≡ g.O.Source.number l.initial.self.outlet);
   legal : Legal (g.D.Door.opening l.initial.door) (g.D.Door.seen l.initial.door) → Legal (g.D.Door.opening l.door) (g.D.Door.seen l.door);
   opening : g.D.Door.opening l.door ≡ g.D.Door.opening l.initial.door;
   number : g.D.Door.number l.door ≡ g.D.Door.number l.initial.door;

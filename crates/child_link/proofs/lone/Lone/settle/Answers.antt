@@ -10,6 +10,7 @@ loop-preserved g c = record {
   linked = λ before. c.settle_next.ensures.linked (c.loop.invariant.linked before);
   goes = goes_both (g.D.Door.seen c.args.door.now) (g.D.Door.seen c.loop.door) (g.D.Door.seen c.settle_next.new.door) c.loop.invariant.goes c.settle_next.ensures.goes;
   child = c.settle_next.ensures.child ∙ c.loop.invariant.child;
+  numbers = (c.settle_next.ensures.numbers.0 ∙ c.loop.invariant.numbers.0, c.settle_next.ensures.numbers.1 ∙ c.loop.invariant.numbers.1);
   legal = λ before. c.settle_next.ensures.legal (c.loop.invariant.legal before);
   opening = c.settle_next.ensures.opening ∙ c.loop.invariant.opening;
   number = c.settle_next.ensures.number ∙ c.loop.invariant.number;
