@@ -100,7 +100,8 @@ module _ {I O : Type 0} (taken : I → Option (List ℕ)) (wf : I → ℕ) (give
 
   pub links_lost : (why : Option Why) → IsAsked o past new by link.child t q (Lost why) → IsLinked taken wf given left rf past link → IsLinked taken wf given left rf new link
   links_lost why h before =
-      subst (λ (j : List Entry). IsLinked taken wf given left rf j link) (sym h.2)
-      (linked_apart past (group_of o past by (LostEntry link.child t)) link.child (given link.outlet) (left link.outlet) (taken link.inlet) (rf link.outlet) (wf link.inlet) link.held
-      record { got = refl; written = refl; covers = refl; mutes = refl; ends = refl } before.0,
-      heard_on link.child past (group_of o past by (LostEntry link.child t)) refl before.1)
+      subst (λ (j : List Entry). IsLinked taken wf given left rf j link) (sym h.2) (
+        linked_apart past (group_of o past by (LostEntry link.child t)) link.child (given link.outlet) (left link.outlet) (taken link.inlet) (rf link.outlet) (wf link.inlet) link.held
+            record { got = refl; written = refl; covers = refl; mutes = refl; ends = refl } before.0,
+        heard_on link.child past (group_of o past by (LostEntry link.child t)) refl before.1,
+      )

@@ -1,5 +1,5 @@
 -- Each thing that a link does keeps it linked, and is the link's own.
-use Rattle.std.proofs.Common.{◌≡◌, ℕ, ◌<◌, List, [], ◌∷◌, ◌++◌, refl, sym, ap, subst, ◌∙◌, Bool, true, false, not, None, Some, Option, take, append_assoc, append-nil}
+use Rattle.std.proofs.Common.{◌≡◌, ℕ, ◌<◌, List, [], ◌∷◌, ◌++◌, refl, sym, ap, subst, ◌∙◌, Bool, true, false, None, Some, Option, take, append_assoc, append-nil}
 use Rattle.std.specs.Prelude.{IfSome, ◌==◌, ◌||◌}
 use Rattle.std.proofs.lemmas.List.Folds.{list_any-append}
 use Rattle.std.specs.List.{list_all, list_any}
@@ -102,20 +102,22 @@ module _ {I O : Type 0} (taken : I → Option (List ℕ)) (wf : I → ℕ) (give
       → ((bytes : List ℕ) (lines : List (List ℕ)) → Cut bytes lines old.held → Cut bytes (lines ++ line ∷ []) after.held) → Before → After
   links_got line e same live may cut h =
       subst (λ (j : List Entry). IsLinked taken wf given left rf j after) (sym e)
-      (subst (λ (l : LinkValue I O). IsLinked taken wf given left rf (past ++ group_of o past by (Got old.child line)) l) (sym same)
-      (linked_got past (made_by by (due_by_got o past old.child line)) old.child by line (given old.outlet) (left old.outlet) (taken old.inlet) (rf old.outlet) (wf old.inlet) old.held after.held
-      (soft_stretch old.child by (due_by_got o past old.child line) (soft_got o past old.child line)) live cut h.0,
-      heard_got old.child by line past (made_by by (due_by_got o past old.child line)) (soft_stretch old.child by (due_by_got o past old.child line) (soft_got o past old.child line)).got may h.1))
+      (subst (λ (l : LinkValue I O). IsLinked taken wf given left rf (past ++ group_of o past by (Got old.child line)) l) (sym same) (
+        linked_got past (made_by by (due_by_got o past old.child line)) old.child by line (given old.outlet) (left old.outlet) (taken old.inlet) (rf old.outlet) (wf old.inlet) old.held after.held
+            (soft_stretch old.child by (due_by_got o past old.child line) (soft_got o past old.child line)) live cut h.0,
+        heard_got old.child by line past (made_by by (due_by_got o past old.child line)) (soft_stretch old.child by (due_by_got o past old.child line) (soft_got o past old.child line)).got may h.1,
+      ))
 
   -- the child was ended
   pub links_stop : (why : Why) → new ≡ past ++ group_of o past by (End old.child why) → after ≡ old
       → is_ended past old.child ≡ false → RestFits why old.held → (why ≡ Eof → IfSome (left old.outlet) (λ bytes. bytes ≡ [])) → (why ≡ ReadFault → 0 < rf old.outlet) → Before → After
   links_stop why e same live fits eof fault h =
       subst (λ (j : List Entry). IsLinked taken wf given left rf j after) (sym e)
-      (subst (λ (l : LinkValue I O). IsLinked taken wf given left rf (past ++ group_of o past by (End old.child why)) l) (sym same)
-      (linked_stop past (made_by by (due_by o past (End old.child why))) old.child by why (given old.outlet) (left old.outlet) (taken old.inlet) (rf old.outlet) (wf old.inlet) old.held
-      (soft_stretch old.child by (due_by o past (End old.child why)) (soft_verdicts old.child (Ended why) (open_jobs past old.child))) live fits eof fault h.0,
-      heard_on old.child past (group_of o past by (End old.child why)) (soft_stretch old.child by (due_by o past (End old.child why)) (soft_verdicts old.child (Ended why) (open_jobs past old.child))).got h.1))
+      (subst (λ (l : LinkValue I O). IsLinked taken wf given left rf (past ++ group_of o past by (End old.child why)) l) (sym same) (
+        linked_stop past (made_by by (due_by o past (End old.child why))) old.child by why (given old.outlet) (left old.outlet) (taken old.inlet) (rf old.outlet) (wf old.inlet) old.held
+            (soft_stretch old.child by (due_by o past (End old.child why)) (soft_verdicts old.child (Ended why) (open_jobs past old.child))) live fits eof fault h.0,
+        heard_on old.child past (group_of o past by (End old.child why)) (soft_stretch old.child by (due_by o past (End old.child why)) (soft_verdicts old.child (Ended why) (open_jobs past old.child))).got h.1,
+      ))
 
   -- more was read
   pub links_read : (piece : List ℕ) → new ≡ past → after ≡ record old { outlet = after.outlet; held = after.held } → is_ended past old.child ≡ false
@@ -123,9 +125,10 @@ module _ {I O : Type 0} (taken : I → Option (List ℕ)) (wf : I → ℕ) (give
       → ((bytes : List ℕ) (lines : List (List ℕ)) → Cut bytes lines old.held → Cut (bytes ++ piece) lines after.held) → Before → After
   links_read piece e same live grows silent cut h =
       subst (λ (j : List Entry). IsLinked taken wf given left rf j after) (sym e)
-      (subst (λ (l : LinkValue I O). IsLinked taken wf given left rf past l) (sym same)
-      (linked_read past old.child piece (given old.outlet) (given after.outlet) (left old.outlet) (left after.outlet) (taken old.inlet) (rf old.outlet) (rf after.outlet) (wf old.inlet) old.held after.held live grows silent cut h.0,
-      h.1))
+      (subst (λ (l : LinkValue I O). IsLinked taken wf given left rf past l) (sym same) (
+        linked_read past old.child piece (given old.outlet) (given after.outlet) (left old.outlet) (left after.outlet) (taken old.inlet) (rf old.outlet) (rf after.outlet) (wf old.inlet) old.held after.held live grows silent cut h.0,
+        h.1,
+      ))
 
   -- one read was made, while the journal stood still
   pub links_fill : new ≡ past → Fills given old after → is_ended past old.child ≡ false → Before → After
@@ -136,9 +139,10 @@ module _ {I O : Type 0} (taken : I → Option (List ℕ)) (wf : I → ℕ) (give
       → is_ended past old.child ≡ false → is_mute past old.child ≡ false → Before → After
   links_ask job task line e same live loud h =
       subst (λ (j : List Entry). IsLinked taken wf given left rf j after) (sym e)
-      (subst (λ (l : LinkValue I O). IsLinked taken wf given left rf (past ++ group_of o past by (Ask old.child job task line)) l) (sym same)
-      (linked_ask past old.child by job task line (given old.outlet) (left old.outlet) (taken old.inlet) (rf old.outlet) (wf old.inlet) old.held live loud h.0,
-      heard_on old.child past (group_of o past by (Ask old.child job task line)) refl h.1))
+      (subst (λ (l : LinkValue I O). IsLinked taken wf given left rf (past ++ group_of o past by (Ask old.child job task line)) l) (sym same) (
+        linked_ask past old.child by job task line (given old.outlet) (left old.outlet) (taken old.inlet) (rf old.outlet) (wf old.inlet) old.held live loud h.0,
+        heard_on old.child past (group_of o past by (Ask old.child job task line)) refl h.1,
+      ))
 
   -- the next line was written whole
   pub links_sent : (w : Option ℕ × List ℕ) (ws : List (Option ℕ × List ℕ)) → new ≡ past ++ group_of o past by (Sent old.child) → after ≡ record old { inlet = after.inlet }
@@ -146,9 +150,10 @@ module _ {I O : Type 0} (taken : I → Option (List ℕ)) (wf : I → ℕ) (give
       → Appends (taken old.inlet) (taken after.inlet) (w.1 ++ 10 ∷ []) → (taken old.inlet ≡ None → taken after.inlet ≡ None) → Before → After
   links_sent w ws e same live loud next grows silent h =
       subst (λ (j : List Entry). IsLinked taken wf given left rf j after) (sym e)
-      (subst (λ (l : LinkValue I O). IsLinked taken wf given left rf (past ++ group_of o past by (Sent old.child)) l) (sym same)
-      (linked_sent past old.child by w ws (given old.outlet) (left old.outlet) (taken old.inlet) (taken after.inlet) (rf old.outlet) (wf old.inlet) (wf after.inlet) old.held live loud next grows silent h.0,
-      heard_on old.child past (group_of o past by (Sent old.child)) refl h.1))
+      (subst (λ (l : LinkValue I O). IsLinked taken wf given left rf (past ++ group_of o past by (Sent old.child)) l) (sym same) (
+        linked_sent past old.child by w ws (given old.outlet) (left old.outlet) (taken old.inlet) (taken after.inlet) (rf old.outlet) (wf old.inlet) (wf after.inlet) old.held live loud next grows silent h.0,
+        heard_on old.child past (group_of o past by (Sent old.child)) refl h.1,
+      ))
 
   -- writing stopped in the next line
   pub links_mute : (n : ℕ) (w : Option ℕ × List ℕ) (ws : List (Option ℕ × List ℕ)) → new ≡ past ++ group_of o past by (Mute old.child) → after ≡ record old { inlet = after.inlet }
@@ -156,10 +161,11 @@ module _ {I O : Type 0} (taken : I → Option (List ℕ)) (wf : I → ℕ) (give
       → Appends (taken old.inlet) (taken after.inlet) (take n (w.1 ++ 10 ∷ [])) → (taken old.inlet ≡ None → taken after.inlet ≡ None) → 0 < wf after.inlet → Before → After
   links_mute n w ws e same live loud next grows silent fault h =
       subst (λ (j : List Entry). IsLinked taken wf given left rf j after) (sym e)
-      (subst (λ (l : LinkValue I O). IsLinked taken wf given left rf (past ++ group_of o past by (Mute old.child)) l) (sym same)
-      (linked_mute past (made_by by (due_by o past (Mute old.child))) old.child by n w ws (given old.outlet) (left old.outlet) (taken old.inlet) (taken after.inlet) (rf old.outlet) (wf old.inlet) (wf after.inlet) old.held
-      (soft_stretch old.child by (due_by o past (Mute old.child)) (soft_mute o past old.child)) (mute_ends_none o past old.child old.child by) live loud next grows silent fault h.0,
-      heard_on old.child past (group_of o past by (Mute old.child)) (soft_stretch old.child by (due_by o past (Mute old.child)) (soft_mute o past old.child)).got h.1))
+      (subst (λ (l : LinkValue I O). IsLinked taken wf given left rf (past ++ group_of o past by (Mute old.child)) l) (sym same) (
+        linked_mute past (made_by by (due_by o past (Mute old.child))) old.child by n w ws (given old.outlet) (left old.outlet) (taken old.inlet) (taken after.inlet) (rf old.outlet) (wf old.inlet) (wf after.inlet) old.held
+            (soft_stretch old.child by (due_by o past (Mute old.child)) (soft_mute o past old.child)) (mute_ends_none o past old.child old.child by) live loud next grows silent fault h.0,
+        heard_on old.child past (group_of o past by (Mute old.child)) (soft_stretch old.child by (due_by o past (Mute old.child)) (soft_mute o past old.child)).got h.1,
+      ))
 
 -- what was fed behind a look, over the journal before it
 pub fed_before : (o o' : Opening) (past past' new : List Entry) (by by' c : ℕ) (line : List ℕ) → past' ≡ past → o' ≡ o → by' ≡ by

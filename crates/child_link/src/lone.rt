@@ -1,6 +1,6 @@
 ghost use Rattle.std.specs.Prelude.{◌≡◌, ◌<◌, ◌≤◌, ◌^◌, ◌++◌, ◌∷◌, [], ℕ, List, Option, Some, None, true, false, not, length, take, IsTrue, IsFalse, OnOk, OnErr, IfSome, IfNone, IsSome, IfOk};
 ghost use Rattle.std.specs.Io.KnownBytes.{Appends};
-ghost use Rattle.annex_model.specs.declared.verdict.Why.TheVariants.{Eof, ReadFault, LongLine, Memory};
+ghost use Rattle.annex_model.specs.declared.verdict.Why.TheVariants.{Eof, ReadFault, LongLine, Memory, Closed};
 ghost use Rattle.journal_model.specs.declared.entry.What.TheVariants.{Got};
 ghost use Rattle.journal_model.specs.Journal.{is_started, is_ended, has_spoken, why_of, verdict_of};
 ghost use Rattle.journal_model.specs.Legality.{Legal, may_stop, said_version};
@@ -561,6 +561,28 @@ impl<I: Sink, O: Source> Lone<I, O> {
 
     fn alloc(&self) -> Global {
         self.alloc
+    }
+
+    /// Ends the child as closed, unless it has ended. It has no open job and no busy task.
+    pub fn close<D: Door>(&mut self, door: &mut D)
+        requires alone { D.alone door.old ≡ true }
+        requires started { is_started (D.seen door.old) self.old.child ≡ true }
+        requires idle { may_stop (D.seen door.old) self.old.child Closed ≡ true }
+        ensures over { is_ended (D.seen door.new) self.old.child ≡ true }
+        ensures linked { IsLinked I.taken I.faults O.given O.left O.faults (D.seen door.old) self.old → IsLinked I.taken I.faults O.given O.left O.faults (D.seen door.new) self.new }
+        ensures goes { GoesOn (D.seen door.old) (D.seen door.new) }
+        ensures child { self.new.child ≡ self.old.child }
+        ensures numbers { (I.number self.new.inlet ≡ I.number self.old.inlet) × (O.number self.new.outlet ≡ O.number self.old.outlet) }
+        ensures legal { Legal (D.opening door.old) (D.seen door.old) → Legal (D.opening door.new) (D.seen door.new) }
+        ensures opening { D.opening door.new ≡ D.opening door.old }
+        ensures number { D.number door.new ≡ D.number door.old }
+        ensures alone { D.alone door.new ≡ true }
+        ensures loans { D.loans door.new ≡ D.loans door.old }
+    {
+        let child = self.child();
+        if !events::has_ended(door, child) {
+            self.stop(door, Why::Closed);
+        }
     }
 
     /// Closes both halves, and hands them out with what was read and not fed. It takes no memory.
