@@ -91,7 +91,7 @@ module _ (o : Opening) (old mid : List Entry) (by c t : ℕ) (q : HostMessage) w
 
   -- it was lost
   pub asked_lost : (why : Option Why) → IsAsked o old mid by c t q (Lost why) → HasAsked o old mid by c t q (lost_as why)
-  asked_lost why h = inr record { made = h.2; lost = ap lost_as h.0 }
+  asked_lost why h = inr record { gone = h.1; made = h.2; lost = ap lost_as h.0 }
 
 module _ {I O : Type 0} (taken : I → Option (List ℕ)) (wf : I → ℕ) (given : O → Option (List ℕ)) (left : O → Option (List ℕ)) (rf : O → ℕ)
     (o : Opening) (past new : List Entry) (by t : ℕ) (q : HostMessage) (link : LinkValue I O) where

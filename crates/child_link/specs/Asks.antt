@@ -1,5 +1,5 @@
 -- What asking a request comes to.
-use Rattle.std.specs.Prelude.{ℕ, ◌≡◌, ◌⊎◌, false, List, ◌++◌, Option, Some, None}
+use Rattle.std.specs.Prelude.{ℕ, ◌≡◌, ◌⊎◌, IsTrue, false, List, ◌++◌, Option, Some, None}
 use Rattle.annex_model.specs.declared.verdict.Why.{Why}
 use Rattle.annex_model.specs.declared.verdict.Verdict.{Verdict}
 use Rattle.annex_model.specs.declared.verdict.Verdict.TheVariants.{Ended, Unsent}
@@ -8,7 +8,7 @@ use Rattle.journal_model.specs.declared.entry.What.TheVariants.{Ask, Lost}
 use Rattle.journal_model.specs.declared.entry.Entry.{Entry}
 use Rattle.journal_model.specs.declared.opening.Opening.{Opening}
 use Rattle.journal_model.specs.Journal.{on_wire, verdict_of, why_of, is_ended, is_mute}
-use Rattle.host_core.specs.Steps.{group_of, next_job}
+use Rattle.host_core.specs.Steps.{group_of, is_gone, next_job}
 use Rattle.child_link.specs.declared.lone.Settling.{Settling}
 use Rattle.child_link.specs.declared.lone.Settling.TheVariants.{Settled, Again, Over}
 use Rattle.child_link.specs.Doors.{GoesOn}
@@ -27,6 +27,7 @@ lost_as (Some why) = Ended why
 
 -- it was lost, since the child had ended or was mute
 pub record IsLost (o : Opening) (old new : List Entry) (by c t : ℕ) (verdict : Verdict) : Type 0 where
+  pub gone : IsTrue (is_gone old c)
   pub made : new ≡ old ++ group_of o old by (Lost c t)
   pub lost : verdict ≡ lost_as (why_of old c)
 

@@ -254,8 +254,8 @@ impl<I: Sink, O: Source> Lone<I, O> {
         }
     }
 
-    // Ends a child that hasn't ended, for want of memory.
-    fn give_up<D: Door>(&mut self, door: &mut D)
+    /// Ends a child that hasn't ended, for want of memory.
+    pub fn give_up<D: Door>(&mut self, door: &mut D)
         requires alone { D.alone door.old ≡ true }
         requires started { is_started (D.seen door.old) self.old.child ≡ true }
         ensures linked { IsLinked I.taken I.faults O.given O.left O.faults (D.seen door.old) self.old → IsLinked I.taken I.faults O.given O.left O.faults (D.seen door.new) self.new }
@@ -561,6 +561,21 @@ impl<I: Sink, O: Source> Lone<I, O> {
 
     fn alloc(&self) -> Global {
         self.alloc
+    }
+
+    /// Why the child ended, if it did. It takes no memory.
+    pub fn why_ended<D: Door>(&self, door: &mut D) -> Option<Why>
+        requires alone { D.alone door.old ≡ true }
+        requires started { is_started (D.seen door.old) self.now.child ≡ true }
+        ensures why { result ≡ why_of (D.seen door.old) self.now.child }
+        ensures seen { D.seen door.new ≡ D.seen door.old }
+        ensures legal { Legal (D.opening door.new) (D.seen door.new) }
+        ensures opening { D.opening door.new ≡ D.opening door.old }
+        ensures number { D.number door.new ≡ D.number door.old }
+        ensures alone { D.alone door.new ≡ true }
+        ensures loans { D.loans door.new ≡ D.loans door.old }
+    {
+        events::why_ended(door, self.child)
     }
 
     /// Ends the child as closed, unless it has ended. It has no open job and no busy task.
