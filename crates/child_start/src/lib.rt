@@ -1,13 +1,8 @@
-// A library with one function.
+// The start of a child, and its greeting: VERSION, EXTENSIONS, PREPARE.
 #![tactic(auto)]
 
-ghost use Rattle.std.specs.Prelude.{◌≡◌};
-ghost use Rattle.child_start.specs.Echo.{echo_of};
+mod greeting;
+mod starting;
 
-// The `ensures` clause is the contract: what `echo` returns is `echo_of` of its argument, a definition
-// in `specs/Echo.antt`, which a caller's clause can cite too.
-pub fn echo(x: usize) -> usize
-    ensures { result ≡ echo_of x }
-{
-    x
-}
+pub use greeting::{Greeting, Mode};
+pub use starting::greet;

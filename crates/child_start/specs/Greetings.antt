@@ -1,0 +1,75 @@
+-- What a greeting leaves: in the journal, in the link, and of the programs.
+-- https://git-annex.branchable.com/design/external_special_remote_protocol/
+use Rattle.std.specs.Prelude.{ℕ, ◌≡◌, ◌⊎◌, ◌+◌, ◌==◌, ◌&&◌, Bool, true, false, List, [], ◌∷◌, ◌++◌, Option, Some}
+use Rattle.std.specs.List.{list_all}
+use Rattle.ann_outside.specs.Starts.{Starts, IsNumbered}
+use Rattle.ann_outside.specs.Causes.{AddsOne, Stays, Rose}
+use Rattle.annex_model.specs.declared.verdict.Why.{Why}
+use Rattle.journal_model.specs.declared.entry.What.{What}
+use Rattle.journal_model.specs.declared.entry.What.TheVariants.{Start, NoStart, Ask, Lost}
+use Rattle.journal_model.specs.declared.entry.Entry.{Entry}
+use Rattle.journal_model.specs.Journal.{is_ended, is_mute, is_tagged, why_of, asked_jobs, open_jobs}
+use Rattle.journal_model.specs.Legality.{count, is_start, is_prepared}
+use Rattle.child_link.specs.Doors.{is_of_link}
+use Rattle.child_link.specs.Links.{LinkValue, IsLinked}
+use Rattle.child_start.specs.declared.greeting.Greeting.{Greeting}
+use Rattle.child_start.specs.declared.greeting.Greeting.TheVariants.{Ready, Ended, Unsent, StartFault, NoMemory}
+
+-- the entry is of c's greeting: its link's own, or a request that is no task's
+abbrev pub is_of_greeting : ℕ → What → Bool
+is_of_greeting c (Ask child job task line) = child == c && task == 0
+is_of_greeting c (Lost child task) = child == c && task == 0
+is_of_greeting c w = is_of_link w
+
+-- the child was started in that slot, and behind its start stands its greeting alone, with each of its jobs settled
+pub record Greeted (old new : List Entry) (slot : ℕ) (offer : Bool) (c : ℕ) : Type 0 where
+  pub next : c ≡ count is_start old + 1
+  pub more : List Entry
+  pub grown : new ≡ old ++ record { by = 0; what = Start c slot offer } ∷ more
+  pub own : list_all (λ e. is_of_greeting c e.what) more ≡ true
+  pub idle : open_jobs new c ≡ []
+
+-- the child is prepared, after EXTENSIONS and PREPARE alone
+pub record IsReady (journal : List Entry) (c : ℕ) : Type 0 where
+  pub prepared : is_prepared journal c ≡ true
+  pub jobs : asked_jobs journal c ≡ 0 ∷ 1 ∷ []
+
+-- the child has ended so, and is not prepared
+pub record HasEnded (journal : List Entry) (c : ℕ) (why : Why) : Type 0 where
+  pub unprepared : is_prepared journal c ≡ false
+  pub ended : why_of journal c ≡ Some why
+
+-- the child is mute and has not ended, and is not prepared
+pub record IsUnsent (journal : List Entry) (c : ℕ) : Type 0 where
+  pub unprepared : is_prepared journal c ≡ false
+  pub live : is_ended journal c ≡ false
+  pub mute : is_mute journal c ≡ true
+
+-- what the journal says of a greeting
+abbrev pub Tells : {I O S : Type 0} → List Entry → List Entry → ℕ → Bool → Greeting I O S → Type 0
+Tells old new slot offer (Ready link stub tagged) =
+    Greeted old new slot offer link.child × IsReady new link.child × (tagged ≡ is_tagged new link.child)
+Tells old new slot offer (Ended why link stub) = Greeted old new slot offer link.child × HasEnded new link.child why
+Tells old new slot offer (Unsent link stub) = Greeted old new slot offer link.child × IsUnsent new link.child
+Tells old new slot offer StartFault = new ≡ old ++ record { by = 0; what = NoStart slot } ∷ []
+Tells old new slot offer NoMemory = new ≡ old
+
+-- the link of a greeting that has one
+abbrev pub Has : {I O S : Type 0} → (LinkValue I O → Type 0) → Greeting I O S → Type 0
+Has P (Ready link stub tagged) = P link
+Has P (Ended why link stub) = P link
+Has P (Unsent link stub) = P link
+Has P StartFault = Unit {0}
+Has P NoMemory = Unit {0}
+
+-- Where programs tell, they were asked for the program once, which gave a child or not. Without memory they may not have
+-- been asked, or it may have been for nothing.
+abbrev pub StartsOnce : {I O S : Type 0} → Option Starts → Option Starts → List ℕ → Greeting I O S → Type 0
+StartsOnce old new program StartFault = AddsOne old new (program, false)
+StartsOnce old new program NoMemory = Stays old new ⊎ ((b : Bool) × AddsOne old new (program, b))
+StartsOnce old new program greeting = AddsOne old new (program, true)
+
+-- both halves are those of the last start, where they tell it
+abbrev pub AreNumbered : {I O : Type 0} → (I → Option ℕ) → (O → Option ℕ) → Option Starts → LinkValue I O → Type 0
+AreNumbered inlet_number outlet_number starts link =
+    IsNumbered starts (inlet_number link.inlet) × IsNumbered starts (outlet_number link.outlet)
