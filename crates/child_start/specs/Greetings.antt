@@ -1,6 +1,6 @@
 -- What a greeting leaves: in the journal, in the link, and of the programs.
 -- https://git-annex.branchable.com/design/external_special_remote_protocol/
-use Rattle.std.specs.Prelude.{ℕ, ◌≡◌, ◌⊎◌, ◌+◌, ◌==◌, ◌&&◌, Bool, true, false, List, [], ◌∷◌, ◌++◌, Option, Some}
+use Rattle.std.specs.Prelude.{ℕ, ◌≡◌, ◌⊎◌, ◌+◌, ◌==◌, ◌&&◌, nat_lt, Bool, true, false, List, [], ◌∷◌, ◌++◌, Option, Some}
 use Rattle.std.specs.List.{list_all}
 use Rattle.ann_outside.specs.Starts.{Starts, IsNumbered}
 use Rattle.ann_outside.specs.Causes.{AddsOne, Stays, Rose}
@@ -15,9 +15,9 @@ use Rattle.child_link.specs.Links.{LinkValue, IsLinked}
 use Rattle.child_start.specs.declared.greeting.Greeting.{Greeting}
 use Rattle.child_start.specs.declared.greeting.Greeting.TheVariants.{Ready, Ended, Unsent, StartFault, NoMemory}
 
--- the entry is of c's greeting: its link's own, or a request that is no task's
+-- the entry is of c's greeting: its link's own, or a request that is no task's, as job 0 or 1
 abbrev pub is_of_greeting : ℕ → What → Bool
-is_of_greeting c (Ask child job task line) = child == c && task == 0
+is_of_greeting c (Ask child job task line) = child == c && (task == 0 && nat_lt job 2)
 is_of_greeting c (Lost child task) = child == c && task == 0
 is_of_greeting c w = is_of_link w
 
