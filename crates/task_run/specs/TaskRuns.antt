@@ -1,16 +1,17 @@
 -- What a task asked, and how it is answered.
-use Rattle.std.specs.Prelude.{ℕ, ◌≡◌, ◌==◌, ◌⊎◌, if◌then◌else◌, List, [], ◌∷◌, ◌++◌, Option, Some, None, option_map}
-use Rattle.std.specs.List.{cons_option}
+use Rattle.std.specs.Prelude.{ℕ, zero, suc, ◌≡◌, ◌==◌, ◌⊎◌, if◌then◌else◌, List, [], ◌∷◌, ◌++◌, Option, Some, None, option_map}
+use Rattle.std.specs.List.{cons_option, last_or}
 use Rattle.annex_model.specs.declared.verdict.Why.{Why}
 use Rattle.annex_model.specs.declared.verdict.Verdict.{Verdict}
 use Rattle.annex_model.specs.declared.verdict.Verdict.TheVariants.{Done as DoneAt, Absent as AbsentAt, Ended, Unsent}
 use Rattle.annex_model.specs.Messages.{HostMessage, Checkpresent, host_reading}
 use Rattle.journal_model.specs.declared.answer.Answer.{Answer}
-use Rattle.journal_model.specs.declared.answer.Answer.TheVariants.{Present, Absent, Unsent as UnsentAnswer, Memory, Ended as EndedAnswer}
+use Rattle.journal_model.specs.declared.answer.Answer.TheVariants.{Present, Absent, Unsent as UnsentAnswer, StartFault, Memory, Ended as EndedAnswer}
 use Rattle.journal_model.specs.declared.entry.What.{What}
-use Rattle.journal_model.specs.declared.entry.What.TheVariants.{Ask, Lost}
+use Rattle.journal_model.specs.declared.entry.What.TheVariants.{Claim, Start, NoStart, Ask, Lost}
 use Rattle.journal_model.specs.declared.entry.Entry.{Entry}
-use Rattle.journal_model.specs.Journal.{verdict_of, why_of, addressed}
+use Rattle.journal_model.specs.Journal.{each_of, first_of, is_ended, is_mute, verdict_of, why_of, addressed}
+use Rattle.journal_model.specs.Legality.{is_prepared}
 
 -- ---- what a task asked
 
@@ -68,3 +69,48 @@ abbrev pub CheckRun : List ℕ → List Asking → Answer → Type 0
 CheckRun key [] answer = answer ≡ Memory
 CheckRun key (a ∷ []) answer = IsAskedOr (Checkpresent key) a × ((answer ≡ Memory) ⊎ (check_answer a.verdict ≡ Some answer))
 CheckRun key (a ∷ b ∷ more) answer = ⊥
+
+-- ---- a task without a child
+
+-- the child that the entry claims task t for
+abbrev pub child_claimed : ℕ → What → Option ℕ
+child_claimed t (Claim task child) = if task == t then Some child else None
+child_claimed t _ = None
+
+-- what a start in the slot came to: a child, or none
+abbrev pub came_of : ℕ → What → Option (Option ℕ)
+came_of slot (Start child s offer) = if s == slot then Some (Some child) else None
+came_of slot (NoStart s) = if s == slot then Some None else None
+came_of slot _ = None
+
+-- what a child that is not prepared stands for: its end, or else its mute
+abbrev pub unready_answer : List Entry → ℕ → Option Answer
+unready_answer past c =
+    if is_prepared past c then None
+    else if is_ended past c then option_map EndedAnswer (why_of past c)
+    else if is_mute past c then Some UnsentAnswer
+    else None
+
+-- what the last start stands for where it gave no child that is prepared
+abbrev pub failed_start : List Entry → Option (Option ℕ) → Option Answer
+failed_start past None = None
+failed_start past (Some None) = Some StartFault
+failed_start past (Some (Some c)) = unready_answer past c
+
+-- The task is claimed without a child behind a start of slot 0 that failed, or whose child was not ready, and is answered so.
+pub record ChildZero (journal : List Entry) (t : ℕ) (answer : Answer) : Type 0 where
+  pub past : List Entry
+  pub rest : List Entry
+  pub by : ℕ
+  pub claim : journal ≡ past ++ record { by = by; what = Claim t 0 } ∷ rest
+  pub why : failed_start past (last_or None (each_of (came_of 0) past)) ≡ Some answer
+
+-- Over a child a check asks for its key; without one it asks nothing. Want of memory may end either.
+abbrev pub CheckOver : List ℕ → List Entry → ℕ → Answer → Option ℕ → Type 0
+CheckOver key journal t answer None = ⊥
+CheckOver key journal t answer (Some zero) = (askings journal t ≡ []) × ((answer ≡ Memory) ⊎ ChildZero journal t answer)
+CheckOver key journal t answer (Some (suc c)) = CheckRun key (askings journal t) answer
+
+-- the run of a check that is task t, from the task's entries
+abbrev pub CheckTask : List ℕ → List Entry → ℕ → Answer → Type 0
+CheckTask key journal t answer = CheckOver key journal t answer (first_of (each_of (child_claimed t) journal))
