@@ -45,6 +45,7 @@ pub trait Door {
 }
 
 /// The main thread's door of a core that nobody else steps.
+#[derive(Drop)]
 pub struct OwnDoor<'a> {
     pub core: &'a mut Core,
 }

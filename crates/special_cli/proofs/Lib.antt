@@ -1,3 +1,3 @@
-pub mod Refusing
-pub mod Checked
+pub mod Looking
 pub mod Wishes
+pub mod Refusing

@@ -1,5 +1,7 @@
 pub mod Endings
+pub mod Objects
 pub mod Openings
 pub mod Refusals
+pub mod Runs
 pub mod Texts
 pub mod Words

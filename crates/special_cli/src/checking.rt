@@ -1,237 +1,92 @@
-// One child is greeted and asked for one key, event by event through the core.
-ghost use Rattle.std.specs.Prelude.{◌≡◌, true};
-ghost use Rattle.journal_model.specs.Legality.{Legal};
+// The one task of a check, event by event through the core, over a child that was greeted or over none.
+ghost use Rattle.std.specs.Prelude.{◌≡◌, ◌⊎◌, ◌++◌, [], ◌∷◌, Some, true, false, if◌then◌else◌, IsTrue, IsFalse, MatchResult, OnErr};
+ghost use Rattle.std.specs.List.{last_or};
+ghost use Rattle.annex_model.specs.Messages.{Checkpresent, is_sent_key};
+ghost use Rattle.annex_model.specs.declared.verdict.Why.TheVariants.{Closed};
+ghost use Rattle.journal_model.specs.declared.answer.Answer.TheVariants.{Memory};
+ghost use Rattle.journal_model.specs.declared.entry.What.TheVariants.{Claim, Start, Answer as Answered};
+ghost use Rattle.journal_model.specs.Journal.{each_of, is_started, is_ended, open_jobs, asked_jobs};
+ghost use Rattle.journal_model.specs.Legality.{Legal, least_free, is_prepared, may_stop};
+ghost use Rattle.host_core.specs.Steps.{may_answer, may_request};
+ghost use Rattle.task_run.specs.TaskRuns.{came_of, failed_start};
+ghost use Rattle.child_link.specs.Asks.{HasAsked};
+ghost use Rattle.child_link.specs.Doors.{GoesOn};
+ghost use Rattle.child_link.specs.Links.{IsLinked};
+ghost use Rattle.special_cli.specs.Runs.{main_entry, IsBegun, IsDone, IsRun, HasOneTask};
 
-use crate::pipes::Pipes;
 use ann_key::{Key, NoMemory};
-use ann_outside::{Failed, Sink, Source};
+use ann_outside::{Sink, Source};
+use child_link::{Lone, OwnDoor};
 use host_core::{Core, Event, Reply};
-use journal_model::{Answer, Entry, Verdict, What, Why};
-use std::alloc::Global;
+use journal_model::{Answer, Verdict};
 use talk_serial::Request;
 use task_run::check_answer;
 
-// Tells the core of an event that has no answer to wait for. Where it wants memory, nothing has happened.
-fn tell(core: &mut Core, event: Event)
+// The one task is claimed without a child.
+fn claim_alone(core: &mut Core)
+    requires free { least_free core.old.opening core.old.journal ≡ Some 1 }
+    ensures claimed { core.new.journal ≡ core.old.journal ++ main_entry (Claim 1 0) ∷ [] }
     ensures opening { core.new.opening ≡ core.old.opening }
     ensures legal { Legal core.new.opening core.new.journal }
 {
-    let _reply = core.step(0, event);
+    let _task = core.step(0, Event::Claim { child: 0 });
 }
 
-/// Tells the core of the child that was started, and answers its number. None is want of memory.
-pub(super) fn started(core: &mut Core) -> Option<u32>
+// The one task is claimed for the child, unless that is gone.
+fn claim(core: &mut Core, child: u32) -> bool
+    requires free { least_free core.old.opening core.old.journal ≡ Some 1 }
+    requires ready { (is_started core.old.journal child ≡ true) × (is_prepared core.old.journal child ≡ true) }
+    requires number { child ≡ 1 }
+    ensures claimed { core.new.journal ≡ (if result then core.old.journal ++ main_entry (Claim 1 child) ∷ [] else core.old.journal) }
     ensures opening { core.new.opening ≡ core.old.opening }
     ensures legal { Legal core.new.opening core.new.journal }
 {
-    let event = Event::Start {
-        slot: 0,
-        offer: false,
-    };
-    match core.step(0, event) {
-        Ok(Reply::Child(child)) => Some(child),
-        _ => None,
+    match core.step(0, Event::Claim { child }) {
+        Ok(Reply::Task(_)) => true,
+        _ => false,
     }
 }
 
-/// The answer where no child could be started.
-pub(super) fn not_started(core: &mut Core) -> Answer
+// The answer is given.
+fn give(core: &mut Core, answer: Answer)
+    requires may { may_answer core.old.journal 0 1 ≡ true }
+    ensures given { core.new.journal ≡ core.old.journal ++ main_entry (Answered 1 answer) ∷ [] }
     ensures opening { core.new.opening ≡ core.old.opening }
     ensures legal { Legal core.new.opening core.new.journal }
 {
-    let answer = Answer::StartFault;
-    tell(core, Event::NoStart { slot: 0 });
-    tell(core, Event::Claim { child: 0 });
-    tell(core, Event::Answer { task: 1, answer });
-    answer
+    let _done = core.step(0, Event::Answer { task: 1, answer });
 }
 
-// How the job stands.
-fn verdict_of(core: &mut Core, child: u32, job: u64) -> Option<Verdict>
-    ensures opening { core.new.opening ≡ core.old.opening }
-    ensures legal { Legal core.new.opening core.new.journal }
-{
-    match core.step(0, Event::Lookup { child, job }) {
-        Ok(Reply::Verdict(verdict)) => Some(verdict),
-        _ => None,
-    }
-}
-
-// Feeds the next line, or ends the child.
-fn feed<I: Sink, O: Source>(pipes: &mut Pipes<I, O>, core: &mut Core)
-    ensures opening { core.new.opening ≡ core.old.opening }
-    ensures legal { Legal core.new.opening core.new.journal }
-{
-    let child = pipes.child();
-    match pipes.hear() {
-        Ok(line) => match core.step(0, Event::Got { child, line }) {
-            Ok(_) => pipes.drop_line(),
-            Err(NoMemory) => tell(
-                core,
-                Event::Stop {
-                    child,
-                    why: Why::Memory,
-                },
-            ),
-        },
-        Err(why) => tell(core, Event::Stop { child, why }),
-    }
-}
-
-// Why the child ended, if it did.
-fn ended(core: &mut Core, child: u32) -> Option<Why>
-    ensures opening { core.new.opening ≡ core.old.opening }
-    ensures legal { Legal core.new.opening core.new.journal }
-{
-    match core.step(0, Event::Look { child }) {
-        Ok(Reply::Gone { why }) => why,
-        _ => None,
-    }
-}
-
-// Goes on until the job is settled.
-fn settle<I: Sink, O: Source>(pipes: &mut Pipes<I, O>, core: &mut Core, job: u64) -> Verdict
-    ensures opening { core.new.opening ≡ core.old.opening }
-    ensures legal { Legal core.new.opening core.new.journal }
-{
-    let child = pipes.child();
-    for _ in 0..u64::MAX {
-        if let Some(verdict) = verdict_of(core, child, job) {
-            return verdict;
-        }
-        feed(pipes, core);
-    }
-    let why = Why::Memory;
-    tell(core, Event::Stop { child, why });
-    Verdict::Ended { why }
-}
-
-// The line with its byte 10, which is written whole.
-fn text_of(alloc: Global, line: &[u8]) -> Result<Vec<u8>, NoMemory> {
-    let mut text = Vec::from_slice(alloc, line)?;
-    text.push(b'\n')?;
-    Ok(text)
-}
-
-// Writes the line of the request that was asked last, and says what came of it.
-fn write<I: Sink, O: Source>(alloc: Global, pipes: &mut Pipes<I, O>, entries: &[Entry]) -> Event {
-    let child = pipes.child();
-    let no_room = Event::Stop {
-        child,
-        why: Why::Memory,
-    };
-    let Some(
-        Entry {
-            what: What::Ask { line, .. },
-            ..
-        },
-    ) = entries.last()
-    else {
-        return no_room;
-    };
-    let Ok(text) = text_of(alloc, line.view()) else {
-        return no_room;
-    };
-    match pipes.say(text.as_slice()) {
-        Ok(()) => Event::Sent { child },
-        Err(Failed) => Event::Mute { child },
-    }
-}
-
-// Asks one request of the child.
+// The child is asked for the key.
 fn ask<I: Sink, O: Source>(
-    alloc: Global,
-    pipes: &mut Pipes<I, O>,
+    link: &mut Lone<I, O>,
     core: &mut Core,
-    task: u32,
-    request: &Request,
+    key: Key,
 ) -> Result<Verdict, NoMemory>
+    requires started { is_started core.old.journal link.old.child ≡ true }
+    requires may { may_request core.old.journal 0 1 link.old.child (Checkpresent key) ≡ true }
+    ensures asked { MatchResult result (HasAsked core.old.opening core.old.journal core.new.journal 0 link.old.child 1 (Checkpresent key)) (λ _. core.new.journal ≡ core.old.journal) }
+    ensures linked { IsLinked I.taken I.faults O.given O.left O.faults core.old.journal link.old → IsLinked I.taken I.faults O.given O.left O.faults core.new.journal link.new }
+    ensures child { link.new.child ≡ link.old.child }
+    ensures numbers { (I.number link.new.inlet ≡ I.number link.old.inlet) × (O.number link.new.outlet ≡ O.number link.old.outlet) }
     ensures opening { core.new.opening ≡ core.old.opening }
     ensures legal { Legal core.old.opening core.old.journal → Legal core.new.opening core.new.journal }
 {
-    let child = pipes.child();
-    let copy = request.copy(alloc)?;
-    let event = Event::Ask {
-        child,
-        task,
-        request: copy,
-    };
-    match core.step(0, event)? {
-        Reply::Job(job) => {
-            let event = write(alloc, pipes, core.journal());
-            tell(core, event);
-            Ok(settle(pipes, core, job))
-        }
-        Reply::Gone { why: Some(why) } => Ok(Verdict::Ended { why }),
-        _ => Ok(Verdict::Unsent),
-    }
+    let mut door = OwnDoor { core };
+    link.ask(&mut door, 1, &Request::CheckPresent { key })
 }
 
-// The child's first line is its version; then it is asked for its extensions and to get ready.
-fn greet<I: Sink, O: Source>(
-    alloc: Global,
-    pipes: &mut Pipes<I, O>,
-    core: &mut Core,
-) -> Result<Verdict, NoMemory>
+// The child is closed.
+fn close<I: Sink, O: Source>(link: &mut Lone<I, O>, core: &mut Core)
+    requires started { is_started core.old.journal link.old.child ≡ true }
+    requires idle { may_stop core.old.journal link.old.child Closed ≡ true }
+    ensures goes { GoesOn core.old.journal core.new.journal }
+    ensures linked { IsLinked I.taken I.faults O.given O.left O.faults core.old.journal link.old → IsLinked I.taken I.faults O.given O.left O.faults core.new.journal link.new }
+    ensures child { link.new.child ≡ link.old.child }
+    ensures numbers { (I.number link.new.inlet ≡ I.number link.old.inlet) × (O.number link.new.outlet ≡ O.number link.old.outlet) }
     ensures opening { core.new.opening ≡ core.old.opening }
-    ensures legal { Legal core.new.opening core.new.journal }
+    ensures legal { Legal core.old.opening core.old.journal → Legal core.new.opening core.new.journal }
 {
-    feed(pipes, core);
-    let child = pipes.child();
-    if let Some(why) = ended(core, child) {
-        return Ok(Verdict::Ended { why });
-    }
-    match ask(alloc, pipes, core, 0, &Request::Extensions { offer: false })? {
-        Verdict::Done { .. } => ask(alloc, pipes, core, 0, &Request::Prepare),
-        verdict => Ok(verdict),
-    }
-}
-
-// Asks the child for the key, where it got ready.
-fn converse<I: Sink, O: Source>(
-    alloc: Global,
-    pipes: &mut Pipes<I, O>,
-    core: &mut Core,
-    key: Key,
-) -> Result<Verdict, NoMemory>
-    ensures opening { core.new.opening ≡ core.old.opening }
-    ensures legal { Legal core.new.opening core.new.journal }
-{
-    let child = pipes.child();
-    match greet(alloc, pipes, core)? {
-        Verdict::Done { .. } => {
-            tell(core, Event::Claim { child });
-            ask(alloc, pipes, core, 1, &Request::CheckPresent { key })
-        }
-        verdict => {
-            tell(core, Event::Claim { child: 0 });
-            Ok(verdict)
-        }
-    }
-}
-
-/// The answer of the one task, by what the child says. The child is closed at the end.
-pub(super) fn check<I: Sink, O: Source>(
-    alloc: Global,
-    pipes: &mut Pipes<I, O>,
-    core: &mut Core,
-    key: Key,
-) -> Answer
-    ensures opening { core.new.opening ≡ core.old.opening }
-    ensures legal { Legal core.new.opening core.new.journal }
-{
-    let child = pipes.child();
-    let answer = match converse(alloc, pipes, core, key) {
-        Ok(verdict) => check_answer(verdict),
-        Err(NoMemory) => Answer::Memory,
-    };
-    tell(core, Event::Answer { task: 1, answer });
-    tell(
-        core,
-        Event::Stop {
-            child,
-            why: Why::Closed,
-        },
-    );
-    answer
+    let mut door = OwnDoor { core };
+    link.close(&mut door);
 }

@@ -1,0 +1,118 @@
+-- What a list of entries says through one small function of an entry.
+use Rattle.std.proofs.Common.{◌≡◌, ℕ, List, [], ◌∷◌, ◌++◌, refl, sym, ap, ◌∙◌, Bool, true, false, not, ◌==◌, cond, Some, None, Option}
+use Rattle.std.specs.Prelude.{◌&&◌, ◌||◌, nat_lt, filter_map, option_and_then}
+use Rattle.std.specs.List.{list_all, list_any, cons_option}
+use Rattle.annex_model.specs.declared.verdict.Why.{Why}
+use Rattle.annex_model.specs.declared.verdict.Verdict.{Verdict}
+use Rattle.journal_model.specs.declared.entry.What.{What}
+use Rattle.journal_model.specs.declared.entry.What.TheVariants.{Claim, Start, NoStart, Ask, Put, Sent, Mute, Got, End, Verdict as Settled, Lost, Answer as Answered}
+use Rattle.journal_model.specs.declared.entry.Entry.{Entry}
+use Rattle.journal_model.specs.Journal.{any, each_of}
+use Rattle.journal_model.proofs.Looks.{both, same_number}
+use Rattle.child_link.specs.Doors.{is_of_link}
+use Rattle.child_start.specs.Greetings.{is_of_greeting}
+
+-- ---- what links and greetings don't say
+
+-- nothing is said by a link's entries, nor by a request that is no task's
+pub record Vanishes {X : Type 0} (f : What → Option X) : Type 0 where
+  pub put : (c j : ℕ) (line : List ℕ) → f (Put c j line) ≡ None
+  pub sent : (c : ℕ) → f (Sent c) ≡ None
+  pub mute : (c : ℕ) → f (Mute c) ≡ None
+  pub got : (c : ℕ) (line : List ℕ) → f (Got c line) ≡ None
+  pub ended : (c : ℕ) (why : Why) → f (End c why) ≡ None
+  pub settled : (c j : ℕ) (v : Verdict) → f (Settled c j v) ≡ None
+  pub ask : (c j : ℕ) (line : List ℕ) → f (Ask c j 0 line) ≡ None
+  pub lost : (c : ℕ) → f (Lost c 0) ≡ None
+
+of_link : {X : Type 0} (f : What → Option X) → Vanishes f → (w : What) → is_of_link w ≡ true → f w ≡ None
+of_link f v (Put c j line) h = v.put c j line
+of_link f v (Sent c) h = v.sent c
+of_link f v (Mute c) h = v.mute c
+of_link f v (Got c line) h = v.got c line
+of_link f v (End c why) h = v.ended c why
+of_link f v (Settled c j verdict) h = v.settled c j verdict
+of_link f v (Claim task child) h = absurd cc
+of_link f v (Start child slot offer) h = absurd cc
+of_link f v (NoStart slot) h = absurd cc
+of_link f v (Ask child job task line) h = absurd cc
+of_link f v (Lost child task) h = absurd cc
+of_link f v (Answered task answer) h = absurd cc
+
+no_task : (c child task job : ℕ) → (child == c && (task == 0 && nat_lt job 2)) ≡ true → task ≡ 0
+no_task c child task job h =
+    let t = both (child == c) (task == 0 && nat_lt job 2) h in
+    same_number task 0 (both (task == 0) (nat_lt job 2) t.1).0
+
+of_greeting : {X : Type 0} (f : What → Option X) → Vanishes f → (c : ℕ) (w : What) → is_of_greeting c w ≡ true → f w ≡ None
+of_greeting f v c (Ask child job task line) h = ap (λ (t : ℕ). f (Ask child job t line)) (no_task c child task job h) ∙ v.ask child job line
+of_greeting f v c (Lost child task) h = ap (λ (t : ℕ). f (Lost child t)) (same_number task 0 (both (child == c) (task == 0) h).1) ∙ v.lost child
+of_greeting f v c (Put c' j line) h = v.put c' j line
+of_greeting f v c (Sent c') h = v.sent c'
+of_greeting f v c (Mute c') h = v.mute c'
+of_greeting f v c (Got c' line) h = v.got c' line
+of_greeting f v c (End c' why) h = v.ended c' why
+of_greeting f v c (Settled c' j verdict) h = v.settled c' j verdict
+of_greeting f v c (Claim task child) h = absurd cc
+of_greeting f v c (Start child slot offer) h = absurd cc
+of_greeting f v c (NoStart slot) h = absurd cc
+of_greeting f v c (Answered task answer) h = absurd cc
+
+none_of : {X : Type 0} (f : What → Option X) (p : What → Bool) → ((w : What) → p w ≡ true → f w ≡ None)
+    → (xs : List Entry) → list_all (λ (e : Entry). p e.what) xs ≡ true → each_of f xs ≡ []
+none_of f p quiet [] h = refl
+none_of f p quiet (e ∷ xs) h =
+    let t = both (p e.what) (list_all (λ (x : Entry). p x.what) xs) h in
+    rw (quiet e.what t.0, none_of f p quiet xs t.1) refl
+
+pub link_says_none : {X : Type 0} (f : What → Option X) → Vanishes f → (xs : List Entry) → list_all (λ (e : Entry). is_of_link e.what) xs ≡ true → each_of f xs ≡ []
+link_says_none f v xs h = none_of f is_of_link (of_link f v) xs h
+
+pub greeting_says_none : {X : Type 0} (f : What → Option X) → Vanishes f → (c : ℕ) (xs : List Entry) → list_all (λ (e : Entry). is_of_greeting c e.what) xs ≡ true → each_of f xs ≡ []
+greeting_says_none f v c xs h = none_of f (is_of_greeting c) (of_greeting f v c) xs h
+
+-- ---- one function through another
+
+pub through : {X Y : Type 0} (f : What → Option Y) (g : What → Option X) (h : X → Option Y) → ((w : What) → f w ≡ option_and_then h (g w))
+    → (xs : List Entry) → each_of f xs ≡ filter_map h (each_of g xs)
+through f g h same [] = refl
+through f g h same (e ∷ xs) = ap (λ (o : Option _). cons_option o (each_of f xs)) (same e.what) ∙ go (g e.what) (through f g h same xs)
+  where
+    go : (o : Option _) → each_of f xs ≡ filter_map h (each_of g xs) → cons_option (option_and_then h o) (each_of f xs) ≡ filter_map h (cons_option o (each_of g xs))
+    go None r = r
+    go (Some x) r = ap (λ (ys : List _). cons_option (h x) ys) r
+
+abbrev pub holds_in : {X : Type 0} → (X → Bool) → Option X → Bool
+holds_in h None = false
+holds_in h (Some x) = h x
+
+pub any_through : {X : Type 0} (p : What → Bool) (g : What → Option X) (h : X → Bool) → ((w : What) → p w ≡ holds_in h (g w))
+    → (xs : List Entry) → any p xs ≡ list_any h (each_of g xs)
+any_through p g h same [] = refl
+any_through p g h same (e ∷ xs) = ap (λ (b : Bool). b || any p xs) (same e.what) ∙ go (g e.what) (any_through p g h same xs)
+  where
+    go : (o : Option _) → any p xs ≡ list_any h (each_of g xs) → (holds_in h o || any p xs) ≡ list_any h (cons_option o (each_of g xs))
+    go None r = r
+    go (Some x) r = ap (λ (b : Bool). h x || b) r
+
+-- ---- facts of all entries
+
+pub all_both : (p : What → Bool) (xs ys : List Entry) → list_all (λ (e : Entry). p e.what) xs ≡ true → list_all (λ (e : Entry). p e.what) ys ≡ true
+    → list_all (λ (e : Entry). p e.what) (xs ++ ys) ≡ true
+all_both p [] ys h k = k
+all_both p (x ∷ xs) ys h k =
+    let t = both (p x.what) (list_all (λ (e : Entry). p e.what) xs) h in
+    rw (t.0, all_both p xs ys t.1 k) refl
+
+pub all_weaken : (p q : What → Bool) → ((w : What) → p w ≡ true → q w ≡ true) → (xs : List Entry) → list_all (λ (e : Entry). p e.what) xs ≡ true
+    → list_all (λ (e : Entry). q e.what) xs ≡ true
+all_weaken p q follows [] h = refl
+all_weaken p q follows (x ∷ xs) h =
+    let t = both (p x.what) (list_all (λ (e : Entry). p e.what) xs) h in
+    rw (follows x.what t.0, all_weaken p q follows xs t.1) refl
+
+pub any_none : (p q : What → Bool) → ((w : What) → p w ≡ true → q w ≡ false) → (xs : List Entry) → list_all (λ (e : Entry). p e.what) xs ≡ true → any q xs ≡ false
+any_none p q apart [] h = refl
+any_none p q apart (x ∷ xs) h =
+    let t = both (p x.what) (list_all (λ (e : Entry). p e.what) xs) h in
+    rw (apart x.what t.0, any_none p q apart xs t.1) refl

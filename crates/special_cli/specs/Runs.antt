@@ -1,0 +1,64 @@
+-- How far a check has come, by its journal.
+use Rattle.std.specs.Prelude.{ℕ, ◌≡◌, ◌⊎◌, Bool, true, false, List, [], ◌∷◌, Option, Some, None}
+use Rattle.std.specs.List.{list_all}
+use Rattle.task_text.specs.declared.task.Task.{Task}
+use Rattle.journal_model.specs.declared.answer.Answer.{Answer}
+use Rattle.journal_model.specs.Output.{answers_in}
+use Rattle.journal_model.specs.declared.entry.What.{What}
+use Rattle.journal_model.specs.declared.entry.What.TheVariants.{Claim, Start, NoStart}
+use Rattle.journal_model.specs.declared.entry.Entry.{Entry}
+use Rattle.journal_model.specs.declared.opening.Opening.{Opening}
+use Rattle.journal_model.specs.Journal.{each_of}
+use Rattle.journal_model.specs.Legality.{is_claimed_by, has_open_job}
+use Rattle.task_run.specs.TaskRuns.{askings, CheckTask}
+use Rattle.special_cli.specs.Endings.{starts_in, is_for_task}
+
+-- an entry of the main thread's own
+abbrev pub main_entry : What → Entry
+main_entry w = record { by = 0; what = w }
+
+-- a task, and the child that it is claimed for
+abbrev pub claim_in : What → Option (ℕ × ℕ)
+claim_in (Claim task child) = Some (task, child)
+claim_in _ = None
+
+-- the one start that a check makes, which gave a child or not
+abbrev pub IsStart : What → Type 0
+IsStart first = (first ≡ Start 1 0 false) ⊎ (first ≡ NoStart 0)
+
+-- the program was started, and the task is neither claimed nor asked for
+pub record IsBegun (first : What) (journal : List Entry) : Type 0 where
+  pub is_start : IsStart first
+  pub starts : starts_in journal ≡ first ∷ []
+  pub unclaimed : each_of claim_in journal ≡ []
+  pub silent : answers_in journal ≡ []
+  pub unasked : askings journal 1 ≡ []
+  pub idle : has_open_job journal 1 ≡ false
+  pub tasked : list_all (λ e. is_for_task e.what) journal ≡ true
+
+-- the task is claimed and done, so that this is its answer, which has not been given
+pub record IsDone (key : List ℕ) (journal : List Entry) (answer : Answer) : Type 0 where
+  pub first : What
+  pub is_start : IsStart first
+  pub starts : starts_in journal ≡ first ∷ []
+  pub child : ℕ
+  pub claims : each_of claim_in journal ≡ (1, child) ∷ []
+  pub own : is_claimed_by journal 0 1 ≡ true
+  pub silent : answers_in journal ≡ []
+  pub idle : has_open_job journal 1 ≡ false
+  pub run : CheckTask key journal 1 answer
+  pub tasked : list_all (λ e. is_for_task e.what) journal ≡ true
+
+-- the answer is given
+pub record IsRun (key : List ℕ) (journal : List Entry) (answer : Answer) : Type 0 where
+  pub first : What
+  pub is_start : IsStart first
+  pub starts : starts_in journal ≡ first ∷ []
+  pub claims : (child : ℕ) × (each_of claim_in journal ≡ (1, child) ∷ [])
+  pub given : answers_in journal ≡ (1, answer) ∷ []
+  pub run : CheckTask key journal 1 answer
+  pub tasked : list_all (λ e. is_for_task e.what) journal ≡ true
+
+-- the one task of the run is a check
+abbrev pub HasOneTask : Opening → Type 0
+HasOneTask o = (t : Task) × (o.tasks ≡ t ∷ [])
