@@ -39,7 +39,7 @@ of_link f v (Ask child job task line) h = absurd cc
 of_link f v (Lost child task) h = absurd cc
 of_link f v (Answered task answer) h = absurd cc
 
-no_task : (c child task job : ℕ) → (child == c && (task == 0 && nat_lt job 2)) ≡ true → task ≡ 0
+pub no_task : (c child task job : ℕ) → (child == c && (task == 0 && nat_lt job 2)) ≡ true → task ≡ 0
 no_task c child task job h =
     let t = both (child == c) (task == 0 && nat_lt job 2) h in
     same_number task 0 (both (task == 0) (nat_lt job 2) t.1).0

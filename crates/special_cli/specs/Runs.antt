@@ -1,16 +1,20 @@
 -- How far a check has come, by its journal.
 use Rattle.std.specs.Prelude.{ℕ, ◌≡◌, ◌⊎◌, Bool, true, false, List, [], ◌∷◌, Option, Some, None}
-use Rattle.std.specs.List.{list_all}
+use Rattle.std.specs.List.{list_all, last_or}
+use Rattle.annex_model.specs.declared.verdict.Verdict.{Verdict}
+use Rattle.annex_model.specs.Messages.{Checkpresent}
 use Rattle.task_text.specs.declared.task.Task.{Task}
 use Rattle.journal_model.specs.declared.answer.Answer.{Answer}
+use Rattle.journal_model.specs.declared.answer.Answer.TheVariants.{Memory}
 use Rattle.journal_model.specs.Output.{answers_in}
 use Rattle.journal_model.specs.declared.entry.What.{What}
 use Rattle.journal_model.specs.declared.entry.What.TheVariants.{Claim, Start, NoStart}
 use Rattle.journal_model.specs.declared.entry.Entry.{Entry}
 use Rattle.journal_model.specs.declared.opening.Opening.{Opening}
 use Rattle.journal_model.specs.Journal.{each_of}
-use Rattle.journal_model.specs.Legality.{is_claimed_by, has_open_job}
-use Rattle.task_run.specs.TaskRuns.{askings, CheckTask}
+use Rattle.journal_model.specs.Legality.{is_claimed_by, job_for, has_open_job}
+use Rattle.task_run.specs.TaskRuns.{askings, came_of, failed_start, check_answer, CheckTask}
+use Rattle.child_link.specs.Asks.{HasAsked}
 use Rattle.special_cli.specs.Endings.{starts_in, is_for_task}
 
 -- an entry of the main thread's own
@@ -33,7 +37,7 @@ pub record IsBegun (first : What) (journal : List Entry) : Type 0 where
   pub unclaimed : each_of claim_in journal ≡ []
   pub silent : answers_in journal ≡ []
   pub unasked : askings journal 1 ≡ []
-  pub idle : has_open_job journal 1 ≡ false
+  pub jobs : each_of (job_for 1) journal ≡ []
   pub tasked : list_all (λ e. is_for_task e.what) journal ≡ true
 
 -- the task is claimed and done, so that this is its answer, which has not been given
@@ -62,3 +66,15 @@ pub record IsRun (key : List ℕ) (journal : List Entry) (answer : Answer) : Typ
 -- the one task of the run is a check
 abbrev pub HasOneTask : Opening → Type 0
 HasOneTask o = (t : Task) × (o.tasks ≡ t ∷ [])
+
+-- the key was asked for and this answer is what came of it, or there was no memory to ask
+abbrev pub AsksFor : Opening → List Entry → List Entry → ℕ → List ℕ → Answer → Type 0
+AsksFor o old new c key answer =
+    ((v : Verdict) × HasAsked o old new 0 c 1 (Checkpresent key) v × (check_answer v ≡ Some answer))
+    ⊎ ((new ≡ old) × (answer ≡ Memory))
+
+-- the run has begun, and this is the answer of its start, which gave no child that is ready
+pub record IsUnready (journal : List Entry) (answer : Answer) : Type 0 where
+  pub first : What
+  pub begun : IsBegun first journal
+  pub why : failed_start journal (last_or None (each_of (came_of 0) journal)) ≡ Some answer

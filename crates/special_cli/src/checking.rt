@@ -1,18 +1,16 @@
 // The one task of a check, event by event through the core, over a child that was greeted or over none.
-ghost use Rattle.std.specs.Prelude.{◌≡◌, ◌⊎◌, ◌++◌, [], ◌∷◌, Some, true, false, if◌then◌else◌, IsTrue, IsFalse, MatchResult, OnErr};
-ghost use Rattle.std.specs.List.{last_or};
+ghost use Rattle.std.specs.Prelude.{◌≡◌, ◌++◌, ℕ, List, [], ◌∷◌, Some, true, false, if◌then◌else◌, MatchResult};
 ghost use Rattle.annex_model.specs.Messages.{Checkpresent, is_sent_key};
 ghost use Rattle.annex_model.specs.declared.verdict.Why.TheVariants.{Closed};
-ghost use Rattle.journal_model.specs.declared.answer.Answer.TheVariants.{Memory};
-ghost use Rattle.journal_model.specs.declared.entry.What.TheVariants.{Claim, Start, Answer as Answered};
-ghost use Rattle.journal_model.specs.Journal.{each_of, is_started, is_ended, open_jobs, asked_jobs};
+ghost use Rattle.journal_model.specs.declared.entry.What.TheVariants.{Claim, NoStart, Answer as Answered};
+ghost use Rattle.journal_model.specs.Journal.{is_started, open_jobs};
 ghost use Rattle.journal_model.specs.Legality.{Legal, least_free, is_prepared, may_stop};
 ghost use Rattle.host_core.specs.Steps.{may_answer, may_request};
-ghost use Rattle.task_run.specs.TaskRuns.{came_of, failed_start};
 ghost use Rattle.child_link.specs.Asks.{HasAsked};
 ghost use Rattle.child_link.specs.Doors.{GoesOn};
 ghost use Rattle.child_link.specs.Links.{IsLinked};
-ghost use Rattle.special_cli.specs.Runs.{main_entry, IsBegun, IsDone, IsRun, HasOneTask};
+ghost use Rattle.child_start.specs.Greetings.{Greeted, IsReady};
+ghost use Rattle.special_cli.specs.Runs.{main_entry, AsksFor, IsUnready, IsDone, IsRun, HasOneTask};
 
 use ann_key::{Key, NoMemory};
 use ann_outside::{Sink, Source};
@@ -89,4 +87,119 @@ fn close<I: Sink, O: Source>(link: &mut Lone<I, O>, core: &mut Core)
 {
     let mut door = OwnDoor { core };
     link.close(&mut door);
+}
+
+// What comes of asking the child for the key.
+fn answer_of<I: Sink, O: Source>(link: &mut Lone<I, O>, core: &mut Core, key: Key) -> Answer
+    requires started { is_started core.old.journal link.old.child ≡ true }
+    requires may { may_request core.old.journal 0 1 link.old.child (Checkpresent key) ≡ true }
+    ensures asked { AsksFor core.old.opening core.old.journal core.new.journal link.old.child key result }
+    ensures linked { IsLinked I.taken I.faults O.given O.left O.faults core.old.journal link.old → IsLinked I.taken I.faults O.given O.left O.faults core.new.journal link.new }
+    ensures child { link.new.child ≡ link.old.child }
+    ensures numbers { (I.number link.new.inlet ≡ I.number link.old.inlet) × (O.number link.new.outlet ≡ O.number link.old.outlet) }
+    ensures opening { core.new.opening ≡ core.old.opening }
+    ensures legal { Legal core.old.opening core.old.journal → Legal core.new.opening core.new.journal }
+{
+    match ask(link, core, key) {
+        Ok(verdict) => check_answer(verdict),
+        Err(NoMemory) => Answer::Memory,
+    }
+}
+
+// The task is done over a child that is ready: claimed for it, and asked. A child that is gone although it got ready was ended
+// for want of memory.
+fn do_task<I: Sink, O: Source>(link: &mut Lone<I, O>, core: &mut Core, key: Key) -> Answer
+    requires one { HasOneTask core.old.opening }
+    requires key { is_sent_key key ≡ true }
+    requires greeted { Greeted [] core.old.journal 0 false link.old.child }
+    requires ready { IsReady core.old.journal link.old.child }
+    ensures done { IsDone key core.new.journal result }
+    ensures idle { open_jobs core.new.journal link.old.child ≡ [] }
+    ensures started { is_started core.new.journal link.old.child ≡ true }
+    ensures linked { IsLinked I.taken I.faults O.given O.left O.faults core.old.journal link.old → IsLinked I.taken I.faults O.given O.left O.faults core.new.journal link.new }
+    ensures child { link.new.child ≡ link.old.child }
+    ensures numbers { (I.number link.new.inlet ≡ I.number link.old.inlet) × (O.number link.new.outlet ≡ O.number link.old.outlet) }
+    ensures opening { core.new.opening ≡ core.old.opening }
+    ensures legal { Legal core.old.opening core.old.journal → Legal core.new.opening core.new.journal }
+{
+    let child = link.child();
+    if claim(core, child) {
+        answer_of(link, core, key)
+    } else {
+        claim_alone(core);
+        Answer::Memory
+    }
+}
+
+// The answer is given, and the child is closed.
+fn end<I: Sink, O: Source>(link: &mut Lone<I, O>, core: &mut Core, answer: Answer)
+    requires done { (key : List ℕ) × IsDone key core.old.journal answer }
+    requires idle { open_jobs core.old.journal link.old.child ≡ [] }
+    requires started { is_started core.old.journal link.old.child ≡ true }
+    ensures run { (key : List ℕ) → IsDone key core.old.journal answer → IsRun key core.new.journal answer }
+    ensures linked { IsLinked I.taken I.faults O.given O.left O.faults core.old.journal link.old → IsLinked I.taken I.faults O.given O.left O.faults core.new.journal link.new }
+    ensures child { link.new.child ≡ link.old.child }
+    ensures numbers { (I.number link.new.inlet ≡ I.number link.old.inlet) × (O.number link.new.outlet ≡ O.number link.old.outlet) }
+    ensures opening { core.new.opening ≡ core.old.opening }
+    ensures legal { Legal core.old.opening core.old.journal → Legal core.new.opening core.new.journal }
+{
+    give(core, answer);
+    close(link, core);
+}
+
+/// The answer of the one task over a child that is ready, which is closed at the end.
+pub(super) fn check<I: Sink, O: Source>(
+    link: &mut Lone<I, O>,
+    core: &mut Core,
+    key: Key,
+) -> Answer
+    requires one { HasOneTask core.old.opening }
+    requires key { is_sent_key key ≡ true }
+    requires greeted { Greeted [] core.old.journal 0 false link.old.child }
+    requires ready { IsReady core.old.journal link.old.child }
+    ensures run { IsRun key core.new.journal result }
+    ensures linked { IsLinked I.taken I.faults O.given O.left O.faults core.old.journal link.old → IsLinked I.taken I.faults O.given O.left O.faults core.new.journal link.new }
+    ensures child { link.new.child ≡ link.old.child }
+    ensures numbers { (I.number link.new.inlet ≡ I.number link.old.inlet) × (O.number link.new.outlet ≡ O.number link.old.outlet) }
+    ensures opening { core.new.opening ≡ core.old.opening }
+    ensures legal { Legal core.old.opening core.old.journal → Legal core.new.opening core.new.journal }
+{
+    let answer = do_task(link, core, key);
+    end(link, core, answer);
+    answer
+}
+
+/// The one task is answered for a child that isn't ready, which is closed.
+pub(super) fn give_up<I: Sink, O: Source>(
+    link: &mut Lone<I, O>,
+    core: &mut Core,
+    answer: Answer,
+)
+    requires one { HasOneTask core.old.opening }
+    requires unready { IsUnready core.old.journal answer }
+    requires idle { open_jobs core.old.journal link.old.child ≡ [] }
+    requires started { is_started core.old.journal link.old.child ≡ true }
+    ensures run { (key : List ℕ) → IsRun key core.new.journal answer }
+    ensures linked { IsLinked I.taken I.faults O.given O.left O.faults core.old.journal link.old → IsLinked I.taken I.faults O.given O.left O.faults core.new.journal link.new }
+    ensures child { link.new.child ≡ link.old.child }
+    ensures numbers { (I.number link.new.inlet ≡ I.number link.old.inlet) × (O.number link.new.outlet ≡ O.number link.old.outlet) }
+    ensures opening { core.new.opening ≡ core.old.opening }
+    ensures legal { Legal core.old.opening core.old.journal → Legal core.new.opening core.new.journal }
+{
+    claim_alone(core);
+    end(link, core, answer);
+}
+
+/// The one task is answered where no child could be started.
+pub(super) fn not_started(core: &mut Core) -> Answer
+    requires one { HasOneTask core.old.opening }
+    requires failed { core.old.journal ≡ main_entry (NoStart 0) ∷ [] }
+    ensures run { (key : List ℕ) → IsRun key core.new.journal result }
+    ensures opening { core.new.opening ≡ core.old.opening }
+    ensures legal { Legal core.new.opening core.new.journal }
+{
+    let answer = Answer::StartFault;
+    claim_alone(core);
+    give(core, answer);
+    answer
 }

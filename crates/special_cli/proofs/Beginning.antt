@@ -1,0 +1,135 @@
+-- From a start to a task that is done.
+use Rattle.std.proofs.Common.{◌≡◌, ◌⊎◌, ◌<◌, ◌^◌, ℕ, List, [], ◌∷◌, ◌++◌, length, refl, sym, ap, subst, ◌∙◌, append_assoc, arith, Bool, true, false, not, ◌==◌, cond, Some, None, Option, inl, inr}
+use Rattle.std.specs.Prelude.{◌&&◌, ◌||◌, nat_lt, filter_map, option_and_then, is_some, option_map}
+use Rattle.std.specs.List.{list_all, list_any, last_or}
+use Rattle.std.proofs.lemmas.List.Folds.{list_any-append}
+use Rattle.annex_model.specs.declared.verdict.Why.{Why}
+use Rattle.annex_model.specs.declared.verdict.Verdict.{Verdict}
+use Rattle.annex_model.specs.declared.verdict.Verdict.TheVariants.{Ended, Unsent}
+use Rattle.annex_model.specs.Messages.{HostMessage, Checkpresent, host_line, host_reading, is_sent_key}
+use Rattle.annex_model.proofs.Readings.{canonical_read}
+use Rattle.journal_model.specs.declared.answer.Answer.{Answer}
+use Rattle.journal_model.specs.declared.answer.Answer.TheVariants.{Memory, Unsent as UnsentAnswer, StartFault, Ended as EndedAnswer}
+use Rattle.journal_model.specs.declared.entry.What.{What}
+use Rattle.journal_model.specs.declared.entry.What.TheVariants.{Claim, Start, NoStart, Ask, Lost}
+use Rattle.journal_model.specs.declared.entry.Entry.{Entry}
+use Rattle.journal_model.specs.declared.opening.Opening.{Opening}
+use Rattle.journal_model.specs.Output.{answer_in, answers_in}
+use Rattle.journal_model.specs.Journal.{any, each_of, first_of, addressed, is_ended, is_mute, is_open, is_started, is_tagged, on_wire, open_jobs, asked_jobs, verdict_of, why_of}
+use Rattle.journal_model.specs.Legality.{claims, claims_with, is_claimed, is_claimed_by, is_busy, has_open_job, job_for, least_free, is_prepared, is_empty}
+use Rattle.journal_model.proofs.Looks.{same, same_number, both, each_of-append, any-append}
+use Rattle.journal_model.proofs.Linking.{why_is_end}
+use Rattle.host_core.specs.Steps.{group_of, next_job, may_request}
+use Rattle.host_core.proofs.Wiring.{wired_text}
+use Rattle.task_run.specs.TaskRuns.{Asking, askings, child_claimed, came_of, failed_start, unready_answer, check_answer, lost_verdict, ChildZero, CheckOver, CheckRun, CheckTask}
+use Rattle.task_run.proofs.Askings.{asks_for, askings_from-none, askings-unasked, askings-ask, askings-lost}
+use Rattle.child_link.specs.Asks.{HasAsked, IsSettled, IsLost, lost_as}
+use Rattle.child_link.specs.Doors.{is_of_link}
+use Rattle.child_start.specs.Greetings.{Greeted, IsReady, HasEnded, IsUnsent, is_of_greeting}
+use Rattle.special_cli.specs.Endings.{start_in, starts_in, is_for_task}
+use Rattle.special_cli.specs.Runs.{main_entry, claim_in, IsStart, IsBegun, IsDone, HasOneTask}
+use Rattle.special_cli.proofs.Looking.{Vanishes, holds_in, link_says_none, greeting_says_none, through, any_through, all_both, all_weaken, any_none, no_task}
+
+-- ---- what links and greetings don't say
+
+pub no_starts : Vanishes start_in
+no_starts = record { put = λ c j l. refl; sent = λ c. refl; mute = λ c. refl; got = λ c l. refl; ended = λ c w. refl; settled = λ c j v. refl; ask = λ c j l. refl; lost = λ c. refl }
+
+pub no_claims : Vanishes claim_in
+no_claims = record { put = λ c j l. refl; sent = λ c. refl; mute = λ c. refl; got = λ c l. refl; ended = λ c w. refl; settled = λ c j v. refl; ask = λ c j l. refl; lost = λ c. refl }
+
+pub no_answers : Vanishes answer_in
+no_answers = record { put = λ c j l. refl; sent = λ c. refl; mute = λ c. refl; got = λ c l. refl; ended = λ c w. refl; settled = λ c j v. refl; ask = λ c j l. refl; lost = λ c. refl }
+
+pub no_jobs : Vanishes (job_for 1)
+no_jobs = record { put = λ c j l. refl; sent = λ c. refl; mute = λ c. refl; got = λ c l. refl; ended = λ c w. refl; settled = λ c j v. refl; ask = λ c j l. refl; lost = λ c. refl }
+
+pub link_for_task : (w : What) → is_of_link w ≡ true → is_for_task w ≡ true
+link_for_task (Ask child job task line) h = absurd cc
+link_for_task w h = refl
+
+greeting_for_task : (c : ℕ) (w : What) → is_of_greeting c w ≡ true → is_for_task w ≡ true
+greeting_for_task c (Ask child job task line) h = go (nat_lt job 2) (and_last (child == c) (task == 0) (nat_lt job 2) h)
+  where
+    and_last : (a b d : Bool) → (a && (b && d)) ≡ true → d ≡ true
+    and_last true true d h = h
+    and_last true false d h = absurd cc
+    and_last false b d h = absurd cc
+
+    go : (b : Bool) → b ≡ true → (b || not (task == 0)) ≡ true
+    go true e = refl
+    go false e = absurd cc
+greeting_for_task c w h = refl
+
+pub link_asks_none : (w : What) → is_of_link w ≡ true → asks_for 1 w ≡ false
+link_asks_none (Ask child job task line) h = absurd cc
+link_asks_none (Lost child task) h = absurd cc
+link_asks_none w h = refl
+
+greeting_asks_none : (c : ℕ) (w : What) → is_of_greeting c w ≡ true → asks_for 1 w ≡ false
+greeting_asks_none c (Ask child job task line) h = ap (λ (t : ℕ). t == 1) (no_task c child task job h)
+greeting_asks_none c (Lost child task) h = ap (λ (t : ℕ). t == 1) (no_lost c child task h)
+  where
+    no_lost : (c child task : ℕ) → (child == c && task == 0) ≡ true → task ≡ 0
+    no_lost c child task h = same_number task 0 (both (child == c) (task == 0) h).1
+greeting_asks_none c w h = refl
+
+-- ---- a run that has begun
+
+-- behind the greeting of the first child
+pub begun_child : (journal : List Entry) (c : ℕ) → Greeted [] journal 0 false c → IsBegun (Start 1 0 false) journal
+begun_child journal c g =
+    let grown : journal ≡ main_entry (Start 1 0 false) ∷ g.more = g.grown ∙ ap (λ (k : ℕ). main_entry (Start k 0 false) ∷ g.more) g.next in
+    let tasked : list_all (λ (e : Entry). is_for_task e.what) g.more ≡ true = all_weaken (is_of_greeting c) is_for_task (greeting_for_task c) g.more g.own in
+    subst (IsBegun (Start 1 0 false)) (sym grown) record {
+      is_start = inl refl;
+      starts = ap (λ (xs : List What). Start 1 0 false ∷ xs) (greeting_says_none start_in no_starts c g.more g.own);
+      unclaimed = greeting_says_none claim_in no_claims c g.more g.own;
+      silent = greeting_says_none answer_in no_answers c g.more g.own;
+      unasked = askings_from-none (main_entry (Start 1 0 false) ∷ g.more) 1 [] (main_entry (Start 1 0 false) ∷ g.more) (any_none (is_of_greeting c) (asks_for 1) (greeting_asks_none c) g.more g.own);
+      jobs = greeting_says_none (job_for 1) no_jobs c g.more g.own;
+      tasked = tasked;
+    }
+
+pub first_child : (journal : List Entry) (c : ℕ) → Greeted [] journal 0 false c → c ≡ 1
+first_child journal c g = g.next
+
+-- behind a start that failed
+pub begun_none : (journal : List Entry) → journal ≡ main_entry (NoStart 0) ∷ [] → IsBegun (NoStart 0) journal
+begun_none journal grown =
+    subst (IsBegun (NoStart 0)) (sym grown) record { is_start = inr refl; starts = refl; unclaimed = refl; silent = refl; unasked = refl; jobs = refl; tasked = refl }
+
+-- ---- claims
+
+claims_is : (w : What) → claims 1 w ≡ holds_in (λ (p : ℕ × ℕ). p.0 == 1) (claim_in w)
+claims_is (Claim task child) = refl
+claims_is w = refl
+
+pub claimed_by_list : (journal : List Entry) → is_claimed journal 1 ≡ list_any (λ (p : ℕ × ℕ). p.0 == 1) (each_of claim_in journal)
+claimed_by_list journal = any_through (claims 1) claim_in (λ (p : ℕ × ℕ). p.0 == 1) claims_is journal
+
+abbrev child_of : ℕ × ℕ → Option ℕ
+child_of p = cond (p.0 == 1) (Some p.1) None
+
+child_claimed_is : (w : What) → child_claimed 1 w ≡ option_and_then child_of (claim_in w)
+child_claimed_is (Claim task child) = refl
+child_claimed_is w = refl
+
+pub first_claim : (journal : List Entry) (child : ℕ) → each_of claim_in journal ≡ (1, child) ∷ [] → first_of (each_of (child_claimed 1) journal) ≡ Some child
+first_claim journal child h =
+    ap first_of (through (child_claimed 1) claim_in child_of child_claimed_is journal) ∙ ap (λ (ps : List (ℕ × ℕ)). first_of (filter_map child_of ps)) h
+
+-- the one task is the least that is free
+pub free_one : (o : Opening) (journal : List Entry) → HasOneTask o → each_of claim_in journal ≡ [] → least_free o journal ≡ Some 1
+free_one o journal one none =
+    let unclaimed : is_claimed journal 1 ≡ false = claimed_by_list journal ∙ ap (list_any (λ (p : ℕ × ℕ). p.0 == 1)) none in
+    rw (one.1, unclaimed) refl
+
+-- the claim is the main thread's
+pub own_claim : (past : List Entry) (child : ℕ) (more : List Entry) → is_claimed_by (past ++ main_entry (Claim 1 child) ∷ more) 0 1 ≡ true
+own_claim past child more =
+    list_any-append (λ (e : Entry). e.by == 0 && claims 1 e.what) past (main_entry (Claim 1 child) ∷ more) ∙ or_true (is_claimed_by past 0 1)
+  where
+    or_true : (b : Bool) → (b || true) ≡ true
+    or_true true = refl
+    or_true false = refl

@@ -1,0 +1,274 @@
+-- From a run that has begun to a task that is done.
+use Rattle.std.proofs.Common.{◌≡◌, ◌⊎◌, ◌<◌, ◌^◌, ℕ, List, [], ◌∷◌, ◌++◌, length, refl, sym, ap, subst, ◌∙◌, append_assoc, arith, Bool, true, false, not, ◌==◌, cond, Some, None, Option, inl, inr}
+use Rattle.std.specs.Prelude.{◌&&◌, ◌||◌, nat_lt, filter_map, option_and_then, is_some, option_map, IsTrue}
+use Rattle.std.specs.List.{list_all, list_any, last_or}
+use Rattle.std.proofs.lemmas.List.Folds.{list_any-append}
+use Rattle.annex_model.specs.declared.verdict.Why.{Why}
+use Rattle.annex_model.specs.declared.verdict.Verdict.{Verdict}
+use Rattle.annex_model.specs.Messages.{HostMessage, Checkpresent, host_line, host_reading, is_sent_key}
+use Rattle.annex_model.proofs.Readings.{canonical_read}
+use Rattle.journal_model.specs.declared.answer.Answer.{Answer}
+use Rattle.journal_model.specs.declared.answer.Answer.TheVariants.{Memory, Unsent as UnsentAnswer, StartFault, Ended as EndedAnswer}
+use Rattle.journal_model.specs.declared.entry.What.{What}
+use Rattle.journal_model.specs.declared.entry.What.TheVariants.{Claim, Start, NoStart, Ask, Lost, Answer as Answered}
+use Rattle.journal_model.specs.declared.entry.Entry.{Entry}
+use Rattle.journal_model.specs.declared.opening.Opening.{Opening}
+use Rattle.journal_model.specs.Output.{answer_in, answers_in}
+use Rattle.journal_model.specs.Journal.{any, each_of, first_of, addressed, asks, starts, settles, is_ended, is_mute, is_open, is_started, is_settled, is_tagged, on_wire, open_jobs, asked_jobs, verdict_of, why_of}
+use Rattle.journal_model.specs.Legality.{claims, answers, claims_with, is_claimed, is_claimed_by, is_busy, has_open_job, job_for, is_greeted, may_work, may_ask, is_prepared, is_done, is_empty}
+use Rattle.journal_model.proofs.Looks.{same, each_of-append, any-append, verdict_of-append}
+use Rattle.journal_model.proofs.Linking.{why_is_end}
+use Rattle.host_core.specs.Steps.{group_of, next_job, may_request}
+use Rattle.host_core.proofs.Wiring.{wired_text}
+use Rattle.task_run.specs.TaskRuns.{Asking, askings, child_claimed, came_of, failed_start, unready_answer, check_answer, lost_verdict, IsAskedOr, ChildZero, CheckOver, CheckRun, CheckTask}
+use Rattle.task_run.proofs.Askings.{asks_for, askings_from-none, askings-unasked, askings-ask, askings-lost}
+use Rattle.child_link.specs.Asks.{HasAsked, IsSettled, IsLost, lost_as}
+use Rattle.child_link.specs.Doors.{is_of_link}
+use Rattle.std.specs.Option.{option_or}
+use Rattle.std.proofs.lemmas.List.{append-nil}
+use Rattle.child_start.proofs.Jobs.{idle_on, idle_asked}
+use Rattle.child_start.specs.Greetings.{Greeted, IsReady, HasEnded, IsUnsent}
+use Rattle.special_cli.specs.Endings.{start_in, starts_in, is_for_task}
+use Rattle.special_cli.specs.Runs.{main_entry, claim_in, AsksFor, IsStart, IsBegun, IsDone, HasOneTask}
+use Rattle.special_cli.proofs.Looking.{holds_in, link_says_none, through, any_through, all_both, all_weaken, any_none}
+use Rattle.special_cli.proofs.Beginning.{no_starts, no_claims, no_answers, no_jobs, link_for_task, link_asks_none, claimed_by_list, first_claim, own_claim}
+
+-- ---- claimed without a child
+
+came_is : (w : What) → came_of 0 w ≡ option_and_then (came_of 0) (start_in w)
+came_is (Start child slot offer) = refl
+came_is (NoStart slot) = refl
+came_is w = refl
+
+-- what the one start came to
+pub last_came : (first : What) (journal : List Entry) → starts_in journal ≡ first ∷ [] → last_or None (each_of (came_of 0) journal) ≡ last_or None (filter_map (came_of 0) (first ∷ []))
+last_came first journal h = ap (last_or None) (through (came_of 0) start_in (came_of 0) came_is journal ∙ ap (filter_map (came_of 0)) h)
+
+module _ (key : List ℕ) (first : What) (past journal : List Entry) (answer : Answer) (begun : IsBegun first past) where
+  abbrev claim : Entry
+  claim = main_entry (Claim 1 0)
+
+  alone : has_open_job past 1 ≡ false
+  alone = ap (list_any (λ (q : ℕ × ℕ). is_open past q.0 q.1)) begun.jobs
+
+  -- the answer is free, or the start's
+  pub done_alone : journal ≡ past ++ claim ∷ [] → (answer ≡ Memory) ⊎ (failed_start past (last_or None (each_of (came_of 0) past)) ≡ Some answer) → IsDone key journal answer
+  done_alone grown why =
+      let all : List Entry = past ++ claim ∷ [] in
+      let claimed : each_of claim_in all ≡ (1, 0) ∷ [] = each_of-append claim_in past (claim ∷ []) ∙ ap (λ (xs : List (ℕ × ℕ)). xs ++ (1, 0) ∷ []) begun.unclaimed in
+      let jobs : each_of (job_for 1) all ≡ [] = each_of-append (job_for 1) past (claim ∷ []) ∙ ap (λ (xs : List (ℕ × ℕ)). xs ++ []) begun.jobs in
+      let unasked : askings all 1 ≡ [] = askings-unasked past (claim ∷ []) 1 alone refl ∙ begun.unasked in
+      let zero_run : (answer ≡ Memory) ⊎ ChildZero all 1 answer = by_why why in
+      subst (λ (j : List Entry). IsDone key j answer) (sym grown) record {
+        first = first;
+        is_start = begun.is_start;
+        starts = each_of-append start_in past (claim ∷ []) ∙ ap (λ (xs : List What). xs ++ []) begun.starts;
+        child = 0;
+        claims = claimed;
+        own = own_claim past 0 [];
+        silent = each_of-append answer_in past (claim ∷ []) ∙ ap (λ (xs : List (ℕ × Answer)). xs ++ []) begun.silent;
+        idle = ap (list_any (λ (q : ℕ × ℕ). is_open all q.0 q.1)) jobs;
+        run = subst (CheckOver key all 1 answer) (sym (first_claim all 0 claimed)) (unasked, zero_run);
+        tasked = all_both is_for_task past (claim ∷ []) begun.tasked refl;
+      }
+    where
+      by_why : (answer ≡ Memory) ⊎ (failed_start past (last_or None (each_of (came_of 0) past)) ≡ Some answer) → (answer ≡ Memory) ⊎ ChildZero (past ++ claim ∷ []) 1 answer
+      by_why (inl e) = inl e
+      by_why (inr e) = inr record { past = past; rest = []; by = 0; claim = refl; why = e }
+
+-- the child has ended before it was prepared
+pub ended_start : (past : List Entry) (c : ℕ) (why : Why) → starts_in past ≡ Start 1 0 false ∷ [] → c ≡ 1 → HasEnded past c why
+    → failed_start past (last_or None (each_of (came_of 0) past)) ≡ Some (EndedAnswer why)
+ended_start past c why starts one h =
+    let ended : is_ended past c ≡ true = sym (why_is_end past c) ∙ ap is_some h.ended in
+    let said : unready_answer past c ≡ Some (EndedAnswer why) = rw (h.unprepared, ended, h.ended) refl in
+    ap (failed_start past) (last_came (Start 1 0 false) past starts) ∙ ap (unready_answer past) (sym one) ∙ said
+
+-- it was mute before it was prepared
+pub unsent_start : (past : List Entry) (c : ℕ) → starts_in past ≡ Start 1 0 false ∷ [] → c ≡ 1 → IsUnsent past c
+    → failed_start past (last_or None (each_of (came_of 0) past)) ≡ Some UnsentAnswer
+unsent_start past c starts one h =
+    let said : unready_answer past c ≡ Some UnsentAnswer = rw (h.unprepared, h.live, h.mute) refl in
+    ap (failed_start past) (last_came (Start 1 0 false) past starts) ∙ ap (unready_answer past) (sym one) ∙ said
+
+-- it wasn't started
+pub no_start : (past : List Entry) → starts_in past ≡ NoStart 0 ∷ [] → failed_start past (last_or None (each_of (came_of 0) past)) ≡ Some StartFault
+no_start past starts = ap (failed_start past) (last_came (NoStart 0) past starts)
+
+-- ---- claimed for a child that is ready
+
+or_true : (b : Bool) → (b || true) ≡ true
+or_true true = refl
+or_true false = refl
+
+module _ (o : Opening) (first : What) (past : List Entry) (c : ℕ) (begun : IsBegun first past) (ready : IsReady past c) where
+  abbrev pub claimed : List Entry
+  claimed = past ++ main_entry (Claim 1 c) ∷ []
+
+  jobs_now : asked_jobs claimed c ≡ 0 ∷ 1 ∷ []
+  jobs_now = each_of-append (asks c) past (main_entry (Claim 1 c) ∷ []) ∙ ap (λ (xs : List ℕ). xs ++ []) ready.jobs
+
+  task_jobs : each_of (job_for 1) claimed ≡ []
+  task_jobs = each_of-append (job_for 1) past (main_entry (Claim 1 c) ∷ []) ∙ ap (λ (xs : List (ℕ × ℕ)). xs ++ []) begun.jobs
+
+  pub idle_now : has_open_job claimed 1 ≡ false
+  idle_now = ap (list_any (λ (q : ℕ × ℕ). is_open claimed q.0 q.1)) task_jobs
+
+  busy : is_busy claimed 1 ≡ true
+  busy =
+      let here : is_claimed claimed 1 ≡ true = any-append (claims 1) past (main_entry (Claim 1 c) ∷ []) ∙ or_true (is_claimed past 1) in
+      let unanswered : any (answers 1) claimed ≡ false = any-append (answers 1) past (main_entry (Claim 1 c) ∷ []) ∙ ap (λ (b : Bool). b || false) (no_answer past begun.silent) in
+      rw (here, unanswered) refl
+    where
+      answers_is : (w : What) → answers 1 w ≡ holds_in (λ (p : ℕ × Answer). p.0 == 1) (answer_in w)
+      answers_is (Answered task answer) = refl
+      answers_is w = refl
+
+      no_answer : (j : List Entry) → answers_in j ≡ [] → any (answers 1) j ≡ false
+      no_answer j none = any_through (answers 1) answer_in (λ (p : ℕ × Answer). p.0 == 1) answers_is j ∙ ap (list_any (λ (p : ℕ × Answer). p.0 == 1)) none
+
+  mine : list_any (claims_with 0 1 c) claimed ≡ true
+  mine = list_any-append (claims_with 0 1 c) past (main_entry (Claim 1 c) ∷ []) ∙ ap (λ (b : Bool). list_any (claims_with 0 1 c) past || (b || false)) (same c) ∙ or_true (list_any (claims_with 0 1 c) past)
+
+  pub idle_child : open_jobs past c ≡ [] → open_jobs claimed c ≡ []
+  idle_child idle = idle_on past (main_entry (Claim 1 c) ∷ []) c refl idle
+
+  prepared : is_prepared claimed c ≡ true
+  prepared = ap is_done (verdict_of-append c 1 past (main_entry (Claim 1 c) ∷ [])) ∙ go (verdict_of past c 1) ready.prepared
+    where
+      go : (v : Option Verdict) → is_done v ≡ true → is_done (option_or v None) ≡ true
+      go None h = absurd cc
+      go (Some v) h = h
+
+  may_ask_now : open_jobs past c ≡ [] → may_ask claimed 0 1 c ≡ true
+  may_ask_now idle =
+      let alone : (is_tagged claimed c || is_empty (open_jobs claimed c)) ≡ true = ap (λ (xs : List ℕ). is_tagged claimed c || is_empty xs) (idle_child idle) ∙ or_true (is_tagged claimed c) in
+      let greeted : is_greeted claimed c (length (asked_jobs claimed c)) ≡ true = ap (λ (xs : List ℕ). is_greeted claimed c (length xs)) jobs_now ∙ prepared in
+      let works : may_work claimed 0 1 c ≡ true = rw (mine, busy, idle_now) refl in
+      rw (greeted, works, alone) refl
+
+  -- the key may be asked for
+  pub may_now : (key : List ℕ) → is_sent_key key ≡ true → is_started past c ≡ true → open_jobs past c ≡ [] → may_request claimed 0 1 c (Checkpresent key) ≡ true
+  may_now key sent was idle =
+      let started : is_started claimed c ≡ true = any-append (starts c) past (main_entry (Claim 1 c) ∷ []) ∙ ap (λ (b : Bool). b || false) was in
+      let turn : nat_lt 1 (next_job claimed c) ≡ true = ap (λ (xs : List ℕ). nat_lt 1 (length xs)) jobs_now in
+      rw (started, may_ask_now idle, turn, sent) refl
+
+  module _ (key : List ℕ) (one : c ≡ 1) where
+    abbrev question : HostMessage
+    question = Checkpresent key
+
+    task : each_of claim_in claimed ≡ (1, c) ∷ []
+    task = each_of-append claim_in past (main_entry (Claim 1 c) ∷ []) ∙ ap (λ (xs : List (ℕ × ℕ)). xs ++ (1, c) ∷ []) begun.unclaimed
+
+    unasked : askings claimed 1 ≡ []
+    unasked = askings-unasked past (main_entry (Claim 1 c) ∷ []) 1 (ap (list_any (λ (q : ℕ × ℕ). is_open past q.0 q.1)) begun.jobs) refl ∙ begun.unasked
+
+    -- what stands behind the claim: it claims, starts and answers nothing, and leaves no open job of the task
+    abbrev Later : List Entry → Answer → Type 0
+    Later more answer =
+        (each_of start_in more ≡ []) × (each_of claim_in more ≡ []) × (each_of answer_in more ≡ [])
+        × (has_open_job (claimed ++ more) 1 ≡ false) × (list_all (λ (e : Entry). is_for_task e.what) more ≡ true)
+        × CheckRun key (askings (claimed ++ more) 1) answer
+
+    done_later : (more : List Entry) (answer : Answer) → Later more answer → IsDone key (claimed ++ more) answer
+    done_later more answer h =
+        let whole : claimed ++ more ≡ past ++ main_entry (Claim 1 c) ∷ more = append_assoc past (main_entry (Claim 1 c) ∷ []) more in
+        let all : each_of claim_in (claimed ++ more) ≡ (1, c) ∷ [] = each_of-append claim_in claimed more ∙ (rw (task, h.1) refl) in
+        record {
+          first = first;
+          is_start = begun.is_start;
+          starts = each_of-append start_in claimed more ∙ ap (λ (xs : List What). xs ++ each_of start_in more) (each_of-append start_in past (main_entry (Claim 1 c) ∷ [])) ∙ (rw (begun.starts, h.0) refl);
+          child = c;
+          claims = all;
+          own = ap (λ (j : List Entry). is_claimed_by j 0 1) whole ∙ own_claim past c more;
+          silent = each_of-append answer_in claimed more ∙ ap (λ (xs : List (ℕ × Answer)). xs ++ each_of answer_in more) (each_of-append answer_in past (main_entry (Claim 1 c) ∷ [])) ∙ (rw (begun.silent, h.2) refl);
+          idle = h.3;
+          run = subst (CheckOver key (claimed ++ more) 1 answer) (sym (first_claim (claimed ++ more) c all)) (subst (λ (k : ℕ). CheckOver key (claimed ++ more) 1 answer (Some k)) (sym one) h.5);
+          tasked = all_both is_for_task claimed more (all_both is_for_task past (main_entry (Claim 1 c) ∷ []) begun.tasked refl) h.4;
+        }
+
+    -- no memory was found to ask
+    pub done_unasked : (journal : List Entry) → journal ≡ claimed → IsDone key journal Memory
+    done_unasked journal same_journal =
+        let still : claimed ++ [] ≡ claimed = append-nil claimed in
+        subst (λ (j : List Entry). IsDone key j Memory) (still ∙ sym same_journal)
+        (done_later [] Memory (refl, refl, refl, ap (λ (j : List Entry). has_open_job j 1) still ∙ idle_now, refl,
+        subst (λ (xs : List Asking). CheckRun key xs Memory) (sym (ap (λ (j : List Entry). askings j 1) still ∙ unasked)) refl))
+
+    small : next_job claimed c < 2 ^ 64
+    small = let two : next_job claimed c ≡ 2 = ap (λ (xs : List ℕ). length xs) jobs_now in omega (arith, two)
+
+    abbrev line : List ℕ
+    line = on_wire claimed c (next_job claimed c) (host_line question)
+
+    abbrev asked : Entry
+    asked = main_entry (Ask c (next_job claimed c) 1 line)
+
+    -- it was asked and settled
+    done_settled : (o' : Opening) (journal : List Entry) (verdict : Verdict) (answer : Answer) → is_sent_key key ≡ true → open_jobs journal c ≡ []
+        → IsSettled o' claimed journal 0 c 1 question verdict → check_answer verdict ≡ Some answer → IsDone key journal answer
+    done_settled o' journal verdict answer sent idle s says =
+        let more : List Entry = asked ∷ s.goes.more in
+        let grown : journal ≡ claimed ++ more = s.goes.is ∙ append_assoc claimed (asked ∷ []) s.goes.more in
+        let quiet : any (asks_for 1) s.goes.more ≡ false = any_none is_of_link (asks_for 1) link_asks_none s.goes.more s.goes.quiet in
+        let reads : host_reading (addressed claimed c line).1 ≡ Some question = ap host_reading (wired_text claimed c (next_job claimed c) (host_line question) small) ∙ canonical_read question sent in
+        let verdict_is : verdict_of (claimed ++ more) c (next_job claimed c) ≡ Some verdict = ap (λ (j : List Entry). verdict_of j c (next_job claimed c)) (sym grown) ∙ s.settled in
+        let pairs : askings (claimed ++ more) 1 ≡ record { request = Some question; verdict = verdict } ∷ [] =
+        askings-ask claimed s.goes.more 1 0 c (next_job claimed c) line (Some question) verdict idle_now quiet reads verdict_is
+        ∙ ap (λ (xs : List Asking). xs ++ record { request = Some question; verdict = verdict } ∷ []) unasked in
+        let jobs : each_of (job_for 1) (claimed ++ more) ≡ (c, next_job claimed c) ∷ [] =
+        each_of-append (job_for 1) claimed more ∙ ap (λ (xs : List (ℕ × ℕ)). xs ++ each_of (job_for 1) more) task_jobs
+        ∙ ap (λ (xs : List (ℕ × ℕ)). (c, next_job claimed c) ∷ xs) (link_says_none (job_for 1) no_jobs s.goes.more s.goes.quiet) in
+        let none_open : open_jobs (claimed ++ more) c ≡ [] = ap (λ (j : List Entry). open_jobs j c) (sym grown) ∙ idle in
+        let closed : has_open_job (claimed ++ more) 1 ≡ false =
+        ap (list_any (λ (q : ℕ × ℕ). is_open (claimed ++ more) q.0 q.1)) jobs ∙ ap (λ (ks : List ℕ). list_any (λ k. k == next_job claimed c) ks || false) none_open in
+        let tasked : list_all (λ (e : Entry). is_for_task e.what) more ≡ true = rw (or_true (nat_lt (next_job claimed c) 2), all_weaken is_of_link is_for_task link_for_task s.goes.more s.goes.quiet) refl in
+        let run : CheckRun key (record { request = Some question; verdict = verdict } ∷ []) answer = (refl, inr says) in
+        subst (λ (j : List Entry). IsDone key j answer) (sym grown)
+        (done_later more answer (link_says_none start_in no_starts s.goes.more s.goes.quiet, link_says_none claim_in no_claims s.goes.more s.goes.quiet,
+        link_says_none answer_in no_answers s.goes.more s.goes.quiet, closed, tasked, subst (λ (xs : List Asking). CheckRun key xs answer) (sym pairs) run))
+
+    lost_fits : (why : Option Why) (answer : Answer) → check_answer (lost_as why) ≡ Some answer → CheckRun key (record { request = None; verdict = lost_verdict why } ∷ []) answer
+    lost_fits None answer says = (tt, inr says)
+    lost_fits (Some why) answer says = (tt, inr says)
+
+    -- it was lost
+    done_lost : (o' : Opening) (journal : List Entry) (verdict : Verdict) (answer : Answer)
+        → IsLost o' claimed journal 0 c 1 verdict → check_answer verdict ≡ Some answer → IsDone key journal answer
+    done_lost o' journal verdict answer l says =
+        let more : List Entry = main_entry (Lost c 1) ∷ [] in
+        let pairs : askings (claimed ++ more) 1 ≡ record { request = None; verdict = lost_verdict (why_of claimed c) } ∷ [] =
+        askings-lost claimed [] 1 0 c idle_now refl ∙ ap (λ (xs : List Asking). xs ++ record { request = None; verdict = lost_verdict (why_of claimed c) } ∷ []) unasked in
+        let jobs : each_of (job_for 1) (claimed ++ more) ≡ [] = each_of-append (job_for 1) claimed more ∙ ap (λ (xs : List (ℕ × ℕ)). xs ++ []) task_jobs in
+        subst (λ (j : List Entry). IsDone key j answer) (sym l.made)
+        (done_later more answer (refl, refl, refl, ap (list_any (λ (q : ℕ × ℕ). is_open (claimed ++ more) q.0 q.1)) jobs, refl,
+        subst (λ (xs : List Asking). CheckRun key xs answer) (sym pairs) (lost_fits (why_of claimed c) answer (ap check_answer (sym l.lost) ∙ says))))
+
+    pub done_asked : (o' : Opening) (journal : List Entry) (verdict : Verdict) (answer : Answer) → is_sent_key key ≡ true → open_jobs journal c ≡ []
+        → HasAsked o' claimed journal 0 c 1 question verdict → check_answer verdict ≡ Some answer → IsDone key journal answer
+    done_asked o' journal verdict answer sent idle (inl s) says = done_settled o' journal verdict answer sent idle s says
+    done_asked o' journal verdict answer sent idle (inr l) says = done_lost o' journal verdict answer l says
+
+    -- this came of asking, or of want of memory
+    pub done_answer : (o' : Opening) (mid journal : List Entry) (answer : Answer) → is_sent_key key ≡ true → open_jobs past c ≡ [] → mid ≡ claimed
+        → AsksFor o' mid journal c key answer → IsDone key journal answer × (open_jobs journal c ≡ [])
+    done_answer o' mid journal answer sent idle e h = go (subst (λ (j : List Entry). AsksFor o' j journal c key answer) e h)
+      where
+        go : AsksFor o' claimed journal c key answer → IsDone key journal answer × (open_jobs journal c ≡ [])
+        go (inl a) =
+            let none : open_jobs journal c ≡ [] = idle_asked o' claimed journal 0 c 1 question a.0 (idle_child idle) a.1 in
+            (done_asked o' journal a.0 answer sent none a.1 a.2, none)
+        go (inr m) =
+            (subst (λ (x : Answer). IsDone key journal x) (sym m.1) (done_unasked journal m.0),
+            ap (λ (j : List Entry). open_jobs j c) m.0 ∙ idle_child idle)
+
+-- ---- the two ways of a claim
+
+pub then_claimed : (past journal : List Entry) (c d : ℕ) (b : Bool) → journal ≡ cond b (past ++ main_entry (Claim 1 d) ∷ []) past → b ≡ true → d ≡ c
+    → journal ≡ past ++ main_entry (Claim 1 c) ∷ []
+then_claimed past journal c d b h e same_child =
+    h ∙ ap (λ (x : Bool). cond x (past ++ main_entry (Claim 1 d) ∷ []) past) e ∙ ap (λ (k : ℕ). past ++ main_entry (Claim 1 k) ∷ []) same_child
+
+pub else_same : (past journal : List Entry) (d : ℕ) (b : Bool) → journal ≡ cond b (past ++ main_entry (Claim 1 d) ∷ []) past → b ≡ false → journal ≡ past
+else_same past journal d b h e = h ∙ ap (λ (x : Bool). cond x (past ++ main_entry (Claim 1 d) ∷ []) past) e

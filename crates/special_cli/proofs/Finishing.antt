@@ -1,0 +1,144 @@
+-- From a task that is done to the end of the run.
+use Rattle.std.proofs.Common.{◌≡◌, ◌⊎◌, ℕ, zero, suc, List, [], ◌∷◌, ◌++◌, refl, sym, ap, subst, ◌∙◌, append_assoc, Bool, true, false, not, ◌==◌, cond, Some, None, Option, inl, inr}
+use Rattle.std.specs.Prelude.{◌&&◌, ◌||◌, filter_map, option_and_then}
+use Rattle.std.specs.List.{list_all, list_any, cons_option}
+use Rattle.std.proofs.lemmas.List.Folds.{list_any-append}
+use Rattle.annex_model.specs.declared.verdict.Why.TheVariants.{Closed}
+use Rattle.journal_model.specs.declared.answer.Answer.{Answer}
+use Rattle.journal_model.specs.declared.answer.Answer.TheVariants.{Memory}
+use Rattle.journal_model.specs.declared.entry.What.{What}
+use Rattle.journal_model.specs.declared.entry.What.TheVariants.{Claim, Start, Answer as Answered}
+use Rattle.journal_model.specs.declared.entry.Entry.{Entry}
+use Rattle.journal_model.specs.Output.{answer_in, answers_in}
+use Rattle.journal_model.specs.Journal.{any, each_of, starts, is_started, open_jobs}
+use Rattle.journal_model.specs.Legality.{answers, claimed_for, is_claimed, is_claimed_by, is_busy, has_busy_task, has_open_job, is_empty, may_stop}
+use Rattle.journal_model.proofs.Looks.{same, each_of-append, any-append}
+use Rattle.journal_model.proofs.Linking.{linked_apart, Adds}
+use Rattle.journal_model.proofs.Heard.{heard_on}
+use Rattle.host_core.specs.Steps.{may_answer}
+use Rattle.task_run.specs.TaskRuns.{Asking, askings, ChildZero, CheckOver, CheckRun, CheckTask}
+use Rattle.task_run.proofs.Askings.{asks_for, askings-unasked}
+use Rattle.child_link.specs.Doors.{is_of_link}
+use Rattle.child_link.specs.Links.{LinkValue, IsLinked}
+use Rattle.child_start.specs.Greetings.{Greeted}
+use Rattle.child_start.proofs.Jobs.{idle_on}
+use Rattle.special_cli.specs.Endings.{start_in, is_for_task}
+use Rattle.special_cli.specs.Runs.{main_entry, claim_in, IsDone, IsRun}
+use Rattle.special_cli.proofs.Looking.{holds_in, link_says_none, through, any_through, all_both, all_weaken, any_none}
+use Rattle.special_cli.proofs.Beginning.{no_starts, no_claims, no_answers, link_for_task, link_asks_none, claimed_by_list, first_claim}
+
+or_true : (b : Bool) → (b || true) ≡ true
+or_true true = refl
+or_true false = refl
+
+answers_is : (w : What) → answers 1 w ≡ holds_in (λ (p : ℕ × Answer). p.0 == 1) (answer_in w)
+answers_is (Answered task answer) = refl
+answers_is w = refl
+
+answered_by_list : (journal : List Entry) → any (answers 1) journal ≡ list_any (λ (p : ℕ × Answer). p.0 == 1) (answers_in journal)
+answered_by_list journal = any_through (answers 1) answer_in (λ (p : ℕ × Answer). p.0 == 1) answers_is journal
+
+-- the answer may be given
+pub may_give : (key : List ℕ) (journal : List Entry) (answer : Answer) → IsDone key journal answer → may_answer journal 0 1 ≡ true
+may_give key journal answer d =
+    let claimed : is_claimed journal 1 ≡ true = claimed_by_list journal ∙ ap (list_any (λ (p : ℕ × ℕ). p.0 == 1)) d.claims in
+    let open_still : any (answers 1) journal ≡ false = answered_by_list journal ∙ ap (list_any (λ (p : ℕ × Answer). p.0 == 1)) d.silent in
+    rw (d.own, claimed, open_still, d.idle) refl
+
+-- ---- the child is to be closed
+
+abbrev task_for : ℕ → ℕ × ℕ → Option ℕ
+task_for c p = cond (p.1 == c) (Some p.0) None
+
+claimed_for_is : (c : ℕ) (w : What) → claimed_for c w ≡ option_and_then (task_for c) (claim_in w)
+claimed_for_is c (Claim task child) = refl
+claimed_for_is c w = refl
+
+module _ (key : List ℕ) (past journal : List Entry) (answer : Answer) (d : IsDone key past answer) (grown : journal ≡ past ++ main_entry (Answered 1 answer) ∷ []) where
+  abbrev all : List Entry
+  all = past ++ main_entry (Answered 1 answer) ∷ []
+
+  over : is_busy all 1 ≡ false
+  over =
+      let done : any (answers 1) all ≡ true = any-append (answers 1) past (main_entry (Answered 1 answer) ∷ []) ∙ or_true (any (answers 1) past) in
+      go (is_claimed all 1) done
+    where
+      go : (b : Bool) → any (answers 1) all ≡ true → (b && not (any (answers 1) all)) ≡ false
+      go true e = rw e refl
+      go false e = refl
+
+  none_busy : (c : ℕ) → has_busy_task all c ≡ false
+  none_busy c =
+      let claims : each_of claim_in all ≡ (1, d.child) ∷ [] = each_of-append claim_in past (main_entry (Answered 1 answer) ∷ []) ∙ ap (λ (xs : List (ℕ × ℕ)). xs ++ []) d.claims in
+      ap (list_any (is_busy all)) (through (claimed_for c) claim_in (task_for c) (claimed_for_is c) all ∙ ap (filter_map (task_for c)) claims) ∙ go (d.child == c)
+    where
+      go : (b : Bool) → list_any (is_busy all) (cons_option (cond {A = Option ℕ} b (Some 1) None) []) ≡ false
+      go true = rw over refl
+      go false = refl
+
+  pub may_close : (c : ℕ) → open_jobs past c ≡ [] → may_stop journal c Closed ≡ true
+  may_close c idle =
+      let none : open_jobs all c ≡ [] = idle_on past (main_entry (Answered 1 answer) ∷ []) c refl idle in
+      ap (λ (j : List Entry). may_stop j c Closed) grown ∙ (rw (none, none_busy c) refl)
+
+  pub started_still : (c : ℕ) → is_started past c ≡ true → is_started journal c ≡ true
+  started_still c h =
+      ap (λ (j : List Entry). is_started j c) grown ∙ any-append (starts c) past (main_entry (Answered 1 answer) ∷ []) ∙ ap (λ (b : Bool). b || false) h
+
+-- ---- the run is over
+
+over_grows : (key : List ℕ) (past more : List Entry) (answer : Answer) (child : ℕ) → has_open_job past 1 ≡ false → any (asks_for 1) more ≡ false
+    → CheckOver key past 1 answer (Some child) → CheckOver key (past ++ more) 1 answer (Some child)
+over_grows key past more answer zero idle none h = (askings-unasked past more 1 idle none ∙ h.0, go h.1)
+  where
+    go : (answer ≡ Memory) ⊎ ChildZero past 1 answer → (answer ≡ Memory) ⊎ ChildZero (past ++ more) 1 answer
+    go (inl e) = inl e
+    go (inr z) = inr record {
+      past = z.past;
+      rest = z.rest ++ more;
+      by = z.by;
+      claim = ap (λ (j : List Entry). j ++ more) z.claim ∙ append_assoc z.past (record { by = z.by; what = Claim 1 0 } ∷ z.rest) more;
+      why = z.why;
+    }
+over_grows key past more answer (suc child) idle none h = subst (λ (xs : List Asking). CheckRun key xs answer) (sym (askings-unasked past more 1 idle none)) h
+
+-- behind the answer stands what the child's link does alone
+pub run_done : (key : List ℕ) (past more journal : List Entry) (answer : Answer) → IsDone key past answer → journal ≡ past ++ main_entry (Answered 1 answer) ∷ more
+    → list_all (λ (e : Entry). is_of_link e.what) more ≡ true → IsRun key journal answer
+run_done key past more journal answer d grown quiet =
+    let rest : List Entry = main_entry (Answered 1 answer) ∷ more in
+    let none : any (asks_for 1) more ≡ false = any_none is_of_link (asks_for 1) link_asks_none more quiet in
+    let claims : each_of claim_in (past ++ rest) ≡ (1, d.child) ∷ [] = each_of-append claim_in past rest ∙ (rw (d.claims, link_says_none claim_in no_claims more quiet) refl) in
+    let before : CheckOver key past 1 answer (Some d.child) = subst (CheckOver key past 1 answer) (first_claim past d.child d.claims) d.run in
+    let after : CheckOver key (past ++ rest) 1 answer (Some d.child) = over_grows key past rest answer d.child d.idle none before in
+    subst (λ (j : List Entry). IsRun key j answer) (sym grown) record {
+      first = d.first;
+      is_start = d.is_start;
+      starts = each_of-append start_in past rest ∙ (rw (d.starts, link_says_none start_in no_starts more quiet) refl);
+      claims = (d.child, claims);
+      given = each_of-append answer_in past rest ∙ (rw (d.silent, link_says_none answer_in no_answers more quiet) refl);
+      run = subst (CheckOver key (past ++ rest) 1 answer) (sym (first_claim (past ++ rest) d.child claims)) after;
+      tasked = all_both is_for_task past rest d.tasked (all_weaken is_of_link is_for_task link_for_task more quiet);
+    }
+
+-- ---- links
+
+-- an entry that says nothing of children leaves each link linked
+module _ {I O : Type 0} (taken : I → Option (List ℕ)) (wf : I → ℕ) (given left : O → Option (List ℕ)) (rf : O → ℕ) (past journal : List Entry) (link : LinkValue I O) where
+  pub links_claim : (task child : ℕ) → journal ≡ past ++ main_entry (Claim task child) ∷ [] → IsLinked taken wf given left rf past link → IsLinked taken wf given left rf journal link
+  links_claim task child e h =
+      subst (λ (j : List Entry). IsLinked taken wf given left rf j link) (sym e)
+      (linked_apart past (main_entry (Claim task child) ∷ []) link.child (given link.outlet) (left link.outlet) (taken link.inlet) (rf link.outlet) (wf link.inlet) link.held
+      record { got = refl; written = refl; covers = refl; mutes = refl; ends = refl } h.0,
+      heard_on link.child past (main_entry (Claim task child) ∷ []) refl h.1)
+
+  pub links_answer : (task : ℕ) (answer : Answer) → journal ≡ past ++ main_entry (Answered task answer) ∷ [] → IsLinked taken wf given left rf past link → IsLinked taken wf given left rf journal link
+  links_answer task answer e h =
+      subst (λ (j : List Entry). IsLinked taken wf given left rf j link) (sym e)
+      (linked_apart past (main_entry (Answered task answer) ∷ []) link.child (given link.outlet) (left link.outlet) (taken link.inlet) (rf link.outlet) (wf link.inlet) link.held
+      record { got = refl; written = refl; covers = refl; mutes = refl; ends = refl } h.0,
+      heard_on link.child past (main_entry (Answered task answer) ∷ []) refl h.1)
+
+-- the first child was started
+pub greeted_started : (journal : List Entry) (c : ℕ) → Greeted [] journal 0 false c → is_started journal c ≡ true
+greeted_started journal c g = ap (λ (j : List Entry). is_started j c) g.grown ∙ (rw (same c) refl)

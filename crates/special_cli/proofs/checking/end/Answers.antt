@@ -1,0 +1,24 @@
+use Rattle.std.proofs.Common.{◌≡◌, ◌∙◌, List, [], ◌∷◌, ◌++◌, ap, append_assoc}
+use Rattle.journal_model.specs.declared.entry.Entry.{Entry}
+use Rattle.journal_model.specs.declared.entry.What.TheVariants.{Answer as Answered}
+use Rattle.special_cli.specs.Runs.{main_entry}
+use Rattle.special_cli.proofs.Finishing.{may_give, may_close, started_still, run_done, links_answer}
+use Rattle.special_cli.proofs.checking.end.Goals as goal
+
+pub give-requires : goal.give-requires
+give-requires g c = record { may = may_give c.requires.done.0 c.args.core.now.journal c.args.answer c.requires.done.1 }
+
+pub close-requires-clause-idle : goal.close-requires-clause-idle
+close-requires-clause-idle g c =
+    may_close c.requires.done.0 c.args.core.now.journal c.give.new.core.journal c.args.answer c.requires.done.1 c.give.ensures.given c.args.link.now.child c.requires.idle
+
+pub returns-clause-run : goal.returns-clause-run
+returns-clause-run g c = λ key done.
+    run_done key c.args.core.now.journal c.close.ensures.goes.more c.close.new.core.journal c.args.answer done
+    (c.close.ensures.goes.is ∙ ap (λ (j : List Entry). j ++ c.close.ensures.goes.more) c.give.ensures.given
+    ∙ append_assoc c.args.core.now.journal (main_entry (Answered 1 c.args.answer) ∷ []) c.close.ensures.goes.more)
+    c.close.ensures.goes.quiet
+
+pub returns-clause-linked : goal.returns-clause-linked
+returns-clause-linked g c = λ before.
+    c.close.ensures.linked (links_answer g.I.Sink.taken g.I.Sink.faults g.O.Source.given g.O.Source.left g.O.Source.faults c.args.core.now.journal c.give.new.core.journal c.args.link.now 1 c.args.answer c.give.ensures.given before)
