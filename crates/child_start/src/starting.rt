@@ -1,8 +1,8 @@
-ghost use Rattle.std.specs.Prelude.{◌≡◌, ◌≤◌, ◌<◌, ◌+◌, ◌++◌, ◌∷◌, [], true, MatchOption, MatchResult};
+ghost use Rattle.std.specs.Prelude.{◌≡◌, ◌≤◌, ◌<◌, ◌+◌, ◌++◌, ◌∷◌, [], true, Some, MatchOption, MatchResult};
 ghost use Rattle.ann_outside.specs.Causes.{Rose, Stays};
 ghost use Rattle.journal_model.specs.declared.entry.What.TheVariants.{Start, NoStart};
 ghost use Rattle.journal_model.specs.Journal.{is_started, open_jobs};
-ghost use Rattle.journal_model.specs.Legality.{Legal, count, is_start};
+ghost use Rattle.journal_model.specs.Legality.{Legal, count, is_start, is_done};
 ghost use Rattle.talk_serial.specs.Requests.{message_of};
 ghost use Rattle.host_core.specs.Steps.{may_request};
 ghost use Rattle.child_link.specs.Links.{IsLinked};
@@ -23,6 +23,15 @@ enum Came {
     Prepared,
     Over(Why),
     Mute,
+}
+
+fn is_done(verdict: Verdict) -> bool
+    ensures { result ≡ is_done (Some verdict) }
+{
+    match verdict {
+        Verdict::Done { .. } => true,
+        _ => false,
+    }
 }
 
 // Asks one request of the greeting. True where it is done; else the child has ended or is mute. Where no memory was found to
@@ -51,8 +60,7 @@ fn ask_one<I: Sink, O: Source, D: Door>(
     ensures loans { D.loans door.new ≡ D.loans door.old }
 {
     match link.ask(door, 0, request) {
-        Ok(Verdict::Done { .. }) => true,
-        Ok(_) => false,
+        Ok(verdict) => is_done(verdict),
         Err(NoMemory) => {
             link.give_up(door);
             false
