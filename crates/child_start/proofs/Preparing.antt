@@ -16,7 +16,7 @@ use Rattle.child_link.proofs.Turning.{started_after}
 use Rattle.child_start.specs.Greetings.{IsReady, HasEnded, IsUnsent}
 use Rattle.child_start.specs.Stages.{HasBegun, MayAsk, GreetsOn, IsDoneNext, IsGoneNext, AsksNext, Prepares}
 use Rattle.child_start.proofs.Jobs.{goes_jobs, goes_names, verdict_settled}
-use Rattle.child_start.proofs.Requests.{undone_later}
+use Rattle.child_start.proofs.Requests.{undone_later, greets_goes, greets_both}
 
 all_three : (a b c : Bool) → a ≡ true → b ≡ true → c ≡ true → (a && b && c) ≡ true
 all_three a b c h k l = rw (h, k, l) refl
@@ -98,14 +98,16 @@ ended_first o old new c offer why legal h g is =
     let none : length (asked_jobs new c) ≡ 0 = ap length (goes_jobs old new c g ∙ h.jobs) in
     record { unprepared = undone_later o new c 1 legal (omega (arith, none)); ended = sym is }
 
-pub ended_told : (journal : List Entry) (c : ℕ) (why : Why) → Prepares journal c false → Some why ≡ why_of journal c → HasEnded journal c why
-ended_told journal c why p is = record { unprepared = p.0; ended = sym is }
+-- the child ended, by its number and the journal under other names
+pub ended_told : (journal last : List Entry) (c k : ℕ) (why : Why) → last ≡ journal → k ≡ c → Prepares journal c false → Some why ≡ why_of journal k → HasEnded last c why
+ended_told journal last c k why l e p is =
+    subst (λ (x : List Entry). HasEnded x c why) (sym l) (record { unprepared = p.0; ended = ap (why_of journal) (sym e) ∙ sym is })
 
 -- a child that is gone and has not ended is mute
-pub unsent_told : (journal : List Entry) (c : ℕ) → Prepares journal c false → None ≡ why_of journal c → IsUnsent journal c
-unsent_told journal c p is =
-    let live : is_ended journal c ≡ false = sym (why_is_end journal c) ∙ ap is_some (sym is) in
-    record { unprepared = p.0; live = live; mute = sym (ap (λ (b : Bool). b || is_mute journal c) live) ∙ p.1 }
+pub unsent_told : (journal last : List Entry) (c k : ℕ) → last ≡ journal → k ≡ c → Prepares journal c false → None ≡ why_of journal k → IsUnsent last c
+unsent_told journal last c k l e p is =
+    let live : is_ended journal c ≡ false = sym (why_is_end journal c) ∙ ap is_some (sym (is ∙ ap (why_of journal) e)) in
+    subst (λ (x : List Entry). IsUnsent x c) (sym l) (record { unprepared = p.0; live = live; mute = sym (ap (λ (b : Bool). b || is_mute journal c) live) ∙ p.1 })
 
 -- what was prepared or not, by the child's number under another name
 pub prepares_as : (journal : List Entry) (c d : ℕ) (b r : Bool) → d ≡ c → r ≡ b → Prepares journal d r → Prepares journal c b
@@ -113,3 +115,9 @@ prepares_as journal c d b r e f p = subst (λ (x : Bool). Prepares journal c x) 
 
 pub greets_as : (old new : List Entry) (c d : ℕ) → d ≡ c → GreetsOn old new d → GreetsOn old new c
 greets_as old new c d e g = subst (λ (k : ℕ). GreetsOn old new k) e g
+
+-- behind the version stands the rest of the greeting
+pub greets_heard : (old mid new last : List Entry) (c d : ℕ) (offer : Bool) → d ≡ c → HasBegun old c offer → GoesOn old mid → GreetsOn mid new d → last ≡ new → GreetsOn old last c
+greets_heard old mid new last c d offer e h g more l =
+    subst (λ (x : List Entry). GreetsOn old x c) (sym l)
+    (greets_both old mid new c (greets_goes old mid c g (unasked_idle old c h.jobs)) (greets_as mid new c d e more))
