@@ -1,20 +1,18 @@
 -- A child that was started just now has begun: it has said nothing and was asked nothing, and its link is a link to it.
-use Rattle.std.proofs.Common.{◌≡◌, ◌≢◌, ℕ, ◌+◌, ◌<◌, ◌≤◌, List, [], ◌∷◌, ◌++◌, refl, sym, ap, subst, ◌∙◌, length, length-append, append-nil, arith, Bool, true, false, ◌==◌, cond, Some, None, Option}
-use Rattle.std.specs.Prelude.{◌&&◌, ◌||◌, map, filter, codes, IfSome}
+use Rattle.std.proofs.Common.{◌≡◌, ◌≢◌, ℕ, ◌+◌, ◌<◌, List, [], ◌∷◌, ◌++◌, refl, sym, ap, subst, ◌∙◌, length, length-append, append-nil, arith, Bool, true, false, ◌==◌, cond, Some, None, Option}
+use Rattle.std.specs.Prelude.{◌&&◌, ◌||◌, filter, codes, IfSome}
 use Rattle.std.specs.List.{list_all, cons_option}
 use Rattle.std.proofs.lemmas.List.Elements.{filter-append}
-use Rattle.std.proofs.lemmas.Bool.Decides.{nat_tests}
-use Rattle.annex_model.specs.declared.verdict.Why.{Why}
 use Rattle.annex_model.specs.declared.verdict.Verdict.TheVariants.{Ended}
 use Rattle.journal_model.specs.declared.entry.What.{What}
-use Rattle.journal_model.specs.declared.entry.What.TheVariants.{Claim, Start, NoStart, Ask, Put, Sent, Mute, Got, End, Verdict as Settled, Lost, Answer as Answered}
+use Rattle.journal_model.specs.declared.entry.What.TheVariants.{Start, Mute, Got, End}
 use Rattle.journal_model.specs.declared.entry.Entry.{Entry}
 use Rattle.journal_model.specs.declared.opening.Opening.{Opening}
-use Rattle.journal_model.specs.Journal.{any, starts, offers, got_from, line_from, is_started, has_spoken, got_lines, asked_jobs, open_jobs}
+use Rattle.journal_model.specs.Journal.{any, starts, offers, got_from, line_from, is_started, has_spoken, got_lines, open_jobs}
 use Rattle.journal_model.specs.Due.{due_by, due_by_got, due_after, made_by}
-use Rattle.journal_model.specs.Legality.{Legal, StandsFrom, MayStand, still_owed, owed_from, owed_after, may_come, count, is_start, offered_names}
-use Rattle.journal_model.proofs.Growing.{Legal-induction, StandsFrom-split, owed_from-append}
-use Rattle.journal_model.proofs.Looks.{entry, both, same, same_number, differ, any-append, each_of-append, either_left, either_right}
+use Rattle.journal_model.specs.Legality.{Legal, MayStand, owed_from, owed_after, may_come, count, is_start}
+use Rattle.journal_model.proofs.Growing.{Legal-induction, StandsFrom-split}
+use Rattle.journal_model.proofs.Looks.{entry, both, same, same_number, differ, any-append, each_of-append}
 use Rattle.journal_model.proofs.Soft.{is_soft, soft_got, soft_mute, soft_verdicts}
 use Rattle.journal_model.proofs.Fresh.{Nothing, fresh}
 use Rattle.journal_model.proofs.Linking.{linked_start}
@@ -23,6 +21,7 @@ use Rattle.journal_model.proofs.Projecting.{invariant}
 use Rattle.talk_serial.specs.Requests.{names_of}
 use Rattle.child_link.specs.Links.{LinkValue, IsLinked}
 use Rattle.child_start.specs.Stages.{HasBegun}
+use Rattle.child_start.proofs.Jobs.{or_true, or_false}
 
 -- ---- what is due is no start
 
@@ -130,14 +129,6 @@ unstarted_offers (e ∷ past) c h = step e.what h (unstarted_offers past c)
         go false h = r h
     step w h r = r h
 
-or_true : (b : Bool) → (b || true) ≡ true
-or_true true = refl
-or_true false = refl
-
-or_false : (b : Bool) → (b || false) ≡ b
-or_false true = refl
-or_false false = refl
-
 names_told : (b : Bool) → cond b (codes "INFO GETGITREMOTENAME ASYNC") (codes "INFO GETGITREMOTENAME") ≡ names_of b
 names_told true = refl
 names_told false = refl
@@ -189,8 +180,7 @@ module _ (o : Opening) (old new : List Entry) (c slot : ℕ) (offer : Bool) (num
         named : LinkValue I O
         named = record { child = c; inlet = link.inlet; outlet = link.outlet; held = [] }
 
-        make : ℕ → List ℕ → LinkValue I O
-        make k bytes = record { child = k; inlet = link.inlet; outlet = link.outlet; held = bytes }
-
         whole : link ≡ named
-        whole = unfold make in ap (λ (k : ℕ). make k link.held) child ∙ ap (make c) held
+        whole =
+            let make : ℕ → List ℕ → LinkValue I O = λ k bytes. record { child = k; inlet = link.inlet; outlet = link.outlet; held = bytes } in
+            ap (λ (k : ℕ). make k link.held) child ∙ ap (make c) held

@@ -1,5 +1,5 @@
 -- What a child's jobs are as the journal grows by its link's entries, or by one request.
-use Rattle.std.proofs.Common.{◌≡◌, ℕ, List, [], ◌∷◌, ◌++◌, refl, sym, ap, subst, ◌∙◌, append-nil, Bool, true, false, not, ◌==◌, cond, Some, None, Option, ◌⊎◌, inl, inr}
+use Rattle.std.proofs.Common.{◌≡◌, ℕ, List, [], ◌∷◌, ◌++◌, refl, sym, ap, ◌∙◌, append-nil, Bool, true, false, not, ◌==◌, cond, Some, None, ◌⊎◌, inl, inr}
 use Rattle.std.specs.Prelude.{◌||◌, filter, codes}
 use Rattle.std.specs.List.{list_all, cons_option}
 use Rattle.std.proofs.lemmas.List.Elements.{filter-append}
@@ -44,14 +44,18 @@ goes_jobs old new c g =
     ap (λ (x : List Entry). asked_jobs x c) g.is ∙ each_of-append (asks c) old g.more
     ∙ ap (λ (ks : List ℕ). asked_jobs old c ++ ks) (link_asks_none c g.more g.quiet) ∙ append-nil (asked_jobs old c)
 
-or_false : (b : Bool) → (b || false) ≡ b
+pub or_true : (b : Bool) → (b || true) ≡ true
+or_true true = refl
+or_true false = refl
+
+pub or_false : (b : Bool) → (b || false) ≡ b
 or_false true = refl
 or_false false = refl
 
 pub goes_names : (old new : List Entry) (c : ℕ) → GoesOn old new → offered_names new c ≡ offered_names old c
 goes_names old new c g =
     ap (λ (b : Bool). cond b (codes "INFO GETGITREMOTENAME ASYNC") (codes "INFO GETGITREMOTENAME")) (
-      ap (any (offers c)) g.is ∙ any-append (offers c) old g.more ∙ ap (λ (b : Bool). any (offers c) old || b) (link_offers_none c g.more g.quiet) ∙ or_false (any (offers c) old)
+    ap (any (offers c)) g.is ∙ any-append (offers c) old g.more ∙ ap (λ (b : Bool). any (offers c) old || b) (link_offers_none c g.more g.quiet) ∙ or_false (any (offers c) old)
     )
 
 -- ---- settled jobs

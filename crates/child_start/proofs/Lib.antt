@@ -2,3 +2,4 @@ pub mod Begun
 pub mod Jobs
 pub mod Preparing
 pub mod Requests
+pub mod Telling

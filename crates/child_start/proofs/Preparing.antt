@@ -1,6 +1,6 @@
 -- From a child's version over its extensions to its being prepared, or to its end.
-use Rattle.std.proofs.Common.{◌≡◌, ℕ, ◌+◌, ◌≤◌, List, [], ◌∷◌, ◌++◌, refl, sym, ap, subst, ◌∙◌, length, arith, Bool, true, false, not, ◌==◌, Some, None, Option, ◌⊎◌, inl, inr}
-use Rattle.std.specs.Prelude.{◌&&◌, ◌||◌, filter, is_some, IsTrue, IsFalse}
+use Rattle.std.proofs.Common.{◌≡◌, ℕ, ◌≤◌, List, [], ◌∷◌, ◌++◌, refl, sym, ap, subst, ◌∙◌, length, arith, Bool, true, false, not, ◌==◌, Some, None, Option, ◌⊎◌, inl, inr}
+use Rattle.std.specs.Prelude.{◌&&◌, ◌||◌, filter, is_some}
 use Rattle.annex_model.specs.declared.verdict.Why.{Why}
 use Rattle.annex_model.specs.declared.verdict.Verdict.{Verdict}
 use Rattle.annex_model.specs.Messages.{Prepare}
@@ -10,20 +10,16 @@ use Rattle.journal_model.specs.Journal.{starts, is_started, is_ended, is_mute, i
 use Rattle.journal_model.specs.Legality.{Legal, is_done, is_empty, is_greeted, is_in_turn, may_ask, may_work, said_version, offered_names}
 use Rattle.journal_model.proofs.Looks.{any-append}
 use Rattle.journal_model.proofs.Linking.{why_is_end}
-use Rattle.host_core.specs.Steps.{is_gone, next_job, may_request}
+use Rattle.host_core.specs.Steps.{next_job, may_request}
 use Rattle.child_link.specs.Doors.{GoesOn}
 use Rattle.child_link.proofs.Turning.{started_after}
-use Rattle.child_start.specs.Greetings.{IsReady, HasEnded, IsUnsent}
+use Rattle.child_start.specs.Greetings.{HasEnded, IsUnsent}
 use Rattle.child_start.specs.Stages.{HasBegun, MayAsk, GreetsOn, IsDoneNext, IsGoneNext, AsksNext, Prepares}
-use Rattle.child_start.proofs.Jobs.{goes_jobs, goes_names, verdict_settled}
+use Rattle.child_start.proofs.Jobs.{goes_jobs, goes_names, verdict_settled, or_true}
 use Rattle.child_start.proofs.Requests.{undone_later, greets_goes, greets_both}
 
 all_three : (a b c : Bool) → a ≡ true → b ≡ true → c ≡ true → (a && b && c) ≡ true
 all_three a b c h k l = rw (h, k, l) refl
-
-or_true : (b : Bool) → (b || true) ≡ true
-or_true true = refl
-or_true false = refl
 
 pub greets_started : (old new : List Entry) (c d : ℕ) → d ≡ c → GreetsOn old new c → is_started old c ≡ true → is_started new d ≡ true
 greets_started old new c d e g a =

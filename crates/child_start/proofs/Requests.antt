@@ -1,10 +1,10 @@
 -- What one request of a greeting leaves, whether it is done or not.
-use Rattle.std.proofs.Common.{◌≡◌, ℕ, ◌≤◌, List, [], ◌∷◌, ◌++◌, refl, sym, ap, subst, ◌∙◌, append_assoc, length, arith, Bool, true, false, ◌==◌, Some, None, Option, inl, inr}
+use Rattle.std.proofs.Common.{◌≡◌, ℕ, ◌≤◌, List, [], ◌∷◌, ◌++◌, refl, ap, ◌∙◌, append_assoc, length, arith, Bool, true, false, ◌==◌, Some, None, Option, inl, inr}
 use Rattle.std.specs.Prelude.{◌&&◌, ◌||◌, nat_lt, bytes_eq}
 use Rattle.std.specs.List.{list_all}
 use Rattle.std.proofs.lemmas.List.Folds.{list_all-append}
 use Rattle.annex_model.specs.declared.verdict.Why.{Why}
-use Rattle.annex_model.specs.declared.verdict.Final.TheVariants.{Done, Absent}
+use Rattle.annex_model.specs.declared.verdict.Final.TheVariants.{Absent}
 use Rattle.annex_model.specs.declared.verdict.Verdict.{Verdict}
 use Rattle.annex_model.specs.declared.verdict.Verdict.TheVariants.{Done as DoneAt, Absent as AbsentAt, Ended, Unsent}
 use Rattle.annex_model.specs.Messages.{RemoteMessage, Extensions, PrepareSuccess, HostMessage, AskExtensions, Prepare, Checkpresent, host_line}
@@ -16,15 +16,15 @@ use Rattle.journal_model.specs.declared.opening.Opening.{Opening}
 use Rattle.journal_model.specs.Journal.{ends, mutes, is_started, is_ended, is_mute, asked_jobs, open_jobs, verdict_of, on_wire, why_of}
 use Rattle.journal_model.specs.Legality.{Legal, is_done, is_in_turn, may_ask, offered_names}
 use Rattle.journal_model.specs.Projection.{IsNamed}
-use Rattle.journal_model.proofs.Looks.{is_asked, both, same, same_number, any-append}
+use Rattle.journal_model.proofs.Looks.{both, same, same_number, any-append}
 use Rattle.journal_model.proofs.Projecting.{invariant}
 use Rattle.journal_model.proofs.Verdicts.{ended_verdict, unsent_verdict, unasked_none}
 use Rattle.host_core.specs.Steps.{group_of, is_gone, next_job, may_request, is_askable}
 use Rattle.child_link.specs.Doors.{GoesOn, is_of_link}
 use Rattle.child_link.specs.Asks.{HasAsked, IsSettled, IsLost, lost_as}
 use Rattle.child_start.specs.Greetings.{is_of_greeting}
-use Rattle.child_start.specs.Stages.{is_greeting, GreetsOn, IsDoneNext, IsGoneNext, AsksNext}
-use Rattle.child_start.proofs.Jobs.{goes_jobs, goes_idle, jobs_settled, jobs_lost, jobs_asked, idle_asked}
+use Rattle.child_start.specs.Stages.{is_greeting, GreetsOn, IsGoneNext, AsksNext}
+use Rattle.child_start.proofs.Jobs.{goes_jobs, goes_idle, jobs_settled, jobs_lost, idle_asked, or_true}
 
 -- ---- the greeting goes on
 
@@ -87,10 +87,6 @@ greets_asked o old new by c q verdict idle early (inr l) = record {
 }
 
 -- ---- the next job
-
-or_true : (b : Bool) → (b || true) ≡ true
-or_true true = refl
-or_true false = refl
 
 gone_ended : (journal : List Entry) (c : ℕ) → is_ended journal c ≡ true → is_gone journal c ≡ true
 gone_ended journal c h = ap (λ (b : Bool). b || is_mute journal c) h

@@ -219,12 +219,7 @@ fn note_no_start(core: &mut Core, slot: u32) -> Result<(), NoMemory>
 }
 
 // Closes and finishes a child of which nothing could be noted.
-fn discard<P: Programs>(
-    programs: &mut P,
-    inlet: P::Inlet,
-    outlet: P::Outlet,
-    stub: P::Stub,
-)
+fn discard<P: Programs>(programs: &mut P, inlet: P::Inlet, outlet: P::Outlet, stub: P::Stub)
 where
     P::Inlet: Drop,
     P::Outlet: Drop,

@@ -15,7 +15,7 @@ use Rattle.journal_model.specs.declared.entry.What.{What}
 use Rattle.journal_model.specs.declared.entry.What.TheVariants.{Claim, Start, NoStart, Ask, Put, Sent, Mute, Got, End, Verdict as Settled, Lost, Answer as Answered}
 use Rattle.journal_model.specs.declared.entry.Entry.{Entry}
 use Rattle.journal_model.specs.declared.opening.Opening.{Opening}
-use Rattle.journal_model.specs.Journal.{first_of, verdict_in, verdict_of, ends, mutes, is_ended, is_mute, is_live, is_open, is_unsent, open_jobs, has_spoken, addressed}
+use Rattle.journal_model.specs.Journal.{first_of, verdict_of, ends, mutes, is_ended, is_mute, is_live, is_open, is_unsent, open_jobs, has_spoken, addressed}
 use Rattle.journal_model.specs.Parts.{part}
 use Rattle.journal_model.specs.Due.{Hearing, Aside, Part, Settles, Strange, hearing, verdict_at, ending, foul, due_by_got, due_after, after_hearing, after_message, after_line, is_version_one, made_by, replies_at}
 use Rattle.journal_model.specs.Legality.{Legal, may_come}

@@ -1,5 +1,5 @@
-use Rattle.std.proofs.Common.{◌≡◌, sym, ap, subst, ◌∙◌, Bool, ℕ, List, false, true}
-use Rattle.child_start.specs.Stages.{AsksNext, IsDoneNext, IsGoneNext}
+use Rattle.std.proofs.Common.{subst, ◌∙◌, Bool, ℕ}
+use Rattle.child_start.specs.Stages.{AsksNext}
 use Rattle.child_start.proofs.Requests.{greets_both}
 use Rattle.child_start.proofs.Preparing.{unprepared_first, may_prepare, prepared_second, greets_as}
 use Rattle.child_start.proofs.starting.ask_both.Goals as goal
