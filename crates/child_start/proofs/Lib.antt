@@ -1,0 +1,5 @@
+pub mod Begun
+pub mod Jobs
+pub mod Preparing
+pub mod Requests
+pub mod Telling

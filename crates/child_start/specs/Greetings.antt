@@ -3,7 +3,7 @@
 use Rattle.std.specs.Prelude.{ℕ, ◌≡◌, ◌⊎◌, ◌+◌, ◌==◌, ◌&&◌, nat_lt, Bool, true, false, List, [], ◌∷◌, ◌++◌, Option, Some}
 use Rattle.std.specs.List.{list_all}
 use Rattle.ann_outside.specs.Starts.{Starts, IsNumbered}
-use Rattle.ann_outside.specs.Causes.{AddsOne, Stays, Rose}
+use Rattle.ann_outside.specs.Causes.{AddsOne, Stays}
 use Rattle.annex_model.specs.declared.verdict.Why.{Why}
 use Rattle.journal_model.specs.declared.entry.What.{What}
 use Rattle.journal_model.specs.declared.entry.What.TheVariants.{Start, NoStart, Ask, Lost}
@@ -11,7 +11,7 @@ use Rattle.journal_model.specs.declared.entry.Entry.{Entry}
 use Rattle.journal_model.specs.Journal.{is_ended, is_mute, is_tagged, why_of, asked_jobs, open_jobs}
 use Rattle.journal_model.specs.Legality.{count, is_start, is_prepared}
 use Rattle.child_link.specs.Doors.{is_of_link}
-use Rattle.child_link.specs.Links.{LinkValue, IsLinked}
+use Rattle.child_link.specs.Links.{LinkValue}
 use Rattle.child_start.specs.declared.greeting.Greeting.{Greeting}
 use Rattle.child_start.specs.declared.greeting.Greeting.TheVariants.{Ready, Ended, Unsent, StartFault, NoMemory}
 

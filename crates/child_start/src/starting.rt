@@ -1,13 +1,239 @@
-ghost use Rattle.std.specs.Prelude.{◌≡◌, ◌≤◌, ◌<◌};
-ghost use Rattle.ann_outside.specs.Causes.{Rose};
-ghost use Rattle.journal_model.specs.Legality.{Legal, count, is_start};
+ghost use Rattle.std.specs.Prelude.{◌≡◌, ◌≤◌, ◌<◌, ◌+◌, ◌++◌, ◌∷◌, [], true, Some, MatchOption, MatchResult};
+ghost use Rattle.ann_outside.specs.Causes.{Rose, Stays};
+ghost use Rattle.journal_model.specs.declared.entry.What.TheVariants.{Start, NoStart};
+ghost use Rattle.journal_model.specs.Journal.{is_started, open_jobs};
+ghost use Rattle.journal_model.specs.Legality.{Legal, count, is_start, is_done};
+ghost use Rattle.talk_serial.specs.Requests.{message_of};
+ghost use Rattle.host_core.specs.Steps.{may_request};
 ghost use Rattle.child_link.specs.Links.{IsLinked};
 ghost use Rattle.child_start.specs.Greetings.{Tells, Has, StartsOnce, AreNumbered};
+ghost use Rattle.child_start.specs.Stages.{child_of, is_greeting, HasBegun, MayAsk, GreetsOn, AsksNext, Prepares, ComesTo, TellsOf, AreSameNumbers};
 
 use crate::greeting::{Greeting, Mode};
-use ann_outside::{Programs, Sink, Source};
-use host_core::Core;
+use ann_key::NoMemory;
+use ann_outside::{Programs, Sink, Source, StartError, Started};
+use child_link::{Door, Lone, OwnDoor};
+use host_core::{Core, Event, Reply};
+use journal_model::{Verdict, Why};
 use std::alloc::Global;
+use talk_serial::Request;
+
+// What a greeting comes to, without its link.
+enum Came {
+    Prepared,
+    Over(Why),
+    Mute,
+}
+
+fn is_done(verdict: Verdict) -> bool
+    ensures { result ≡ is_done (Some verdict) }
+{
+    match verdict {
+        Verdict::Done { .. } => true,
+        _ => false,
+    }
+}
+
+// Asks one request of the greeting. True where it is done; else the child has ended or is mute. Where no memory was found to
+// ask it, the child is ended.
+fn ask_one<I: Sink, O: Source, D: Door>(
+    link: &mut Lone<I, O>,
+    door: &mut D,
+    request: &Request,
+) -> bool
+    requires alone { D.alone door.old ≡ true }
+    requires first { D.number door.old ≡ 0 }
+    requires legal { Legal (D.opening door.old) (D.seen door.old) }
+    requires started { is_started (D.seen door.old) link.old.child ≡ true }
+    requires may { may_request (D.seen door.old) (D.number door.old) 0 link.old.child (message_of request.now) ≡ true }
+    requires kind { is_greeting (message_of request.now) ≡ true }
+    requires idle { open_jobs (D.seen door.old) link.old.child ≡ [] }
+    ensures on { GreetsOn (D.seen door.old) (D.seen door.new) link.old.child }
+    ensures asks { AsksNext (D.seen door.old) (D.seen door.new) link.old.child result }
+    ensures linked { IsLinked I.taken I.faults O.given O.left O.faults (D.seen door.old) link.old → IsLinked I.taken I.faults O.given O.left O.faults (D.seen door.new) link.new }
+    ensures child { link.new.child ≡ link.old.child }
+    ensures numbers { AreSameNumbers I.number O.number link.old link.new }
+    ensures legal { Legal (D.opening door.new) (D.seen door.new) }
+    ensures opening { D.opening door.new ≡ D.opening door.old }
+    ensures number { D.number door.new ≡ D.number door.old }
+    ensures alone { D.alone door.new ≡ true }
+    ensures loans { D.loans door.new ≡ D.loans door.old }
+{
+    match link.ask(door, 0, request) {
+        Ok(verdict) => is_done(verdict),
+        Err(NoMemory) => {
+            link.give_up(door);
+            false
+        }
+    }
+}
+
+// Asks for the extensions, and then to get ready for what the mode says.
+fn ask_both<I: Sink, O: Source, D: Door>(
+    link: &mut Lone<I, O>,
+    door: &mut D,
+    offer: bool,
+    mode: Mode,
+) -> bool
+    requires alone { D.alone door.old ≡ true }
+    requires first { D.number door.old ≡ 0 }
+    requires legal { Legal (D.opening door.old) (D.seen door.old) }
+    requires asks { MayAsk (D.seen door.old) link.old.child offer }
+    ensures on { GreetsOn (D.seen door.old) (D.seen door.new) link.old.child }
+    ensures prepares { Prepares (D.seen door.new) link.old.child result }
+    ensures linked { IsLinked I.taken I.faults O.given O.left O.faults (D.seen door.old) link.old → IsLinked I.taken I.faults O.given O.left O.faults (D.seen door.new) link.new }
+    ensures child { link.new.child ≡ link.old.child }
+    ensures numbers { AreSameNumbers I.number O.number link.old link.new }
+    ensures legal { Legal (D.opening door.new) (D.seen door.new) }
+    ensures opening { D.opening door.new ≡ D.opening door.old }
+    ensures number { D.number door.new ≡ D.number door.old }
+    ensures alone { D.alone door.new ≡ true }
+    ensures loans { D.loans door.new ≡ D.loans door.old }
+{
+    let extensions = Request::Extensions { offer };
+    if !ask_one(link, door, &extensions) {
+        return false;
+    }
+    match mode {
+        Mode::Serve => ask_one(link, door, &Request::Prepare),
+    }
+}
+
+// The whole greeting, from the child's first line on.
+fn hear_and_ask<I: Sink, O: Source, D: Door>(
+    link: &mut Lone<I, O>,
+    door: &mut D,
+    offer: bool,
+    mode: Mode,
+) -> Came
+    requires alone { D.alone door.old ≡ true }
+    requires first { D.number door.old ≡ 0 }
+    requires legal { Legal (D.opening door.old) (D.seen door.old) }
+    requires begun { HasBegun (D.seen door.old) link.old.child offer }
+    ensures on { GreetsOn (D.seen door.old) (D.seen door.new) link.old.child }
+    ensures comes { ComesTo (D.seen door.new) link.old.child result }
+    ensures linked { IsLinked I.taken I.faults O.given O.left O.faults (D.seen door.old) link.old → IsLinked I.taken I.faults O.given O.left O.faults (D.seen door.new) link.new }
+    ensures child { link.new.child ≡ link.old.child }
+    ensures numbers { AreSameNumbers I.number O.number link.old link.new }
+    ensures legal { Legal (D.opening door.new) (D.seen door.new) }
+    ensures opening { D.opening door.new ≡ D.opening door.old }
+    ensures number { D.number door.new ≡ D.number door.old }
+    ensures alone { D.alone door.new ≡ true }
+    ensures loans { D.loans door.new ≡ D.loans door.old }
+{
+    if let Some(why) = link.hear_version(door) {
+        return Came::Over(why);
+    }
+    if ask_both(link, door, offer, mode) {
+        return Came::Prepared;
+    }
+    match link.why_ended(door) {
+        Some(why) => Came::Over(why),
+        None => Came::Mute,
+    }
+}
+
+// The greeting through the main thread's own door.
+fn greet_link<I: Sink, O: Source>(
+    link: &mut Lone<I, O>,
+    core: &mut Core,
+    offer: bool,
+    mode: Mode,
+) -> Came
+    requires legal { Legal core.old.opening core.old.journal }
+    requires begun { HasBegun core.old.journal link.old.child offer }
+    ensures on { GreetsOn core.old.journal core.new.journal link.old.child }
+    ensures comes { ComesTo core.new.journal link.old.child result }
+    ensures linked { IsLinked I.taken I.faults O.given O.left O.faults core.old.journal link.old → IsLinked I.taken I.faults O.given O.left O.faults core.new.journal link.new }
+    ensures child { link.new.child ≡ link.old.child }
+    ensures numbers { AreSameNumbers I.number O.number link.old link.new }
+    ensures legal { Legal core.new.opening core.new.journal }
+    ensures opening { core.new.opening ≡ core.old.opening }
+{
+    let mut door = OwnDoor { core };
+    let came = hear_and_ask(link, &mut door, offer, mode);
+    let OwnDoor { core: _ } = door;
+    came
+}
+
+// The greeting of a child that was started, with its link and its stub.
+fn greet_child<I: Sink, O: Source, S>(
+    link: Lone<I, O>,
+    stub: S,
+    core: &mut Core,
+    offer: bool,
+    mode: Mode,
+) -> Greeting<I, O, S>
+    requires legal { Legal core.old.opening core.old.journal }
+    requires begun { HasBegun core.old.journal link.child offer }
+    ensures on { GreetsOn core.old.journal core.new.journal link.child }
+    ensures tells { TellsOf core.new.journal link.child result }
+    ensures linked { IsLinked I.taken I.faults O.given O.left O.faults core.old.journal link → Has (IsLinked I.taken I.faults O.given O.left O.faults core.new.journal) result }
+    ensures numbers { Has (AreSameNumbers I.number O.number link) result }
+    ensures legal { Legal core.new.opening core.new.journal }
+    ensures opening { core.new.opening ≡ core.old.opening }
+{
+    let mut link = link;
+    match greet_link(&mut link, core, offer, mode) {
+        Came::Prepared => {
+            let tagged = core.tagged(link.child());
+            Greeting::Ready { link, stub, tagged }
+        }
+        Came::Over(why) => Greeting::Ended { why, link, stub },
+        Came::Mute => Greeting::Unsent { link, stub },
+    }
+}
+
+fn child_of(reply: Reply) -> Option<u32>
+    ensures { result ≡ child_of reply }
+{
+    match reply {
+        Reply::Child(child) => Some(child),
+        _ => None,
+    }
+}
+
+// Tells the core of a child that was started, and answers its number. None is want of memory.
+fn note_start(core: &mut Core, slot: u32, offer: bool) -> Option<u32>
+    requires few { count is_start core.old.journal < 4294967295 }
+    ensures started { MatchOption result (core.new.journal ≡ core.old.journal) (λ child. (child ≡ count is_start core.old.journal + 1) × (core.new.journal ≡ core.old.journal ++ record { by = 0; what = Start child slot offer } ∷ [])) }
+    ensures opening { core.new.opening ≡ core.old.opening }
+    ensures legal { Legal core.new.opening core.new.journal }
+{
+    match core.step(0, Event::Start { slot, offer }) {
+        Ok(reply) => child_of(reply),
+        Err(NoMemory) => None,
+    }
+}
+
+// Tells the core that no child could be started.
+fn note_no_start(core: &mut Core, slot: u32) -> Result<(), NoMemory>
+    ensures noted { MatchResult result (λ _. core.new.journal ≡ core.old.journal ++ record { by = 0; what = NoStart slot } ∷ []) (λ _. core.new.journal ≡ core.old.journal) }
+    ensures opening { core.new.opening ≡ core.old.opening }
+    ensures legal { Legal core.new.opening core.new.journal }
+{
+    match core.step(0, Event::NoStart { slot }) {
+        Ok(_) => Ok(()),
+        Err(NoMemory) => Err(NoMemory),
+    }
+}
+
+// Closes and finishes a child of which nothing could be noted.
+fn discard<P: Programs>(programs: &mut P, inlet: P::Inlet, outlet: P::Outlet, stub: P::Stub)
+where
+    P::Inlet: Drop,
+    P::Outlet: Drop,
+    requires inlet { P.Inlet.is_open inlet ≡ true }
+    requires outlet { P.Outlet.is_open outlet ≡ true }
+    ensures starts { Stays (P.starts programs.old) (P.starts programs.new) }
+    ensures later { P.faults programs.old ≤ P.faults programs.new }
+{
+    let mut inlet = inlet;
+    let mut outlet = outlet;
+    inlet.close();
+    outlet.close();
+    let _status = programs.finish(stub);
+}
 
 /// Starts the program in a slot, and greets the child: its first line is its version, then it is asked for its extensions,
 /// where ASYNC is offered to it or not, and to get ready.
@@ -20,6 +246,9 @@ pub fn greet<P: Programs>(
     offer: bool,
     mode: Mode,
 ) -> Greeting<P::Inlet, P::Outlet, P::Stub>
+where
+    P::Inlet: Drop,
+    P::Outlet: Drop,
     requires few { count is_start core.old.journal < 4294967295 }
     ensures tells { Tells core.old.journal core.new.journal slot offer result }
     ensures linked { Has (IsLinked P.Inlet.taken P.Inlet.faults P.Outlet.given P.Outlet.left P.Outlet.faults core.new.journal) result }
@@ -30,5 +259,30 @@ pub fn greet<P: Programs>(
     ensures opening { core.new.opening ≡ core.old.opening }
     ensures legal { Legal core.old.opening core.old.journal → Legal core.new.opening core.new.journal }
 {
-    Greeting::NoMemory
+    match programs.start(program) {
+        Ok(
+            Started {
+                inlet,
+                outlet,
+                stub,
+            },
+        ) => match note_start(core, slot, offer) {
+            Some(child) => greet_child(
+                Lone::new(alloc, child, inlet, outlet),
+                stub,
+                core,
+                offer,
+                mode,
+            ),
+            None => {
+                discard(programs, inlet, outlet, stub);
+                Greeting::NoMemory
+            }
+        },
+        Err(StartError::Failed) => match note_no_start(core, slot) {
+            Ok(()) => Greeting::StartFault,
+            Err(NoMemory) => Greeting::NoMemory,
+        },
+        Err(StartError::NoMemory) => Greeting::NoMemory,
+    }
 }

@@ -1,0 +1,186 @@
+-- A child that was started just now has begun: it has said nothing and was asked nothing, and its link is a link to it.
+use Rattle.std.proofs.Common.{◌≡◌, ◌≢◌, ℕ, ◌+◌, ◌<◌, List, [], ◌∷◌, ◌++◌, refl, sym, ap, subst, ◌∙◌, length, length-append, append-nil, arith, Bool, true, false, ◌==◌, cond, Some, None, Option}
+use Rattle.std.specs.Prelude.{◌&&◌, ◌||◌, filter, codes, IfSome}
+use Rattle.std.specs.List.{list_all, cons_option}
+use Rattle.std.proofs.lemmas.List.Elements.{filter-append}
+use Rattle.annex_model.specs.declared.verdict.Verdict.TheVariants.{Ended}
+use Rattle.journal_model.specs.declared.entry.What.{What}
+use Rattle.journal_model.specs.declared.entry.What.TheVariants.{Start, Mute, Got, End}
+use Rattle.journal_model.specs.declared.entry.Entry.{Entry}
+use Rattle.journal_model.specs.declared.opening.Opening.{Opening}
+use Rattle.journal_model.specs.Journal.{any, starts, offers, got_from, line_from, is_started, has_spoken, got_lines, open_jobs}
+use Rattle.journal_model.specs.Due.{due_by, due_by_got, due_after, made_by}
+use Rattle.journal_model.specs.Legality.{Legal, MayStand, owed_from, owed_after, may_come, count, is_start}
+use Rattle.journal_model.proofs.Growing.{Legal-induction, StandsFrom-split}
+use Rattle.journal_model.proofs.Looks.{entry, both, same, same_number, differ, any-append, each_of-append}
+use Rattle.journal_model.proofs.Soft.{is_soft, soft_got, soft_mute, soft_verdicts}
+use Rattle.journal_model.proofs.Fresh.{Nothing, fresh}
+use Rattle.journal_model.proofs.Linking.{linked_start}
+use Rattle.journal_model.proofs.Heard.{heard_on}
+use Rattle.journal_model.proofs.Projecting.{invariant}
+use Rattle.talk_serial.specs.Requests.{names_of}
+use Rattle.child_link.specs.Links.{LinkValue, IsLinked}
+use Rattle.child_start.specs.Stages.{HasBegun}
+use Rattle.child_start.proofs.Jobs.{or_true, or_false}
+
+-- ---- what is due is no start
+
+soft_entries : (by : ℕ) (ws : List What) → list_all is_soft ws ≡ true → list_all (λ (e : Entry). is_soft e.what) (made_by by ws) ≡ true
+soft_entries by [] h = refl
+soft_entries by (w ∷ ws) h =
+    let t : (is_soft w ≡ true) × (list_all is_soft ws ≡ true) = both (is_soft w) (list_all is_soft ws) h in
+    rw (t.0, soft_entries by ws t.1) refl
+
+due_soft : (o : Opening) (past : List Entry) (by : ℕ) (w : What) → list_all (λ (e : Entry). is_soft e.what) (due_after o past (entry by w)) ≡ true
+due_soft o past by (Got child line) = soft_entries by (due_by_got o past child line) (soft_got o past child line)
+due_soft o past by (End child why) = soft_entries by (due_by o past (End child why)) (soft_verdicts child (Ended why) (open_jobs past child))
+due_soft o past by (Mute child) = soft_entries by (due_by o past (Mute child)) (soft_mute o past child)
+due_soft o past by w = refl
+
+owed_soft : (o : Opening) (past owed xs : List Entry) → list_all (λ (e : Entry). is_soft e.what) owed ≡ true → list_all (λ (e : Entry). is_soft e.what) (owed_from o past owed xs) ≡ true
+owed_soft o past owed [] h = h
+owed_soft o past [] (e ∷ xs) h = owed_soft o (past ++ e ∷ []) (due_after o past e) xs (due_soft o past e.by e.what)
+owed_soft o past (d ∷ ds) (e ∷ xs) h = owed_soft o (past ++ e ∷ []) ds xs (both (is_soft d.what) (list_all (λ (e : Entry). is_soft e.what) ds) h).1
+
+-- the journal before a start was legal
+pub legal_before : (o : Opening) (past : List Entry) (by c slot : ℕ) (offer : Bool) → Legal o (past ++ entry by (Start c slot offer) ∷ []) → Legal o past
+legal_before o past by c slot offer l =
+    let s = StandsFrom-split o [] [] past (entry by (Start c slot offer) ∷ []) l.stands in
+    record { stands = s.0; nothing_due = go (owed_after o past) refl s.1.0 }
+  where
+    go : (ds : List Entry) → owed_after o past ≡ ds → MayStand o past ds (entry by (Start c slot offer)) → owed_after o past ≡ []
+    go [] e h = e
+    go (d ∷ ds) e h =
+        let soft : list_all (λ (x : Entry). is_soft x.what) (d ∷ ds) ≡ true = subst (λ (l : List Entry). list_all (λ (x : Entry). is_soft x.what) l ≡ true) e (owed_soft o [] [] past refl) in
+        let first : is_soft d.what ≡ true = (both (is_soft d.what) (list_all (λ (x : Entry). is_soft x.what) ds) soft).0 in
+        let bad : false ≡ true = subst (λ (x : Entry). is_soft x.what ≡ true) (sym h) first in
+        absurd cc
+
+-- ---- children are numbered in turn
+
+soft_starts : (c : ℕ) (more : List Entry) → list_all (λ (e : Entry). is_soft e.what) more ≡ true → is_started more c ≡ false
+soft_starts c [] h = refl
+soft_starts c (e ∷ more) h =
+    let t : (is_soft e.what ≡ true) × (list_all (λ (e : Entry). is_soft e.what) more ≡ true) = both (is_soft e.what) (list_all (λ (e : Entry). is_soft e.what) more) h in
+    step e.what t.0 (soft_starts c more t.1)
+  where
+    step : (w : What) → is_soft w ≡ true → is_started more c ≡ false → (starts c w || is_started more c) ≡ false
+    step (Start child slot offer) s r = absurd cc
+    step w s r = r
+
+count-append : (past more : List Entry) → count is_start (past ++ more) ≡ count is_start past + count is_start more
+count-append past more =
+    ap length (filter-append (λ (e : Entry). is_start e.what) past more) ∙ length-append (filter (λ (e : Entry). is_start e.what) past) (filter (λ (e : Entry). is_start e.what) more)
+
+neither : (a b : Bool) → a ≡ false → b ≡ false → (a || b) ≡ false
+neither a b h k = rw (h, k) refl
+
+-- the group of an entry that may come starts no child of a later number
+group_starts : (o : Opening) (past : List Entry) (c by : ℕ) (w : What) → may_come o past by w ≡ true
+    → count is_start (past ++ entry by w ∷ due_after o past (entry by w)) < c → is_started (entry by w ∷ due_after o past (entry by w)) c ≡ false
+group_starts o past c by (Start child slot offer) may few =
+    let more : List Entry = entry by (Start child slot offer) ∷ [] in
+    let number : child ≡ count is_start past + 1 =
+    same_number child (count is_start past + 1) (both (by == 0) (child == count is_start past + 1) (both (by == 0 && child == count is_start past + 1) _ may).0).1 in
+    let other : child ≢ c = λ e. absurd (omega (arith, number, e, few, count-append past more)) in
+    neither (child == c) false (differ child c other) refl
+group_starts o past c by (Got child line) may few = soft_starts c (due_after o past (entry by (Got child line))) (due_soft o past by (Got child line))
+group_starts o past c by (End child why) may few = soft_starts c (due_after o past (entry by (End child why))) (due_soft o past by (End child why))
+group_starts o past c by (Mute child) may few = soft_starts c (due_after o past (entry by (Mute child))) (due_soft o past by (Mute child))
+group_starts o past c by w may few = refl
+
+-- no child has a number greater than that of the starts
+pub later_unstarted : (o : Opening) (journal : List Entry) → Legal o journal → (c : ℕ) → count is_start journal < c → is_started journal c ≡ false
+later_unstarted o journal l =
+    Legal-induction o (λ past. (c : ℕ) → count is_start past < c → is_started past c ≡ false) (λ c few. refl)
+    (λ past e legal before may. step past e.by e.what before may) journal l
+  where
+    step : (past : List Entry) (by : ℕ) (w : What) → ((c : ℕ) → count is_start past < c → is_started past c ≡ false) → may_come o past by w ≡ true
+        → (c : ℕ) → count is_start (past ++ entry by w ∷ due_after o past (entry by w)) < c → is_started (past ++ entry by w ∷ due_after o past (entry by w)) c ≡ false
+    step past by w before may c few =
+        let more : List Entry = entry by w ∷ due_after o past (entry by w) in
+        let fewer : count is_start past < c = omega (arith, few, count-append past more) in
+        any-append (starts c) past more ∙ neither (is_started past c) (is_started more c) (before c fewer) (group_starts o past c by w may few)
+
+-- ---- a child that was started just now
+
+silent_said : (past : List Entry) (c : ℕ) → got_lines past c ≡ [] → has_spoken past c ≡ false
+silent_said [] c h = refl
+silent_said (e ∷ past) c h = step e.what h (silent_said past c)
+  where
+    step : (w : What) → cons_option (line_from c w) (got_lines past c) ≡ [] → (got_lines past c ≡ [] → has_spoken past c ≡ false) → (got_from c w || has_spoken past c) ≡ false
+    step (Got child line) h r = go (child == c) h
+      where
+        go : (b : Bool) → cons_option (cond b (Some line) None) (got_lines past c) ≡ [] → (b || has_spoken past c) ≡ false
+        go true h = absurd cc
+        go false h = r h
+    step w h r = r h
+
+-- ASYNC is offered by a start alone
+unstarted_offers : (past : List Entry) (c : ℕ) → is_started past c ≡ false → any (offers c) past ≡ false
+unstarted_offers [] c h = refl
+unstarted_offers (e ∷ past) c h = step e.what h (unstarted_offers past c)
+  where
+    step : (w : What) → (starts c w || is_started past c) ≡ false → (is_started past c ≡ false → any (offers c) past ≡ false) → (offers c w || any (offers c) past) ≡ false
+    step (Start child slot offer) h r = go (child == c) h
+      where
+        go : (b : Bool) → (b || is_started past c) ≡ false → ((b && offer) || any (offers c) past) ≡ false
+        go true h = absurd cc
+        go false h = r h
+    step w h r = r h
+
+names_told : (b : Bool) → cond b (codes "INFO GETGITREMOTENAME ASYNC") (codes "INFO GETGITREMOTENAME") ≡ names_of b
+names_told true = refl
+names_told false = refl
+
+module _ (o : Opening) (old new : List Entry) (c slot : ℕ) (offer : Bool) (number : c ≡ count is_start old + 1)
+    (is : new ≡ old ++ entry 0 (Start c slot offer) ∷ []) (legal : Legal o new) where
+  abbrev one : List Entry
+  one = entry 0 (Start c slot offer) ∷ []
+
+  before : Legal o old
+  before = legal_before o old 0 c slot offer (subst (Legal o) is legal)
+
+  unstarted : is_started old c ≡ false
+  unstarted = later_unstarted o old before c (omega (arith, number))
+
+  nothing : Nothing c old
+  nothing = fresh o old before c unstarted
+
+  no_lines : got_lines new c ≡ []
+  no_lines = ap (λ (x : List Entry). got_lines x c) is ∙ each_of-append (line_from c) old one ∙ append-nil (got_lines old c) ∙ nothing.got
+
+  silent : has_spoken new c ≡ false
+  silent = silent_said new c no_lines
+
+  offered : any (offers c) new ≡ offer
+  offered =
+      ap (any (offers c)) is ∙ any-append (offers c) old one ∙ ap (λ (b : Bool). b || any (offers c) one) (unstarted_offers old c unstarted)
+      ∙ ap (λ (b : Bool). (b && offer) || false) (same c) ∙ or_false offer
+
+  pub has_begun : HasBegun new c offer
+  has_begun = record {
+    started = ap (λ (x : List Entry). is_started x c) is ∙ any-append (starts c) old one ∙ ap (λ (b : Bool). is_started old c || (b || false)) (same c) ∙ or_true (is_started old c);
+    silent = silent;
+    jobs = (invariant o new legal).silent c silent;
+    names = ap (λ (b : Bool). cond b (codes "INFO GETGITREMOTENAME ASYNC") (codes "INFO GETGITREMOTENAME")) offered ∙ names_told offer;
+  }
+
+  module _ {I O : Type 0} (taken : I → Option (List ℕ)) (wf : I → ℕ) (given : O → Option (List ℕ)) (left : O → Option (List ℕ)) (rf : O → ℕ) (link : LinkValue I O)
+      (child : link.child ≡ c) (held : link.held ≡ []) where
+    pub is_linked : IfSome (given link.outlet) (λ xs. xs ≡ []) → IfSome (taken link.inlet) (λ xs. xs ≡ []) → IsLinked taken wf given left rf new link
+    is_linked g t =
+        let linked = linked_start old c 0 slot offer (given link.outlet) (left link.outlet) (taken link.inlet) (rf link.outlet) (wf link.inlet) nothing g t in
+        subst (λ (l : LinkValue I O). IsLinked taken wf given left rf new l) (sym whole)
+        (subst (λ (x : List Entry). IsLinked taken wf given left rf x named) (sym is) (
+          linked,
+          heard_on c [] (old ++ one) (ap (λ (x : List Entry). got_lines x c) (sym is) ∙ no_lines) refl,
+        ))
+      where
+        named : LinkValue I O
+        named = record { child = c; inlet = link.inlet; outlet = link.outlet; held = [] }
+
+        whole : link ≡ named
+        whole =
+            let make : ℕ → List ℕ → LinkValue I O = λ k bytes. record { child = k; inlet = link.inlet; outlet = link.outlet; held = bytes } in
+            ap (λ (k : ℕ). make k link.held) child ∙ ap (make c) held

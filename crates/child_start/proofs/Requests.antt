@@ -1,0 +1,156 @@
+-- What one request of a greeting leaves, whether it is done or not.
+use Rattle.std.proofs.Common.{◌≡◌, ℕ, ◌≤◌, List, [], ◌∷◌, ◌++◌, refl, ap, ◌∙◌, append_assoc, length, arith, Bool, true, false, ◌==◌, Some, None, Option, inl, inr}
+use Rattle.std.specs.Prelude.{◌&&◌, ◌||◌, nat_lt, bytes_eq}
+use Rattle.std.specs.List.{list_all}
+use Rattle.std.proofs.lemmas.List.Folds.{list_all-append}
+use Rattle.annex_model.specs.declared.verdict.Why.{Why}
+use Rattle.annex_model.specs.declared.verdict.Final.TheVariants.{Absent}
+use Rattle.annex_model.specs.declared.verdict.Verdict.{Verdict}
+use Rattle.annex_model.specs.declared.verdict.Verdict.TheVariants.{Done as DoneAt, Absent as AbsentAt, Ended, Unsent}
+use Rattle.annex_model.specs.Messages.{RemoteMessage, Extensions, PrepareSuccess, HostMessage, AskExtensions, Prepare, Checkpresent, host_line}
+use Rattle.annex_model.specs.Talks.{final_of}
+use Rattle.journal_model.specs.declared.entry.What.{What}
+use Rattle.journal_model.specs.declared.entry.What.TheVariants.{Ask, Lost}
+use Rattle.journal_model.specs.declared.entry.Entry.{Entry}
+use Rattle.journal_model.specs.declared.opening.Opening.{Opening}
+use Rattle.journal_model.specs.Journal.{ends, mutes, is_started, is_ended, is_mute, asked_jobs, open_jobs, verdict_of, on_wire, why_of}
+use Rattle.journal_model.specs.Legality.{Legal, is_done, is_in_turn, may_ask, offered_names}
+use Rattle.journal_model.specs.Projection.{IsNamed}
+use Rattle.journal_model.proofs.Looks.{both, same, same_number, any-append}
+use Rattle.journal_model.proofs.Projecting.{invariant}
+use Rattle.journal_model.proofs.Verdicts.{ended_verdict, unsent_verdict, unasked_none}
+use Rattle.host_core.specs.Steps.{group_of, is_gone, next_job, may_request, is_askable}
+use Rattle.child_link.specs.Doors.{GoesOn, is_of_link}
+use Rattle.child_link.specs.Asks.{HasAsked, IsSettled, IsLost, lost_as}
+use Rattle.child_start.specs.Greetings.{is_of_greeting}
+use Rattle.child_start.specs.Stages.{is_greeting, GreetsOn, IsGoneNext, AsksNext}
+use Rattle.child_start.proofs.Jobs.{goes_jobs, goes_idle, jobs_settled, jobs_lost, idle_asked, or_true}
+
+-- ---- the greeting goes on
+
+own_link : (c : ℕ) (w : What) → is_of_link w ≡ true → is_of_greeting c w ≡ true
+own_link c (Ask child job task line) h = absurd cc
+own_link c (Lost child task) h = absurd cc
+own_link c w h = h
+
+own_links : (c : ℕ) (more : List Entry) → list_all (λ (e : Entry). is_of_link e.what) more ≡ true → list_all (λ (e : Entry). is_of_greeting c e.what) more ≡ true
+own_links c [] h = refl
+own_links c (e ∷ more) h =
+    let t : (is_of_link e.what ≡ true) × (list_all (λ (e : Entry). is_of_link e.what) more ≡ true) = both (is_of_link e.what) (list_all (λ (e : Entry). is_of_link e.what) more) h in
+    rw (own_link c e.what t.0, own_links c more t.1) refl
+
+own_both : (c : ℕ) (xs ys : List Entry) → list_all (λ (e : Entry). is_of_greeting c e.what) xs ≡ true → list_all (λ (e : Entry). is_of_greeting c e.what) ys ≡ true
+    → list_all (λ (e : Entry). is_of_greeting c e.what) (xs ++ ys) ≡ true
+own_both c xs ys h k =
+    list_all-append (λ (e : Entry). is_of_greeting c e.what) xs ys ∙ ap (λ (b : Bool). b && list_all (λ (e : Entry). is_of_greeting c e.what) ys) h ∙ k
+
+pub greets_both : (a b d : List Entry) (c : ℕ) → GreetsOn a b c → GreetsOn b d c → GreetsOn a d c
+greets_both a b d c x y = record {
+  more = x.more ++ y.more;
+  is = y.is ∙ ap (λ (l : List Entry). l ++ y.more) x.is ∙ append_assoc a x.more y.more;
+  own = own_both c x.more y.more x.own y.own;
+  idle = y.idle;
+}
+
+-- a link's own entries
+pub greets_goes : (old new : List Entry) (c : ℕ) → GoesOn old new → open_jobs old c ≡ [] → GreetsOn old new c
+greets_goes old new c g idle = record { more = g.more; is = g.is; own = own_links c g.more g.quiet; idle = goes_idle old new c g idle }
+
+-- a request of the greeting is job 0 or 1
+early_turn : (past : List Entry) (c job : ℕ) (q : HostMessage) → is_greeting q ≡ true → is_in_turn past c job q ≡ true → nat_lt job 2 ≡ true
+early_turn past c job (AskExtensions names) g h = ap (λ (k : ℕ). nat_lt k 2) (same_number job 0 (both (job == 0) (bytes_eq names (offered_names past c)) h).0)
+early_turn past c job Prepare g h = ap (λ (k : ℕ). nat_lt k 2) (same_number job 1 h)
+early_turn past c job (Checkpresent key) g h = absurd cc
+
+pub early_job : (past : List Entry) (by c : ℕ) (q : HostMessage) → is_greeting q ≡ true → may_request past by 0 c q ≡ true → nat_lt (next_job past c) 2 ≡ true
+early_job past by c q g h =
+    let turn : (is_started past c && may_ask past by 0 c && is_in_turn past c (next_job past c) q) ≡ true =
+    (both (is_started past c && may_ask past by 0 c && is_in_turn past c (next_job past c) q) (is_askable q) h).0 in
+    early_turn past c (next_job past c) q g (both (is_started past c && may_ask past by 0 c) (is_in_turn past c (next_job past c) q) turn).1
+
+-- a request that is no task's
+pub greets_asked : (o : Opening) (old new : List Entry) (by c : ℕ) (q : HostMessage) (verdict : Verdict) → open_jobs old c ≡ []
+    → nat_lt (next_job old c) 2 ≡ true → HasAsked o old new by c 0 q verdict → GreetsOn old new c
+greets_asked o old new by c q verdict idle early (inl s) =
+    let asked : List Entry = group_of o old by (Ask c (next_job old c) 0 (on_wire old c (next_job old c) (host_line q))) in
+    record {
+      more = asked ++ s.goes.more;
+      is = s.goes.is ∙ append_assoc old asked s.goes.more;
+      own = own_both c asked s.goes.more (rw (same c, early) refl) (own_links c s.goes.more s.goes.quiet);
+      idle = idle_asked o old new by c 0 q verdict idle (inl s);
+    }
+greets_asked o old new by c q verdict idle early (inr l) = record {
+  more = group_of o old by (Lost c 0);
+  is = l.made;
+  own = rw (same c) refl;
+  idle = idle_asked o old new by c 0 q verdict idle (inr l);
+}
+
+-- ---- the next job
+
+gone_ended : (journal : List Entry) (c : ℕ) → is_ended journal c ≡ true → is_gone journal c ≡ true
+gone_ended journal c h = ap (λ (b : Bool). b || is_mute journal c) h
+
+gone_mute : (journal : List Entry) (c : ℕ) → is_mute journal c ≡ true → is_gone journal c ≡ true
+gone_mute journal c h = ap (λ (b : Bool). is_ended journal c || b) h ∙ or_true (is_ended journal c)
+
+pub gone_on : (old more : List Entry) (c : ℕ) → is_gone old c ≡ true → is_gone (old ++ more) c ≡ true
+gone_on old more c h = go (is_ended old c) refl h
+  where
+    go : (b : Bool) → is_ended old c ≡ b → (b || is_mute old c) ≡ true → is_gone (old ++ more) c ≡ true
+    go true e h = gone_ended (old ++ more) c (any-append (ends c) old more ∙ ap (λ (b : Bool). b || is_ended more c) e)
+    go false e h = gone_mute (old ++ more) c (any-append (mutes c) old more ∙ ap (λ (b : Bool). b || is_mute more c) h)
+
+-- a job that is not among those that were asked is not done
+pub undone_later : (o : Opening) (journal : List Entry) (c k : ℕ) → Legal o journal → length (asked_jobs journal c) ≤ k → is_done (verdict_of journal c k) ≡ false
+undone_later o journal c k legal few = ap is_done (unasked_none o journal legal c k ((invariant o journal legal).fresh c k few))
+
+-- no answer to a request of the greeting says absent
+never_absent : (q : HostMessage) (ms : List (Option RemoteMessage)) → is_greeting q ≡ true → final_of q ms ≡ Some Absent → ⊥
+never_absent (AskExtensions names) (Some (Extensions answer) ∷ []) h e = cc
+never_absent (AskExtensions names) ms h e = cc
+never_absent Prepare (Some PrepareSuccess ∷ []) h e = cc
+never_absent Prepare ms h e = cc
+never_absent (Checkpresent key) ms h e = cc
+
+not_lost : {A : Type 0} (at : ℕ) (why : Option Why) → DoneAt at ≡ lost_as why → A
+not_lost at None e = absurd cc
+not_lost at (Some why) e = absurd cc
+
+lost_undone : (why : Option Why) (v : Verdict) → v ≡ lost_as why → is_done (Some v) ≡ false
+lost_undone None v e = ap (λ (x : Verdict). is_done (Some x)) e
+lost_undone (Some why) v e = ap (λ (x : Verdict). is_done (Some x)) e
+
+module _ (o o' : Opening) (old new : List Entry) (by c : ℕ) (q : HostMessage) where
+  gone_lost : (verdict : Verdict) → Legal o' new → IsLost o old new by c 0 verdict → IsGoneNext old new c
+  gone_lost verdict legal l =
+      let jobs : asked_jobs new c ≡ asked_jobs old c = jobs_lost o old new by c 0 q verdict l in
+      let few : length (asked_jobs new c) ≤ next_job old c = omega (arith, ap length jobs) in
+      record {
+        gone = ap (λ (x : List Entry). is_gone x c) l.made ∙ gone_on old (group_of o old by (Lost c 0)) c l.gone;
+        undone = undone_later o' new c (next_job old c) legal few;
+        jobs = inl jobs;
+      }
+
+  gone_settled : (verdict : Verdict) → is_done (Some verdict) ≡ false → is_gone new c ≡ true → IsSettled o old new by c 0 q verdict → IsGoneNext old new c
+  gone_settled verdict undone gone s = record { gone = gone; undone = ap is_done s.settled ∙ undone; jobs = inr (jobs_settled o old new by c 0 q verdict s) }
+
+  -- the request was asked, and settled so
+  pub asked_next : (verdict : Verdict) → Legal o' new → is_greeting q ≡ true → IsNamed q verdict → HasAsked o old new by c 0 q verdict
+      → AsksNext old new c (is_done (Some verdict))
+  asked_next (DoneAt at) legal kind n (inl s) = record { done = ap is_done s.settled; jobs = jobs_settled o old new by c 0 q (DoneAt at) s }
+  asked_next (DoneAt at) legal kind n (inr l) = not_lost at (why_of old c) l.lost
+  asked_next (AbsentAt at) legal kind n h = absurd (never_absent q n.0 kind n.1)
+  asked_next (Ended why) legal kind n (inl s) =
+      gone_settled (Ended why) refl (gone_ended new c (ended_verdict o' new legal c (next_job old c) why s.settled)) s
+  asked_next (Ended why) legal kind n (inr l) = gone_lost (Ended why) legal l
+  asked_next Unsent legal kind n (inl s) =
+      gone_settled Unsent refl (gone_mute new c (unsent_verdict o' new legal c (next_job old c) s.settled)) s
+  asked_next Unsent legal kind n (inr l) = gone_lost Unsent legal l
+
+  -- it was not asked, and the child was ended
+  pub given_up_next : Legal o' new → GoesOn old new → is_ended new c ≡ true → IsGoneNext old new c
+  given_up_next legal g over =
+      let jobs : asked_jobs new c ≡ asked_jobs old c = goes_jobs old new c g in
+      let few : length (asked_jobs new c) ≤ next_job old c = omega (arith, ap length jobs) in
+      record { gone = gone_ended new c over; undone = undone_later o' new c (next_job old c) legal few; jobs = inl jobs }
