@@ -1,0 +1,212 @@
+// The journal of one check over child 1, and what is found of it with changes.
+use super::*;
+use ann_key::{Bytes, Key, KeyRef, Text};
+use journal_model::{Answer, Entry, Identity, Journal, Opening, Verdict, What, Why};
+use std::alloc::Global;
+use std::test::Fail;
+use task_text::{Task, Tasks, Work};
+
+const KEY: &str = "SHA256E-s0--e3b0c44298fc1c149afbf4c8996fb92427ae41e4649b934ca495991b7852b855";
+
+const CHECK: &str =
+    "CHECKPRESENT SHA256E-s0--e3b0c44298fc1c149afbf4c8996fb92427ae41e4649b934ca495991b7852b855";
+
+const SUCCESS: &str =
+    "CHECKPRESENT-SUCCESS SHA256E-s0--e3b0c44298fc1c149afbf4c8996fb92427ae41e4649b934ca495991b7852b855";
+
+/// An entry of the main thread, for child 1 and task 1.
+#[derive(Clone, Copy)]
+enum Row {
+    Start(bool),
+    NoStart,
+    Greet(u64, &'static str),
+    Claim,
+    Ask(u64, &'static str),
+    Put,
+    Sent,
+    Mute,
+    Got(&'static str),
+    Verdict(u64, Verdict),
+    Lost,
+    Answer(Answer),
+    End(Why),
+}
+
+fn line(alloc: Global, text: &str) -> Result<Bytes, Fail> {
+    Ok(Bytes::copy(alloc, text.as_bytes())?)
+}
+
+fn ask(alloc: Global, job: u64, task: u32, text: &str) -> Result<What, Fail> {
+    Ok(What::Ask {
+        child: 1,
+        job,
+        task,
+        line: line(alloc, text)?,
+    })
+}
+
+fn what(alloc: Global, row: Row) -> Result<What, Fail> {
+    let child = 1;
+    let task = 1;
+    let what = match row {
+        Row::Start(offer) => What::Start {
+            child,
+            slot: 0,
+            offer,
+        },
+        Row::NoStart => What::NoStart { slot: 0 },
+        Row::Greet(job, text) => ask(alloc, job, 0, text)?,
+        Row::Claim => What::Claim { task, child },
+        Row::Ask(job, text) => ask(alloc, job, task, text)?,
+        Row::Put => What::Put {
+            child,
+            job: 2,
+            line: line(alloc, "VALUE")?,
+        },
+        Row::Sent => What::Sent { child },
+        Row::Mute => What::Mute { child },
+        Row::Got(text) => What::Got {
+            child,
+            line: line(alloc, text)?,
+        },
+        Row::Verdict(job, verdict) => What::Verdict {
+            child,
+            job,
+            verdict,
+        },
+        Row::Lost => What::Lost { child, task },
+        Row::Answer(answer) => What::Answer { task, answer },
+        Row::End(why) => What::End { child, why },
+    };
+    Ok(what)
+}
+
+// A run of one check of KEY.
+fn opening(alloc: Global) -> Result<Opening, Fail> {
+    let task = Task {
+        work: Work::Check,
+        key: Key::copy(alloc, KeyRef::read(KEY.as_bytes())?)?,
+        file: Text::copy(alloc, "")?,
+    };
+    let identity = Identity {
+        uuid: Text::copy(alloc, "00000000-0000-0000-0000-000000000000")?,
+        name: Text::copy(alloc, "remote")?,
+        gitdir: Text::copy(alloc, ".git")?,
+    };
+    Ok(Opening {
+        tasks: Tasks::new(vec![in alloc; task]?),
+        identity,
+        stamp: 1_700_000_000_000_000,
+    })
+}
+
+fn journal(alloc: Global, rows: &[Row]) -> Result<Journal, Fail> {
+    let mut entries = Vec::new(alloc);
+    for row in rows {
+        entries.push(Entry {
+            by: 0,
+            what: what(alloc, *row)?,
+        })?;
+    }
+    Ok(Journal::from_entries(entries))
+}
+
+fn found(alloc: Global, head: &[Row], tail: &[Row]) -> Result<Audit, Fail> {
+    let mut rows = Vec::from_slice(alloc, head)?;
+    rows.extend_from_slice(tail)?;
+    let journal = journal(alloc, &rows)?;
+    let opening = opening(alloc)?;
+    if opening.tasks.view().len() > 65536 {
+        return Ok(Audit::Legal);
+    }
+    Ok(audit(alloc, &opening, &journal)?)
+}
+
+const PRESENT: [Row; 17] = [
+    Row::Start(false),
+    Row::Got("VERSION 1"),
+    Row::Greet(0, "EXTENSIONS INFO GETGITREMOTENAME"),
+    Row::Sent,
+    Row::Got("EXTENSIONS"),
+    Row::Verdict(0, Verdict::Done { at: 4 }),
+    Row::Greet(1, "PREPARE"),
+    Row::Sent,
+    Row::Got("PREPARE-SUCCESS"),
+    Row::Verdict(1, Verdict::Done { at: 8 }),
+    Row::Claim,
+    Row::Ask(2, CHECK),
+    Row::Sent,
+    Row::Got(SUCCESS),
+    Row::Verdict(2, Verdict::Done { at: 13 }),
+    Row::Answer(Answer::Present),
+    Row::End(Why::Closed),
+];
+
+fn wrong(entry: u64, kind: u8) -> Audit {
+    Audit::Wrong { entry, kind }
+}
+
+#[test]
+fn the_first_wrong_entry_is_found(rt: HostRuntime) -> Result<(), Fail> {
+    let settled = Row::Verdict(2, Verdict::Done { at: 13 });
+    let present = Row::Answer(Answer::Present);
+    let closed = Row::End(Why::Closed);
+    let early = Row::Greet(0, "EXTENSIONS INFO GETGITREMOTENAME");
+    let other = Row::Got("CHECKPRESENT-SUCCESS WORM--x");
+    for (keep, tail, want) in [
+        (17, [].as_slice(), Audit::Legal),
+        (16, &[], Audit::Legal),
+        (13, &[other, settled, present, closed], wrong(14, 10)),
+        (14, &[present, closed], wrong(14, 12)),
+        (14, &[], wrong(14, 0)),
+        (13, &[settled], wrong(13, 10)),
+        (11, &[Row::Claim], wrong(11, 1)),
+        (17, &[Row::Got("VERSION 1")], wrong(17, 8)),
+        (1, &[early], wrong(1, 4)),
+        (13, &[Row::Sent], wrong(13, 6)),
+        (13, &[closed], wrong(13, 9)),
+        (12, &[Row::Put], wrong(12, 5)),
+    ] {
+        let found = found(rt.alloc(), &PRESENT[..keep], tail)?;
+        assert!(rt; found == want, "{keep}: {found:?}");
+    }
+    Ok(())
+}
+
+const LOST: [Row; 16] = [
+    Row::Start(true),
+    Row::Got("VERSION 1"),
+    Row::Greet(0, "EXTENSIONS INFO GETGITREMOTENAME ASYNC"),
+    Row::Sent,
+    Row::Got("EXTENSIONS INFO ASYNC"),
+    Row::Verdict(0, Verdict::Done { at: 4 }),
+    Row::Greet(1, "J 1 PREPARE"),
+    Row::Sent,
+    Row::Got("J 1 PREPARE-SUCCESS"),
+    Row::Verdict(1, Verdict::Done { at: 8 }),
+    Row::Claim,
+    Row::Ask(2, "J 2 CHECKPRESENT WORM--a"),
+    Row::Mute,
+    Row::Verdict(2, Verdict::Unsent),
+    Row::Lost,
+    Row::NoStart,
+];
+
+#[test]
+fn a_tagged_child_that_is_mute_is_followed(rt: HostRuntime) -> Result<(), Fail> {
+    for (keep, tail, want) in [
+        (16, [].as_slice(), Audit::Legal),
+        (6, &[Row::Greet(1, "PREPARE")], wrong(6, 4)),
+        (
+            11,
+            &[Row::Ask(2, "J 02 CHECKPRESENT WORM--a")],
+            wrong(11, 4),
+        ),
+        (13, &[], wrong(13, 0)),
+        (12, &[Row::Lost], wrong(12, 11)),
+    ] {
+        let found = found(rt.alloc(), &LOST[..keep], tail)?;
+        assert!(rt; found == want, "{keep}: {found:?}");
+    }
+    Ok(())
+}
