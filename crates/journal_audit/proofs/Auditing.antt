@@ -1,5 +1,5 @@
 -- What an audit finds.
-use Rattle.std.proofs.Common.{◌≡◌, Bool, ℕ, zero, suc, List, [], ◌∷◌, ◌++◌, ◌+◌, ◌<◌, ◌≤◌, refl, sym, ap, subst, ◌∙◌, Some, None, Option, arith, inl, inr, ◌⊎◌, length, append-nil, take, drop, slice_get, get_or, add-one}
+use Rattle.std.proofs.Common.{◌≡◌, Bool, true, false, ℕ, zero, suc, List, [], ◌∷◌, ◌++◌, ◌+◌, ◌<◌, ◌≤◌, refl, sym, ap, subst, ◌∙◌, Some, None, Option, arith, inl, inr, ◌⊎◌, length, append-nil, take, drop, slice_get, get_or, add-one}
 use Rattle.std.proofs.Math.Nat.{lt_of_not-le}
 use Rattle.std.proofs.Math.Seq.{take-suc}
 use Rattle.std.proofs.lemmas.List.{length-append, length-take-le}
@@ -79,41 +79,26 @@ one_audit o journal (Wrong a k) (Wrong b l) g h = (let same = wrongs o journal a
 
 -- ---- a journal that is made again, so far
 
--- the next entry, behind those before its place
-pub next_here : (o p : Opening) (items before made : List Entry) (at : ℕ) (e : Entry) (stands : Bool) → p ≡ o → at < length items
+-- what is said of the next entry behind any past holds behind those before its place
+pub next_here : (o p : Opening) (items before made : List Entry) (at : ℕ) (e : Entry) (said stands : Bool) → p ≡ o → at < length items
     → IsReplayed o (take at items) before
-    → ((past : List Entry) → length past ≡ at → IsReplayed p past before → IsNext p past e made stands) → IsNext o (take at items) e made stands
-next_here o p items before made at e stands same less replayed next =
+    → ((past : List Entry) → length past ≡ at → IsReplayed p past before → IsNext p past e made said)
+    → said ≡ stands → IsNext o (take at items) e made stands
+next_here o p items before made at e said stands same less replayed next is =
     let count : length (take at items) ≡ at = length-take-le at items (omega arith) in
-    let P : Opening → Type 0 = λ q. IsReplayed q (take at items) before → IsNext q (take at items) e made stands in
-    subst P same (λ r. next (take at items) count r) replayed
+    let P : Opening → Type 0 = λ q. IsReplayed q (take at items) before → IsNext q (take at items) e made said in
+    subst (IsNext o (take at items) e made) is (subst P same (λ r. next (take at items) count r) replayed)
 
--- the entry at the next place may not stand
-pub wrong_here : (o : Opening) (journal items : List Entry) (at kind : ℕ) (e : Entry) → items ≡ journal → at < length items → e ≡ get_or items at e
-    → StandsFrom o [] [] (take at items) → (MayStand o (take at items) (owed_after o (take at items)) e → ⊥) → kind ≡ kind_of e.what
-    → IsAudit o journal (Wrong at kind)
-wrong_here o journal items at kind e same less is stands wrong of_kind =
+-- the entry may not stand
+pub wrong_here : (o : Opening) (journal items made : List Entry) (at kind : ℕ) (e : Entry) → items ≡ journal → at < length items → e ≡ get_or items at e
+    → StandsFrom o [] [] (take at items) → IsNext o (take at items) e made false → kind ≡ kind_of e.what → IsAudit o journal (Wrong at kind)
+wrong_here o journal items made at kind e same less is stands wrong of_kind =
     let there : slice_get items at ≡ Some e = slice_get_read items (length items) at e refl less is in
     subst (λ (j : List Entry). IsAudit o j (Wrong at kind)) same (inl (e, record { there = there; before = stands; wrong = wrong }, of_kind))
 
 -- it may stand, and is made too
 pub replayed_more : (o : Opening) (items made : List Entry) (at : ℕ) (e : Entry) → at < length items → e ≡ get_or items at e
-    → IsReplayed o (take at items ++ e ∷ []) made → IsReplayed o (take (at + 1) items) made
+    → IsNext o (take at items) e made true → IsReplayed o (take (at + 1) items) made
 replayed_more o items made at e less is r =
     let grown : take (at + 1) items ≡ take at items ++ e ∷ [] = rw (add-one, take-suc items at e less, ← is) refl in
     subst (λ (p : List Entry). IsReplayed o p made) (sym grown) r
-
--- ---- the end of a journal that is made again
-
-pub finished : (o : Opening) (journal made : List Entry) → IsReplayed o journal made → length made ≡ length journal → IsLegal o journal
-finished o journal made r long = record { stands = r.stands; nothing_due = none (owed_after o journal) (ap length r.whole ∙ length-append journal (owed_after o journal)) }
-  where
-    none : (owed : List Entry) → length made ≡ length journal + length owed → owed ≡ []
-    none [] h = refl
-    none (d ∷ ds) h = absurd (omega (arith, h, long))
-
-pub unfinished : (o : Opening) (journal made : List Entry) → IsReplayed o journal made → (length made ≡ length journal → ⊥) → Unfinished o journal
-unfinished o journal made r longer = record {
-  stands = r.stands;
-  due = λ none. longer (ap length (r.whole ∙ ap (λ (ds : List Entry). journal ++ ds) none ∙ append-nil journal));
-}

@@ -48,8 +48,8 @@ fn may_stand(alloc: Global, core: &mut Core, at: usize, entry: &Entry) -> Result
     Ok(is_at(core.journal(), at, entry))
 }
 
-/// What is found of the journal of a run that began so. It takes memory for a copy of both, and looks at all that stands
-/// before an entry more than once.
+/// What is found of the journal of a run that began so. It is plain and slow: for each entry it goes through all that stand
+/// before it, more than once. It takes memory for a copy of the opening and of the journal.
 pub fn audit(alloc: Global, opening: &Opening, journal: &Journal) -> Result<Audit, NoMemory>
     requires few { length opening.now.tasks ≤ 65536 }
     ensures audit { IfOk result (IsAudit opening.now journal.now) }

@@ -81,22 +81,19 @@ fn what(alloc: Global, row: Row) -> Result<What, Fail> {
     Ok(what)
 }
 
-// A run of one check of KEY.
-fn opening(alloc: Global) -> Result<Opening, Fail> {
-    let task = Task {
+fn check(alloc: Global) -> Result<Task, Fail> {
+    Ok(Task {
         work: Work::Check,
         key: Key::copy(alloc, KeyRef::read(KEY.as_bytes())?)?,
         file: Text::copy(alloc, "")?,
-    };
-    let identity = Identity {
+    })
+}
+
+fn identity(alloc: Global) -> Result<Identity, Fail> {
+    Ok(Identity {
         uuid: Text::copy(alloc, "00000000-0000-0000-0000-000000000000")?,
         name: Text::copy(alloc, "remote")?,
         gitdir: Text::copy(alloc, ".git")?,
-    };
-    Ok(Opening {
-        tasks: Tasks::new(vec![in alloc; task]?),
-        identity,
-        stamp: 1_700_000_000_000_000,
     })
 }
 
@@ -111,14 +108,16 @@ fn journal(alloc: Global, rows: &[Row]) -> Result<Journal, Fail> {
     Ok(Journal::from_entries(entries))
 }
 
+// What is found of the head and the tail together, in a run of one check of KEY.
 fn found(alloc: Global, head: &[Row], tail: &[Row]) -> Result<Audit, Fail> {
+    let opening = Opening {
+        tasks: Tasks::new(vec![in alloc; check(alloc)?]?),
+        identity: identity(alloc)?,
+        stamp: 1_700_000_000_000_000,
+    };
     let mut rows = Vec::from_slice(alloc, head)?;
     rows.extend_from_slice(tail)?;
     let journal = journal(alloc, &rows)?;
-    let opening = opening(alloc)?;
-    if opening.tasks.view().len() > 65536 {
-        return Ok(Audit::Legal);
-    }
     Ok(audit(alloc, &opening, &journal)?)
 }
 
