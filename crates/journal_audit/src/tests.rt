@@ -3,6 +3,7 @@ use super::*;
 use ann_key::{Bytes, Key, KeyRef, Text};
 use journal_model::{Answer, Entry, Identity, Journal, Opening, Verdict, What, Why};
 use std::alloc::Global;
+use std::process::Abort;
 use std::test::Fail;
 use task_text::{Task, Tasks, Work};
 
@@ -97,9 +98,10 @@ fn identity(alloc: Global) -> Result<Identity, Fail> {
     })
 }
 
-fn journal(alloc: Global, rows: &[Row]) -> Result<Journal, Fail> {
+// The first entries of the head, and the tail behind them.
+fn journal(alloc: Global, head: &[Row], keep: usize, tail: &[Row]) -> Result<Journal, Fail> {
     let mut entries = Vec::new(alloc);
-    for row in rows {
+    for row in head.iter().take(keep).chain(tail) {
         entries.push(Entry {
             by: 0,
             what: what(alloc, *row)?,
@@ -108,17 +110,28 @@ fn journal(alloc: Global, rows: &[Row]) -> Result<Journal, Fail> {
     Ok(Journal::from_entries(entries))
 }
 
-// What is found of the head and the tail together, in a run of one check of KEY.
-fn found(alloc: Global, head: &[Row], tail: &[Row]) -> Result<Audit, Fail> {
+// What is found of that, in a run of one check of KEY.
+fn found(alloc: Global, head: &[Row], keep: usize, tail: &[Row]) -> Result<Audit, Fail> {
     let opening = Opening {
         tasks: Tasks::new(vec![in alloc; check(alloc)?]?),
         identity: identity(alloc)?,
         stamp: 1_700_000_000_000_000,
     };
-    let mut rows = Vec::from_slice(alloc, head)?;
-    rows.extend_from_slice(tail)?;
-    let journal = journal(alloc, &rows)?;
+    let journal = journal(alloc, head, keep, tail)?;
     Ok(audit(alloc, &opening, &journal)?)
+}
+
+fn compare(
+    rt: &impl Abort,
+    alloc: Global,
+    head: &[Row],
+    cases: &[(usize, &[Row], Audit)],
+) -> Result<(), Fail> {
+    for (keep, tail, want) in cases {
+        let found = found(alloc, head, *keep, tail)?;
+        assert!(rt; found == *want, "{keep}: {found:?}");
+    }
+    Ok(())
 }
 
 const PRESENT: [Row; 17] = [
@@ -141,35 +154,64 @@ const PRESENT: [Row; 17] = [
     Row::End(Why::Closed),
 ];
 
-fn wrong(entry: u64, kind: u8) -> Audit {
-    Audit::Wrong { entry, kind }
-}
+const SETTLED: Row = Row::Verdict(2, Verdict::Done { at: 13 });
+
+const CASES: [(usize, &[Row], Audit); 12] = [
+    (17, &[], Audit::Legal),
+    (16, &[], Audit::Legal),
+    (
+        13,
+        &[
+            Row::Got("CHECKPRESENT-SUCCESS WORM--x"),
+            SETTLED,
+            Row::Answer(Answer::Present),
+            Row::End(Why::Closed),
+        ],
+        Audit::Wrong {
+            entry: 14,
+            kind: 10,
+        },
+    ),
+    (
+        14,
+        &[Row::Answer(Answer::Present), Row::End(Why::Closed)],
+        Audit::Wrong {
+            entry: 14,
+            kind: 12,
+        },
+    ),
+    (14, &[], Audit::Wrong { entry: 14, kind: 0 }),
+    (
+        13,
+        &[SETTLED],
+        Audit::Wrong {
+            entry: 13,
+            kind: 10,
+        },
+    ),
+    (11, &[Row::Claim], Audit::Wrong { entry: 11, kind: 1 }),
+    (
+        17,
+        &[Row::Got("VERSION 1")],
+        Audit::Wrong { entry: 17, kind: 8 },
+    ),
+    (
+        1,
+        &[Row::Greet(0, "EXTENSIONS INFO GETGITREMOTENAME")],
+        Audit::Wrong { entry: 1, kind: 4 },
+    ),
+    (13, &[Row::Sent], Audit::Wrong { entry: 13, kind: 6 }),
+    (
+        13,
+        &[Row::End(Why::Closed)],
+        Audit::Wrong { entry: 13, kind: 9 },
+    ),
+    (12, &[Row::Put], Audit::Wrong { entry: 12, kind: 5 }),
+];
 
 #[test]
 fn the_first_wrong_entry_is_found(rt: HostRuntime) -> Result<(), Fail> {
-    let settled = Row::Verdict(2, Verdict::Done { at: 13 });
-    let present = Row::Answer(Answer::Present);
-    let closed = Row::End(Why::Closed);
-    let early = Row::Greet(0, "EXTENSIONS INFO GETGITREMOTENAME");
-    let other = Row::Got("CHECKPRESENT-SUCCESS WORM--x");
-    for (keep, tail, want) in [
-        (17, [].as_slice(), Audit::Legal),
-        (16, &[], Audit::Legal),
-        (13, &[other, settled, present, closed], wrong(14, 10)),
-        (14, &[present, closed], wrong(14, 12)),
-        (14, &[], wrong(14, 0)),
-        (13, &[settled], wrong(13, 10)),
-        (11, &[Row::Claim], wrong(11, 1)),
-        (17, &[Row::Got("VERSION 1")], wrong(17, 8)),
-        (1, &[early], wrong(1, 4)),
-        (13, &[Row::Sent], wrong(13, 6)),
-        (13, &[closed], wrong(13, 9)),
-        (12, &[Row::Put], wrong(12, 5)),
-    ] {
-        let found = found(rt.alloc(), &PRESENT[..keep], tail)?;
-        assert!(rt; found == want, "{keep}: {found:?}");
-    }
-    Ok(())
+    compare(&rt, rt.alloc(), &PRESENT, &CASES)
 }
 
 const LOST: [Row; 16] = [
@@ -191,21 +233,30 @@ const LOST: [Row; 16] = [
     Row::NoStart,
 ];
 
+const TAGGED_CASES: [(usize, &[Row], Audit); 5] = [
+    (16, &[], Audit::Legal),
+    (
+        6,
+        &[Row::Greet(1, "PREPARE")],
+        Audit::Wrong { entry: 6, kind: 4 },
+    ),
+    (
+        11,
+        &[Row::Ask(2, "J 02 CHECKPRESENT WORM--a")],
+        Audit::Wrong { entry: 11, kind: 4 },
+    ),
+    (13, &[], Audit::Wrong { entry: 13, kind: 0 }),
+    (
+        12,
+        &[Row::Lost],
+        Audit::Wrong {
+            entry: 12,
+            kind: 11,
+        },
+    ),
+];
+
 #[test]
 fn a_tagged_child_that_is_mute_is_followed(rt: HostRuntime) -> Result<(), Fail> {
-    for (keep, tail, want) in [
-        (16, [].as_slice(), Audit::Legal),
-        (6, &[Row::Greet(1, "PREPARE")], wrong(6, 4)),
-        (
-            11,
-            &[Row::Ask(2, "J 02 CHECKPRESENT WORM--a")],
-            wrong(11, 4),
-        ),
-        (13, &[], wrong(13, 0)),
-        (12, &[Row::Lost], wrong(12, 11)),
-    ] {
-        let found = found(rt.alloc(), &LOST[..keep], tail)?;
-        assert!(rt; found == want, "{keep}: {found:?}");
-    }
-    Ok(())
+    compare(&rt, rt.alloc(), &LOST, &TAGGED_CASES)
 }
