@@ -1,12 +1,12 @@
 -- What an audit finds.
-use Rattle.std.proofs.Common.{◌≡◌, Bool, true, false, ℕ, zero, suc, List, [], ◌∷◌, ◌++◌, ◌+◌, ◌<◌, ◌≤◌, refl, sym, ap, subst, ◌∙◌, Some, None, Option, arith, inl, inr, ◌⊎◌, length, append-nil, take, drop, slice_get, get_or, add-one}
+use Rattle.std.proofs.Common.{◌≡◌, Bool, true, false, ℕ, zero, suc, List, [], ◌∷◌, ◌++◌, ◌+◌, ◌<◌, refl, sym, ap, subst, ◌∙◌, Some, arith, inl, inr, length, take, drop, slice_get, get_or, add-one}
 use Rattle.std.proofs.Math.Nat.{lt_of_not-le}
 use Rattle.std.proofs.Math.Seq.{take-suc}
-use Rattle.std.proofs.lemmas.List.{length-append, length-take-le}
+use Rattle.std.proofs.lemmas.List.{length-take-le}
 use Rattle.std.proofs.lemmas.Option.{slice_get_read}
 use Rattle.journal_model.specs.declared.entry.Entry.{Entry}
 use Rattle.journal_model.specs.declared.opening.Opening.{Opening}
-use Rattle.journal_model.specs.Legality.{Legal as IsLegal, FirstWrong, Unfinished, kind_of, StandsFrom, MayStand, owed_after}
+use Rattle.journal_model.specs.Legality.{Legal as IsLegal, FirstWrong, kind_of, StandsFrom, MayStand, owed_after}
 use Rattle.journal_model.proofs.Growing.{StandsFrom-split}
 use Rattle.journal_audit.specs.declared.found.Audit.{Audit}
 use Rattle.journal_audit.specs.declared.found.Audit.TheVariants.{Legal, Wrong}

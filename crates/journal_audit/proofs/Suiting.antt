@@ -1,26 +1,23 @@
--- The event for an entry of each kind appends it, if it may come.
-use Rattle.std.proofs.Common.{◌≡◌, ℕ, List, ◌++◌, ◌+◌, ◌<◌, ◌^◌, refl, sym, ap, subst, ◌∙◌, Bool, true, false, cond, not, Option, Some, None, arith, inl, inr, length}
-use Rattle.std.specs.Prelude.{◌&&◌, ◌||◌, ◌==◌, nat_lt, bytes_eq, codes}
-use Rattle.std.proofs.lemmas.Bool.Decides.{nat_tests}
+-- The event that is made for a claim, a request or a line appends it, if it may come. The other kinds need no lemma.
+use Rattle.std.proofs.Common.{◌≡◌, ℕ, List, refl, sym, ap, subst, ◌∙◌, Bool, true, false, cond, not, Option, Some, None}
+use Rattle.std.specs.Prelude.{◌&&◌, ◌||◌, ◌==◌, bytes_eq, codes}
 use Rattle.std.proofs.lemmas.Slice.Eq.{bytes_eq-Decides}
-use Rattle.annex_model.specs.declared.verdict.Why.{Why}
 use Rattle.annex_model.specs.Lines.{has_newline}
 use Rattle.annex_model.specs.Messages.{HostMessage, AskExtensions, Prepare, Checkpresent, host_line, host_reading, IsAskable}
-use Rattle.journal_model.specs.declared.answer.Answer.{Answer}
 use Rattle.journal_model.specs.declared.entry.What.{What}
-use Rattle.journal_model.specs.declared.entry.What.TheVariants.{Claim, Start, NoStart, Ask, Sent, Mute, Got, End, Lost, Answer as Answered}
+use Rattle.journal_model.specs.declared.entry.What.TheVariants.{Claim, Ask, Got, Lost}
 use Rattle.journal_model.specs.declared.entry.Entry.{Entry}
 use Rattle.journal_model.specs.declared.opening.Opening.{Opening}
-use Rattle.journal_model.specs.Journal.{any, offers, is_started, is_ended, is_mute, is_live, unsent, addressed, on_wire}
-use Rattle.journal_model.specs.Legality.{is_empty, count, is_start, least_free, is_prepared, is_in_turn, may_ask, may_stop, may_come, is_number, asks_in_turn, offered_names}
+use Rattle.journal_model.specs.Journal.{any, offers, is_started, is_ended, is_mute, is_live, addressed, on_wire}
+use Rattle.journal_model.specs.Legality.{least_free, is_prepared, is_in_turn, may_ask, may_come, is_number, asks_in_turn, offered_names}
 use Rattle.journal_model.proofs.Looks.{same_number, both}
 use Rattle.journal_model.proofs.Asking.{read_askable}
 use Rattle.talk_serial.specs.declared.request.Request.{Request}
 use Rattle.talk_serial.specs.declared.request.Request.TheVariants.{Extensions, Prepare as PrepareRequest, CheckPresent}
 use Rattle.talk_serial.specs.Requests.{message_of, names_of}
-use Rattle.host_core.specs.declared.event.Event.TheVariants.{Claim as ClaimEvent, Start as StartEvent, NoStart as NoStartEvent, Ask as AskEvent, Got as GotEvent, Stop, Sent as SentEvent, Mute as MuteEvent, Answer as AnswerEvent}
+use Rattle.host_core.specs.declared.event.Event.TheVariants.{Claim as ClaimEvent, Ask as AskEvent, Got as GotEvent}
 use Rattle.host_core.specs.declared.event.Reply.TheVariants.{Job}
-use Rattle.host_core.specs.Steps.{step_of, group_of, append, odd, gone, claim, next_job, may_request, is_askable}
+use Rattle.host_core.specs.Steps.{step_of, group_of, append, odd, gone, next_job, may_request, is_askable}
 use Rattle.journal_audit.specs.Replays.{Suits, IsRequestOf, MayBeNext}
 
 is_not : (b : Bool) → not b ≡ true → b ≡ false

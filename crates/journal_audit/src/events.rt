@@ -47,7 +47,7 @@ fn got_event(alloc: Global, core: &Core, child: u32, line: &[u8]) -> Result<Opti
     Ok(Some(Event::Got { child, line }))
 }
 
-/// The event that appends the entry, if the entry may come; it may be any where not. None only where no event appends it.
+/// The event that appends the entry, if it may come; and else any, or none.
 pub(super) fn event_of(alloc: Global, core: &Core, what: &What) -> Result<Option<Event>, NoMemory>
     ensures { IfOk result (Suits core.now.opening core.now.journal what.now) }
 {

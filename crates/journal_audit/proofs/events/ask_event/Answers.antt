@@ -1,6 +1,5 @@
-use Rattle.std.proofs.Common.{ap}
 use Rattle.wire_msg.specs.Shown.{host_shown}
-use Rattle.journal_audit.proofs.Suiting.{suits_ask, suits_unread}
+use Rattle.journal_audit.proofs.Suiting.{suits_ask}
 use Rattle.journal_audit.proofs.events.ask_event.Goals as goal
 
 pub returns : goal.returns

@@ -1,4 +1,4 @@
-use Rattle.std.proofs.Common.{◌≡◌, length, ◌∙◌, sym, ap, subst, List, ℕ, Some, slice_get}
+use Rattle.std.proofs.Common.{◌≡◌, length, ◌∙◌, sym, ap, subst, List, Some, slice_get}
 use Rattle.std.specs.Prelude.{IsTrue, ◌↔◌}
 use Rattle.host_core.specs.Held.{Held}
 use Rattle.journal_model.specs.declared.entry.Entry.{Entry}
