@@ -1,0 +1,9 @@
+use Rattle.std.proofs.Common.{◌≡◌, take}
+use Rattle.journal_audit.specs.Replays.{IsReplayed}
+use Rattle.journal_audit.proofs.replay.audit.Given as goal
+
+abbrev pub invariant-loop-at : goal.invariant-loop-at
+invariant-loop-at l = record {
+  opening : l.core.opening ≡ l.opening;
+  replayed : IsReplayed l.opening (take l.at l.entry-items) l.core.journal;
+}

@@ -1,0 +1,15 @@
+// Says of a journal whether it is legal, by making it again entry by entry.
+#![tactic(auto)]
+
+mod equal;
+mod events;
+mod found;
+mod kind;
+pub mod laws;
+mod replay;
+mod requests;
+#[cfg(test)]
+mod tests;
+
+pub use found::Audit;
+pub use replay::audit;
