@@ -52,15 +52,14 @@ module _ (key : List ℕ) (first : What) (past journal : List Entry) (answer : A
   alone = ap (list_any (λ (q : ℕ × ℕ). is_open past q.0 q.1)) begun.jobs
 
   -- the answer is free, or the start's
-  pub done_alone : journal ≡ past ++ claim ∷ [] → (answer ≡ Memory) ⊎ (failed_start past (last_or None (each_of (came_of 0) past)) ≡ Some answer) → IsDone key journal answer
+  pub done_alone : journal ≡ past ++ claim ∷ [] → (answer ≡ Memory) ⊎ (failed_start past (last_or None (each_of (came_of 0) past)) ≡ Some answer) → IsDone key first journal answer
   done_alone grown why =
       let all : List Entry = past ++ claim ∷ [] in
       let claimed : each_of claim_in all ≡ (1, 0) ∷ [] = each_of-append claim_in past (claim ∷ []) ∙ ap (λ (xs : List (ℕ × ℕ)). xs ++ (1, 0) ∷ []) begun.unclaimed in
       let jobs : each_of (job_for 1) all ≡ [] = each_of-append (job_for 1) past (claim ∷ []) ∙ ap (λ (xs : List (ℕ × ℕ)). xs ++ []) begun.jobs in
       let unasked : askings all 1 ≡ [] = askings-unasked past (claim ∷ []) 1 alone refl ∙ begun.unasked in
       let zero_run : (answer ≡ Memory) ⊎ ChildZero all 1 answer = by_why why in
-      subst (λ (j : List Entry). IsDone key j answer) (sym grown) record {
-        first = first;
+      subst (λ (j : List Entry). IsDone key first j answer) (sym grown) record {
         is_start = begun.is_start;
         starts = each_of-append start_in past (claim ∷ []) ∙ ap (λ (xs : List What). xs ++ []) begun.starts;
         child = 0;
@@ -171,13 +170,12 @@ module _ (o : Opening) (first : What) (past : List Entry) (c : ℕ) (begun : IsB
         × (has_open_job (claimed ++ more) 1 ≡ false) × (list_all (λ (e : Entry). is_for_task e.what) more ≡ true)
         × CheckRun key (askings (claimed ++ more) 1) answer
 
-    done_later : (more : List Entry) (answer : Answer) → Later more answer → IsDone key (claimed ++ more) answer
+    done_later : (more : List Entry) (answer : Answer) → Later more answer → IsDone key first (claimed ++ more) answer
     done_later more answer h =
         let whole : claimed ++ more ≡ past ++ main_entry (Claim 1 c) ∷ more = append_assoc past (main_entry (Claim 1 c) ∷ []) more in
         let all : each_of claim_in (claimed ++ more) ≡ (1, c) ∷ [] = each_of-append claim_in claimed more ∙ (rw (task, h.1) refl) in
         record {
-          first = first;
-          is_start = begun.is_start;
+            is_start = begun.is_start;
           starts = each_of-append start_in claimed more ∙ ap (λ (xs : List What). xs ++ each_of start_in more) (each_of-append start_in past (main_entry (Claim 1 c) ∷ [])) ∙ (rw (begun.starts, h.0) refl);
           child = c;
           claims = all;
@@ -189,10 +187,10 @@ module _ (o : Opening) (first : What) (past : List Entry) (c : ℕ) (begun : IsB
         }
 
     -- no memory was found to ask
-    pub done_unasked : (journal : List Entry) → journal ≡ claimed → IsDone key journal Memory
+    pub done_unasked : (journal : List Entry) → journal ≡ claimed → IsDone key first journal Memory
     done_unasked journal same_journal =
         let still : claimed ++ [] ≡ claimed = append-nil claimed in
-        subst (λ (j : List Entry). IsDone key j Memory) (still ∙ sym same_journal)
+        subst (λ (j : List Entry). IsDone key first j Memory) (still ∙ sym same_journal)
         (done_later [] Memory (refl, refl, refl, ap (λ (j : List Entry). has_open_job j 1) still ∙ idle_now, refl,
         subst (λ (xs : List Asking). CheckRun key xs Memory) (sym (ap (λ (j : List Entry). askings j 1) still ∙ unasked)) refl))
 
@@ -207,7 +205,7 @@ module _ (o : Opening) (first : What) (past : List Entry) (c : ℕ) (begun : IsB
 
     -- it was asked and settled
     done_settled : (o' : Opening) (journal : List Entry) (verdict : Verdict) (answer : Answer) → is_sent_key key ≡ true → open_jobs journal c ≡ []
-        → IsSettled o' claimed journal 0 c 1 question verdict → check_answer verdict ≡ Some answer → IsDone key journal answer
+        → IsSettled o' claimed journal 0 c 1 question verdict → check_answer verdict ≡ Some answer → IsDone key first journal answer
     done_settled o' journal verdict answer sent idle s says =
         let more : List Entry = asked ∷ s.goes.more in
         let grown : journal ≡ claimed ++ more = s.goes.is ∙ append_assoc claimed (asked ∷ []) s.goes.more in
@@ -225,7 +223,7 @@ module _ (o : Opening) (first : What) (past : List Entry) (c : ℕ) (begun : IsB
         ap (list_any (λ (q : ℕ × ℕ). is_open (claimed ++ more) q.0 q.1)) jobs ∙ ap (λ (ks : List ℕ). list_any (λ k. k == next_job claimed c) ks || false) none_open in
         let tasked : list_all (λ (e : Entry). is_for_task e.what) more ≡ true = rw (or_true (nat_lt (next_job claimed c) 2), all_weaken is_of_link is_for_task link_for_task s.goes.more s.goes.quiet) refl in
         let run : CheckRun key (record { request = Some question; verdict = verdict } ∷ []) answer = (refl, inr says) in
-        subst (λ (j : List Entry). IsDone key j answer) (sym grown)
+        subst (λ (j : List Entry). IsDone key first j answer) (sym grown)
         (done_later more answer (link_says_none start_in no_starts s.goes.more s.goes.quiet, link_says_none claim_in no_claims s.goes.more s.goes.quiet,
         link_says_none answer_in no_answers s.goes.more s.goes.quiet, closed, tasked, subst (λ (xs : List Asking). CheckRun key xs answer) (sym pairs) run))
 
@@ -235,32 +233,32 @@ module _ (o : Opening) (first : What) (past : List Entry) (c : ℕ) (begun : IsB
 
     -- it was lost
     done_lost : (o' : Opening) (journal : List Entry) (verdict : Verdict) (answer : Answer)
-        → IsLost o' claimed journal 0 c 1 verdict → check_answer verdict ≡ Some answer → IsDone key journal answer
+        → IsLost o' claimed journal 0 c 1 verdict → check_answer verdict ≡ Some answer → IsDone key first journal answer
     done_lost o' journal verdict answer l says =
         let more : List Entry = main_entry (Lost c 1) ∷ [] in
         let pairs : askings (claimed ++ more) 1 ≡ record { request = None; verdict = lost_verdict (why_of claimed c) } ∷ [] =
         askings-lost claimed [] 1 0 c idle_now refl ∙ ap (λ (xs : List Asking). xs ++ record { request = None; verdict = lost_verdict (why_of claimed c) } ∷ []) unasked in
         let jobs : each_of (job_for 1) (claimed ++ more) ≡ [] = each_of-append (job_for 1) claimed more ∙ ap (λ (xs : List (ℕ × ℕ)). xs ++ []) task_jobs in
-        subst (λ (j : List Entry). IsDone key j answer) (sym l.made)
+        subst (λ (j : List Entry). IsDone key first j answer) (sym l.made)
         (done_later more answer (refl, refl, refl, ap (list_any (λ (q : ℕ × ℕ). is_open (claimed ++ more) q.0 q.1)) jobs, refl,
         subst (λ (xs : List Asking). CheckRun key xs answer) (sym pairs) (lost_fits (why_of claimed c) answer (ap check_answer (sym l.lost) ∙ says))))
 
     pub done_asked : (o' : Opening) (journal : List Entry) (verdict : Verdict) (answer : Answer) → is_sent_key key ≡ true → open_jobs journal c ≡ []
-        → HasAsked o' claimed journal 0 c 1 question verdict → check_answer verdict ≡ Some answer → IsDone key journal answer
+        → HasAsked o' claimed journal 0 c 1 question verdict → check_answer verdict ≡ Some answer → IsDone key first journal answer
     done_asked o' journal verdict answer sent idle (inl s) says = done_settled o' journal verdict answer sent idle s says
     done_asked o' journal verdict answer sent idle (inr l) says = done_lost o' journal verdict answer l says
 
     -- this came of asking, or of want of memory
     pub done_answer : (o' : Opening) (mid journal : List Entry) (answer : Answer) → is_sent_key key ≡ true → open_jobs past c ≡ [] → mid ≡ claimed
-        → AsksFor o' mid journal c key answer → IsDone key journal answer × (open_jobs journal c ≡ [])
+        → AsksFor o' mid journal c key answer → IsDone key first journal answer × (open_jobs journal c ≡ [])
     done_answer o' mid journal answer sent idle e h = go (subst (λ (j : List Entry). AsksFor o' j journal c key answer) e h)
       where
-        go : AsksFor o' claimed journal c key answer → IsDone key journal answer × (open_jobs journal c ≡ [])
+        go : AsksFor o' claimed journal c key answer → IsDone key first journal answer × (open_jobs journal c ≡ [])
         go (inl a) =
             let none : open_jobs journal c ≡ [] = idle_asked o' claimed journal 0 c 1 question a.0 (idle_child idle) a.1 in
             (done_asked o' journal a.0 answer sent none a.1 a.2, none)
         go (inr m) =
-            (subst (λ (x : Answer). IsDone key journal x) (sym m.1) (done_unasked journal m.0),
+            (subst (λ (x : Answer). IsDone key first journal x) (sym m.1) (done_unasked journal m.0),
             ap (λ (j : List Entry). open_jobs j c) m.0 ∙ idle_child idle)
 
 -- ---- the two ways of a claim

@@ -39,8 +39,8 @@ answered_by_list : (journal : List Entry) → any (answers 1) journal ≡ list_a
 answered_by_list journal = any_through (answers 1) answer_in (λ (p : ℕ × Answer). p.0 == 1) answers_is journal
 
 -- the answer may be given
-pub may_give : (key : List ℕ) (journal : List Entry) (answer : Answer) → IsDone key journal answer → may_answer journal 0 1 ≡ true
-may_give key journal answer d =
+pub may_give : (key : List ℕ) (first : What) (journal : List Entry) (answer : Answer) → IsDone key first journal answer → may_answer journal 0 1 ≡ true
+may_give key first journal answer d =
     let claimed : is_claimed journal 1 ≡ true = claimed_by_list journal ∙ ap (list_any (λ (p : ℕ × ℕ). p.0 == 1)) d.claims in
     let open_still : any (answers 1) journal ≡ false = answered_by_list journal ∙ ap (list_any (λ (p : ℕ × Answer). p.0 == 1)) d.silent in
     rw (d.own, claimed, open_still, d.idle) refl
@@ -54,7 +54,7 @@ claimed_for_is : (c : ℕ) (w : What) → claimed_for c w ≡ option_and_then (t
 claimed_for_is c (Claim task child) = refl
 claimed_for_is c w = refl
 
-module _ (key : List ℕ) (past journal : List Entry) (answer : Answer) (d : IsDone key past answer) (grown : journal ≡ past ++ main_entry (Answered 1 answer) ∷ []) where
+module _ (key : List ℕ) (first : What) (past journal : List Entry) (answer : Answer) (d : IsDone key first past answer) (grown : journal ≡ past ++ main_entry (Answered 1 answer) ∷ []) where
   abbrev all : List Entry
   all = past ++ main_entry (Answered 1 answer) ∷ []
 
@@ -103,16 +103,15 @@ over_grows key past more answer zero idle none h = (askings-unasked past more 1 
 over_grows key past more answer (suc child) idle none h = subst (λ (xs : List Asking). CheckRun key xs answer) (sym (askings-unasked past more 1 idle none)) h
 
 -- behind the answer stands what the child's link does alone
-pub run_done : (key : List ℕ) (past more journal : List Entry) (answer : Answer) → IsDone key past answer → journal ≡ past ++ main_entry (Answered 1 answer) ∷ more
-    → list_all (λ (e : Entry). is_of_link e.what) more ≡ true → IsRun key journal answer
-run_done key past more journal answer d grown quiet =
+pub run_done : (key : List ℕ) (first : What) (past more journal : List Entry) (answer : Answer) → IsDone key first past answer → journal ≡ past ++ main_entry (Answered 1 answer) ∷ more
+    → list_all (λ (e : Entry). is_of_link e.what) more ≡ true → IsRun key first journal answer
+run_done key first past more journal answer d grown quiet =
     let rest : List Entry = main_entry (Answered 1 answer) ∷ more in
     let none : any (asks_for 1) more ≡ false = any_none is_of_link (asks_for 1) link_asks_none more quiet in
     let claims : each_of claim_in (past ++ rest) ≡ (1, d.child) ∷ [] = each_of-append claim_in past rest ∙ (rw (d.claims, link_says_none claim_in no_claims more quiet) refl) in
     let before : CheckOver key past 1 answer (Some d.child) = subst (CheckOver key past 1 answer) (first_claim past d.child d.claims) d.run in
     let after : CheckOver key (past ++ rest) 1 answer (Some d.child) = over_grows key past rest answer d.child d.idle none before in
-    subst (λ (j : List Entry). IsRun key j answer) (sym grown) record {
-      first = d.first;
+    subst (λ (j : List Entry). IsRun key first j answer) (sym grown) record {
       is_start = d.is_start;
       starts = each_of-append start_in past rest ∙ (rw (d.starts, link_says_none start_in no_starts more quiet) refl);
       claims = (d.child, claims);

@@ -1,6 +1,7 @@
 pub mod Beginning
 pub mod Doing
 pub mod Finishing
+pub mod Leaving
 pub mod Looking
 pub mod Wishes
 pub mod Refusing

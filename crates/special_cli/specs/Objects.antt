@@ -7,6 +7,7 @@ use Rattle.journal_model.specs.declared.entry.Entry.{Entry}
 use Rattle.journal_model.specs.Journal.{each_of}
 use Rattle.journal_model.specs.Wires.{Wired, Caused, is_heard_in_turn}
 use Rattle.child_link.specs.declared.wire.Wire.{Wire}
+use Rattle.child_link.specs.Links.{LinkValue}
 
 -- ---- wires
 
@@ -44,6 +45,23 @@ module _ {I O : Type 0} (taken : I → Option (List ℕ)) (write_faults : I → 
   AreWires n (None ∷ cs) wires = AreWires (n + 1) cs wires
   AreWires n (Some c ∷ cs) (wire ∷ wires) = (wire.child ≡ c) × IsWire (n + 1) wire × AreWires (n + 1) cs wires
   AreWires n _ _ = ⊥
+
+-- the wire that a link leaves
+pub record IsLeft {I O : Type 0} (taken : I → Option (List ℕ)) (write_faults : I → ℕ) (inlet_number : I → Option ℕ)
+    (given left : O → Option (List ℕ)) (read_faults : O → ℕ) (outlet_number : O → Option ℕ) (link : LinkValue I O) (wire : Wire I O) : Type 0 where
+  pub child : wire.child ≡ link.child
+  pub taken_is : taken wire.inlet ≡ taken link.inlet
+  pub given_is : given wire.outlet ≡ given link.outlet
+  pub left_is : left wire.outlet ≡ left link.outlet
+  pub faults : (write_faults wire.inlet ≡ write_faults link.inlet) × (read_faults wire.outlet ≡ read_faults link.outlet)
+  pub numbers : (inlet_number wire.inlet ≡ inlet_number link.inlet) × (outlet_number wire.outlet ≡ outlet_number link.outlet)
+  pub rest : wire.rest ≡ link.held
+
+-- it is the only one
+abbrev pub OneIsLeft : {I O : Type 0} → (I → Option (List ℕ)) → (I → ℕ) → (I → Option ℕ) → (O → Option (List ℕ)) → (O → Option (List ℕ)) → (O → ℕ) → (O → Option ℕ)
+    → LinkValue I O → List (Wire I O) → Type 0
+OneIsLeft {I} {O} taken write_faults inlet_number given left read_faults outlet_number link wires =
+    (wire : Wire I O) × (wires ≡ wire ∷ []) × IsLeft taken write_faults inlet_number given left read_faults outlet_number link wire
 
 -- ---- starts
 

@@ -41,8 +41,7 @@ pub record IsBegun (first : What) (journal : List Entry) : Type 0 where
   pub tasked : list_all (λ e. is_for_task e.what) journal ≡ true
 
 -- the task is claimed and done, so that this is its answer, which has not been given
-pub record IsDone (key : List ℕ) (journal : List Entry) (answer : Answer) : Type 0 where
-  pub first : What
+pub record IsDone (key : List ℕ) (first : What) (journal : List Entry) (answer : Answer) : Type 0 where
   pub is_start : IsStart first
   pub starts : starts_in journal ≡ first ∷ []
   pub child : ℕ
@@ -54,8 +53,7 @@ pub record IsDone (key : List ℕ) (journal : List Entry) (answer : Answer) : Ty
   pub tasked : list_all (λ e. is_for_task e.what) journal ≡ true
 
 -- the answer is given
-pub record IsRun (key : List ℕ) (journal : List Entry) (answer : Answer) : Type 0 where
-  pub first : What
+pub record IsRun (key : List ℕ) (first : What) (journal : List Entry) (answer : Answer) : Type 0 where
   pub is_start : IsStart first
   pub starts : starts_in journal ≡ first ∷ []
   pub claims : (child : ℕ) × (each_of claim_in journal ≡ (1, child) ∷ [])
@@ -73,8 +71,11 @@ AsksFor o old new c key answer =
     ((v : Verdict) × HasAsked o old new 0 c 1 (Checkpresent key) v × (check_answer v ≡ Some answer))
     ⊎ ((new ≡ old) × (answer ≡ Memory))
 
--- the run has begun, and this is the answer of its start, which gave no child that is ready
+-- the run has begun, and this is the answer of its child, which is not ready
 pub record IsUnready (journal : List Entry) (answer : Answer) : Type 0 where
-  pub first : What
-  pub begun : IsBegun first journal
+  pub begun : IsBegun (Start 1 0 false) journal
   pub why : failed_start journal (last_or None (each_of (came_of 0) journal)) ≡ Some answer
+
+-- the answer is given, after one start
+abbrev pub HasAnswered : List ℕ → List Entry → Answer → Type 0
+HasAnswered key journal answer = (first : What) × IsRun key first journal answer

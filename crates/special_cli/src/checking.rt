@@ -2,7 +2,8 @@
 ghost use Rattle.std.specs.Prelude.{◌≡◌, ◌++◌, ℕ, List, [], ◌∷◌, Some, true, false, if◌then◌else◌, MatchResult};
 ghost use Rattle.annex_model.specs.Messages.{Checkpresent, is_sent_key};
 ghost use Rattle.annex_model.specs.declared.verdict.Why.TheVariants.{Closed};
-ghost use Rattle.journal_model.specs.declared.entry.What.TheVariants.{Claim, NoStart, Answer as Answered};
+ghost use Rattle.journal_model.specs.declared.entry.What.TheVariants.{Claim, Start, NoStart, Answer as Answered};
+ghost use Rattle.journal_model.specs.declared.entry.What.{What};
 ghost use Rattle.journal_model.specs.Journal.{is_started, open_jobs};
 ghost use Rattle.journal_model.specs.Legality.{Legal, least_free, is_prepared, may_stop};
 ghost use Rattle.host_core.specs.Steps.{may_answer, may_request};
@@ -113,7 +114,7 @@ fn do_task<I: Sink, O: Source>(link: &mut Lone<I, O>, core: &mut Core, key: Key)
     requires key { is_sent_key key ≡ true }
     requires greeted { Greeted [] core.old.journal 0 false link.old.child }
     requires ready { IsReady core.old.journal link.old.child }
-    ensures done { IsDone key core.new.journal result }
+    ensures done { IsDone key (Start 1 0 false) core.new.journal result }
     ensures idle { open_jobs core.new.journal link.old.child ≡ [] }
     ensures started { is_started core.new.journal link.old.child ≡ true }
     ensures linked { IsLinked I.taken I.faults O.given O.left O.faults core.old.journal link.old → IsLinked I.taken I.faults O.given O.left O.faults core.new.journal link.new }
@@ -133,10 +134,10 @@ fn do_task<I: Sink, O: Source>(link: &mut Lone<I, O>, core: &mut Core, key: Key)
 
 // The answer is given, and the child is closed.
 fn end<I: Sink, O: Source>(link: &mut Lone<I, O>, core: &mut Core, answer: Answer)
-    requires done { (key : List ℕ) × IsDone key core.old.journal answer }
+    requires done { (key : List ℕ) × (first : What) × IsDone key first core.old.journal answer }
     requires idle { open_jobs core.old.journal link.old.child ≡ [] }
     requires started { is_started core.old.journal link.old.child ≡ true }
-    ensures run { (key : List ℕ) → IsDone key core.old.journal answer → IsRun key core.new.journal answer }
+    ensures run { (key : List ℕ) (first : What) → IsDone key first core.old.journal answer → IsRun key first core.new.journal answer }
     ensures linked { IsLinked I.taken I.faults O.given O.left O.faults core.old.journal link.old → IsLinked I.taken I.faults O.given O.left O.faults core.new.journal link.new }
     ensures child { link.new.child ≡ link.old.child }
     ensures numbers { (I.number link.new.inlet ≡ I.number link.old.inlet) × (O.number link.new.outlet ≡ O.number link.old.outlet) }
@@ -157,7 +158,7 @@ pub(super) fn check<I: Sink, O: Source>(
     requires key { is_sent_key key ≡ true }
     requires greeted { Greeted [] core.old.journal 0 false link.old.child }
     requires ready { IsReady core.old.journal link.old.child }
-    ensures run { IsRun key core.new.journal result }
+    ensures run { IsRun key (Start 1 0 false) core.new.journal result }
     ensures linked { IsLinked I.taken I.faults O.given O.left O.faults core.old.journal link.old → IsLinked I.taken I.faults O.given O.left O.faults core.new.journal link.new }
     ensures child { link.new.child ≡ link.old.child }
     ensures numbers { (I.number link.new.inlet ≡ I.number link.old.inlet) × (O.number link.new.outlet ≡ O.number link.old.outlet) }
@@ -179,7 +180,7 @@ pub(super) fn give_up<I: Sink, O: Source>(
     requires unready { IsUnready core.old.journal answer }
     requires idle { open_jobs core.old.journal link.old.child ≡ [] }
     requires started { is_started core.old.journal link.old.child ≡ true }
-    ensures run { (key : List ℕ) → IsRun key core.new.journal answer }
+    ensures run { (key : List ℕ) → IsRun key (Start 1 0 false) core.new.journal answer }
     ensures linked { IsLinked I.taken I.faults O.given O.left O.faults core.old.journal link.old → IsLinked I.taken I.faults O.given O.left O.faults core.new.journal link.new }
     ensures child { link.new.child ≡ link.old.child }
     ensures numbers { (I.number link.new.inlet ≡ I.number link.old.inlet) × (O.number link.new.outlet ≡ O.number link.old.outlet) }
@@ -194,7 +195,7 @@ pub(super) fn give_up<I: Sink, O: Source>(
 pub(super) fn not_started(core: &mut Core) -> Answer
     requires one { HasOneTask core.old.opening }
     requires failed { core.old.journal ≡ main_entry (NoStart 0) ∷ [] }
-    ensures run { (key : List ℕ) → IsRun key core.new.journal result }
+    ensures run { (key : List ℕ) → IsRun key (NoStart 0) core.new.journal result }
     ensures opening { core.new.opening ≡ core.old.opening }
     ensures legal { Legal core.new.opening core.new.journal }
 {

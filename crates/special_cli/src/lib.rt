@@ -5,6 +5,7 @@ mod checking;
 mod closing;
 mod opening;
 mod refusals;
+mod running;
 mod texts;
 mod words;
 

@@ -6,15 +6,15 @@ use Rattle.special_cli.proofs.Finishing.{may_give, may_close, started_still, run
 use Rattle.special_cli.proofs.checking.end.Goals as goal
 
 pub give-requires : goal.give-requires
-give-requires g c = record { may = may_give c.requires.done.0 c.args.core.now.journal c.args.answer c.requires.done.1 }
+give-requires g c = record { may = may_give c.requires.done.0 c.requires.done.1 c.args.core.now.journal c.args.answer c.requires.done.2 }
 
 pub close-requires-clause-idle : goal.close-requires-clause-idle
 close-requires-clause-idle g c =
-    may_close c.requires.done.0 c.args.core.now.journal c.give.new.core.journal c.args.answer c.requires.done.1 c.give.ensures.given c.args.link.now.child c.requires.idle
+    may_close c.requires.done.0 c.requires.done.1 c.args.core.now.journal c.give.new.core.journal c.args.answer c.requires.done.2 c.give.ensures.given c.args.link.now.child c.requires.idle
 
 pub returns-clause-run : goal.returns-clause-run
-returns-clause-run g c = λ key done.
-    run_done key c.args.core.now.journal c.close.ensures.goes.more c.close.new.core.journal c.args.answer done
+returns-clause-run g c = λ key first done.
+    run_done key first c.args.core.now.journal c.close.ensures.goes.more c.close.new.core.journal c.args.answer done
     (c.close.ensures.goes.is ∙ ap (λ (j : List Entry). j ++ c.close.ensures.goes.more) c.give.ensures.given
     ∙ append_assoc c.args.core.now.journal (main_entry (Answered 1 c.args.answer) ∷ []) c.close.ensures.goes.more)
     c.close.ensures.goes.quiet

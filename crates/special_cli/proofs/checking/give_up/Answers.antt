@@ -1,6 +1,6 @@
-use Rattle.std.proofs.Common.{◌≡◌, ◌∙◌, List, [], ◌∷◌, refl, ap, inr}
+use Rattle.std.proofs.Common.{◌≡◌, ◌∙◌, false, List, [], ◌∷◌, refl, ap, inr}
 use Rattle.journal_model.specs.declared.entry.Entry.{Entry}
-use Rattle.journal_model.specs.declared.entry.What.TheVariants.{Claim}
+use Rattle.journal_model.specs.declared.entry.What.TheVariants.{Claim, Start}
 use Rattle.journal_model.specs.Journal.{open_jobs}
 use Rattle.child_start.proofs.Jobs.{idle_on}
 use Rattle.special_cli.specs.Runs.{main_entry}
@@ -14,7 +14,7 @@ claim_alone-requires g c = record { free = free_one c.args.core.now.opening c.ar
 
 pub end-requires-clause-done : goal.end-requires-clause-done
 end-requires-clause-done g c =
-    ([], done_alone [] c.requires.unready.first c.args.core.now.journal c.claim_alone.new.core.journal c.args.answer c.requires.unready.begun c.claim_alone.ensures.claimed (inr c.requires.unready.why))
+    ([], Start 1 0 false, done_alone [] (Start 1 0 false) c.args.core.now.journal c.claim_alone.new.core.journal c.args.answer c.requires.unready.begun c.claim_alone.ensures.claimed (inr c.requires.unready.why))
 
 pub end-requires-clause-idle : goal.end-requires-clause-idle
 end-requires-clause-idle g c =
@@ -23,7 +23,7 @@ end-requires-clause-idle g c =
 
 pub returns-clause-run : goal.returns-clause-run
 returns-clause-run g c = λ key.
-    c.end.ensures.run key (done_alone key c.requires.unready.first c.args.core.now.journal c.claim_alone.new.core.journal c.args.answer c.requires.unready.begun c.claim_alone.ensures.claimed (inr c.requires.unready.why))
+    c.end.ensures.run key (Start 1 0 false) (done_alone key (Start 1 0 false) c.args.core.now.journal c.claim_alone.new.core.journal c.args.answer c.requires.unready.begun c.claim_alone.ensures.claimed (inr c.requires.unready.why))
 
 pub returns-clause-linked : goal.returns-clause-linked
 returns-clause-linked g c = λ before.

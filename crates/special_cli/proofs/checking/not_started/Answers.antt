@@ -12,12 +12,12 @@ claim_alone-requires c = record { free = free_one c.args.core.now.opening c.args
 pub give-requires : goal.give-requires
 give-requires c =
     let begun = begun_none c.args.core.now.journal c.requires.failed in
-    record { may = may_give [] c.claim_alone.new.core.journal StartFault
+    record { may = may_give [] (NoStart 0) c.claim_alone.new.core.journal StartFault
         (done_alone [] (NoStart 0) c.args.core.now.journal c.claim_alone.new.core.journal StartFault begun c.claim_alone.ensures.claimed (inr (no_start c.args.core.now.journal begun.starts))) }
 
 pub returns-clause-run : goal.returns-clause-run
 returns-clause-run c = λ key.
     (let begun = begun_none c.args.core.now.journal c.requires.failed in
-    run_done key c.claim_alone.new.core.journal [] c.give.new.core.journal StartFault
+    run_done key (NoStart 0) c.claim_alone.new.core.journal [] c.give.new.core.journal StartFault
     (done_alone key (NoStart 0) c.args.core.now.journal c.claim_alone.new.core.journal StartFault begun c.claim_alone.ensures.claimed (inr (no_start c.args.core.now.journal begun.starts)))
     c.give.ensures.given refl)

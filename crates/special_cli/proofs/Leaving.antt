@@ -1,0 +1,122 @@
+-- What a run leaves of its programs and its child.
+use Rattle.std.proofs.Common.{◌≡◌, ℕ, ◌+◌, List, [], ◌∷◌, ◌++◌, length, refl, sym, ap, subst, ◌∙◌, Bool, true, false, Some, None, Option, length-append}
+use Rattle.std.specs.Prelude.{IsTrue, filter_map, option_and_then}
+use Rattle.std.specs.List.{list_any}
+use Rattle.ann_outside.specs.Starts.{Starts, IsNumbered}
+use Rattle.ann_outside.specs.Causes.{AddsOne, Stays}
+use Rattle.annex_model.specs.declared.verdict.Why.{Why}
+use Rattle.journal_model.specs.declared.answer.Answer.{Answer}
+use Rattle.journal_model.specs.declared.answer.Answer.TheVariants.{Unsent as UnsentAnswer, Ended as EndedAnswer}
+use Rattle.journal_model.specs.declared.entry.What.{What}
+use Rattle.journal_model.specs.declared.entry.What.TheVariants.{Start, NoStart}
+use Rattle.journal_model.specs.declared.entry.Entry.{Entry}
+use Rattle.journal_model.specs.Journal.{any}
+use Rattle.journal_model.specs.Wires.{Wired, Caused, is_heard_in_turn}
+use Rattle.child_link.specs.declared.wire.Wire.{Wire}
+use Rattle.child_link.specs.Links.{LinkValue, IsLinked}
+use Rattle.child_start.specs.Greetings.{Greeted, HasEnded, IsUnsent, AreNumbered}
+use Rattle.special_cli.specs.Endings.{start_in, starts_in}
+use Rattle.special_cli.specs.Objects.{came_in, came, IsOfStart, IsWire, AreWires, IsLeft, OneIsLeft, told_in, told, AddsAll, is_failed_start}
+use Rattle.special_cli.specs.Runs.{IsBegun, IsUnready, IsRun}
+use Rattle.special_cli.proofs.Looking.{holds_in, through, any_through}
+use Rattle.special_cli.proofs.Beginning.{begun_child}
+use Rattle.special_cli.proofs.Doing.{ended_start, unsent_start}
+
+-- ---- a child that is not ready
+
+pub unready_ended : (old new : List Entry) (c : ℕ) (why : Why) → old ≡ [] → Greeted old new 0 false c → HasEnded new c why → IsUnready new (EndedAnswer why)
+unready_ended old new c why none g h =
+    let greeted : Greeted [] new 0 false c = subst (λ (j : List Entry). Greeted j new 0 false c) none g in
+    let begun = begun_child new c greeted in
+    record { begun = begun; why = ended_start new c why begun.starts greeted.next h }
+
+pub unready_unsent : (old new : List Entry) (c : ℕ) → old ≡ [] → Greeted old new 0 false c → IsUnsent new c → IsUnready new UnsentAnswer
+unready_unsent old new c none g h =
+    let greeted : Greeted [] new 0 false c = subst (λ (j : List Entry). Greeted j new 0 false c) none g in
+    let begun = begun_child new c greeted in
+    record { begun = begun; why = unsent_start new c begun.starts greeted.next h }
+
+-- ---- the starts
+
+came_is : (w : What) → came_in w ≡ option_and_then came_in (start_in w)
+came_is (Start child slot offer) = refl
+came_is (NoStart slot) = refl
+came_is w = refl
+
+pub came_of_starts : (journal : List Entry) (first : What) → starts_in journal ≡ first ∷ [] → came journal ≡ filter_map came_in (first ∷ [])
+came_of_starts journal first h = through came_in start_in came_in came_is journal ∙ ap (filter_map came_in) h
+
+told_is : (program : List ℕ) (w : What) → told_in program w ≡ option_and_then (told_in program) (start_in w)
+told_is program (Start child slot offer) = refl
+told_is program (NoStart slot) = refl
+told_is program w = refl
+
+pub told_of_starts : (program : List ℕ) (journal : List Entry) (first : What) → starts_in journal ≡ first ∷ [] → told program journal ≡ filter_map (told_in program) (first ∷ [])
+told_of_starts program journal first h = through (told_in program) start_in (told_in program) (told_is program) journal ∙ ap (filter_map (told_in program)) h
+
+failed_is : (w : What) → is_failed_start w ≡ holds_in is_failed_start (start_in w)
+failed_is (Start child slot offer) = refl
+failed_is (NoStart slot) = refl
+failed_is w = refl
+
+-- a start that gave a child is none that failed
+pub none_failed : {A : Type 0} (journal : List Entry) (c slot : ℕ) (offer : Bool) → starts_in journal ≡ Start c slot offer ∷ [] → any is_failed_start journal ≡ true → A
+none_failed journal c slot offer h failed =
+    let none : any is_failed_start journal ≡ false = any_through is_failed_start start_in is_failed_start failed_is journal ∙ ap (list_any is_failed_start) h in
+    absurd (let bad : true ≡ false = sym failed ∙ none in cc)
+
+adds_stays : (old mid new : Option Starts) (x : List ℕ × Bool) → AddsOne old mid x → Stays mid new → AddsAll old new (x ∷ [])
+adds_stays None None None x a s = tt
+adds_stays None None (Some zs) x a s = absurd s
+adds_stays None (Some ys) new x a s = absurd a
+adds_stays (Some xs) None new x a s = absurd a
+adds_stays (Some xs) (Some ys) None x a s = absurd s
+adds_stays (Some xs) (Some ys) (Some zs) x a s = s ∙ a
+
+adds_all : (old new : Option Starts) (x : List ℕ × Bool) → AddsOne old new x → AddsAll old new (x ∷ [])
+adds_all None None x a = tt
+adds_all None (Some ys) x a = absurd a
+adds_all (Some xs) None x a = absurd a
+adds_all (Some xs) (Some ys) x a = a
+
+pub child_told : (program : List ℕ) (journal : List Entry) (old mid new : Option Starts) → starts_in journal ≡ Start 1 0 false ∷ [] → AddsOne old mid (program, true) → Stays mid new
+    → AddsAll old new (told program journal)
+child_told program journal old mid new h a s = subst (AddsAll old new) (sym (told_of_starts program journal (Start 1 0 false) h)) (adds_stays old mid new (program, true) a s)
+
+pub fault_told : (program : List ℕ) (journal : List Entry) (old new : Option Starts) → starts_in journal ≡ NoStart 0 ∷ [] → AddsOne old new (program, false) → AddsAll old new (told program journal)
+fault_told program journal old new h a = subst (AddsAll old new) (sym (told_of_starts program journal (NoStart 0) h)) (adds_all old new (program, false) a)
+
+-- ---- the wire
+
+of_start : (old new : Option Starts) (x : List ℕ × Bool) (n : Option ℕ) → AddsOne old new x → IsNumbered new n → IsOfStart old 1 n
+of_start old new x None a h = tt
+of_start None new x (Some n) a h = tt
+of_start (Some xs) None x (Some n) a h = absurd a
+of_start (Some xs) (Some ys) x (Some n) a h = h ∙ ap (λ (zs : Starts). length zs) a ∙ length-append xs (x ∷ [])
+
+module _ {I O : Type 0} (taken : I → Option (List ℕ)) (wf : I → ℕ) (inlet_number : I → Option ℕ)
+    (given left : O → Option (List ℕ)) (rf : O → ℕ) (outlet_number : O → Option ℕ) (old : Option Starts) (journal : List Entry) where
+
+  -- the one child's wire
+  pub one_wire : (new : Option Starts) (x : List ℕ × Bool) (begun link : LinkValue I O) (wires : List (Wire I O)) → starts_in journal ≡ Start 1 0 false ∷ []
+      → AddsOne old new x → AreNumbered inlet_number outlet_number new begun
+      → (inlet_number link.inlet ≡ inlet_number begun.inlet) × (outlet_number link.outlet ≡ outlet_number begun.outlet) → link.child ≡ 1
+      → IsLinked taken wf given left rf journal link → OneIsLeft taken wf inlet_number given left rf outlet_number link wires
+      → AreWires taken wf inlet_number given left rf outlet_number old journal 0 (came journal) wires
+  one_wire new x begun link wires starts adds numbered same_numbers one linked (wire, only, is) =
+      let first : came journal ≡ Some 1 ∷ [] = came_of_starts journal (Start 1 0 false) starts in
+      let wired : Wired journal wire.child (given wire.outlet) (taken wire.inlet) wire.rest = rw (is.child, is.given_is, is.taken_is, is.rest) linked.0.wired in
+      let caused : Caused journal wire.child (left wire.outlet) (rf wire.outlet) (wf wire.inlet) = rw (is.child, is.left_is, is.faults.0, is.faults.1) linked.0.caused in
+      let heard : IsTrue (is_heard_in_turn journal wire.child) = rw is.child linked.1 in
+      let inlet : IsOfStart old 1 (inlet_number wire.inlet) = subst (IsOfStart old 1) (sym (is.numbers.0 ∙ same_numbers.0)) (of_start old new x (inlet_number begun.inlet) adds numbered.0) in
+      let outlet : IsOfStart old 1 (outlet_number wire.outlet) = subst (IsOfStart old 1) (sym (is.numbers.1 ∙ same_numbers.1)) (of_start old new x (outlet_number begun.outlet) adds numbered.1) in
+      let own : IsWire taken wf inlet_number given left rf outlet_number old journal 1 wire = record { wired = wired; caused = caused; heard = heard; inlet = inlet; outlet = outlet } in
+      subst (λ (cs : List (Option ℕ)). AreWires taken wf inlet_number given left rf outlet_number old journal 0 cs wires) (sym first)
+      (subst (λ (ws : List (Wire I O)). AreWires taken wf inlet_number given left rf outlet_number old journal 0 (Some 1 ∷ []) ws) (sym only) (is.child ∙ one, own, tt))
+
+  -- no child was started
+  pub no_wire : (wires : List (Wire I O)) → starts_in journal ≡ NoStart 0 ∷ [] → wires ≡ [] → AreWires taken wf inlet_number given left rf outlet_number old journal 0 (came journal) wires
+  no_wire wires starts none =
+      subst (λ (cs : List (Option ℕ)). AreWires taken wf inlet_number given left rf outlet_number old journal 0 cs wires) (sym (came_of_starts journal (NoStart 0) starts))
+      (subst (λ (ws : List (Wire I O)). AreWires taken wf inlet_number given left rf outlet_number old journal 0 (None ∷ []) ws) (sym none) tt)
+
