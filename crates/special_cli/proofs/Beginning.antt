@@ -1,7 +1,7 @@
 -- From a start to a task that is done.
 use Rattle.std.proofs.Common.{◌≡◌, ◌⊎◌, ◌<◌, ◌^◌, ℕ, List, [], ◌∷◌, ◌++◌, length, refl, sym, ap, subst, ◌∙◌, append_assoc, arith, Bool, true, false, not, ◌==◌, cond, Some, None, Option, inl, inr}
-use Rattle.std.specs.Prelude.{◌&&◌, ◌||◌, nat_lt, filter_map, option_and_then, is_some, option_map}
-use Rattle.std.specs.List.{list_all, list_any, last_or}
+use Rattle.std.specs.Prelude.{◌&&◌, ◌||◌, find, nat_lt, filter_map, option_and_then, is_some, option_map}
+use Rattle.std.specs.List.{list_all, list_any, last_or, range_with_len}
 use Rattle.std.proofs.lemmas.List.Folds.{list_any-append}
 use Rattle.annex_model.specs.declared.verdict.Why.{Why}
 use Rattle.annex_model.specs.declared.verdict.Verdict.{Verdict}
@@ -16,7 +16,7 @@ use Rattle.journal_model.specs.declared.entry.Entry.{Entry}
 use Rattle.journal_model.specs.declared.opening.Opening.{Opening}
 use Rattle.journal_model.specs.Output.{answer_in, answers_in}
 use Rattle.journal_model.specs.Journal.{any, each_of, first_of, addressed, is_ended, is_mute, is_open, is_started, is_tagged, on_wire, open_jobs, asked_jobs, verdict_of, why_of}
-use Rattle.journal_model.specs.Legality.{claims, claims_with, is_claimed, is_claimed_by, is_busy, has_open_job, job_for, least_free, is_prepared, is_empty}
+use Rattle.journal_model.specs.Legality.{claims, claims_with, is_claimed, is_claimed_by, is_busy, has_open_job, job_for, least_free, is_free, both_conflict, task_of, numbers_of, is_prepared, is_empty}
 use Rattle.journal_model.proofs.Looks.{same, same_number, both, each_of-append, any-append}
 use Rattle.journal_model.proofs.Linking.{why_is_end}
 use Rattle.host_core.specs.Steps.{group_of, next_job, may_request}
@@ -121,9 +121,13 @@ first_claim journal child h =
 
 -- the one task is the least that is free
 pub free_one : (o : Opening) (journal : List Entry) → HasOneTask o → each_of claim_in journal ≡ [] → least_free o journal ≡ Some 1
-free_one o journal one none =
-    let unclaimed : is_claimed journal 1 ≡ false = claimed_by_list journal ∙ ap (list_any (λ (p : ℕ × ℕ). p.0 == 1)) none in
-    rw (one.1, unclaimed) refl
+free_one o journal one unasked =
+    let unclaimed : is_claimed journal 1 ≡ false = claimed_by_list journal ∙ ap (list_any (λ (p : ℕ × ℕ). p.0 == 1)) unasked in
+    let numbers : numbers_of o ≡ 1 ∷ [] = ap (range_with_len 1) one in
+    let blocks : ℕ → Bool = λ u. is_busy journal u && both_conflict (task_of o u) (task_of o 1) in
+    let none : list_any blocks (numbers_of o) ≡ false = ap (list_any blocks) numbers ∙ (rw unclaimed refl) in
+    let free : is_free o journal 1 ≡ true = rw (unclaimed, none) refl in
+    ap (find (is_free o journal)) numbers ∙ ap (λ (b : Bool). cond {A = Option ℕ} b (Some 1) None) free
 
 -- the claim is the main thread's
 pub own_claim : (past : List Entry) (child : ℕ) (more : List Entry) → is_claimed_by (past ++ main_entry (Claim 1 child) ∷ more) 0 1 ≡ true

@@ -120,3 +120,9 @@ module _ {I O : Type 0} (taken : I → Option (List ℕ)) (wf : I → ℕ) (inle
       subst (λ (cs : List (Option ℕ)). AreWires taken wf inlet_number given left rf outlet_number old journal 0 cs wires) (sym (came_of_starts journal (NoStart 0) starts))
       (subst (λ (ws : List (Wire I O)). AreWires taken wf inlet_number given left rf outlet_number old journal 0 (None ∷ []) ws) (sym none) tt)
 
+
+  -- nothing was started
+  pub empty_wires : (wires : List (Wire I O)) → journal ≡ [] → wires ≡ [] → AreWires taken wf inlet_number given left rf outlet_number old journal 0 (came journal) wires
+  empty_wires wires nothing none =
+      subst (λ (j : List Entry). AreWires taken wf inlet_number given left rf outlet_number old journal 0 (came j) wires) (sym nothing)
+      (subst (λ (ws : List (Wire I O)). AreWires taken wf inlet_number given left rf outlet_number old journal 0 [] ws) (sym none) tt)

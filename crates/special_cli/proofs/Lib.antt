@@ -1,4 +1,5 @@
 pub mod Beginning
+pub mod Checked
 pub mod Doing
 pub mod Finishing
 pub mod Leaving

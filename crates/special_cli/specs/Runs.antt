@@ -1,9 +1,8 @@
 -- How far a check has come, by its journal.
-use Rattle.std.specs.Prelude.{ℕ, ◌≡◌, ◌⊎◌, Bool, true, false, List, [], ◌∷◌, Option, Some, None}
+use Rattle.std.specs.Prelude.{ℕ, ◌≡◌, ◌⊎◌, Bool, true, false, List, [], ◌∷◌, length, Option, Some, None}
 use Rattle.std.specs.List.{list_all, last_or}
 use Rattle.annex_model.specs.declared.verdict.Verdict.{Verdict}
 use Rattle.annex_model.specs.Messages.{Checkpresent}
-use Rattle.task_text.specs.declared.task.Task.{Task}
 use Rattle.journal_model.specs.declared.answer.Answer.{Answer}
 use Rattle.journal_model.specs.declared.answer.Answer.TheVariants.{Memory}
 use Rattle.journal_model.specs.Output.{answers_in}
@@ -61,9 +60,9 @@ pub record IsRun (key : List ℕ) (first : What) (journal : List Entry) (answer 
   pub run : CheckTask key journal 1 answer
   pub tasked : list_all (λ e. is_for_task e.what) journal ≡ true
 
--- the one task of the run is a check
+-- the run has one task
 abbrev pub HasOneTask : Opening → Type 0
-HasOneTask o = (t : Task) × (o.tasks ≡ t ∷ [])
+HasOneTask o = length o.tasks ≡ 1
 
 -- the key was asked for and this answer is what came of it, or there was no memory to ask
 abbrev pub AsksFor : Opening → List Entry → List Entry → ℕ → List ℕ → Answer → Type 0

@@ -6,10 +6,14 @@ mod closing;
 mod opening;
 mod refusals;
 mod running;
+#[cfg(test)]
+mod tests;
 mod texts;
+mod top;
 mod words;
 
 pub use closing::Closing;
 pub use refusals::{Reason, refusal};
 pub use texts::{CHECK_HELP, HELP, memory_line, refused_line, usage_line, version_line};
+pub use top::special;
 pub use words::{Command, command_of};
