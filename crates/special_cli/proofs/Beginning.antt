@@ -1,34 +1,23 @@
 -- From a start to a task that is done.
-use Rattle.std.proofs.Common.{◌≡◌, ◌⊎◌, ◌<◌, ◌^◌, ℕ, List, [], ◌∷◌, ◌++◌, length, refl, sym, ap, subst, ◌∙◌, append_assoc, arith, Bool, true, false, not, ◌==◌, cond, Some, None, Option, inl, inr}
-use Rattle.std.specs.Prelude.{◌&&◌, ◌||◌, find, nat_lt, filter_map, option_and_then, is_some, option_map}
-use Rattle.std.specs.List.{list_all, list_any, last_or, range_with_len}
+use Rattle.std.proofs.Common.{◌≡◌, ℕ, List, [], ◌∷◌, ◌++◌, refl, sym, ap, subst, ◌∙◌, Bool, true, false, not, ◌==◌, cond, Some, None, Option, inl, inr}
+use Rattle.std.specs.Prelude.{◌&&◌, ◌||◌, find, nat_lt, filter_map, option_and_then}
+use Rattle.std.specs.List.{list_all, list_any, range_with_len}
 use Rattle.std.proofs.lemmas.List.Folds.{list_any-append}
-use Rattle.annex_model.specs.declared.verdict.Why.{Why}
-use Rattle.annex_model.specs.declared.verdict.Verdict.{Verdict}
-use Rattle.annex_model.specs.declared.verdict.Verdict.TheVariants.{Ended, Unsent}
-use Rattle.annex_model.specs.Messages.{HostMessage, Checkpresent, host_line, host_reading, is_sent_key}
-use Rattle.annex_model.proofs.Readings.{canonical_read}
-use Rattle.journal_model.specs.declared.answer.Answer.{Answer}
-use Rattle.journal_model.specs.declared.answer.Answer.TheVariants.{Memory, Unsent as UnsentAnswer, StartFault, Ended as EndedAnswer}
 use Rattle.journal_model.specs.declared.entry.What.{What}
 use Rattle.journal_model.specs.declared.entry.What.TheVariants.{Claim, Start, NoStart, Ask, Lost}
 use Rattle.journal_model.specs.declared.entry.Entry.{Entry}
 use Rattle.journal_model.specs.declared.opening.Opening.{Opening}
-use Rattle.journal_model.specs.Output.{answer_in, answers_in}
-use Rattle.journal_model.specs.Journal.{any, each_of, first_of, addressed, is_ended, is_mute, is_open, is_started, is_tagged, on_wire, open_jobs, asked_jobs, verdict_of, why_of}
-use Rattle.journal_model.specs.Legality.{claims, claims_with, is_claimed, is_claimed_by, is_busy, has_open_job, job_for, least_free, is_free, both_conflict, task_of, numbers_of, is_prepared, is_empty}
-use Rattle.journal_model.proofs.Looks.{same, same_number, both, each_of-append, any-append}
-use Rattle.journal_model.proofs.Linking.{why_is_end}
-use Rattle.host_core.specs.Steps.{group_of, next_job, may_request}
-use Rattle.host_core.proofs.Wiring.{wired_text}
-use Rattle.task_run.specs.TaskRuns.{Asking, askings, child_claimed, came_of, failed_start, unready_answer, check_answer, lost_verdict, ChildZero, CheckOver, CheckRun, CheckTask}
-use Rattle.task_run.proofs.Askings.{asks_for, askings_from-none, askings-unasked, askings-ask, askings-lost}
-use Rattle.child_link.specs.Asks.{HasAsked, IsSettled, IsLost, lost_as}
+use Rattle.journal_model.specs.Output.{answer_in}
+use Rattle.journal_model.specs.Journal.{each_of, first_of}
+use Rattle.journal_model.specs.Legality.{claims, is_claimed, is_claimed_by, is_busy, job_for, least_free, is_free, both_conflict, task_of, numbers_of}
+use Rattle.journal_model.proofs.Looks.{same_number, both}
+use Rattle.task_run.specs.TaskRuns.{child_claimed}
+use Rattle.task_run.proofs.Askings.{asks_for, askings_from-none}
 use Rattle.child_link.specs.Doors.{is_of_link}
-use Rattle.child_start.specs.Greetings.{Greeted, IsReady, HasEnded, IsUnsent, is_of_greeting}
-use Rattle.special_cli.specs.Endings.{start_in, starts_in, is_for_task}
-use Rattle.special_cli.specs.Runs.{main_entry, claim_in, IsStart, IsBegun, IsDone, HasOneTask}
-use Rattle.special_cli.proofs.Looking.{Vanishes, holds_in, link_says_none, greeting_says_none, through, any_through, all_both, all_weaken, any_none, no_task}
+use Rattle.child_start.specs.Greetings.{Greeted, is_of_greeting}
+use Rattle.special_cli.specs.Endings.{start_in, is_for_task}
+use Rattle.special_cli.specs.Runs.{main_entry, claim_in, IsBegun, HasOneTask}
+use Rattle.special_cli.proofs.Looking.{Vanishes, holds_in, greeting_says_none, through, any_through, all_weaken, any_none, no_task}
 
 -- ---- what links and greetings don't say
 

@@ -1,11 +1,10 @@
 -- What is told of a check at its end.
-use Rattle.std.proofs.Common.{◌≡◌, ◌⊎◌, ℕ, List, [], ◌∷◌, ◌++◌, length, refl, sym, ap, subst, ◌∙◌, Bool, true, false, not, ◌==◌, cond, Some, None, Option, inl, inr}
+use Rattle.std.proofs.Common.{◌≡◌, ◌⊎◌, ℕ, List, [], ◌∷◌, length, refl, sym, ap, subst, ◌∙◌, Bool, true, false, Some, None, Option, inl, inr}
 use Rattle.std.specs.Prelude.{IfSome, IfNone}
-use Rattle.std.specs.List.{list_all, list_any}
+use Rattle.std.specs.List.{list_all}
 use Rattle.std.proofs.lemmas.List.{append-nil}
 use Rattle.ann_outside.specs.Starts.{Starts}
 use Rattle.ann_outside.specs.Causes.{AddsOne, Stays}
-use Rattle.annex_model.specs.Messages.{is_sent_key}
 use Rattle.journal_model.specs.declared.answer.Answer.{Answer}
 use Rattle.journal_model.specs.declared.entry.What.{What}
 use Rattle.journal_model.specs.declared.entry.What.TheVariants.{Start, NoStart}
@@ -16,9 +15,9 @@ use Rattle.journal_model.specs.Legality.{Legal}
 use Rattle.journal_model.specs.Output.{answer_line}
 use Rattle.journal_model.proofs.Projecting.{parts_fit}
 use Rattle.special_cli.specs.Openings.{check_opening}
-use Rattle.special_cli.specs.Endings.{starts_in, is_for_task, IsChecked, IsAnswered, IsPrinted, IsUnanswered, IsTold}
-use Rattle.special_cli.specs.Objects.{told, AddsAll, HaveStarted, is_failed_start}
-use Rattle.special_cli.specs.Runs.{IsStart, IsRun, HasAnswered, HasOneTask}
+use Rattle.special_cli.specs.Endings.{starts_in, is_for_task, IsChecked, IsPrinted, IsTold}
+use Rattle.special_cli.specs.Objects.{AddsAll, HaveStarted, is_failed_start}
+use Rattle.special_cli.specs.Runs.{IsStart, HasAnswered, HasOneTask}
 
 pub one_task : (key : List ℕ) (stamp : ℕ) (o : Opening) → o ≡ check_opening key stamp → HasOneTask o
 one_task key stamp o h = ap (λ (x : Opening). length x.tasks) h
@@ -38,12 +37,18 @@ checked clock key stamp o journal clock_is same legal ran =
   where
     go : Legal (check_opening key stamp) journal → (journal ≡ []) ⊎ ((answer : Answer) × HasAnswered key journal answer) → IsChecked clock key journal
     go l (inl none) = record {
-      stamp = stamp; clock = clock_is; legal = l; parts = parts_fit (check_opening key stamp) journal l;
+      stamp = stamp;
+      clock = clock_is;
+      legal = l;
+      parts = parts_fit (check_opening key stamp) journal l;
       once = inl (ap starts_in none);
       tasked = ap (list_all (λ e. is_for_task e.what)) none;
     }
     go l (inr (answer, (first, run))) = record {
-      stamp = stamp; clock = clock_is; legal = l; parts = parts_fit (check_opening key stamp) journal l;
+      stamp = stamp;
+      clock = clock_is;
+      legal = l;
+      parts = parts_fit (check_opening key stamp) journal l;
       once = by_start journal first run.is_start run.starts;
       tasked = run.tasked;
     }

@@ -1,6 +1,6 @@
 -- From a run that has begun to a task that is done.
-use Rattle.std.proofs.Common.{◌≡◌, ◌⊎◌, ◌<◌, ◌^◌, ℕ, List, [], ◌∷◌, ◌++◌, length, refl, sym, ap, subst, ◌∙◌, append_assoc, arith, Bool, true, false, not, ◌==◌, cond, Some, None, Option, inl, inr}
-use Rattle.std.specs.Prelude.{◌&&◌, ◌||◌, nat_lt, filter_map, option_and_then, is_some, option_map, IsTrue}
+use Rattle.std.proofs.Common.{◌≡◌, ◌⊎◌, ◌<◌, ◌^◌, ℕ, List, [], ◌∷◌, ◌++◌, length, refl, sym, ap, subst, ◌∙◌, append_assoc, arith, Bool, true, false, ◌==◌, cond, Some, None, Option, inl, inr}
+use Rattle.std.specs.Prelude.{◌||◌, nat_lt, filter_map, option_and_then, is_some}
 use Rattle.std.specs.List.{list_all, list_any, last_or}
 use Rattle.std.proofs.lemmas.List.Folds.{list_any-append}
 use Rattle.annex_model.specs.declared.verdict.Why.{Why}
@@ -14,24 +14,24 @@ use Rattle.journal_model.specs.declared.entry.What.TheVariants.{Claim, Start, No
 use Rattle.journal_model.specs.declared.entry.Entry.{Entry}
 use Rattle.journal_model.specs.declared.opening.Opening.{Opening}
 use Rattle.journal_model.specs.Output.{answer_in, answers_in}
-use Rattle.journal_model.specs.Journal.{any, each_of, first_of, addressed, asks, starts, settles, is_ended, is_mute, is_open, is_started, is_settled, is_tagged, on_wire, open_jobs, asked_jobs, verdict_of, why_of}
+use Rattle.journal_model.specs.Journal.{any, each_of, addressed, asks, starts, is_ended, is_open, is_started, is_tagged, on_wire, open_jobs, asked_jobs, verdict_of, why_of}
 use Rattle.journal_model.specs.Legality.{claims, answers, claims_with, is_claimed, is_claimed_by, is_busy, has_open_job, job_for, is_greeted, may_work, may_ask, is_prepared, is_done, is_empty}
 use Rattle.journal_model.proofs.Looks.{same, each_of-append, any-append, verdict_of-append}
 use Rattle.journal_model.proofs.Linking.{why_is_end}
-use Rattle.host_core.specs.Steps.{group_of, next_job, may_request}
+use Rattle.host_core.specs.Steps.{next_job, may_request}
 use Rattle.host_core.proofs.Wiring.{wired_text}
-use Rattle.task_run.specs.TaskRuns.{Asking, askings, child_claimed, came_of, failed_start, unready_answer, check_answer, lost_verdict, IsAskedOr, ChildZero, CheckOver, CheckRun, CheckTask}
-use Rattle.task_run.proofs.Askings.{asks_for, askings_from-none, askings-unasked, askings-ask, askings-lost}
+use Rattle.task_run.specs.TaskRuns.{Asking, askings, came_of, failed_start, unready_answer, check_answer, lost_verdict, ChildZero, CheckOver, CheckRun}
+use Rattle.task_run.proofs.Askings.{asks_for, askings-unasked, askings-ask, askings-lost}
 use Rattle.child_link.specs.Asks.{HasAsked, IsSettled, IsLost, lost_as}
 use Rattle.child_link.specs.Doors.{is_of_link}
 use Rattle.std.specs.Option.{option_or}
 use Rattle.std.proofs.lemmas.List.{append-nil}
 use Rattle.child_start.proofs.Jobs.{idle_on, idle_asked}
-use Rattle.child_start.specs.Greetings.{Greeted, IsReady, HasEnded, IsUnsent}
+use Rattle.child_start.specs.Greetings.{IsReady, HasEnded, IsUnsent}
 use Rattle.special_cli.specs.Endings.{start_in, starts_in, is_for_task}
-use Rattle.special_cli.specs.Runs.{main_entry, claim_in, AsksFor, IsStart, IsBegun, IsDone, HasOneTask}
+use Rattle.special_cli.specs.Runs.{main_entry, claim_in, AsksFor, IsBegun, IsDone}
 use Rattle.special_cli.proofs.Looking.{holds_in, link_says_none, through, any_through, all_both, all_weaken, any_none}
-use Rattle.special_cli.proofs.Beginning.{no_starts, no_claims, no_answers, no_jobs, link_for_task, link_asks_none, claimed_by_list, first_claim, own_claim}
+use Rattle.special_cli.proofs.Beginning.{no_starts, no_claims, no_answers, no_jobs, link_for_task, link_asks_none, first_claim, own_claim}
 
 -- ---- claimed without a child
 
@@ -175,7 +175,7 @@ module _ (o : Opening) (first : What) (past : List Entry) (c : ℕ) (begun : IsB
         let whole : claimed ++ more ≡ past ++ main_entry (Claim 1 c) ∷ more = append_assoc past (main_entry (Claim 1 c) ∷ []) more in
         let all : each_of claim_in (claimed ++ more) ≡ (1, c) ∷ [] = each_of-append claim_in claimed more ∙ (rw (task, h.1) refl) in
         record {
-            is_start = begun.is_start;
+          is_start = begun.is_start;
           starts = each_of-append start_in claimed more ∙ ap (λ (xs : List What). xs ++ each_of start_in more) (each_of-append start_in past (main_entry (Claim 1 c) ∷ [])) ∙ (rw (begun.starts, h.0) refl);
           child = c;
           claims = all;
@@ -191,8 +191,14 @@ module _ (o : Opening) (first : What) (past : List Entry) (c : ℕ) (begun : IsB
     done_unasked journal same_journal =
         let still : claimed ++ [] ≡ claimed = append-nil claimed in
         subst (λ (j : List Entry). IsDone key first j Memory) (still ∙ sym same_journal)
-        (done_later [] Memory (refl, refl, refl, ap (λ (j : List Entry). has_open_job j 1) still ∙ idle_now, refl,
-        subst (λ (xs : List Asking). CheckRun key xs Memory) (sym (ap (λ (j : List Entry). askings j 1) still ∙ unasked)) refl))
+        (done_later [] Memory (
+          refl,
+          refl,
+          refl,
+          ap (λ (j : List Entry). has_open_job j 1) still ∙ idle_now,
+          refl,
+          subst (λ (xs : List Asking). CheckRun key xs Memory) (sym (ap (λ (j : List Entry). askings j 1) still ∙ unasked)) refl,
+        ))
 
     small : next_job claimed c < 2 ^ 64
     small = let two : next_job claimed c ≡ 2 = ap (λ (xs : List ℕ). length xs) jobs_now in omega (arith, two)
@@ -224,8 +230,14 @@ module _ (o : Opening) (first : What) (past : List Entry) (c : ℕ) (begun : IsB
         let tasked : list_all (λ (e : Entry). is_for_task e.what) more ≡ true = rw (or_true (nat_lt (next_job claimed c) 2), all_weaken is_of_link is_for_task link_for_task s.goes.more s.goes.quiet) refl in
         let run : CheckRun key (record { request = Some question; verdict = verdict } ∷ []) answer = (refl, inr says) in
         subst (λ (j : List Entry). IsDone key first j answer) (sym grown)
-        (done_later more answer (link_says_none start_in no_starts s.goes.more s.goes.quiet, link_says_none claim_in no_claims s.goes.more s.goes.quiet,
-        link_says_none answer_in no_answers s.goes.more s.goes.quiet, closed, tasked, subst (λ (xs : List Asking). CheckRun key xs answer) (sym pairs) run))
+        (done_later more answer (
+          link_says_none start_in no_starts s.goes.more s.goes.quiet,
+          link_says_none claim_in no_claims s.goes.more s.goes.quiet,
+          link_says_none answer_in no_answers s.goes.more s.goes.quiet,
+          closed,
+          tasked,
+          subst (λ (xs : List Asking). CheckRun key xs answer) (sym pairs) run,
+        ))
 
     lost_fits : (why : Option Why) (answer : Answer) → check_answer (lost_as why) ≡ Some answer → CheckRun key (record { request = None; verdict = lost_verdict why } ∷ []) answer
     lost_fits None answer says = (tt, inr says)
@@ -240,8 +252,14 @@ module _ (o : Opening) (first : What) (past : List Entry) (c : ℕ) (begun : IsB
         askings-lost claimed [] 1 0 c idle_now refl ∙ ap (λ (xs : List Asking). xs ++ record { request = None; verdict = lost_verdict (why_of claimed c) } ∷ []) unasked in
         let jobs : each_of (job_for 1) (claimed ++ more) ≡ [] = each_of-append (job_for 1) claimed more ∙ ap (λ (xs : List (ℕ × ℕ)). xs ++ []) task_jobs in
         subst (λ (j : List Entry). IsDone key first j answer) (sym l.made)
-        (done_later more answer (refl, refl, refl, ap (list_any (λ (q : ℕ × ℕ). is_open (claimed ++ more) q.0 q.1)) jobs, refl,
-        subst (λ (xs : List Asking). CheckRun key xs answer) (sym pairs) (lost_fits (why_of claimed c) answer (ap check_answer (sym l.lost) ∙ says))))
+        (done_later more answer (
+          refl,
+          refl,
+          refl,
+          ap (list_any (λ (q : ℕ × ℕ). is_open (claimed ++ more) q.0 q.1)) jobs,
+          refl,
+          subst (λ (xs : List Asking). CheckRun key xs answer) (sym pairs) (lost_fits (why_of claimed c) answer (ap check_answer (sym l.lost) ∙ says)),
+        ))
 
     pub done_asked : (o' : Opening) (journal : List Entry) (verdict : Verdict) (answer : Answer) → is_sent_key key ≡ true → open_jobs journal c ≡ []
         → HasAsked o' claimed journal 0 c 1 question verdict → check_answer verdict ≡ Some answer → IsDone key first journal answer
@@ -257,9 +275,10 @@ module _ (o : Opening) (first : What) (past : List Entry) (c : ℕ) (begun : IsB
         go (inl a) =
             let none : open_jobs journal c ≡ [] = idle_asked o' claimed journal 0 c 1 question a.0 (idle_child idle) a.1 in
             (done_asked o' journal a.0 answer sent none a.1 a.2, none)
-        go (inr m) =
-            (subst (λ (x : Answer). IsDone key first journal x) (sym m.1) (done_unasked journal m.0),
-            ap (λ (j : List Entry). open_jobs j c) m.0 ∙ idle_child idle)
+        go (inr m) = (
+          subst (λ (x : Answer). IsDone key first journal x) (sym m.1) (done_unasked journal m.0),
+          ap (λ (j : List Entry). open_jobs j c) m.0 ∙ idle_child idle,
+        )
 
 -- ---- the two ways of a claim
 

@@ -2,21 +2,20 @@
 use Rattle.std.proofs.Common.{◌≡◌, ◌⊎◌, ℕ, zero, suc, List, [], ◌∷◌, ◌++◌, refl, sym, ap, subst, ◌∙◌, append_assoc, Bool, true, false, not, ◌==◌, cond, Some, None, Option, inl, inr}
 use Rattle.std.specs.Prelude.{◌&&◌, ◌||◌, filter_map, option_and_then}
 use Rattle.std.specs.List.{list_all, list_any, cons_option}
-use Rattle.std.proofs.lemmas.List.Folds.{list_any-append}
 use Rattle.annex_model.specs.declared.verdict.Why.TheVariants.{Closed}
 use Rattle.journal_model.specs.declared.answer.Answer.{Answer}
 use Rattle.journal_model.specs.declared.answer.Answer.TheVariants.{Memory}
 use Rattle.journal_model.specs.declared.entry.What.{What}
-use Rattle.journal_model.specs.declared.entry.What.TheVariants.{Claim, Start, Answer as Answered}
+use Rattle.journal_model.specs.declared.entry.What.TheVariants.{Claim, Answer as Answered}
 use Rattle.journal_model.specs.declared.entry.Entry.{Entry}
 use Rattle.journal_model.specs.Output.{answer_in, answers_in}
 use Rattle.journal_model.specs.Journal.{any, each_of, starts, is_started, open_jobs}
-use Rattle.journal_model.specs.Legality.{answers, claimed_for, is_claimed, is_claimed_by, is_busy, has_busy_task, has_open_job, is_empty, may_stop}
+use Rattle.journal_model.specs.Legality.{answers, claimed_for, is_claimed, is_busy, has_busy_task, has_open_job, may_stop}
 use Rattle.journal_model.proofs.Looks.{same, each_of-append, any-append}
-use Rattle.journal_model.proofs.Linking.{linked_apart, Adds}
+use Rattle.journal_model.proofs.Linking.{linked_apart}
 use Rattle.journal_model.proofs.Heard.{heard_on}
 use Rattle.host_core.specs.Steps.{may_answer}
-use Rattle.task_run.specs.TaskRuns.{Asking, askings, ChildZero, CheckOver, CheckRun, CheckTask}
+use Rattle.task_run.specs.TaskRuns.{Asking, ChildZero, CheckOver, CheckRun}
 use Rattle.task_run.proofs.Askings.{asks_for, askings-unasked}
 use Rattle.child_link.specs.Doors.{is_of_link}
 use Rattle.child_link.specs.Links.{LinkValue, IsLinked}
@@ -126,17 +125,19 @@ run_done key first past more journal answer d grown quiet =
 module _ {I O : Type 0} (taken : I → Option (List ℕ)) (wf : I → ℕ) (given left : O → Option (List ℕ)) (rf : O → ℕ) (past journal : List Entry) (link : LinkValue I O) where
   pub links_claim : (task child : ℕ) → journal ≡ past ++ main_entry (Claim task child) ∷ [] → IsLinked taken wf given left rf past link → IsLinked taken wf given left rf journal link
   links_claim task child e h =
-      subst (λ (j : List Entry). IsLinked taken wf given left rf j link) (sym e)
-      (linked_apart past (main_entry (Claim task child) ∷ []) link.child (given link.outlet) (left link.outlet) (taken link.inlet) (rf link.outlet) (wf link.inlet) link.held
-      record { got = refl; written = refl; covers = refl; mutes = refl; ends = refl } h.0,
-      heard_on link.child past (main_entry (Claim task child) ∷ []) refl h.1)
+      subst (λ (j : List Entry). IsLinked taken wf given left rf j link) (sym e) (
+        linked_apart past (main_entry (Claim task child) ∷ []) link.child (given link.outlet) (left link.outlet) (taken link.inlet) (rf link.outlet) (wf link.inlet) link.held
+            record { got = refl; written = refl; covers = refl; mutes = refl; ends = refl } h.0,
+        heard_on link.child past (main_entry (Claim task child) ∷ []) refl h.1,
+      )
 
   pub links_answer : (task : ℕ) (answer : Answer) → journal ≡ past ++ main_entry (Answered task answer) ∷ [] → IsLinked taken wf given left rf past link → IsLinked taken wf given left rf journal link
   links_answer task answer e h =
-      subst (λ (j : List Entry). IsLinked taken wf given left rf j link) (sym e)
-      (linked_apart past (main_entry (Answered task answer) ∷ []) link.child (given link.outlet) (left link.outlet) (taken link.inlet) (rf link.outlet) (wf link.inlet) link.held
-      record { got = refl; written = refl; covers = refl; mutes = refl; ends = refl } h.0,
-      heard_on link.child past (main_entry (Answered task answer) ∷ []) refl h.1)
+      subst (λ (j : List Entry). IsLinked taken wf given left rf j link) (sym e) (
+        linked_apart past (main_entry (Answered task answer) ∷ []) link.child (given link.outlet) (left link.outlet) (taken link.inlet) (rf link.outlet) (wf link.inlet) link.held
+            record { got = refl; written = refl; covers = refl; mutes = refl; ends = refl } h.0,
+        heard_on link.child past (main_entry (Answered task answer) ∷ []) refl h.1,
+      )
 
 -- the first child was started
 pub greeted_started : (journal : List Entry) (c : ℕ) → Greeted [] journal 0 false c → is_started journal c ≡ true

@@ -1,11 +1,10 @@
 -- What a run leaves of its programs and its child.
-use Rattle.std.proofs.Common.{◌≡◌, ℕ, ◌+◌, List, [], ◌∷◌, ◌++◌, length, refl, sym, ap, subst, ◌∙◌, Bool, true, false, Some, None, Option, length-append}
+use Rattle.std.proofs.Common.{◌≡◌, ℕ, List, [], ◌∷◌, length, refl, sym, ap, subst, ◌∙◌, Bool, true, false, Some, None, Option, length-append}
 use Rattle.std.specs.Prelude.{IsTrue, filter_map, option_and_then}
 use Rattle.std.specs.List.{list_any}
 use Rattle.ann_outside.specs.Starts.{Starts, IsNumbered}
 use Rattle.ann_outside.specs.Causes.{AddsOne, Stays}
 use Rattle.annex_model.specs.declared.verdict.Why.{Why}
-use Rattle.journal_model.specs.declared.answer.Answer.{Answer}
 use Rattle.journal_model.specs.declared.answer.Answer.TheVariants.{Unsent as UnsentAnswer, Ended as EndedAnswer}
 use Rattle.journal_model.specs.declared.entry.What.{What}
 use Rattle.journal_model.specs.declared.entry.What.TheVariants.{Start, NoStart}
@@ -16,8 +15,8 @@ use Rattle.child_link.specs.declared.wire.Wire.{Wire}
 use Rattle.child_link.specs.Links.{LinkValue, IsLinked}
 use Rattle.child_start.specs.Greetings.{Greeted, HasEnded, IsUnsent, AreNumbered}
 use Rattle.special_cli.specs.Endings.{start_in, starts_in}
-use Rattle.special_cli.specs.Objects.{came_in, came, IsOfStart, IsWire, AreWires, IsLeft, OneIsLeft, told_in, told, AddsAll, is_failed_start}
-use Rattle.special_cli.specs.Runs.{IsBegun, IsUnready, IsRun}
+use Rattle.special_cli.specs.Objects.{came_in, came, IsOfStart, IsWire, AreWires, OneIsLeft, told_in, told, AddsAll, is_failed_start}
+use Rattle.special_cli.specs.Runs.{IsUnready}
 use Rattle.special_cli.proofs.Looking.{holds_in, through, any_through}
 use Rattle.special_cli.proofs.Beginning.{begun_child}
 use Rattle.special_cli.proofs.Doing.{ended_start, unsent_start}
@@ -96,7 +95,6 @@ of_start (Some xs) (Some ys) x (Some n) a h = h ∙ ap (λ (zs : Starts). length
 
 module _ {I O : Type 0} (taken : I → Option (List ℕ)) (wf : I → ℕ) (inlet_number : I → Option ℕ)
     (given left : O → Option (List ℕ)) (rf : O → ℕ) (outlet_number : O → Option ℕ) (old : Option Starts) (journal : List Entry) where
-
   -- the one child's wire
   pub one_wire : (new : Option Starts) (x : List ℕ × Bool) (begun link : LinkValue I O) (wires : List (Wire I O)) → starts_in journal ≡ Start 1 0 false ∷ []
       → AddsOne old new x → AreNumbered inlet_number outlet_number new begun
@@ -119,7 +117,6 @@ module _ {I O : Type 0} (taken : I → Option (List ℕ)) (wf : I → ℕ) (inle
   no_wire wires starts none =
       subst (λ (cs : List (Option ℕ)). AreWires taken wf inlet_number given left rf outlet_number old journal 0 cs wires) (sym (came_of_starts journal (NoStart 0) starts))
       (subst (λ (ws : List (Wire I O)). AreWires taken wf inlet_number given left rf outlet_number old journal 0 (None ∷ []) ws) (sym none) tt)
-
 
   -- nothing was started
   pub empty_wires : (wires : List (Wire I O)) → journal ≡ [] → wires ≡ [] → AreWires taken wf inlet_number given left rf outlet_number old journal 0 (came journal) wires

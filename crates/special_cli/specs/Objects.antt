@@ -29,7 +29,6 @@ IsOfStart (Some xs) n (Some number) = number ≡ length xs + n
 
 module _ {I O : Type 0} (taken : I → Option (List ℕ)) (write_faults : I → ℕ) (inlet_number : I → Option ℕ)
     (given left : O → Option (List ℕ)) (read_faults : O → ℕ) (outlet_number : O → Option ℕ) (starts : Option Starts) (journal : List Entry) where
-
   -- The wire's bytes are the journal's lines, its child's end and mute have their causes, each line was fed in its turn, and its
   -- halves are those that the nth start gave.
   pub record IsWire (n : ℕ) (wire : Wire I O) : Type 0 where

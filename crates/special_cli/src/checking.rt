@@ -149,11 +149,7 @@ fn end<I: Sink, O: Source>(link: &mut Lone<I, O>, core: &mut Core, answer: Answe
 }
 
 /// The answer of the one task over a child that is ready, which is closed at the end.
-pub(super) fn check<I: Sink, O: Source>(
-    link: &mut Lone<I, O>,
-    core: &mut Core,
-    key: Key,
-) -> Answer
+pub(super) fn check<I: Sink, O: Source>(link: &mut Lone<I, O>, core: &mut Core, key: Key) -> Answer
     requires one { HasOneTask core.old.opening }
     requires key { is_sent_key key ≡ true }
     requires greeted { Greeted [] core.old.journal 0 false link.old.child }
@@ -171,11 +167,7 @@ pub(super) fn check<I: Sink, O: Source>(
 }
 
 /// The one task is answered for a child that isn't ready, which is closed.
-pub(super) fn give_up<I: Sink, O: Source>(
-    link: &mut Lone<I, O>,
-    core: &mut Core,
-    answer: Answer,
-)
+pub(super) fn give_up<I: Sink, O: Source>(link: &mut Lone<I, O>, core: &mut Core, answer: Answer)
     requires one { HasOneTask core.old.opening }
     requires unready { IsUnready core.old.journal answer }
     requires idle { open_jobs core.old.journal link.old.child ≡ [] }

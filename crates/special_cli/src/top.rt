@@ -15,8 +15,8 @@ ghost use Rattle.special_cli.specs.Runs.{HasAnswered, HasOneTask};
 
 use crate::closing::Closing;
 use crate::opening::opening_of;
-use crate::running;
 use crate::refusals::{Reason, refusal};
+use crate::running;
 use crate::texts::{CHECK_HELP, HELP, memory_line, refused_line, usage_line, version_line};
 use crate::words::{Command, command_of};
 use ann_key::{Key, KeyRef, NoMemory};

@@ -1,4 +1,4 @@
-use Rattle.std.proofs.Common.{◌≡◌, ◌∙◌, false, ℕ, List, [], ◌∷◌, ◌++◌, refl, sym, ap, inl}
+use Rattle.std.proofs.Common.{◌∙◌, false, List, [], ◌∷◌, ◌++◌, refl, ap, inl}
 use Rattle.journal_model.specs.declared.answer.Answer.TheVariants.{Memory}
 use Rattle.journal_model.specs.declared.entry.Entry.{Entry}
 use Rattle.journal_model.specs.declared.entry.What.TheVariants.{Claim, Start}
@@ -18,9 +18,10 @@ claim-requires-clause-free g c =
     free_one c.args.core.now.opening c.args.core.now.journal c.requires.one (begun_child c.args.core.now.journal c.args.link.now.child c.requires.greeted).unclaimed
 
 pub claim-requires-clause-ready : goal.claim-requires-clause-ready
-claim-requires-clause-ready g c =
-    (ap (is_started c.args.core.now.journal) c.child-child.ensures ∙ greeted_started c.args.core.now.journal c.args.link.now.child c.requires.greeted,
-    ap (is_prepared c.args.core.now.journal) c.child-child.ensures ∙ c.requires.ready.prepared)
+claim-requires-clause-ready g c = (
+  ap (is_started c.args.core.now.journal) c.child-child.ensures ∙ greeted_started c.args.core.now.journal c.args.link.now.child c.requires.greeted,
+  ap (is_prepared c.args.core.now.journal) c.child-child.ensures ∙ c.requires.ready.prepared,
+)
 
 pub answer_of-requires-clause-may : goal.answer_of-requires-clause-may
 answer_of-requires-clause-may g c =
@@ -32,9 +33,11 @@ answer_of-requires-clause-may g c =
 
 pub claim_alone-requires : goal.claim_alone-requires
 claim_alone-requires g c =
-    record { free = ap (least_free c.claim.new.core.opening) (else_same c.args.core.now.journal c.claim.new.core.journal c.child-child.result c.claim.result c.claim.ensures.claimed c.if-claim.false)
-        ∙ ap (λ o. least_free o c.args.core.now.journal) c.claim.ensures.opening
-        ∙ free_one c.args.core.now.opening c.args.core.now.journal c.requires.one (begun_child c.args.core.now.journal c.args.link.now.child c.requires.greeted).unclaimed }
+    record {
+      free = ap (least_free c.claim.new.core.opening) (else_same c.args.core.now.journal c.claim.new.core.journal c.child-child.result c.claim.result c.claim.ensures.claimed c.if-claim.false)
+          ∙ ap (λ o. least_free o c.args.core.now.journal) c.claim.ensures.opening
+          ∙ free_one c.args.core.now.opening c.args.core.now.journal c.requires.one (begun_child c.args.core.now.journal c.args.link.now.child c.requires.greeted).unclaimed;
+    }
 
 pub returns-then-claim-clause-done : goal.returns-then-claim-clause-done
 returns-then-claim-clause-done g c =

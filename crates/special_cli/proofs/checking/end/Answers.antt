@@ -1,8 +1,8 @@
-use Rattle.std.proofs.Common.{◌≡◌, ◌∙◌, List, [], ◌∷◌, ◌++◌, ap, append_assoc}
+use Rattle.std.proofs.Common.{◌∙◌, List, [], ◌∷◌, ◌++◌, ap, append_assoc}
 use Rattle.journal_model.specs.declared.entry.Entry.{Entry}
 use Rattle.journal_model.specs.declared.entry.What.TheVariants.{Answer as Answered}
 use Rattle.special_cli.specs.Runs.{main_entry}
-use Rattle.special_cli.proofs.Finishing.{may_give, may_close, started_still, run_done, links_answer}
+use Rattle.special_cli.proofs.Finishing.{may_give, may_close, run_done, links_answer}
 use Rattle.special_cli.proofs.checking.end.Goals as goal
 
 pub give-requires : goal.give-requires

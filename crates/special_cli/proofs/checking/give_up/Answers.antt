@@ -1,4 +1,4 @@
-use Rattle.std.proofs.Common.{◌≡◌, ◌∙◌, false, List, [], ◌∷◌, refl, ap, inr}
+use Rattle.std.proofs.Common.{◌∙◌, false, List, [], ◌∷◌, refl, ap, inr}
 use Rattle.journal_model.specs.declared.entry.Entry.{Entry}
 use Rattle.journal_model.specs.declared.entry.What.TheVariants.{Claim, Start}
 use Rattle.journal_model.specs.Journal.{open_jobs}

@@ -1,4 +1,4 @@
-use Rattle.std.proofs.Common.{◌∙◌, List, [], ◌∷◌, ◌++◌, refl, ap, inr}
+use Rattle.std.proofs.Common.{[], refl, inr}
 use Rattle.journal_model.specs.declared.answer.Answer.TheVariants.{StartFault}
 use Rattle.journal_model.specs.declared.entry.What.TheVariants.{NoStart}
 use Rattle.special_cli.proofs.Beginning.{begun_none, free_one}
@@ -12,8 +12,10 @@ claim_alone-requires c = record { free = free_one c.args.core.now.opening c.args
 pub give-requires : goal.give-requires
 give-requires c =
     let begun = begun_none c.args.core.now.journal c.requires.failed in
-    record { may = may_give [] (NoStart 0) c.claim_alone.new.core.journal StartFault
-        (done_alone [] (NoStart 0) c.args.core.now.journal c.claim_alone.new.core.journal StartFault begun c.claim_alone.ensures.claimed (inr (no_start c.args.core.now.journal begun.starts))) }
+    record {
+      may = may_give [] (NoStart 0) c.claim_alone.new.core.journal StartFault
+          (done_alone [] (NoStart 0) c.args.core.now.journal c.claim_alone.new.core.journal StartFault begun c.claim_alone.ensures.claimed (inr (no_start c.args.core.now.journal begun.starts)));
+    }
 
 pub returns-clause-run : goal.returns-clause-run
 returns-clause-run c = λ key.

@@ -1,8 +1,7 @@
-use Rattle.std.proofs.Common.{◌≡◌, ◌∙◌, true, false, List, [], ◌∷◌, subst}
+use Rattle.std.proofs.Common.{◌∙◌, true, false, List, subst}
 use Rattle.journal_model.specs.declared.entry.What.TheVariants.{Start, NoStart}
 use Rattle.journal_model.specs.declared.entry.Entry.{Entry}
 use Rattle.child_start.specs.Greetings.{Greeted}
-use Rattle.child_start.proofs.Jobs.{idle_on}
 use Rattle.special_cli.proofs.Leaving.{unready_ended, unready_unsent, none_failed, child_told, fault_told, one_wire, no_wire}
 use Rattle.special_cli.proofs.running.run.Goals as goal
 

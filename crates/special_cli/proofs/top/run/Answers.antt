@@ -1,4 +1,4 @@
-use Rattle.std.proofs.Common.{◌≡◌, ◌∙◌, List, [], ◌∷◌, ◌++◌, ap, sym, subst}
+use Rattle.std.proofs.Common.{◌∙◌, [], ◌∷◌, ◌++◌, ap, sym, subst}
 use Rattle.special_cli.specs.Objects.{HaveStarted}
 use Rattle.special_cli.proofs.Checked.{told_answer, told_nothing, started_once}
 use Rattle.special_cli.proofs.top.run.Goals as goal

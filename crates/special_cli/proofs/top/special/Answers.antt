@@ -1,4 +1,4 @@
-use Rattle.std.proofs.Common.{◌≡◌, ◌⊎◌, ◌∙◌, Some, true, ap, sym}
+use Rattle.std.proofs.Common.{◌≡◌, ◌∙◌, Some, true, ap, sym}
 use Rattle.std.specs.Prelude.{option_map}
 use Rattle.ann_outside.specs.Causes.{Rose}
 use Rattle.journal_model.specs.Journal.{any}
