@@ -3,6 +3,7 @@
 
 mod checking;
 mod closing;
+pub mod laws;
 mod opening;
 mod refusals;
 mod running;

@@ -1,0 +1,44 @@
+// Laws over the definitions, each the contract of a function with nothing to do.
+ghost use Rattle.std.specs.Prelude.{◌≡◌, ◌++◌, [], ◌∷◌, Some, None, codes, true, false};
+ghost use Rattle.journal_model.specs.declared.answer.Answer.TheVariants.{Present, Absent};
+ghost use Rattle.journal_model.specs.declared.entry.What.TheVariants.{Got};
+ghost use Rattle.journal_model.specs.Wires.{is_heard_in_turn};
+ghost use Rattle.journal_model.specs.Rows.{sample_key, by_main, greeting, check_present};
+ghost use Rattle.special_cli.specs.Endings.{IsTold};
+ghost use Rattle.special_cli.specs.Objects.{HaveStarted};
+ghost use Rattle.special_cli.specs.Rows.{present_wire, HasWires};
+
+/// A check that found its key is told by its one answer, whole, or cut off where a write failed; by no other answer and with no
+/// other status, and not where nothing was started.
+pub fn check_present_is_told()
+    ensures told { IsTold 0 ⊥ (Some []) (Some (codes "1 present" ++ 10 ∷ [])) sample_key check_present (Present ∷ []) }
+    ensures cut { IsTold 5 ⊥ (Some []) (Some (codes "1 pre")) sample_key check_present (Present ∷ []) }
+    ensures absent { IsTold 1 ⊥ (Some []) (Some (codes "1 absent" ++ 10 ∷ [])) sample_key check_present (Absent ∷ []) → ⊥ }
+    ensures status { IsTold 1 ⊥ (Some []) (Some (codes "1 present" ++ 10 ∷ [])) sample_key check_present (Present ∷ []) → ⊥ }
+    ensures unstarted { IsTold 0 ⊥ (Some []) (Some (codes "1 present" ++ 10 ∷ [])) sample_key [] (Present ∷ []) → ⊥ }
+    ensures nothing { IsTold 0 ⊥ (Some []) (Some []) sample_key [] [] → ⊥ }
+{}
+
+/// The wire of that check has what the child said and what it was asked. There is one, with the halves of the first start.
+pub fn check_present_has_its_wire()
+    ensures one { HasWires (Some 1) (present_wire ∷ []) }
+    ensures none { HasWires (Some 1) [] → ⊥ }
+    ensures cut { HasWires (Some 1) ((record present_wire { inlet = Some (codes "PREPARE") }) ∷ []) → ⊥ }
+    ensures another { HasWires (Some 2) (present_wire ∷ []) → ⊥ }
+{}
+
+/// The programs of a check saw one start, of the program that was named.
+pub fn check_present_is_started()
+    ensures once { HaveStarted 0 (codes "p") check_present (Some []) (Some ((codes "p", true) ∷ [])) }
+    ensures never { HaveStarted 0 (codes "p") check_present (Some []) (Some []) → ⊥ }
+    ensures another { HaveStarted 0 (codes "p") check_present (Some []) (Some ((codes "q", true) ∷ [])) → ⊥ }
+    ensures twice { HaveStarted 0 (codes "p") check_present (Some []) (Some ((codes "p", true) ∷ (codes "p", true) ∷ [])) → ⊥ }
+    ensures untold { HaveStarted 0 (codes "p") check_present None None }
+{}
+
+/// A line that a child says before it is asked is not heard until then.
+pub fn early_lines_are_out_of_turn()
+    ensures present { is_heard_in_turn check_present 1 ≡ true }
+    ensures early { is_heard_in_turn (greeting ++ by_main (Got 1 (codes "DEBUG x")) ∷ []) 1 ≡ false }
+    ensures other { is_heard_in_turn (greeting ++ by_main (Got 1 (codes "DEBUG x")) ∷ []) 2 ≡ true }
+{}
