@@ -77,12 +77,16 @@ fn a_real_child_is_asked_for_a_key_that_is_there_and_for_one_that_is_not(
 ) -> Result<(), Fail> {
     fs::write(&rt, "WORM--there", "content")?;
     write_script(&rt, "./remote.sh", REMOTE)?;
-    let (status, out) = check(&rt, "./remote.sh", "WORM--there")?;
-    assert_eq!(rt; out.as_slice(), b"1 present\n".as_slice());
-    assert_eq!(rt; status, 0);
-    let (status, out) = check(&rt, "./remote.sh", "WORM--not-there")?;
-    assert_eq!(rt; out.as_slice(), b"1 absent\n".as_slice());
-    assert_eq!(rt; status, 1);
+    for (key, out, status) in [
+        ("WORM--there", "1 present\n", 0),
+        ("WORM--not-there", "1 absent\n", 1),
+    ] {
+        let (ended, printed) = check(&rt, "./remote.sh", key)?;
+        assert_eq!(rt; printed.as_slice(), out.as_bytes(), "{key}");
+        assert_eq!(rt; ended, status, "{key}");
+    }
+    fs::remove_file(&rt, "./remote.sh")?;
+    fs::remove_file(&rt, "WORM--there")?;
     Ok(())
 }
 
@@ -97,6 +101,7 @@ fn a_real_child_that_breaks_off_is_told(rt: HostRuntime) -> Result<(), Fail> {
         let (status, printed) = check(&rt, name, "WORM--a")?;
         assert_eq!(rt; printed.as_slice(), out.as_bytes(), "{name}");
         assert_eq!(rt; status, 1, "{name}");
+        fs::remove_file(&rt, name)?;
     }
     Ok(())
 }
