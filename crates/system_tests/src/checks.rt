@@ -1,132 +1,103 @@
-// `special check` over children in memory: what is written to the child, printed, and left.
-ghost use Rattle.std.specs.Prelude.{◌<◌};
-
-use ann_key::Bytes;
-use ann_outside::{MemChild, MemClock, MemPrograms, MemSink, MemSource};
-use special_cli::special;
-use std::alloc::{AllocError, Global};
+// `special check` over children in memory: what is written to the child, printed, kept and left.
+use crate::memory::{first_lines, one_child, one_speaker, pieces, run};
+use ann_outside::MemPrograms;
 use std::test::Fail;
 
 const KEY: &str = "SHA256E-s0--e3b0c44298fc1c149afbf4c8996fb92427ae41e4649b934ca495991b7852b855";
 
-// What a call leaves, as far as the tests look at it.
-#[derive(Drop)]
-struct Left {
-    status: u8,
-    out: Vec<u8>,
-    err: Vec<u8>,
-    written: Vec<u8>,
-    entries: u64,
-    children: usize,
-    rest: usize,
-}
+// What a child says that has the key, and what is written to it.
+const SAYS: &str = "\
+VERSION 1
+EXTENSIONS
+PREPARE-SUCCESS
+CHECKPRESENT-SUCCESS SHA256E-s0--e3b0c44298fc1c149afbf4c8996fb92427ae41e4649b934ca495991b7852b855
+";
 
-fn words_of(alloc: Global, words: &[&str]) -> Result<Vec<String>, AllocError> {
-    let mut list = Vec::new(alloc);
-    for word in words {
-        list.push(String::from_str(alloc, word)?)?;
-    }
-    Ok(list)
-}
+const ASKED: &str = "\
+EXTENSIONS INFO GETGITREMOTENAME
+PREPARE
+CHECKPRESENT SHA256E-s0--e3b0c44298fc1c149afbf4c8996fb92427ae41e4649b934ca495991b7852b855
+";
 
-fn pieces(alloc: Global, says: &[u8], size: usize) -> Result<Vec<Bytes>, AllocError>
-    requires { 0 < size }
-{
-    let mut list = Vec::new(alloc);
-    for piece in says.chunks(size) {
-        list.push(Bytes::from_vec(Vec::from_slice(alloc, piece)?))?;
-    }
-    Ok(list)
-}
+const PRESENT: &str = "\
+0 start 1 0 plain
+0 got 1 VERSION 1
+0 ask 1 0 0 EXTENSIONS INFO GETGITREMOTENAME
+0 sent 1
+0 got 1 EXTENSIONS
+0 verdict 1 0 done 4
+0 ask 1 1 0 PREPARE
+0 sent 1
+0 got 1 PREPARE-SUCCESS
+0 verdict 1 1 done 8
+0 claim 1 1
+0 ask 1 2 1 CHECKPRESENT SHA256E-s0--e3b0c44298fc1c149afbf4c8996fb92427ae41e4649b934ca495991b7852b855
+0 sent 1
+0 got 1 CHECKPRESENT-SUCCESS SHA256E-s0--e3b0c44298fc1c149afbf4c8996fb92427ae41e4649b934ca495991b7852b855
+0 verdict 1 2 done 13
+0 answer 1 present
+0 end 1 closed
+";
 
-// One child that says these bytes, so many a read, with reads and writes that fail.
-fn programs(
-    alloc: Global,
-    says: &[u8],
-    size: usize,
-    read_fails: &[u64],
-    write_fails: &[u64],
-) -> Result<MemPrograms, AllocError>
-    requires { 0 < size }
-{
-    let mut children = Vec::new(alloc);
-    children.push(MemChild {
-        says: pieces(alloc, says, size)?,
-        read_fails: Vec::from_slice(alloc, read_fails)?,
-        write_fails: Vec::from_slice(alloc, write_fails)?,
-    })?;
-    Ok(MemPrograms::new(alloc, children, Vec::new(alloc)))
-}
+const ENDED: &str = "\
+0 start 1 0 plain
+0 got 1 VERSION 1
+0 ask 1 0 0 EXTENSIONS INFO GETGITREMOTENAME
+0 sent 1
+0 end 1 eof
+0 verdict 1 0 ended eof
+0 claim 1 0
+0 answer 1 ended eof
+";
 
-fn run(
-    alloc: Global,
-    words: &[&str],
-    programs: MemPrograms,
-    out_fails: Vec<u64>,
-) -> Result<Left, AllocError> {
-    let words = words_of(alloc, words)?;
-    let mut input = MemSource::new(Vec::new(alloc), Vec::new(alloc));
-    let mut out = MemSink::new(alloc, 7, out_fails);
-    let mut err = MemSink::new(alloc, 7, Vec::new(alloc));
-    let mut clock = MemClock::new(1_700_000_000_000_000);
-    let closing = special(
-        alloc,
-        words.as_slice(),
-        programs,
-        &mut input,
-        &mut out,
-        &mut err,
-        &mut clock,
-    );
-    let mut written = Vec::new(alloc);
-    let mut rest = 0;
-    for wire in &closing.wires {
-        written.extend_from_slice(wire.inlet.taken())?;
-        rest = wire.rest.view().len();
-    }
-    Ok(Left {
-        status: closing.status,
-        out: Vec::from_slice(alloc, out.taken())?,
-        err: Vec::from_slice(alloc, err.taken())?,
-        written,
-        entries: closing.journal.len(),
-        children: closing.wires.len(),
-        rest,
-    })
-}
+const NOT_STARTED: &str = "\
+0 nostart 0
+0 claim 1 0
+0 answer 1 startfault
+";
 
-const ASKED: &str =
-    "EXTENSIONS INFO GETGITREMOTENAME\nPREPARE\nCHECKPRESENT SHA256E-s0--e3b0c44298fc1c149afbf4c8996fb92427ae41e4649b934ca495991b7852b855\n";
-
+// What a child says that is ready.
 const READY: &str = "VERSION 1\nEXTENSIONS\nPREPARE-SUCCESS\n";
 
-fn said(alloc: Global, last: &str) -> Result<String, AllocError> {
-    format!(in alloc; "{READY}{last}")
-}
-
 #[test]
-fn a_present_key_is_answered_present(rt: HostRuntime) -> Result<(), Fail> {
+fn a_check_leaves_its_journal_and_one_wire_however_it_is_read(rt: HostRuntime) -> Result<(), Fail> {
     let alloc = rt.alloc();
-    let says = format!(in alloc; "{READY}CHECKPRESENT-SUCCESS {KEY}\n")?;
-    let children = programs(alloc, says.as_bytes(), 4096, &[], &[])?;
-    let left = run(alloc, &["check", "p", KEY], children, Vec::new(alloc))?;
-    assert_eq!(rt; left.out.as_slice(), b"1 present\n".as_slice());
-    assert_eq!(rt; left.status, 0);
-    assert_eq!(rt; left.written.as_slice(), ASKED.as_bytes());
-    assert_eq!(rt; left.entries, 17);
-    assert_eq!(rt; left.rest, 0);
-    assert!(rt; left.err.is_empty());
+    let half = (
+        "VERSION 1\nEXTEN",
+        "1 ended eof\n",
+        1,
+        "EXTENSIONS INFO GETGITREMOTENAME\n",
+        "EXTEN",
+        ENDED,
+    );
+    for (says, out, status, asked, rest, journal) in [
+        (SAYS, "1 present\n", 0, ASKED, "", PRESENT),
+        half,
+    ] {
+        for size in [1, 4096] {
+            let programs = one_child(alloc, pieces(alloc, says, size)?, &[], &[])?;
+            let left = run(alloc, &["check", "p", KEY], programs, &[])?;
+            assert_eq!(rt; left.journal.as_str(), journal, "{size} bytes a read");
+            assert_eq!(rt; left.out.as_str(), out);
+            assert_eq!(rt; left.err.as_str(), "");
+            assert_eq!(rt; left.status, status);
+            assert_eq!(rt; left.children.as_slice(), [1].as_slice());
+            assert_eq!(rt; left.written.as_str(), asked);
+            assert_eq!(rt; left.rest.as_str(), rest);
+        }
+    }
     Ok(())
 }
 
 #[test]
-fn one_byte_a_read_makes_no_difference(rt: HostRuntime) -> Result<(), Fail> {
+fn a_start_that_fails_is_told_and_leaves_no_wire(rt: HostRuntime) -> Result<(), Fail> {
     let alloc = rt.alloc();
-    let says = format!(in alloc; "{READY}CHECKPRESENT-SUCCESS {KEY}\n")?;
-    let children = programs(alloc, says.as_bytes(), 1, &[], &[])?;
-    let left = run(alloc, &["check", "p", KEY], children, Vec::new(alloc))?;
-    assert_eq!(rt; left.out.as_slice(), b"1 present\n".as_slice());
-    assert_eq!(rt; left.entries, 17);
+    let programs = MemPrograms::new(alloc, Vec::new(alloc), Vec::from_slice(alloc, &[1])?);
+    let left = run(alloc, &["check", "p", "WORM--a"], programs, &[])?;
+    assert_eq!(rt; left.out.as_str(), "1 startfault\n");
+    assert_eq!(rt; left.status, 1);
+    assert_eq!(rt; left.journal.as_str(), NOT_STARTED);
+    assert!(rt; left.children.is_empty());
     Ok(())
 }
 
@@ -134,10 +105,51 @@ fn one_byte_a_read_makes_no_difference(rt: HostRuntime) -> Result<(), Fail> {
 fn an_absent_key_is_answered_absent(rt: HostRuntime) -> Result<(), Fail> {
     let alloc = rt.alloc();
     let says = format!(in alloc; "{READY}CHECKPRESENT-FAILURE {KEY}\n")?;
-    let children = programs(alloc, says.as_bytes(), 4096, &[], &[])?;
-    let left = run(alloc, &["check", "p", KEY], children, Vec::new(alloc))?;
-    assert_eq!(rt; left.out.as_slice(), b"1 absent\n".as_slice());
+    let programs = one_speaker(alloc, says.as_str())?;
+    let left = run(alloc, &["check", "p", KEY], programs, &[])?;
+    assert_eq!(rt; left.out.as_str(), "1 absent\n");
     assert_eq!(rt; left.status, 1);
+    Ok(())
+}
+
+// What goes wrong with a child that would say its four lines, one a read.
+#[derive(Clone, Copy, Debug)]
+enum Fault {
+    // It ends behind that many lines.
+    Ends(usize),
+    // The read of that number fails.
+    Read(u64),
+    // The write to it of that number fails.
+    Write(u64),
+}
+
+#[test]
+fn each_end_of_a_child_is_told(rt: HostRuntime) -> Result<(), Fail> {
+    let alloc = rt.alloc();
+    for (fault, out, status) in [
+        (Fault::Ends(0), "1 ended eof\n", 1),
+        (Fault::Ends(1), "1 ended eof\n", 1),
+        (Fault::Ends(2), "1 ended eof\n", 1),
+        (Fault::Ends(3), "1 ended eof\n", 1),
+        (Fault::Ends(4), "1 present\n", 0),
+        (Fault::Read(1), "1 ended readfault\n", 1),
+        (Fault::Read(2), "1 ended readfault\n", 1),
+        (Fault::Read(3), "1 ended readfault\n", 1),
+        (Fault::Read(4), "1 ended readfault\n", 1),
+        (Fault::Write(1), "1 unsent\n", 1),
+        (Fault::Write(2), "1 unsent\n", 1),
+        (Fault::Write(3), "1 unsent\n", 1),
+    ] {
+        let programs = match fault {
+            Fault::Ends(count) => one_child(alloc, first_lines(alloc, SAYS, count)?, &[], &[])?,
+            Fault::Read(call) => one_child(alloc, first_lines(alloc, SAYS, 4)?, &[call], &[])?,
+            Fault::Write(call) => one_child(alloc, first_lines(alloc, SAYS, 4)?, &[], &[call])?,
+        };
+        let left = run(alloc, &["check", "p", KEY], programs, &[])?;
+        assert_eq!(rt; left.out.as_str(), out, "{fault:?}");
+        assert_eq!(rt; left.status, status, "{fault:?}");
+        assert_eq!(rt; left.rest.as_str(), "", "{fault:?}");
+    }
     Ok(())
 }
 
@@ -146,7 +158,6 @@ fn a_child_that_breaks_off_or_speaks_out_of_turn_is_told(rt: HostRuntime) -> Res
     let alloc = rt.alloc();
     for (says, out) in [
         ("VERSION 2\n", "1 ended version\n"),
-        ("", "1 ended eof\n"),
         ("VERSION 1", "1 ended eof\n"),
         ("VERSION 1\nEXTENSIONS\nPREPARE-SUCC", "1 ended eof\n"),
         (
@@ -158,41 +169,24 @@ fn a_child_that_breaks_off_or_speaks_out_of_turn_is_told(rt: HostRuntime) -> Res
             "1 foul CHECKPRESENT-SUCCESS WORM--x\n",
         ),
     ] {
-        let children = programs(alloc, says.as_bytes(), 4096, &[], &[])?;
-        let left = run(alloc, &["check", "p", KEY], children, Vec::new(alloc))?;
-        assert_eq!(rt; left.out.as_slice(), out.as_bytes(), "{says}");
+        let left = run(alloc, &["check", "p", KEY], one_speaker(alloc, says)?, &[])?;
+        assert_eq!(rt; left.out.as_str(), out, "{says}");
         assert_eq!(rt; left.status, 1);
     }
     Ok(())
 }
 
 #[test]
-fn faults_of_the_halves_are_told(rt: HostRuntime) -> Result<(), Fail> {
+fn a_line_without_an_end_is_told_by_its_length(rt: HostRuntime) -> Result<(), Fail> {
     let alloc = rt.alloc();
-    let says = said(alloc, "CHECKPRESENT-SUCCESS WORM--a\n")?;
-    let unread = programs(alloc, says.as_bytes(), 4096, &[1], &[])?;
-    let left = run(alloc, &["check", "p", "WORM--a"], unread, Vec::new(alloc))?;
-    assert_eq!(rt; left.out.as_slice(), b"1 ended readfault\n".as_slice());
-    let unwritten = programs(alloc, says.as_bytes(), 4096, &[], &[3])?;
-    let left = run(
-        alloc,
-        &["check", "p", "WORM--a"],
-        unwritten,
-        Vec::new(alloc),
-    )?;
-    assert_eq!(rt; left.out.as_slice(), b"1 unsent\n".as_slice());
-    assert_eq!(rt; left.status, 1);
-    Ok(())
-}
-
-#[test]
-fn a_start_that_fails_is_told(rt: HostRuntime) -> Result<(), Fail> {
-    let alloc = rt.alloc();
-    let programs = MemPrograms::new(alloc, Vec::new(alloc), Vec::from_slice(alloc, &[1])?);
-    let left = run(alloc, &["check", "p", "WORM--a"], programs, Vec::new(alloc))?;
-    assert_eq!(rt; left.out.as_slice(), b"1 startfault\n".as_slice());
-    assert_eq!(rt; left.status, 1);
-    assert_eq!(rt; left.children, 0);
+    for (length, out) in [(65_536, "1 ended eof\n"), (65_537, "1 ended longline\n")] {
+        let says = String::from_utf8(vec![in alloc; b'a'; length]?)?;
+        let programs = one_speaker(alloc, says.as_str())?;
+        let left = run(alloc, &["check", "p", KEY], programs, &[])?;
+        assert_eq!(rt; left.out.as_str(), out);
+        assert_eq!(rt; left.status, 1);
+        assert_eq!(rt; left.rest.len(), length);
+    }
     Ok(())
 }
 
@@ -206,33 +200,27 @@ fn words_and_keys_out_of_place_start_nothing(rt: HostRuntime) -> Result<(), Fail
         ("", 2, "special: usage\n"),
         ("WORM--a\n", 2, "special: usage\n"),
     ] {
-        let children = programs(alloc, b"VERSION 1\n", 4096, &[], &[])?;
-        let left = run(alloc, &["check", "p", key], children, Vec::new(alloc))?;
+        let programs = one_speaker(alloc, "VERSION 1\n")?;
+        let left = run(alloc, &["check", "p", key], programs, &[])?;
         assert_eq!(rt; left.status, status, "{key}");
-        assert_eq!(rt; left.err.as_slice(), err.as_bytes());
-        assert_eq!(rt; left.children, 0);
-        assert_eq!(rt; left.entries, 0);
-        assert!(rt; left.out.is_empty());
+        assert_eq!(rt; left.err.as_str(), err);
+        assert!(rt; left.children.is_empty());
+        assert_eq!(rt; left.journal.as_str(), "");
+        assert_eq!(rt; left.out.as_str(), "");
     }
-    let children = programs(alloc, b"VERSION 1\n", 4096, &[], &[])?;
-    let left = run(alloc, &["run"], children, Vec::new(alloc))?;
+    let left = run(alloc, &["run"], one_speaker(alloc, "VERSION 1\n")?, &[])?;
     assert_eq!(rt; left.status, 2);
-    assert_eq!(rt; left.err.as_slice(), b"special: usage\n".as_slice());
+    assert_eq!(rt; left.err.as_str(), "special: usage\n");
     Ok(())
 }
 
 #[test]
 fn a_failing_write_of_the_answer_is_the_status(rt: HostRuntime) -> Result<(), Fail> {
     let alloc = rt.alloc();
-    let says = said(alloc, "CHECKPRESENT-SUCCESS WORM--a\n")?;
-    let children = programs(alloc, says.as_bytes(), 4096, &[], &[])?;
-    let left = run(
-        alloc,
-        &["check", "p", "WORM--a"],
-        children,
-        Vec::from_slice(alloc, &[2])?,
-    )?;
+    let says = format!(in alloc; "{READY}CHECKPRESENT-SUCCESS WORM--a\n")?;
+    let programs = one_speaker(alloc, says.as_str())?;
+    let left = run(alloc, &["check", "p", "WORM--a"], programs, &[2])?;
     assert_eq!(rt; left.status, 5);
-    assert_eq!(rt; left.out.as_slice(), b"1 prese".as_slice());
+    assert_eq!(rt; left.out.as_str(), "1 prese");
     Ok(())
 }

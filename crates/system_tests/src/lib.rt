@@ -4,4 +4,8 @@
 #[cfg(test)]
 mod checks;
 #[cfg(test)]
+mod journal;
+#[cfg(test)]
+mod memory;
+#[cfg(test)]
 mod real;

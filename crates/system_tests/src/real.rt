@@ -3,10 +3,10 @@ use ann_os::OsPrograms;
 use ann_outside::{MemClock, MemSink, MemSource};
 use special_cli::special;
 use std::alloc::AllocError;
-use std::fs;
 use std::fs::Permissions;
 use std::os::unix::fs::PermissionsExt;
 use std::test::Fail;
+use std::{fs, io};
 
 const REMOTE: &str = "#!/bin/sh\n\
     echo \"VERSION 1\"\n\
@@ -19,6 +19,26 @@ const REMOTE: &str = "#!/bin/sh\n\
     *) echo UNSUPPORTED-REQUEST ;;\n\
     esac\n\
     done\n";
+
+// It says half a line and ends, but not before the first request was written.
+const HALF: &str = "#!/bin/sh\n\
+    echo \"VERSION 1\"\n\
+    printf EXTEN\n\
+    read -r line\n";
+
+// It hears nothing from the start on.
+const DEAF: &str = "#!/bin/sh\n\
+    exec 0<&-\n\
+    echo \"VERSION 1\"\n";
+
+// Its first line is too long, and has no end.
+const LONG: &str = "#!/bin/sh\n\
+    head -c 65537 /dev/zero | tr '\\0' a\n";
+
+fn write_script(rt: &HostRuntime, name: &str, text: &str) -> io::Result<()> {
+    fs::write(rt, name, text)?;
+    fs::set_permissions(rt, name, Permissions::from_mode(0o755))
+}
 
 // The status, and what was printed.
 fn check(rt: &HostRuntime, program: &str, key: &str) -> Result<(u8, Vec<u8>), AllocError> {
@@ -56,13 +76,32 @@ fn a_real_child_is_asked_for_a_key_that_is_there_and_for_one_that_is_not(
     rt: HostRuntime,
 ) -> Result<(), Fail> {
     fs::write(&rt, "WORM--there", "content")?;
-    fs::write(&rt, "remote.sh", REMOTE)?;
-    fs::set_permissions(&rt, "remote.sh", Permissions::from_mode(0o755))?;
-    let (status, out) = check(&rt, "./remote.sh", "WORM--there")?;
-    assert_eq!(rt; out.as_slice(), b"1 present\n".as_slice());
-    assert_eq!(rt; status, 0);
-    let (status, out) = check(&rt, "./remote.sh", "WORM--not-there")?;
-    assert_eq!(rt; out.as_slice(), b"1 absent\n".as_slice());
-    assert_eq!(rt; status, 1);
+    write_script(&rt, "./remote.sh", REMOTE)?;
+    for (key, out, status) in [
+        ("WORM--there", "1 present\n", 0),
+        ("WORM--not-there", "1 absent\n", 1),
+    ] {
+        let (ended, printed) = check(&rt, "./remote.sh", key)?;
+        assert_eq!(rt; printed.as_slice(), out.as_bytes(), "{key}");
+        assert_eq!(rt; ended, status, "{key}");
+    }
+    fs::remove_file(&rt, "./remote.sh")?;
+    fs::remove_file(&rt, "WORM--there")?;
+    Ok(())
+}
+
+#[test]
+fn a_real_child_that_breaks_off_is_told(rt: HostRuntime) -> Result<(), Fail> {
+    for (name, text, out) in [
+        ("./half.sh", HALF, "1 ended eof\n"),
+        ("./deaf.sh", DEAF, "1 unsent\n"),
+        ("./long.sh", LONG, "1 ended longline\n"),
+    ] {
+        write_script(&rt, name, text)?;
+        let (status, printed) = check(&rt, name, "WORM--a")?;
+        assert_eq!(rt; printed.as_slice(), out.as_bytes(), "{name}");
+        assert_eq!(rt; status, 1, "{name}");
+        fs::remove_file(&rt, name)?;
+    }
     Ok(())
 }
