@@ -69,7 +69,7 @@ pub told_answer : (status : ℕ) (R : Type 0) (taken taken' : Option (List ℕ))
     → IsTold status R taken taken' key journal answers
 told_answer status R taken taken' key core kept journal answers answer run k j one printed =
     let here : HasAnswered key journal answer = subst (λ (x : List Entry). HasAnswered key x answer) (sym (j ∙ k)) run in
-    inl (answer, record { one = one; given = here.1.given; run = here.1.run }, subst (λ (x : List Entry). IsPrinted status taken taken' (answer_line x 1 answer) answer) (sym j) printed)
+    inl (answer, record { one = one; given = here.1.given; run = here.1.run; cause = here.1.cause }, subst (λ (x : List Entry). IsPrinted status taken taken' (answer_line x 1 answer) answer) (sym j) printed)
 
 pub told_nothing : (status : ℕ) (R : Type 0) (taken : Option (List ℕ)) (key : List ℕ) (journal : List Entry) (answers : List Answer) → answers ≡ [] → (status ≡ 7) ⊎ ((status ≡ 5) × R)
     → IsTold status R taken taken key journal answers

@@ -28,6 +28,9 @@ use Rattle.std.specs.Option.{option_or}
 use Rattle.std.proofs.lemmas.List.{append-nil}
 use Rattle.child_start.proofs.Jobs.{idle_on, idle_asked}
 use Rattle.child_start.specs.Greetings.{IsReady, HasEnded, IsUnsent}
+use Rattle.journal_model.specs.Legality.{Legal}
+use Rattle.special_cli.specs.Causes.{HasCause}
+use Rattle.special_cli.proofs.Causing.{cause_grows, cause_of_verdict, cause_of_lost, cause_of_start}
 use Rattle.special_cli.specs.Endings.{start_in, starts_in, is_for_task}
 use Rattle.special_cli.specs.Runs.{main_entry, claim_in, AsksFor, IsBegun, IsDone}
 use Rattle.special_cli.proofs.Looking.{holds_in, link_says_none, through, any_through, all_both, all_weaken, any_none}
@@ -68,9 +71,14 @@ module _ (key : List ℕ) (first : What) (past journal : List Entry) (answer : A
         silent = each_of-append answer_in past (claim ∷ []) ∙ ap (λ (xs : List (ℕ × Answer)). xs ++ []) begun.silent;
         idle = ap (list_any (λ (q : ℕ × ℕ). is_open all q.0 q.1)) jobs;
         run = subst (CheckOver key all 1 answer) (sym (first_claim all 0 claimed)) (unasked, zero_run);
+        cause = cause_grows past (claim ∷ []) answer (by_cause why);
         tasked = all_both is_for_task past (claim ∷ []) begun.tasked refl;
       }
     where
+      by_cause : (answer ≡ Memory) ⊎ (failed_start past (last_or None (each_of (came_of 0) past)) ≡ Some answer) → HasCause past answer
+      by_cause (inl e) = subst (HasCause past) (sym e) tt
+      by_cause (inr e) = cause_of_start first past answer begun.is_start begun.starts (last_came first past begun.starts) e
+
       by_why : (answer ≡ Memory) ⊎ (failed_start past (last_or None (each_of (came_of 0) past)) ≡ Some answer) → (answer ≡ Memory) ⊎ ChildZero (past ++ claim ∷ []) 1 answer
       by_why (inl e) = inl e
       by_why (inr e) = inr record { past = past; rest = []; by = 0; claim = refl; why = e }
@@ -168,7 +176,7 @@ module _ (o : Opening) (first : What) (past : List Entry) (c : ℕ) (begun : IsB
     Later more answer =
         (each_of start_in more ≡ []) × (each_of claim_in more ≡ []) × (each_of answer_in more ≡ [])
         × (has_open_job (claimed ++ more) 1 ≡ false) × (list_all (λ (e : Entry). is_for_task e.what) more ≡ true)
-        × CheckRun key (askings (claimed ++ more) 1) answer
+        × CheckRun key (askings (claimed ++ more) 1) answer × HasCause (claimed ++ more) answer
 
     done_later : (more : List Entry) (answer : Answer) → Later more answer → IsDone key first (claimed ++ more) answer
     done_later more answer h =
@@ -183,6 +191,7 @@ module _ (o : Opening) (first : What) (past : List Entry) (c : ℕ) (begun : IsB
           silent = each_of-append answer_in claimed more ∙ ap (λ (xs : List (ℕ × Answer)). xs ++ each_of answer_in more) (each_of-append answer_in past (main_entry (Claim 1 c) ∷ [])) ∙ (rw (begun.silent, h.2) refl);
           idle = h.3;
           run = subst (CheckOver key (claimed ++ more) 1 answer) (sym (first_claim (claimed ++ more) c all)) (subst (λ (k : ℕ). CheckOver key (claimed ++ more) 1 answer (Some k)) (sym one) h.5);
+          cause = h.6;
           tasked = all_both is_for_task claimed more (all_both is_for_task past (main_entry (Claim 1 c) ∷ []) begun.tasked refl) h.4;
         }
 
@@ -198,6 +207,7 @@ module _ (o : Opening) (first : What) (past : List Entry) (c : ℕ) (begun : IsB
           ap (λ (j : List Entry). has_open_job j 1) still ∙ idle_now,
           refl,
           subst (λ (xs : List Asking). CheckRun key xs Memory) (sym (ap (λ (j : List Entry). askings j 1) still ∙ unasked)) refl,
+          tt,
         ))
 
     small : next_job claimed c < 2 ^ 64
@@ -210,9 +220,9 @@ module _ (o : Opening) (first : What) (past : List Entry) (c : ℕ) (begun : IsB
     asked = main_entry (Ask c (next_job claimed c) 1 line)
 
     -- it was asked and settled
-    done_settled : (o' : Opening) (journal : List Entry) (verdict : Verdict) (answer : Answer) → is_sent_key key ≡ true → open_jobs journal c ≡ []
+    done_settled : (o' o'' : Opening) (journal : List Entry) (verdict : Verdict) (answer : Answer) → is_sent_key key ≡ true → open_jobs journal c ≡ [] → Legal o'' journal
         → IsSettled o' claimed journal 0 c 1 question verdict → check_answer verdict ≡ Some answer → IsDone key first journal answer
-    done_settled o' journal verdict answer sent idle s says =
+    done_settled o' o'' journal verdict answer sent idle legal s says =
         let more : List Entry = asked ∷ s.goes.more in
         let grown : journal ≡ claimed ++ more = s.goes.is ∙ append_assoc claimed (asked ∷ []) s.goes.more in
         let quiet : any (asks_for 1) s.goes.more ≡ false = any_none is_of_link (asks_for 1) link_asks_none s.goes.more s.goes.quiet in
@@ -237,6 +247,7 @@ module _ (o : Opening) (first : What) (past : List Entry) (c : ℕ) (begun : IsB
           closed,
           tasked,
           subst (λ (xs : List Asking). CheckRun key xs answer) (sym pairs) run,
+          subst (λ (j : List Entry). HasCause j answer) grown (cause_of_verdict o'' journal c (next_job claimed c) verdict answer legal s.settled says),
         ))
 
     lost_fits : (why : Option Why) (answer : Answer) → check_answer (lost_as why) ≡ Some answer → CheckRun key (record { request = None; verdict = lost_verdict why } ∷ []) answer
@@ -259,22 +270,23 @@ module _ (o : Opening) (first : What) (past : List Entry) (c : ℕ) (begun : IsB
           ap (list_any (λ (q : ℕ × ℕ). is_open (claimed ++ more) q.0 q.1)) jobs,
           refl,
           subst (λ (xs : List Asking). CheckRun key xs answer) (sym pairs) (lost_fits (why_of claimed c) answer (ap check_answer (sym l.lost) ∙ says)),
+          cause_grows claimed more answer (cause_of_lost claimed c answer l.gone (why_of claimed c) refl (ap check_answer (sym l.lost) ∙ says)),
         ))
 
-    pub done_asked : (o' : Opening) (journal : List Entry) (verdict : Verdict) (answer : Answer) → is_sent_key key ≡ true → open_jobs journal c ≡ []
+    pub done_asked : (o' o'' : Opening) (journal : List Entry) (verdict : Verdict) (answer : Answer) → is_sent_key key ≡ true → open_jobs journal c ≡ [] → Legal o'' journal
         → HasAsked o' claimed journal 0 c 1 question verdict → check_answer verdict ≡ Some answer → IsDone key first journal answer
-    done_asked o' journal verdict answer sent idle (inl s) says = done_settled o' journal verdict answer sent idle s says
-    done_asked o' journal verdict answer sent idle (inr l) says = done_lost o' journal verdict answer l says
+    done_asked o' o'' journal verdict answer sent idle legal (inl s) says = done_settled o' o'' journal verdict answer sent idle legal s says
+    done_asked o' o'' journal verdict answer sent idle legal (inr l) says = done_lost o' journal verdict answer l says
 
     -- this came of asking, or of want of memory
-    pub done_answer : (o' : Opening) (mid journal : List Entry) (answer : Answer) → is_sent_key key ≡ true → open_jobs past c ≡ [] → mid ≡ claimed
+    pub done_answer : (o' o'' : Opening) (mid journal : List Entry) (answer : Answer) → is_sent_key key ≡ true → open_jobs past c ≡ [] → mid ≡ claimed → Legal o'' journal
         → AsksFor o' mid journal c key answer → IsDone key first journal answer × (open_jobs journal c ≡ [])
-    done_answer o' mid journal answer sent idle e h = go (subst (λ (j : List Entry). AsksFor o' j journal c key answer) e h)
+    done_answer o' o'' mid journal answer sent idle e legal h = go (subst (λ (j : List Entry). AsksFor o' j journal c key answer) e h)
       where
         go : AsksFor o' claimed journal c key answer → IsDone key first journal answer × (open_jobs journal c ≡ [])
         go (inl a) =
             let none : open_jobs journal c ≡ [] = idle_asked o' claimed journal 0 c 1 question a.0 (idle_child idle) a.1 in
-            (done_asked o' journal a.0 answer sent none a.1 a.2, none)
+            (done_asked o' o'' journal a.0 answer sent none legal a.1 a.2, none)
         go (inr m) = (
           subst (λ (x : Answer). IsDone key first journal x) (sym m.1) (done_unasked journal m.0),
           ap (λ (j : List Entry). open_jobs j c) m.0 ∙ idle_child idle,

@@ -23,6 +23,7 @@ use Rattle.child_start.specs.Greetings.{Greeted}
 use Rattle.child_start.proofs.Jobs.{idle_on}
 use Rattle.special_cli.specs.Endings.{start_in, is_for_task}
 use Rattle.special_cli.specs.Runs.{main_entry, claim_in, IsDone, IsRun}
+use Rattle.special_cli.proofs.Causing.{cause_grows}
 use Rattle.special_cli.proofs.Looking.{holds_in, link_says_none, through, any_through, all_both, all_weaken, any_none}
 use Rattle.special_cli.proofs.Beginning.{no_starts, no_claims, no_answers, link_for_task, link_asks_none, claimed_by_list, first_claim}
 
@@ -116,6 +117,7 @@ run_done key first past more journal answer d grown quiet =
       claims = (d.child, claims);
       given = each_of-append answer_in past rest ∙ (rw (d.silent, link_says_none answer_in no_answers more quiet) refl);
       run = subst (CheckOver key (past ++ rest) 1 answer) (sym (first_claim (past ++ rest) d.child claims)) after;
+      cause = cause_grows past rest answer d.cause;
       tasked = all_both is_for_task past rest d.tasked (all_weaken is_of_link is_for_task link_for_task more quiet);
     }
 

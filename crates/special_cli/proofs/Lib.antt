@@ -1,6 +1,8 @@
 pub mod Beginning
+pub mod Causing
 pub mod Checked
 pub mod Doing
+pub mod Ends
 pub mod Finishing
 pub mod Leaving
 pub mod Looking

@@ -14,6 +14,7 @@ use Rattle.journal_model.specs.Due.{replies_at}
 use Rattle.journal_model.specs.Legality.{Legal}
 use Rattle.journal_model.specs.Projection.{JobFits}
 use Rattle.task_run.specs.TaskRuns.{CheckTask}
+use Rattle.special_cli.specs.Causes.{HasCause}
 use Rattle.special_cli.specs.Words.{Wish, Check}
 use Rattle.special_cli.specs.Refusals.{refusal_of}
 use Rattle.special_cli.specs.Openings.{check_opening}
@@ -66,11 +67,12 @@ abbrev pub status_of : Answer → ℕ
 status_of Present = 0
 status_of answer = 1
 
--- there is one answer: the one that the journal gave, and what the task's requests say
+-- there is one answer: the one that the journal gave, and what the task's requests say; where no line said it, it has its cause
 pub record IsAnswered (key : List ℕ) (journal : List Entry) (answers : List Answer) (answer : Answer) : Type 0 where
   pub one : answers ≡ answer ∷ []
   pub given : answers_in journal ≡ (1, answer) ∷ []
   pub run : CheckTask key journal 1 answer
+  pub cause : HasCause journal answer
 
 -- out gained the line, and the status is the answer's; or at status 5 or 7 it gained the first bytes of the line, which may be
 -- none or all

@@ -14,6 +14,7 @@ use Rattle.journal_model.specs.Journal.{each_of}
 use Rattle.journal_model.specs.Legality.{is_claimed_by, job_for, has_open_job}
 use Rattle.task_run.specs.TaskRuns.{askings, came_of, failed_start, check_answer, CheckTask}
 use Rattle.child_link.specs.Asks.{HasAsked}
+use Rattle.special_cli.specs.Causes.{HasCause}
 use Rattle.special_cli.specs.Endings.{starts_in, is_for_task}
 
 -- an entry of the main thread's own
@@ -49,6 +50,7 @@ pub record IsDone (key : List ℕ) (first : What) (journal : List Entry) (answer
   pub silent : answers_in journal ≡ []
   pub idle : has_open_job journal 1 ≡ false
   pub run : CheckTask key journal 1 answer
+  pub cause : HasCause journal answer
   pub tasked : list_all (λ e. is_for_task e.what) journal ≡ true
 
 -- the answer is given
@@ -58,6 +60,7 @@ pub record IsRun (key : List ℕ) (first : What) (journal : List Entry) (answer 
   pub claims : (child : ℕ) × (each_of claim_in journal ≡ (1, child) ∷ [])
   pub given : answers_in journal ≡ (1, answer) ∷ []
   pub run : CheckTask key journal 1 answer
+  pub cause : HasCause journal answer
   pub tasked : list_all (λ e. is_for_task e.what) journal ≡ true
 
 -- the run has one task

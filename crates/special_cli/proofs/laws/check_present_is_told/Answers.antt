@@ -11,7 +11,7 @@ unfolding digits
 printed = refl
 
 pub returns-clause-told : goal.returns-clause-told
-returns-clause-told c = inl (Present, record { one = refl; given = refl; run = (refl, inr refl) }, inl (refl, sym printed))
+returns-clause-told c = inl (Present, record { one = refl; given = refl; run = (refl, inr refl); cause = tt }, inl (refl, sym printed))
 
 pub returns-clause-cut : goal.returns-clause-cut
-returns-clause-cut c = inl (Present, record { one = refl; given = refl; run = (refl, inr refl) }, inr (inl refl, (5, ap (take 5) (sym printed))))
+returns-clause-cut c = inl (Present, record { one = refl; given = refl; run = (refl, inr refl); cause = tt }, inr (inl refl, (5, ap (take 5) (sym printed))))

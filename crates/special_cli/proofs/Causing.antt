@@ -1,0 +1,86 @@
+-- The causes of answers that no line said.
+use Rattle.std.proofs.Common.{◌≡◌, ℕ, List, [], ◌∷◌, ◌++◌, refl, sym, ap, subst, ◌∙◌, Bool, true, false, cond, Some, None, Option, inl, inr}
+use Rattle.std.specs.Prelude.{◌||◌, option_map, filter_map, is_some}
+use Rattle.std.specs.List.{list_any, last_or}
+use Rattle.std.specs.Option.{option_or}
+use Rattle.annex_model.specs.declared.verdict.Why.{Why}
+use Rattle.annex_model.specs.declared.verdict.Verdict.{Verdict}
+use Rattle.annex_model.specs.declared.verdict.Verdict.TheVariants.{Done, Absent, Ended, Unsent}
+use Rattle.journal_model.specs.declared.answer.Answer.{Answer}
+use Rattle.journal_model.specs.declared.answer.Answer.TheVariants.{Present, Absent as AbsentAnswer, Unsent as UnsentAnswer, StartFault, Memory, Ended as EndedAnswer}
+use Rattle.journal_model.specs.declared.entry.What.{What}
+use Rattle.journal_model.specs.declared.entry.What.TheVariants.{Start, NoStart}
+use Rattle.journal_model.specs.declared.entry.Entry.{Entry}
+use Rattle.journal_model.specs.declared.opening.Opening.{Opening}
+use Rattle.journal_model.specs.Journal.{any, each_of, mutes, is_ended, is_mute, verdict_of, why_of}
+use Rattle.journal_model.specs.Legality.{Legal, is_prepared}
+use Rattle.journal_model.proofs.Looks.{any-append}
+use Rattle.journal_model.proofs.Linking.{why_is_end}
+use Rattle.journal_model.proofs.Verdicts.{unsent_verdict}
+use Rattle.host_core.specs.Steps.{is_gone}
+use Rattle.task_run.specs.TaskRuns.{came_of, failed_start, unready_answer, check_answer}
+use Rattle.child_link.specs.Asks.{lost_as}
+use Rattle.special_cli.specs.Causes.{HasCause}
+use Rattle.special_cli.specs.Endings.{start_in, starts_in}
+use Rattle.special_cli.specs.Objects.{is_failed_start}
+use Rattle.special_cli.specs.Runs.{IsStart}
+use Rattle.special_cli.proofs.Ends.{why_of-append, ended_so}
+use Rattle.special_cli.proofs.Looking.{holds_in, any_through}
+
+same_some : {A : Type 0} (x y : A) → Some x ≡ Some y → x ≡ y
+same_some x y e = cc
+
+-- a cause stays as the journal grows
+pub cause_grows : (past more : List Entry) (answer : Answer) → HasCause past answer → HasCause (past ++ more) answer
+cause_grows past more (EndedAnswer why) (c, e) = (c, why_of-append past more c ∙ ap (λ (u : Option Why). option_or u (why_of more c)) e)
+cause_grows past more UnsentAnswer (c, m) = (c, any-append (mutes c) past more ∙ ap (λ (b : Bool). b || is_mute more c) m)
+cause_grows past more StartFault f = any-append is_failed_start past more ∙ ap (λ (b : Bool). b || any is_failed_start more) f
+cause_grows past more Present h = tt
+cause_grows past more AbsentAnswer h = tt
+cause_grows past more Memory h = tt
+
+-- an answer by a verdict
+pub cause_of_verdict : (o : Opening) (journal : List Entry) (c k : ℕ) (v : Verdict) (answer : Answer) → Legal o journal → verdict_of journal c k ≡ Some v → check_answer v ≡ Some answer
+    → HasCause journal answer
+cause_of_verdict o journal c k (Done at) answer legal is says = subst (HasCause journal) (same_some Present answer says) tt
+cause_of_verdict o journal c k (Absent at) answer legal is says = subst (HasCause journal) (same_some AbsentAnswer answer says) tt
+cause_of_verdict o journal c k (Ended why) answer legal is says = subst (HasCause journal) (same_some (EndedAnswer why) answer says) (c, ended_so o journal legal c k why is)
+cause_of_verdict o journal c k Unsent answer legal is says = subst (HasCause journal) (same_some UnsentAnswer answer says) (c, unsent_verdict o journal legal c k is)
+
+-- an answer by a request that was lost
+pub cause_of_lost : (past : List Entry) (c : ℕ) (answer : Answer) → is_gone past c ≡ true → (why : Option Why) → why_of past c ≡ why → check_answer (lost_as why) ≡ Some answer
+    → HasCause past answer
+cause_of_lost past c answer gone (Some why) is says = subst (HasCause past) (same_some (EndedAnswer why) answer says) (c, is)
+cause_of_lost past c answer gone None is says =
+    let live : is_ended past c ≡ false = sym (why_is_end past c) ∙ ap is_some is in
+    let mute : is_mute past c ≡ true = ap (λ (b : Bool). b || is_mute past c) (sym live) ∙ gone in
+    subst (HasCause past) (same_some UnsentAnswer answer says) (c, mute)
+
+-- an answer by a child that was not ready
+cause_unready : (past : List Entry) (c : ℕ) (answer : Answer) → unready_answer past c ≡ Some answer → HasCause past answer
+cause_unready past c answer h = go (is_prepared past c) (is_ended past c) (is_mute past c) refl (why_of past c) refl h
+  where
+    go : (p e m : Bool) → is_mute past c ≡ m → (w : Option Why) → why_of past c ≡ w
+        → cond p None (cond e (option_map EndedAnswer w) (cond m (Some UnsentAnswer) None)) ≡ Some answer → HasCause past answer
+    go true e m mute w is h = absurd cc
+    go false true m mute None is h = absurd cc
+    go false true m mute (Some why) is h = subst (HasCause past) (same_some (EndedAnswer why) answer h) (c, is)
+    go false false true mute w is h = subst (HasCause past) (same_some UnsentAnswer answer h) (c, mute)
+    go false false false mute w is h = absurd cc
+
+failed_is : (w : What) → is_failed_start w ≡ holds_in is_failed_start (start_in w)
+failed_is (Start child slot offer) = refl
+failed_is (NoStart slot) = refl
+failed_is w = refl
+
+-- an answer by a start
+pub cause_of_start : (first : What) (past : List Entry) (answer : Answer) → IsStart first → starts_in past ≡ first ∷ []
+    → last_or None (each_of (came_of 0) past) ≡ last_or None (filter_map (came_of 0) (first ∷ []))
+    → failed_start past (last_or None (each_of (came_of 0) past)) ≡ Some answer → HasCause past answer
+cause_of_start first past answer (inl e) starts last says =
+    let one : last_or None (each_of (came_of 0) past) ≡ Some (Some 1) = last ∙ ap (λ (w : What). last_or None (filter_map (came_of 0) (w ∷ []))) e in
+    cause_unready past 1 answer (ap (failed_start past) (sym one) ∙ says)
+cause_of_start first past answer (inr e) starts last says =
+    let none : last_or None (each_of (came_of 0) past) ≡ Some None = last ∙ ap (λ (w : What). last_or None (filter_map (came_of 0) (w ∷ []))) e in
+    let failed : any is_failed_start past ≡ true = any_through is_failed_start start_in is_failed_start failed_is past ∙ ap (list_any is_failed_start) (starts ∙ ap (λ (w : What). w ∷ []) e) in
+    subst (HasCause past) (same_some StartFault answer (ap (failed_start past) (sym none) ∙ says)) failed
