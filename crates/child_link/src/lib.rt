@@ -4,8 +4,6 @@
 mod door;
 mod events;
 mod lone;
-#[cfg(test)]
-mod tests;
 mod wire;
 
 pub use door::{Door, OwnDoor};

@@ -1,1 +1,0 @@
-// A child in memory, from its greeting to its verdicts.
