@@ -3,13 +3,14 @@ use Rattle.std.proofs.Common.{◌≡◌, ℕ, List, [], ◌∷◌, ◌++◌, ref
 use Rattle.std.specs.Prelude.{◌&&◌, ◌||◌, find, nat_lt, filter_map, option_and_then}
 use Rattle.std.specs.List.{list_all, list_any, range_with_len}
 use Rattle.std.proofs.lemmas.List.Folds.{list_any-append}
+use Rattle.journal_model.specs.declared.answer.Answer.{Answer}
 use Rattle.journal_model.specs.declared.entry.What.{What}
-use Rattle.journal_model.specs.declared.entry.What.TheVariants.{Claim, Start, NoStart, Ask, Lost}
+use Rattle.journal_model.specs.declared.entry.What.TheVariants.{Claim, Start, NoStart, Ask, Lost, Answer as Answered}
 use Rattle.journal_model.specs.declared.entry.Entry.{Entry}
 use Rattle.journal_model.specs.declared.opening.Opening.{Opening}
-use Rattle.journal_model.specs.Output.{answer_in}
-use Rattle.journal_model.specs.Journal.{each_of, first_of}
-use Rattle.journal_model.specs.Legality.{claims, is_claimed, is_claimed_by, is_busy, job_for, least_free, is_free, both_conflict, task_of, numbers_of}
+use Rattle.journal_model.specs.Output.{answer_in, answers_in}
+use Rattle.journal_model.specs.Journal.{any, each_of, first_of}
+use Rattle.journal_model.specs.Legality.{claims, answers, is_claimed, is_claimed_by, is_busy, job_for, least_free, is_free, both_conflict, task_of, numbers_of}
 use Rattle.journal_model.proofs.Looks.{same_number, both}
 use Rattle.task_run.specs.TaskRuns.{child_claimed}
 use Rattle.task_run.proofs.Askings.{asks_for, askings_from-none}
@@ -17,7 +18,7 @@ use Rattle.child_link.specs.Doors.{is_of_link}
 use Rattle.child_start.specs.Greetings.{Greeted, is_of_greeting}
 use Rattle.special_cli.specs.Endings.{start_in, is_for_task}
 use Rattle.special_cli.specs.Runs.{main_entry, claim_in, IsBegun, HasOneTask}
-use Rattle.special_cli.proofs.Looking.{Vanishes, holds_in, greeting_says_none, through, any_through, all_weaken, any_none, no_task}
+use Rattle.special_cli.proofs.Looking.{or_true, Vanishes, holds_in, greeting_says_none, through, any_through, all_weaken, any_none, no_task}
 
 -- ---- what links and greetings don't say
 
@@ -97,6 +98,13 @@ claims_is w = refl
 pub claimed_by_list : (journal : List Entry) → is_claimed journal 1 ≡ list_any (λ (p : ℕ × ℕ). p.0 == 1) (each_of claim_in journal)
 claimed_by_list journal = any_through (claims 1) claim_in (λ (p : ℕ × ℕ). p.0 == 1) claims_is journal
 
+answers_is : (w : What) → answers 1 w ≡ holds_in (λ (p : ℕ × Answer). p.0 == 1) (answer_in w)
+answers_is (Answered task answer) = refl
+answers_is w = refl
+
+pub answered_by_list : (journal : List Entry) → any (answers 1) journal ≡ list_any (λ (p : ℕ × Answer). p.0 == 1) (answers_in journal)
+answered_by_list journal = any_through (answers 1) answer_in (λ (p : ℕ × Answer). p.0 == 1) answers_is journal
+
 abbrev child_of : ℕ × ℕ → Option ℕ
 child_of p = cond (p.0 == 1) (Some p.1) None
 
@@ -122,7 +130,3 @@ free_one o journal one unasked =
 pub own_claim : (past : List Entry) (child : ℕ) (more : List Entry) → is_claimed_by (past ++ main_entry (Claim 1 child) ∷ more) 0 1 ≡ true
 own_claim past child more =
     list_any-append (λ (e : Entry). e.by == 0 && claims 1 e.what) past (main_entry (Claim 1 child) ∷ more) ∙ or_true (is_claimed_by past 0 1)
-  where
-    or_true : (b : Bool) → (b || true) ≡ true
-    or_true true = refl
-    or_true false = refl

@@ -68,7 +68,7 @@ cause_unready past c answer h = go (is_prepared past c) (is_ended past c) (is_mu
     go false false true mute w is h = subst (HasCause past) (same_some UnsentAnswer answer h) (c, mute)
     go false false false mute w is h = absurd cc
 
-failed_is : (w : What) → is_failed_start w ≡ holds_in is_failed_start (start_in w)
+pub failed_is : (w : What) → is_failed_start w ≡ holds_in is_failed_start (start_in w)
 failed_is (Start child slot offer) = refl
 failed_is (NoStart slot) = refl
 failed_is w = refl

@@ -14,6 +14,7 @@ use Rattle.journal_model.specs.Journal.{any}
 use Rattle.journal_model.specs.Legality.{Legal}
 use Rattle.journal_model.specs.Output.{answer_line}
 use Rattle.journal_model.proofs.Projecting.{parts_fit}
+use Rattle.special_cli.proofs.Leaving.{adds_all}
 use Rattle.special_cli.specs.Openings.{check_opening}
 use Rattle.special_cli.specs.Endings.{starts_in, is_for_task, IsChecked, IsPrinted, IsTold}
 use Rattle.special_cli.specs.Objects.{AddsAll, HaveStarted, is_failed_start}
@@ -87,12 +88,6 @@ stays_none None (Some ys) s = absurd s
 stays_none (Some xs) None s = absurd s
 stays_none (Some xs) (Some ys) s = s ∙ sym (append-nil xs)
 
-adds_one : (old new : Option Starts) (x : List ℕ × Bool) → AddsOne old new x → AddsAll old new (x ∷ [])
-adds_one None None x a = tt
-adds_one None (Some ys) x a = absurd a
-adds_one (Some xs) None x a = absurd a
-adds_one (Some xs) (Some ys) x a = a
-
 status_only : (s : ℕ) (R : Type 0) → (s ≡ 7) ⊎ ((s ≡ 5) × R) → (s ≡ 7) ⊎ (s ≡ 5)
 status_only s R (inl a) = inl a
 status_only s R (inr b) = inr b.0
@@ -104,7 +99,7 @@ started_once status R program journal old new none s h = subst (λ (j : List Ent
   where
     go : Stays old new ⊎ ((b : Bool) × AddsOne old new (program, b)) → HaveStarted status program [] old new
     go (inl x) = inl (stays_none old new x)
-    go (inr (b, a)) = inr (status_only status R s, (b, adds_one old new (program, b) a))
+    go (inr (b, a)) = inr (status_only status R s, (b, adds_all old new (program, b) a))
 
 -- nothing was started
 pub started_none : (status : ℕ) (program : List ℕ) (journal : List Entry) (starts : Option Starts) → journal ≡ [] → HaveStarted status program journal starts starts

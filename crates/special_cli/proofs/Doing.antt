@@ -10,10 +10,10 @@ use Rattle.annex_model.proofs.Readings.{canonical_read}
 use Rattle.journal_model.specs.declared.answer.Answer.{Answer}
 use Rattle.journal_model.specs.declared.answer.Answer.TheVariants.{Memory, Unsent as UnsentAnswer, StartFault, Ended as EndedAnswer}
 use Rattle.journal_model.specs.declared.entry.What.{What}
-use Rattle.journal_model.specs.declared.entry.What.TheVariants.{Claim, Start, NoStart, Ask, Lost, Answer as Answered}
+use Rattle.journal_model.specs.declared.entry.What.TheVariants.{Claim, Start, NoStart, Ask, Lost}
 use Rattle.journal_model.specs.declared.entry.Entry.{Entry}
 use Rattle.journal_model.specs.declared.opening.Opening.{Opening}
-use Rattle.journal_model.specs.Output.{answer_in, answers_in}
+use Rattle.journal_model.specs.Output.{answer_in}
 use Rattle.journal_model.specs.Journal.{any, each_of, addressed, asks, starts, is_ended, is_open, is_started, is_tagged, on_wire, open_jobs, asked_jobs, verdict_of, why_of}
 use Rattle.journal_model.specs.Legality.{claims, answers, claims_with, is_claimed, is_claimed_by, is_busy, has_open_job, job_for, is_greeted, may_work, may_ask, is_prepared, is_done, is_empty}
 use Rattle.journal_model.proofs.Looks.{same, each_of-append, any-append, verdict_of-append}
@@ -33,8 +33,8 @@ use Rattle.special_cli.specs.Causes.{HasCause}
 use Rattle.special_cli.proofs.Causing.{cause_grows, cause_of_verdict, cause_of_lost, cause_of_start}
 use Rattle.special_cli.specs.Endings.{start_in, starts_in, is_for_task}
 use Rattle.special_cli.specs.Runs.{main_entry, claim_in, AsksFor, IsBegun, IsDone}
-use Rattle.special_cli.proofs.Looking.{holds_in, link_says_none, through, any_through, all_both, all_weaken, any_none}
-use Rattle.special_cli.proofs.Beginning.{no_starts, no_claims, no_answers, no_jobs, link_for_task, link_asks_none, first_claim, own_claim}
+use Rattle.special_cli.proofs.Looking.{or_true, link_says_none, through, all_both, all_weaken, any_none}
+use Rattle.special_cli.proofs.Beginning.{no_starts, no_claims, no_answers, no_jobs, link_for_task, link_asks_none, answered_by_list, first_claim, own_claim}
 
 -- ---- claimed without a child
 
@@ -104,10 +104,6 @@ no_start past starts = ap (failed_start past) (last_came (NoStart 0) past starts
 
 -- ---- claimed for a child that is ready
 
-or_true : (b : Bool) → (b || true) ≡ true
-or_true true = refl
-or_true false = refl
-
 module _ (o : Opening) (first : What) (past : List Entry) (c : ℕ) (begun : IsBegun first past) (ready : IsReady past c) where
   abbrev pub claimed : List Entry
   claimed = past ++ main_entry (Claim 1 c) ∷ []
@@ -124,15 +120,8 @@ module _ (o : Opening) (first : What) (past : List Entry) (c : ℕ) (begun : IsB
   busy : is_busy claimed 1 ≡ true
   busy =
       let here : is_claimed claimed 1 ≡ true = any-append (claims 1) past (main_entry (Claim 1 c) ∷ []) ∙ or_true (is_claimed past 1) in
-      let unanswered : any (answers 1) claimed ≡ false = any-append (answers 1) past (main_entry (Claim 1 c) ∷ []) ∙ ap (λ (b : Bool). b || false) (no_answer past begun.silent) in
+      let unanswered : any (answers 1) claimed ≡ false = any-append (answers 1) past (main_entry (Claim 1 c) ∷ []) ∙ ap (λ (b : Bool). b || false) (answered_by_list past ∙ ap (list_any (λ (p : ℕ × Answer). p.0 == 1)) begun.silent) in
       rw (here, unanswered) refl
-    where
-      answers_is : (w : What) → answers 1 w ≡ holds_in (λ (p : ℕ × Answer). p.0 == 1) (answer_in w)
-      answers_is (Answered task answer) = refl
-      answers_is w = refl
-
-      no_answer : (j : List Entry) → answers_in j ≡ [] → any (answers 1) j ≡ false
-      no_answer j none = any_through (answers 1) answer_in (λ (p : ℕ × Answer). p.0 == 1) answers_is j ∙ ap (list_any (λ (p : ℕ × Answer). p.0 == 1)) none
 
   mine : list_any (claims_with 0 1 c) claimed ≡ true
   mine = list_any-append (claims_with 0 1 c) past (main_entry (Claim 1 c) ∷ []) ∙ ap (λ (b : Bool). list_any (claims_with 0 1 c) past || (b || false)) (same c) ∙ or_true (list_any (claims_with 0 1 c) past)

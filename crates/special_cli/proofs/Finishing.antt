@@ -8,7 +8,7 @@ use Rattle.journal_model.specs.declared.answer.Answer.TheVariants.{Memory}
 use Rattle.journal_model.specs.declared.entry.What.{What}
 use Rattle.journal_model.specs.declared.entry.What.TheVariants.{Claim, Answer as Answered}
 use Rattle.journal_model.specs.declared.entry.Entry.{Entry}
-use Rattle.journal_model.specs.Output.{answer_in, answers_in}
+use Rattle.journal_model.specs.Output.{answer_in}
 use Rattle.journal_model.specs.Journal.{any, each_of, starts, is_started, open_jobs}
 use Rattle.journal_model.specs.Legality.{answers, claimed_for, is_claimed, is_busy, has_busy_task, has_open_job, may_stop}
 use Rattle.journal_model.proofs.Looks.{same, each_of-append, any-append}
@@ -24,19 +24,8 @@ use Rattle.child_start.proofs.Jobs.{idle_on}
 use Rattle.special_cli.specs.Endings.{start_in, is_for_task}
 use Rattle.special_cli.specs.Runs.{main_entry, claim_in, IsDone, IsRun}
 use Rattle.special_cli.proofs.Causing.{cause_grows}
-use Rattle.special_cli.proofs.Looking.{holds_in, link_says_none, through, any_through, all_both, all_weaken, any_none}
-use Rattle.special_cli.proofs.Beginning.{no_starts, no_claims, no_answers, link_for_task, link_asks_none, claimed_by_list, first_claim}
-
-or_true : (b : Bool) → (b || true) ≡ true
-or_true true = refl
-or_true false = refl
-
-answers_is : (w : What) → answers 1 w ≡ holds_in (λ (p : ℕ × Answer). p.0 == 1) (answer_in w)
-answers_is (Answered task answer) = refl
-answers_is w = refl
-
-answered_by_list : (journal : List Entry) → any (answers 1) journal ≡ list_any (λ (p : ℕ × Answer). p.0 == 1) (answers_in journal)
-answered_by_list journal = any_through (answers 1) answer_in (λ (p : ℕ × Answer). p.0 == 1) answers_is journal
+use Rattle.special_cli.proofs.Looking.{or_true, link_says_none, through, all_both, all_weaken, any_none}
+use Rattle.special_cli.proofs.Beginning.{no_starts, no_claims, no_answers, link_for_task, link_asks_none, claimed_by_list, answered_by_list, first_claim}
 
 -- the answer may be given
 pub may_give : (key : List ℕ) (first : What) (journal : List Entry) (answer : Answer) → IsDone key first journal answer → may_answer journal 0 1 ≡ true

@@ -17,8 +17,9 @@ use Rattle.child_start.specs.Greetings.{Greeted, HasEnded, IsUnsent, AreNumbered
 use Rattle.special_cli.specs.Endings.{start_in, starts_in}
 use Rattle.special_cli.specs.Objects.{came_in, came, IsOfStart, IsWire, AreWires, OneIsLeft, told_in, told, AddsAll, is_failed_start}
 use Rattle.special_cli.specs.Runs.{IsUnready}
-use Rattle.special_cli.proofs.Looking.{holds_in, through, any_through}
+use Rattle.special_cli.proofs.Looking.{through, any_through}
 use Rattle.special_cli.proofs.Beginning.{begun_child}
+use Rattle.special_cli.proofs.Causing.{failed_is}
 use Rattle.special_cli.proofs.Doing.{ended_start, unsent_start}
 
 -- ---- a child that is not ready
@@ -53,11 +54,6 @@ told_is program w = refl
 pub told_of_starts : (program : List ℕ) (journal : List Entry) (first : What) → starts_in journal ≡ first ∷ [] → told program journal ≡ filter_map (told_in program) (first ∷ [])
 told_of_starts program journal first h = through (told_in program) start_in (told_in program) (told_is program) journal ∙ ap (filter_map (told_in program)) h
 
-failed_is : (w : What) → is_failed_start w ≡ holds_in is_failed_start (start_in w)
-failed_is (Start child slot offer) = refl
-failed_is (NoStart slot) = refl
-failed_is w = refl
-
 -- a start that gave a child is none that failed
 pub none_failed : {A : Type 0} (journal : List Entry) (c slot : ℕ) (offer : Bool) → starts_in journal ≡ Start c slot offer ∷ [] → any is_failed_start journal ≡ true → A
 none_failed journal c slot offer h failed =
@@ -72,7 +68,7 @@ adds_stays (Some xs) None new x a s = absurd a
 adds_stays (Some xs) (Some ys) None x a s = absurd s
 adds_stays (Some xs) (Some ys) (Some zs) x a s = s ∙ a
 
-adds_all : (old new : Option Starts) (x : List ℕ × Bool) → AddsOne old new x → AddsAll old new (x ∷ [])
+pub adds_all : (old new : Option Starts) (x : List ℕ × Bool) → AddsOne old new x → AddsAll old new (x ∷ [])
 adds_all None None x a = tt
 adds_all None (Some ys) x a = absurd a
 adds_all (Some xs) None x a = absurd a

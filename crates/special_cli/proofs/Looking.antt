@@ -116,3 +116,7 @@ any_none p q apart [] h = refl
 any_none p q apart (x ∷ xs) h =
     let t = both (p x.what) (list_all (λ (e : Entry). p e.what) xs) h in
     rw (apart x.what t.0, any_none p q apart xs t.1) refl
+
+pub or_true : (b : Bool) → (b || true) ≡ true
+or_true true = refl
+or_true false = refl
