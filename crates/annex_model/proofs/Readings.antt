@@ -1,172 +1,311 @@
 -- A line is read as the message that it spells, and as no other.
-use Rattle.std.proofs.Common.{◌≡◌, ℕ, List, [], ◌∷◌, ◌++◌, refl, sym, ap, subst, ◌∙◌, Bool, true, false, Some, None, Option, cond, inl, inr}
-use Rattle.std.specs.Prelude.{codes, bytes_eq, option_map}
-use Rattle.std.proofs.lemmas.List.{append-nil}
-use Rattle.std.proofs.lemmas.Slice.Eq.{bytes_eq-Decides}
-use Rattle.std.proofs.lemmas.Bool.{eqb-true}
-use Rattle.ann_key.specs.Numbers.{is_number, value_of}
-use Rattle.annex_model.specs.Messages.{RemoteMessage, Version, Extensions, PrepareSuccess, CheckpresentSuccess, CheckpresentFailure, HostMessage, AskExtensions, Prepare, Checkpresent, IsAskable, host_line, remote_reading, remote_by_word, host_reading, host_by_word, RemoteSpells, HostSpells, Followed, Param, Number, Key, Rest, remote_row, host_row, word_of, field_of, is_space, is_sent_key, number_field, key_field, rest_field, no_field}
+use Rattle.std.proofs.Common.{◌≡◌, ℕ, List, ◌++◌, refl, sym, ap, ◌∙◌, true, Some, None, Option, ◌⊎◌, inl, inr}
+use Rattle.std.specs.Prelude.{codes}
+use Rattle.std.specs.Option.{option_or}
+use Rattle.annex_model.specs.Messages.{by_rows, opening_rows, aside_rows, task_rows, about_rows, host_rows, SpelledBy, Param, IsAskable, IsSayable, fields_text, host_line, remote_line, RemoteSpells, HostSpells, remote_row, host_row, remote_reading, remote_by_word, host_reading, word_of, field_of, is_word}
+use Rattle.annex_model.specs.Messages.{RemoteMessage, Version, Extensions, UnsupportedRequest, Error, Progress, Debug, Info, Dirhash, DirhashLower, Getconfig, Setconfig, Getcreds, Setcreds, Getuuid, Getgitdir, Getgitremotename, Getwanted, Setwanted, Getstate, Setstate, Seturlpresent, Seturlmissing, Geturls, PrepareSuccess, PrepareFailure, InitremoteSuccess, InitremoteFailure, TransferSuccess, TransferFailure, CheckpresentSuccess, CheckpresentFailure, CheckpresentUnknown, RemoveSuccess, RemoveFailure, Config, Configend, Cost, Availability, Infofield, Infovalue, Infoend, WhereisSuccess, WhereisFailure}
+use Rattle.annex_model.specs.Messages.{HostMessage, AskExtensions, Prepare, Initremote, Transfer, Checkpresent, Remove, Listconfigs, Getcost, Getavailability, Getinfo, Whereis, Value, Creds, HostError}
+use Rattle.annex_model.proofs.Parts.{word_before, field_behind}
+use Rattle.annex_model.proofs.Shapes.{Reads, bare_reads, number_reads, key_reads, rest_reads, scope_reads, word_rest_reads, words_rest_reads, key_rest_reads, transfer_reads, transfer_rest_reads}
+use Rattle.annex_model.proofs.Rows.{Fills, AllOwn, bare_own, number_own, key_own, rest_own, scope_own, word_rest_own, words_rest_own, key_rest_own, transfer_own, transfer_rest_own, rows_fill}
+use Rattle.annex_model.proofs.Classes.{text_follows, followed_classes}
+pub use Rattle.annex_model.proofs.Parts.{behind, word_and_field}
 
 -- ---- what is spelled is read
 
--- the one field behind the word
-abbrev OneField : List ℕ → (List ℕ → Type 0) → Type 0
-OneField tail P = (field : List ℕ) × (tail ≡ 32 ∷ field) × P field
+-- where the word and what is read from what follows it make the message
+line_read : {M : Type 0} (by_word : List ℕ → Option (List ℕ) → Option M) (word : List ℕ) → is_word word ≡ true
+    → {line tail : List ℕ} {m : M} {P : Option (List ℕ) → Type 0} → line ≡ word ++ tail → Reads tail P
+    → ((f : Option (List ℕ)) → P f → by_word word f ≡ Some m) → by_word (word_of line) (field_of line) ≡ Some m
+line_read by_word word w e r h =
+    rw (e, r.whole, word_before word r.field w, field_behind word r.field w) (h r.field r.read)
 
-one_number : (n : ℕ) (tail : List ℕ) → Followed (Number n ∷ []) tail → OneField tail (λ field. number_field (Some field) ≡ Some n)
-one_number n tail f =
-    let text : f.0 ++ f.1 ≡ f.0 = ap (λ (x : List ℕ). f.0 ++ x) f.4 ∙ append-nil f.0 in
-    (f.0, f.2 ∙ ap (λ (x : List ℕ). 32 ∷ x) text, rw (f.3.0, f.3.1) refl)
+abbrev remote_line_read : (word : List ℕ) → is_word word ≡ true → {line tail : List ℕ} {m : RemoteMessage} {P : Option (List ℕ) → Type 0}
+    → line ≡ word ++ tail → Reads tail P → ((f : Option (List ℕ)) → P f → remote_by_word word f ≡ Some m) → remote_reading line ≡ Some m
+remote_line_read = line_read remote_by_word
 
-one_key : (key : List ℕ) (tail : List ℕ) → Followed (Key key ∷ []) tail → OneField tail (λ field. key_field (Some field) ≡ Some key)
-one_key key tail f =
-    let text : f.0 ++ f.1 ≡ key = ap (λ (x : List ℕ). f.0 ++ x) f.4 ∙ append-nil f.0 ∙ f.3.0 in
-    (key, f.2 ∙ ap (λ (x : List ℕ). 32 ∷ x) text, rw f.3.1 refl)
+abbrev host_line_read : (word : List ℕ) → is_word word ≡ true → {line tail : List ℕ} {m : HostMessage} {P : Option (List ℕ) → Type 0}
+    → line ≡ word ++ tail → Reads tail P → ((f : Option (List ℕ)) → P f → by_rows host_rows word f ≡ Some m) → host_reading line ≡ Some m
+host_line_read = line_read (by_rows host_rows)
 
 pub read_of_spelled : (m : RemoteMessage) (line : List ℕ) → RemoteSpells m line → remote_reading line ≡ Some m
-read_of_spelled (Version n) line s = let f = one_number n s.0 s.2 in rw (s.1, f.1, f.2) refl
-read_of_spelled (Extensions names) line s = by_tail s.0 s.1 s.2
-  where
-    by_tail : (tail : List ℕ) → line ≡ codes "EXTENSIONS" ++ tail → Followed (Rest names ∷ []) tail → remote_reading line ≡ Some (Extensions names)
-    by_tail tail e (inl f) = rw (e, f) refl
-    by_tail tail e (inr f) = rw (e, f.0, f.1) refl
-read_of_spelled PrepareSuccess line s = rw (s.1, s.2) refl
-read_of_spelled (CheckpresentSuccess key) line s = let f = one_key key s.0 s.2 in rw (s.1, f.1, f.2) refl
-read_of_spelled (CheckpresentFailure key) line s = let f = one_key key s.0 s.2 in rw (s.1, f.1, f.2) refl
+read_of_spelled (Version n) line s = remote_line_read (codes "VERSION") refl s.1 (number_reads n s.0 s.2) (λ f e. rw e refl)
+read_of_spelled (Extensions names) line s = remote_line_read (codes "EXTENSIONS") refl s.1 (rest_reads names s.0 s.2) (λ f e. rw e refl)
+read_of_spelled UnsupportedRequest line s = remote_line_read (codes "UNSUPPORTED-REQUEST") refl s.1 (bare_reads s.0 s.2) (λ f e. rw e refl)
+read_of_spelled (Error text) line s = remote_line_read (codes "ERROR") refl s.1 (rest_reads text s.0 s.2) (λ f e. rw e refl)
+read_of_spelled (Progress bytes) line s = remote_line_read (codes "PROGRESS") refl s.1 (number_reads bytes s.0 s.2) (λ f e. rw e refl)
+read_of_spelled (Debug text) line s = remote_line_read (codes "DEBUG") refl s.1 (rest_reads text s.0 s.2) (λ f e. rw e refl)
+read_of_spelled (Info text) line s = remote_line_read (codes "INFO") refl s.1 (rest_reads text s.0 s.2) (λ f e. rw e refl)
+read_of_spelled (Dirhash key) line s = remote_line_read (codes "DIRHASH") refl s.1 (key_reads key s.0 s.2) (λ f e. rw e refl)
+read_of_spelled (DirhashLower key) line s = remote_line_read (codes "DIRHASH-LOWER") refl s.1 (key_reads key s.0 s.2) (λ f e. rw e refl)
+read_of_spelled (Getconfig name) line s = remote_line_read (codes "GETCONFIG") refl s.1 (rest_reads name s.0 s.2) (λ f e. rw e refl)
+read_of_spelled (Setconfig name value) line s = remote_line_read (codes "SETCONFIG") refl s.1 (word_rest_reads name value s.0 s.2) (λ f e. rw e refl)
+read_of_spelled (Getcreds setting) line s = remote_line_read (codes "GETCREDS") refl s.1 (rest_reads setting s.0 s.2) (λ f e. rw e refl)
+read_of_spelled (Setcreds setting user password) line s = remote_line_read (codes "SETCREDS") refl s.1 (words_rest_reads setting user password s.0 s.2) (λ f e. rw e refl)
+read_of_spelled Getuuid line s = remote_line_read (codes "GETUUID") refl s.1 (bare_reads s.0 s.2) (λ f e. rw e refl)
+read_of_spelled Getgitdir line s = remote_line_read (codes "GETGITDIR") refl s.1 (bare_reads s.0 s.2) (λ f e. rw e refl)
+read_of_spelled Getgitremotename line s = remote_line_read (codes "GETGITREMOTENAME") refl s.1 (bare_reads s.0 s.2) (λ f e. rw e refl)
+read_of_spelled Getwanted line s = remote_line_read (codes "GETWANTED") refl s.1 (bare_reads s.0 s.2) (λ f e. rw e refl)
+read_of_spelled (Setwanted expression) line s = remote_line_read (codes "SETWANTED") refl s.1 (rest_reads expression s.0 s.2) (λ f e. rw e refl)
+read_of_spelled (Getstate key) line s = remote_line_read (codes "GETSTATE") refl s.1 (key_reads key s.0 s.2) (λ f e. rw e refl)
+read_of_spelled (Setstate key value) line s = remote_line_read (codes "SETSTATE") refl s.1 (key_rest_reads key value s.0 s.2) (λ f e. rw e refl)
+read_of_spelled (Seturlpresent key url) line s = remote_line_read (codes "SETURLPRESENT") refl s.1 (key_rest_reads key url s.0 s.2) (λ f e. rw e refl)
+read_of_spelled (Seturlmissing key url) line s = remote_line_read (codes "SETURLMISSING") refl s.1 (key_rest_reads key url s.0 s.2) (λ f e. rw e refl)
+read_of_spelled (Geturls key prefix) line s = remote_line_read (codes "GETURLS") refl s.1 (key_rest_reads key prefix s.0 s.2) (λ f e. rw e refl)
+read_of_spelled PrepareSuccess line s = remote_line_read (codes "PREPARE-SUCCESS") refl s.1 (bare_reads s.0 s.2) (λ f e. rw e refl)
+read_of_spelled (PrepareFailure text) line s = remote_line_read (codes "PREPARE-FAILURE") refl s.1 (rest_reads text s.0 s.2) (λ f e. rw e refl)
+read_of_spelled InitremoteSuccess line s = remote_line_read (codes "INITREMOTE-SUCCESS") refl s.1 (bare_reads s.0 s.2) (λ f e. rw e refl)
+read_of_spelled (InitremoteFailure text) line s = remote_line_read (codes "INITREMOTE-FAILURE") refl s.1 (rest_reads text s.0 s.2) (λ f e. rw e refl)
+read_of_spelled (TransferSuccess store key) line s = remote_line_read (codes "TRANSFER-SUCCESS") refl s.1 (transfer_reads store key s.0 s.2) (λ f e. rw e refl)
+read_of_spelled (TransferFailure store key text) line s = remote_line_read (codes "TRANSFER-FAILURE") refl s.1 (transfer_rest_reads store key text s.0 s.2) (λ f e. rw e refl)
+read_of_spelled (CheckpresentSuccess key) line s = remote_line_read (codes "CHECKPRESENT-SUCCESS") refl s.1 (key_reads key s.0 s.2) (λ f e. rw e refl)
+read_of_spelled (CheckpresentFailure key) line s = remote_line_read (codes "CHECKPRESENT-FAILURE") refl s.1 (key_reads key s.0 s.2) (λ f e. rw e refl)
+read_of_spelled (CheckpresentUnknown key text) line s = remote_line_read (codes "CHECKPRESENT-UNKNOWN") refl s.1 (key_rest_reads key text s.0 s.2) (λ f e. rw e refl)
+read_of_spelled (RemoveSuccess key) line s = remote_line_read (codes "REMOVE-SUCCESS") refl s.1 (key_reads key s.0 s.2) (λ f e. rw e refl)
+read_of_spelled (RemoveFailure key text) line s = remote_line_read (codes "REMOVE-FAILURE") refl s.1 (key_rest_reads key text s.0 s.2) (λ f e. rw e refl)
+read_of_spelled (Config name description) line s = remote_line_read (codes "CONFIG") refl s.1 (word_rest_reads name description s.0 s.2) (λ f e. rw e refl)
+read_of_spelled Configend line s = remote_line_read (codes "CONFIGEND") refl s.1 (bare_reads s.0 s.2) (λ f e. rw e refl)
+read_of_spelled (Cost number) line s = remote_line_read (codes "COST") refl s.1 (number_reads number s.0 s.2) (λ f e. rw e refl)
+read_of_spelled (Availability global) line s = remote_line_read (codes "AVAILABILITY") refl s.1 (scope_reads global s.0 s.2) (λ f e. rw e refl)
+read_of_spelled (Infofield name) line s = remote_line_read (codes "INFOFIELD") refl s.1 (rest_reads name s.0 s.2) (λ f e. rw e refl)
+read_of_spelled (Infovalue value) line s = remote_line_read (codes "INFOVALUE") refl s.1 (rest_reads value s.0 s.2) (λ f e. rw e refl)
+read_of_spelled Infoend line s = remote_line_read (codes "INFOEND") refl s.1 (bare_reads s.0 s.2) (λ f e. rw e refl)
+read_of_spelled (WhereisSuccess text) line s = remote_line_read (codes "WHEREIS-SUCCESS") refl s.1 (rest_reads text s.0 s.2) (λ f e. rw e refl)
+read_of_spelled WhereisFailure line s = remote_line_read (codes "WHEREIS-FAILURE") refl s.1 (bare_reads s.0 s.2) (λ f e. rw e refl)
 
 pub host_of_spelled : (m : HostMessage) (line : List ℕ) → HostSpells m line → host_reading line ≡ Some m
-host_of_spelled (AskExtensions names) line s = by_tail s.0 s.1 s.2
-  where
-    by_tail : (tail : List ℕ) → line ≡ codes "EXTENSIONS" ++ tail → Followed (Rest names ∷ []) tail → host_reading line ≡ Some (AskExtensions names)
-    by_tail tail e (inl f) = rw (e, f) refl
-    by_tail tail e (inr f) = rw (e, f.0, f.1) refl
-host_of_spelled Prepare line s = rw (s.1, s.2) refl
-host_of_spelled (Checkpresent key) line s = let f = one_key key s.0 s.2 in rw (s.1, f.1, f.2) refl
+host_of_spelled (AskExtensions names) line s = host_line_read (codes "EXTENSIONS") refl s.1 (rest_reads names s.0 s.2) (λ f e. rw e refl)
+host_of_spelled Prepare line s = host_line_read (codes "PREPARE") refl s.1 (bare_reads s.0 s.2) (λ f e. rw e refl)
+host_of_spelled Initremote line s = host_line_read (codes "INITREMOTE") refl s.1 (bare_reads s.0 s.2) (λ f e. rw e refl)
+host_of_spelled (Transfer store key file) line s = host_line_read (codes "TRANSFER") refl s.1 (transfer_rest_reads store key file s.0 s.2) (λ f e. rw e refl)
+host_of_spelled (Checkpresent key) line s = host_line_read (codes "CHECKPRESENT") refl s.1 (key_reads key s.0 s.2) (λ f e. rw e refl)
+host_of_spelled (Remove key) line s = host_line_read (codes "REMOVE") refl s.1 (key_reads key s.0 s.2) (λ f e. rw e refl)
+host_of_spelled Listconfigs line s = host_line_read (codes "LISTCONFIGS") refl s.1 (bare_reads s.0 s.2) (λ f e. rw e refl)
+host_of_spelled Getcost line s = host_line_read (codes "GETCOST") refl s.1 (bare_reads s.0 s.2) (λ f e. rw e refl)
+host_of_spelled Getavailability line s = host_line_read (codes "GETAVAILABILITY") refl s.1 (bare_reads s.0 s.2) (λ f e. rw e refl)
+host_of_spelled Getinfo line s = host_line_read (codes "GETINFO") refl s.1 (bare_reads s.0 s.2) (λ f e. rw e refl)
+host_of_spelled (Whereis key) line s = host_line_read (codes "WHEREIS") refl s.1 (key_reads key s.0 s.2) (λ f e. rw e refl)
+host_of_spelled (Value value) line s = host_line_read (codes "VALUE") refl s.1 (rest_reads value s.0 s.2) (λ f e. rw e refl)
+host_of_spelled (Creds user password) line s = host_line_read (codes "CREDS") refl s.1 (word_rest_reads user password s.0 s.2) (λ f e. rw e refl)
+host_of_spelled (HostError text) line s = host_line_read (codes "ERROR") refl s.1 (rest_reads text s.0 s.2) (λ f e. rw e refl)
 
 -- ---- what is read is spelled
 
-abbrev pub behind : Option (List ℕ) → List ℕ
-behind None = []
-behind (Some field) = 32 ∷ field
+opening_own : AllOwn remote_row opening_rows
+opening_own = (
+  number_own remote_row Version (codes "VERSION") (λ n. refl),
+  (
+    rest_own remote_row Extensions (codes "EXTENSIONS") (λ rest. refl),
+    (
+      bare_own remote_row UnsupportedRequest (codes "UNSUPPORTED-REQUEST") refl,
+      (rest_own remote_row Error (codes "ERROR") (λ rest. refl), tt),
+    ),
+  ),
+)
 
-pub word_and_field : (line : List ℕ) → line ≡ word_of line ++ behind (field_of line)
-word_and_field [] = refl
-word_and_field (b ∷ bs) = go (is_space b) refl (word_and_field bs)
-  where
-    go : (s : Bool) → is_space b ≡ s → bs ≡ word_of bs ++ behind (field_of bs)
-        → b ∷ bs ≡ cond s [] (b ∷ word_of bs) ++ behind (cond s (Some bs) (field_of bs))
-    go true e r = ap (λ (x : ℕ). x ∷ bs) (eqb-true b 32 e)
-    go false e r = ap (λ (xs : List ℕ). b ∷ xs) r
+aside_own : AllOwn remote_row aside_rows
+aside_own = (
+  number_own remote_row Progress (codes "PROGRESS") (λ n. refl),
+  (
+    rest_own remote_row Debug (codes "DEBUG") (λ rest. refl),
+    (
+      rest_own remote_row Info (codes "INFO") (λ rest. refl),
+      (
+        key_own remote_row Dirhash (codes "DIRHASH") (λ key. refl),
+        (
+          key_own remote_row DirhashLower (codes "DIRHASH-LOWER") (λ key. refl),
+          (
+            rest_own remote_row Getconfig (codes "GETCONFIG") (λ rest. refl),
+            (
+              word_rest_own remote_row Setconfig (codes "SETCONFIG") (λ word rest. refl),
+              (
+                rest_own remote_row Getcreds (codes "GETCREDS") (λ rest. refl),
+                (
+                  words_rest_own remote_row Setcreds (codes "SETCREDS") (λ a b rest. refl),
+                  (
+                    bare_own remote_row Getuuid (codes "GETUUID") refl,
+                    (
+                      bare_own remote_row Getgitdir (codes "GETGITDIR") refl,
+                      (
+                        bare_own remote_row Getgitremotename (codes "GETGITREMOTENAME") refl,
+                        (
+                          bare_own remote_row Getwanted (codes "GETWANTED") refl,
+                          (
+                            rest_own remote_row Setwanted (codes "SETWANTED") (λ rest. refl),
+                            (
+                              key_own remote_row Getstate (codes "GETSTATE") (λ key. refl),
+                              (
+                                key_rest_own remote_row Setstate (codes "SETSTATE") (λ key rest. refl),
+                                (
+                                  key_rest_own remote_row Seturlpresent (codes "SETURLPRESENT") (λ key rest. refl),
+                                  (
+                                    key_rest_own remote_row Seturlmissing (codes "SETURLMISSING") (λ key rest. refl),
+                                    (key_rest_own remote_row Geturls (codes "GETURLS") (λ key rest. refl), tt),
+                                  ),
+                                ),
+                              ),
+                            ),
+                          ),
+                        ),
+                      ),
+                    ),
+                  ),
+                ),
+              ),
+            ),
+          ),
+        ),
+      ),
+    ),
+  ),
+)
 
--- the row is this word, and this field follows it
-abbrev Fills : List ℕ × List Param → List ℕ → Option (List ℕ) → Type 0
-Fills row word f = (row.0 ≡ word) × Followed row.1 (behind f)
+task_own : AllOwn remote_row task_rows
+task_own = (
+  bare_own remote_row PrepareSuccess (codes "PREPARE-SUCCESS") refl,
+  (
+    rest_own remote_row PrepareFailure (codes "PREPARE-FAILURE") (λ rest. refl),
+    (
+      bare_own remote_row InitremoteSuccess (codes "INITREMOTE-SUCCESS") refl,
+      (
+        rest_own remote_row InitremoteFailure (codes "INITREMOTE-FAILURE") (λ rest. refl),
+        (
+          transfer_own remote_row TransferSuccess (codes "TRANSFER-SUCCESS") (λ store key. refl),
+          (
+            transfer_rest_own remote_row TransferFailure (codes "TRANSFER-FAILURE") (λ store key rest. refl),
+            (
+              key_own remote_row CheckpresentSuccess (codes "CHECKPRESENT-SUCCESS") (λ key. refl),
+              (
+                key_own remote_row CheckpresentFailure (codes "CHECKPRESENT-FAILURE") (λ key. refl),
+                (
+                  key_rest_own remote_row CheckpresentUnknown (codes "CHECKPRESENT-UNKNOWN") (λ key rest. refl),
+                  (
+                    key_own remote_row RemoveSuccess (codes "REMOVE-SUCCESS") (λ key. refl),
+                    (key_rest_own remote_row RemoveFailure (codes "REMOVE-FAILURE") (λ key rest. refl), tt),
+                  ),
+                ),
+              ),
+            ),
+          ),
+        ),
+      ),
+    ),
+  ),
+)
 
-module _ {M : Type 0} (row : M → List ℕ × List Param) where
-  number_row : (make : ℕ → M) (word : List ℕ) → ((n : ℕ) → row (make n) ≡ (word, Number n ∷ []))
-      → (f : Option (List ℕ)) (m : M) → option_map make (number_field f) ≡ Some m → Fills (row m) word f
-  number_row make word is None m h = absurd cc
-  number_row make word is (Some field) m h = go (is_number field) refl h
-    where
-      go : (b : Bool) → is_number field ≡ b → option_map make (cond b (Some (value_of field)) None) ≡ Some m → Fills (row m) word (Some field)
-      go false e h = absurd cc
-      go true e h =
-          let M : make (value_of field) ≡ m = cc in
-          let base : Fills (word, Number (value_of field) ∷ []) word (Some field) =
-          (refl, (field, [], sym (ap (λ (x : List ℕ). 32 ∷ x) (append-nil field)), (e, refl), refl)) in
-          subst (λ (x : _). Fills (row x) word (Some field)) M
-          (subst (λ (r : List ℕ × List Param). Fills r word (Some field)) (sym (is (value_of field))) base)
+about_own : AllOwn remote_row about_rows
+about_own = (
+  word_rest_own remote_row Config (codes "CONFIG") (λ word rest. refl),
+  (
+    bare_own remote_row Configend (codes "CONFIGEND") refl,
+    (
+      number_own remote_row Cost (codes "COST") (λ n. refl),
+      (
+        scope_own remote_row Availability (codes "AVAILABILITY") (λ global. refl),
+        (
+          rest_own remote_row Infofield (codes "INFOFIELD") (λ rest. refl),
+          (
+            rest_own remote_row Infovalue (codes "INFOVALUE") (λ rest. refl),
+            (
+              bare_own remote_row Infoend (codes "INFOEND") refl,
+              (
+                rest_own remote_row WhereisSuccess (codes "WHEREIS-SUCCESS") (λ rest. refl),
+                (bare_own remote_row WhereisFailure (codes "WHEREIS-FAILURE") refl, tt),
+              ),
+            ),
+          ),
+        ),
+      ),
+    ),
+  ),
+)
 
-  rest_row : (make : List ℕ → M) (word : List ℕ) → ((rest : List ℕ) → row (make rest) ≡ (word, Rest rest ∷ []))
-      → (f : Option (List ℕ)) (m : M) → Some (make (rest_field f)) ≡ Some m → Fills (row m) word f
-  rest_row make word is None m h =
-      let M : make [] ≡ m = cc in
-      let base : Fills (word, Rest [] ∷ []) word None = (refl, inr (refl, refl)) in
-      subst (λ (x : _). Fills (row x) word None) M (subst (λ (r : List ℕ × List Param). Fills r word None) (sym (is [])) base)
-  rest_row make word is (Some field) m h =
-      let M : make field ≡ m = cc in
-      let base : Fills (word, Rest field ∷ []) word (Some field) = (refl, inl refl) in
-      subst (λ (x : _). Fills (row x) word (Some field)) M (subst (λ (r : List ℕ × List Param). Fills r word (Some field)) (sym (is field)) base)
+host_own : AllOwn host_row host_rows
+host_own = (
+  rest_own host_row AskExtensions (codes "EXTENSIONS") (λ rest. refl),
+  (
+    bare_own host_row Prepare (codes "PREPARE") refl,
+    (
+      bare_own host_row Initremote (codes "INITREMOTE") refl,
+      (
+        transfer_rest_own host_row Transfer (codes "TRANSFER") (λ store key rest. refl),
+        (
+          key_own host_row Checkpresent (codes "CHECKPRESENT") (λ key. refl),
+          (
+            key_own host_row Remove (codes "REMOVE") (λ key. refl),
+            (
+              bare_own host_row Listconfigs (codes "LISTCONFIGS") refl,
+              (
+                bare_own host_row Getcost (codes "GETCOST") refl,
+                (
+                  bare_own host_row Getavailability (codes "GETAVAILABILITY") refl,
+                  (
+                    bare_own host_row Getinfo (codes "GETINFO") refl,
+                    (
+                      key_own host_row Whereis (codes "WHEREIS") (λ key. refl),
+                      (
+                        rest_own host_row Value (codes "VALUE") (λ rest. refl),
+                        (
+                          word_rest_own host_row Creds (codes "CREDS") (λ word rest. refl),
+                          (rest_own host_row HostError (codes "ERROR") (λ rest. refl), tt),
+                        ),
+                      ),
+                    ),
+                  ),
+                ),
+              ),
+            ),
+          ),
+        ),
+      ),
+    ),
+  ),
+)
 
-  bare_row : (made : M) (word : List ℕ) → row made ≡ (word, [])
-      → (f : Option (List ℕ)) (m : M) → no_field made f ≡ Some m → Fills (row m) word f
-  bare_row made word is None m h =
-      let M : made ≡ m = cc in
-      let base : Fills (word, []) word None = (refl, refl) in
-      subst (λ (x : _). Fills (row x) word None) M (subst (λ (r : List ℕ × List Param). Fills r word None) (sym is) base)
-  bare_row made word is (Some field) m h = absurd cc
-
-  key_row : (make : List ℕ → M) (word : List ℕ) → ((key : List ℕ) → row (make key) ≡ (word, Key key ∷ []))
-      → (f : Option (List ℕ)) (m : M) → option_map make (key_field f) ≡ Some m → Fills (row m) word f
-  key_row make word is None m h = absurd cc
-  key_row make word is (Some field) m h = go (is_sent_key field) refl h
-    where
-      go : (b : Bool) → is_sent_key field ≡ b → option_map make (cond b (Some field) None) ≡ Some m → Fills (row m) word (Some field)
-      go false e h = absurd cc
-      go true e h =
-          let M : make field ≡ m = cc in
-          let base : Fills (word, Key field ∷ []) word (Some field) =
-          (refl, (field, [], sym (ap (λ (x : List ℕ). 32 ∷ x) (append-nil field)), (refl, e), refl)) in
-          subst (λ (x : _). Fills (row x) word (Some field)) M
-          (subst (λ (r : List ℕ × List Param). Fills r word (Some field)) (sym (is field)) base)
-
--- the word that was tested for is the row's
-is_word : (row : List ℕ × List Param) (word w : List ℕ) (f : Option (List ℕ)) → bytes_eq word w ≡ true → Fills row w f → Fills row word f
-is_word row word w f e r = subst (λ (x : List ℕ). Fills row x f) (sym ((bytes_eq-Decides word w).0 e)) r
-
-remote_fills : (word : List ℕ) (f : Option (List ℕ)) (m : RemoteMessage) → remote_by_word word f ≡ Some m → Fills (remote_row m) word f
-remote_fills word f m h =
-    go (bytes_eq word (codes "VERSION")) refl (bytes_eq word (codes "EXTENSIONS")) refl (bytes_eq word (codes "PREPARE-SUCCESS")) refl
-    (bytes_eq word (codes "CHECKPRESENT-SUCCESS")) refl (bytes_eq word (codes "CHECKPRESENT-FAILURE")) refl h
-  where
-    is : (w : List ℕ) → bytes_eq word w ≡ true → Fills (remote_row m) w f → Fills (remote_row m) word f
-    is w = is_word (remote_row m) word w f
-
-    go : (a : Bool) → bytes_eq word (codes "VERSION") ≡ a → (b : Bool) → bytes_eq word (codes "EXTENSIONS") ≡ b
-        → (c : Bool) → bytes_eq word (codes "PREPARE-SUCCESS") ≡ c → (d : Bool) → bytes_eq word (codes "CHECKPRESENT-SUCCESS") ≡ d
-        → (e : Bool) → bytes_eq word (codes "CHECKPRESENT-FAILURE") ≡ e
-        → cond a (option_map Version (number_field f)) (cond b (Some (Extensions (rest_field f))) (cond c (no_field PrepareSuccess f)
-        (cond d (option_map CheckpresentSuccess (key_field f)) (cond e (option_map CheckpresentFailure (key_field f)) None)))) ≡ Some m → Fills (remote_row m) word f
-    go true w b _ c _ d _ e _ h = is (codes "VERSION") w (number_row remote_row Version (codes "VERSION") (λ n. refl) f m h)
-    go false _ true w c _ d _ e _ h = is (codes "EXTENSIONS") w (rest_row remote_row Extensions (codes "EXTENSIONS") (λ names. refl) f m h)
-    go false _ false _ true w d _ e _ h = is (codes "PREPARE-SUCCESS") w (bare_row remote_row PrepareSuccess (codes "PREPARE-SUCCESS") refl f m h)
-    go false _ false _ false _ true w e _ h = is (codes "CHECKPRESENT-SUCCESS") w (key_row remote_row CheckpresentSuccess (codes "CHECKPRESENT-SUCCESS") (λ key. refl) f m h)
-    go false _ false _ false _ false _ true w h = is (codes "CHECKPRESENT-FAILURE") w (key_row remote_row CheckpresentFailure (codes "CHECKPRESENT-FAILURE") (λ key. refl) f m h)
-    go false _ false _ false _ false _ false _ h = absurd cc
-
-host_fills : (word : List ℕ) (f : Option (List ℕ)) (m : HostMessage) → host_by_word word f ≡ Some m → Fills (host_row m) word f
-host_fills word f m h =
-    go (bytes_eq word (codes "EXTENSIONS")) refl (bytes_eq word (codes "PREPARE")) refl (bytes_eq word (codes "CHECKPRESENT")) refl h
-  where
-    is : (w : List ℕ) → bytes_eq word w ≡ true → Fills (host_row m) w f → Fills (host_row m) word f
-    is w = is_word (host_row m) word w f
-
-    go : (a : Bool) → bytes_eq word (codes "EXTENSIONS") ≡ a → (b : Bool) → bytes_eq word (codes "PREPARE") ≡ b
-        → (c : Bool) → bytes_eq word (codes "CHECKPRESENT") ≡ c
-        → cond a (Some (AskExtensions (rest_field f))) (cond b (no_field Prepare f) (cond c (option_map Checkpresent (key_field f)) None)) ≡ Some m
-        → Fills (host_row m) word f
-    go true w b _ c _ h = is (codes "EXTENSIONS") w (rest_row host_row AskExtensions (codes "EXTENSIONS") (λ names. refl) f m h)
-    go false _ true w c _ h = is (codes "PREPARE") w (bare_row host_row Prepare (codes "PREPARE") refl f m h)
-    go false _ false _ true w h = is (codes "CHECKPRESENT") w (key_row host_row Checkpresent (codes "CHECKPRESENT") (λ key. refl) f m h)
-    go false _ false _ false _ h = absurd cc
+either : {A : Type 0} (a b : Option A) (x : A) → option_or a b ≡ Some x → (a ≡ Some x) ⊎ (b ≡ Some x)
+either (Some y) b x h = inl h
+either None b x h = inr h
 
 -- the word and what follows it make the line
-whole_line : (line : List ℕ) (row : List ℕ × List Param) → Fills row (word_of line) (field_of line) → line ≡ row.0 ++ behind (field_of line)
-whole_line line row r = word_and_field line ∙ ap (λ (w : List ℕ). w ++ behind (field_of line)) (sym r.0)
+whole_line : (line : List ℕ) (row : List ℕ × List Param) → Fills row (word_of line) (field_of line) → SpelledBy row line
+whole_line line row r =
+    (behind (field_of line), word_and_field line ∙ ap (λ (w : List ℕ). w ++ behind (field_of line)) (sym r.0), r.1)
+
+remote_fills : (word : List ℕ) (f : Option (List ℕ)) (m : RemoteMessage) → remote_by_word word f ≡ Some m → Fills (remote_row m) word f
+remote_fills word f m h = opening (either _ _ m h)
+  where
+    about : (by_rows task_rows word f ≡ Some m) ⊎ (by_rows about_rows word f ≡ Some m) → Fills (remote_row m) word f
+    about (inl t) = rows_fill remote_row task_rows task_own word f m t
+    about (inr t) = rows_fill remote_row about_rows about_own word f m t
+
+    aside : (by_rows aside_rows word f ≡ Some m) ⊎ (option_or (by_rows task_rows word f) (by_rows about_rows word f) ≡ Some m) → Fills (remote_row m) word f
+    aside (inl t) = rows_fill remote_row aside_rows aside_own word f m t
+    aside (inr t) = about (either _ _ m t)
+
+    opening : (by_rows opening_rows word f ≡ Some m)
+        ⊎ (option_or (by_rows aside_rows word f) (option_or (by_rows task_rows word f) (by_rows about_rows word f)) ≡ Some m)
+        → Fills (remote_row m) word f
+    opening (inl t) = rows_fill remote_row opening_rows opening_own word f m t
+    opening (inr t) = aside (either _ _ m t)
 
 pub spelled_of_read : (m : RemoteMessage) (line : List ℕ) → remote_reading line ≡ Some m → RemoteSpells m line
-spelled_of_read m line h =
-    let r = remote_fills (word_of line) (field_of line) m h in
-    (behind (field_of line), whole_line line (remote_row m) r, r.1)
+spelled_of_read m line h = whole_line line (remote_row m) (remote_fills (word_of line) (field_of line) m h)
 
 pub spelled_of_host : (m : HostMessage) (line : List ℕ) → host_reading line ≡ Some m → HostSpells m line
-spelled_of_host m line h =
-    let r = host_fills (word_of line) (field_of line) m h in
-    (behind (field_of line), whole_line line (host_row m) r, r.1)
+spelled_of_host m line h = whole_line line (host_row m) (rows_fill host_row host_rows host_own (word_of line) (field_of line) m h)
 
 -- ---- the canonical line is read back
 
 pub canonical_read : (m : HostMessage) → IsAskable m → host_reading (host_line m) ≡ Some m
-canonical_read (AskExtensions names) h = refl
-canonical_read Prepare h = refl
-canonical_read (Checkpresent key) h = rw h refl
+canonical_read m h = host_of_spelled m (host_line m) (fields_text (host_row m).1, refl, text_follows (host_row m).1 h)
+
+pub canonical_remote_read : (m : RemoteMessage) → IsSayable m → remote_reading (remote_line m) ≡ Some m
+canonical_remote_read m h = read_of_spelled m (remote_line m) (fields_text (remote_row m).1, refl, text_follows (remote_row m).1 h)
+
+-- ---- what is spelled may be said
+
+pub sayable_of_spelled : (m : RemoteMessage) (line : List ℕ) → RemoteSpells m line → IsSayable m
+sayable_of_spelled m line s = followed_classes (remote_row m).1 s.0 s.2
+
+pub askable_of_spelled : (m : HostMessage) (line : List ℕ) → HostSpells m line → IsAskable m
+askable_of_spelled m line s = followed_classes (host_row m).1 s.0 s.2

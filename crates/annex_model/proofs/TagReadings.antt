@@ -6,12 +6,7 @@ use Rattle.std.proofs.lemmas.Bool.{eqb-true}
 use Rattle.ann_key.specs.Numbers.{is_digit, is_number, value_of}
 use Rattle.annex_model.specs.Messages.{word_of, field_of, is_space, number_field}
 use Rattle.annex_model.specs.Tags.{Tagged, untag, numbered}
-use Rattle.annex_model.proofs.Readings.{word_and_field, behind}
-
-both : (a b : Bool) → (a && b) ≡ true → (a ≡ true) × (b ≡ true)
-both true true h = (refl, refl)
-both true false h = absurd cc
-both false b h = absurd cc
+use Rattle.annex_model.proofs.Parts.{both, word_and_field, behind}
 
 -- digits hold no space
 digit_no_space : (b : ℕ) → is_digit b ≡ true → is_space b ≡ false

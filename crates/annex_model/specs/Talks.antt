@@ -1,10 +1,10 @@
 -- Conversations: one request, what the remote says to it, and the replies.
 -- https://git-annex.branchable.com/design/external_special_remote_protocol/
 use Rattle.std.specs.Prelude.{ℕ, ◌≡◌, ◌&&◌, not, Bool, true, false, if◌then◌else◌, List, [], ◌∷◌, ◌++◌, Option, Some, None, map, filter, IsSome, IsTrue, bytes_eq}
-use Rattle.std.specs.List.{flat_map, last_or}
+use Rattle.std.specs.List.{flat_map, last_or, list_all}
 use Rattle.annex_model.specs.declared.verdict.Final.{Final}
-use Rattle.annex_model.specs.declared.verdict.Final.TheVariants.{Done, Absent}
-use Rattle.annex_model.specs.Messages.{RemoteMessage, Extensions, PrepareSuccess, CheckpresentSuccess, CheckpresentFailure, HostMessage, AskExtensions, Prepare, Checkpresent, remote_reading, host_line}
+use Rattle.annex_model.specs.declared.verdict.Final.TheVariants.{Done, Failed, Absent, Unknown, Unsupported}
+use Rattle.annex_model.specs.Messages.{RemoteMessage, Extensions, UnsupportedRequest, Progress, Debug, Info, Dirhash, DirhashLower, Getconfig, Setconfig, Getcreds, Setcreds, Getuuid, Getgitdir, Getgitremotename, Getwanted, Setwanted, Getstate, Setstate, Seturlpresent, Seturlmissing, Geturls, PrepareSuccess, PrepareFailure, InitremoteSuccess, InitremoteFailure, TransferSuccess, TransferFailure, CheckpresentSuccess, CheckpresentFailure, CheckpresentUnknown, RemoveSuccess, RemoveFailure, Config, Configend, Cost, Availability, Infofield, Infovalue, Infoend, WhereisSuccess, WhereisFailure, HostMessage, AskExtensions, Prepare, Initremote, Transfer, Checkpresent, Remove, Listconfigs, Getcost, Getavailability, Getinfo, Whereis, remote_reading, host_line}
 
 -- who says a line
 pub data Side : Type 0 where
@@ -17,22 +17,149 @@ pub record Item : Type 0 where
   pub at : ℕ
   pub text : List ℕ
 
--- the message is one that a remote may say in any request. None of these messages is
+-- ---- asides
+
+-- the message is one that a remote may say in any request, which goes on
 abbrev pub is_aside : RemoteMessage → Bool
+is_aside (Progress bytes) = true
+is_aside (Debug text) = true
+is_aside (Info text) = true
+is_aside (Dirhash key) = true
+is_aside (DirhashLower key) = true
+is_aside (Getconfig name) = true
+is_aside (Setconfig name value) = true
+is_aside (Getcreds setting) = true
+is_aside (Setcreds setting user password) = true
+is_aside Getuuid = true
+is_aside Getgitdir = true
+is_aside Getgitremotename = true
+is_aside Getwanted = true
+is_aside (Setwanted expression) = true
+is_aside (Getstate key) = true
+is_aside (Setstate key value) = true
+is_aside (Seturlpresent key url) = true
+is_aside (Seturlmissing key url) = true
+is_aside (Geturls key prefix) = true
 is_aside m = false
 
--- what these messages are, as a whole answer to the request. None is a line that spells no message
+-- an aside that asks for nothing and sets nothing
+abbrev pub is_talk : RemoteMessage → Bool
+is_talk (Progress bytes) = true
+is_talk (Debug text) = true
+is_talk (Info text) = true
+is_talk m = false
+
+-- ---- answers
+
+abbrev pub is_same : Bool → Bool → Bool
+is_same true b = b
+is_same false b = not b
+
+-- what one line says, as the whole answer to the request
+abbrev pub one_line : HostMessage → RemoteMessage → Option Final
+one_line (AskExtensions names) (Extensions answer) = Some Done
+one_line Prepare PrepareSuccess = Some Done
+one_line Prepare (PrepareFailure text) = Some Failed
+one_line Initremote InitremoteSuccess = Some Done
+one_line Initremote (InitremoteFailure text) = Some Failed
+one_line (Transfer store key file) (TransferSuccess s k) = if is_same s store && bytes_eq k key then Some Done else None
+one_line (Transfer store key file) (TransferFailure s k text) = if is_same s store && bytes_eq k key then Some Failed else None
+one_line (Checkpresent key) (CheckpresentSuccess k) = if bytes_eq k key then Some Done else None
+one_line (Checkpresent key) (CheckpresentFailure k) = if bytes_eq k key then Some Absent else None
+one_line (Checkpresent key) (CheckpresentUnknown k text) = if bytes_eq k key then Some Unknown else None
+one_line (Remove key) (RemoveSuccess k) = if bytes_eq k key then Some Done else None
+one_line (Remove key) (RemoveFailure k text) = if bytes_eq k key then Some Failed else None
+one_line Getcost (Cost number) = Some Done
+one_line Getavailability (Availability global) = Some Done
+one_line (Whereis key) (WhereisSuccess text) = Some Done
+one_line (Whereis key) WhereisFailure = Some Absent
+one_line q m = None
+
+-- an answer is one line, or a list of configs, or a list of pairs of infos
+pub data Shape : Type 0 where
+  OneLine : Shape
+  Configs : Shape
+  Infos : Shape
+
+abbrev pub shape_of : HostMessage → Shape
+shape_of Listconfigs = Configs
+shape_of Getinfo = Infos
+shape_of q = OneLine
+
+abbrev pub is_config : Option RemoteMessage → Bool
+is_config (Some (Config name description)) = true
+is_config m = false
+
+abbrev pub is_configend : Option RemoteMessage → Bool
+is_configend (Some Configend) = true
+is_configend m = false
+
+abbrev pub is_infofield : Option RemoteMessage → Bool
+is_infofield (Some (Infofield name)) = true
+is_infofield m = false
+
+abbrev pub is_infovalue : Option RemoteMessage → Bool
+is_infovalue (Some (Infovalue value)) = true
+is_infovalue m = false
+
+abbrev pub is_infoend : Option RemoteMessage → Bool
+is_infoend (Some Infoend) = true
+is_infoend m = false
+
+-- any number of CONFIG, then CONFIGEND
+abbrev pub are_configs : List (Option RemoteMessage) → Bool
+are_configs [] = false
+are_configs (m ∷ []) = is_configend m
+are_configs (m ∷ ms) = is_config m && are_configs ms
+
+-- any number of pairs INFOFIELD and INFOVALUE, then INFOEND
+abbrev pub are_infos : List (Option RemoteMessage) → Bool
+are_infos [] = false
+are_infos (m ∷ []) = is_infoend m
+are_infos (f ∷ v ∷ ms) = is_infofield f && is_infovalue v && are_infos ms
+
+-- pairs, and perhaps a field that awaits its value
+abbrev pub are_pairs : List (Option RemoteMessage) → Bool
+are_pairs [] = true
+are_pairs (f ∷ []) = is_infofield f
+are_pairs (f ∷ v ∷ ms) = is_infofield f && is_infovalue v && are_pairs ms
+
+abbrev pub is_unsupported : List (Option RemoteMessage) → Bool
+is_unsupported (Some UnsupportedRequest ∷ []) = true
+is_unsupported ms = false
+
+abbrev pub said_alone : HostMessage → List (Option RemoteMessage) → Option Final
+said_alone q (Some m ∷ []) = one_line q m
+said_alone q ms = None
+
+abbrev pub done_if : Bool → Option Final
+done_if true = Some Done
+done_if false = None
+
+abbrev pub by_shape : Shape → HostMessage → List (Option RemoteMessage) → Option Final
+by_shape OneLine q ms = said_alone q ms
+by_shape Configs q ms = done_if (are_configs ms)
+by_shape Infos q ms = done_if (are_infos ms)
+
+-- What these messages are, as a whole answer to the request. None is a line that spells no message. A remote may say of any
+-- request that it doesn't know it.
 abbrev pub final_of : HostMessage → List (Option RemoteMessage) → Option Final
-final_of (AskExtensions names) (Some (Extensions answer) ∷ []) = Some Done
-final_of Prepare (Some PrepareSuccess ∷ []) = Some Done
-final_of (Checkpresent key) (Some (CheckpresentSuccess k) ∷ []) = if bytes_eq k key then Some Done else None
-final_of (Checkpresent key) (Some (CheckpresentFailure k) ∷ []) = if bytes_eq k key then Some Absent else None
-final_of q ms = None
+final_of q ms = if is_unsupported ms then Some Unsupported else by_shape (shape_of q) q ms
+
+abbrev pub is_nothing : List (Option RemoteMessage) → Bool
+is_nothing [] = true
+is_nothing (m ∷ ms) = false
+
+abbrev pub may_go_on : Shape → List (Option RemoteMessage) → Bool
+may_go_on OneLine ms = is_nothing ms
+may_go_on Configs ms = list_all is_config ms
+may_go_on Infos ms = are_pairs ms
 
 -- these messages begin an answer to the request, and more must come
 abbrev pub awaits : HostMessage → List (Option RemoteMessage) → Bool
-awaits q [] = true
-awaits q (m ∷ ms) = false
+awaits q ms = may_go_on (shape_of q) ms
+
+-- ---- parts
 
 abbrev pub is_remote : Side → Bool
 is_remote Host = false
