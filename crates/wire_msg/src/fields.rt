@@ -1,9 +1,9 @@
-// The command word of a line, and the one field behind it, by its class.
+// The command word of a line, and the parameters behind it, by their classes.
 ghost use Rattle.std.specs.Prelude.{◌≡◌, ◌≤◌, ◌==◌, length, Some, option_map, option_copied, position, bytes_eq, true};
 ghost use Rattle.std.specs.List.{list_all, list_any};
 ghost use Rattle.ann_key.specs.KeyRefs.{text_of};
 ghost use Rattle.ann_key.specs.Numbers.{is_digit, value_of};
-ghost use Rattle.annex_model.specs.Messages.{word_of, field_of, is_space, number_field, key_field, rest_field};
+ghost use Rattle.annex_model.specs.Messages.{word_of, field_of, is_space, number_field, key_field, rest_field, scope_field, direction_of, word_rest_field, words_rest_field, key_rest_field, transfer_field, transfer_rest_field};
 
 use ann_key::KeyRef;
 
@@ -76,7 +76,7 @@ fn digits_value(field: &[u8]) -> u128
 }
 
 /// The number that the field spells; it may have leading zeros.
-pub(super) fn number(field: &[u8]) -> Option<u64>
+pub(super) fn read_number(field: &[u8]) -> Option<u64>
     ensures { result ≡ number_field (Some field.now) }
 {
     if field.is_empty() || field.len() > 20 {
@@ -100,7 +100,7 @@ fn has_space(bytes: &[u8]) -> bool
 }
 
 /// The key that the field spells, which holds no space.
-pub(super) fn key(field: &[u8]) -> Option<KeyRef<'_>>
+pub(super) fn read_key(field: &[u8]) -> Option<KeyRef<'_>>
     ensures { option_map text_of result ≡ key_field (Some field.now) }
 {
     if has_space(field) {
@@ -109,5 +109,108 @@ pub(super) fn key(field: &[u8]) -> Option<KeyRef<'_>>
     match KeyRef::read(field) {
         Ok(key) => Some(key),
         Err(_) => None,
+    }
+}
+
+/// The one number.
+pub(super) fn number(field: Option<&[u8]>) -> Option<u64>
+    ensures { result ≡ number_field (option_copied field.entry) }
+{
+    match field {
+        Some(field) => read_number(field),
+        None => None,
+    }
+}
+
+/// The one key.
+pub(super) fn key(field: Option<&[u8]>) -> Option<KeyRef<'_>>
+    ensures { option_map text_of result ≡ key_field (option_copied field.entry) }
+{
+    match field {
+        Some(field) => read_key(field),
+        None => None,
+    }
+}
+
+/// `GLOBAL`, which is true, or `LOCAL`.
+pub(super) fn scope(field: Option<&[u8]>) -> Option<bool>
+    ensures { result ≡ scope_field (option_copied field.entry) }
+{
+    let field = field?;
+    if is_word(field, b"GLOBAL") {
+        Some(true)
+    } else if is_word(field, b"LOCAL") {
+        Some(false)
+    } else {
+        None
+    }
+}
+
+// `STORE`, which is true, or `RETRIEVE`.
+fn direction(word: &[u8]) -> Option<bool>
+    ensures { result ≡ direction_of word.now }
+{
+    if is_word(word, b"STORE") {
+        Some(true)
+    } else if is_word(word, b"RETRIEVE") {
+        Some(false)
+    } else {
+        None
+    }
+}
+
+/// A word, and the rest.
+pub(super) fn word_rest(field: Option<&[u8]>) -> Option<(&[u8], &[u8])>
+    ensures { option_map (λ t. (t.0.now, t.1.now)) result ≡ word_rest_field (option_copied field.entry) }
+{
+    match field {
+        Some(field) => Some((word_of(field), rest(field_of(field)))),
+        None => None,
+    }
+}
+
+/// Two words, and the rest.
+pub(super) fn words_rest(field: Option<&[u8]>) -> Option<(&[u8], &[u8], &[u8])>
+    ensures { option_map (λ t. (t.0.now, (t.1.now, t.2.now))) result ≡ words_rest_field (option_copied field.entry) }
+{
+    let field = field?;
+    match word_rest(field_of(field)) {
+        Some((second, rest)) => Some((word_of(field), second, rest)),
+        None => None,
+    }
+}
+
+/// A key, and the rest.
+pub(super) fn key_rest(field: Option<&[u8]>) -> Option<(KeyRef<'_>, &[u8])>
+    ensures { option_map (λ t. (text_of t.0, t.1.now)) result ≡ key_rest_field (option_copied field.entry) }
+{
+    let field = field?;
+    match read_key(word_of(field)) {
+        Some(key) => Some((key, rest(field_of(field)))),
+        None => None,
+    }
+}
+
+/// A direction, and a key.
+pub(super) fn transfer(field: Option<&[u8]>) -> Option<(bool, KeyRef<'_>)>
+    ensures { option_map (λ t. (t.0, text_of t.1)) result ≡ transfer_field (option_copied field.entry) }
+{
+    let field = field?;
+    let store = direction(word_of(field))?;
+    match key(field_of(field)) {
+        Some(key) => Some((store, key)),
+        None => None,
+    }
+}
+
+/// A direction, a key, and the rest.
+pub(super) fn transfer_rest(field: Option<&[u8]>) -> Option<(bool, KeyRef<'_>, &[u8])>
+    ensures { option_map (λ t. (t.0, (text_of t.1, t.2.now))) result ≡ transfer_rest_field (option_copied field.entry) }
+{
+    let field = field?;
+    let store = direction(word_of(field))?;
+    match key_rest(field_of(field)) {
+        Some((key, rest)) => Some((store, key, rest)),
+        None => None,
     }
 }

@@ -1,17 +1,30 @@
-ghost use Rattle.std.specs.Prelude.{◌≡◌, ◌++◌, option_map, option_copied, MatchOption, IfOk, Some};
-ghost use Rattle.annex_model.specs.Messages.{host_reading, host_by_word, HostSpells, HostMessage, host_line, IsAskable, Prepare, Checkpresent, key_field, no_field};
-ghost use Rattle.wire_msg.specs.Shown.{host_shown};
+ghost use Rattle.std.specs.Prelude.{◌≡◌, option_map, option_copied, MatchOption, IfOk, Some, drop};
+ghost use Rattle.annex_model.specs.Messages.{host_reading, HostSpells, HostMessage, host_line, IsAskable, host_row, by_rows, host_rows, no_field};
+ghost use Rattle.wire_msg.specs.Shown.{host_shown, params_shown};
 
-use crate::fields;
+use crate::parameters::Parameters;
+use crate::{fields, parameters};
 use ann_key::{Bytes, KeyRef, NoMemory};
 use std::alloc::Global;
 
-/// What the host says, by the command word of its line.
+/// What the host says, by the command word of its line, with its parameters in their order: true for `STORE`.
 #[derive(Clone, Copy)]
 pub enum HostMsg<'a> {
     Extensions(&'a [u8]),
     Prepare,
+    Initremote,
+    Transfer(bool, KeyRef<'a>, &'a [u8]),
     Checkpresent(KeyRef<'a>),
+    Remove(KeyRef<'a>),
+    Listconfigs,
+    Getcost,
+    Getavailability,
+    Getinfo,
+    Whereis(KeyRef<'a>),
+    // Replies.
+    Value(&'a [u8]),
+    Creds(&'a [u8], &'a [u8]),
+    Error(&'a [u8]),
 }
 
 /// The message that the line spells; None exactly where it spells none. It takes no memory.
@@ -28,38 +41,79 @@ fn scan(line: &[u8]) -> Option<HostMsg<'_>>
     by_word(fields::word_of(line), fields::field_of(line))
 }
 
+// The requests of the greeting.
 fn by_word<'a>(word: &'a [u8], field: Option<&'a [u8]>) -> Option<HostMsg<'a>>
-    ensures { option_map host_shown result ≡ host_by_word word.entry.now (option_copied field.entry) }
+    ensures { option_map host_shown result ≡ by_rows host_rows word.entry.now (option_copied field.entry) }
 {
     if fields::is_word(word, b"EXTENSIONS") {
         Some(HostMsg::Extensions(fields::rest(field)))
     } else if fields::is_word(word, b"PREPARE") {
-        prepare(field)
+        bare(HostMsg::Prepare, field)
+    } else if fields::is_word(word, b"INITREMOTE") {
+        bare(HostMsg::Initremote, field)
+    } else {
+        key_request(word, field)
+    }
+}
+
+// Those for a key.
+fn key_request<'a>(word: &'a [u8], field: Option<&'a [u8]>) -> Option<HostMsg<'a>>
+    ensures { option_map host_shown result ≡ by_rows (drop 3 host_rows) word.entry.now (option_copied field.entry) }
+{
+    if fields::is_word(word, b"TRANSFER") {
+        let (store, key, file) = fields::transfer_rest(field)?;
+        Some(HostMsg::Transfer(store, key, file))
     } else if fields::is_word(word, b"CHECKPRESENT") {
-        checkpresent(field)
+        Some(HostMsg::Checkpresent(fields::key(field)?))
+    } else if fields::is_word(word, b"REMOVE") {
+        Some(HostMsg::Remove(fields::key(field)?))
+    } else {
+        about_request(word, field)
+    }
+}
+
+// Those about the remote itself, and where a key is.
+fn about_request<'a>(word: &'a [u8], field: Option<&'a [u8]>) -> Option<HostMsg<'a>>
+    ensures { option_map host_shown result ≡ by_rows (drop 6 host_rows) word.entry.now (option_copied field.entry) }
+{
+    if fields::is_word(word, b"LISTCONFIGS") {
+        bare(HostMsg::Listconfigs, field)
+    } else if fields::is_word(word, b"GETCOST") {
+        bare(HostMsg::Getcost, field)
+    } else if fields::is_word(word, b"GETAVAILABILITY") {
+        bare(HostMsg::Getavailability, field)
+    } else if fields::is_word(word, b"GETINFO") {
+        bare(HostMsg::Getinfo, field)
+    } else if fields::is_word(word, b"WHEREIS") {
+        Some(HostMsg::Whereis(fields::key(field)?))
+    } else {
+        reply(word, field)
+    }
+}
+
+// Replies.
+fn reply<'a>(word: &'a [u8], field: Option<&'a [u8]>) -> Option<HostMsg<'a>>
+    ensures { option_map host_shown result ≡ by_rows (drop 11 host_rows) word.entry.now (option_copied field.entry) }
+{
+    if fields::is_word(word, b"VALUE") {
+        Some(HostMsg::Value(fields::rest(field)))
+    } else if fields::is_word(word, b"CREDS") {
+        let (user, password) = fields::word_rest(field)?;
+        Some(HostMsg::Creds(user, password))
+    } else if fields::is_word(word, b"ERROR") {
+        Some(HostMsg::Error(fields::rest(field)))
     } else {
         None
     }
 }
 
-fn prepare(field: Option<&[u8]>) -> Option<HostMsg<'_>>
-    ensures { option_map host_shown result ≡ no_field Prepare (option_copied field.entry) }
+// The message has no parameters.
+fn bare<'a>(message: HostMsg<'a>, field: Option<&'a [u8]>) -> Option<HostMsg<'a>>
+    ensures { option_map host_shown result ≡ no_field (host_shown message.entry) (option_copied field.entry) }
 {
     match field {
         Some(_) => None,
-        None => Some(HostMsg::Prepare),
-    }
-}
-
-fn checkpresent(field: Option<&[u8]>) -> Option<HostMsg<'_>>
-    ensures { option_map host_shown result ≡ option_map Checkpresent (key_field (option_copied field.entry)) }
-{
-    match field {
-        Some(field) => match fields::key(field) {
-            Some(key) => Some(HostMsg::Checkpresent(key)),
-            None => None,
-        },
-        None => None,
+        None => Some(message),
     }
 }
 
@@ -69,18 +123,47 @@ pub fn write_host(alloc: Global, message: &HostMsg<'_>) -> Result<Bytes, NoMemor
     ensures line { IfOk result (λ b. b ≡ host_line (host_shown message.now)) }
     ensures read { IfOk result (λ b. host_reading b ≡ Some (host_shown message.now)) }
 {
-    let line = match message {
-        HostMsg::Extensions(names) => with_field(alloc, b"EXTENSIONS ", names)?,
-        HostMsg::Prepare => with_field(alloc, b"PREPARE", &[])?,
-        HostMsg::Checkpresent(key) => with_field(alloc, b"CHECKPRESENT ", key.text())?,
-    };
+    let line = parameters::line(alloc, word(message), parameters_of(*message))?;
     Ok(line)
 }
 
-fn with_field(alloc: Global, word: &[u8], field: &[u8]) -> Result<Bytes, NoMemory>
-    ensures { IfOk result (λ b. b ≡ word.now ++ field.now) }
+fn parameters_of<'a>(message: HostMsg<'a>) -> Parameters<'a>
+    ensures { params_shown result ≡ (host_row (host_shown message.entry)).1 }
 {
-    let mut line = Vec::from_slice(alloc, word)?;
-    line.extend_from_slice(field)?;
-    Ok(Bytes::from_vec(line))
+    match message {
+        HostMsg::Prepare
+        | HostMsg::Initremote
+        | HostMsg::Listconfigs
+        | HostMsg::Getcost
+        | HostMsg::Getavailability
+        | HostMsg::Getinfo => Parameters::Bare,
+        HostMsg::Checkpresent(key) | HostMsg::Remove(key) | HostMsg::Whereis(key) =>
+            Parameters::Key(key),
+        HostMsg::Extensions(rest) | HostMsg::Value(rest) | HostMsg::Error(rest) => Parameters::Rest(
+            rest,
+        ),
+        HostMsg::Creds(word, rest) => Parameters::WordRest(word, rest),
+        HostMsg::Transfer(store, key, rest) => Parameters::TransferRest(store, key, rest),
+    }
+}
+
+fn word(message: &HostMsg<'_>) -> &'static [u8]
+    ensures { result.now ≡ (host_row (host_shown message.now)).0 }
+{
+    match message {
+        HostMsg::Extensions(_) => b"EXTENSIONS",
+        HostMsg::Prepare => b"PREPARE",
+        HostMsg::Initremote => b"INITREMOTE",
+        HostMsg::Transfer(_, _, _) => b"TRANSFER",
+        HostMsg::Checkpresent(_) => b"CHECKPRESENT",
+        HostMsg::Remove(_) => b"REMOVE",
+        HostMsg::Listconfigs => b"LISTCONFIGS",
+        HostMsg::Getcost => b"GETCOST",
+        HostMsg::Getavailability => b"GETAVAILABILITY",
+        HostMsg::Getinfo => b"GETINFO",
+        HostMsg::Whereis(_) => b"WHEREIS",
+        HostMsg::Value(_) => b"VALUE",
+        HostMsg::Creds(_, _) => b"CREDS",
+        HostMsg::Error(_) => b"ERROR",
+    }
 }

@@ -33,7 +33,7 @@ fn scan(line: &[u8]) -> Option<(u64, &[u8])>
 fn numbered<'a>(word: &'a [u8], rest: Option<&'a [u8]>) -> Option<(u64, &'a [u8])>
     ensures { option_map (λ t. (t.0, t.1.now)) result ≡ numbered (number_field (Some word.entry.now)) (option_copied rest.entry) }
 {
-    let Some(number) = fields::number(word) else {
+    let Some(number) = fields::read_number(word) else {
         return None;
     };
     match rest {
