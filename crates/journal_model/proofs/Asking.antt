@@ -1,12 +1,12 @@
 -- The line of a request reads back as its request, with its tag taken off.
 use Rattle.std.proofs.Common.{◌≡◌, ◌<◌, ℕ, suc, zero, List, [], ◌∷◌, ◌++◌, ◌+◌, ◌%◌, ◌/◌, refl, sym, ap, subst, ◌∙◌, Bool, true, false, not, ◌==◌, cond, Some, None, Option, arith}
-use Rattle.std.specs.Prelude.{◌&&◌, decimal, nat_lt}
+use Rattle.std.specs.Prelude.{◌&&◌, ◌^◌, decimal, nat_le, nat_lt, length}
 use Rattle.std.specs.List.{list_all}
 use Rattle.std.specs.Fmt.{digits, digits_onto, digit_glyph}
 use Rattle.std.proofs.lemmas.Bool.Decides.{nat_tests}
 use Rattle.std.proofs.lemmas.Slice.Eq.{bytes_eq-Decides}
-use Rattle.ann_key.specs.Numbers.{is_number, value_of}
-use Rattle.annex_model.specs.Messages.{HostMessage, AskExtensions, Prepare, Checkpresent, IsAskable, HostSpells, host_line, host_reading, word_of, field_of, is_space, number_field}
+use Rattle.ann_key.specs.Numbers.{is_digit, is_number, value_of}
+use Rattle.annex_model.specs.Messages.{HostMessage, Param, Number, Key, Word, Rest, Direction, Scope, Spelled, Followed, IsOfClass, AreOfClass, IsAskable, host_row, host_line, host_reading, word_of, field_of, is_space, number_field}
 use Rattle.annex_model.specs.Tags.{untag, tagged_line, numbered}
 use Rattle.annex_model.proofs.Readings.{spelled_of_host}
 use Rattle.journal_model.specs.declared.entry.Entry.{Entry}
@@ -100,11 +100,33 @@ asked_text past c job line (Some q) e h =
 
 -- ---- fields
 
--- a message that a line spells has fields of their classes
-spelled_askable : (q : HostMessage) (line : List ℕ) → HostSpells q line → IsAskable q
-spelled_askable (AskExtensions names) line s = tt
-spelled_askable Prepare line s = tt
-spelled_askable (Checkpresent key) line s = s.2.3.1
+number_below : (field : List ℕ) → is_number field ≡ true → value_of field < 2 ^ 64
+number_below field h = below (value_of field) (and_right (nat_le 1 (length field) && nat_le (length field) 20 && list_all is_digit field) _ h)
+  where
+    below : (n : ℕ) → nat_lt n (2 ^ 64) ≡ true → n < 2 ^ 64
+    below n h = grind (arith, nat_tests)
+
+-- a field spells a parameter that is of its class
+spelled_class : (p : Param) (field : List ℕ) → Spelled p field → IsOfClass p
+spelled_class (Number n) field s = subst (λ (x : ℕ). x < 2 ^ 64) s.1 (number_below field s.0)
+spelled_class (Key key) field s = s.1
+spelled_class (Word word) field s = s.1
+spelled_class (Rest rest) field s = tt
+spelled_class (Direction store) field s = tt
+spelled_class (Scope global) field s = tt
+
+followed_class : (ps : List Param) (tail : List ℕ) → Followed ps tail → AreOfClass ps
+followed_class [] tail f = tt
+followed_class (Rest rest ∷ []) tail f = tt
+followed_class (p ∷ []) tail f = spelled_class p f.0 f.3
+followed_class (Number n ∷ (q ∷ ps)) tail f = (spelled_class (Number n) f.0 f.3, followed_class (q ∷ ps) f.1 f.4)
+followed_class (Key key ∷ (q ∷ ps)) tail f = (spelled_class (Key key) f.0 f.3, followed_class (q ∷ ps) f.1 f.4)
+followed_class (Word word ∷ (q ∷ ps)) tail f = (spelled_class (Word word) f.0 f.3, followed_class (q ∷ ps) f.1 f.4)
+followed_class (Rest rest ∷ (q ∷ ps)) tail f = (spelled_class (Rest rest) f.0 f.3, followed_class (q ∷ ps) f.1 f.4)
+followed_class (Direction store ∷ (q ∷ ps)) tail f = (spelled_class (Direction store) f.0 f.3, followed_class (q ∷ ps) f.1 f.4)
+followed_class (Scope global ∷ (q ∷ ps)) tail f = (spelled_class (Scope global) f.0 f.3, followed_class (q ∷ ps) f.1 f.4)
 
 pub read_askable : (q : HostMessage) (line : List ℕ) → host_reading line ≡ Some q → IsAskable q
-read_askable q line h = spelled_askable q line (spelled_of_host q line h)
+read_askable q line h =
+    let s = spelled_of_host q line h in
+    followed_class (host_row q).1 s.0 s.2

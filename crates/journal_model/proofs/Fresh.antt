@@ -1,25 +1,23 @@
 -- A legal journal says nothing of a child that wasn't started.
-use Rattle.std.proofs.Common.{◌≡◌, ℕ, List, [], ◌∷◌, refl, sym, ap, subst, ◌∙◌, Bool, true, false, not, cond, Some, None, Option, length, drop}
+use Rattle.std.proofs.Common.{◌≡◌, ℕ, List, [], ◌∷◌, refl, sym, ap, subst, ◌∙◌, Bool, true, false, not, cond, None, Option, length, drop}
 use Rattle.std.specs.Prelude.{◌==◌, ◌&&◌, map, filter}
 use Rattle.std.proofs.Math.Seq.{drop-nil}
 use Rattle.std.specs.List.{list_all}
 use Rattle.annex_model.specs.declared.verdict.Why.{Why}
-use Rattle.annex_model.specs.declared.verdict.Why.TheVariants.{Foul, Version as VersionFault}
 use Rattle.annex_model.specs.declared.verdict.Verdict.{Verdict}
 use Rattle.annex_model.specs.declared.verdict.Verdict.TheVariants.{Ended, Unsent}
 use Rattle.annex_model.specs.Lines.{has_newline}
-use Rattle.annex_model.specs.Messages.{RemoteMessage, remote_reading, host_reading}
+use Rattle.annex_model.specs.Messages.{host_reading}
 use Rattle.journal_model.specs.declared.entry.What.{What}
 use Rattle.journal_model.specs.declared.entry.What.TheVariants.{Claim, Start, NoStart, Ask, Put, Sent, Mute, Got, End, Verdict as Settled, Lost, Answer as Answered}
 use Rattle.journal_model.specs.declared.entry.Entry.{Entry}
 use Rattle.journal_model.specs.declared.opening.Opening.{Opening}
-use Rattle.journal_model.specs.Journal.{sends, starts, why_of, is_started, is_live, is_ended, is_mute, has_spoken, open_jobs, is_open, is_unsent, addressed, unsent, asked_jobs}
-use Rattle.journal_model.specs.Parts.{part}
-use Rattle.journal_model.specs.Due.{Hearing, Aside, Part, Settles, Strange, hearing, ending, foul, due_by, due_by_got, due_after, after_hearing, after_message, after_line, is_version_one, made_by}
+use Rattle.journal_model.specs.Journal.{sends, starts, why_of, is_started, is_live, is_ended, is_mute, open_jobs, is_unsent, addressed, unsent, asked_jobs, is_full}
+use Rattle.journal_model.specs.Due.{ending, due_by, due_by_got, due_after, made_by}
 use Rattle.journal_model.specs.Legality.{Legal, may_come, may_ask, may_stop, asks_in_turn, is_empty}
 use Rattle.journal_model.proofs.Growing.{Legal-induction}
 use Rattle.journal_model.proofs.Looks.{both, same, same_number, any-append, either_left}
-use Rattle.journal_model.proofs.Soft.{IsSoft, soft_stretch, soft_got, soft_mute, soft_verdicts}
+use Rattle.journal_model.proofs.Soft.{IsSoft, got_cases, soft_stretch, soft_got, soft_mute, soft_verdicts}
 use Rattle.journal_model.proofs.Linking.{Adds, nothing_both}
 
 -- an end in the stretch is of that child
@@ -34,32 +32,8 @@ of_verdicts d c v (j ∷ jobs) = of_verdicts d c v jobs
 of_ending : (past : List Entry) (c : ℕ) (why : Why) → list_all (is_of c) (ending past c why) ≡ true
 of_ending past c why = rw (same c, of_verdicts c c (Ended why) (open_jobs past c)) refl
 
-of_hearing : (o : Opening) (past : List Entry) (c j : ℕ) (m : RemoteMessage) (h : Hearing) → list_all (is_of c) (after_hearing o past c j m h) ≡ true
-of_hearing o past c j m Aside = refl
-of_hearing o past c j m Part = refl
-of_hearing o past c j m (Settles f) = refl
-of_hearing o past c j m Strange = of_ending past c (Foul (length past))
-
-of_message : (o : Opening) (past : List Entry) (c : ℕ) (job : Option ℕ) (m : RemoteMessage) → list_all (is_of c) (after_message o past c job m) ≡ true
-of_message o past c None m = of_ending past c (Foul (length past))
-of_message o past c (Some j) m = go (is_open past c j)
-  where
-    go : (b : Bool) → list_all (is_of c) (cond b (after_hearing o past c j m (hearing (part past c j) m)) (foul past c)) ≡ true
-    go true = of_hearing o past c j m (hearing (part past c j) m)
-    go false = of_ending past c (Foul (length past))
-
-of_line : (o : Opening) (past : List Entry) (c : ℕ) (job : Option ℕ) (m : Option RemoteMessage) → list_all (is_of c) (after_line o past c job m) ≡ true
-of_line o past c job None = of_ending past c (Foul (length past))
-of_line o past c job (Some m) = of_message o past c job m
-
 of_got : (o : Opening) (past : List Entry) (c : ℕ) (line : List ℕ) → list_all (is_of c) (due_by_got o past c line) ≡ true
-of_got o past c line = go (not (has_spoken past c)) (is_version_one (remote_reading line))
-  where
-    go : (b v : Bool) → list_all (is_of c) (cond b (cond v [] (ending past c (VersionFault (length past))))
-        (after_line o past c (addressed past c line).0 (remote_reading (addressed past c line).1))) ≡ true
-    go true true = refl
-    go true false = of_ending past c (VersionFault (length past))
-    go false v = of_line o past c (addressed past c line).0 (remote_reading (addressed past c line).1)
+of_got o past c line = got_cases (λ ws. list_all (is_of c) ws ≡ true) o past c refl (λ why soft. of_ending past c why) (λ j f opened. refl) line
 
 of_mute : (o : Opening) (past : List Entry) (c : ℕ) → list_all (is_of c) (due_by o past (Mute c)) ≡ true
 of_mute o past c = go (is_live past c)
@@ -157,7 +131,7 @@ unstarted o past c by w may off n = go (concerns c w) refl
         let bad : false ≡ true = subst (λ (x : List (Option ℕ × List ℕ)). not (is_empty x) ≡ true) none there in
         absurd cc
     by_kind (Mute child) may e = clash (here child e (both (is_started past child) (not (is_mute past child)) may).0)
-    by_kind (Got child line) may e = clash (here child e (live child (both (is_live past child) (not (has_newline line)) may).0))
+    by_kind (Got child line) may e = clash (here child e (live child (both (is_live past child) (not (has_newline line)) (both (is_live past child && not (has_newline line)) (not (is_full past)) may).0).0))
     by_kind (End child why) may e = clash (here child e (live child (both (is_live past child) (may_stop past child why) may).0))
     by_kind (Claim task child) may e = absurd cc
     by_kind (Start child slot offer) may e = absurd cc

@@ -32,7 +32,7 @@ ends_why : (c : ℕ) (w : What) → ends c w ≡ true → (why : Why) × (end_wh
 ends_why c (End child why) h = (why, rw h refl)
 ends_why c w h = absurd cc
 
-why_of-append : (xs ys : List Entry) (c : ℕ) → why_of (xs ++ ys) c ≡ option_or (why_of xs c) (why_of ys c)
+pub why_of-append : (xs ys : List Entry) (c : ℕ) → why_of (xs ++ ys) c ≡ option_or (why_of xs c) (why_of ys c)
 why_of-append [] ys c = refl
 why_of-append (e ∷ xs) ys c = go (ends c e.what) refl (why_of-append xs ys c)
   where
@@ -225,7 +225,7 @@ mute_more past more c m = any-append (mutes c) past more ∙ ap (λ (b : Bool). 
     or_false true = refl
     or_false false = refl
 
-why_alone : (past more : List Entry) (c : ℕ) → is_ended past c ≡ false → why_of (past ++ more) c ≡ why_of more c
+pub why_alone : (past more : List Entry) (c : ℕ) → is_ended past c ≡ false → why_of (past ++ more) c ≡ why_of more c
 why_alone past more c e = why_of-append past more c ∙ ap (λ (o : Option Why). option_or o (why_of more c)) (unended past c e)
 
 soft_fits : (o : Option Why) (rest : List ℕ) → ((w : Why) → o ≡ Some w → is_soft_why w ≡ true) → IfSome o (λ why. RestFits why rest)

@@ -1,9 +1,10 @@
 -- A job's verdict is one that its request may have.
-use Rattle.std.proofs.Common.{◌≡◌, ℕ, List, [], ◌∷◌, ◌++◌, refl, sym, subst, ◌∙◌, false, Some, Option, length}
+use Rattle.std.proofs.Common.{◌≡◌, ℕ, List, [], ◌∷◌, ◌++◌, refl, sym, subst, ◌∙◌, false, Some, None, Option, length}
+use Rattle.std.specs.Prelude.{IfSome}
 use Rattle.annex_model.specs.declared.verdict.Verdict.{Verdict}
-use Rattle.annex_model.specs.declared.verdict.Verdict.TheVariants.{Done, Absent, Ended, Unsent}
-use Rattle.annex_model.specs.Messages.{HostMessage, host_reading}
-use Rattle.annex_model.specs.Talks.{Item, Host, said}
+use Rattle.annex_model.specs.declared.verdict.Final.{Final}
+use Rattle.annex_model.specs.Messages.{HostMessage, RemoteMessage, host_reading}
+use Rattle.annex_model.specs.Talks.{Item, Host, said, final_of}
 use Rattle.journal_model.specs.declared.opening.Opening.{Opening}
 use Rattle.journal_model.specs.declared.entry.What.TheVariants.{Ask}
 use Rattle.journal_model.specs.declared.entry.Entry.{Entry}
@@ -11,16 +12,15 @@ use Rattle.journal_model.specs.Journal.{addressed, verdict_of}
 use Rattle.journal_model.specs.Parts.{part, part_from, request_in}
 use Rattle.journal_model.specs.Due.{replies_at}
 use Rattle.journal_model.specs.Legality.{Legal}
-use Rattle.journal_model.specs.Projection.{Fits, PartFits, IsNamed}
+use Rattle.journal_model.specs.Projection.{Fits, PartFits, FitsFinal, final_in, IsNamed}
 use Rattle.journal_model.proofs.Looks.{is_asked, same}
 use Rattle.journal_model.proofs.PartsGrow.{part_from-append}
 use Rattle.journal_model.proofs.Projecting.{parts_fit, asked_parts}
 
-by_fit : (replies : ℕ → List (List ℕ)) (q : HostMessage) (p : List Item) (v : Verdict) → PartFits replies q p (Some v) → IsNamed q v
-by_fit replies q p (Done at) h = (said p, h.final)
-by_fit replies q p (Absent at) h = (said p, h.final)
-by_fit replies q p (Ended why) h = tt
-by_fit replies q p Unsent h = tt
+by_fit : (replies : ℕ → List (List ℕ)) (q : HostMessage) (p : List Item) (f : Option (Final × ℕ)) → FitsFinal replies q p f
+    → IfSome f (λ x. (ms : List (Option RemoteMessage)) × (final_of q ms ≡ Some x.0))
+by_fit replies q p None h = tt
+by_fit replies q p (Some f) h = (said p, h.final)
 
 same_some : {A : Type 0} (x y : A) → Some x ≡ Some y → x ≡ y
 same_some x y e = cc
@@ -29,7 +29,7 @@ by_part : (replies : ℕ → List (List ℕ)) (q : HostMessage) (p : List Item) 
 by_part replies q [] v first f = absurd cc
 by_part replies q (i ∷ is) v first f =
     let is_q : f.0 ≡ q = same_some f.0 q (sym f.1 ∙ first) in
-    by_fit replies q (i ∷ is) v (subst (λ (r : HostMessage). PartFits replies r (i ∷ is) (Some v)) is_q f.3)
+    by_fit replies q (i ∷ is) (final_in v) (subst (λ (r : HostMessage). PartFits replies r (i ∷ is) (Some v)) is_q f.3)
 
 module _ (o : Opening) (past more : List Entry) (c by job task : ℕ) (line : List ℕ) (q : HostMessage) where
   abbrev asked : Entry

@@ -5,7 +5,7 @@ use Rattle.std.specs.Prelude.{◌&&◌}
 use Rattle.std.specs.List.{cons_option}
 use Rattle.std.proofs.lemmas.List.{append-nil}
 use Rattle.annex_model.specs.declared.verdict.Why.{Why}
-use Rattle.annex_model.specs.declared.verdict.Why.TheVariants.{Eof, ReadFault, LongLine, Memory, Closed, Foul, Version}
+use Rattle.annex_model.specs.declared.verdict.Why.TheVariants.{Eof, ReadFault, LongLine, Full, Memory, Closed, Foul, Error, Version}
 use Rattle.journal_model.specs.declared.entry.What.{What}
 use Rattle.journal_model.specs.declared.entry.What.TheVariants.{Got, End}
 use Rattle.journal_model.specs.declared.entry.Entry.{Entry}
@@ -51,9 +51,11 @@ stop_names_none : (past : List Entry) (child p : ℕ) (why : Why) → may_stop p
 stop_names_none past child p Eof h = refl
 stop_names_none past child p ReadFault h = refl
 stop_names_none past child p LongLine h = refl
+stop_names_none past child p Full h = refl
 stop_names_none past child p Memory h = refl
 stop_names_none past child p Closed h = refl
 stop_names_none past child p (Foul at) h = absurd cc
+stop_names_none past child p (Error at) h = absurd cc
 stop_names_none past child p (Version at) h = absurd cc
 
 pub and_right : (a b : Bool) → (a && b) ≡ true → b ≡ true

@@ -6,22 +6,19 @@ use Rattle.std.proofs.lemmas.List.{append-nil}
 use Rattle.std.proofs.lemmas.List.FromFn.{length-range_with_len}
 use Rattle.std.proofs.lemmas.List.Sums.{sum_by-append, sum_by-cons, length-filter}
 use Rattle.annex_model.specs.declared.verdict.Why.{Why}
-use Rattle.annex_model.specs.declared.verdict.Why.TheVariants.{Foul, Version as VersionFault}
 use Rattle.annex_model.specs.declared.verdict.Verdict.{Verdict}
 use Rattle.annex_model.specs.declared.verdict.Verdict.TheVariants.{Ended, Unsent}
-use Rattle.annex_model.specs.Messages.{RemoteMessage, remote_reading}
-use Rattle.annex_model.specs.Talks.{said}
 use Rattle.journal_model.specs.declared.opening.Opening.{Opening}
 use Rattle.journal_model.specs.declared.entry.What.{What}
 use Rattle.journal_model.specs.declared.entry.What.TheVariants.{Claim, Start, NoStart, Ask, Put, Sent, Mute, Got, End, Verdict as Settled, Lost, Answer as Answered}
 use Rattle.journal_model.specs.declared.entry.Entry.{Entry}
-use Rattle.journal_model.specs.Journal.{each_of, asks, asked_jobs, writes, sends, unsent, settles, starts, ends, mutes, is_settled, is_started, is_ended, is_mute, is_live, is_open, is_unsent, open_jobs, has_spoken, addressed}
-use Rattle.journal_model.specs.Parts.{part, request_in}
-use Rattle.journal_model.specs.Due.{Hearing, Aside, Part, Settles, Strange, due_after, due_by_got, made_by, ending, verdict_at, after_line, after_hearing, hearing_of, is_version_one}
+use Rattle.journal_model.specs.Journal.{each_of, asks, asked_jobs, writes, sends, unsent, settles, starts, ends, mutes, is_settled, is_started, is_ended, is_mute, is_live, is_open, is_unsent, open_jobs}
+use Rattle.journal_model.specs.Due.{due_after, due_by_got, made_by, ending, verdict_at}
 use Rattle.journal_model.specs.Legality.{Legal, may_come, may_stop, is_number, is_free, numbers_of, claims, answers, is_claimed, is_empty}
 use Rattle.journal_model.specs.Room.{room_for, room_of}
 use Rattle.journal_model.proofs.Growing.{Legal-induction}
 use Rattle.journal_model.proofs.Looks.{entry, same_number, both, each_of-append, settled_all}
+use Rattle.journal_model.proofs.Soft.{got_cases}
 use Rattle.journal_model.proofs.Counting.{IsSame, same_nat, nat_is_same, same_pair, pair_is_same, Pair, one, many, many-cons, many-append, AtMost, AtMost-length, more_none, more_one, holds, named_none, named_some, named_count, named_length, is_there, filter_at_most, filter_drops}
 
 -- ---- whom an entry names
@@ -70,35 +67,10 @@ abbrev pub GotDue : List Entry → ℕ → List What → Type 0
 GotDue past child due =
     (due ≡ []) ⊎ ((why : Why) × (due ≡ ending past child why)) ⊎ ((j : ℕ) × (v : Verdict) × (is_open past child j ≡ true) × (due ≡ Settled child j v ∷ []))
 
-heard_due : (o : Opening) (past : List Entry) (child j : ℕ) (m : RemoteMessage) → is_open past child j ≡ true → (h : Hearing)
-    → GotDue past child (after_hearing o past child j m h)
-heard_due o past child j m opened Aside = inl refl
-heard_due o past child j m opened Part = inl refl
-heard_due o past child j m opened (Settles f) = inr (inr (j, verdict_at f (length past), opened, refl))
-heard_due o past child j m opened Strange = inr (inl (Foul (length past), refl))
-
-line_due : (o : Opening) (past : List Entry) (child : ℕ) (job : Option ℕ) (m : Option RemoteMessage) → GotDue past child (after_line o past child job m)
-line_due o past child job None = inr (inl (Foul (length past), refl))
-line_due o past child None (Some m) = inr (inl (Foul (length past), refl))
-line_due o past child (Some j) (Some m) = by_open (is_open past child j) refl
-  where
-    by_open : (b : Bool) → is_open past child j ≡ b
-        → GotDue past child (cond b (after_hearing o past child j m (hearing_of (request_in (part past child j)) (said (part past child j) ++ Some m ∷ []))) (ending past child (Foul (length past))))
-    by_open true opened = heard_due o past child j m opened (hearing_of (request_in (part past child j)) (said (part past child j) ++ Some m ∷ []))
-    by_open false opened = inr (inl (Foul (length past), refl))
-
 pub got_due : (o : Opening) (past : List Entry) (child : ℕ) (line : List ℕ) → GotDue past child (due_by_got o past child line)
-got_due o past child line = by_speech (has_spoken past child)
-  where
-    by_speech : (b : Bool)
-        → GotDue past child (cond (not b) (cond (is_version_one (remote_reading line)) [] (ending past child (VersionFault (length past))))
-        (after_line o past child (addressed past child line).0 (remote_reading (addressed past child line).1)))
-    by_speech true = line_due o past child (addressed past child line).0 (remote_reading (addressed past child line).1)
-    by_speech false = by_version (is_version_one (remote_reading line))
-      where
-        by_version : (b : Bool) → GotDue past child (cond b [] (ending past child (VersionFault (length past))))
-        by_version true = inl refl
-        by_version false = inr (inl (VersionFault (length past), refl))
+got_due o past child line =
+    got_cases (GotDue past child) o past child (inl refl) (λ why soft. inr (inl (why, refl)))
+    (λ j f opened. inr (inr (j, verdict_at f (length past), opened, refl))) line
 
 -- ---- what is due names nobody but by an end or a verdict
 
@@ -260,7 +232,7 @@ ends_step o past by (Got child line) h may = by_due (due_by_got o past child lin
     by_due due (inr (inl e)) =
         subst (λ (ws : List What). Ends (past ++ entry by (Got child line) ∷ made_by by ws)) (sym e.1)
         (end_grow past (entry by (Got child line) ∷ entry by (End child e.0) ∷ settled_all by child (Ended e.0) (open_jobs past child)) child
-        (ap (λ (xs : List ℕ). child ∷ xs) (verdicts_end by child (Ended e.0) (open_jobs past child))) (both (is_live past child) _ may).0 h)
+        (ap (λ (xs : List ℕ). child ∷ xs) (verdicts_end by child (Ended e.0) (open_jobs past child))) (both (is_live past child) _ (both _ _ may).0).0 h)
     by_due due (inr (inr e)) =
         subst (λ (ws : List What). Ends (past ++ entry by (Got child line) ∷ made_by by ws)) (sym e.3)
         (grow_none same_nat ended started past (entry by (Got child line) ∷ entry by (Settled child e.0 e.1) ∷ []) refl h)

@@ -3,22 +3,25 @@ use Rattle.std.proofs.Common.{◌≡◌, ℕ, List, [], ◌∷◌, refl, sym, su
 use Rattle.std.specs.Prelude.{◌==◌, map, filter, option_and_then, find}
 use Rattle.std.specs.List.{list_all}
 use Rattle.annex_model.specs.declared.verdict.Why.{Why}
-use Rattle.annex_model.specs.declared.verdict.Why.TheVariants.{Foul, Version as VersionFault}
+use Rattle.annex_model.specs.declared.verdict.Why.TheVariants.{Foul, Error as ErrorAt, Version as VersionFault}
 use Rattle.annex_model.specs.declared.verdict.Verdict.{Verdict}
 use Rattle.annex_model.specs.declared.verdict.Verdict.TheVariants.{Ended, Unsent}
+use Rattle.annex_model.specs.declared.verdict.Final.{Final}
 use Rattle.annex_model.specs.Messages.{RemoteMessage, remote_reading}
+use Rattle.annex_model.specs.Talks.{is_talk}
 use Rattle.journal_model.specs.declared.entry.What.{What}
 use Rattle.journal_model.specs.declared.entry.What.TheVariants.{Mute, End, Verdict as Settled}
 use Rattle.journal_model.specs.declared.entry.Entry.{Entry}
 use Rattle.journal_model.specs.declared.opening.Opening.{Opening}
 use Rattle.journal_model.specs.Journal.{any, each_of, writes, sends, mutes, ends, end_why, why_of, got_lines, has_spoken, open_jobs, is_open, is_live, is_unsent, addressed}
 use Rattle.journal_model.specs.Parts.{part}
-use Rattle.journal_model.specs.Due.{Hearing, Aside, Part, Settles, Strange, hearing, ending, foul, due_by, due_by_got, after_hearing, after_message, after_line, is_version_one, made_by}
+use Rattle.journal_model.specs.Due.{Hearing, Aside, Part, Settles, Strange, hearing, verdict_at, ending, foul, due_by, due_by_got, after_hearing, after_late, after_message, after_line, is_passed, is_error, is_version_one, made_by}
 use Rattle.journal_model.proofs.Looks.{both}
 
 -- a line was due to end the child
 abbrev pub is_soft_why : Why → Bool
 is_soft_why (Foul at) = true
+is_soft_why (ErrorAt at) = true
 is_soft_why (VersionFault at) = true
 is_soft_why _ = false
 
@@ -26,6 +29,47 @@ abbrev pub is_soft : What → Bool
 is_soft (Settled child job verdict) = true
 is_soft (End child why) = is_soft_why why
 is_soft _ = false
+
+-- ---- what a line makes due
+
+-- What holds of nothing, of an end of the child that a line brings, and of the verdict of one open job, holds of what a line makes due.
+module _ (P : List What → Type 0) (o : Opening) (past : List Entry) (c : ℕ)
+    (nothing : P []) (stop : (why : Why) → is_soft_why why ≡ true → P (ending past c why))
+    (verdict : (j : ℕ) (f : Final) → is_open past c j ≡ true → P (Settled c j (verdict_at f (length past)) ∷ [])) where
+  foul_case : P (foul past c)
+  foul_case = stop (Foul (length past)) refl
+
+  quiet_or_foul : (b : Bool) → P (cond b [] (foul past c))
+  quiet_or_foul true = nothing
+  quiet_or_foul false = foul_case
+
+  hearing_case : (j : ℕ) (m : RemoteMessage) (h : Hearing) → is_open past c j ≡ true → P (after_hearing o past c j m h)
+  hearing_case j m Aside opened = quiet_or_foul (is_talk m)
+  hearing_case j m Part opened = nothing
+  hearing_case j m (Settles f) opened = verdict j f opened
+  hearing_case j m Strange opened = foul_case
+
+  message_case : (job : Option ℕ) (m : RemoteMessage) → P (after_message o past c job m)
+  message_case None m = quiet_or_foul (is_passed past c None m)
+  message_case (Some j) m = go (is_open past c j) refl
+    where
+      go : (b : Bool) → is_open past c j ≡ b → P (cond b (after_hearing o past c j m (hearing (part past c j) m)) (after_late past c (Some j) m))
+      go true opened = hearing_case j m (hearing (part past c j) m) opened
+      go false shut = quiet_or_foul (is_passed past c (Some j) m)
+
+  line_case : (job : Option ℕ) (m : Option RemoteMessage) → P (after_line o past c job m)
+  line_case job None = foul_case
+  line_case job (Some m) = message_case job m
+
+  pub got_cases : (line : List ℕ) → P (due_by_got o past c line)
+  got_cases line = go (is_error (remote_reading (addressed past c line).1)) (not (has_spoken past c)) (is_version_one (remote_reading line))
+    where
+      go : (e b v : Bool) → P (cond e (ending past c (ErrorAt (length past)))
+          (cond b (cond v [] (ending past c (VersionFault (length past)))) (after_line o past c (addressed past c line).0 (remote_reading (addressed past c line).1))))
+      go true b v = stop (ErrorAt (length past)) refl
+      go false true true = nothing
+      go false true false = stop (VersionFault (length past)) refl
+      go false false v = line_case (addressed past c line).0 (remote_reading (addressed past c line).1)
 
 -- ---- what is due is soft, but for an end that the entry itself is
 
@@ -36,32 +80,8 @@ soft_verdicts c v (j ∷ jobs) = soft_verdicts c v jobs
 soft_ending : (past : List Entry) (c : ℕ) (why : Why) → is_soft_why why ≡ true → list_all is_soft (ending past c why) ≡ true
 soft_ending past c why h = rw (h, soft_verdicts c (Ended why) (open_jobs past c)) refl
 
-soft_hearing : (o : Opening) (past : List Entry) (c j : ℕ) (m : RemoteMessage) (h : Hearing) → list_all is_soft (after_hearing o past c j m h) ≡ true
-soft_hearing o past c j m Aside = refl
-soft_hearing o past c j m Part = refl
-soft_hearing o past c j m (Settles f) = refl
-soft_hearing o past c j m Strange = soft_ending past c (Foul (length past)) refl
-
-soft_message : (o : Opening) (past : List Entry) (c : ℕ) (job : Option ℕ) (m : RemoteMessage) → list_all is_soft (after_message o past c job m) ≡ true
-soft_message o past c None m = soft_ending past c (Foul (length past)) refl
-soft_message o past c (Some j) m = go (is_open past c j)
-  where
-    go : (b : Bool) → list_all is_soft (cond b (after_hearing o past c j m (hearing (part past c j) m)) (foul past c)) ≡ true
-    go true = soft_hearing o past c j m (hearing (part past c j) m)
-    go false = soft_ending past c (Foul (length past)) refl
-
-soft_line : (o : Opening) (past : List Entry) (c : ℕ) (job : Option ℕ) (m : Option RemoteMessage) → list_all is_soft (after_line o past c job m) ≡ true
-soft_line o past c job None = soft_ending past c (Foul (length past)) refl
-soft_line o past c job (Some m) = soft_message o past c job m
-
 pub soft_got : (o : Opening) (past : List Entry) (c : ℕ) (line : List ℕ) → list_all is_soft (due_by_got o past c line) ≡ true
-soft_got o past c line = go (not (has_spoken past c)) (is_version_one (remote_reading line))
-  where
-    go : (b v : Bool) → list_all is_soft (cond b (cond v [] (ending past c (VersionFault (length past))))
-        (after_line o past c (addressed past c line).0 (remote_reading (addressed past c line).1))) ≡ true
-    go true true = refl
-    go true false = soft_ending past c (VersionFault (length past)) refl
-    go false v = soft_line o past c (addressed past c line).0 (remote_reading (addressed past c line).1)
+soft_got o past c line = got_cases (λ ws. list_all is_soft ws ≡ true) o past c refl (soft_ending past c) (λ j f opened. refl) line
 
 pub soft_mute : (o : Opening) (past : List Entry) (c : ℕ) → list_all is_soft (due_by o past (Mute c)) ≡ true
 soft_mute o past c = go (is_live past c)

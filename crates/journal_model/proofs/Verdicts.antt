@@ -1,35 +1,33 @@
 -- A verdict that no line said has its cause in the journal: the child's end, or its mute. A job that was not asked has none.
-use Rattle.std.proofs.Common.{◌≡◌, ℕ, List, [], ◌∷◌, ◌++◌, refl, sym, ap, subst, ◌∙◌, Bool, true, false, not, ◌==◌, cond, Some, None, Option, ◌⊎◌, inl, inr, length}
+use Rattle.std.proofs.Common.{◌≡◌, ℕ, List, [], ◌∷◌, ◌++◌, refl, sym, ap, subst, ◌∙◌, Bool, true, false, ◌==◌, cond, Some, None, Option, ◌⊎◌, inl, inr, length}
 use Rattle.std.specs.Prelude.{◌&&◌, ◌||◌, map, filter}
 use Rattle.std.specs.List.{list_any, cons_option}
 use Rattle.std.specs.Option.{option_or}
 use Rattle.annex_model.specs.declared.verdict.Why.{Why}
-use Rattle.annex_model.specs.declared.verdict.Why.TheVariants.{Foul, Version as VersionFault}
 use Rattle.annex_model.specs.declared.verdict.Verdict.{Verdict}
-use Rattle.annex_model.specs.declared.verdict.Verdict.TheVariants.{Done as DoneAt, Absent as AbsentAt, Ended, Unsent}
+use Rattle.annex_model.specs.declared.verdict.Verdict.TheVariants.{Ended, Unsent}
 use Rattle.annex_model.specs.declared.verdict.Final.{Final}
-use Rattle.annex_model.specs.declared.verdict.Final.TheVariants.{Done, Absent}
-use Rattle.annex_model.specs.Messages.{RemoteMessage, remote_reading}
+use Rattle.annex_model.specs.declared.verdict.Final.TheVariants.{Done}
 use Rattle.annex_model.specs.Talks.{Item}
 use Rattle.journal_model.specs.declared.entry.What.{What}
 use Rattle.journal_model.specs.declared.entry.What.TheVariants.{Claim, Start, NoStart, Ask, Put, Sent, Mute, Got, End, Verdict as Settled, Lost, Answer as Answered}
 use Rattle.journal_model.specs.declared.entry.Entry.{Entry}
 use Rattle.journal_model.specs.declared.opening.Opening.{Opening}
-use Rattle.journal_model.specs.Journal.{first_of, verdict_of, ends, mutes, is_ended, is_mute, is_live, is_open, is_unsent, open_jobs, has_spoken, addressed}
+use Rattle.journal_model.specs.Journal.{first_of, verdict_of, ends, mutes, is_ended, is_mute, is_live, is_unsent, open_jobs}
 use Rattle.journal_model.specs.Parts.{part}
-use Rattle.journal_model.specs.Due.{Hearing, Aside, Part, Settles, Strange, hearing, verdict_at, ending, foul, due_by_got, due_after, after_hearing, after_message, after_line, is_version_one, made_by, replies_at}
+use Rattle.journal_model.specs.Due.{verdict_at, ending, due_by_got, due_after, made_by, replies_at}
 use Rattle.journal_model.specs.Legality.{Legal, may_come}
 use Rattle.journal_model.specs.Projection.{Fits}
 use Rattle.journal_model.proofs.Growing.{Legal-induction}
 use Rattle.journal_model.proofs.Looks.{entry, is_asked, any-append, verdict_of-append, settled_all, verdicts_one, verdicts_none}
+use Rattle.journal_model.proofs.Soft.{got_cases}
 use Rattle.journal_model.proofs.Projecting.{parts_fit, asked_parts}
 
 -- what stands in the journal where the verdict does
 abbrev pub is_caused : Verdict → List Entry → ℕ → Bool
-is_caused (DoneAt at) past c = true
-is_caused (AbsentAt at) past c = true
 is_caused (Ended why) past c = is_ended past c
 is_caused Unsent past c = is_mute past c
+is_caused v past c = true
 
 -- each verdict of the stretch has its cause there
 abbrev AreCaused : List Entry → Type 0
@@ -40,16 +38,14 @@ or_true true = refl
 or_true false = refl
 
 caused_before : (v : Verdict) (past more : List Entry) (c : ℕ) → is_caused v past c ≡ true → is_caused v (past ++ more) c ≡ true
-caused_before (DoneAt at) past more c h = refl
-caused_before (AbsentAt at) past more c h = refl
 caused_before (Ended why) past more c h = any-append (ends c) past more ∙ ap (λ (b : Bool). b || is_ended more c) h
 caused_before Unsent past more c h = any-append (mutes c) past more ∙ ap (λ (b : Bool). b || is_mute more c) h
+caused_before v past more c h = refl
 
 caused_behind : (v : Verdict) (past more : List Entry) (c : ℕ) → is_caused v more c ≡ true → is_caused v (past ++ more) c ≡ true
-caused_behind (DoneAt at) past more c h = refl
-caused_behind (AbsentAt at) past more c h = refl
 caused_behind (Ended why) past more c h = any-append (ends c) past more ∙ ap (λ (b : Bool). is_ended past c || b) h ∙ or_true (is_ended past c)
 caused_behind Unsent past more c h = any-append (mutes c) past more ∙ ap (λ (b : Bool). is_mute past c || b) h ∙ or_true (is_mute past c)
+caused_behind v past more c h = refl
 
 -- ---- the groups
 
@@ -67,10 +63,9 @@ caused_line : (by child : ℕ) (line : List ℕ) (more : List Entry) → AreCaus
 caused_line by child line more h c k v is = go v (h c k v is)
   where
     go : (v : Verdict) → is_caused v more c ≡ true → is_caused v (entry by (Got child line) ∷ more) c ≡ true
-    go (DoneAt at) h = refl
-    go (AbsentAt at) h = refl
     go (Ended why) h = h
     go Unsent h = h
+    go v h = refl
 
 -- the verdicts of one child's jobs are all the same
 caused_all : (by child : ℕ) (v : Verdict) (ks : List ℕ) (before : List Entry) → ((c : ℕ) → (child == c) ≡ true → is_caused v before c ≡ true)
@@ -104,7 +99,7 @@ caused_final by child j at f c k v is = go (child == c && j == k) is
       where
         final : (g : Final) → is_caused (verdict_at g at) (entry by (Settled child j (verdict_at f at)) ∷ []) c ≡ true
         final Done = refl
-        final Absent = refl
+        final g = refl
 
     go : (b : Bool) → first_of (cons_option (cond b (Some (verdict_at f at)) None) []) ≡ Some v → is_caused v (entry by (Settled child j (verdict_at f at)) ∷ []) c ≡ true
     go true e = said f v (same e)
@@ -116,32 +111,10 @@ caused_final by child j at f c k v is = go (child == c && j == k) is
 caused_ending : (past : List Entry) (by c : ℕ) (why : Why) → AreCaused (made_by by (ending past c why))
 caused_ending past by c why = caused_end by c why (open_jobs past c)
 
-caused_hearing : (o : Opening) (past : List Entry) (by c j : ℕ) (m : RemoteMessage) (h : Hearing) → AreCaused (made_by by (after_hearing o past c j m h))
-caused_hearing o past by c j m Aside = caused_nothing
-caused_hearing o past by c j m Part = caused_nothing
-caused_hearing o past by c j m (Settles f) = caused_final by c j (length past) f
-caused_hearing o past by c j m Strange = caused_ending past by c (Foul (length past))
-
-caused_message : (o : Opening) (past : List Entry) (by c : ℕ) (job : Option ℕ) (m : RemoteMessage) → AreCaused (made_by by (after_message o past c job m))
-caused_message o past by c None m = caused_ending past by c (Foul (length past))
-caused_message o past by c (Some j) m = go (is_open past c j)
-  where
-    go : (b : Bool) → AreCaused (made_by by (cond b (after_hearing o past c j m (hearing (part past c j) m)) (foul past c)))
-    go true = caused_hearing o past by c j m (hearing (part past c j) m)
-    go false = caused_ending past by c (Foul (length past))
-
-caused_reading : (o : Opening) (past : List Entry) (by c : ℕ) (job : Option ℕ) (m : Option RemoteMessage) → AreCaused (made_by by (after_line o past c job m))
-caused_reading o past by c job None = caused_ending past by c (Foul (length past))
-caused_reading o past by c job (Some m) = caused_message o past by c job m
-
 caused_got : (o : Opening) (past : List Entry) (by c : ℕ) (line : List ℕ) → AreCaused (made_by by (due_by_got o past c line))
-caused_got o past by c line = go (not (has_spoken past c)) (is_version_one (remote_reading line))
-  where
-    go : (b v : Bool) → AreCaused (made_by by (cond b (cond v [] (ending past c (VersionFault (length past))))
-        (after_line o past c (addressed past c line).0 (remote_reading (addressed past c line).1))))
-    go true true = caused_nothing
-    go true false = caused_ending past by c (VersionFault (length past))
-    go false v = caused_reading o past by c (addressed past c line).0 (remote_reading (addressed past c line).1)
+caused_got o past by c line =
+    got_cases (λ ws. AreCaused (made_by by ws)) o past c caused_nothing (λ why soft. caused_ending past by c why)
+    (λ j f opened. caused_final by c j (length past) f) line
 
 caused_group : (o : Opening) (past : List Entry) (by : ℕ) (w : What) → may_come o past by w ≡ true → AreCaused (entry by w ∷ due_after o past (entry by w))
 caused_group o past by (Got child line) may = caused_line by child line (made_by by (due_by_got o past child line)) (caused_got o past by child line)

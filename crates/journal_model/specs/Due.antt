@@ -1,23 +1,24 @@
 -- What an entry makes due: the entries that have to stand directly behind it, made by the same number.
-use Rattle.std.specs.Prelude.{ℕ, ◌==◌, not, Bool, true, false, if◌then◌else◌, List, [], ◌∷◌, ◌++◌, length, Option, Some, None, map, filter}
+use Rattle.std.specs.Prelude.{ℕ, ◌==◌, ◌&&◌, ◌||◌, not, Bool, true, false, if◌then◌else◌, List, [], ◌∷◌, ◌++◌, length, Option, Some, None, map, filter}
+use Rattle.std.specs.List.{list_any}
 use Rattle.annex_model.specs.declared.verdict.Why.{Why}
-use Rattle.annex_model.specs.declared.verdict.Why.TheVariants.{Foul, Version as VersionFault}
+use Rattle.annex_model.specs.declared.verdict.Why.TheVariants.{Foul, Error as ErrorAt, Version as VersionFault}
 use Rattle.annex_model.specs.declared.verdict.Verdict.{Verdict}
-use Rattle.annex_model.specs.declared.verdict.Verdict.TheVariants.{Done as DoneAt, Absent as AbsentAt, Ended, Unsent}
+use Rattle.annex_model.specs.declared.verdict.Verdict.TheVariants.{Done as DoneAt, Failed as FailedAt, Absent as AbsentAt, Unknown as UnknownAt, Unsupported as UnsupportedAt, Ended, Unsent}
 use Rattle.annex_model.specs.declared.verdict.Final.{Final}
-use Rattle.annex_model.specs.declared.verdict.Final.TheVariants.{Done, Absent}
-use Rattle.annex_model.specs.Messages.{RemoteMessage, Version, HostMessage, remote_reading}
-use Rattle.annex_model.specs.Talks.{Item, is_aside, final_of, awaits, said}
+use Rattle.annex_model.specs.declared.verdict.Final.TheVariants.{Done, Failed, Absent, Unknown, Unsupported}
+use Rattle.annex_model.specs.Messages.{RemoteMessage, Version, Error, HostMessage, remote_reading}
+use Rattle.annex_model.specs.Talks.{Item, is_aside, is_talk, final_of, awaits, said}
 use Rattle.journal_model.specs.declared.entry.What.{What}
 use Rattle.journal_model.specs.declared.entry.What.TheVariants.{Put, Mute, Got, End, Verdict as Settled}
 use Rattle.journal_model.specs.declared.entry.Entry.{Entry}
 use Rattle.journal_model.specs.declared.opening.Opening.{Opening}
-use Rattle.journal_model.specs.Journal.{open_jobs, is_open, is_live, has_spoken, is_unsent, addressed, on_wire}
+use Rattle.journal_model.specs.Journal.{open_jobs, asked_jobs, is_open, is_live, has_spoken, is_tagged, is_unsent, addressed, on_wire}
 use Rattle.journal_model.specs.Parts.{part, request_in}
 
 -- ---- replies
 
--- the lines that the message is owed, by the registers and the identity. None of the messages so far wants a reply
+-- The lines that the message is owed. An aside that asks for something, or that sets something, isn't served yet: it can't follow.
 abbrev pub replies : Opening → List Entry → RemoteMessage → List (List ℕ)
 replies o past m = []
 
@@ -48,7 +49,10 @@ hearing part m = if is_aside m then Aside else hearing_of (request_in part) (sai
 
 abbrev pub verdict_at : Final → ℕ → Verdict
 verdict_at Done at = DoneAt at
+verdict_at Failed at = FailedAt at
 verdict_at Absent at = AbsentAt at
+verdict_at Unknown at = UnknownAt at
+verdict_at Unsupported at = UnsupportedAt at
 
 -- ---- behind an end, a mute and a line
 
@@ -67,26 +71,46 @@ abbrev pub is_version_one : Option RemoteMessage → Bool
 is_version_one (Some (Version n)) = n == 1
 is_version_one _ = false
 
+abbrev pub is_error : Option RemoteMessage → Bool
+is_error (Some (Error text)) = true
+is_error m = false
+
+-- an aside is owed its replies, where it can be served
 abbrev pub after_hearing : Opening → List Entry → ℕ → ℕ → RemoteMessage → Hearing → List What
-after_hearing o past c j m Aside = map (λ line. Put c j (on_wire past c j line)) (replies o past m)
+after_hearing o past c j m Aside =
+    if is_talk m then map (λ line. Put c j (on_wire past c j line)) (replies o past m) else foul past c
 after_hearing o past c j m Part = []
 after_hearing o past c j m (Settles f) = Settled c j (verdict_at f (length past)) ∷ []
 after_hearing o past c j m Strange = foul past c
 
--- a message for a job that is open; any other ends its child
+-- the job was open earlier. No tag names job 0
+abbrev pub was_open : List Entry → ℕ → Option ℕ → Bool
+was_open past c None = false
+was_open past c (Some j) = not (j == 0) && list_any (λ k. k == j) (asked_jobs past c)
+
+-- talk about a job that is not open is passed over, where it names a job that was, or can't name one
+abbrev pub is_passed : List Entry → ℕ → Option ℕ → RemoteMessage → Bool
+is_passed past c job m = is_talk m && (not (is_tagged past c) || was_open past c job)
+
+abbrev pub after_late : List Entry → ℕ → Option ℕ → RemoteMessage → List What
+after_late past c job m = if is_passed past c job m then [] else foul past c
+
+-- a message for a job that is open; any other is passed over or ends its child
 abbrev pub after_message : Opening → List Entry → ℕ → Option ℕ → RemoteMessage → List What
-after_message o past c None m = foul past c
+after_message o past c None m = after_late past c None m
 after_message o past c (Some j) m =
-    if is_open past c j then after_hearing o past c j m (hearing (part past c j) m) else foul past c
+    if is_open past c j then after_hearing o past c j m (hearing (part past c j) m) else after_late past c (Some j) m
 
 abbrev pub after_line : Opening → List Entry → ℕ → Option ℕ → Option RemoteMessage → List What
 after_line o past c job None = foul past c
 after_line o past c job (Some m) = after_message o past c job m
 
--- the first line is the version; a later one goes to the job that it is for
+-- A line that spells ERROR ends its child, whatever its tag. Else the first line is the version, and a later one goes to the
+-- job that it is for.
 abbrev pub due_by_got : Opening → List Entry → ℕ → List ℕ → List What
 due_by_got o past c line =
-    if not (has_spoken past c)
+    if is_error (remote_reading (addressed past c line).1) then ending past c (ErrorAt (length past))
+    else if not (has_spoken past c)
     then (if is_version_one (remote_reading line) then [] else ending past c (VersionFault (length past)))
     else after_line o past c (addressed past c line).0 (remote_reading (addressed past c line).1)
 

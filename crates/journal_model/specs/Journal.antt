@@ -1,7 +1,7 @@
 -- The journal of a run: what its entries say of a child, a job and a task. Each fact about the past is a test of the
 -- flat list of the entries before.
-use Rattle.std.specs.Prelude.{ℕ, ◌==◌, ◌&&◌, not, Bool, false, if◌then◌else◌, List, [], ◌∷◌, length, Option, Some, None, find, filter, filter_map, drop, option_and_then, slice_get}
-use Rattle.std.specs.List.{list_any}
+use Rattle.std.specs.Prelude.{ℕ, ◌==◌, ◌&&◌, ◌||◌, not, nat_le, Bool, false, if◌then◌else◌, List, [], ◌∷◌, length, Option, Some, None, find, filter, filter_map, drop, option_and_then, slice_get}
+use Rattle.std.specs.List.{list_any, sum_by}
 use Rattle.annex_model.specs.declared.verdict.Why.{Why}
 use Rattle.annex_model.specs.declared.verdict.Verdict.{Verdict}
 use Rattle.annex_model.specs.declared.verdict.Verdict.TheVariants.{Done}
@@ -127,6 +127,23 @@ is_job j (Some k) = k == j
 
 abbrev pub is_unsent : List Entry → ℕ → ℕ → Bool
 is_unsent past c j = list_any (λ w. is_job j w.0) (unsent past c)
+
+-- ---- the journal's limit
+
+-- the bytes of the entry's line, where it has one
+abbrev pub line_bytes : What → ℕ
+line_bytes (Ask child job task line) = length line
+line_bytes (Put child job line) = length line
+line_bytes (Got child line) = length line
+line_bytes _ = 0
+
+-- the bytes that the lines of the entries have in all, their tags included
+abbrev pub bytes_in : List Entry → ℕ
+bytes_in past = sum_by (λ e. line_bytes e.what) past
+
+-- a full journal takes no line of a child
+abbrev pub is_full : List Entry → Bool
+is_full past = nat_le 8000000 (length past) || nat_le 1073741824 (bytes_in past)
 
 -- the line got at a place, if one was
 abbrev pub line_at : List Entry → ℕ → List ℕ

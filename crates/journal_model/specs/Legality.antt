@@ -1,18 +1,19 @@
 -- Which journals are legal.
 use Rattle.std.specs.Prelude.{ℕ, ◌≡◌, ◌+◌, ◌-◌, ◌^◌, ◌==◌, ◌&&◌, ◌||◌, not, nat_lt, Bool, true, false, if◌then◌else◌, List, [], ◌∷◌, ◌++◌, length, Option, Some, None, filter, find, IsTrue, take, slice_get, bytes_eq, codes}
 use Rattle.std.specs.List.{list_any, range_with_len}
+use Rattle.std.specs.Str.{is_utf8}
 use Rattle.task_text.specs.declared.task.Task.{Task}
 use Rattle.annex_model.specs.declared.verdict.Why.{Why}
-use Rattle.annex_model.specs.declared.verdict.Why.TheVariants.{Eof, ReadFault, LongLine, Memory, Closed}
+use Rattle.annex_model.specs.declared.verdict.Why.TheVariants.{Eof, ReadFault, LongLine, Full, Memory, Closed}
 use Rattle.annex_model.specs.declared.verdict.Verdict.{Verdict}
 use Rattle.annex_model.specs.declared.verdict.Verdict.TheVariants.{Done as DoneAt}
 use Rattle.annex_model.specs.Lines.{has_newline}
-use Rattle.annex_model.specs.Messages.{HostMessage, AskExtensions, Prepare, Checkpresent, remote_reading, host_reading, host_line}
+use Rattle.annex_model.specs.Messages.{HostMessage, AskExtensions, Prepare, Initremote, Transfer, Checkpresent, Remove, Listconfigs, Getcost, Getavailability, Getinfo, Whereis, Value, Creds, HostError, remote_reading, host_reading, host_line}
 use Rattle.journal_model.specs.declared.entry.What.{What}
 use Rattle.journal_model.specs.declared.entry.What.TheVariants.{Claim, Start, NoStart, Ask, Put, Sent, Mute, Got, End, Verdict as Settled, Lost, Answer as Answered}
 use Rattle.journal_model.specs.declared.entry.Entry.{Entry}
 use Rattle.journal_model.specs.declared.opening.Opening.{Opening}
-use Rattle.journal_model.specs.Journal.{any, each_of, first_of, offers, got_lines, open_jobs, is_open, is_started, is_ended, is_mute, is_live, is_settled, asked_jobs, verdict_of, unsent, is_tagged, on_wire, addressed}
+use Rattle.journal_model.specs.Journal.{any, each_of, first_of, offers, got_lines, open_jobs, is_open, is_started, is_ended, is_mute, is_live, is_settled, asked_jobs, verdict_of, unsent, is_full, is_tagged, on_wire, addressed}
 use Rattle.journal_model.specs.Due.{due_after, is_version_one}
 
 abbrev pub is_empty : {X : Type 0} → List X → Bool
@@ -135,11 +136,27 @@ abbrev pub offered_names : List Entry → ℕ → List ℕ
 offered_names past c =
     if any (offers c) past then codes "INFO GETGITREMOTENAME ASYNC" else codes "INFO GETGITREMOTENAME"
 
--- the request is the one of its turn: EXTENSIONS is job 0, PREPARE is job 1, any other is later
+-- the name of a file is text on one line
+abbrev pub is_text : List ℕ → Bool
+is_text file = is_utf8 file && not (has_newline file)
+
+-- The request is the one of its turn: EXTENSIONS is job 0, PREPARE is job 1, any other is later. No child is asked to INITREMOTE
+-- yet, and a reply is no request.
 abbrev pub is_in_turn : List Entry → ℕ → ℕ → HostMessage → Bool
 is_in_turn past c job (AskExtensions names) = job == 0 && bytes_eq names (offered_names past c)
 is_in_turn past c job Prepare = job == 1
+is_in_turn past c job Initremote = false
+is_in_turn past c job (Transfer store key file) = nat_lt 1 job && is_text file
 is_in_turn past c job (Checkpresent key) = nat_lt 1 job
+is_in_turn past c job (Remove key) = nat_lt 1 job
+is_in_turn past c job Listconfigs = nat_lt 1 job
+is_in_turn past c job Getcost = nat_lt 1 job
+is_in_turn past c job Getavailability = nat_lt 1 job
+is_in_turn past c job Getinfo = nat_lt 1 job
+is_in_turn past c job (Whereis key) = nat_lt 1 job
+is_in_turn past c job (Value value) = false
+is_in_turn past c job (Creds user password) = false
+is_in_turn past c job (HostError text) = false
 
 -- the line is the canonical one of a request in its turn
 abbrev pub asks_in_turn : List Entry → ℕ → ℕ → List ℕ → Option HostMessage → Bool
@@ -158,11 +175,12 @@ may_ask past by t c =
     is_greeted past c (length (asked_jobs past c)) && may_work past by t c
     && (is_tagged past c || is_empty (open_jobs past c))
 
--- why a child may be ended by an event of its own
+-- why a child may be ended where nothing is due: at a full journal instead of taking its line
 abbrev pub may_stop : List Entry → ℕ → Why → Bool
 may_stop past c Eof = true
 may_stop past c ReadFault = true
 may_stop past c LongLine = true
+may_stop past c Full = is_full past
 may_stop past c Memory = true
 may_stop past c Closed = is_empty (open_jobs past c) && not (has_busy_task past c)
 may_stop past c _ = false
@@ -180,7 +198,7 @@ may_come o past by (Ask child job task line) =
 may_come o past by (Put child job line) = false
 may_come o past by (Sent child) = not (is_empty (unsent past child))
 may_come o past by (Mute child) = is_started past child && not (is_mute past child)
-may_come o past by (Got child line) = is_live past child && not (has_newline line)
+may_come o past by (Got child line) = is_live past child && not (has_newline line) && not (is_full past)
 may_come o past by (End child why) = is_live past child && may_stop past child why
 may_come o past by (Settled child job verdict) = false
 may_come o past by (Lost child task) = is_started past child && (is_ended past child || is_mute past child) && may_ask past by task child

@@ -2,7 +2,7 @@
 use Rattle.std.specs.Prelude.{ℕ, ◌==◌, ◌&&◌, not, ◌+◌, Bool, false, if◌then◌else◌, List, [], ◌∷◌, ◌++◌, length, Option, Some, None, filter_map, slice_get, take, drop, option_and_then}
 use Rattle.std.specs.List.{cons_option, range_with_len}
 use Rattle.annex_model.specs.declared.verdict.Why.{Why}
-use Rattle.annex_model.specs.declared.verdict.Why.TheVariants.{Foul, Version}
+use Rattle.annex_model.specs.declared.verdict.Why.TheVariants.{Foul, Error, Version}
 use Rattle.annex_model.specs.Messages.{HostMessage, host_reading}
 use Rattle.annex_model.specs.Talks.{Item, Host, Remote}
 use Rattle.journal_model.specs.declared.entry.What.{What}
@@ -13,6 +13,7 @@ use Rattle.journal_model.specs.Journal.{is_open, addressed}
 -- the line at this place ended its child
 abbrev pub is_place : ℕ → Why → Bool
 is_place at (Foul place) = place == at
+is_place at (Error place) = place == at
 is_place at (Version place) = place == at
 is_place at _ = false
 

@@ -1,10 +1,10 @@
 -- What the part of each job is, by how the job stands.
-use Rattle.std.specs.Prelude.{ℕ, ◌≡◌, ◌↔◌, ◌==◌, false, List, [], Option, Some, None, option_map}
+use Rattle.std.specs.Prelude.{ℕ, ◌≡◌, ◌↔◌, ◌==◌, false, List, [], Option, Some, None, option_map, option_and_then, IfSome}
 use Rattle.std.specs.List.{last_or, list_any}
 use Rattle.annex_model.specs.declared.verdict.Final.{Final}
-use Rattle.annex_model.specs.declared.verdict.Final.TheVariants.{Done, Absent}
+use Rattle.annex_model.specs.declared.verdict.Final.TheVariants.{Done, Failed, Absent, Unknown, Unsupported}
 use Rattle.annex_model.specs.declared.verdict.Verdict.{Verdict}
-use Rattle.annex_model.specs.declared.verdict.Verdict.TheVariants.{Done as DoneAt, Absent as AbsentAt, Ended, Unsent}
+use Rattle.annex_model.specs.declared.verdict.Verdict.TheVariants.{Done as DoneAt, Failed as FailedAt, Absent as AbsentAt, Unknown as UnknownAt, Unsupported as UnsupportedAt, Ended, Unsent}
 use Rattle.annex_model.specs.Messages.{HostMessage, RemoteMessage, IsAskable}
 use Rattle.annex_model.specs.Talks.{Item, Conv, ConvFront, Talking, final_of, said}
 use Rattle.journal_model.specs.declared.entry.Entry.{Entry}
@@ -26,13 +26,23 @@ pub record Goes (replies : ℕ → List (List ℕ)) (q : HostMessage) (part : Li
   pub talking : Talking replies q part
   pub front : ConvFront replies q part
 
+-- what a line said of the request, and where it stands, if a line gave the verdict
+abbrev pub final_in : Verdict → Option (Final × ℕ)
+final_in (DoneAt at) = Some (Done, at)
+final_in (FailedAt at) = Some (Failed, at)
+final_in (AbsentAt at) = Some (Absent, at)
+final_in (UnknownAt at) = Some (Unknown, at)
+final_in (UnsupportedAt at) = Some (Unsupported, at)
+final_in (Ended why) = None
+final_in Unsent = None
+
+abbrev pub FitsFinal : (ℕ → List (List ℕ)) → HostMessage → List Item → Option (Final × ℕ) → Type 0
+FitsFinal replies q part None = Goes replies q part
+FitsFinal replies q part (Some f) = Ends replies q part f.0 f.1
+
 -- the part of a job that is open, or was settled so
 abbrev pub PartFits : (ℕ → List (List ℕ)) → HostMessage → List Item → Option Verdict → Type 0
-PartFits replies q part None = Goes replies q part
-PartFits replies q part (Some (Ended why)) = Goes replies q part
-PartFits replies q part (Some Unsent) = Goes replies q part
-PartFits replies q part (Some (DoneAt at)) = Ends replies q part Done at
-PartFits replies q part (Some (AbsentAt at)) = Ends replies q part Absent at
+PartFits replies q part v = FitsFinal replies q part (option_and_then final_in v)
 
 -- The part of a job that was asked fits the request that it begins with, whose fields are of their classes, and the job's
 -- verdict. A job that was not asked has no part.
@@ -49,7 +59,4 @@ PartIsAsked journal c j = (part journal c j ≡ []) ↔ (list_any (λ k. k == j)
 
 -- The verdict is one that some answer to the request ends with, or there was no answer.
 abbrev pub IsNamed : HostMessage → Verdict → Type 0
-IsNamed q (DoneAt at) = (ms : List (Option RemoteMessage)) × (final_of q ms ≡ Some Done)
-IsNamed q (AbsentAt at) = (ms : List (Option RemoteMessage)) × (final_of q ms ≡ Some Absent)
-IsNamed q (Ended why) = Unit {0}
-IsNamed q Unsent = Unit {0}
+IsNamed q v = IfSome (final_in v) (λ f. (ms : List (Option RemoteMessage)) × (final_of q ms ≡ Some f.0))

@@ -1,10 +1,12 @@
--- The worked journals: one check over one child, with changes; and two checks over one tagged child.
-use Rattle.std.specs.Prelude.{ℕ, true, false, List, [], ◌∷◌, ◌++◌, codes}
+-- The worked journals: one check over one child, with changes; two checks over one tagged child; and what a child may say beside
+-- an answer, or in place of one.
+use Rattle.std.specs.Prelude.{ℕ, true, false, List, [], ◌∷◌, ◌++◌, map, codes}
 use Rattle.task_text.specs.declared.task.Task.{Task}
 use Rattle.task_text.specs.declared.task.Work.TheVariants.{Check}
-use Rattle.annex_model.specs.declared.verdict.Why.TheVariants.{Closed, Foul}
-use Rattle.annex_model.specs.declared.verdict.Verdict.TheVariants.{Done, Absent, Ended}
-use Rattle.journal_model.specs.declared.answer.Answer.TheVariants.{Present, Absent as AbsentAnswer}
+use Rattle.annex_model.specs.declared.verdict.Why.{Why}
+use Rattle.annex_model.specs.declared.verdict.Why.TheVariants.{Closed, Foul, Error}
+use Rattle.annex_model.specs.declared.verdict.Verdict.TheVariants.{Done, Failed, Absent, Unknown, Unsupported, Ended}
+use Rattle.journal_model.specs.declared.answer.Answer.TheVariants.{Present, Absent as AbsentAnswer, Unknown as UnknownAnswer, NotPrepared, Ended as EndedAnswer}
 use Rattle.journal_model.specs.declared.entry.What.{What}
 use Rattle.journal_model.specs.declared.entry.What.TheVariants.{Claim, Start, Ask, Sent, Got, End, Verdict as Settled, Answer as Answered}
 use Rattle.journal_model.specs.declared.entry.Entry.{Entry}
@@ -25,8 +27,9 @@ one_check = opening_of (check_of sample_key ∷ [])
 abbrev pub by_main : What → Entry
 by_main w = record { by = 0; what = w }
 
-abbrev pub greeting : List Entry
-greeting =
+-- as far as the question whether it is prepared
+abbrev pub introduced : List Entry
+introduced =
     by_main (Start 1 0 false)
     ∷ by_main (Got 1 (codes "VERSION 1"))
     ∷ by_main (Ask 1 0 0 (codes "EXTENSIONS INFO GETGITREMOTENAME"))
@@ -35,9 +38,13 @@ greeting =
     ∷ by_main (Settled 1 0 (Done 4))
     ∷ by_main (Ask 1 1 0 (codes "PREPARE"))
     ∷ by_main (Sent 1)
-    ∷ by_main (Got 1 (codes "PREPARE-SUCCESS"))
-    ∷ by_main (Settled 1 1 (Done 8))
     ∷ []
+
+abbrev pub prepared : List Entry
+prepared = by_main (Got 1 (codes "PREPARE-SUCCESS")) ∷ by_main (Settled 1 1 (Done 8)) ∷ []
+
+abbrev pub greeting : List Entry
+greeting = introduced ++ prepared
 
 abbrev pub asking : List Entry
 asking =
@@ -127,3 +134,87 @@ tag_left_off =
     ∷ by_main (Settled 1 2 (Ended (Foul 14)))
     ∷ by_main (Settled 1 3 (Ended (Foul 14)))
     ∷ []
+
+-- ---- beside an answer, and in place of one
+
+-- what is due behind a line that ends the child with these jobs open
+abbrev pub end_with : Why → List ℕ → List What
+end_with why jobs = End 1 why ∷ map (λ j. Settled 1 j (Ended why)) jobs
+
+-- ASYNC is offered, and the child doesn't know the request of job 0
+abbrev pub not_extended : List Entry
+not_extended =
+    by_main (Start 1 0 true)
+    ∷ by_main (Got 1 (codes "VERSION 1"))
+    ∷ by_main (Ask 1 0 0 (codes "EXTENSIONS INFO GETGITREMOTENAME ASYNC"))
+    ∷ by_main (Sent 1)
+    ∷ by_main (Got 1 (codes "UNSUPPORTED-REQUEST"))
+    ∷ by_main (Settled 1 0 (Unsupported 4))
+    ∷ by_main (Ask 1 1 0 (codes "PREPARE"))
+    ∷ by_main (Sent 1)
+    ∷ prepared
+    ++ asking
+    ++ success_of sample_key
+    ∷ settled
+    ∷ answered
+    ∷ closed
+    ∷ []
+
+-- the child can't get ready, and its task is answered without it
+abbrev pub no_disk : List Entry
+no_disk =
+    introduced
+    ++ by_main (Got 1 (codes "PREPARE-FAILURE no disk"))
+    ∷ by_main (Settled 1 1 (Failed 8))
+    ∷ by_main (Claim 1 0)
+    ∷ by_main (Answered 1 (NotPrepared 8))
+    ∷ closed
+    ∷ []
+
+-- the request of the check stands, and nothing more
+abbrev pub checking : List Entry
+checking = greeting ++ asking
+
+-- asides stand before the answer
+abbrev pub away : List Entry
+away =
+    checking
+    ++ by_main (Got 1 (codes "PROGRESS 10"))
+    ∷ by_main (Got 1 (codes "DEBUG x"))
+    ∷ by_main (Got 1 (codes "CHECKPRESENT-UNKNOWN " ++ sample_key ++ codes " away"))
+    ∷ by_main (Settled 1 2 (Unknown 15))
+    ∷ by_main (Answered 1 (UnknownAnswer 15))
+    ∷ closed
+    ∷ []
+
+-- an aside is taken for an answer
+abbrev pub settled_by_aside : List Entry
+settled_by_aside = checking ++ by_main (Got 1 (codes "PROGRESS 10")) ∷ settled ∷ []
+
+-- the child gives up
+abbrev pub out_of_disk : List Entry
+out_of_disk =
+    checking
+    ++ by_main (Got 1 (codes "ERROR out of disk"))
+    ∷ by_main (End 1 (Error 13))
+    ∷ by_main (Settled 1 2 (Ended (Error 13)))
+    ∷ by_main (Answered 1 (EndedAnswer (Error 13)))
+    ∷ []
+
+-- the first check of the two is answered, and the second is still open
+abbrev pub one_left : List Entry
+one_left =
+    tagged_greeting
+    ++ by_main (Got 1 (codes "J 2 CHECKPRESENT-FAILURE WORM--a"))
+    ∷ by_main (Settled 1 2 (Absent 14))
+    ∷ []
+
+-- a request of an answer of several lines, and its first line
+abbrev pub ask_configs : What
+ask_configs = Ask 1 2 0 (codes "LISTCONFIGS")
+
+abbrev pub listing : List Entry
+listing = greeting ++ by_main ask_configs ∷ by_main (Sent 1) ∷ []
+
+abbrev pub one_listed : List Entry
+one_listed = listing ++ by_main (Got 1 (codes "CONFIG a b")) ∷ []

@@ -1,23 +1,23 @@
 // Laws over the definitions, each the contract of a function with nothing to do.
-ghost use Rattle.std.specs.Prelude.{ℕ, ◌≡◌, ◌≤◌, ◌+◌, ◌↔◌, ◌++◌, false, List, [], ◌∷◌, take, IsTrue, Some, slice_get, codes, length};
-ghost use Rattle.annex_model.specs.declared.verdict.Why.TheVariants.{Closed, Foul};
-ghost use Rattle.annex_model.specs.declared.verdict.Verdict.TheVariants.{Ended, Done};
+ghost use Rattle.std.specs.Prelude.{ℕ, ◌≡◌, ◌≤◌, ◌+◌, ◌↔◌, ◌++◌, true, false, List, [], ◌∷◌, take, IsTrue, Some, codes, length};
+ghost use Rattle.annex_model.specs.declared.verdict.Why.TheVariants.{Closed, Full, Foul, Error};
+ghost use Rattle.annex_model.specs.declared.verdict.Verdict.TheVariants.{Ended, Done, Failed, Unsupported};
 ghost use Rattle.annex_model.specs.Messages.{Checkpresent};
 ghost use Rattle.annex_model.specs.Talks.{Conv, ConvFront, Talking};
 ghost use Rattle.annex_model.specs.Lines.{text};
-ghost use Rattle.journal_model.specs.declared.answer.Answer.TheVariants.{Present, Ended as EndedAnswer};
+ghost use Rattle.journal_model.specs.declared.answer.Answer.TheVariants.{Present, Unknown as UnknownAnswer, NotPrepared, Ended as EndedAnswer};
 ghost use Rattle.journal_model.specs.declared.entry.What.TheVariants.{Claim, Ask, Sent, Got, End, Verdict as Settled, Answer as Answered};
 ghost use Rattle.journal_model.specs.declared.entry.Entry.{Entry};
 ghost use Rattle.journal_model.specs.declared.opening.Opening.{Opening};
-ghost use Rattle.journal_model.specs.Journal.{got_lines};
+ghost use Rattle.journal_model.specs.Journal.{got_lines, verdict_of, is_tagged, is_full};
 ghost use Rattle.journal_model.specs.Parts.{part, part_by_places};
-ghost use Rattle.journal_model.specs.Due.{due_after, replies_at};
-ghost use Rattle.journal_model.specs.Legality.{Legal, LegalByGroups, LegalByPlaces, FirstWrong, owed_after, may_come, MayStand};
+ghost use Rattle.journal_model.specs.Due.{due_after, due_by_got, replies_at};
+ghost use Rattle.journal_model.specs.Legality.{Legal, LegalByGroups, LegalByPlaces, FirstWrong, owed_after, may_come};
 ghost use Rattle.journal_model.specs.Projection.{JobFits, PartIsAsked};
 ghost use Rattle.journal_model.specs.Wires.{Wired};
 ghost use Rattle.journal_model.specs.Output.{answer_line};
 ghost use Rattle.journal_model.specs.Room.{room_for, room_of};
-ghost use Rattle.journal_model.specs.Rows.{one_check, check_present, not_closed, other_key, not_settled, sample_key, by_main, settled, answered, greeting, asking, two_checks, crossed, unknown_job, tag_left_off};
+ghost use Rattle.journal_model.specs.Rows.{one_check, check_present, not_closed, other_key, not_settled, sample_key, by_main, settled, answered, greeting, two_checks, crossed, unknown_job, tag_left_off, tagged_greeting, end_with, not_extended, no_disk, checking, away, settled_by_aside, out_of_disk, one_left, ask_configs, listing, one_listed};
 
 /// The journal of one check is legal, and so it is before its child is closed.
 pub fn check_present_is_legal()
@@ -77,6 +77,64 @@ pub fn crossed_is_legal()
     ensures second { Conv (replies_at two_checks crossed) (Checkpresent (codes "WORM--b")) (part crossed 1 3) }
     ensures unknown { Legal two_checks unknown_job }
     ensures left_off { Legal two_checks tag_left_off }
+{}
+
+/// A child that doesn't know EXTENSIONS has no tags, though they were offered, and is prepared and asked all the same.
+pub fn not_extended_is_legal()
+    ensures legal { Legal one_check not_extended }
+    ensures verdict { verdict_of not_extended 1 0 ≡ Some (Unsupported 4) }
+    ensures untagged { is_tagged not_extended 1 ≡ false }
+{}
+
+/// A task whose child couldn't get ready is claimed for no child, and its answer names the line that says why.
+pub fn no_disk_is_legal()
+    ensures legal { Legal one_check no_disk }
+    ensures verdict { verdict_of no_disk 1 1 ≡ Some (Failed 8) }
+    ensures refused { may_come one_check (take 10 no_disk) 0 (Claim 1 1) ≡ false }
+    ensures printed { answer_line no_disk 1 (NotPrepared 8) ≡ codes "1 notprepared no disk" ++ 10 ∷ [] }
+{}
+
+/// Talk before an answer belongs to the conversation, and settles nothing.
+pub fn away_is_legal()
+    ensures legal { Legal one_check away }
+    ensures conversation { Conv (replies_at one_check away) (Checkpresent sample_key) (part away 1 2) }
+    ensures printed { answer_line away 1 (UnknownAnswer 15) ≡ codes "1 unknown away" ++ 10 ∷ [] }
+    ensures nothing_due { due_by_got one_check checking 1 (codes "PROGRESS 10") ≡ [] }
+    ensures aside { FirstWrong one_check settled_by_aside 14 settled }
+{}
+
+/// A line that spells ERROR ends its child, and each open job with it, whether it is tagged or not, and whatever its tag.
+pub fn error_ends()
+    ensures legal { Legal one_check out_of_disk }
+    ensures due { due_by_got one_check checking 1 (codes "ERROR out of disk") ≡ end_with (Error 13) (2 ∷ []) }
+    ensures printed { answer_line out_of_disk 1 (EndedAnswer (Error 13)) ≡ codes "1 ended error out of disk" ++ 10 ∷ [] }
+    ensures no_tag { due_by_got two_checks tagged_greeting 1 (codes "ERROR x") ≡ end_with (Error 14) (2 ∷ 3 ∷ []) }
+    ensures tag { due_by_got two_checks tagged_greeting 1 (codes "J 2 ERROR x") ≡ end_with (Error 14) (2 ∷ 3 ∷ []) }
+    ensures any_tag { due_by_got two_checks tagged_greeting 1 (codes "J 9 ERROR x") ≡ end_with (Error 14) (2 ∷ 3 ∷ []) }
+{}
+
+/// What a child asks of its host is not served yet, and ends it. What it says late is passed over, where it is talk about a job
+/// that was open; where lines have no tags, any talk is.
+pub fn strange_lines()
+    ensures asks { due_by_got one_check checking 1 (codes "GETCONFIG x") ≡ end_with (Foul 13) (2 ∷ []) }
+    ensures late { due_by_got two_checks one_left 1 (codes "J 2 PROGRESS 3") ≡ [] }
+    ensures asks_late { due_by_got two_checks one_left 1 (codes "J 2 GETUUID") ≡ end_with (Foul 16) (3 ∷ []) }
+    ensures job_0 { due_by_got two_checks one_left 1 (codes "J 0 DEBUG x") ≡ end_with (Foul 16) (3 ∷ []) }
+    ensures never_asked { due_by_got two_checks one_left 1 (codes "J 9 PROGRESS 1") ≡ end_with (Foul 16) (3 ∷ []) }
+    ensures no_job { due_by_got one_check greeting 1 (codes "PROGRESS 1") ≡ [] }
+    ensures answers_none { due_by_got one_check greeting 1 (codes "CHECKPRESENT-SUCCESS " ++ sample_key) ≡ end_with (Foul 10) [] }
+{}
+
+/// A child is not ended for a full journal while there is room. The main thread may ask for a list of configs, whose first line
+/// settles nothing; behind it the request can't be unsupported.
+pub fn room_and_lists()
+    ensures not_full { is_full checking ≡ false }
+    ensures no_end { may_come one_check checking 0 (End 1 Full) ≡ false }
+    ensures ask { may_come one_check greeting 0 ask_configs ≡ true }
+    ensures ask_by_other { may_come one_check greeting 1 ask_configs ≡ false }
+    ensures first { due_by_got one_check listing 1 (codes "CONFIG a b") ≡ [] }
+    ensures last { due_by_got one_check one_listed 1 (codes "CONFIGEND") ≡ Settled 1 2 (Done 13) ∷ [] }
+    ensures unsupported { due_by_got one_check one_listed 1 (codes "UNSUPPORTED-REQUEST") ≡ end_with (Foul 13) (2 ∷ []) }
 {}
 
 /// An entry that may come, with what it makes due, keeps a journal legal.
