@@ -1,1 +1,3 @@
 pub mod Hearing
+pub mod Lists
+pub mod Staging

@@ -1,3 +1,4 @@
 pub mod Requests
 pub mod Talked
 pub mod Hearings
+pub mod Stages

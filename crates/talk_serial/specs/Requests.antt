@@ -1,8 +1,8 @@
 -- The message that asks a request.
 use Rattle.std.specs.Prelude.{ℕ, Bool, true, false, List, codes}
-use Rattle.annex_model.specs.Messages.{HostMessage, AskExtensions, Prepare, Checkpresent}
+use Rattle.annex_model.specs.Messages.{HostMessage, AskExtensions, Prepare, Initremote, Transfer, Checkpresent, Remove, Listconfigs, Getcost, Getavailability, Getinfo, Whereis}
 use Rattle.talk_serial.specs.declared.request.Request.{Request}
-use Rattle.talk_serial.specs.declared.request.Request.TheVariants.{Extensions, Prepare as PrepareRequest, CheckPresent}
+use Rattle.talk_serial.specs.declared.request.Request.TheVariants.{Extensions as ExtensionsRequest, Prepare as PrepareRequest, InitRemote as InitRemoteRequest, ListConfigs as ListConfigsRequest, GetCost as GetCostRequest, GetAvailability as GetAvailabilityRequest, GetInfo as GetInfoRequest, Transfer as TransferRequest, CheckPresent as CheckPresentRequest, Remove as RemoveRequest, WhereIs as WhereIsRequest}
 
 -- the extensions that the host names, with ASYNC where it is offered
 abbrev pub names_of : Bool → List ℕ
@@ -10,6 +10,14 @@ names_of false = codes "INFO GETGITREMOTENAME"
 names_of true = codes "INFO GETGITREMOTENAME ASYNC"
 
 abbrev pub message_of : Request → HostMessage
-message_of (Extensions offer) = AskExtensions (names_of offer)
+message_of (ExtensionsRequest offer) = AskExtensions (names_of offer)
 message_of PrepareRequest = Prepare
-message_of (CheckPresent key) = Checkpresent key
+message_of InitRemoteRequest = Initremote
+message_of ListConfigsRequest = Listconfigs
+message_of GetCostRequest = Getcost
+message_of GetAvailabilityRequest = Getavailability
+message_of GetInfoRequest = Getinfo
+message_of (TransferRequest store key file) = Transfer store key file
+message_of (CheckPresentRequest key) = Checkpresent key
+message_of (RemoveRequest key) = Remove key
+message_of (WhereIsRequest key) = Whereis key

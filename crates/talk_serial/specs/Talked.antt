@@ -1,7 +1,26 @@
-use Rattle.std.specs.Prelude.{Bool}
+-- What contracts see of a talk.
+use Rattle.std.specs.Prelude.{Bool, true, false}
 use Rattle.talk_serial.specs.declared.request.Request.{Request}
+use Rattle.talk_serial.specs.declared.talk.Stage.{Stage}
+use Rattle.talk_serial.specs.declared.talk.Stage.TheVariants.{Waiting, Half, Over}
 
--- what contracts see of a talk: its request, and whether the answer is whole
+-- its request, and how far the answer has come
 pub record Talked : Type 0 where
   pub request : Request
-  pub over : Bool
+  pub stage : Stage
+
+abbrev pub is_waiting : Stage → Bool
+is_waiting Waiting = true
+is_waiting _ = false
+
+abbrev pub is_half : Stage → Bool
+is_half Half = true
+is_half _ = false
+
+abbrev pub is_last : Stage → Bool
+is_last Over = true
+is_last _ = false
+
+-- the answer is whole
+abbrev pub is_over : Talked → Bool
+is_over t = is_last t.stage

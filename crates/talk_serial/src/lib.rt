@@ -2,11 +2,13 @@
 // https://git-annex.branchable.com/design/external_special_remote_protocol/
 #![tactic(auto)]
 
+mod answer;
 pub mod laws;
 mod request;
 mod talk;
 #[cfg(test)]
 mod tests;
 
+pub use answer::is_aside;
 pub use request::Request;
 pub use talk::{Heard, Talk};

@@ -1,10 +1,15 @@
-ghost use Rattle.std.specs.Prelude.{◌≡◌, ◌==◌, ◌++◌, ◌∷◌, [], List, Option, Some, None, true, false, if◌then◌else◌, bytes_eq};
+ghost use Rattle.std.specs.Prelude.{◌≡◌, ◌||◌, ◌++◌, ◌∷◌, [], List, Option, Some, None, true, false};
 ghost use Rattle.annex_model.specs.Messages.{RemoteMessage};
-ghost use Rattle.annex_model.specs.Talks.{is_aside, final_of};
+ghost use Rattle.annex_model.specs.Talks.{shape_of};
+ghost use Rattle.journal_model.specs.Due.{by_answer};
 ghost use Rattle.wire_msg.specs.Shown.{remote_shown};
 ghost use Rattle.talk_serial.specs.Requests.{message_of};
-ghost use Rattle.talk_serial.specs.Hearings.{heard, Follows, is_taken};
+ghost use Rattle.talk_serial.specs.Talked.{is_over, is_last, is_waiting, is_half};
+ghost use Rattle.talk_serial.specs.Hearings.{heard_as, heard, Follows, is_taken, is_settled};
+ghost use Rattle.talk_serial.specs.declared.talk.Heard.TheVariants.{Foul};
+ghost use Rattle.talk_serial.specs.Stages.{line_heard, answer_heard, heard_by, stage_behind, stage_after};
 
+use crate::answer;
 use crate::request::Request;
 use annex_model::Final;
 use std::marker::Model;
@@ -13,9 +18,9 @@ use wire_msg::RemoteMsg;
 /// What a message is to a talk.
 #[derive(Clone, Copy, PartialEq, Eq, Debug)]
 pub enum Heard {
-    /// One that may be said in any talk, and leaves it as it was. None of these messages is.
+    /// One that may be said in any talk, and leaves it as it was.
     Aside,
-    /// A part of an answer of several lines, which goes on. None of these requests has one.
+    /// A line of an answer of several, which goes on.
     Part,
     /// The end of the answer, which says this of the request.
     Settled(Final),
@@ -23,11 +28,95 @@ pub enum Heard {
     Foul,
 }
 
-/// A request, and how far its answer has come. Contracts see the request, and whether the answer is whole.
+/// How far an answer has come.
+#[derive(Clone, Copy)]
+enum Stage {
+    /// Nothing was said.
+    Waiting,
+    /// Some lines were, and none awaits another.
+    Between,
+    /// A field awaits its value.
+    Half,
+    /// The answer is whole.
+    Over,
+}
+
+impl Stage {
+    fn is_waiting(&self) -> bool
+        ensures { result ≡ is_waiting self.now }
+    {
+        matches!(self, Stage::Waiting)
+    }
+
+    fn is_half(&self) -> bool
+        ensures { result ≡ is_half self.now }
+    {
+        matches!(self, Stage::Half)
+    }
+
+    fn is_over(&self) -> bool
+        ensures { result ≡ is_last self.now }
+    {
+        matches!(self, Stage::Over)
+    }
+}
+
+fn stage_behind(message: &RemoteMsg<'_>) -> Stage
+    ensures { result ≡ stage_behind (remote_shown message.now) }
+{
+    if answer::is_field(message) {
+        Stage::Half
+    } else {
+        Stage::Between
+    }
+}
+
+fn stage_after(stage: Stage, heard: Heard, message: &RemoteMsg<'_>) -> Stage
+    ensures { result ≡ stage_after stage heard (remote_shown message.now) }
+{
+    match heard {
+        Heard::Part => stage_behind(message),
+        Heard::Settled(_) => Stage::Over,
+        Heard::Aside | Heard::Foul => stage,
+    }
+}
+
+fn one_line_heard(last: Option<Final>) -> Heard
+    ensures { result ≡ heard_as (by_answer last false) }
+{
+    match last {
+        Some(last) => Heard::Settled(last),
+        None => Heard::Foul,
+    }
+}
+
+/// What the message is as a line of the answer to the request, in which a field awaits its value or not.
+fn line_heard(request: &Request, half: bool, message: &RemoteMsg<'_>) -> Heard
+    ensures { result ≡ line_heard (shape_of (message_of request.now)) (message_of request.now) half (remote_shown message.now) }
+{
+    match request {
+        Request::ListConfigs => answer::config(message),
+        Request::GetInfo => answer::info(half, message),
+        _ => one_line_heard(answer::one_line(request, message)),
+    }
+}
+
+/// What the message, which is no aside, is to the request.
+fn answer_heard(request: &Request, stage: Stage, message: &RemoteMsg<'_>) -> Heard
+    ensures { result ≡ answer_heard (message_of request.now) stage (remote_shown message.now) }
+{
+    if stage.is_waiting() && answer::is_unsupported(message) {
+        Heard::Settled(Final::Unsupported)
+    } else {
+        line_heard(request, stage.is_half(), message)
+    }
+}
+
+/// A request, and how far its answer has come. Contracts see both.
 #[derive(Drop)]
 pub struct Talk {
     request: Request,
-    over: bool,
+    stage: Stage,
 }
 
 impl Model for Talk {
@@ -35,39 +124,19 @@ impl Model for Talk {
 
     ghost Value = { Talked };
 
-    ghost view = { λ t. record { request = t.request; over = t.over } };
-}
-
-fn same(one: &[u8], other: &[u8]) -> bool
-    ensures { result ≡ bytes_eq one.now other.now }
-{
-    one == other
-}
-
-/// What the message is as the whole answer to the request.
-fn whole_answer(request: &Request, message: &RemoteMsg<'_>) -> Option<Final>
-    ensures { result ≡ final_of (message_of request.now) (Some (remote_shown message.now) ∷ []) }
-{
-    match (request, message) {
-        (Request::Extensions { .. }, RemoteMsg::Extensions(_)) => Some(Final::Done),
-        (Request::Prepare, RemoteMsg::PrepareSuccess) => Some(Final::Done),
-        (Request::CheckPresent { key }, RemoteMsg::CheckpresentSuccess(said))
-            if same(said.text(), key.view().text()) => Some(Final::Done),
-        (Request::CheckPresent { key }, RemoteMsg::CheckpresentFailure(said))
-            if same(said.text(), key.view().text()) => Some(Final::Absent),
-        _ => None,
-    }
+    ghost view = { λ t. record { request = t.request; stage = t.stage } };
 }
 
 impl Talk {
     /// The talk about the request, to which nothing was said yet. It takes no memory.
     pub fn ask(request: Request) -> Talk
         ensures request { result.request ≡ request }
+        ensures waits { is_over result ≡ false }
         ensures begins { Follows result [] }
     {
         Talk {
             request,
-            over: false,
+            stage: Stage::Waiting,
         }
     }
 
@@ -78,22 +147,29 @@ impl Talk {
         &self.request
     }
 
-    /// What the message is to the talk, behind what was said. It takes no memory.
+    fn heard(&self, message: &RemoteMsg<'_>) -> Heard
+        ensures { result ≡ heard_by self.now (remote_shown message.now) }
+    {
+        if self.stage.is_over() {
+            Heard::Foul
+        } else if answer::is_aside(message) {
+            Heard::Aside
+        } else {
+            answer_heard(&self.request, self.stage, message)
+        }
+    }
+
+    /// What the message is to the talk, behind what was said. Behind a whole answer each is foul. It takes no memory.
     pub fn hear(&mut self, message: &RemoteMsg<'_>) -> Heard
-        ensures answer { (ms : List (Option RemoteMessage)) → Follows self.old ms → result ≡ heard (message_of self.old.request) ms (remote_shown message.now) }
+        ensures answer { (ms : List (Option RemoteMessage)) → Follows self.old ms → is_over self.old ≡ false → result ≡ heard (message_of self.old.request) ms (remote_shown message.now) }
+        ensures over { is_over self.old ≡ true → result ≡ Foul }
         ensures goes_on { (ms : List (Option RemoteMessage)) → Follows self.old ms → is_taken result ≡ true → Follows self.new (ms ++ Some (remote_shown message.now) ∷ []) }
         ensures stays { is_taken result ≡ false → self.new ≡ self.old }
+        ensures ends { is_over self.new ≡ (is_over self.old || is_settled result) }
         ensures request { self.new.request ≡ self.old.request }
     {
-        if self.over {
-            return Heard::Foul;
-        }
-        match whole_answer(&self.request, message) {
-            Some(last) => {
-                self.over = true;
-                Heard::Settled(last)
-            }
-            None => Heard::Foul,
-        }
+        let heard = self.heard(message);
+        self.stage = stage_after(self.stage, heard, message);
+        heard
     }
 }
