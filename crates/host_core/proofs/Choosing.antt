@@ -3,22 +3,24 @@ use Rattle.std.proofs.Common.{◌≡◌, ℕ, List, [], ◌∷◌, ◌+◌, ◌<
 use Rattle.std.specs.Prelude.{◌&&◌, ◌||◌, ◌==◌, nat_lt, bytes_eq, codes}
 use Rattle.std.proofs.lemmas.Bool.Decides.{nat_tests}
 use Rattle.std.proofs.lemmas.Slice.Eq.{bytes_eq-Decides}
+use Rattle.annex_model.specs.declared.verdict.Why.{Why}
+use Rattle.annex_model.specs.declared.verdict.Why.TheVariants.{Full}
 use Rattle.annex_model.specs.Lines.{has_newline}
-use Rattle.annex_model.specs.Messages.{HostMessage, AskExtensions, Prepare, Checkpresent, host_line, host_reading, IsAskable}
+use Rattle.annex_model.specs.Messages.{HostMessage, AskExtensions, Prepare, Initremote, Transfer, Checkpresent, Remove, Listconfigs, Getcost, Getavailability, Getinfo, Whereis, Value, Creds, HostError, host_line, host_reading, IsAskable}
 use Rattle.journal_model.specs.declared.entry.What.{What}
 use Rattle.journal_model.specs.declared.entry.What.TheVariants.{Claim, Start, NoStart, Ask, Put, Sent, Mute, Got, End, Verdict as Settled, Lost, Answer as Answered}
 use Rattle.journal_model.specs.declared.entry.Entry.{Entry}
 use Rattle.journal_model.specs.declared.opening.Opening.{Opening}
-use Rattle.journal_model.specs.Journal.{any, offers, is_started, is_ended, is_mute, is_live, unsent, addressed, on_wire}
+use Rattle.journal_model.specs.Journal.{any, offers, is_started, is_ended, is_mute, is_live, unsent, addressed, on_wire, is_full}
 use Rattle.journal_model.specs.Legality.{is_empty, count, is_start, least_free, is_prepared, is_in_turn, may_ask, may_stop, may_come, is_number, asks_in_turn, offered_names}
 use Rattle.journal_model.proofs.Looks.{same_number, both}
 use Rattle.journal_model.proofs.Asking.{read_askable}
 use Rattle.talk_serial.specs.declared.request.Request.{Request}
-use Rattle.talk_serial.specs.declared.request.Request.TheVariants.{Extensions, Prepare as PrepareRequest, CheckPresent}
+use Rattle.talk_serial.specs.declared.request.Request.TheVariants.{Extensions, Prepare as PrepareRequest, ListConfigs, GetCost, GetAvailability, GetInfo, Transfer as TransferRequest, CheckPresent, Remove as RemoveRequest, WhereIs}
 use Rattle.talk_serial.specs.Requests.{message_of, names_of}
 use Rattle.host_core.specs.declared.event.Event.TheVariants.{Claim as ClaimEvent, Start as StartEvent, NoStart as NoStartEvent, Ask as AskEvent, Got as GotEvent, Stop, Sent as SentEvent, Mute as MuteEvent, Answer as AnswerEvent}
 use Rattle.host_core.specs.declared.event.Reply.TheVariants.{Job}
-use Rattle.host_core.specs.Steps.{Step, step_of, group_of, append, odd, gone, claim, next_job, may_request, is_askable, Comes, Appends}
+use Rattle.host_core.specs.Steps.{Step, step_of, group_of, append, odd, gone, claim, next_job, may_request, may_end, is_askable, Comes, Appends}
 use Rattle.host_core.proofs.Stepping.{step_comes}
 
 live : (past : List Entry) (c : ℕ) → is_live past c ≡ true → (is_started past c ≡ true) × (is_ended past c ≡ false)
@@ -63,12 +65,26 @@ requested past c job (AskExtensions names) h =
     told true = refl
     told false = refl
 requested past c job Prepare h = (PrepareRequest, refl)
+requested past c job Initremote h = absurd cc
+requested past c job (Transfer store key file) h = (TransferRequest store key file, refl)
 requested past c job (Checkpresent key) h = (CheckPresent key, refl)
+requested past c job (Remove key) h = (RemoveRequest key, refl)
+requested past c job Listconfigs h = (ListConfigs, refl)
+requested past c job Getcost h = (GetCost, refl)
+requested past c job Getavailability h = (GetAvailability, refl)
+requested past c job Getinfo h = (GetInfo, refl)
+requested past c job (Whereis key) h = (WhereIs key, refl)
+requested past c job (Value value) h = absurd cc
+requested past c job (Creds user password) h = absurd cc
+requested past c job (HostError text) h = absurd cc
 
 askable_test : (q : HostMessage) → IsAskable q → is_askable q ≡ true
-askable_test (AskExtensions names) h = refl
-askable_test Prepare h = refl
+askable_test (Transfer store key file) h = h.1.0
 askable_test (Checkpresent key) h = h
+askable_test (Remove key) h = h
+askable_test (Whereis key) h = h
+askable_test (Creds user password) h = h.0
+askable_test q h = refl
 
 ask_chosen : (o : Opening) (past : List Entry) (by child job task : ℕ) (line : List ℕ) (r : Option HostMessage)
     → host_reading (addressed past child line).1 ≡ r → is_started past child ≡ true → is_ended past child ≡ false → is_mute past child ≡ false
@@ -113,6 +129,18 @@ lost_chosen o past by child task s g may =
     let request : (is_started past child && may_ask past by task child && is_in_turn past child (next_job past child) q && is_askable q) ≡ true = rw (s, may, r.1, r.2) refl in
     (AskEvent child task r.0, rw (request, g) refl)
 
+-- ---- an end
+
+stop_chosen : (o : Opening) (past : List Entry) (by child : ℕ) (why : Why) → is_started past child ≡ true → is_ended past child ≡ false
+    → may_end past child why ≡ true → Appends o past by (End child why)
+stop_chosen o past by child why s e may = (Stop child why, rw (s, may, e) refl)
+
+-- at a full journal by a line, and else by a stop
+end_chosen : (o : Opening) (past : List Entry) (by child : ℕ) (why : Why) → is_started past child ≡ true → is_ended past child ≡ false
+    → may_stop past child why ≡ true → Appends o past by (End child why)
+end_chosen o past by child Full s e may = (GotEvent child [], rw (s, e, may) refl)
+end_chosen o past by child why s e may = stop_chosen o past by child why s e may
+
 -- ---- each kind of entry
 
 pub chosen : (o : Opening) (past : List Entry) (by : ℕ) (w : What) → may_come o past by w ≡ true → Appends o past by w
@@ -141,13 +169,14 @@ chosen o past by (Put child job line) h = absurd cc
 chosen o past by (Sent child) h = (SentEvent child, rw (is_not (is_empty (unsent past child)) h) refl)
 chosen o past by (Mute child) h = (MuteEvent child, rw h refl)
 chosen o past by (Got child line) h =
-    let t = both (is_live past child) (not (has_newline line)) h in
-    let l = live past child t.0 in
-    (GotEvent child line, rw (l.0, is_not (has_newline line) t.1, l.1) refl)
+    let t = both (is_live past child && not (has_newline line)) (not (is_full past)) h in
+    let u = both (is_live past child) (not (has_newline line)) t.0 in
+    let l = live past child u.0 in
+    (GotEvent child line, rw (l.0, is_not (has_newline line) u.1, l.1, is_not (is_full past) t.1) refl)
 chosen o past by (End child why) h =
     let t = both (is_live past child) (may_stop past child why) h in
     let l = live past child t.0 in
-    (Stop child why, rw (l.0, t.1, l.1) refl)
+    end_chosen o past by child why l.0 l.1 t.1
 chosen o past by (Settled child job verdict) h = absurd cc
 chosen o past by (Lost child task) h =
     let t = both (is_started past child && (is_ended past child || is_mute past child)) (may_ask past by task child) h in

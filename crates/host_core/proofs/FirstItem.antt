@@ -1,25 +1,16 @@
--- What a job's part begins with, and what was said in an open job.
+-- What a job's part begins with.
 use Rattle.std.proofs.Common.{◌≡◌, ◌∙◌, ℕ, suc, ◌+◌, List, [], ◌∷◌, ◌++◌, refl, sym, ap, subst, Bool, true, false, not, cond, Option, Some, None, length, take, append-nil, append_assoc, arith}
-use Rattle.std.specs.Prelude.{◌==◌, ◌&&◌, slice_get, option_and_then}
+use Rattle.std.specs.Prelude.{◌==◌, ◌&&◌, slice_get}
 use Rattle.std.specs.List.{prefix_len, list_any, cons_option}
 use Rattle.std.proofs.lemmas.List.Folds.{list_any-append}
-use Rattle.annex_model.specs.Messages.{RemoteMessage, HostMessage, host_reading}
-use Rattle.annex_model.specs.Talks.{Item, Remote, said}
-use Rattle.annex_model.specs.declared.verdict.Verdict.{Verdict}
-use Rattle.journal_model.specs.declared.opening.Opening.{Opening}
+use Rattle.annex_model.specs.Talks.{Item, Remote}
 use Rattle.journal_model.specs.declared.entry.What.{What}
 use Rattle.journal_model.specs.declared.entry.What.TheVariants.{Claim, Start, NoStart, Ask, Put, Sent, Mute, Got, End, Verdict as Settled, Lost, Answer as Answered}
 use Rattle.journal_model.specs.declared.entry.Entry.{Entry}
-use Rattle.journal_model.specs.Journal.{asks, asked_jobs, is_open, addressed, verdict_of}
-use Rattle.journal_model.specs.Parts.{item_of, part_from, part, request_in, is_for, ends_at}
-use Rattle.journal_model.specs.Due.{hearing_of, replies_at}
-use Rattle.journal_model.specs.Legality.{Legal}
-use Rattle.journal_model.specs.Projection.{Fits}
-use Rattle.journal_model.proofs.Looks.{unasked_closed, open_unsettled, settled_none, each_of-append, is_asked}
-use Rattle.journal_model.proofs.Projecting.{parts_fit}
-use Rattle.talk_serial.specs.Hearings.{heard, heard_as}
-use Rattle.talk_serial.proofs.Hearing.{nothing_said}
-use Rattle.host_core.specs.Moves.{is_hosts, hosts_line, first_text, HearsAlike}
+use Rattle.journal_model.specs.Journal.{asks, asked_jobs, is_open, addressed}
+use Rattle.journal_model.specs.Parts.{item_of, part_from, part, is_for, ends_at}
+use Rattle.journal_model.proofs.Looks.{unasked_closed, each_of-append, is_asked}
+use Rattle.host_core.specs.Moves.{is_hosts, hosts_line, first_text}
 
 -- the text of the entry, where it stands behind before
 abbrev text_of : ℕ → List Entry → Option Entry → Option (List ℕ)
@@ -45,7 +36,7 @@ still_unasked c j past e u h =
     ∙ (rw u (asks_other c j e.what h))
 
 -- and adds nothing to its part
-adds_none : (c j : ℕ) (past : List Entry) (w : What) (rest : List Entry) → is_asked past c j ≡ false → is_hosts c j w ≡ false → item_of c j past w rest ≡ None
+pub adds_none : (c j : ℕ) (past : List Entry) (w : What) (rest : List Entry) → is_asked past c j ≡ false → is_hosts c j w ≡ false → item_of c j past w rest ≡ None
 adds_none c j past (Ask child job task line) rest u h = rw h refl
 adds_none c j past (Put child job line) rest u h = rw h refl
 adds_none c j past (Got child line) rest u h =
@@ -114,30 +105,3 @@ pub first_none_at : (past : List Entry) (c j n : ℕ) → n ≡ len c j past →
 first_none_at past c j n h =
     let P : ℕ → Type 0 = λ k. None ≡ slice_get past k → None ≡ first_text (part past c j) in
     subst P (sym h) (first_none past c j)
-
--- ---- an open job
-
-silent : (replies : ℕ → List (List ℕ)) (p : List Item) (v : Option Verdict) → Fits replies p v → v ≡ None → said p ≡ []
-silent replies [] v f e = refl
-silent replies (i ∷ is) None f e = nothing_said f.0 (said (i ∷ is)) f.3.talking.waits
-silent replies (i ∷ is) (Some v) f e = absurd cc
-
--- nothing was said in it yet
-pub open_silent : (o : Opening) (past : List Entry) (c j : ℕ) → Legal o past → is_open past c j ≡ true → said (part past c j) ≡ []
-open_silent o past c j legal is =
-    silent (replies_at o past) (part past c j) (verdict_of past c j) (parts_fit o past legal c j) (settled_none past c j (open_unsettled past c j is))
-
-asked_in : (p : List Item) → request_in p ≡ option_and_then host_reading (first_text p)
-asked_in [] = refl
-asked_in (i ∷ is) = refl
-
--- a talk about a request like the one that was asked hears what the part does
-pub heard_in : (o : Opening) (past : List Entry) (c j : ℕ) (m : RemoteMessage) (text : List ℕ) (q r : HostMessage)
-    → Legal o past → is_open past c j ≡ true → Some text ≡ first_text (part past c j) → Some q ≡ host_reading text → HearsAlike r q
-    → heard r [] m ≡ heard_as (hearing_of (request_in (part past c j)) (said (part past c j) ++ Some m ∷ []))
-heard_in o past c j m text q r legal is first reads alike =
-    let asked : request_in (part past c j) ≡ Some q =
-    asked_in (part past c j) ∙ ap (option_and_then host_reading) (sym first) ∙ sym reads in
-    ap heard_as (alike (Some m ∷ []))
-    ∙ sym (ap (λ (ms : List (Option RemoteMessage)). heard_as (hearing_of (Some q) (ms ++ Some m ∷ []))) (open_silent o past c j legal is))
-    ∙ sym (ap (λ (p : Option HostMessage). heard_as (hearing_of p (said (part past c j) ++ Some m ∷ []))) asked)

@@ -2,6 +2,8 @@ pub mod Firsts
 pub mod Parted
 pub mod Written
 pub mod FirstItem
+pub mod Replaying
+pub mod Opened
 pub mod Wiring
 pub mod Stepping
 pub mod Choosing

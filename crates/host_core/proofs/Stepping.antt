@@ -3,6 +3,7 @@ use Rattle.std.proofs.Common.{◌≡◌, ℕ, List, ◌++◌, ◌+◌, ◌<◌, 
 use Rattle.std.specs.Prelude.{◌&&◌, ◌||◌, ◌==◌, ◌^◌, nat_lt}
 use Rattle.std.proofs.lemmas.Bool.Decides.{nat_tests}
 use Rattle.annex_model.specs.declared.verdict.Why.{Why}
+use Rattle.annex_model.specs.declared.verdict.Why.TheVariants.{Full}
 use Rattle.annex_model.specs.Lines.{has_newline}
 use Rattle.annex_model.specs.Messages.{HostMessage, host_line, host_reading}
 use Rattle.journal_model.specs.declared.answer.Answer.{Answer}
@@ -10,14 +11,14 @@ use Rattle.journal_model.specs.declared.entry.What.{What}
 use Rattle.journal_model.specs.declared.entry.What.TheVariants.{Claim, Start, NoStart, Ask, Sent, Mute, Got, End, Lost, Answer as Answered}
 use Rattle.journal_model.specs.declared.entry.Entry.{Entry}
 use Rattle.journal_model.specs.declared.opening.Opening.{Opening}
-use Rattle.journal_model.specs.Journal.{is_started, is_ended, is_mute, is_live, unsent, addressed, on_wire, verdict_of}
+use Rattle.journal_model.specs.Journal.{is_started, is_ended, is_mute, is_live, unsent, addressed, on_wire, verdict_of, is_full}
 use Rattle.journal_model.specs.Legality.{Legal, is_empty, count, is_start, least_free, is_prepared, is_in_turn, may_ask, may_stop, may_come, is_number, asks_in_turn}
 use Rattle.journal_model.proofs.Growing.{Legal-group}
 use Rattle.journal_model.proofs.Looks.{same, both}
 use Rattle.host_core.specs.declared.event.Event.{Event}
 use Rattle.host_core.specs.declared.event.Event.TheVariants.{Claim as ClaimEvent, Start as StartEvent, NoStart as NoStartEvent, Ask as AskEvent, Lookup, Look, Fetch, Got as GotEvent, Stop, Sent as SentEvent, Mute as MuteEvent, Answer as AnswerEvent}
-use Rattle.host_core.specs.declared.event.Reply.TheVariants.{Child, Job, Over, Done}
-use Rattle.host_core.specs.Steps.{Step, step_of, group_of, append, odd, only, gone, is_gone, claim, next_job, may_request, may_answer, is_askable, is_asked, settled_so, next_line, Comes}
+use Rattle.host_core.specs.declared.event.Reply.TheVariants.{Child, Job, Over, Done, Gone}
+use Rattle.host_core.specs.Steps.{Step, step_of, group_of, append, odd, only, gone, is_gone, claim, next_job, may_request, may_answer, may_end, is_full_why, is_askable, is_asked, settled_so, next_line, Comes}
 use Rattle.talk_serial.specs.Requests.{message_of}
 use Rattle.host_core.proofs.Wiring.{wired_turn, few_jobs}
 
@@ -96,24 +97,28 @@ fetches_keep o past by child true true = inl refl
 fetches_keep o past by child true false = inl refl
 fetches_keep o past by child false b = inl refl
 
-gots_keep : (o : Opening) (past : List Entry) (by child : ℕ) (line : List ℕ) (started newline ended : Bool)
-    → is_started past child ≡ started → has_newline line ≡ newline → is_ended past child ≡ ended
-    → Comes o past by (cond (not started || newline) odd (cond ended (only (gone past child)) (append o past by (Got child line) Done)))
-gots_keep o past by child line false newline ended s n e = inl refl
-gots_keep o past by child line true true ended s n e = inl refl
-gots_keep o past by child line true false true s n e = inl refl
-gots_keep o past by child line true false false s n e =
-    let may : ((is_started past child && not (is_ended past child)) && not (has_newline line)) ≡ true = rw (s, n, e) refl in
+gots_keep : (o : Opening) (past : List Entry) (by child : ℕ) (line : List ℕ) (started newline ended full : Bool)
+    → is_started past child ≡ started → has_newline line ≡ newline → is_ended past child ≡ ended → is_full past ≡ full
+    → Comes o past by (cond (not started || newline) odd (cond ended (only (gone past child)) (cond full (append o past by (End child Full) (Gone (Some Full))) (append o past by (Got child line) Done))))
+gots_keep o past by child line false newline ended full s n e f = inl refl
+gots_keep o past by child line true true ended full s n e f = inl refl
+gots_keep o past by child line true false true full s n e f = inl refl
+gots_keep o past by child line true false false true s n e f =
+    let may : ((is_started past child && not (is_ended past child)) && is_full past) ≡ true = rw (s, e, f) refl in
+    inr (End child Full, may, refl)
+gots_keep o past by child line true false false false s n e f =
+    let may : ((is_started past child && not (is_ended past child)) && not (has_newline line) && not (is_full past)) ≡ true = rw (s, n, e, f) refl in
     inr (Got child line, may, refl)
 
 stops_keep : (o : Opening) (past : List Entry) (by child : ℕ) (why : Why) (started told ended : Bool)
-    → is_started past child ≡ started → may_stop past child why ≡ told → is_ended past child ≡ ended
+    → is_started past child ≡ started → may_end past child why ≡ told → is_ended past child ≡ ended
     → Comes o past by (cond (not (started && told)) odd (cond ended (only (gone past child)) (append o past by (End child why) Done)))
 stops_keep o past by child why false told ended s t e = inl refl
 stops_keep o past by child why true false ended s t e = inl refl
 stops_keep o past by child why true true true s t e = inl refl
 stops_keep o past by child why true true false s t e =
-    let may : ((is_started past child && not (is_ended past child)) && may_stop past child why) ≡ true = rw (s, t, e) refl in
+    let stop : may_stop past child why ≡ true = (both (not (is_full_why why)) (may_stop past child why) t).1 in
+    let may : ((is_started past child && not (is_ended past child)) && may_stop past child why) ≡ true = rw (s, stop, e) refl in
     inr (End child why, may, refl)
 
 sents_keep : (o : Opening) (past : List Entry) (by child : ℕ) (b : Bool) → is_empty (unsent past child) ≡ b → Comes o past by (cond b odd (append o past by (Sent child) Done))
@@ -140,8 +145,8 @@ step_comes o past by (AskEvent child task request) few =
 step_comes o past by (Lookup child job) few = lookups_keep o past by child job (is_asked past child job)
 step_comes o past by (Look child) few = looks_keep o past by child (is_started past child) (is_gone past child)
 step_comes o past by (Fetch child) few = fetches_keep o past by child (is_started past child) (is_gone past child)
-step_comes o past by (GotEvent child line) few = gots_keep o past by child line (is_started past child) (has_newline line) (is_ended past child) refl refl refl
-step_comes o past by (Stop child why) few = stops_keep o past by child why (is_started past child) (may_stop past child why) (is_ended past child) refl refl refl
+step_comes o past by (GotEvent child line) few = gots_keep o past by child line (is_started past child) (has_newline line) (is_ended past child) (is_full past) refl refl refl refl
+step_comes o past by (Stop child why) few = stops_keep o past by child why (is_started past child) (may_end past child why) (is_ended past child) refl refl refl
 step_comes o past by (SentEvent child) few = sents_keep o past by child (is_empty (unsent past child)) refl
 step_comes o past by (MuteEvent child) few = mutes_keep o past by child (is_started past child && not (is_mute past child)) refl
 step_comes o past by (AnswerEvent task answer) few = answers_keep o past by task answer (may_answer past by task) refl

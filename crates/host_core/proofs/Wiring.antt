@@ -6,7 +6,7 @@ use Rattle.std.proofs.lemmas.Bool.Decides.{nat_tests}
 use Rattle.std.proofs.lemmas.Fmt.{decimal_by_steps, decimal_nonempty, length-decimal-le}
 use Rattle.std.proofs.lemmas.Slice.Eq.{bytes_eq-Decides}
 use Rattle.ann_key.specs.Numbers.{is_digit, value_of, is_number}
-use Rattle.annex_model.specs.Messages.{HostMessage, AskExtensions, Prepare, Checkpresent, host_line, host_reading, IsAskable}
+use Rattle.annex_model.specs.Messages.{HostMessage, AskExtensions, Prepare, Initremote, Transfer, Checkpresent, Remove, Listconfigs, Getcost, Getavailability, Getinfo, Whereis, Value, Creds, HostError, host_line, host_reading, IsAskable}
 use Rattle.annex_model.specs.Tags.{untag, tagged_line, Tagged}
 use Rattle.annex_model.proofs.Readings.{canonical_read}
 use Rattle.annex_model.proofs.TagReadings.{read_of_tagged}
@@ -79,7 +79,18 @@ untagged j message h =
 pub askable_is : (q : HostMessage) → is_askable q ≡ true → IsAskable q
 askable_is (AskExtensions names) h = tt
 askable_is Prepare h = tt
+askable_is Initremote h = tt
+askable_is (Transfer store key file) h = (tt, (h, tt))
 askable_is (Checkpresent key) h = h
+askable_is (Remove key) h = h
+askable_is Listconfigs h = tt
+askable_is Getcost h = tt
+askable_is Getavailability h = tt
+askable_is Getinfo h = tt
+askable_is (Whereis key) h = h
+askable_is (Value value) h = tt
+askable_is (Creds user password) h = (h, tt)
+askable_is (HostError text) h = tt
 
 pub wired_text : (past : List Entry) (c j : ℕ) (message : List ℕ) → j < 2 ^ 64 → (addressed past c (on_wire past c j message)).1 ≡ message
 wired_text past c j message h = go (is_tagged past c)

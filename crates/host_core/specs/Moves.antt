@@ -1,16 +1,19 @@
 -- Words for the core's code: an entry's due entries in short, and what a job's part begins with.
-use Rattle.std.specs.Prelude.{ℕ, ◌≡◌, ◌==◌, ◌&&◌, ◌||◌, not, Bool, false, if◌then◌else◌, List, [], ◌∷◌, length, Option, Some, None, map, filter, option_and_then, is_some, take, slice_get}
-use Rattle.annex_model.specs.declared.verdict.Why.TheVariants.{Version as VersionFault}
+use Rattle.std.specs.Prelude.{ℕ, ◌≡◌, ◌==◌, ◌&&◌, ◌||◌, not, Bool, true, false, if◌then◌else◌, List, [], ◌∷◌, length, Option, Some, None, map, filter, filter_map, option_and_then, is_some, take, slice_get}
+use Rattle.std.specs.List.{range_with_len}
+use Rattle.annex_model.specs.declared.verdict.Why.TheVariants.{Error as ErrorAt, Version as VersionFault}
 use Rattle.annex_model.specs.declared.verdict.Verdict.{Verdict}
 use Rattle.annex_model.specs.declared.verdict.Verdict.TheVariants.{Unsent}
-use Rattle.annex_model.specs.Messages.{RemoteMessage, HostMessage, remote_reading}
-use Rattle.annex_model.specs.Talks.{Item}
+use Rattle.annex_model.specs.Messages.{RemoteMessage, HostMessage, Value, Creds, HostError, remote_reading}
+use Rattle.annex_model.specs.Talks.{Item, Shape, OneLine, Configs, Infos, shape_of, is_remote, spells_aside, said}
 use Rattle.journal_model.specs.declared.entry.What.{What}
 use Rattle.journal_model.specs.declared.entry.What.TheVariants.{Ask, Put, Verdict as Settled}
 use Rattle.journal_model.specs.declared.entry.Entry.{Entry}
-use Rattle.journal_model.specs.Journal.{asks, each_of, writes, is_settled, open_jobs, is_unsent}
+use Rattle.journal_model.specs.declared.opening.Opening.{Opening}
+use Rattle.journal_model.specs.Journal.{asks, each_of, writes, is_settled, open_jobs, is_unsent, has_spoken}
+use Rattle.journal_model.specs.Parts.{item_at}
 use Rattle.journal_model.specs.Room.{room_for}
-use Rattle.journal_model.specs.Due.{hearing_of, ending, ended_jobs, made_by, is_version_one}
+use Rattle.journal_model.specs.Due.{hearing_of, ending, ended_jobs, made_by, is_version_one, is_error, after_line}
 use Rattle.host_core.specs.declared.due.Due.{Due}
 use Rattle.host_core.specs.declared.due.Due.TheVariants.{Nothing, Settle, EndOf, EndedJobs, UnsentJobs}
 use Rattle.host_core.specs.declared.moves.Move.{Move}
@@ -67,9 +70,57 @@ first_text (i ∷ rest) = Some i.text
 abbrev pub first_due : List Entry → ℕ → List ℕ → List What
 first_due past c line = if is_version_one (remote_reading line) then [] else ending past c (VersionFault (length past))
 
+-- what a child's ERROR makes due
+abbrev pub error_due : List Entry → ℕ → List What
+error_due past c = ending past c (ErrorAt (length past))
+
+-- what the line makes due, which is for that job and has that text
+abbrev pub due_from : Opening → List Entry → ℕ → List ℕ → Option ℕ × List ℕ → List What
+due_from o past c line to =
+    if is_error (remote_reading to.1) then error_due past c
+    else if not (has_spoken past c) then first_due past c line
+    else after_line o past c to.0 (remote_reading to.1)
+
+-- ---- the talk about an open job
+
+-- the message asks something
+abbrev pub is_request : HostMessage → Bool
+is_request (Value value) = false
+is_request (Creds user password) = false
+is_request (HostError text) = false
+is_request q = true
+
 -- the same is an answer to both
 abbrev pub HearsAlike : HostMessage → HostMessage → Type 0
 HearsAlike q p = (ms : List (Option RemoteMessage)) → hearing_of (Some q) ms ≡ hearing_of (Some p) ms
+
+-- and the same begins one
+pub record Alike (q p : HostMessage) : Type 0 where
+  pub hears : HearsAlike q p
+  pub shape : shape_of q ≡ shape_of p
+
+abbrev pub AlikeTo : HostMessage → Option HostMessage → Type 0
+AlikeTo q None = ⊥
+AlikeTo q (Some p) = Alike q p
+
+-- answers of the shape have several lines
+abbrev pub takes_lines : Shape → Bool
+takes_lines OneLine = false
+takes_lines Configs = true
+takes_lines Infos = true
+
+-- the text of the item, where the remote says it
+abbrev pub remote_text : Option Item → Option (List ℕ)
+remote_text None = None
+remote_text (Some i) = if is_remote i.side then Some i.text else None
+
+-- what is said by it, which is nothing where it is an aside
+abbrev pub said_by : Option RemoteMessage → List (Option RemoteMessage)
+said_by m = if spells_aside m then [] else m ∷ []
+
+-- what is said in the job at the first n places
+abbrev pub said_before : List Entry → ℕ → ℕ → ℕ → List (Option RemoteMessage)
+said_before journal c j n = said (filter_map (item_at journal c j) (range_with_len 0 n))
 
 -- ---- the jobs that an end or a mute settles, entry by entry
 

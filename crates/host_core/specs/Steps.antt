@@ -1,14 +1,16 @@
 -- What one event appends to the journal, and what is answered.
 use Rattle.std.specs.Prelude.{ℕ, ◌⊎◌, ◌≡◌, ◌+◌, ◌==◌, ◌&&◌, ◌||◌, not, nat_lt, Bool, true, false, if◌then◌else◌, List, [], ◌∷◌, ◌++◌, length, Option, Some, None, filter, option_map}
 use Rattle.std.specs.List.{list_any, list_all}
+use Rattle.annex_model.specs.declared.verdict.Why.{Why}
+use Rattle.annex_model.specs.declared.verdict.Why.TheVariants.{Full}
 use Rattle.annex_model.specs.declared.verdict.Verdict.{Verdict}
 use Rattle.annex_model.specs.Lines.{has_newline}
-use Rattle.annex_model.specs.Messages.{HostMessage, AskExtensions, Prepare, Checkpresent, host_line, is_sent_key}
+use Rattle.annex_model.specs.Messages.{HostMessage, AskExtensions, Prepare, Initremote, Transfer, Checkpresent, Remove, Listconfigs, Getcost, Getavailability, Getinfo, Whereis, Value, Creds, HostError, host_line, is_sent_key, is_word}
 use Rattle.journal_model.specs.declared.entry.What.{What}
 use Rattle.journal_model.specs.declared.entry.What.TheVariants.{Claim, Start, NoStart, Ask, Sent, Mute, Got, End, Lost, Answer as Answered}
 use Rattle.journal_model.specs.declared.entry.Entry.{Entry}
 use Rattle.journal_model.specs.declared.opening.Opening.{Opening}
-use Rattle.journal_model.specs.Journal.{is_started, is_ended, is_mute, asked_jobs, verdict_of, unsent, on_wire, why_of, writes}
+use Rattle.journal_model.specs.Journal.{is_started, is_ended, is_mute, asked_jobs, verdict_of, unsent, is_full, on_wire, why_of, writes}
 use Rattle.journal_model.specs.Due.{due_after}
 use Rattle.journal_model.specs.Legality.{may_come, is_empty, count, is_start, is_claimed, numbers_of, least_free, is_prepared, is_in_turn, may_ask, may_stop, is_claimed_by, is_busy, has_open_job}
 use Rattle.talk_serial.specs.Requests.{message_of}
@@ -54,7 +56,18 @@ is_asked past child job = list_any (λ k. k == job) (asked_jobs past child)
 abbrev pub is_askable : HostMessage → Bool
 is_askable (AskExtensions names) = true
 is_askable Prepare = true
+is_askable Initremote = true
+is_askable (Transfer store key file) = is_sent_key key
 is_askable (Checkpresent key) = is_sent_key key
+is_askable (Remove key) = is_sent_key key
+is_askable Listconfigs = true
+is_askable Getcost = true
+is_askable Getavailability = true
+is_askable Getinfo = true
+is_askable (Whereis key) = is_sent_key key
+is_askable (Value value) = true
+is_askable (Creds user password) = is_word user
+is_askable (HostError text) = true
 
 abbrev pub next_job : List Entry → ℕ → ℕ
 next_job past child = length (asked_jobs past child)
@@ -63,6 +76,14 @@ next_job past child = length (asked_jobs past child)
 abbrev pub may_request : List Entry → ℕ → ℕ → ℕ → HostMessage → Bool
 may_request past by task child q =
     is_started past child && may_ask past by task child && is_in_turn past child (next_job past child) q && is_askable q
+
+abbrev pub is_full_why : Why → Bool
+is_full_why Full = true
+is_full_why _ = false
+
+-- an event may end the child so. A full journal ends it only in place of its line
+abbrev pub may_end : List Entry → ℕ → Why → Bool
+may_end past child why = not (is_full_why why) && may_stop past child why
 
 abbrev pub may_answer : List Entry → ℕ → ℕ → Bool
 may_answer past by task = is_claimed_by past by task && is_busy past task && not (has_open_job past task)
@@ -144,9 +165,10 @@ step_of o past by (Fetch child) =
 step_of o past by (GotEvent child line) =
     if not (is_started past child) || has_newline line then odd
     else if is_ended past child then only (gone past child)
+    else if is_full past then append o past by (End child Full) (Gone (Some Full))
     else append o past by (Got child line) Done
 step_of o past by (Stop child why) =
-    if not (is_started past child && may_stop past child why) then odd
+    if not (is_started past child && may_end past child why) then odd
     else if is_ended past child then only (gone past child)
     else append o past by (End child why) Done
 step_of o past by (SentEvent child) = if is_empty (unsent past child) then odd else append o past by (Sent child) Done

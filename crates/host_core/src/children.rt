@@ -98,7 +98,8 @@ fn end_why(what: &What, c: u32) -> Option<Why>
     }
 }
 
-pub(super) fn is_started(entries: &[Entry], child: u32) -> bool
+/// Whether the child was started.
+pub fn is_started(entries: &[Entry], child: u32) -> bool
     ensures { result ≡ is_started entries.now child }
 {
     entries.iter().any(|e| starts(&e.what, child))
@@ -110,7 +111,8 @@ pub(super) fn is_ended(entries: &[Entry], child: u32) -> bool
     entries.iter().any(|e| ends(&e.what, child))
 }
 
-pub(super) fn is_mute(entries: &[Entry], child: u32) -> bool
+/// Whether a write to the child failed.
+pub fn is_mute(entries: &[Entry], child: u32) -> bool
     ensures { result ≡ is_mute entries.now child }
 {
     entries.iter().any(|e| mutes(&e.what, child))
@@ -205,7 +207,7 @@ fn find_verdict(entries: &[Entry], child: u32, job: u64) -> Option<&Entry>
 }
 
 /// How the job was settled, if it was.
-pub(super) fn verdict_of(entries: &[Entry], child: u32, job: u64) -> Option<Verdict>
+pub fn verdict_of(entries: &[Entry], child: u32, job: u64) -> Option<Verdict>
     ensures { result ≡ verdict_of entries.now child job }
 {
     match find_verdict(entries, child, job) {
@@ -221,7 +223,7 @@ fn find_end(entries: &[Entry], child: u32) -> Option<&Entry>
 }
 
 /// Why the child ended, if it did.
-pub(super) fn why_of(entries: &[Entry], child: u32) -> Option<Why>
+pub fn why_of(entries: &[Entry], child: u32) -> Option<Why>
     ensures { result ≡ why_of entries.now child }
 {
     match find_end(entries, child) {

@@ -1,23 +1,22 @@
 // What a line that was got makes due.
-ghost use Rattle.std.specs.Prelude.{◌≡◌, ◌≤◌, not, length, Option, Some, None, IfOk, option_map, option_copied, option_and_then, take, slice_get, true};
-ghost use Rattle.std.specs.List.{prefix_len};
-ghost use Rattle.annex_model.specs.Messages.{remote_reading, host_reading};
-ghost use Rattle.annex_model.specs.Talks.{Item};
-ghost use Rattle.wire_msg.specs.Shown.{remote_shown, host_shown};
-ghost use Rattle.talk_serial.specs.Requests.{message_of};
+ghost use Rattle.std.specs.Prelude.{◌≡◌, length, Some, IfOk};
+ghost use Rattle.annex_model.specs.Messages.{remote_reading};
+ghost use Rattle.annex_model.specs.Talks.{is_talk};
+ghost use Rattle.wire_msg.specs.Shown.{remote_shown};
 ghost use Rattle.talk_serial.specs.Hearings.{heard_as};
 ghost use Rattle.journal_model.specs.Journal.{is_open, addressed};
-ghost use Rattle.journal_model.specs.Parts.{part, request_in};
-ghost use Rattle.journal_model.specs.Due.{due_by_got, after_line, after_message, after_hearing, foul, verdict_at, hearing};
+ghost use Rattle.journal_model.specs.Parts.{part};
+ghost use Rattle.journal_model.specs.Due.{Hearing, due_by_got, after_line, after_message, after_late, after_hearing, was_open, is_passed, foul, verdict_at, hearing};
 ghost use Rattle.journal_model.specs.Legality.{Legal};
-ghost use Rattle.host_core.specs.Moves.{dues, is_hosts, hosts_line, first_text, first_due, HearsAlike};
+ghost use Rattle.host_core.specs.Moves.{dues, first_due, error_due, due_from};
 
+use crate::talks::hear;
 use crate::{children, lines};
-use ann_key::{Key, NoMemory};
-use journal_model::{Entry, Final, Opening, Verdict, What, Why};
+use ann_key::NoMemory;
+use journal_model::{Entry, Final, Opening, Verdict, Why};
 use std::alloc::Global;
-use talk_serial::{Heard, Request, Talk};
-use wire_msg::{HostMsg, RemoteMsg, read_host, read_remote};
+use talk_serial::Heard;
+use wire_msg::{RemoteMsg, read_remote};
 
 /// What is due behind an entry, in few words.
 #[derive(Clone, Copy)]
@@ -45,101 +44,6 @@ pub enum Due {
     },
 }
 
-/// Whether the line of the entry is the host's, in this job.
-fn is_hosts(what: &What, c: u32, j: u64) -> bool
-    ensures { result ≡ is_hosts c j what.now }
-{
-    match what {
-        What::Ask { child, job, .. } => *child == c && *job == j,
-        What::Put { child, job, .. } => *child == c && *job == j,
-        _ => false,
-    }
-}
-
-/// The line that the entry writes.
-pub(super) fn hosts_line(what: &What) -> &[u8]
-    ensures { result.now ≡ hosts_line what.now }
-{
-    match what {
-        What::Ask { line, .. } => line.view(),
-        What::Put { line, .. } => line.view(),
-        _ => &[],
-    }
-}
-
-/// How many entries stand before the job's first.
-fn before_job(entries: &[Entry], child: u32, job: u64) -> usize
-    ensures value { result ≡ prefix_len (λ e. not (is_hosts child job e.what)) entries.now }
-    ensures bound { result ≤ length entries.now }
-{
-    entries
-        .iter()
-        .take_while(|e| !is_hosts(&e.what, child, job))
-        .count()
-}
-
-pub(super) fn entry_at(entries: &[Entry], at: usize) -> Option<&Entry>
-    ensures { option_copied result ≡ slice_get entries.now at }
-{
-    entries.get(at)
-}
-
-/// The text that the job's part begins with.
-fn first_text(entries: &[Entry], child: u32, job: u64) -> Option<&[u8]>
-    ensures { option_copied result ≡ first_text (part entries.now child job) }
-{
-    let at = before_job(entries, child, job);
-    match entry_at(entries, at) {
-        Some(e) => Some(lines::addressed(&entries[..at], child, hosts_line(&e.what)).1),
-        None => None,
-    }
-}
-
-fn is_offer(names: &[u8]) -> bool {
-    names == b"INFO GETGITREMOTENAME ASYNC".as_slice()
-}
-
-/// A request to which the same is an answer as to the message.
-fn request_like(alloc: Global, message: &HostMsg<'_>) -> Result<Request, NoMemory>
-    ensures { IfOk result (λ r. HearsAlike (message_of r) (host_shown message.now)) }
-{
-    match message {
-        HostMsg::Extensions(names) => Ok(Request::Extensions {
-            offer: is_offer(names),
-        }),
-        HostMsg::Prepare => Ok(Request::Prepare),
-        HostMsg::Checkpresent(key) => {
-            let key = Key::copy(alloc, *key)?;
-            Ok(Request::CheckPresent { key })
-        }
-    }
-}
-
-/// What the message is to the open job. Nothing was said in it before, since each answer is one line.
-fn hear(
-    alloc: Global,
-    opening: &Opening,
-    entries: &[Entry],
-    child: u32,
-    job: u64,
-    message: &RemoteMsg<'_>,
-) -> Result<Heard, NoMemory>
-    requires legal { Legal opening.now entries.now }
-    requires open { is_open entries.now child job ≡ true }
-    ensures { IfOk result (λ h. h ≡ heard_as (hearing (part entries.now child job) (remote_shown message.now))) }
-{
-    let Some(text) = first_text(entries, child, job) else {
-        return Ok(Heard::Foul);
-    };
-    let Some(asked) = read_host(text) else {
-        return Ok(Heard::Foul);
-    };
-    let request = request_like(alloc, &asked)?;
-    let mut talk = Talk::ask(request);
-    let heard = talk.hear(message);
-    Ok(heard)
-}
-
 fn foul(entries: &[Entry], child: u32) -> Due
     ensures { dues entries.now result ≡ foul entries.now child }
 {
@@ -155,7 +59,77 @@ fn verdict_at(last: Final, at: u64) -> Verdict
 {
     match last {
         Final::Done => Verdict::Done { at },
+        Final::Failed => Verdict::Failed { at },
         Final::Absent => Verdict::Absent { at },
+        Final::Unknown => Verdict::Unknown { at },
+        Final::Unsupported => Verdict::Unsupported { at },
+    }
+}
+
+/// Whether the message asks for nothing and sets nothing.
+fn is_talk(message: &RemoteMsg<'_>) -> bool
+    ensures { result ≡ is_talk (remote_shown message.now) }
+{
+    matches!(
+        message,
+        RemoteMsg::Progress(_) | RemoteMsg::Debug(_) | RemoteMsg::Info(_)
+    )
+}
+
+/// Whether the job was open earlier. No tag names job 0.
+fn was_open(entries: &[Entry], child: u32, job: Option<u64>) -> bool
+    ensures { result ≡ was_open entries.now child job }
+{
+    match job {
+        Some(job) => job != 0 && children::is_asked(entries, child, job),
+        None => false,
+    }
+}
+
+/// Whether the message, which is for no open job, is passed over.
+fn is_passed(entries: &[Entry], child: u32, job: Option<u64>, message: &RemoteMsg<'_>) -> bool
+    ensures { result ≡ is_passed entries.now child job (remote_shown message.now) }
+{
+    is_talk(message) && (!lines::is_tagged(entries, child) || was_open(entries, child, job))
+}
+
+/// What is due behind a message that is for no open job.
+fn after_late(entries: &[Entry], child: u32, job: Option<u64>, message: &RemoteMsg<'_>) -> Due
+    ensures { dues entries.now result ≡ after_late entries.now child job (remote_shown message.now) }
+{
+    if is_passed(entries, child, job, message) {
+        Due::Nothing
+    } else {
+        foul(entries, child)
+    }
+}
+
+/// What is due behind a message that is so to an open job. An aside that asks or sets something can't be served.
+fn after_hearing(
+    opening: &Opening,
+    entries: &[Entry],
+    child: u32,
+    job: u64,
+    message: &RemoteMsg<'_>,
+    heard: Heard,
+) -> Due
+    ensures { (h : Hearing) → heard ≡ heard_as h → dues entries.now result ≡ after_hearing opening.now entries.now child job (remote_shown message.now) h }
+{
+    match heard {
+        Heard::Settled(last) => Due::Settle {
+            child,
+            job,
+            verdict: verdict_at(last, entries.len() as u64),
+        },
+        Heard::Part => Due::Nothing,
+        Heard::Aside => {
+            if is_talk(message) {
+                Due::Nothing
+            } else {
+                foul(entries, child)
+            }
+        }
+        Heard::Foul => foul(entries, child),
     }
 }
 
@@ -171,18 +145,10 @@ fn after_message(
     ensures { IfOk result (λ due. dues entries.now due ≡ after_message opening.now entries.now child (Some job) (remote_shown message.now)) }
 {
     if !children::is_open(entries, child, job) {
-        return Ok(foul(entries, child));
+        return Ok(after_late(entries, child, Some(job), message));
     }
-    let due = match hear(alloc, opening, entries, child, job, message)? {
-        Heard::Settled(last) => Due::Settle {
-            child,
-            job,
-            verdict: verdict_at(last, entries.len() as u64),
-        },
-        Heard::Foul => foul(entries, child),
-        Heard::Aside | Heard::Part => Due::Nothing,
-    };
-    Ok(due)
+    let heard = hear(alloc, opening, entries, child, job, message)?;
+    Ok(after_hearing(opening, entries, child, job, message, heard))
 }
 
 fn after_line(
@@ -200,27 +166,9 @@ fn after_line(
         return Ok(foul(entries, child));
     };
     let Some(job) = job else {
-        return Ok(foul(entries, child));
+        return Ok(after_late(entries, child, None, &message));
     };
     after_message(alloc, opening, entries, child, job, &message)
-}
-
-/// What the line makes due.
-pub(super) fn due_by_got(
-    alloc: Global,
-    opening: &Opening,
-    entries: &[Entry],
-    child: u32,
-    line: &[u8],
-) -> Result<Due, NoMemory>
-    requires { Legal opening.now entries.now }
-    ensures { IfOk result (λ due. dues entries.now due ≡ due_by_got opening.now entries.now child line.now) }
-{
-    if !children::has_spoken(entries, child) {
-        return Ok(first_line(entries, child, line));
-    }
-    let (job, text) = lines::addressed(entries, child, line);
-    after_line(alloc, opening, entries, child, job, text)
 }
 
 fn first_line(entries: &[Entry], child: u32, line: &[u8]) -> Due
@@ -234,4 +182,51 @@ fn first_line(entries: &[Entry], child: u32, line: &[u8]) -> Due
         child,
         why: Why::Version { at },
     }
+}
+
+fn error_line(entries: &[Entry], child: u32) -> Due
+    ensures { dues entries.now result ≡ error_due entries.now child }
+{
+    let at = entries.len() as u64;
+    Due::EndOf {
+        child,
+        why: Why::Error { at },
+    }
+}
+
+/// What the line makes due, which is for that job and has that text.
+fn due_from(
+    alloc: Global,
+    opening: &Opening,
+    entries: &[Entry],
+    child: u32,
+    line: &[u8],
+    job: Option<u64>,
+    text: &[u8],
+) -> Result<Due, NoMemory>
+    requires { Legal opening.now entries.now }
+    ensures { IfOk result (λ due. dues entries.now due ≡ due_from opening.now entries.now child line.now (job, text.now)) }
+{
+    if lines::is_error(text) {
+        return Ok(error_line(entries, child));
+    }
+    if !children::has_spoken(entries, child) {
+        return Ok(first_line(entries, child, line));
+    }
+    after_line(alloc, opening, entries, child, job, text)
+}
+
+/// What the line makes due.
+pub(super) fn due_by_got(
+    alloc: Global,
+    opening: &Opening,
+    entries: &[Entry],
+    child: u32,
+    line: &[u8],
+) -> Result<Due, NoMemory>
+    requires { Legal opening.now entries.now }
+    ensures { IfOk result (λ due. dues entries.now due ≡ due_by_got opening.now entries.now child line.now) }
+{
+    let (job, text) = lines::addressed(entries, child, line);
+    due_from(alloc, opening, entries, child, line, job, text)
 }

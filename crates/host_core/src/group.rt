@@ -6,7 +6,8 @@ ghost use Rattle.journal_model.specs.declared.entry.What.TheVariants.{Verdict as
 ghost use Rattle.journal_model.specs.Due.{made_by, ended_jobs, ending};
 ghost use Rattle.host_core.specs.Moves.{dues, group_made, first_room, due_job, due_jobs, job_at, verdicts_of, unsent_verdicts};
 
-use crate::due::{Due, entry_at};
+use crate::due::Due;
+use crate::talks::entry_at;
 use crate::{children, lines};
 use ann_key::NoMemory;
 use journal_model::{Entry, Verdict, What, Why};

@@ -9,10 +9,14 @@ pub mod laws;
 mod lines;
 mod machine;
 mod moves;
+mod talks;
 mod tasks;
 #[cfg(test)]
 mod tests;
 
+pub use children::{is_mute, is_started, verdict_of, why_of};
 pub use event::{Event, Reply};
 pub use journal_model::{Answer, Entry, Final, Identity, Journal, Opening, Verdict, What, Why};
+pub use lines::{is_prepared, line_at};
 pub use machine::Core;
+pub use talks::said_at;

@@ -1,23 +1,58 @@
 // What the lines of the journal say: the greeting, tags, and what is still to be written.
-ghost use Rattle.std.specs.Prelude.{◌≡◌, ◌==◌, ◌≤◌, ◌++◌, ◌∷◌, [], slice_get, filter, length, if◌then◌else◌, find, option_copied, option_map, IfOk, bytes_eq, codes, Some, drop};
+ghost use Rattle.std.specs.Prelude.{◌≡◌, ◌==◌, ◌≤◌, ◌++◌, ◌∷◌, [], slice_get, filter, length, if◌then◌else◌, find, option_copied, option_map, IfOk, bytes_eq, codes, Some, drop, nat_le};
 ghost use Rattle.std.specs.List.{list_any, slice_split};
 ghost use Rattle.annex_model.specs.Lines.{has_newline};
 ghost use Rattle.annex_model.specs.Messages.{remote_reading, host_line, is_sent_key, is_space, IsAskable};
 ghost use Rattle.annex_model.specs.Tags.{names_async, untag};
-ghost use Rattle.journal_model.specs.Journal.{each_of, first_of, line_at, is_tagged, accepts_async, addressed, by_tag, on_wire, got_lines, sends, writes, unsent, is_unsent, is_job, got_from};
-ghost use Rattle.journal_model.specs.Due.{is_version_one};
-ghost use Rattle.journal_model.specs.Legality.{said_version, is_prepared, is_greeted, is_in_turn, is_empty, may_ask, is_done, offered_names};
+ghost use Rattle.journal_model.specs.Journal.{each_of, first_of, line_at, is_tagged, accepts_async, addressed, by_tag, on_wire, got_lines, sends, writes, unsent, is_unsent, is_job, got_from, line_bytes, bytes_in, is_full};
+ghost use Rattle.journal_model.specs.Due.{is_version_one, is_error};
+ghost use Rattle.journal_model.specs.Legality.{said_version, is_prepared, is_greeted, is_in_turn, is_empty, may_ask, is_done, offered_names, is_text};
 ghost use Rattle.talk_serial.specs.Requests.{message_of, names_of};
 ghost use Rattle.host_core.specs.Steps.{is_askable, may_request, next_job, written_to, got_line, next_line};
 ghost use Rattle.host_core.specs.Moves.{is_written, hosts_line, next_reply};
 
-use crate::due::hosts_line;
+use crate::talks::hosts_line;
 use crate::{children, tasks};
 use ann_key::{Bytes, Key, NoMemory};
 use journal_model::{Entry, Verdict, What};
 use std::alloc::Global;
+use std::str;
 use talk_serial::Request;
 use wire_msg::{RemoteMsg, read_remote, tag, untag};
+
+/// How many bytes the entry's line has, where it has one.
+fn line_bytes(what: &What) -> usize
+    ensures { result ≡ line_bytes what.now }
+{
+    match what {
+        What::Ask { line, .. } => line.view().len(),
+        What::Put { line, .. } => line.view().len(),
+        What::Got { line, .. } => line.view().len(),
+        _ => 0,
+    }
+}
+
+/// Whether the lines of the entries have as many bytes as a journal may have.
+fn is_heavy(entries: &[Entry]) -> bool
+    ensures { result ≡ nat_le 1073741824 (bytes_in entries.now) }
+{
+    let mut left: usize = 1_073_741_824;
+    for e in entries {
+        let bytes = line_bytes(&e.what);
+        if left <= bytes {
+            return true;
+        }
+        left -= bytes;
+    }
+    false
+}
+
+/// Whether the journal takes no further line of a child.
+pub(super) fn is_full(entries: &[Entry]) -> bool
+    ensures { result ≡ is_full entries.now }
+{
+    8_000_000 <= entries.len() || is_heavy(entries)
+}
 
 pub(super) fn has_newline(line: &[u8]) -> bool
     ensures { result ≡ has_newline line.now }
@@ -33,6 +68,13 @@ pub(super) fn is_version_one(line: &[u8]) -> bool
         Some(RemoteMsg::Version(number)) => number == 1,
         _ => false,
     }
+}
+
+/// Whether the line spells ERROR.
+pub(super) fn is_error(line: &[u8]) -> bool
+    ensures { result ≡ is_error (remote_reading line.now) }
+{
+    matches!(read_remote(line), Some(RemoteMsg::Error(_)))
 }
 
 fn is_async(word: &[u8]) -> bool
@@ -67,7 +109,7 @@ fn got_line(what: &What) -> &[u8]
 }
 
 /// The line got at a place, if one was.
-fn line_at(entries: &[Entry], at: u64) -> &[u8]
+pub fn line_at(entries: &[Entry], at: u64) -> &[u8]
     ensures { result.now ≡ line_at entries.now at }
 {
     match entries.get(at as usize) {
@@ -166,7 +208,7 @@ fn is_done(verdict: Option<Verdict>) -> bool
 }
 
 /// Whether the child's PREPARE is done.
-pub(super) fn is_prepared(entries: &[Entry], child: u32) -> bool
+pub fn is_prepared(entries: &[Entry], child: u32) -> bool
     ensures { result ≡ is_prepared entries.now child }
 {
     is_done(children::verdict_of(entries, child, 1))
@@ -195,6 +237,16 @@ fn are_offered(offer: bool, offered: bool) -> bool
     }
 }
 
+/// Whether the bytes are text on one line.
+fn is_text(file: &[u8]) -> bool
+    ensures { result ≡ is_text file.now }
+{
+    match str::from_utf8(file) {
+        Ok(_) => !has_newline(file),
+        Err(_) => false,
+    }
+}
+
 /// Whether the request is the one of its turn.
 fn is_in_turn(entries: &[Entry], child: u32, job: u64, request: &Request) -> bool
     ensures { result ≡ is_in_turn entries.now child job (message_of request.now) }
@@ -203,7 +255,12 @@ fn is_in_turn(entries: &[Entry], child: u32, job: u64, request: &Request) -> boo
         Request::Extensions { offer } => job == 0
             && are_offered(*offer, children::is_offered(entries, child)),
         Request::Prepare => job == 1,
-        Request::CheckPresent { .. } => 1 < job,
+        Request::InitRemote => false,
+        Request::Transfer { file, .. } => 1 < job && is_text(file.view().as_bytes()),
+        Request::CheckPresent { .. } | Request::Remove { .. } | Request::WhereIs { .. } => 1 < job,
+        Request::ListConfigs | Request::GetCost | Request::GetAvailability | Request::GetInfo => {
+            1 < job
+        }
     }
 }
 
@@ -225,7 +282,10 @@ fn is_askable(request: &Request) -> bool
     ensures { result ≡ is_askable (message_of request.now) }
 {
     match request {
+        Request::Transfer { key, .. } => is_sent_key(key),
         Request::CheckPresent { key } => is_sent_key(key),
+        Request::Remove { key } => is_sent_key(key),
+        Request::WhereIs { key } => is_sent_key(key),
         _ => true,
     }
 }

@@ -2,11 +2,14 @@
 ghost use Rattle.std.specs.Prelude.{◌≡◌, ◌≤◌, length, IfOk, true, Some, None, IsOk};
 ghost use Rattle.annex_model.specs.Messages.{host_line};
 ghost use Rattle.journal_model.specs.Journal.{on_wire};
-ghost use Rattle.journal_model.specs.Legality.{Legal, least_free, may_stop};
+ghost use Rattle.journal_model.specs.Legality.{Legal, least_free};
 ghost use Rattle.talk_serial.specs.Requests.{message_of};
-ghost use Rattle.host_core.specs.Steps.{takes_no_memory, step_of, claim, is_askable, is_gone, gone, may_answer};
+ghost use Rattle.host_core.specs.Steps.{takes_no_memory, step_of, claim, is_askable, is_gone, gone, may_end, may_answer};
 ghost use Rattle.host_core.specs.Moves.{IsStep, first_room};
-ghost use Rattle.host_core.specs.declared.due.Due.TheVariants.{Nothing};
+ghost use Rattle.annex_model.specs.declared.verdict.Why.TheVariants.{Full};
+ghost use Rattle.journal_model.specs.declared.entry.What.TheVariants.{End};
+ghost use Rattle.host_core.specs.declared.event.Reply.TheVariants.{Gone};
+ghost use Rattle.host_core.specs.declared.due.Due.TheVariants.{Nothing, EndedJobs};
 
 use crate::due::{Due, due_by_got};
 use crate::event::{Event, Reply};
@@ -210,6 +213,25 @@ fn fetch(
     }
 }
 
+/// The child's end at a full journal, in place of its line.
+fn end_full(child: u32) -> Move
+    ensures { result ≡ record { reply = Gone (Some Full); what = Some (End child Full); due = EndedJobs child Full } }
+{
+    Move {
+        reply: Reply::Gone {
+            why: Some(Why::Full),
+        },
+        what: Some(What::End {
+            child,
+            why: Why::Full,
+        }),
+        due: Due::EndedJobs {
+            child,
+            why: Why::Full,
+        },
+    }
+}
+
 fn got(
     alloc: Global,
     opening: &Opening,
@@ -227,6 +249,9 @@ fn got(
     if children::is_ended(entries, child) {
         return Ok(only(gone(entries, child)));
     }
+    if lines::is_full(entries) {
+        return Ok(end_full(child));
+    }
     let due = due_by_got(alloc, opening, entries, child, line.view())?;
     Ok(Move {
         reply: Reply::Done,
@@ -235,15 +260,15 @@ fn got(
     })
 }
 
-/// Whether an event may end the child so.
-fn may_stop(entries: &[Entry], child: u32, why: Why) -> bool
-    ensures { result ≡ may_stop entries.now child why }
+/// Whether an event may end the child so. Nothing but a line ends one at a full journal.
+fn may_end(entries: &[Entry], child: u32, why: Why) -> bool
+    ensures { result ≡ may_end entries.now child why }
 {
     match why {
         Why::Eof | Why::ReadFault | Why::LongLine | Why::Memory => true,
         Why::Closed => children::has_no_open_job(entries, child)
             && !tasks::has_busy_task(entries, child),
-        Why::Foul { .. } | Why::Version { .. } => false,
+        Why::Full | Why::Foul { .. } | Why::Error { .. } | Why::Version { .. } => false,
     }
 }
 
@@ -251,7 +276,7 @@ fn stop(opening: &Opening, entries: &[Entry], by: u32, child: u32, why: Why) -> 
     ensures step { IsStep entries.now by (step_of opening.now entries.now by (Event.Stop child why)) result }
     ensures room { first_room result.what ≡ 0 }
 {
-    if !children::is_started(entries, child) || !may_stop(entries, child, why) {
+    if !children::is_started(entries, child) || !may_end(entries, child, why) {
         return only(Reply::Odd);
     }
     if children::is_ended(entries, child) {

@@ -1,7 +1,7 @@
 use Rattle.std.proofs.Common.{◌∙◌, ap, Option, Some, List, ℕ, take}
 use Rattle.journal_model.specs.Journal.{addressed}
 use Rattle.host_core.proofs.FirstItem.{first_some_at, first_none_at}
-use Rattle.host_core.proofs.due.first_text.Goals as goal
+use Rattle.host_core.proofs.talks.first_text.Goals as goal
 
 pub returns-in-Some : goal.returns-in-Some
 returns-in-Some c =
