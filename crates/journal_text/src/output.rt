@@ -1,11 +1,14 @@
 ghost use Rattle.std.specs.Prelude.{◌≡◌, ◌++◌, ◌∷◌, [], IfOk};
 ghost use Rattle.journal_model.specs.Journal.{line_at};
-ghost use Rattle.journal_model.specs.Output.{answer_line, answer_words, why_words};
+ghost use Rattle.annex_model.specs.Messages.{remote_reading};
+ghost use Rattle.annex_model.specs.Tags.{untag};
+ghost use Rattle.journal_model.specs.Output.{answer_line, answer_words, why_words, without_tag, text_of_reading, text_at};
 
 use ann_key::{Bytes, NoMemory};
 use annex_model::Why;
 use journal_model::{Answer, Entry, Journal, What};
 use std::alloc::Global;
+use wire_msg::{read_remote, text_of, untag};
 
 /// The line that is printed of a task's answer, with its byte 10. A foul line is told as it stood on the wire, by the
 /// place that the answer names; a place where no line was got tells nothing.
@@ -50,9 +53,18 @@ fn answer_words<'a>(answer: &Answer, journal: &'a Journal) -> Words<'a>
     match answer {
         Answer::Present => fixed(b"present"),
         Answer::Absent => fixed(b"absent"),
+        Answer::Unsupported => fixed(b"unsupported"),
         Answer::Unsent => fixed(b"unsent"),
         Answer::StartFault => fixed(b"startfault"),
         Answer::Memory => fixed(b"memory"),
+        Answer::Unknown { at } => Words {
+            fixed: b"unknown ",
+            told: text_at(journal, *at),
+        },
+        Answer::NotPrepared { at } => Words {
+            fixed: b"notprepared ",
+            told: text_at(journal, *at),
+        },
         Answer::Ended { why } => why_words(*why, journal),
     }
 }
@@ -64,13 +76,43 @@ fn why_words(why: Why, journal: &Journal) -> Words<'_>
         Why::Eof => fixed(b"ended eof"),
         Why::ReadFault => fixed(b"ended readfault"),
         Why::LongLine => fixed(b"ended longline"),
+        Why::Full => fixed(b"ended full"),
         Why::Memory => fixed(b"memory"),
         Why::Closed => fixed(b"ended closed"),
         Why::Foul { at } => Words {
             fixed: b"foul ",
             told: line_at(journal, at),
         },
+        Why::Error { at } => Words {
+            fixed: b"ended error ",
+            told: text_at(journal, at),
+        },
         Why::Version { .. } => fixed(b"ended version"),
+    }
+}
+
+// The text that the line at a place ends with, as the message that it spells; empty where that message has none.
+fn text_at(journal: &Journal, at: u64) -> &[u8]
+    ensures { result.now ≡ text_at journal.entry.now at }
+{
+    text_in(without_tag(line_at(journal, at)))
+}
+
+fn without_tag(line: &[u8]) -> &[u8]
+    ensures { result.now ≡ without_tag line.entry.now (untag line.entry.now) }
+{
+    match untag(line) {
+        Some((_, message)) => message,
+        None => line,
+    }
+}
+
+fn text_in(line: &[u8]) -> &[u8]
+    ensures { result.now ≡ text_of_reading (remote_reading line.entry.now) }
+{
+    match read_remote(line) {
+        Some(message) => text_of(message),
+        None => b"",
     }
 }
 

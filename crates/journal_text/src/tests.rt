@@ -68,6 +68,11 @@ fn each_answer_has_its_line(rt: HostRuntime) -> Result<(), NoMemory> {
             },
             "12 foul \n",
         ),
+        (1, Answer::Unsupported, "1 unsupported\n"),
+        (1, Answer::Ended { why: Why::Full }, "1 ended full\n"),
+        // the line at place 1 is a remark, whose text is x
+        (1, Answer::Unknown { at: 1 }, "1 unknown x\n"),
+        (1, Answer::Unknown { at: 0 }, "1 unknown \n"),
         (4294967295, Answer::Present, "4294967295 present\n"),
     ] {
         let line = print_answer(rt.alloc(), task, &answer, &journal)?;
@@ -84,5 +89,43 @@ fn foul_line_keeps_its_tag_and_its_bytes(rt: HostRuntime) -> Result<(), NoMemory
     };
     let line = print_answer(rt.alloc(), 3, &foul, &journal)?;
     assert_eq!(rt; line.view(), "3 foul J 2 DEBUG é \n".as_bytes());
+    Ok(())
+}
+
+#[test]
+fn texts_of_lines_are_told_without_tag(rt: HostRuntime) -> Result<(), NoMemory> {
+    for (line, answer, want) in [
+        (
+            "CHECKPRESENT-UNKNOWN WORM--a",
+            Answer::Unknown { at: 1 },
+            "1 unknown \n",
+        ),
+        (
+            "J 2 CHECKPRESENT-UNKNOWN WORM--a no  net",
+            Answer::Unknown { at: 1 },
+            "1 unknown no  net\n",
+        ),
+        (
+            "PREPARE-FAILURE no disk",
+            Answer::NotPrepared { at: 1 },
+            "1 notprepared no disk\n",
+        ),
+        (
+            "UNSUPPORTED-REQUEST",
+            Answer::NotPrepared { at: 1 },
+            "1 notprepared \n",
+        ),
+        (
+            "ERROR out of disk",
+            Answer::Ended {
+                why: Why::Error { at: 1 },
+            },
+            "1 ended error out of disk\n",
+        ),
+    ] {
+        let journal = said(rt.alloc(), line)?;
+        let printed = print_answer(rt.alloc(), 1, &answer, &journal)?;
+        assert_eq!(rt; printed.view(), want.as_bytes(), "{want}");
+    }
     Ok(())
 }

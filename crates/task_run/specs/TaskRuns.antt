@@ -1,12 +1,13 @@
 -- What a task asked, and how it is answered.
-use Rattle.std.specs.Prelude.{ℕ, zero, suc, ◌≡◌, ◌==◌, ◌⊎◌, if◌then◌else◌, List, [], ◌∷◌, ◌++◌, Option, Some, None, option_map}
+use Rattle.std.specs.Prelude.{ℕ, zero, suc, ◌≡◌, ◌==◌, ◌⊎◌, if◌then◌else◌, List, [], ◌∷◌, ◌++◌, Option, Some, None, option_map, option_and_then}
 use Rattle.std.specs.List.{cons_option, last_or}
 use Rattle.annex_model.specs.declared.verdict.Why.{Why}
+use Rattle.annex_model.specs.declared.verdict.Why.TheVariants.{Closed}
 use Rattle.annex_model.specs.declared.verdict.Verdict.{Verdict}
-use Rattle.annex_model.specs.declared.verdict.Verdict.TheVariants.{Done as DoneAt, Absent as AbsentAt, Ended, Unsent}
+use Rattle.annex_model.specs.declared.verdict.Verdict.TheVariants.{Done as DoneAt, Failed as FailedAt, Absent as AbsentAt, Unknown as UnknownAt, Unsupported as UnsupportedAt, Ended, Unsent}
 use Rattle.annex_model.specs.Messages.{HostMessage, Checkpresent, host_reading}
 use Rattle.journal_model.specs.declared.answer.Answer.{Answer}
-use Rattle.journal_model.specs.declared.answer.Answer.TheVariants.{Present, Absent, Unsent as UnsentAnswer, StartFault, Memory, Ended as EndedAnswer}
+use Rattle.journal_model.specs.declared.answer.Answer.TheVariants.{Present, Absent, Unsupported, Unsent as UnsentAnswer, StartFault, Memory, Unknown, NotPrepared, Ended as EndedAnswer}
 use Rattle.journal_model.specs.declared.entry.What.{What}
 use Rattle.journal_model.specs.declared.entry.What.TheVariants.{Claim, Start, NoStart, Ask, Lost}
 use Rattle.journal_model.specs.declared.entry.Entry.{Entry}
@@ -57,10 +58,13 @@ IsAskedOr q a = asked a.request a.verdict
 
 -- ---- a check
 
--- what the verdict of its request makes of a check
+-- what the verdict of its request makes of a check. No line says that a check failed
 abbrev pub check_answer : Verdict → Option Answer
 check_answer (DoneAt at) = Some Present
+check_answer (FailedAt at) = None
 check_answer (AbsentAt at) = Some Absent
+check_answer (UnknownAt at) = Some (Unknown at)
+check_answer (UnsupportedAt at) = Some Unsupported
 check_answer (Ended why) = Some (EndedAnswer why)
 check_answer Unsent = Some UnsentAnswer
 
@@ -83,13 +87,37 @@ came_of slot (Start child s offer) = if s == slot then Some (Some child) else No
 came_of slot (NoStart s) = if s == slot then Some None else None
 came_of slot _ = None
 
--- what a child that is not prepared stands for: its end, or else its mute
+-- the place of the line that refused to get ready
+abbrev pub refused_at : Verdict → Option ℕ
+refused_at (FailedAt at) = Some at
+refused_at (UnsupportedAt at) = Some at
+refused_at _ = None
+
+abbrev pub refusal_of : List Entry → ℕ → Option ℕ
+refusal_of past c = option_and_then refused_at (verdict_of past c 1)
+
+abbrev pub or_refusal : Option Answer → Option ℕ → Option Answer
+or_refusal answer None = answer
+or_refusal answer (Some at) = Some (NotPrepared at)
+
+-- what a child's end stands for. That of a child which the host closed stands for nothing
+abbrev pub ended_answer : Option Why → Option Answer
+ended_answer None = None
+ended_answer (Some Closed) = None
+ended_answer (Some why) = Some (EndedAnswer why)
+
+-- what a child that is gone stands for: its end, or else its mute
+abbrev pub gone_answer : List Entry → ℕ → Option Answer
+gone_answer past c =
+    if is_ended past c then ended_answer (why_of past c)
+    else if is_mute past c then Some UnsentAnswer
+    else None
+
+-- what a child that is not prepared stands for: its refusal to get ready, or else its end or its mute
 abbrev pub unready_answer : List Entry → ℕ → Option Answer
 unready_answer past c =
     if is_prepared past c then None
-    else if is_ended past c then option_map EndedAnswer (why_of past c)
-    else if is_mute past c then Some UnsentAnswer
-    else None
+    else or_refusal (gone_answer past c) (refusal_of past c)
 
 -- what the last start stands for where it gave no child that is prepared
 abbrev pub failed_start : List Entry → Option (Option ℕ) → Option Answer
