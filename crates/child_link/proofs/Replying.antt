@@ -1,20 +1,22 @@
 -- What the replies of the core say.
-use Rattle.std.proofs.Common.{◌≡◌, ℕ, List, [], ◌∷◌, refl, sym, subst, Bool, true, false, cond, Some, None, Option}
+use Rattle.std.proofs.Common.{◌≡◌, ℕ, List, [], ◌∷◌, ◌++◌, refl, sym, subst, Bool, true, false, cond, Some, None, Option}
 use Rattle.std.specs.Prelude.{IsTrue, IfSome}
-use Rattle.journal_model.specs.declared.entry.What.TheVariants.{Lost, Ask as AskEntry}
+use Rattle.annex_model.specs.declared.verdict.Why.TheVariants.{Full}
+use Rattle.annex_model.specs.Lines.{has_newline}
+use Rattle.journal_model.specs.declared.entry.What.TheVariants.{Lost, Ask as AskEntry, Got as GotEntry, End}
 use Rattle.journal_model.specs.declared.entry.Entry.{Entry}
 use Rattle.journal_model.specs.declared.opening.Opening.{Opening}
-use Rattle.journal_model.specs.Journal.{is_started, is_ended, is_mute, why_of, unsent, on_wire}
+use Rattle.journal_model.specs.Journal.{is_started, is_ended, is_full, is_mute, why_of, unsent, on_wire}
 use Rattle.journal_model.proofs.Looks.{either_left, either_right}
 use Rattle.journal_model.proofs.Linking.{unended}
 use Rattle.annex_model.specs.Messages.{HostMessage, host_line}
 use Rattle.talk_serial.specs.declared.request.Request.{Request}
 use Rattle.talk_serial.specs.Requests.{message_of}
-use Rattle.host_core.specs.declared.event.Reply.TheVariants.{Done, Over, Job}
-use Rattle.host_core.specs.declared.event.Event.TheVariants.{Look, Fetch, Ask}
+use Rattle.host_core.specs.declared.event.Reply.TheVariants.{Done, Gone, Over, Job}
+use Rattle.host_core.specs.declared.event.Event.TheVariants.{Look, Fetch, Got, Ask}
 use Rattle.host_core.specs.Steps.{Step, step_of, only, append, gone, is_gone, next_job, next_line, group_of, may_request, ask}
-use Rattle.child_link.specs.Replies.{gone_why, job_of, line_of}
-use Rattle.child_link.specs.Events.{IsNextLine}
+use Rattle.child_link.specs.Replies.{gone_why, is_done, job_of, line_of}
+use Rattle.child_link.specs.Events.{IsNextLine, IsTaken}
 
 pub look_why : (o : Opening) (past : List Entry) (by c : ℕ) → is_started past c ≡ true → gone_why (step_of o past by (Look c)).reply ≡ why_of past c
 look_why o past by c started = rw started (go (is_gone past c) refl)
@@ -64,3 +66,17 @@ fetch_line o past by c started = rw started (go (is_gone past c) refl)
     go : (b : Bool) → is_gone past c ≡ b → IfSome (line_of (cond b (only Over) (only (next_line (unsent past c)))).reply) (IsNextLine past c)
     go true e = tt
     go false e = next (unsent past c) refl e
+
+pub got_taken : (o : Opening) (past new : List Entry) (by c : ℕ) (line : List ℕ) → is_started past c ≡ true → is_ended past c ≡ false → has_newline line ≡ false
+    → new ≡ past ++ (step_of o past by (Got c line)).group → IsTaken o past new by c line (is_done (step_of o past by (Got c line)).reply)
+got_taken o past new by c line started live whole = rw (started, live, whole) (go (is_full past) refl)
+  where
+    full : Step
+    full = append o past by (End c Full) (Gone (Some Full))
+
+    taken : Step
+    taken = append o past by (GotEntry c line) Done
+
+    go : (b : Bool) → is_full past ≡ b → new ≡ past ++ (cond b full taken).group → IsTaken o past new by c line (is_done (cond b full taken).reply)
+    go true e h = (e, h)
+    go false e h = (e, h)

@@ -1,12 +1,12 @@
 -- Each thing that a link does keeps it linked, and is the link's own.
-use Rattle.std.proofs.Common.{◌≡◌, ℕ, ◌<◌, List, [], ◌∷◌, ◌++◌, refl, sym, ap, subst, ◌∙◌, Bool, true, false, None, Some, Option, take, append_assoc, append-nil}
+use Rattle.std.proofs.Common.{◌≡◌, ℕ, ◌<◌, List, [], ◌∷◌, ◌++◌, refl, sym, ap, subst, ◌∙◌, Bool, true, false, not, None, Some, Option, take, append_assoc, append-nil}
 use Rattle.std.specs.Prelude.{IfSome, ◌==◌, ◌||◌}
 use Rattle.std.proofs.lemmas.List.Folds.{list_any-append}
 use Rattle.std.specs.List.{list_all, list_any}
 use Rattle.std.specs.Io.KnownBytes.{Appends}
 use Rattle.annex_model.specs.Lines.{Cut}
 use Rattle.annex_model.specs.declared.verdict.Why.{Why}
-use Rattle.annex_model.specs.declared.verdict.Why.TheVariants.{Eof, ReadFault}
+use Rattle.annex_model.specs.declared.verdict.Why.TheVariants.{Eof, ReadFault, Full, Closed}
 use Rattle.annex_model.specs.declared.verdict.Verdict.TheVariants.{Ended}
 use Rattle.journal_model.specs.declared.entry.What.{What}
 use Rattle.journal_model.specs.declared.entry.What.TheVariants.{Ask, Sent, Mute, Got, End, Verdict as Settled}
@@ -14,26 +14,34 @@ use Rattle.journal_model.specs.declared.entry.Entry.{Entry}
 use Rattle.journal_model.specs.declared.opening.Opening.{Opening}
 use Rattle.journal_model.specs.Legality.{Legal}
 use Rattle.journal_model.proofs.Closing.{ended_settled}
-use Rattle.journal_model.specs.Journal.{asks, starts, ends, is_started, is_ended, is_mute, is_settled, asked_jobs, verdict_of, open_jobs, unsent}
+use Rattle.journal_model.specs.Journal.{asks, starts, ends, is_started, is_ended, is_mute, is_settled, asked_jobs, verdict_of, why_of, open_jobs, unsent}
 use Rattle.journal_model.specs.Due.{due_by, due_by_got, made_by}
 use Rattle.journal_model.specs.Wires.{RestFits, may_hear}
 use Rattle.journal_model.proofs.Heard.{heard_on, heard_got}
-use Rattle.journal_model.proofs.Looks.{both, each_of-append, any-append, unsettled}
-use Rattle.journal_model.proofs.Soft.{is_soft, soft_stretch, soft_got, soft_mute, soft_verdicts}
-use Rattle.journal_model.proofs.Linking.{linked_got, linked_stop, linked_ask, linked_sent, linked_mute, linked_read}
+use Rattle.journal_model.proofs.Looks.{both, same, each_of-append, any-append, unsettled}
+use Rattle.journal_model.proofs.Soft.{is_soft, is_soft_why, soft_stretch, soft_got, soft_mute, soft_verdicts}
+use Rattle.journal_model.proofs.Linking.{why_alone, linked_got, linked_stop, linked_ask, linked_sent, linked_mute, linked_read}
 use Rattle.journal_model.proofs.Fresh.{mute_ends_none}
 use Rattle.host_core.specs.Steps.{group_of, is_asked}
-use Rattle.child_link.specs.Doors.{GoesOn, is_of_link}
+use Rattle.child_link.specs.Doors.{GoesOn, is_closed, is_of_link}
+use Rattle.child_link.specs.Events.{IsTaken}
 use Rattle.child_link.specs.Fills.{Fills}
 use Rattle.child_link.specs.Turns.{HasFed}
 use Rattle.child_link.specs.Links.{LinkValue, IsLinked}
 
 -- ---- nothing but a link's entries
 
+-- a line closes no child
+soft_open : (why : Why) → is_soft_why why ≡ true → not (is_closed why) ≡ true
+soft_open Closed h = absurd cc
+soft_open why h = refl
+
 soft_quiet : (by : ℕ) (ws : List What) → list_all is_soft ws ≡ true → list_all (λ (e : Entry). is_of_link e.what) (made_by by ws) ≡ true
 soft_quiet by [] h = refl
 soft_quiet by (Settled child job verdict ∷ ws) h = soft_quiet by ws h
-soft_quiet by (End child why ∷ ws) h = soft_quiet by ws (both (is_soft (End child why)) (list_all is_soft ws) h).1
+soft_quiet by (End child why ∷ ws) h =
+    let t = both (is_soft_why why) (list_all is_soft ws) h in
+    rw (soft_open why t.0, soft_quiet by ws t.1) refl
 soft_quiet by (w ∷ ws) h = absurd cc
 
 all-append : (xs ys : List Entry) → list_all (λ (e : Entry). is_of_link e.what) xs ≡ true → list_all (λ (e : Entry). is_of_link e.what) ys ≡ true
@@ -61,8 +69,8 @@ module _ (o : Opening) (past new : List Entry) (by c : ℕ) where
   pub goes_got : (line : List ℕ) → new ≡ past ++ group_of o past by (Got c line) → GoesOn past new
   goes_got line e = goes_soft past by (Got c line) (due_by_got o past c line) new refl (soft_got o past c line) e
 
-  pub goes_stop : (why : Why) → new ≡ past ++ group_of o past by (End c why) → GoesOn past new
-  goes_stop why e = goes_soft past by (End c why) (due_by o past (End c why)) new refl (soft_verdicts c (Ended why) (open_jobs past c)) e
+  pub goes_stop : (why : Why) → is_closed why ≡ false → new ≡ past ++ group_of o past by (End c why) → GoesOn past new
+  goes_stop why kept e = goes_soft past by (End c why) (due_by o past (End c why)) new (ap not kept) (soft_verdicts c (Ended why) (open_jobs past c)) e
 
   pub goes_sent : new ≡ past ++ group_of o past by (Sent c) → GoesOn past new
   goes_sent e = goes_soft past by (Sent c) [] new refl refl e
@@ -73,6 +81,35 @@ module _ (o : Opening) (past new : List Entry) (by c : ℕ) where
 -- the same entry, by the child's number under another name
 pub of_child : (o : Opening) (past new : List Entry) (by : ℕ) (what : ℕ → What) {c d : ℕ} → c ≡ d → new ≡ past ++ group_of o past by (what c) → new ≡ past ++ group_of o past by (what d)
 of_child o past new by what e h = subst (λ (k : ℕ). new ≡ past ++ group_of o past by (what k)) e h
+
+-- a line was taken, or the journal was full
+pub took_line : (o : Opening) (past new : List Entry) (by c d : ℕ) (line : List ℕ) (b : Bool) → d ≡ c → b ≡ true → IsTaken o past new by d line b → new ≡ past ++ group_of o past by (Got c line)
+took_line o past new by c d line b e t h =
+    of_child o past new by (λ (k : ℕ). Got k line) e (subst (λ (x : Bool). IsTaken o past new by d line x) t h).1
+
+pub took_none : (o : Opening) (past new : List Entry) (by c d : ℕ) (line : List ℕ) (b : Bool) → d ≡ c → b ≡ false → IsTaken o past new by d line b → new ≡ past ++ group_of o past by (End c Full)
+took_none o past new by c d line b e t h =
+    of_child o past new by (λ (k : ℕ). End k Full) e (subst (λ (x : Bool). IsTaken o past new by d line x) t h).1
+
+-- ---- an end of the host's own
+
+-- a child that hadn't ended has ended so
+pub stopped_so : (o : Opening) (past new : List Entry) (by c : ℕ) (why : Why) → is_ended past c ≡ false → new ≡ past ++ group_of o past by (End c why) → why_of new c ≡ Some why
+stopped_so o past new by c why live e =
+    ap (λ (j : List Entry). why_of j c) e ∙ why_alone past (group_of o past by (End c why)) c live ∙ (rw (same c) (rw (same c) refl))
+
+pub or_true : (b : Bool) → (b || true) ≡ true
+or_true true = refl
+or_true false = refl
+
+-- it has ended
+pub ended_now : (o : Opening) (past new : List Entry) (by c : ℕ) (why : Why) → new ≡ past ++ group_of o past by (End c why) → is_ended new c ≡ true
+ended_now o past new by c why e =
+    let own : is_ended (group_of o past by (End c why)) c ≡ true = rw (same c) refl in
+    ap (λ (j : List Entry). is_ended j c) e ∙ any-append (ends c) past (group_of o past by (End c why)) ∙ ap (λ (b : Bool). is_ended past c || b) own ∙ or_true (is_ended past c)
+
+pub ended_live : {A : Type 0} (past : List Entry) (c d : ℕ) (b : Bool) → d ≡ c → b ≡ is_ended past d → b ≡ true → is_ended past c ≡ false → A
+ended_live past c d b e t f live = let bad : true ≡ false = sym f ∙ t ∙ ap (is_ended past) e ∙ live in absurd cc
 
 -- a reason that is neither the end of the output nor a fault of reading
 abbrev is_other : Why → Bool

@@ -1,14 +1,16 @@
 -- What a child that had said nothing says by the first line that is fed.
-use Rattle.std.proofs.Common.{◌≡◌, ℕ, List, ◌++◌, refl, sym, ap, ◌∙◌, Bool, true, false, ◌==◌, cond, Some, None, Option}
+use Rattle.std.proofs.Common.{◌≡◌, ℕ, List, [], ◌∷◌, ◌++◌, refl, sym, ap, ◌∙◌, length, Bool, true, false, not, ◌==◌, cond, Some, None, Option}
 use Rattle.std.specs.Prelude.{IfNone, IsTrue, IsFalse, ◌||◌, is_some}
 use Rattle.std.specs.List.{cons_option}
 use Rattle.annex_model.specs.declared.verdict.Why.{Why}
+use Rattle.annex_model.specs.declared.verdict.Why.TheVariants.{Error as ErrorAt, Version as VersionFault}
 use Rattle.annex_model.specs.Messages.{remote_reading}
+use Rattle.journal_model.specs.declared.entry.What.{What}
 use Rattle.journal_model.specs.declared.entry.What.TheVariants.{Got}
 use Rattle.journal_model.specs.declared.entry.Entry.{Entry}
 use Rattle.journal_model.specs.declared.opening.Opening.{Opening}
-use Rattle.journal_model.specs.Journal.{first_of, line_from, ends, has_spoken, got_lines, is_ended, why_of}
-use Rattle.journal_model.specs.Due.{due_by_got, made_by, is_version_one}
+use Rattle.journal_model.specs.Journal.{first_of, line_from, ends, has_spoken, got_lines, is_ended, why_of, addressed}
+use Rattle.journal_model.specs.Due.{after_line, due_by_got, ending, made_by, is_error, is_version_one}
 use Rattle.journal_model.specs.Legality.{said_version}
 use Rattle.journal_model.proofs.Looks.{same, each_of-append, any-append, silent_lines, true_not_false}
 use Rattle.journal_model.proofs.Linking.{why_is_end}
@@ -33,7 +35,18 @@ first_heard o past new by c h silent =
 -- any other first line ends the child
 other_ends : (o : Opening) (past : List Entry) (by c : ℕ) (line : List ℕ) → has_spoken past c ≡ false → is_version_one (remote_reading line) ≡ false
     → is_ended (group_of o past by (Got c line)) c ≡ true
-other_ends o past by c line silent other = rw (silent, other, same c) refl
+other_ends o past by c line silent other = go (is_error (remote_reading (addressed past c line).1))
+  where
+    late : List What
+    late = after_line o past c (addressed past c line).0 (remote_reading (addressed past c line).1)
+
+    fault : (why : Why) → is_ended (made_by by (Got c line ∷ ending past c why)) c ≡ true
+    fault why = rw (same c) refl
+
+    go : (b : Bool) → is_ended (made_by by (Got c line ∷ cond b (ending past c (ErrorAt (length past)))
+        (cond (not (has_spoken past c)) (cond (is_version_one (remote_reading line)) [] (ending past c (VersionFault (length past)))) late))) c ≡ true
+    go true = fault (ErrorAt (length past))
+    go false = rw (silent, other) (fault (VersionFault (length past)))
 
 version_heard : (o : Opening) (past new : List Entry) (by c : ℕ) → HasFed o past new by c → has_spoken past c ≡ false → is_ended new c ≡ false → said_version new c ≡ true
 version_heard o past new by c h silent live = go (is_version_one (remote_reading h.line)) refl

@@ -1,10 +1,11 @@
 -- What the events of a link find and leave.
-use Rattle.std.specs.Prelude.{ℕ, ◌≡◌, IsTrue, false, List, [], ◌∷◌, ◌++◌, Option}
+use Rattle.std.specs.Prelude.{ℕ, ◌≡◌, IsTrue, Bool, true, false, List, [], ◌∷◌, ◌++◌, Option}
+use Rattle.annex_model.specs.declared.verdict.Why.TheVariants.{Full}
 use Rattle.annex_model.specs.Messages.{HostMessage, host_line}
-use Rattle.journal_model.specs.declared.entry.What.TheVariants.{Ask as AskEntry, Lost as LostEntry}
+use Rattle.journal_model.specs.declared.entry.What.TheVariants.{Ask as AskEntry, Got, End, Lost as LostEntry}
 use Rattle.journal_model.specs.declared.entry.Entry.{Entry}
 use Rattle.journal_model.specs.declared.opening.Opening.{Opening}
-use Rattle.journal_model.specs.Journal.{is_ended, is_mute, unsent, on_wire, why_of}
+use Rattle.journal_model.specs.Journal.{is_ended, is_full, is_mute, unsent, on_wire, why_of}
 use Rattle.host_core.specs.Steps.{group_of, is_gone, next_job}
 use Rattle.child_link.specs.declared.events.Asked.{Asked}
 use Rattle.child_link.specs.declared.events.Asked.TheVariants.{Job, Lost}
@@ -17,6 +18,11 @@ pub record IsNextLine (journal : List Entry) (c : ℕ) (line : List ℕ) : Type 
   pub whole : line ≡ next.1 ++ 10 ∷ []
   pub live : is_ended journal c ≡ false
   pub loud : is_mute journal c ≡ false
+
+-- the line was taken; or the journal was full, and the child ended for that in its place
+abbrev pub IsTaken : Opening → List Entry → List Entry → ℕ → ℕ → List ℕ → Bool → Type 0
+IsTaken o old new by c line true = (is_full old ≡ false) × (new ≡ old ++ group_of o old by (Got c line))
+IsTaken o old new by c line false = (is_full old ≡ true) × (new ≡ old ++ group_of o old by (End c Full))
 
 -- the request stands in the journal as the child's next job, or as lost where the child is gone
 abbrev pub IsAsked : Opening → List Entry → List Entry → ℕ → ℕ → ℕ → HostMessage → Asked → Type 0

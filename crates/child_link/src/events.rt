@@ -1,14 +1,14 @@
 // The events of a link, through a door that is alone, by what they do to the journal.
-ghost use Rattle.std.specs.Prelude.{◌≡◌, ◌++◌, true, false, IsOk, IfOk, IfSome, OnOk, OnErr, MatchResult};
+ghost use Rattle.std.specs.Prelude.{◌≡◌, ◌++◌, true, false, IsOk, IfOk, IfSome, OnErr, MatchResult};
 ghost use Rattle.annex_model.specs.Lines.{has_newline};
-ghost use Rattle.journal_model.specs.declared.entry.What.TheVariants.{Sent, Mute, Got, End};
+ghost use Rattle.journal_model.specs.declared.entry.What.TheVariants.{Sent, Mute, End};
 ghost use Rattle.journal_model.specs.Journal.{is_started, is_ended, is_mute, why_of, verdict_of, unsent};
-ghost use Rattle.journal_model.specs.Legality.{Legal, is_empty, may_stop};
-ghost use Rattle.host_core.specs.Steps.{is_asked, group_of, may_request, takes_no_memory};
+ghost use Rattle.journal_model.specs.Legality.{Legal, is_empty};
+ghost use Rattle.host_core.specs.Steps.{is_asked, group_of, may_end, may_request, takes_no_memory};
 ghost use Rattle.talk_serial.specs.Requests.{message_of};
 ghost use Rattle.child_link.specs.Doors.{Makes, SteppedAlone};
-ghost use Rattle.child_link.specs.Replies.{gone_why, settled_as, line_of, job_of};
-ghost use Rattle.child_link.specs.Events.{IsNextLine, IsAsked};
+ghost use Rattle.child_link.specs.Replies.{gone_why, is_done, settled_as, line_of, job_of};
+ghost use Rattle.child_link.specs.Events.{IsNextLine, IsAsked, IsTaken};
 
 use crate::door::Door;
 use ann_key::{Bytes, NoMemory};
@@ -53,6 +53,15 @@ fn gone_why(reply: Reply) -> Option<Why>
     match reply {
         Reply::Gone { why } => why,
         _ => None,
+    }
+}
+
+fn is_done(reply: Reply) -> bool
+    ensures { result ≡ is_done reply }
+{
+    match reply {
+        Reply::Done => true,
+        _ => false,
     }
 }
 
@@ -147,13 +156,13 @@ pub(super) fn fetch<D: Door>(door: &mut D, child: u32) -> Result<Option<Bytes>, 
     }
 }
 
-/// Feeds a line of a child that hasn't ended.
-pub(super) fn got<D: Door>(door: &mut D, child: u32, line: Bytes) -> Result<(), NoMemory>
+/// Feeds a line of a child that hasn't ended. False where the journal was full: the line wasn't taken, and the child has ended.
+pub(super) fn got<D: Door>(door: &mut D, child: u32, line: Bytes) -> Result<bool, NoMemory>
     requires alone { D.alone door.old ≡ true }
     requires started { is_started (D.seen door.old) child ≡ true }
     requires live { is_ended (D.seen door.old) child ≡ false }
     requires line { has_newline line ≡ false }
-    ensures ok { OnOk result (D.seen door.new ≡ D.seen door.old ++ group_of (D.opening door.old) (D.seen door.old) (D.number door.old) (Got child line)) }
+    ensures ok { IfOk result (IsTaken (D.opening door.old) (D.seen door.old) (D.seen door.new) (D.number door.old) child line) }
     ensures err { OnErr result (D.seen door.new ≡ D.seen door.old) }
     ensures legal { Legal (D.opening door.new) (D.seen door.new) }
     ensures opening { D.opening door.new ≡ D.opening door.old }
@@ -162,17 +171,17 @@ pub(super) fn got<D: Door>(door: &mut D, child: u32, line: Bytes) -> Result<(), 
     ensures loans { D.loans door.new ≡ D.loans door.old }
 {
     match step(door, Event::Got { child, line }) {
-        Ok(_) => Ok(()),
+        Ok(reply) => Ok(is_done(reply)),
         Err(NoMemory) => Err(NoMemory),
     }
 }
 
-/// Ends a child that hasn't ended, for a reason that the link found.
+/// Ends a child that hasn't ended, for a reason that the link found: no link finds that the journal is full.
 pub(super) fn stop<D: Door>(door: &mut D, child: u32, why: Why)
     requires alone { D.alone door.old ≡ true }
     requires started { is_started (D.seen door.old) child ≡ true }
     requires live { is_ended (D.seen door.old) child ≡ false }
-    requires why { may_stop (D.seen door.old) child why ≡ true }
+    requires why { may_end (D.seen door.old) child why ≡ true }
     ensures seen { D.seen door.new ≡ D.seen door.old ++ group_of (D.opening door.old) (D.seen door.old) (D.number door.old) (End child why) }
     ensures legal { Legal (D.opening door.new) (D.seen door.new) }
     ensures opening { D.opening door.new ≡ D.opening door.old }

@@ -1,15 +1,15 @@
 ghost use Rattle.std.specs.Prelude.{◌≡◌, ◌<◌, ◌≤◌, ◌^◌, ◌++◌, ◌∷◌, [], ℕ, List, Option, Some, None, true, false, not, length, take, IsTrue, IsFalse, OnOk, OnErr, IfSome, IfNone, IsSome, IfOk};
 ghost use Rattle.std.specs.Io.KnownBytes.{Appends};
 ghost use Rattle.annex_model.specs.declared.verdict.Why.TheVariants.{Eof, ReadFault, LongLine, Memory, Closed};
-ghost use Rattle.journal_model.specs.declared.entry.What.TheVariants.{Got};
+ghost use Rattle.journal_model.specs.declared.entry.What.TheVariants.{Got, End};
 ghost use Rattle.journal_model.specs.Journal.{is_started, is_ended, has_spoken, why_of, verdict_of};
 ghost use Rattle.journal_model.specs.Legality.{Legal, may_stop, said_version};
 ghost use Rattle.journal_model.specs.Projection.{IsNamed};
 ghost use Rattle.journal_model.specs.Wires.{RestFits, may_hear};
 ghost use Rattle.wire_line.specs.Held.{has_line, first_line, TakesLine};
-ghost use Rattle.host_core.specs.Steps.{group_of, is_asked, may_request};
+ghost use Rattle.host_core.specs.Steps.{group_of, is_asked, may_end, may_request};
 ghost use Rattle.talk_serial.specs.Requests.{message_of};
-ghost use Rattle.child_link.specs.Doors.{GoesOn};
+ghost use Rattle.child_link.specs.Doors.{GoesOn, Closes, is_closed};
 ghost use Rattle.child_link.specs.Links.{IsLinked};
 ghost use Rattle.child_link.specs.Firsts.{IsFirst};
 ghost use Rattle.child_link.specs.Events.{IsNextLine};
@@ -115,7 +115,8 @@ impl<I: Sink, O: Source> Lone<I, O> {
         self.splitter.drop_line();
     }
 
-    // Feeds the first line in its turn, and takes it away. Where there is no memory the child ends.
+    // Feeds the first line in its turn, and takes it away. Where there is no memory, or the journal is full, the line stays and
+    // the child ends.
     fn feed<D: Door>(&mut self, door: &mut D, line: Bytes) -> bool
         requires alone { D.alone door.old ≡ true }
         requires started { is_started (D.seen door.old) self.old.child ≡ true }
@@ -136,10 +137,11 @@ impl<I: Sink, O: Source> Lone<I, O> {
     {
         let child = self.child();
         match events::got(door, child, line) {
-            Ok(()) => {
+            Ok(true) => {
                 self.drop_line();
                 true
             }
+            Ok(false) => false,
             Err(NoMemory) => {
                 events::stop(door, child, Why::Memory);
                 false
@@ -152,12 +154,13 @@ impl<I: Sink, O: Source> Lone<I, O> {
         requires alone { D.alone door.old ≡ true }
         requires started { is_started (D.seen door.old) self.old.child ≡ true }
         requires live { is_ended (D.seen door.old) self.old.child ≡ false }
-        requires why { may_stop (D.seen door.old) self.old.child why ≡ true }
+        requires why { may_end (D.seen door.old) self.old.child why ≡ true }
         requires fits { RestFits why self.old.held }
         requires eof { why ≡ Eof → IfSome (O.left self.old.outlet) (λ bytes. bytes ≡ []) }
         requires fault { why ≡ ReadFault → 0 < O.faults self.old.outlet }
         ensures linked { IsLinked I.taken I.faults O.given O.left O.faults (D.seen door.old) self.old → IsLinked I.taken I.faults O.given O.left O.faults (D.seen door.new) self.new }
-        ensures goes { GoesOn (D.seen door.old) (D.seen door.new) }
+        ensures seen { D.seen door.new ≡ D.seen door.old ++ group_of (D.opening door.old) (D.seen door.old) (D.number door.old) (End self.old.child why) }
+        ensures goes { is_closed why ≡ false → GoesOn (D.seen door.old) (D.seen door.new) }
         ensures child { self.new.child ≡ self.old.child }
         ensures numbers { (I.number self.new.inlet ≡ I.number self.old.inlet) × (O.number self.new.outlet ≡ O.number self.old.outlet) }
         ensures over { is_ended (D.seen door.new) self.old.child ≡ true }
@@ -262,6 +265,7 @@ impl<I: Sink, O: Source> Lone<I, O> {
         ensures goes { GoesOn (D.seen door.old) (D.seen door.new) }
         ensures child { self.new.child ≡ self.old.child }
         ensures numbers { (I.number self.new.inlet ≡ I.number self.old.inlet) × (O.number self.new.outlet ≡ O.number self.old.outlet) }
+        ensures memory { is_ended (D.seen door.old) self.old.child ≡ false → why_of (D.seen door.new) self.old.child ≡ Some Memory }
         ensures over { is_ended (D.seen door.new) self.old.child ≡ true }
         ensures legal { Legal (D.opening door.old) (D.seen door.old) → Legal (D.opening door.new) (D.seen door.new) }
         ensures opening { D.opening door.new ≡ D.opening door.old }
@@ -585,7 +589,7 @@ impl<I: Sink, O: Source> Lone<I, O> {
         requires idle { may_stop (D.seen door.old) self.old.child Closed ≡ true }
         ensures over { is_ended (D.seen door.new) self.old.child ≡ true }
         ensures linked { IsLinked I.taken I.faults O.given O.left O.faults (D.seen door.old) self.old → IsLinked I.taken I.faults O.given O.left O.faults (D.seen door.new) self.new }
-        ensures goes { GoesOn (D.seen door.old) (D.seen door.new) }
+        ensures closes { Closes (D.number door.old) self.old.child (D.seen door.old) (D.seen door.new) }
         ensures child { self.new.child ≡ self.old.child }
         ensures numbers { (I.number self.new.inlet ≡ I.number self.old.inlet) × (O.number self.new.outlet ≡ O.number self.old.outlet) }
         ensures legal { Legal (D.opening door.old) (D.seen door.old) → Legal (D.opening door.new) (D.seen door.new) }
