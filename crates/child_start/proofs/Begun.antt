@@ -1,6 +1,6 @@
 -- A child that was started just now has begun: it has said nothing and was asked nothing, and its link is a link to it.
 use Rattle.std.proofs.Common.{◌≡◌, ◌≢◌, ℕ, ◌+◌, ◌<◌, List, [], ◌∷◌, ◌++◌, refl, sym, ap, subst, ◌∙◌, length, length-append, append-nil, arith, Bool, true, false, ◌==◌, cond, Some, None, Option}
-use Rattle.std.specs.Prelude.{◌&&◌, ◌||◌, filter, codes, IfSome}
+use Rattle.std.specs.Prelude.{◌&&◌, ◌||◌, filter, codes, IfSome, is_some}
 use Rattle.std.specs.List.{list_all, cons_option}
 use Rattle.std.proofs.lemmas.List.Elements.{filter-append}
 use Rattle.annex_model.specs.declared.verdict.Verdict.TheVariants.{Ended}
@@ -8,14 +8,14 @@ use Rattle.journal_model.specs.declared.entry.What.{What}
 use Rattle.journal_model.specs.declared.entry.What.TheVariants.{Start, Mute, Got, End}
 use Rattle.journal_model.specs.declared.entry.Entry.{Entry}
 use Rattle.journal_model.specs.declared.opening.Opening.{Opening}
-use Rattle.journal_model.specs.Journal.{any, starts, offers, got_from, line_from, is_started, has_spoken, got_lines, open_jobs}
+use Rattle.journal_model.specs.Journal.{any, starts, ends, offers, got_from, line_from, is_started, is_ended, has_spoken, got_lines, open_jobs}
 use Rattle.journal_model.specs.Due.{due_by, due_by_got, due_after, made_by}
 use Rattle.journal_model.specs.Legality.{Legal, MayStand, owed_from, owed_after, may_come, count, is_start}
 use Rattle.journal_model.proofs.Growing.{Legal-induction, StandsFrom-split}
 use Rattle.journal_model.proofs.Looks.{entry, both, same, same_number, differ, any-append, each_of-append}
 use Rattle.journal_model.proofs.Soft.{is_soft, soft_got, soft_mute, soft_verdicts}
 use Rattle.journal_model.proofs.Fresh.{Nothing, fresh}
-use Rattle.journal_model.proofs.Linking.{linked_start}
+use Rattle.journal_model.proofs.Linking.{linked_start, why_is_end}
 use Rattle.journal_model.proofs.Heard.{heard_on}
 use Rattle.journal_model.proofs.Projecting.{invariant}
 use Rattle.talk_serial.specs.Requests.{names_of}
@@ -153,6 +153,11 @@ module _ (o : Opening) (old new : List Entry) (c slot : ℕ) (offer : Bool) (num
   silent : has_spoken new c ≡ false
   silent = silent_said new c no_lines
 
+  live : is_ended new c ≡ false
+  live =
+      ap (λ (x : List Entry). is_ended x c) is ∙ any-append (ends c) old one
+      ∙ ap (λ (b : Bool). b || false) (sym (why_is_end old c) ∙ ap is_some nothing.ends)
+
   offered : any (offers c) new ≡ offer
   offered =
       ap (any (offers c)) is ∙ any-append (offers c) old one ∙ ap (λ (b : Bool). b || any (offers c) one) (unstarted_offers old c unstarted)
@@ -161,6 +166,7 @@ module _ (o : Opening) (old new : List Entry) (c slot : ℕ) (offer : Bool) (num
   pub has_begun : HasBegun new c offer
   has_begun = record {
     started = ap (λ (x : List Entry). is_started x c) is ∙ any-append (starts c) old one ∙ ap (λ (b : Bool). is_started old c || (b || false)) (same c) ∙ or_true (is_started old c);
+    live = live;
     silent = silent;
     jobs = (invariant o new legal).silent c silent;
     names = ap (λ (b : Bool). cond b (codes "INFO GETGITREMOTENAME ASYNC") (codes "INFO GETGITREMOTENAME")) offered ∙ names_told offer;

@@ -1,22 +1,28 @@
 -- From a child's version over its extensions to its being prepared, or to its end.
-use Rattle.std.proofs.Common.{◌≡◌, ℕ, ◌≤◌, List, [], ◌∷◌, ◌++◌, refl, sym, ap, subst, ◌∙◌, length, arith, Bool, true, false, not, ◌==◌, Some, None, Option, ◌⊎◌, inl, inr}
-use Rattle.std.specs.Prelude.{◌&&◌, ◌||◌, filter, is_some}
+use Rattle.std.proofs.Common.{◌≡◌, ℕ, ◌≤◌, List, [], ◌∷◌, ◌++◌, refl, sym, ap, subst, ◌∙◌, length, arith, Bool, true, false, not, cond, ◌==◌, Some, None, Option, ◌⊎◌, inl, inr}
+use Rattle.std.specs.Prelude.{◌&&◌, ◌||◌, filter, find, option_and_then, is_some}
+use Rattle.std.specs.List.{list_all}
 use Rattle.annex_model.specs.declared.verdict.Why.{Why}
 use Rattle.annex_model.specs.declared.verdict.Verdict.{Verdict}
+use Rattle.annex_model.specs.declared.verdict.Verdict.TheVariants.{Failed as FailedAt, Unsupported as UnsupportedAt}
 use Rattle.annex_model.specs.Messages.{Prepare}
+use Rattle.journal_model.specs.declared.entry.What.{What}
+use Rattle.journal_model.specs.declared.entry.What.TheVariants.{End}
 use Rattle.journal_model.specs.declared.entry.Entry.{Entry}
 use Rattle.journal_model.specs.declared.opening.Opening.{Opening}
-use Rattle.journal_model.specs.Journal.{starts, is_started, is_ended, is_mute, is_settled, is_tagged, asked_jobs, open_jobs, verdict_of, why_of}
-use Rattle.journal_model.specs.Legality.{Legal, is_done, is_empty, is_greeted, is_in_turn, may_ask, may_work, said_version, offered_names}
-use Rattle.journal_model.proofs.Looks.{any-append}
-use Rattle.journal_model.proofs.Linking.{why_is_end}
+use Rattle.journal_model.specs.Journal.{starts, ends, end_why, is_started, is_ended, is_mute, is_settled, is_tagged, asked_jobs, open_jobs, verdict_of, why_of}
+use Rattle.journal_model.specs.Legality.{Legal, is_prepared, is_done, is_empty, is_greeted, is_in_turn, may_ask, may_work, said_version, offered_names}
+use Rattle.journal_model.proofs.Looks.{both, any-append}
+use Rattle.journal_model.proofs.Linking.{why_alone, why_is_end}
 use Rattle.host_core.specs.Steps.{next_job, may_request}
-use Rattle.child_link.specs.Doors.{GoesOn}
+use Rattle.child_link.specs.Doors.{GoesOn, is_closed}
 use Rattle.child_link.proofs.Turning.{started_after}
-use Rattle.child_start.specs.Greetings.{HasEnded, IsUnsent}
-use Rattle.child_start.specs.Stages.{HasBegun, MayAsk, GreetsOn, IsDoneNext, IsGoneNext, AsksNext, Prepares}
+use Rattle.child_start.specs.declared.starting.Asked.{Asked}
+use Rattle.child_start.specs.declared.starting.Asked.TheVariants.{Done, Refused, Gone}
+use Rattle.child_start.specs.Greetings.{is_of_greeting, is_refusal, HasEnded, IsUnsent}
+use Rattle.child_start.specs.Stages.{HasBegun, MayAsk, GreetsOn, IsGoneNext, AsksNext, IsGoneUnready, Prepares}
 use Rattle.child_start.proofs.Jobs.{goes_jobs, goes_names, verdict_settled, or_true}
-use Rattle.child_start.proofs.Requests.{undone_later, greets_goes, greets_both}
+use Rattle.child_start.proofs.Requests.{none_later, greets_goes, greets_both}
 
 all_three : (a b c : Bool) → a ≡ true → b ≡ true → c ≡ true → (a && b && c) ≡ true
 all_three a b c h k l = rw (h, k, l) refl
@@ -36,26 +42,42 @@ done_settled journal c k h = go (verdict_of journal c k) refl h
     go None e h = absurd cc
     go (Some v) e h = verdict_settled journal c k v e
 
+refused_undone : (v : Verdict) (at : ℕ) → (v ≡ FailedAt at) ⊎ (v ≡ UnsupportedAt at) → is_done (Some v) ≡ false
+refused_undone v at (inl e) = ap (λ (x : Verdict). is_done (Some x)) e
+refused_undone v at (inr e) = ap (λ (x : Verdict). is_done (Some x)) e
+
 -- ---- behind EXTENSIONS
 
 module _ (old mid : List Entry) (c : ℕ) (none : asked_jobs old c ≡ []) where
   first_job : next_job old c ≡ 0
   first_job = ap length none
 
-  -- it is not done, so PREPARE was not asked
-  pub unprepared_first : (o : Opening) → Legal o mid → IsGoneNext old mid c → Prepares mid c false
-  unprepared_first o legal n = (undone_later o mid c 1 legal (few n.jobs), n.gone)
+  -- the child is gone, so PREPARE was not asked
+  pub unprepared_first : (o : Opening) → Legal o mid → IsGoneNext old mid c → Prepares mid c Gone
+  unprepared_first o legal n =
+      let none : verdict_of mid c 1 ≡ None = none_later o mid c 1 legal (few n.jobs) in
+      record { gone = n.gone; unprepared = ap is_done none; unrefused = ap is_refusal none }
     where
       few : (asked_jobs mid c ≡ asked_jobs old c) ⊎ (asked_jobs mid c ≡ asked_jobs old c ++ next_job old c ∷ []) → length (asked_jobs mid c) ≤ 1
       few (inl e) = let n : length (asked_jobs mid c) ≡ 0 = ap length (e ∙ none) in omega (arith, n)
       few (inr e) = let n : length (asked_jobs mid c) ≡ 1 = ap length (e ∙ ap (λ (ks : List ℕ). ks ++ length ks ∷ []) none) in omega (arith, n)
 
-  module _ (n : IsDoneNext old mid c) where
+  module _ (a : Asked) (here : a ≡ Gone → ⊥) (n : AsksNext old mid c a) where
     one_job : asked_jobs mid c ≡ 0 ∷ []
-    one_job = n.jobs ∙ ap (λ (ks : List ℕ). ks ++ length ks ∷ []) none
+    one_job = go a here n ∙ ap (λ (ks : List ℕ). ks ++ length ks ∷ []) none
+      where
+        go : (a : Asked) → (a ≡ Gone → ⊥) → AsksNext old mid c a → asked_jobs mid c ≡ asked_jobs old c ++ next_job old c ∷ []
+        go Done here n = n.jobs
+        go (Refused verdict) here n = n.jobs
+        go Gone here n = absurd (here refl)
 
     settled : is_settled mid c 0 ≡ true
-    settled = done_settled mid c 0 (ap (λ (k : ℕ). is_done (verdict_of mid c k)) (sym first_job) ∙ n.done)
+    settled = go a here n
+      where
+        go : (a : Asked) → (a ≡ Gone → ⊥) → AsksNext old mid c a → is_settled mid c 0 ≡ true
+        go Done here n = done_settled mid c 0 (ap (λ (k : ℕ). is_done (verdict_of mid c k)) (sym first_job) ∙ n.done)
+        go (Refused verdict) here n = verdict_settled mid c 0 verdict (ap (verdict_of mid c) (sym first_job) ∙ n.settled)
+        go Gone here n = absurd (here refl)
 
     -- PREPARE may be asked
     pub may_prepare : (by d : ℕ) → d ≡ c → by ≡ 0 → is_started old c ≡ true → GreetsOn old mid c → may_request mid by 0 d Prepare ≡ true
@@ -70,12 +92,25 @@ module _ (old mid : List Entry) (c : ℕ) (none : asked_jobs old c ≡ []) where
         ap (λ (k : ℕ). may_request mid by 0 k Prepare) e ∙ ap (λ (b : Bool). b && true) three
 
     -- PREPARE was asked
-    pub prepared_second : (new : List Entry) (b : Bool) → AsksNext mid new c b → Prepares new c b
-    prepared_second new true a = record {
+    pub prepared_second : (new : List Entry) (b : Asked) → AsksNext mid new c b → Prepares new c b
+    prepared_second new Done a = record {
       prepared = ap (λ (ks : List ℕ). is_done (verdict_of new c (length ks))) (sym one_job) ∙ a.done;
       jobs = a.jobs ∙ ap (λ (ks : List ℕ). ks ++ length ks ∷ []) one_job;
     }
-    prepared_second new false a = (ap (λ (ks : List ℕ). is_done (verdict_of new c (length ks))) (sym one_job) ∙ a.undone, a.gone)
+    prepared_second new (Refused verdict) a =
+        let told : verdict_of new c 1 ≡ Some verdict = ap (λ (ks : List ℕ). verdict_of new c (length ks)) (sym one_job) ∙ a.settled in
+        record {
+          unprepared = ap is_done told ∙ refused_undone verdict a.place a.refusal;
+          settled = told;
+          place = a.place;
+          refusal = a.refusal;
+          jobs = a.jobs ∙ ap (λ (ks : List ℕ). ks ++ length ks ∷ []) one_job;
+        }
+    prepared_second new Gone a = record {
+      gone = a.gone;
+      unprepared = ap (λ (ks : List ℕ). is_done (verdict_of new c (length ks))) (sym one_job) ∙ a.undone;
+      unrefused = ap (λ (ks : List ℕ). is_refusal (verdict_of new c (length ks))) (sym one_job) ∙ a.unrefused;
+    }
 
 -- ---- before and behind both
 
@@ -88,26 +123,72 @@ may_ask_first old mid c d offer e h g said = record {
   names = ap (offered_names mid) e ∙ goes_names old mid c g ∙ h.names;
 }
 
+-- ---- no greeting closes its child
+
+greeting_keeps : (c : ℕ) (w : What) (why : Why) → is_of_greeting c w ≡ true → end_why c w ≡ Some why → is_closed why ≡ false
+greeting_keeps c (End child x) why own is = go (child == c) is
+  where
+    open_end : (b : Bool) → not b ≡ true → b ≡ false
+    open_end true h = absurd cc
+    open_end false h = refl
+
+    go : (b : Bool) → cond b (Some x) None ≡ Some why → is_closed why ≡ false
+    go true e = let same_why : x ≡ why = cc in ap is_closed (sym same_why) ∙ open_end (is_closed x) own
+    go false e = absurd cc
+greeting_keeps c w why own is = absurd cc
+
+greetings_keep : (c : ℕ) (more : List Entry) (why : Why) → list_all (λ (e : Entry). is_of_greeting c e.what) more ≡ true → why_of more c ≡ Some why → is_closed why ≡ false
+greetings_keep c [] why own is = absurd cc
+greetings_keep c (e ∷ more) why own is =
+    let t : (is_of_greeting c e.what ≡ true) × (list_all (λ (x : Entry). is_of_greeting c x.what) more ≡ true) =
+    both (is_of_greeting c e.what) (list_all (λ (x : Entry). is_of_greeting c x.what) more) own in
+    go t.0 (ends c e.what) is (greetings_keep c more why t.1)
+  where
+    go : is_of_greeting c e.what ≡ true → (b : Bool)
+        → option_and_then (λ (x : Entry). end_why c x.what) (cond b (Some e) (find (λ (x : Entry). ends c x.what) more)) ≡ Some why → (why_of more c ≡ Some why → is_closed why ≡ false)
+        → is_closed why ≡ false
+    go first true k later = greeting_keeps c e.what why first k
+    go first false k later = later k
+
+-- a child that had begun was ended in its greeting
+pub greeted_kept : (old new : List Entry) (c : ℕ) (offer : Bool) (why : Why) → HasBegun old c offer → GreetsOn old new c → why_of new c ≡ Some why → is_closed why ≡ false
+greeted_kept old new c offer why h g is =
+    greetings_keep c g.more why g.own (sym (ap (λ (j : List Entry). why_of j c) g.is ∙ why_alone old g.more c h.live) ∙ is)
+
 -- the child ended before it was asked
 pub ended_first : (o : Opening) (old new : List Entry) (c : ℕ) (offer : Bool) (why : Why) → Legal o new → HasBegun old c offer → GoesOn old new → Some why ≡ why_of new c → HasEnded new c why
 ended_first o old new c offer why legal h g is =
     let none : length (asked_jobs new c) ≡ 0 = ap length (goes_jobs old new c g ∙ h.jobs) in
-    record { unprepared = undone_later o new c 1 legal (omega (arith, none)); ended = sym is }
+    let later : verdict_of new c 1 ≡ None = none_later o new c 1 legal (omega (arith, none)) in
+    record {
+      unprepared = ap is_done later;
+      unrefused = ap is_refusal later;
+      ended = sym is;
+      kept = greeted_kept old new c offer why h (greets_goes old new c g (unasked_idle old c h.jobs)) (sym is);
+    }
 
 -- the child ended, by its number and the journal under other names
-pub ended_told : (journal last : List Entry) (c k : ℕ) (why : Why) → last ≡ journal → k ≡ c → Prepares journal c false → Some why ≡ why_of journal k → HasEnded last c why
-ended_told journal last c k why l e p is =
-    subst (λ (x : List Entry). HasEnded x c why) (sym l) (record { unprepared = p.0; ended = ap (why_of journal) (sym e) ∙ sym is })
+pub ended_told : (old journal last : List Entry) (c k : ℕ) (offer : Bool) (why : Why) → last ≡ journal → k ≡ c → HasBegun old c offer → GreetsOn old last c → IsGoneUnready journal c
+    → Some why ≡ why_of journal k → HasEnded last c why
+ended_told old journal last c k offer why l e h g p is =
+    let ended : why_of last c ≡ Some why = ap (λ (x : List Entry). why_of x c) l ∙ ap (why_of journal) (sym e) ∙ sym is in
+    record {
+      unprepared = ap (λ (x : List Entry). is_prepared x c) l ∙ p.unprepared;
+      unrefused = ap (λ (x : List Entry). is_refusal (verdict_of x c 1)) l ∙ p.unrefused;
+      ended = ended;
+      kept = greeted_kept old last c offer why h g ended;
+    }
 
 -- a child that is gone and has not ended is mute
-pub unsent_told : (journal last : List Entry) (c k : ℕ) → last ≡ journal → k ≡ c → Prepares journal c false → None ≡ why_of journal k → IsUnsent last c
+pub unsent_told : (journal last : List Entry) (c k : ℕ) → last ≡ journal → k ≡ c → IsGoneUnready journal c → None ≡ why_of journal k → IsUnsent last c
 unsent_told journal last c k l e p is =
     let live : is_ended journal c ≡ false = sym (why_is_end journal c) ∙ ap is_some (sym (is ∙ ap (why_of journal) e)) in
-    subst (λ (x : List Entry). IsUnsent x c) (sym l) (record { unprepared = p.0; live = live; mute = sym (ap (λ (b : Bool). b || is_mute journal c) live) ∙ p.1 })
+    subst (λ (x : List Entry). IsUnsent x c) (sym l)
+    (record { unprepared = p.unprepared; unrefused = p.unrefused; live = live; mute = sym (ap (λ (b : Bool). b || is_mute journal c) live) ∙ p.gone })
 
 -- what was prepared or not, by the child's number under another name
-pub prepares_as : (journal : List Entry) (c d : ℕ) (b r : Bool) → d ≡ c → r ≡ b → Prepares journal d r → Prepares journal c b
-prepares_as journal c d b r e f p = subst (λ (x : Bool). Prepares journal c x) f (subst (λ (k : ℕ). Prepares journal k r) e p)
+pub prepares_as : (journal : List Entry) (c d : ℕ) (b r : Asked) → d ≡ c → r ≡ b → Prepares journal d r → Prepares journal c b
+prepares_as journal c d b r e f p = subst (λ (x : Asked). Prepares journal c x) f (subst (λ (k : ℕ). Prepares journal k r) e p)
 
 pub greets_as : (old new : List Entry) (c d : ℕ) → d ≡ c → GreetsOn old new d → GreetsOn old new c
 greets_as old new c d e g = subst (λ (k : ℕ). GreetsOn old new k) e g

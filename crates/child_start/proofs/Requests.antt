@@ -1,29 +1,30 @@
--- What one request of a greeting leaves, whether it is done or not.
-use Rattle.std.proofs.Common.{◌≡◌, ℕ, ◌≤◌, List, [], ◌∷◌, ◌++◌, refl, ap, ◌∙◌, append_assoc, length, arith, Bool, true, false, ◌==◌, Some, None, Option, inl, inr}
-use Rattle.std.specs.Prelude.{◌&&◌, ◌||◌, nat_lt, bytes_eq}
+-- What one request of a greeting leaves, whether it is done, refused or neither.
+use Rattle.std.proofs.Common.{◌≡◌, ℕ, ◌≤◌, List, [], ◌∷◌, ◌++◌, refl, sym, ap, subst, ◌∙◌, append_assoc, length, arith, Bool, true, false, cond, ◌==◌, Some, None, Option, inl, inr}
+use Rattle.std.specs.Prelude.{◌&&◌, ◌||◌, nat_lt, bytes_eq, is_some}
 use Rattle.std.specs.List.{list_all}
 use Rattle.std.proofs.lemmas.List.Folds.{list_all-append}
 use Rattle.annex_model.specs.declared.verdict.Why.{Why}
-use Rattle.annex_model.specs.declared.verdict.Final.TheVariants.{Absent}
+use Rattle.annex_model.specs.declared.verdict.Final.{Final}
+use Rattle.annex_model.specs.declared.verdict.Final.TheVariants.{Absent, Unknown, Unsupported}
 use Rattle.annex_model.specs.declared.verdict.Verdict.{Verdict}
-use Rattle.annex_model.specs.declared.verdict.Verdict.TheVariants.{Done as DoneAt, Absent as AbsentAt, Ended, Unsent}
-use Rattle.annex_model.specs.Messages.{RemoteMessage, Extensions, PrepareSuccess, HostMessage, AskExtensions, Prepare, Checkpresent, host_line}
-use Rattle.annex_model.specs.Talks.{final_of}
+use Rattle.annex_model.specs.declared.verdict.Verdict.TheVariants.{Done as DoneAt, Failed as FailedAt, Absent as AbsentAt, Unknown as UnknownAt, Unsupported as UnsupportedAt, Ended, Unsent}
+use Rattle.annex_model.specs.Messages.{RemoteMessage, Extensions, PrepareSuccess, PrepareFailure, HostMessage, AskExtensions, Prepare, host_line}
+use Rattle.annex_model.specs.Talks.{final_of, is_unsupported, one_line, said_alone}
 use Rattle.journal_model.specs.declared.entry.What.{What}
 use Rattle.journal_model.specs.declared.entry.What.TheVariants.{Ask, Lost}
 use Rattle.journal_model.specs.declared.entry.Entry.{Entry}
 use Rattle.journal_model.specs.declared.opening.Opening.{Opening}
 use Rattle.journal_model.specs.Journal.{ends, mutes, is_started, is_ended, is_mute, asked_jobs, open_jobs, verdict_of, on_wire, why_of}
 use Rattle.journal_model.specs.Legality.{Legal, is_done, is_in_turn, may_ask, offered_names}
-use Rattle.journal_model.specs.Projection.{IsNamed}
+use Rattle.journal_model.specs.Projection.{IsNamed, final_in}
 use Rattle.journal_model.proofs.Looks.{both, same, same_number, any-append}
 use Rattle.journal_model.proofs.Projecting.{invariant}
 use Rattle.journal_model.proofs.Verdicts.{ended_verdict, unsent_verdict, unasked_none}
 use Rattle.host_core.specs.Steps.{group_of, is_gone, next_job, may_request, is_askable}
 use Rattle.child_link.specs.Doors.{GoesOn, is_of_link}
 use Rattle.child_link.specs.Asks.{HasAsked, IsSettled, IsLost, lost_as}
-use Rattle.child_start.specs.Greetings.{is_of_greeting}
-use Rattle.child_start.specs.Stages.{is_greeting, GreetsOn, IsGoneNext, AsksNext}
+use Rattle.child_start.specs.Greetings.{is_of_greeting, is_refusal}
+use Rattle.child_start.specs.Stages.{asked_as, is_greeting, GreetsOn, IsGoneNext, AsksNext}
 use Rattle.child_start.proofs.Jobs.{goes_jobs, goes_idle, jobs_settled, jobs_lost, idle_asked, or_true}
 
 -- ---- the greeting goes on
@@ -60,7 +61,7 @@ greets_goes old new c g idle = record { more = g.more; is = g.is; own = own_link
 early_turn : (past : List Entry) (c job : ℕ) (q : HostMessage) → is_greeting q ≡ true → is_in_turn past c job q ≡ true → nat_lt job 2 ≡ true
 early_turn past c job (AskExtensions names) g h = ap (λ (k : ℕ). nat_lt k 2) (same_number job 0 (both (job == 0) (bytes_eq names (offered_names past c)) h).0)
 early_turn past c job Prepare g h = ap (λ (k : ℕ). nat_lt k 2) (same_number job 1 h)
-early_turn past c job (Checkpresent key) g h = absurd cc
+early_turn past c job q g h = absurd cc
 
 pub early_job : (past : List Entry) (by c : ℕ) (q : HostMessage) → is_greeting q ≡ true → may_request past by 0 c q ≡ true → nat_lt (next_job past c) 2 ≡ true
 early_job past by c q g h =
@@ -101,51 +102,87 @@ gone_on old more c h = go (is_ended old c) refl h
     go true e h = gone_ended (old ++ more) c (any-append (ends c) old more ∙ ap (λ (b : Bool). b || is_ended more c) e)
     go false e h = gone_mute (old ++ more) c (any-append (mutes c) old more ∙ ap (λ (b : Bool). b || is_mute more c) h)
 
--- a job that is not among those that were asked is not done
-pub undone_later : (o : Opening) (journal : List Entry) (c k : ℕ) → Legal o journal → length (asked_jobs journal c) ≤ k → is_done (verdict_of journal c k) ≡ false
-undone_later o journal c k legal few = ap is_done (unasked_none o journal legal c k ((invariant o journal legal).fresh c k few))
+-- a job that is not among those that were asked has no verdict
+pub none_later : (o : Opening) (journal : List Entry) (c k : ℕ) → Legal o journal → length (asked_jobs journal c) ≤ k → verdict_of journal c k ≡ None
+none_later o journal c k legal few = unasked_none o journal legal c k ((invariant o journal legal).fresh c k few)
 
--- no answer to a request of the greeting says absent
-never_absent : (q : HostMessage) (ms : List (Option RemoteMessage)) → is_greeting q ≡ true → final_of q ms ≡ Some Absent → ⊥
-never_absent (AskExtensions names) (Some (Extensions answer) ∷ []) h e = cc
-never_absent (AskExtensions names) ms h e = cc
-never_absent Prepare (Some PrepareSuccess ∷ []) h e = cc
-never_absent Prepare ms h e = cc
-never_absent (Checkpresent key) ms h e = cc
+-- ---- the verdicts of a greeting's requests
 
-not_lost : {A : Type 0} (at : ℕ) (why : Option Why) → DoneAt at ≡ lost_as why → A
-not_lost at None e = absurd cc
-not_lost at (Some why) e = absurd cc
+-- it says neither absent nor unknown
+abbrev is_plain : Option Final → Bool
+is_plain (Some Absent) = false
+is_plain (Some Unknown) = false
+is_plain f = true
 
-lost_undone : (why : Option Why) (v : Verdict) → v ≡ lost_as why → is_done (Some v) ≡ false
-lost_undone None v e = ap (λ (x : Verdict). is_done (Some x)) e
-lost_undone (Some why) v e = ap (λ (x : Verdict). is_done (Some x)) e
+one_plain : (q : HostMessage) (m : RemoteMessage) → is_greeting q ≡ true → is_plain (one_line q m) ≡ true
+one_plain (AskExtensions names) (Extensions answer) h = refl
+one_plain (AskExtensions names) m h = refl
+one_plain Prepare PrepareSuccess h = refl
+one_plain Prepare (PrepareFailure text) h = refl
+one_plain Prepare m h = refl
+one_plain q m h = absurd cc
+
+alone_plain : (q : HostMessage) (ms : List (Option RemoteMessage)) → is_greeting q ≡ true → is_plain (said_alone q ms) ≡ true
+alone_plain q (Some m ∷ []) h = one_plain q m h
+alone_plain q ms h = refl
+
+either_plain : (b : Bool) (f : Option Final) → is_plain f ≡ true → is_plain (cond b (Some Unsupported) f) ≡ true
+either_plain true f h = refl
+either_plain false f h = h
+
+final_plain : (q : HostMessage) (ms : List (Option RemoteMessage)) → is_greeting q ≡ true → is_plain (final_of q ms) ≡ true
+final_plain (AskExtensions names) ms h = either_plain (is_unsupported ms) (said_alone (AskExtensions names) ms) (alone_plain (AskExtensions names) ms h)
+final_plain Prepare ms h = either_plain (is_unsupported ms) (said_alone Prepare ms) (alone_plain Prepare ms h)
+final_plain q ms h = absurd cc
+
+-- no answer to a request of the greeting says so
+never_said : {A : Type 0} (q : HostMessage) (ms : List (Option RemoteMessage)) (f : Final) → is_greeting q ≡ true → is_plain (Some f) ≡ false
+    → final_of q ms ≡ Some f → A
+never_said q ms f h k e = let bad : false ≡ true = sym k ∙ ap is_plain (sym e) ∙ final_plain q ms h in absurd cc
+
+-- a verdict that a line gave is not that of a request that was lost
+not_lost : {A : Type 0} (v : Verdict) (why : Option Why) → is_some (final_in v) ≡ true → v ≡ lost_as why → A
+not_lost v None h e = let bad : false ≡ true = subst (λ (x : Verdict). is_some (final_in x) ≡ true) e h in absurd cc
+not_lost v (Some why) h e = let bad : false ≡ true = subst (λ (x : Verdict). is_some (final_in x) ≡ true) e h in absurd cc
 
 module _ (o o' : Opening) (old new : List Entry) (by c : ℕ) (q : HostMessage) where
   gone_lost : (verdict : Verdict) → Legal o' new → IsLost o old new by c 0 verdict → IsGoneNext old new c
   gone_lost verdict legal l =
       let jobs : asked_jobs new c ≡ asked_jobs old c = jobs_lost o old new by c 0 q verdict l in
       let few : length (asked_jobs new c) ≤ next_job old c = omega (arith, ap length jobs) in
+      let none : verdict_of new c (next_job old c) ≡ None = none_later o' new c (next_job old c) legal few in
       record {
         gone = ap (λ (x : List Entry). is_gone x c) l.made ∙ gone_on old (group_of o old by (Lost c 0)) c l.gone;
-        undone = undone_later o' new c (next_job old c) legal few;
+        undone = ap is_done none;
+        unrefused = ap is_refusal none;
         jobs = inl jobs;
       }
 
-  gone_settled : (verdict : Verdict) → is_done (Some verdict) ≡ false → is_gone new c ≡ true → IsSettled o old new by c 0 q verdict → IsGoneNext old new c
-  gone_settled verdict undone gone s = record { gone = gone; undone = ap is_done s.settled ∙ undone; jobs = inr (jobs_settled o old new by c 0 q verdict s) }
+  gone_settled : (verdict : Verdict) → is_done (Some verdict) ≡ false → is_refusal (Some verdict) ≡ false → is_gone new c ≡ true
+      → IsSettled o old new by c 0 q verdict → IsGoneNext old new c
+  gone_settled verdict undone unrefused gone s = record {
+    gone = gone;
+    undone = ap is_done s.settled ∙ undone;
+    unrefused = ap is_refusal s.settled ∙ unrefused;
+    jobs = inr (jobs_settled o old new by c 0 q verdict s);
+  }
 
   -- the request was asked, and settled so
   pub asked_next : (verdict : Verdict) → Legal o' new → is_greeting q ≡ true → IsNamed q verdict → HasAsked o old new by c 0 q verdict
-      → AsksNext old new c (is_done (Some verdict))
+      → AsksNext old new c (asked_as verdict)
   asked_next (DoneAt at) legal kind n (inl s) = record { done = ap is_done s.settled; jobs = jobs_settled o old new by c 0 q (DoneAt at) s }
-  asked_next (DoneAt at) legal kind n (inr l) = not_lost at (why_of old c) l.lost
-  asked_next (AbsentAt at) legal kind n h = absurd (never_absent q n.0 kind n.1)
+  asked_next (DoneAt at) legal kind n (inr l) = not_lost (DoneAt at) (why_of old c) refl l.lost
+  asked_next (FailedAt at) legal kind n (inl s) = record { settled = s.settled; place = at; refusal = inl refl; jobs = jobs_settled o old new by c 0 q (FailedAt at) s }
+  asked_next (FailedAt at) legal kind n (inr l) = not_lost (FailedAt at) (why_of old c) refl l.lost
+  asked_next (UnsupportedAt at) legal kind n (inl s) = record { settled = s.settled; place = at; refusal = inr refl; jobs = jobs_settled o old new by c 0 q (UnsupportedAt at) s }
+  asked_next (UnsupportedAt at) legal kind n (inr l) = not_lost (UnsupportedAt at) (why_of old c) refl l.lost
+  asked_next (AbsentAt at) legal kind n h = never_said q n.0 Absent kind refl n.1
+  asked_next (UnknownAt at) legal kind n h = never_said q n.0 Unknown kind refl n.1
   asked_next (Ended why) legal kind n (inl s) =
-      gone_settled (Ended why) refl (gone_ended new c (ended_verdict o' new legal c (next_job old c) why s.settled)) s
+      gone_settled (Ended why) refl refl (gone_ended new c (ended_verdict o' new legal c (next_job old c) why s.settled)) s
   asked_next (Ended why) legal kind n (inr l) = gone_lost (Ended why) legal l
   asked_next Unsent legal kind n (inl s) =
-      gone_settled Unsent refl (gone_mute new c (unsent_verdict o' new legal c (next_job old c) s.settled)) s
+      gone_settled Unsent refl refl (gone_mute new c (unsent_verdict o' new legal c (next_job old c) s.settled)) s
   asked_next Unsent legal kind n (inr l) = gone_lost Unsent legal l
 
   -- it was not asked, and the child was ended
@@ -153,4 +190,5 @@ module _ (o o' : Opening) (old new : List Entry) (by c : ℕ) (q : HostMessage) 
   given_up_next legal g over =
       let jobs : asked_jobs new c ≡ asked_jobs old c = goes_jobs old new c g in
       let few : length (asked_jobs new c) ≤ next_job old c = omega (arith, ap length jobs) in
-      record { gone = gone_ended new c over; undone = undone_later o' new c (next_job old c) legal few; jobs = inl jobs }
+      let none : verdict_of new c (next_job old c) ≡ None = none_later o' new c (next_job old c) legal few in
+      record { gone = gone_ended new c over; undone = ap is_done none; unrefused = ap is_refusal none; jobs = inl jobs }

@@ -6,8 +6,8 @@ use Rattle.journal_model.specs.Journal.{is_tagged}
 use Rattle.journal_model.specs.Legality.{count, is_start}
 use Rattle.journal_model.proofs.Looks.{entry}
 use Rattle.child_start.specs.declared.greeting.Greeting.{Greeting}
-use Rattle.child_start.specs.declared.greeting.Greeting.TheVariants.{Ready, Ended, Unsent, StartFault, NoMemory}
-use Rattle.child_start.specs.Greetings.{Greeted, IsReady, HasEnded, IsUnsent, Tells}
+use Rattle.child_start.specs.declared.greeting.Greeting.TheVariants.{Ready, Refused, Ended, Unsent, StartFault, NoMemory}
+use Rattle.child_start.specs.Greetings.{Greeted, IsReady, IsRefused, HasEnded, IsUnsent, Tells}
 use Rattle.child_start.specs.Stages.{GreetsOn, TellsOf}
 
 module _ (old mid new : List Entry) (slot : ℕ) (offer : Bool) (c : ℕ) (number : c ≡ count is_start old + 1)
@@ -25,6 +25,9 @@ module _ (old mid new : List Entry) (slot : ℕ) (offer : Bool) (c : ℕ) (numbe
   tells_whole (Ready link stub tagged) t =
       let e = sym t.0 in
       (subst (Greeted old new slot offer) e greeted, subst (IsReady new) e t.1, t.2 ∙ ap (is_tagged new) e)
+  tells_whole (Refused verdict link stub) t =
+      let e = sym t.0 in
+      (subst (Greeted old new slot offer) e greeted, subst (λ (k : ℕ). IsRefused new k verdict) e t.1)
   tells_whole (Ended why link stub) t =
       let e = sym t.0 in
       (subst (Greeted old new slot offer) e greeted, subst (λ (k : ℕ). HasEnded new k why) e t.1)

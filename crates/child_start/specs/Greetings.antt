@@ -5,15 +5,17 @@ use Rattle.std.specs.List.{list_all}
 use Rattle.ann_outside.specs.Starts.{Starts, IsNumbered}
 use Rattle.ann_outside.specs.Causes.{AddsOne, Stays}
 use Rattle.annex_model.specs.declared.verdict.Why.{Why}
+use Rattle.annex_model.specs.declared.verdict.Verdict.{Verdict}
+use Rattle.annex_model.specs.declared.verdict.Verdict.TheVariants.{Failed as FailedAt, Unsupported as UnsupportedAt}
 use Rattle.journal_model.specs.declared.entry.What.{What}
 use Rattle.journal_model.specs.declared.entry.What.TheVariants.{Start, NoStart, Ask, Lost}
 use Rattle.journal_model.specs.declared.entry.Entry.{Entry}
-use Rattle.journal_model.specs.Journal.{is_ended, is_mute, is_tagged, why_of, asked_jobs, open_jobs}
+use Rattle.journal_model.specs.Journal.{is_ended, is_mute, is_tagged, why_of, verdict_of, asked_jobs, open_jobs}
 use Rattle.journal_model.specs.Legality.{count, is_start, is_prepared}
-use Rattle.child_link.specs.Doors.{is_of_link}
+use Rattle.child_link.specs.Doors.{is_closed, is_of_link}
 use Rattle.child_link.specs.Links.{LinkValue}
 use Rattle.child_start.specs.declared.greeting.Greeting.{Greeting}
-use Rattle.child_start.specs.declared.greeting.Greeting.TheVariants.{Ready, Ended, Unsent, StartFault, NoMemory}
+use Rattle.child_start.specs.declared.greeting.Greeting.TheVariants.{Ready, Refused, Ended, Unsent, StartFault, NoMemory}
 
 -- the entry is of c's greeting: its link's own, or a request that is no task's, as job 0 or 1
 abbrev pub is_of_greeting : ℕ → What → Bool
@@ -34,14 +36,31 @@ pub record IsReady (journal : List Entry) (c : ℕ) : Type 0 where
   pub prepared : is_prepared journal c ≡ true
   pub jobs : asked_jobs journal c ≡ 0 ∷ 1 ∷ []
 
--- the child has ended so, and is not prepared
+-- the verdict is that of a request that a line refused: it failed, or the remote doesn't know it
+abbrev pub is_refusal : Option Verdict → Bool
+is_refusal (Some (FailedAt at)) = true
+is_refusal (Some (UnsupportedAt at)) = true
+is_refusal v = false
+
+-- the child refused PREPARE by the line at that place, after EXTENSIONS and PREPARE alone
+pub record IsRefused (journal : List Entry) (c : ℕ) (verdict : Verdict) : Type 0 where
+  pub unprepared : is_prepared journal c ≡ false
+  pub settled : verdict_of journal c 1 ≡ Some verdict
+  pub place : ℕ
+  pub refusal : (verdict ≡ FailedAt place) ⊎ (verdict ≡ UnsupportedAt place)
+  pub jobs : asked_jobs journal c ≡ 0 ∷ 1 ∷ []
+
+-- the child has ended so, and is not prepared and did not refuse to be. The host did not close it
 pub record HasEnded (journal : List Entry) (c : ℕ) (why : Why) : Type 0 where
   pub unprepared : is_prepared journal c ≡ false
+  pub unrefused : is_refusal (verdict_of journal c 1) ≡ false
   pub ended : why_of journal c ≡ Some why
+  pub kept : is_closed why ≡ false
 
--- the child is mute and has not ended, and is not prepared
+-- the child is mute and has not ended, and is not prepared and did not refuse to be
 pub record IsUnsent (journal : List Entry) (c : ℕ) : Type 0 where
   pub unprepared : is_prepared journal c ≡ false
+  pub unrefused : is_refusal (verdict_of journal c 1) ≡ false
   pub live : is_ended journal c ≡ false
   pub mute : is_mute journal c ≡ true
 
@@ -49,6 +68,7 @@ pub record IsUnsent (journal : List Entry) (c : ℕ) : Type 0 where
 abbrev pub Tells : {I O S : Type 0} → List Entry → List Entry → ℕ → Bool → Greeting I O S → Type 0
 Tells old new slot offer (Ready link stub tagged) =
     Greeted old new slot offer link.child × IsReady new link.child × (tagged ≡ is_tagged new link.child)
+Tells old new slot offer (Refused verdict link stub) = Greeted old new slot offer link.child × IsRefused new link.child verdict
 Tells old new slot offer (Ended why link stub) = Greeted old new slot offer link.child × HasEnded new link.child why
 Tells old new slot offer (Unsent link stub) = Greeted old new slot offer link.child × IsUnsent new link.child
 Tells old new slot offer StartFault = new ≡ old ++ record { by = 0; what = NoStart slot } ∷ []
@@ -57,6 +77,7 @@ Tells old new slot offer NoMemory = new ≡ old
 -- the link of a greeting that has one
 abbrev pub Has : {I O S : Type 0} → (LinkValue I O → Type 0) → Greeting I O S → Type 0
 Has P (Ready link stub tagged) = P link
+Has P (Refused verdict link stub) = P link
 Has P (Ended why link stub) = P link
 Has P (Unsent link stub) = P link
 Has P StartFault = Unit {0}

@@ -1,6 +1,6 @@
 use ann_outside::{Sink, Source};
 use child_link::Lone;
-use journal_model::Why;
+use journal_model::{Verdict, Why};
 
 /// What a child is prepared for.
 #[derive(Clone, Copy, Debug, PartialEq, Eq)]
@@ -17,13 +17,19 @@ pub enum Greeting<I: Sink, O: Source, S> {
         stub: S,
         tagged: bool,
     },
-    /// It has ended, and it isn't prepared.
+    /// A line of it said that it can't get ready, or that it doesn't know the request. It may have ended since, or be mute.
+    Refused {
+        verdict: Verdict,
+        link: Lone<I, O>,
+        stub: S,
+    },
+    /// It has ended, and it isn't prepared and hasn't refused to be.
     Ended {
         why: Why,
         link: Lone<I, O>,
         stub: S,
     },
-    /// A request couldn't be written to it, and it isn't prepared.
+    /// A request couldn't be written to it, and it isn't prepared and hasn't refused to be.
     Unsent {
         link: Lone<I, O>,
         stub: S,

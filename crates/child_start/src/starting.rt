@@ -2,12 +2,12 @@ ghost use Rattle.std.specs.Prelude.{◌≡◌, ◌≤◌, ◌<◌, ◌+◌, ◌+
 ghost use Rattle.ann_outside.specs.Causes.{Rose, Stays};
 ghost use Rattle.journal_model.specs.declared.entry.What.TheVariants.{Start, NoStart};
 ghost use Rattle.journal_model.specs.Journal.{is_started, open_jobs};
-ghost use Rattle.journal_model.specs.Legality.{Legal, count, is_start, is_done};
+ghost use Rattle.journal_model.specs.Legality.{Legal, count, is_start};
 ghost use Rattle.talk_serial.specs.Requests.{message_of};
 ghost use Rattle.host_core.specs.Steps.{may_request};
 ghost use Rattle.child_link.specs.Links.{IsLinked};
 ghost use Rattle.child_start.specs.Greetings.{Tells, Has, StartsOnce, AreNumbered};
-ghost use Rattle.child_start.specs.Stages.{child_of, is_greeting, HasBegun, MayAsk, GreetsOn, AsksNext, Prepares, ComesTo, TellsOf, AreSameNumbers};
+ghost use Rattle.child_start.specs.Stages.{asked_as, child_of, is_greeting, HasBegun, MayAsk, GreetsOn, AsksNext, Prepares, ComesTo, TellsOf, AreSameNumbers};
 
 use crate::greeting::{Greeting, Mode};
 use ann_key::NoMemory;
@@ -18,29 +18,40 @@ use journal_model::{Verdict, Why};
 use std::alloc::Global;
 use talk_serial::Request;
 
+// What a request of the greeting comes to.
+#[derive(Drop)]
+enum Asked {
+    Done,
+    // A line said that it failed, or that the remote doesn't know it.
+    Refused(Verdict),
+    // The child has ended or is mute.
+    Gone,
+}
+
 // What a greeting comes to, without its link.
 enum Came {
     Prepared,
+    Refused(Verdict),
     Over(Why),
     Mute,
 }
 
-fn is_done(verdict: Verdict) -> bool
-    ensures { result ≡ is_done (Some verdict) }
+fn asked_as(verdict: Verdict) -> Asked
+    ensures { result ≡ asked_as verdict }
 {
     match verdict {
-        Verdict::Done { .. } => true,
-        _ => false,
+        Verdict::Done { .. } => Asked::Done,
+        Verdict::Failed { .. } | Verdict::Unsupported { .. } => Asked::Refused(verdict),
+        _ => Asked::Gone,
     }
 }
 
-// Asks one request of the greeting. True where it is done; else the child has ended or is mute. Where no memory was found to
-// ask it, the child is ended.
+// Asks one request of the greeting. Where no memory was found to ask it, the child is ended.
 fn ask_one<I: Sink, O: Source, D: Door>(
     link: &mut Lone<I, O>,
     door: &mut D,
     request: &Request,
-) -> bool
+) -> Asked
     requires alone { D.alone door.old ≡ true }
     requires first { D.number door.old ≡ 0 }
     requires legal { Legal (D.opening door.old) (D.seen door.old) }
@@ -60,21 +71,21 @@ fn ask_one<I: Sink, O: Source, D: Door>(
     ensures loans { D.loans door.new ≡ D.loans door.old }
 {
     match link.ask(door, 0, request) {
-        Ok(verdict) => is_done(verdict),
+        Ok(verdict) => asked_as(verdict),
         Err(NoMemory) => {
             link.give_up(door);
-            false
+            Asked::Gone
         }
     }
 }
 
-// Asks for the extensions, and then to get ready for what the mode says.
+// Asks for the extensions, and then to get ready for what the mode says. A remote that doesn't know of extensions has none.
 fn ask_both<I: Sink, O: Source, D: Door>(
     link: &mut Lone<I, O>,
     door: &mut D,
     offer: bool,
     mode: Mode,
-) -> bool
+) -> Asked
     requires alone { D.alone door.old ≡ true }
     requires first { D.number door.old ≡ 0 }
     requires legal { Legal (D.opening door.old) (D.seen door.old) }
@@ -91,8 +102,8 @@ fn ask_both<I: Sink, O: Source, D: Door>(
     ensures loans { D.loans door.new ≡ D.loans door.old }
 {
     let extensions = Request::Extensions { offer };
-    if !ask_one(link, door, &extensions) {
-        return false;
+    if let Asked::Gone = ask_one(link, door, &extensions) {
+        return Asked::Gone;
     }
     match mode {
         Mode::Serve => ask_one(link, door, &Request::Prepare),
@@ -124,12 +135,13 @@ fn hear_and_ask<I: Sink, O: Source, D: Door>(
     if let Some(why) = link.hear_version(door) {
         return Came::Over(why);
     }
-    if ask_both(link, door, offer, mode) {
-        return Came::Prepared;
-    }
-    match link.why_ended(door) {
-        Some(why) => Came::Over(why),
-        None => Came::Mute,
+    match ask_both(link, door, offer, mode) {
+        Asked::Done => Came::Prepared,
+        Asked::Refused(verdict) => Came::Refused(verdict),
+        Asked::Gone => match link.why_ended(door) {
+            Some(why) => Came::Over(why),
+            None => Came::Mute,
+        },
     }
 }
 
@@ -179,6 +191,11 @@ fn greet_child<I: Sink, O: Source, S>(
             let tagged = core.tagged(link.child());
             Greeting::Ready { link, stub, tagged }
         }
+        Came::Refused(verdict) => Greeting::Refused {
+            verdict,
+            link,
+            stub,
+        },
         Came::Over(why) => Greeting::Ended { why, link, stub },
         Came::Mute => Greeting::Unsent { link, stub },
     }

@@ -1,8 +1,9 @@
-use Rattle.std.proofs.Common.{◌≡◌, true, sym, ap, subst, ◌∙◌, Bool, ℕ, List}
+use Rattle.std.proofs.Common.{◌≡◌, true, sym, ap, subst, ◌∙◌, ℕ, List}
 use Rattle.journal_model.specs.declared.entry.Entry.{Entry}
 use Rattle.journal_model.specs.Journal.{is_started, is_ended}
 use Rattle.talk_serial.specs.Requests.{message_of}
 use Rattle.child_link.specs.Doors.{GoesOn}
+use Rattle.child_start.specs.declared.starting.Asked.{Asked}
 use Rattle.child_start.specs.Stages.{AsksNext}
 use Rattle.child_start.proofs.Requests.{greets_goes, greets_asked, early_job, asked_next, given_up_next}
 use Rattle.child_start.proofs.starting.ask_one.Goals as goal
@@ -23,7 +24,7 @@ pub returns-in-Ok-clause-asks : goal.returns-in-Ok-clause-asks
 returns-in-Ok-clause-asks g c =
     let seen = g.D.Door.seen c.args.door.now in
     let new = g.D.Door.seen c.ask.new.door in
-    subst (λ (b : Bool). AsksNext seen new c.args.link.now.child b) (sym c.is_done.ensures)
+    subst (λ (a : Asked). AsksNext seen new c.args.link.now.child a) (sym c.asked_as.ensures)
     (asked_next (g.D.Door.opening c.args.door.now) (g.D.Door.opening c.ask.new.door) seen new (g.D.Door.number c.args.door.now) c.args.link.now.child (message_of c.args.request.now) c.in-Ok.verdict
     (c.ask.ensures.legal c.requires.legal) c.requires.kind (c.in-Ok.ensures.named c.requires.legal) c.in-Ok.ensures.asked)
 
