@@ -1,19 +1,21 @@
 -- The event that is made for a claim, a request or a line appends it, if it may come. The other kinds need no lemma.
 use Rattle.std.proofs.Common.{◌≡◌, ℕ, List, refl, sym, ap, subst, ◌∙◌, Bool, true, false, cond, not, Option, Some, None}
-use Rattle.std.specs.Prelude.{◌&&◌, ◌||◌, ◌==◌, bytes_eq, codes}
+use Rattle.std.specs.Prelude.{◌&&◌, ◌||◌, ◌==◌, nat_lt, bytes_eq, codes}
+use Rattle.std.specs.Str.{IsUtf8, is_utf8}
 use Rattle.std.proofs.lemmas.Slice.Eq.{bytes_eq-Decides}
+use Rattle.std.proofs.lemmas.Str.{IsUtf8-from_is_utf8}
 use Rattle.annex_model.specs.Lines.{has_newline}
-use Rattle.annex_model.specs.Messages.{HostMessage, AskExtensions, Prepare, Checkpresent, host_line, host_reading, IsAskable}
+use Rattle.annex_model.specs.Messages.{HostMessage, AskExtensions, Transfer, Checkpresent, Remove, Whereis, Creds, host_line, host_reading, IsAskable}
 use Rattle.journal_model.specs.declared.entry.What.{What}
 use Rattle.journal_model.specs.declared.entry.What.TheVariants.{Claim, Ask, Got, Lost}
 use Rattle.journal_model.specs.declared.entry.Entry.{Entry}
 use Rattle.journal_model.specs.declared.opening.Opening.{Opening}
-use Rattle.journal_model.specs.Journal.{any, offers, is_started, is_ended, is_mute, is_live, addressed, on_wire}
+use Rattle.journal_model.specs.Journal.{any, offers, is_started, is_ended, is_mute, is_live, is_full, addressed, on_wire}
 use Rattle.journal_model.specs.Legality.{least_free, is_prepared, is_in_turn, may_ask, may_come, is_number, asks_in_turn, offered_names}
 use Rattle.journal_model.proofs.Looks.{same_number, both}
 use Rattle.journal_model.proofs.Asking.{read_askable}
 use Rattle.talk_serial.specs.declared.request.Request.{Request}
-use Rattle.talk_serial.specs.declared.request.Request.TheVariants.{Extensions, Prepare as PrepareRequest, CheckPresent}
+use Rattle.talk_serial.specs.declared.request.Request.TheVariants.{Extensions}
 use Rattle.talk_serial.specs.Requests.{message_of, names_of}
 use Rattle.host_core.specs.declared.event.Event.TheVariants.{Claim as ClaimEvent, Ask as AskEvent, Got as GotEvent}
 use Rattle.host_core.specs.declared.event.Reply.TheVariants.{Job}
@@ -55,22 +57,35 @@ suits_claim o past w task child is = subst (λ (v : What). Suits o past v (Some 
 
 -- ---- a request
 
--- the request that a message in its turn asks
-asked : (past : List Entry) (c job : ℕ) (m : HostMessage) → is_in_turn past c job m ≡ true → (r : Request) × (message_of r ≡ m)
-asked past c job (AskExtensions names) h =
-    let t = both (job == 0) (bytes_eq names (offered_names past c)) h in
-    (Extensions (any (offers c) past), ap AskExtensions (told (any (offers c) past) ∙ sym ((bytes_eq-Decides names (offered_names past c)).0 t.1)))
+-- the names of a message in its turn are those of the request that offers so
+pub offered : (names : List ℕ) (b : Bool) → b ≡ bytes_eq names (codes "INFO GETGITREMOTENAME ASYNC") → IsRequestOf (AskExtensions names) (Extensions b)
+offered names b is = λ past c job turn. (
+    let t = both (job == 0) (bytes_eq names (offered_names past c)) turn in
+    go (any (offers c) past) ((bytes_eq-Decides names (offered_names past c)).0 t.1))
   where
-    told : (b : Bool) → names_of b ≡ cond b (codes "INFO GETGITREMOTENAME ASYNC") (codes "INFO GETGITREMOTENAME")
-    told true = refl
-    told false = refl
-asked past c job Prepare h = (PrepareRequest, refl)
-asked past c job (Checkpresent key) h = (CheckPresent key, refl)
+    told : (b : Bool) (a : Bool) → names ≡ cond a (codes "INFO GETGITREMOTENAME ASYNC") (codes "INFO GETGITREMOTENAME")
+        → b ≡ bytes_eq (cond a (codes "INFO GETGITREMOTENAME ASYNC") (codes "INFO GETGITREMOTENAME")) (codes "INFO GETGITREMOTENAME ASYNC") → names_of b ≡ names
+    told true true e h = sym e
+    told true false e h = absurd cc
+    told false true e h = absurd cc
+    told false false e h = sym e
+
+    go : (a : Bool) → names ≡ cond a (codes "INFO GETGITREMOTENAME ASYNC") (codes "INFO GETGITREMOTENAME") → AskExtensions (names_of b) ≡ AskExtensions names
+    go a e = ap AskExtensions (told b a e (is ∙ ap (λ (ns : List ℕ). bytes_eq ns (codes "INFO GETGITREMOTENAME ASYNC")) e))
+
+-- no job asks to transfer a file whose name is no text
+pub no_text : (store : Bool) (key file : List ℕ) (r : Request) → (IsUtf8 file → ⊥) → IsRequestOf (Transfer store key file) r
+no_text store key file r bad = λ past c job turn. (
+    let t = both (nat_lt 1 job) (is_utf8 file && not (has_newline file)) turn in
+    absurd (bad (IsUtf8-from_is_utf8 file (both (is_utf8 file) (not (has_newline file)) t.1).0)))
 
 askable : (m : HostMessage) → IsAskable m → is_askable m ≡ true
-askable (AskExtensions names) h = refl
-askable Prepare h = refl
+askable (Transfer store key file) h = h.1.0
 askable (Checkpresent key) h = h
+askable (Remove key) h = h
+askable (Whereis key) h = h
+askable (Creds user password) h = h.0
+askable m h = refl
 
 -- the line of a request that may be asked is what the event writes
 asks_so : (o : Opening) (past : List Entry) (by child job task : ℕ) (line : List ℕ) (m : HostMessage) (r : Request)
@@ -109,8 +124,7 @@ suits_ask o past child job task line text m r plain reading request = λ by h. g
         let l = live past child e.0 in
         let turn : asks_in_turn past child job line (Some m) ≡ true = sym (ap (asks_in_turn past child job line) reads) ∙ b.1 in
         let t = both (is_in_turn past child job m) (bytes_eq line (on_wire past child job (host_line m))) turn in
-        let own = asked past child job m t.0 in
-        asks_so o past by child job task line m r (request own.0 own.1) reads l.0 l.1 (is_not (is_mute past child) e.1) (same_number job (next_job past child) d.1) turn a.1
+        asks_so o past by child job task line m r (request past child job t.0) reads l.0 l.1 (is_not (is_mute past child) e.1) (same_number job (next_job past child) d.1) turn a.1
 
 -- a line that is no request's may not be asked
 pub suits_unread : (o : Opening) (past : List Entry) (child job task : ℕ) (line text : List ℕ)
@@ -138,8 +152,9 @@ suits_lost o past child task r next = λ by h. (
 pub suits_got : (o : Opening) (past : List Entry) (child : ℕ) (said line : List ℕ) → said ≡ line → Suits o past (Got child line) (Some (GotEvent child said))
 suits_got o past child said line is = subst (λ (l : List ℕ). Suits o past (Got child l) (Some (GotEvent child said))) is (λ by h. go by h)
   where
-    go : (by : ℕ) → (is_live past child && not (has_newline said)) ≡ true → (step_of o past by (GotEvent child said)).group ≡ group_of o past by (Got child said)
+    go : (by : ℕ) → (is_live past child && not (has_newline said) && not (is_full past)) ≡ true → (step_of o past by (GotEvent child said)).group ≡ group_of o past by (Got child said)
     go by h =
-        let t = both (is_live past child) (not (has_newline said)) h in
+        let a = both (is_live past child && not (has_newline said)) (not (is_full past)) h in
+        let t = both (is_live past child) (not (has_newline said)) a.0 in
         let l = live past child t.0 in
-        rw (l.0, is_not (has_newline said) t.1, l.1) refl
+        rw (l.0, is_not (has_newline said) t.1, l.1, is_not (is_full past) a.1) refl

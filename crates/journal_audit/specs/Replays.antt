@@ -10,9 +10,9 @@ use Rattle.journal_model.specs.Legality.{may_come, is_in_turn, StandsFrom, MaySt
 use Rattle.host_core.specs.declared.event.Event.{Event}
 use Rattle.host_core.specs.Steps.{step_of, group_of, is_askable, next_job}
 
--- the message asks this request, if it asks any
+-- the request asks the message, if some job may ask that
 abbrev pub IsRequestOf : HostMessage → Request → Type 0
-IsRequestOf m r = (asked : Request) → message_of asked ≡ m → message_of r ≡ m
+IsRequestOf m r = (past : List Entry) (c job : ℕ) → is_in_turn past c job m ≡ true → message_of r ≡ m
 
 -- the request is the one of its turn, as the next job of c
 abbrev pub MayBeNext : List Entry → ℕ → Request → Type 0

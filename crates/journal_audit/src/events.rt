@@ -5,7 +5,7 @@ ghost use Rattle.journal_audit.specs.Replays.{Suits};
 use crate::requests;
 use ann_key::{Bytes, NoMemory};
 use host_core::{Core, Event};
-use journal_model::What;
+use journal_model::{What, Why};
 use std::alloc::Global;
 use wire_msg::read_host;
 
@@ -47,6 +47,19 @@ fn got_event(alloc: Global, core: &Core, child: u32, line: &[u8]) -> Result<Opti
     Ok(Some(Event::Got { child, line }))
 }
 
+// A full journal ends a child in place of any line that it says.
+fn end_event(alloc: Global, core: &Core, child: u32, why: Why) -> Result<Option<Event>, NoMemory>
+    ensures { IfOk result (Suits core.now.opening core.now.journal (What.End child why)) }
+{
+    match why {
+        Why::Full => {
+            let line = Bytes::copy(alloc, b"")?;
+            Ok(Some(Event::Got { child, line }))
+        }
+        _ => Ok(Some(Event::Stop { child, why })),
+    }
+}
+
 /// The event that appends the entry, if it may come; and else any, or none.
 pub(super) fn event_of(alloc: Global, core: &Core, what: &What) -> Result<Option<Event>, NoMemory>
     ensures { IfOk result (Suits core.now.opening core.now.journal what.now) }
@@ -67,10 +80,7 @@ pub(super) fn event_of(alloc: Global, core: &Core, what: &What) -> Result<Option
         What::Sent { child } => Ok(Some(Event::Sent { child: *child })),
         What::Mute { child } => Ok(Some(Event::Mute { child: *child })),
         What::Got { child, line } => got_event(alloc, core, *child, line.view()),
-        What::End { child, why } => Ok(Some(Event::Stop {
-            child: *child,
-            why: *why,
-        })),
+        What::End { child, why } => end_event(alloc, core, *child, *why),
         What::Lost { child, task } => lost_event(alloc, core, *child, *task),
         What::Answer { task, answer } => Ok(Some(Event::Answer {
             task: *task,

@@ -209,9 +209,81 @@ const CASES: [(usize, &[Row], Audit); 12] = [
     (12, &[Row::Put], Audit::Wrong { entry: 12, kind: 5 }),
 ];
 
+const ERROR: Why = Why::Error { at: 13 };
+
+// What a child may say beside an answer, and in place of one; and requests that are no check's.
+const MESSAGES: [(usize, &[Row], Audit); 9] = [
+    (
+        13,
+        &[
+            Row::Got("PROGRESS 10"),
+            Row::Got(SUCCESS),
+            Row::Verdict(2, Verdict::Done { at: 14 }),
+            Row::Answer(Answer::Present),
+            Row::End(Why::Closed),
+        ],
+        Audit::Legal,
+    ),
+    (
+        13,
+        &[Row::Got("PROGRESS 10"), SETTLED],
+        Audit::Wrong {
+            entry: 14,
+            kind: 10,
+        },
+    ),
+    (
+        13,
+        &[
+            Row::Got("ERROR out of disk"),
+            Row::End(ERROR),
+            Row::Verdict(2, Verdict::Ended { why: ERROR }),
+            Row::Answer(Answer::Ended { why: ERROR }),
+        ],
+        Audit::Legal,
+    ),
+    (
+        13,
+        &[
+            Row::Got("ERROR out of disk"),
+            Row::Verdict(2, Verdict::Failed { at: 13 }),
+        ],
+        Audit::Wrong {
+            entry: 14,
+            kind: 10,
+        },
+    ),
+    (11, &[Row::Ask(2, "TRANSFER STORE WORM--a f")], Audit::Legal),
+    (
+        11,
+        &[Row::Ask(2, "TRANSFER STORE WORM--a")],
+        Audit::Wrong { entry: 11, kind: 4 },
+    ),
+    (
+        11,
+        &[Row::Ask(2, "INITREMOTE")],
+        Audit::Wrong { entry: 11, kind: 4 },
+    ),
+    (
+        11,
+        &[Row::Ask(2, "VALUE x")],
+        Audit::Wrong { entry: 11, kind: 4 },
+    ),
+    (
+        13,
+        &[Row::End(Why::Full)],
+        Audit::Wrong { entry: 13, kind: 9 },
+    ),
+];
+
 #[test]
 fn the_first_wrong_entry_is_found(rt: HostRuntime) -> Result<(), Fail> {
     compare(&rt, rt.alloc(), &PRESENT, &CASES)
+}
+
+#[test]
+fn messages_beside_an_answer_are_followed(rt: HostRuntime) -> Result<(), Fail> {
+    compare(&rt, rt.alloc(), &PRESENT, &MESSAGES)
 }
 
 const LOST: [Row; 16] = [
