@@ -1,0 +1,4 @@
+pub mod Infos
+pub mod Tellings
+pub mod Askings
+pub mod Rows

@@ -1,0 +1,41 @@
+// Whether a remote answered all that it was asked about itself.
+ghost use Rattle.std.specs.Prelude.{◌≡◌, is_some, option_map};
+ghost use Rattle.ann_key.specs.KeyRefs.{text_of};
+ghost use Rattle.journal_model.specs.Projection.{final_in};
+ghost use Rattle.info_run.specs.Infos.{is_informed, is_answered};
+
+use ann_key::KeyRef;
+use annex_model::Verdict;
+use host_core::{is_prepared, verdict_of};
+use journal_model::Entry;
+
+/// Whether a line of the child gave the verdict.
+pub(super) fn is_final(verdict: Verdict) -> bool
+    ensures { result ≡ is_some (final_in verdict) }
+{
+    match verdict {
+        Verdict::Ended { .. } | Verdict::Unsent => false,
+        _ => true,
+    }
+}
+
+fn is_answered(entries: &[Entry], child: u32, job: u64) -> bool
+    ensures { result ≡ is_answered entries.now child job }
+{
+    match verdict_of(entries, child, job) {
+        Some(verdict) => is_final(verdict),
+        None => false,
+    }
+}
+
+/// Whether the child got ready, and answered all that it was asked about itself, the key among it where one was given.
+pub fn is_informed(entries: &[Entry], key: Option<KeyRef<'_>>) -> bool
+    ensures { result ≡ is_informed entries.now 1 (option_map text_of key.entry) }
+{
+    is_prepared(entries, 1)
+        && is_answered(entries, 1, 2)
+        && is_answered(entries, 1, 3)
+        && is_answered(entries, 1, 4)
+        && is_answered(entries, 1, 5)
+        && (key.is_none() || is_answered(entries, 1, 6))
+}

@@ -1,0 +1,241 @@
+// What is printed of a run.
+ghost use Rattle.std.specs.Prelude.{◌≡◌, ◌≤◌, ◌+◌, ◌++◌, ◌∷◌, [], length, map, codes, if◌then◌else◌, IfOk, List, option_map};
+ghost use Rattle.std.specs.List.{cons_option};
+ghost use Rattle.ann_key.specs.KeyRefs.{text_of};
+ghost use Rattle.annex_model.specs.Lines.{text};
+ghost use Rattle.annex_model.specs.Messages.{HostMessage};
+ghost use Rattle.annex_model.specs.Talks.{said};
+ghost use Rattle.wire_msg.specs.Shown.{host_shown};
+ghost use Rattle.journal_model.specs.Journal.{any};
+ghost use Rattle.journal_model.specs.Parts.{part, item_at};
+ghost use Rattle.journal_model.specs.Output.{why_words};
+ghost use Rattle.task_run.specs.TaskRuns.{refusal_of, lost_verdict};
+ghost use Rattle.info_run.specs.Infos.{questions, lines_of, job_lines, questions_from, failed_words, lost_lines, unready_lines, child_lines, info_lines, is_no_start};
+ghost use Rattle.info_run.specs.Tellings.{HasTold, HasPrinted, HasAnswered, lost_at, mute_lines};
+
+use crate::informed::is_final;
+use crate::questions::questions;
+use crate::telling::InfoText;
+use crate::words::{text_at, why_words};
+use ann_key::{Bytes, KeyRef, NoMemory};
+use annex_model::{Verdict, Why};
+use host_core::{is_mute, is_prepared, is_started, said_at, verdict_of, why_of};
+use journal_model::{Entry, What};
+use std::alloc::Global;
+use wire_msg::HostMsg;
+
+// ---- an answer
+
+fn push_place(
+    told: &mut InfoText,
+    entries: &[Entry],
+    child: u32,
+    job: u64,
+    question: &HostMsg<'_>,
+    at: usize,
+) -> Result<(), NoMemory>
+    ensures { IfOk result (λ _. HasTold (host_shown question.now) (said (cons_option (item_at entries.now child job at) [])) told.old told.new) }
+{
+    match said_at(entries, child, job, at) {
+        Some(line) => told.hear(question, line),
+        None => Ok(()),
+    }
+}
+
+// What the remote said in the job.
+fn push_answer(
+    told: &mut InfoText,
+    entries: &[Entry],
+    child: u32,
+    job: u64,
+    question: &HostMsg<'_>,
+) -> Result<(), NoMemory>
+    ensures { IfOk result (λ _. HasPrinted (lines_of (host_shown question.now) (said (part entries.now child job))) told.old told.new) }
+{
+    told.begin();
+    for at in 0..entries.len() {
+        push_place(told, entries, child, job, question, at)?;
+    }
+    Ok(())
+}
+
+// ---- a child that failed
+
+fn push_why(told: &mut InfoText, entries: &[Entry], why: Why) -> Result<(), NoMemory>
+    ensures { IfOk result (λ _. HasPrinted (why_words entries.now why ∷ []) told.old told.new) }
+{
+    let words = why_words(entries, why);
+    told.push_line(words.fixed, words.told)
+}
+
+fn push_unsent(told: &mut InfoText) -> Result<(), NoMemory>
+    ensures { IfOk result (λ _. HasPrinted (codes "unsent" ∷ []) told.old told.new) }
+{
+    told.push_line(b"unsent", b"")
+}
+
+// Why a request has no answer.
+fn push_failed(told: &mut InfoText, entries: &[Entry], verdict: Verdict) -> Result<(), NoMemory>
+    ensures { IfOk result (λ _. HasPrinted (failed_words entries.now verdict ∷ []) told.old told.new) }
+{
+    match verdict {
+        Verdict::Ended { why } => push_why(told, entries, why),
+        _ => push_unsent(told),
+    }
+}
+
+fn lost_verdict(why: Option<Why>) -> Verdict
+    ensures { result ≡ lost_verdict why }
+{
+    match why {
+        Some(why) => Verdict::Ended { why },
+        None => Verdict::Unsent,
+    }
+}
+
+// What the request stands for that was lost at the place, if one was.
+fn lost_at(entries: &[Entry], c: u32, at: usize) -> Option<Verdict>
+    ensures { result ≡ lost_at c entries.now at }
+{
+    let entry = entries.get(at)?;
+    match entry.what {
+        What::Lost { child, .. } if child == c => Some(lost_verdict(why_of(&entries[..at], c))),
+        _ => None,
+    }
+}
+
+// The requests of the child that were lost.
+fn push_losts(told: &mut InfoText, entries: &[Entry], child: u32) -> Result<(), NoMemory>
+    ensures { IfOk result (λ _. HasPrinted (lost_lines entries.now child) told.old told.new) }
+{
+    for at in 0..entries.len() {
+        if let Some(verdict) = lost_at(entries, child, at) {
+            push_failed(told, entries, verdict)?;
+        }
+    }
+    Ok(())
+}
+
+fn refusal_of(entries: &[Entry], child: u32) -> Option<u64>
+    ensures { result ≡ refusal_of entries.now child }
+{
+    match verdict_of(entries, child, 1) {
+        Some(Verdict::Failed { at } | Verdict::Unsupported { at }) => Some(at),
+        _ => None,
+    }
+}
+
+fn push_mute(told: &mut InfoText, entries: &[Entry], child: u32) -> Result<(), NoMemory>
+    ensures { IfOk result (λ _. HasPrinted (mute_lines entries.now child) told.old told.new) }
+{
+    if is_mute(entries, child) {
+        push_unsent(told)
+    } else {
+        Ok(())
+    }
+}
+
+// A child that isn't ready.
+fn push_unready(told: &mut InfoText, entries: &[Entry], child: u32) -> Result<(), NoMemory>
+    ensures { IfOk result (λ _. HasPrinted (unready_lines entries.now child) told.old told.new) }
+{
+    if let Some(at) = refusal_of(entries, child) {
+        return told.push_line(b"notprepared ", text_at(entries, at));
+    }
+    match why_of(entries, child) {
+        Some(Why::Closed) | None => push_mute(told, entries, child),
+        Some(why) => push_why(told, entries, why),
+    }
+}
+
+// ---- a child that is ready
+
+// What the job's verdict tells, and whether the next job is told too.
+fn push_job(
+    told: &mut InfoText,
+    entries: &[Entry],
+    child: u32,
+    job: u64,
+    question: &HostMsg<'_>,
+) -> Result<bool, NoMemory>
+    ensures { IfOk result (λ more. HasAnswered entries.now child (host_shown question.now) job more told.old told.new) }
+{
+    match verdict_of(entries, child, job) {
+        Some(verdict) if is_final(verdict) => {
+            push_answer(told, entries, child, job, question)?;
+            Ok(true)
+        }
+        Some(verdict) => {
+            push_failed(told, entries, verdict)?;
+            Ok(false)
+        }
+        None => {
+            push_losts(told, entries, child)?;
+            Ok(false)
+        }
+    }
+}
+
+// The jobs from 2 on. One without an answer is the last that is told.
+fn push_questions(
+    told: &mut InfoText,
+    entries: &[Entry],
+    child: u32,
+    questions: &[HostMsg<'_>],
+) -> Result<(), NoMemory>
+    requires { length questions.now ≤ 5 }
+    ensures { IfOk result (λ _. HasPrinted (questions_from entries.now child (map host_shown questions.now) 2) told.old told.new) }
+{
+    for (n, question) in questions.iter().enumerate() {
+        if !push_job(told, entries, child, n as u64 + 2, question)? {
+            return Ok(());
+        }
+    }
+    Ok(())
+}
+
+fn push_child(
+    alloc: Global,
+    told: &mut InfoText,
+    entries: &[Entry],
+    child: u32,
+    key: Option<KeyRef<'_>>,
+) -> Result<(), NoMemory>
+    ensures { IfOk result (λ _. HasPrinted (child_lines entries.now child (option_map text_of key.entry)) told.old told.new) }
+{
+    if is_prepared(entries, child) {
+        let questions = questions(alloc, key)?;
+        push_questions(told, entries, child, &questions)
+    } else {
+        push_unready(told, entries, child)
+    }
+}
+
+fn is_no_start(what: &What) -> bool
+    ensures { result ≡ is_no_start what.now }
+{
+    matches!(what, What::NoStart { .. })
+}
+
+fn has_no_start(entries: &[Entry]) -> bool
+    ensures { result ≡ any is_no_start entries.now }
+{
+    entries.iter().any(|e| is_no_start(&e.what))
+}
+
+/// What is printed of a run over one child, which was asked about itself, and for the key where one is given.
+pub fn print_info(
+    alloc: Global,
+    entries: &[Entry],
+    key: Option<KeyRef<'_>>,
+) -> Result<Bytes, NoMemory>
+    ensures { IfOk result (λ b. b ≡ text (info_lines entries.now (option_map text_of key.entry))) }
+{
+    let mut told = InfoText::new(alloc);
+    if has_no_start(entries) {
+        told.push_line(b"startfault", b"")?;
+    } else if is_started(entries, 1) {
+        push_child(alloc, &mut told, entries, 1, key)?;
+    }
+    Ok(told.into_bytes())
+}
