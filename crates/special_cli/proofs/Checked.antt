@@ -16,7 +16,7 @@ use Rattle.journal_model.specs.Output.{answer_line}
 use Rattle.journal_model.proofs.Projecting.{parts_fit}
 use Rattle.special_cli.proofs.Leaving.{adds_all}
 use Rattle.special_cli.specs.Openings.{check_opening}
-use Rattle.special_cli.specs.Endings.{starts_in, is_for_task, IsChecked, IsPrinted, IsTold}
+use Rattle.special_cli.specs.Endings.{starts_in, is_for_task, status_of, IsChecked, IsPrinted, IsTold}
 use Rattle.special_cli.specs.Objects.{AddsAll, HaveStarted, is_failed_start}
 use Rattle.special_cli.specs.Runs.{IsStart, HasAnswered, HasOneTask}
 
@@ -66,11 +66,11 @@ stays None = tt
 stays (Some x) = refl
 
 pub told_answer : (status : ℕ) (R : Type 0) (taken taken' : Option (List ℕ)) (key : List ℕ) (core kept journal : List Entry) (answers : List Answer) (answer : Answer)
-    → HasAnswered key core answer → kept ≡ core → journal ≡ kept → answers ≡ answer ∷ [] → IsPrinted status taken taken' (answer_line kept 1 answer) answer
+    → HasAnswered key core answer → kept ≡ core → journal ≡ kept → answers ≡ answer ∷ [] → IsPrinted status taken taken' (answer_line kept 1 answer) (status_of answer)
     → IsTold status R taken taken' key journal answers
 told_answer status R taken taken' key core kept journal answers answer run k j one printed =
     let here : HasAnswered key journal answer = subst (λ (x : List Entry). HasAnswered key x answer) (sym (j ∙ k)) run in
-    inl (answer, record { one = one; given = here.1.given; run = here.1.run; cause = here.1.cause }, subst (λ (x : List Entry). IsPrinted status taken taken' (answer_line x 1 answer) answer) (sym j) printed)
+    inl (answer, record { one = one; given = here.1.given; run = here.1.run; cause = here.1.cause; closed = here.1.closed }, subst (λ (x : List Entry). IsPrinted status taken taken' (answer_line x 1 answer) (status_of answer)) (sym j) printed)
 
 pub told_nothing : (status : ℕ) (R : Type 0) (taken : Option (List ℕ)) (key : List ℕ) (journal : List Entry) (answers : List Answer) → answers ≡ [] → (status ≡ 7) ⊎ ((status ≡ 5) × R)
     → IsTold status R taken taken key journal answers
@@ -88,7 +88,7 @@ stays_none None (Some ys) s = absurd s
 stays_none (Some xs) None s = absurd s
 stays_none (Some xs) (Some ys) s = s ∙ sym (append-nil xs)
 
-status_only : (s : ℕ) (R : Type 0) → (s ≡ 7) ⊎ ((s ≡ 5) × R) → (s ≡ 7) ⊎ (s ≡ 5)
+pub status_only : (s : ℕ) (R : Type 0) → (s ≡ 7) ⊎ ((s ≡ 5) × R) → (s ≡ 7) ⊎ (s ≡ 5)
 status_only s R (inl a) = inl a
 status_only s R (inr b) = inr b.0
 

@@ -1,14 +1,16 @@
 -- From a run that has begun to a task that is done.
 use Rattle.std.proofs.Common.{◌≡◌, ◌⊎◌, ◌<◌, ◌^◌, ℕ, List, [], ◌∷◌, ◌++◌, length, refl, sym, ap, subst, ◌∙◌, append_assoc, arith, Bool, true, false, ◌==◌, cond, Some, None, Option, inl, inr}
-use Rattle.std.specs.Prelude.{◌||◌, nat_lt, filter_map, option_and_then, is_some}
+use Rattle.std.specs.Prelude.{◌||◌, nat_lt, filter_map, option_and_then, option_map, is_some}
 use Rattle.std.specs.List.{list_all, list_any, last_or}
 use Rattle.std.proofs.lemmas.List.Folds.{list_any-append}
 use Rattle.annex_model.specs.declared.verdict.Why.{Why}
+use Rattle.annex_model.specs.declared.verdict.Why.TheVariants.{Closed}
 use Rattle.annex_model.specs.declared.verdict.Verdict.{Verdict}
+use Rattle.annex_model.specs.declared.verdict.Verdict.TheVariants.{Failed, Unsupported}
 use Rattle.annex_model.specs.Messages.{HostMessage, Checkpresent, host_line, host_reading, is_sent_key}
 use Rattle.annex_model.proofs.Readings.{canonical_read}
 use Rattle.journal_model.specs.declared.answer.Answer.{Answer}
-use Rattle.journal_model.specs.declared.answer.Answer.TheVariants.{Memory, Unsent as UnsentAnswer, StartFault, Ended as EndedAnswer}
+use Rattle.journal_model.specs.declared.answer.Answer.TheVariants.{Memory, Unsent as UnsentAnswer, StartFault, NotPrepared, Ended as EndedAnswer}
 use Rattle.journal_model.specs.declared.entry.What.{What}
 use Rattle.journal_model.specs.declared.entry.What.TheVariants.{Claim, Start, NoStart, Ask, Lost}
 use Rattle.journal_model.specs.declared.entry.Entry.{Entry}
@@ -20,14 +22,14 @@ use Rattle.journal_model.proofs.Looks.{same, each_of-append, any-append, verdict
 use Rattle.journal_model.proofs.Linking.{why_is_end}
 use Rattle.host_core.specs.Steps.{next_job, may_request}
 use Rattle.host_core.proofs.Wiring.{wired_text}
-use Rattle.task_run.specs.TaskRuns.{Asking, askings, came_of, failed_start, unready_answer, check_answer, lost_verdict, ChildZero, CheckOver, CheckRun}
+use Rattle.task_run.specs.TaskRuns.{Asking, askings, came_of, failed_start, ended_answer, refused_at, refusal_of, or_refusal, gone_answer, unready_answer, check_answer, lost_verdict, ChildZero, CheckOver, CheckRun}
 use Rattle.task_run.proofs.Askings.{asks_for, askings-unasked, askings-ask, askings-lost}
 use Rattle.child_link.specs.Asks.{HasAsked, IsSettled, IsLost, lost_as}
-use Rattle.child_link.specs.Doors.{is_of_link}
+use Rattle.child_link.specs.Doors.{is_closed, is_of_link}
 use Rattle.std.specs.Option.{option_or}
 use Rattle.std.proofs.lemmas.List.{append-nil}
 use Rattle.child_start.proofs.Jobs.{idle_on, idle_asked}
-use Rattle.child_start.specs.Greetings.{IsReady, HasEnded, IsUnsent}
+use Rattle.child_start.specs.Greetings.{is_refusal, IsReady, IsRefused, HasEnded, IsUnsent}
 use Rattle.journal_model.specs.Legality.{Legal}
 use Rattle.special_cli.specs.Causes.{HasCause}
 use Rattle.special_cli.proofs.Causing.{cause_grows, cause_of_verdict, cause_of_lost, cause_of_start}
@@ -83,19 +85,50 @@ module _ (key : List ℕ) (first : What) (past journal : List Entry) (answer : A
       by_why (inl e) = inl e
       by_why (inr e) = inr record { past = past; rest = []; by = 0; claim = refl; why = e }
 
+kept_answer : (why : Why) → is_closed why ≡ false → ended_answer (Some why) ≡ Some (EndedAnswer why)
+kept_answer Closed h = absurd cc
+kept_answer why h = refl
+
+-- a refusal has its place
+refused_place : (v : Verdict) (at : ℕ) → (v ≡ Failed at) ⊎ (v ≡ Unsupported at) → refused_at v ≡ Some at
+refused_place v at (inl e) = ap refused_at e
+refused_place v at (inr e) = ap refused_at e
+
+pub refused_some : (past : List Entry) (c : ℕ) (v : Verdict) → IsRefused past c v → is_some (refused_at v) ≡ true
+refused_some past c v h = ap is_some (refused_place v h.place h.refusal)
+
+-- the child refused to be prepared
+pub refused_start : (past : List Entry) (c : ℕ) (v : Verdict) (answer : Answer) → starts_in past ≡ Start 1 0 false ∷ [] → c ≡ 1 → IsRefused past c v
+    → Some answer ≡ option_map NotPrepared (refused_at v) → failed_start past (last_or None (each_of (came_of 0) past)) ≡ Some answer
+refused_start past c v answer starts one h is =
+    let place : refused_at v ≡ Some h.place = refused_place v h.place h.refusal in
+    let refusal : refusal_of past c ≡ Some h.place = ap (option_and_then refused_at) h.settled ∙ place in
+    let said : unready_answer past c ≡ Some (NotPrepared h.place) = rw h.unprepared (ap (or_refusal (gone_answer past c)) refusal) in
+    ap (failed_start past) (last_came (Start 1 0 false) past starts) ∙ ap (unready_answer past) (sym one) ∙ said ∙ sym (is ∙ ap (option_map NotPrepared) place)
+
+unrefused : (v : Option Verdict) → is_refusal v ≡ false → option_and_then refused_at v ≡ None
+unrefused None h = refl
+unrefused (Some (Failed at)) h = absurd cc
+unrefused (Some (Unsupported at)) h = absurd cc
+unrefused (Some v) h = refl
+
 -- the child has ended before it was prepared
 pub ended_start : (past : List Entry) (c : ℕ) (why : Why) → starts_in past ≡ Start 1 0 false ∷ [] → c ≡ 1 → HasEnded past c why
     → failed_start past (last_or None (each_of (came_of 0) past)) ≡ Some (EndedAnswer why)
 ended_start past c why starts one h =
     let ended : is_ended past c ≡ true = sym (why_is_end past c) ∙ ap is_some h.ended in
-    let said : unready_answer past c ≡ Some (EndedAnswer why) = rw (h.unprepared, ended, h.ended) refl in
+    let none : refusal_of past c ≡ None = unrefused (verdict_of past c 1) h.unrefused in
+    let gone : gone_answer past c ≡ Some (EndedAnswer why) = rw (ended, h.ended) (kept_answer why h.kept) in
+    let said : unready_answer past c ≡ Some (EndedAnswer why) = rw h.unprepared (ap (or_refusal (gone_answer past c)) none ∙ gone) in
     ap (failed_start past) (last_came (Start 1 0 false) past starts) ∙ ap (unready_answer past) (sym one) ∙ said
 
 -- it was mute before it was prepared
 pub unsent_start : (past : List Entry) (c : ℕ) → starts_in past ≡ Start 1 0 false ∷ [] → c ≡ 1 → IsUnsent past c
     → failed_start past (last_or None (each_of (came_of 0) past)) ≡ Some UnsentAnswer
 unsent_start past c starts one h =
-    let said : unready_answer past c ≡ Some UnsentAnswer = rw (h.unprepared, h.live, h.mute) refl in
+    let none : refusal_of past c ≡ None = unrefused (verdict_of past c 1) h.unrefused in
+    let gone : gone_answer past c ≡ Some UnsentAnswer = rw (h.live, h.mute) refl in
+    let said : unready_answer past c ≡ Some UnsentAnswer = rw h.unprepared (ap (or_refusal (gone_answer past c)) none ∙ gone) in
     ap (failed_start past) (last_came (Start 1 0 false) past starts) ∙ ap (unready_answer past) (sym one) ∙ said
 
 -- it wasn't started

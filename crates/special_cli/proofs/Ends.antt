@@ -1,40 +1,25 @@
 -- In a legal journal a job that was settled with its child's end was settled with that very end.
 use Rattle.std.proofs.Common.{◌≡◌, ℕ, List, [], ◌∷◌, ◌++◌, refl, sym, ap, ◌∙◌, Bool, true, false, not, ◌==◌, cond, Some, None, Option, ◌⊎◌, inl, inr, length}
-use Rattle.std.specs.Prelude.{◌&&◌, map, filter, find, option_and_then}
+use Rattle.std.specs.Prelude.{◌&&◌, map, filter}
 use Rattle.std.specs.List.{list_any, cons_option}
 use Rattle.std.specs.Option.{option_or}
 use Rattle.annex_model.specs.declared.verdict.Why.{Why}
-use Rattle.annex_model.specs.declared.verdict.Why.TheVariants.{Foul, Version as VersionFault}
+use Rattle.annex_model.specs.Lines.{has_newline}
 use Rattle.annex_model.specs.declared.verdict.Verdict.{Verdict}
 use Rattle.annex_model.specs.declared.verdict.Verdict.TheVariants.{Ended, Unsent}
 use Rattle.annex_model.specs.declared.verdict.Final.{Final}
-use Rattle.annex_model.specs.declared.verdict.Final.TheVariants.{Done, Absent}
-use Rattle.annex_model.specs.Messages.{RemoteMessage, remote_reading}
+use Rattle.annex_model.specs.declared.verdict.Final.TheVariants.{Done}
 use Rattle.journal_model.specs.declared.entry.What.{What}
 use Rattle.journal_model.specs.declared.entry.What.TheVariants.{Claim, Start, NoStart, Ask, Put, Sent, Mute, Got, End, Verdict as Settled, Lost, Answer as Answered}
 use Rattle.journal_model.specs.declared.entry.Entry.{Entry}
 use Rattle.journal_model.specs.declared.opening.Opening.{Opening}
-use Rattle.journal_model.specs.Journal.{first_of, verdict_of, ends, end_why, why_of, is_started, is_ended, is_live, is_open, is_unsent, open_jobs, has_spoken, addressed}
-use Rattle.journal_model.specs.Parts.{part}
-use Rattle.journal_model.specs.Due.{Hearing, Aside, Part, Settles, Strange, hearing, verdict_at, ending, foul, due_by_got, due_after, after_hearing, after_message, after_line, is_version_one, made_by}
+use Rattle.journal_model.specs.Journal.{first_of, verdict_of, why_of, is_started, is_ended, is_live, is_unsent, is_full, open_jobs}
+use Rattle.journal_model.specs.Due.{verdict_at, ending, due_by_got, due_after, made_by}
 use Rattle.journal_model.specs.Legality.{Legal, may_come, may_stop}
 use Rattle.journal_model.proofs.Growing.{Legal-induction}
-use Rattle.journal_model.proofs.Linking.{unended}
+use Rattle.journal_model.proofs.Linking.{unended, why_of-append}
+use Rattle.journal_model.proofs.Soft.{got_cases}
 use Rattle.journal_model.proofs.Looks.{entry, both, same_number, verdict_of-append, settled_all, verdicts_one, verdicts_none}
-
-ends_why : (c : ℕ) (w : What) → ends c w ≡ true → (why : Why) × (end_why c w ≡ Some why)
-ends_why c (End child why) h = (why, rw h refl)
-ends_why c w h = absurd cc
-
-pub why_of-append : (xs ys : List Entry) (c : ℕ) → why_of (xs ++ ys) c ≡ option_or (why_of xs c) (why_of ys c)
-why_of-append [] ys c = refl
-why_of-append (e ∷ xs) ys c = go (ends c e.what) refl (why_of-append xs ys c)
-  where
-    go : (b : Bool) → ends c e.what ≡ b → why_of (xs ++ ys) c ≡ option_or (why_of xs c) (why_of ys c)
-        → option_and_then (λ (x : Entry). end_why c x.what) (cond b (Some e) (find (λ (x : Entry). ends c x.what) (xs ++ ys)))
-        ≡ option_or (option_and_then (λ (x : Entry). end_why c x.what) (cond b (Some e) (find (λ (x : Entry). ends c x.what) xs))) (why_of ys c)
-    go false h r = r
-    go true h r = let w = ends_why c e.what h in rw w.1 refl
 
 -- ---- groups
 
@@ -87,8 +72,8 @@ none_final by child j at f c k w is = go (child == c && j == k) f is
   where
     go : (b : Bool) (f : Final) → first_of (cons_option (cond b (Some (verdict_at f at)) None) []) ≡ Some (Ended w) → ⊥
     go true Done e = cc
-    go true Absent e = cc
-    go false f e = cc
+    go true g e = cc
+    go false g e = cc
 
 so_ending : (past : List Entry) (by c : ℕ) (why : Why) → EndsSo c (made_by by (ending past c why))
 so_ending past by c why = so_end by c why (open_jobs past c)
@@ -96,32 +81,10 @@ so_ending past by c why = so_end by c why (open_jobs past c)
 so_nothing : (child : ℕ) → EndsSo child []
 so_nothing child c k w is = absurd cc
 
-so_hearing : (o : Opening) (past : List Entry) (by c j : ℕ) (m : RemoteMessage) (h : Hearing) → EndsSo c (made_by by (after_hearing o past c j m h))
-so_hearing o past by c j m Aside = so_nothing c
-so_hearing o past by c j m Part = so_nothing c
-so_hearing o past by c j m (Settles f) = so_none c (made_by by (after_hearing o past c j m (Settles f))) (none_final by c j (length past) f)
-so_hearing o past by c j m Strange = so_ending past by c (Foul (length past))
-
-so_message : (o : Opening) (past : List Entry) (by c : ℕ) (job : Option ℕ) (m : RemoteMessage) → EndsSo c (made_by by (after_message o past c job m))
-so_message o past by c None m = so_ending past by c (Foul (length past))
-so_message o past by c (Some j) m = go (is_open past c j)
-  where
-    go : (b : Bool) → EndsSo c (made_by by (cond b (after_hearing o past c j m (hearing (part past c j) m)) (foul past c)))
-    go true = so_hearing o past by c j m (hearing (part past c j) m)
-    go false = so_ending past by c (Foul (length past))
-
-so_reading : (o : Opening) (past : List Entry) (by c : ℕ) (job : Option ℕ) (m : Option RemoteMessage) → EndsSo c (made_by by (after_line o past c job m))
-so_reading o past by c job None = so_ending past by c (Foul (length past))
-so_reading o past by c job (Some m) = so_message o past by c job m
-
 so_got : (o : Opening) (past : List Entry) (by c : ℕ) (line : List ℕ) → EndsSo c (made_by by (due_by_got o past c line))
-so_got o past by c line = go (not (has_spoken past c)) (is_version_one (remote_reading line))
-  where
-    go : (b v : Bool) → EndsSo c (made_by by (cond b (cond v [] (ending past c (VersionFault (length past))))
-        (after_line o past c (addressed past c line).0 (remote_reading (addressed past c line).1))))
-    go true true = so_nothing c
-    go true false = so_ending past by c (VersionFault (length past))
-    go false v = so_reading o past by c (addressed past c line).0 (remote_reading (addressed past c line).1)
+so_got o past by c line =
+    got_cases (λ ws. EndsSo c (made_by by ws)) o past c (so_nothing c) (λ why soft. so_ending past by c why)
+    (λ j f opened. so_none c (made_by by (Settled c j (verdict_at f (length past)) ∷ [])) (none_final by c j (length past) f)) line
 
 live_unended : (past : List Entry) (child : ℕ) → is_live past child ≡ true → is_ended past child ≡ false
 live_unended past child h = go (is_ended past child) (both (is_started past child) (not (is_ended past child)) h).1
@@ -135,7 +98,7 @@ so_group : (o : Opening) (past : List Entry) (by : ℕ) (w : What) → may_come 
     → verdict_of (entry by w ∷ due_after o past (entry by w)) c k ≡ Some (Ended v) → (why_of (entry by w ∷ due_after o past (entry by w)) c ≡ Some v) × (is_ended past c ≡ false)
 so_group o past by (Got child line) may c k v is =
     let t = so_got o past by child line c k v is in
-    (t.0, ap (is_ended past) (sym t.1) ∙ live_unended past child (both (is_live past child) _ may).0)
+    (t.0, ap (is_ended past) (sym t.1) ∙ live_unended past child (both (is_live past child) (not (has_newline line)) (both (is_live past child && not (has_newline line)) (not (is_full past)) may).0).0)
 so_group o past by (End child why) may c k v is =
     let t = so_end by child why (open_jobs past child) c k v is in
     (t.0, ap (is_ended past) (sym t.1) ∙ live_unended past child (both (is_live past child) (may_stop past child why) may).0)

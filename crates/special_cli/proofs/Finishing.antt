@@ -6,10 +6,10 @@ use Rattle.annex_model.specs.declared.verdict.Why.TheVariants.{Closed}
 use Rattle.journal_model.specs.declared.answer.Answer.{Answer}
 use Rattle.journal_model.specs.declared.answer.Answer.TheVariants.{Memory}
 use Rattle.journal_model.specs.declared.entry.What.{What}
-use Rattle.journal_model.specs.declared.entry.What.TheVariants.{Claim, Answer as Answered}
+use Rattle.journal_model.specs.declared.entry.What.TheVariants.{Claim, End, Answer as Answered}
 use Rattle.journal_model.specs.declared.entry.Entry.{Entry}
 use Rattle.journal_model.specs.Output.{answer_in}
-use Rattle.journal_model.specs.Journal.{any, each_of, starts, is_started, open_jobs}
+use Rattle.journal_model.specs.Journal.{any, each_of, starts, ends, is_started, is_ended, is_live, open_jobs}
 use Rattle.journal_model.specs.Legality.{answers, claimed_for, is_claimed, is_busy, has_busy_task, has_open_job, may_stop}
 use Rattle.journal_model.proofs.Looks.{same, each_of-append, any-append}
 use Rattle.journal_model.proofs.Linking.{linked_apart}
@@ -17,15 +17,15 @@ use Rattle.journal_model.proofs.Heard.{heard_on}
 use Rattle.host_core.specs.Steps.{may_answer}
 use Rattle.task_run.specs.TaskRuns.{Asking, ChildZero, CheckOver, CheckRun}
 use Rattle.task_run.proofs.Askings.{asks_for, askings-unasked}
-use Rattle.child_link.specs.Doors.{is_of_link}
+use Rattle.child_link.specs.Doors.{Closes}
 use Rattle.child_link.specs.Links.{LinkValue, IsLinked}
 use Rattle.child_start.specs.Greetings.{Greeted}
 use Rattle.child_start.proofs.Jobs.{idle_on}
-use Rattle.special_cli.specs.Endings.{start_in, is_for_task}
+use Rattle.special_cli.specs.Endings.{start_in, is_for_task, closing}
 use Rattle.special_cli.specs.Runs.{main_entry, claim_in, IsDone, IsRun}
 use Rattle.special_cli.proofs.Causing.{cause_grows}
-use Rattle.special_cli.proofs.Looking.{or_true, link_says_none, through, all_both, all_weaken, any_none}
-use Rattle.special_cli.proofs.Beginning.{no_starts, no_claims, no_answers, link_for_task, link_asks_none, claimed_by_list, answered_by_list, first_claim}
+use Rattle.special_cli.proofs.Looking.{or_true, through, all_both}
+use Rattle.special_cli.proofs.Beginning.{claimed_by_list, answered_by_list, first_claim}
 
 -- the answer may be given
 pub may_give : (key : List ℕ) (first : What) (journal : List Entry) (answer : Answer) → IsDone key first journal answer → may_answer journal 0 1 ≡ true
@@ -91,24 +91,64 @@ over_grows key past more answer zero idle none h = (askings-unasked past more 1 
     }
 over_grows key past more answer (suc child) idle none h = subst (λ (xs : List Asking). CheckRun key xs answer) (sym (askings-unasked past more 1 idle none)) h
 
--- behind the answer stands what the child's link does alone
-pub run_done : (key : List ℕ) (first : What) (past more journal : List Entry) (answer : Answer) → IsDone key first past answer → journal ≡ past ++ main_entry (Answered 1 answer) ∷ more
-    → list_all (λ (e : Entry). is_of_link e.what) more ≡ true → IsRun key first journal answer
-run_done key first past more journal answer d grown quiet =
+-- the closing asks, claims, starts and answers nothing
+record IsQuiet (more : List Entry) : Type 0 where
+  unasked : any (asks_for 1) more ≡ false
+  claims : each_of claim_in more ≡ []
+  starts : each_of start_in more ≡ []
+  answers : each_of answer_in more ≡ []
+  tasked : list_all (λ (e : Entry). is_for_task e.what) more ≡ true
+
+closing_quiet : (past : List Entry) → IsQuiet (closing past)
+closing_quiet past = go (is_live past 1)
+  where
+    go : (b : Bool) → IsQuiet (cond b (main_entry (End 1 Closed) ∷ []) [])
+    go true = record { unasked = refl; claims = refl; starts = refl; answers = refl; tasked = refl }
+    go false = record { unasked = refl; claims = refl; starts = refl; answers = refl; tasked = refl }
+
+-- behind the answer stands the closing
+pub run_done : (key : List ℕ) (first : What) (past journal : List Entry) (answer : Answer) → IsDone key first past answer
+    → journal ≡ past ++ main_entry (Answered 1 answer) ∷ closing past → IsRun key first journal answer
+run_done key first past journal answer d grown =
+    let more : List Entry = closing past in
+    let q : IsQuiet more = closing_quiet past in
     let rest : List Entry = main_entry (Answered 1 answer) ∷ more in
-    let none : any (asks_for 1) more ≡ false = any_none is_of_link (asks_for 1) link_asks_none more quiet in
-    let claims : each_of claim_in (past ++ rest) ≡ (1, d.child) ∷ [] = each_of-append claim_in past rest ∙ (rw (d.claims, link_says_none claim_in no_claims more quiet) refl) in
+    let claims : each_of claim_in (past ++ rest) ≡ (1, d.child) ∷ [] = each_of-append claim_in past rest ∙ (rw (d.claims, q.claims) refl) in
     let before : CheckOver key past 1 answer (Some d.child) = subst (CheckOver key past 1 answer) (first_claim past d.child d.claims) d.run in
-    let after : CheckOver key (past ++ rest) 1 answer (Some d.child) = over_grows key past rest answer d.child d.idle none before in
+    let after : CheckOver key (past ++ rest) 1 answer (Some d.child) = over_grows key past rest answer d.child d.idle q.unasked before in
     subst (λ (j : List Entry). IsRun key first j answer) (sym grown) record {
       is_start = d.is_start;
-      starts = each_of-append start_in past rest ∙ (rw (d.starts, link_says_none start_in no_starts more quiet) refl);
+      starts = each_of-append start_in past rest ∙ (rw (d.starts, q.starts) refl);
       claims = (d.child, claims);
-      given = each_of-append answer_in past rest ∙ (rw (d.silent, link_says_none answer_in no_answers more quiet) refl);
+      given = each_of-append answer_in past rest ∙ (rw (d.silent, q.answers) refl);
       run = subst (CheckOver key (past ++ rest) 1 answer) (sym (first_claim (past ++ rest) d.child claims)) after;
       cause = cause_grows past rest answer d.cause;
-      tasked = all_both is_for_task past rest d.tasked (all_weaken is_of_link is_for_task link_for_task more quiet);
+      closed = (past, refl);
+      tasked = all_both is_for_task past rest d.tasked q.tasked;
     }
+
+-- the one child is closed behind the answer
+pub closed_over : (past mid journal : List Entry) (c : ℕ) (answer : Answer) → c ≡ 1 → is_started past c ≡ true → mid ≡ past ++ main_entry (Answered 1 answer) ∷ []
+    → Closes 0 c mid journal → journal ≡ past ++ main_entry (Answered 1 answer) ∷ closing past
+closed_over past mid journal c answer one was given closes =
+    go (is_ended past 1) refl (
+    subst (λ (j : List Entry). Closes 0 1 j journal) given (subst (λ (k : ℕ). Closes 0 k mid journal) one closes)
+    ∙ ap (λ (b : Bool). cond b all (all ++ main_entry (End 1 Closed) ∷ [])) (any-append (ends 1) past (main_entry (Answered 1 answer) ∷ []) ∙ or_false (is_ended past 1))
+    )
+  where
+    all : List Entry
+    all = past ++ main_entry (Answered 1 answer) ∷ []
+
+    or_false : (b : Bool) → (b || false) ≡ b
+    or_false true = refl
+    or_false false = refl
+
+    started : is_started past 1 ≡ true
+    started = ap (is_started past) (sym one) ∙ was
+
+    go : (b : Bool) → is_ended past 1 ≡ b → journal ≡ cond b all (all ++ main_entry (End 1 Closed) ∷ []) → journal ≡ past ++ main_entry (Answered 1 answer) ∷ closing past
+    go true e h = h ∙ (rw (started, e) refl)
+    go false e h = h ∙ append_assoc past (main_entry (Answered 1 answer) ∷ []) (main_entry (End 1 Closed) ∷ []) ∙ (rw (started, e) refl)
 
 -- ---- links
 

@@ -1,28 +1,38 @@
 -- What a run leaves of its programs and its child.
 use Rattle.std.proofs.Common.{◌≡◌, ℕ, List, [], ◌∷◌, length, refl, sym, ap, subst, ◌∙◌, Bool, true, false, Some, None, Option, length-append}
-use Rattle.std.specs.Prelude.{IsTrue, filter_map, option_and_then}
+use Rattle.std.specs.Prelude.{IsTrue, filter_map, option_and_then, option_map}
 use Rattle.std.specs.List.{list_any}
 use Rattle.ann_outside.specs.Starts.{Starts, IsNumbered}
 use Rattle.ann_outside.specs.Causes.{AddsOne, Stays}
 use Rattle.annex_model.specs.declared.verdict.Why.{Why}
-use Rattle.journal_model.specs.declared.answer.Answer.TheVariants.{Unsent as UnsentAnswer, Ended as EndedAnswer}
+use Rattle.annex_model.specs.declared.verdict.Verdict.{Verdict}
+use Rattle.journal_model.specs.declared.answer.Answer.{Answer}
+use Rattle.journal_model.specs.declared.answer.Answer.TheVariants.{Unsent as UnsentAnswer, NotPrepared, Ended as EndedAnswer}
 use Rattle.journal_model.specs.declared.entry.What.{What}
 use Rattle.journal_model.specs.declared.entry.What.TheVariants.{Start, NoStart}
 use Rattle.journal_model.specs.declared.entry.Entry.{Entry}
 use Rattle.journal_model.specs.Journal.{any}
 use Rattle.journal_model.specs.Wires.{Wired, Caused, is_heard_in_turn}
+use Rattle.task_run.specs.TaskRuns.{refused_at}
 use Rattle.child_link.specs.declared.wire.Wire.{Wire}
 use Rattle.child_link.specs.Links.{LinkValue, IsLinked}
-use Rattle.child_start.specs.Greetings.{Greeted, HasEnded, IsUnsent, AreNumbered}
+use Rattle.child_start.specs.Greetings.{Greeted, IsRefused, HasEnded, IsUnsent, AreNumbered}
 use Rattle.special_cli.specs.Endings.{start_in, starts_in}
 use Rattle.special_cli.specs.Objects.{came_in, came, IsOfStart, IsWire, AreWires, OneIsLeft, told_in, told, AddsAll, is_failed_start}
 use Rattle.special_cli.specs.Runs.{IsUnready}
 use Rattle.special_cli.proofs.Looking.{through, any_through}
 use Rattle.special_cli.proofs.Beginning.{begun_child}
 use Rattle.special_cli.proofs.Causing.{failed_is}
-use Rattle.special_cli.proofs.Doing.{ended_start, unsent_start}
+use Rattle.special_cli.proofs.Doing.{refused_start, ended_start, unsent_start}
 
 -- ---- a child that is not ready
+
+pub unready_refused : (old new : List Entry) (c : ℕ) (v : Verdict) (answer : Answer) → old ≡ [] → Greeted old new 0 false c → IsRefused new c v
+    → Some answer ≡ option_map NotPrepared (refused_at v) → IsUnready new answer
+unready_refused old new c v answer none g h is =
+    let greeted : Greeted [] new 0 false c = subst (λ (j : List Entry). Greeted j new 0 false c) none g in
+    let begun = begun_child new c greeted in
+    record { begun = begun; why = refused_start new c v answer begun.starts greeted.next h is }
 
 pub unready_ended : (old new : List Entry) (c : ℕ) (why : Why) → old ≡ [] → Greeted old new 0 false c → HasEnded new c why → IsUnready new (EndedAnswer why)
 unready_ended old new c why none g h =

@@ -1,10 +1,14 @@
+pub mod Asked
 pub mod Beginning
 pub mod Causing
 pub mod Checked
 pub mod Doing
 pub mod Ends
 pub mod Finishing
+pub mod Informed
 pub mod Leaving
 pub mod Looking
-pub mod Wishes
 pub mod Refusing
+pub mod Talking
+pub mod Telling
+pub mod Wishes

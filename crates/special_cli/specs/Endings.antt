@@ -1,38 +1,47 @@
 -- Which words and keys end a call before any child, and what is told of a check.
-use Rattle.std.specs.Prelude.{ℕ, ◌≡◌, ◌⊎◌, ◌==◌, ◌||◌, not, nat_lt, Bool, true, false, List, [], ◌∷◌, take, Option, Some, None, IfSome}
+use Rattle.std.specs.Prelude.{ℕ, ◌≡◌, ◌⊎◌, ◌==◌, ◌||◌, not, nat_lt, if◌then◌else◌, Bool, true, false, List, [], ◌∷◌, ◌++◌, take, Option, Some, None, IfSome}
 use Rattle.std.specs.List.{list_all}
 use Rattle.std.specs.Io.KnownBytes.{Appends}
 use Rattle.ann_outside.specs.Causes.{Stays}
+use Rattle.annex_model.specs.declared.verdict.Why.TheVariants.{Closed}
 use Rattle.journal_model.specs.declared.answer.Answer.{Answer}
 use Rattle.journal_model.specs.declared.answer.Answer.TheVariants.{Present}
 use Rattle.journal_model.specs.Output.{answer_line, answers_in}
 use Rattle.journal_model.specs.declared.entry.What.{What}
-use Rattle.journal_model.specs.declared.entry.What.TheVariants.{Start, NoStart, Ask}
+use Rattle.journal_model.specs.declared.entry.What.TheVariants.{Start, NoStart, Ask, End, Answer as Answered}
 use Rattle.journal_model.specs.declared.entry.Entry.{Entry}
-use Rattle.journal_model.specs.Journal.{each_of}
+use Rattle.journal_model.specs.Journal.{each_of, is_live}
 use Rattle.journal_model.specs.Due.{replies_at}
 use Rattle.journal_model.specs.Legality.{Legal}
 use Rattle.journal_model.specs.Projection.{JobFits}
 use Rattle.task_run.specs.TaskRuns.{CheckTask}
 use Rattle.special_cli.specs.Causes.{HasCause}
-use Rattle.special_cli.specs.Words.{Wish, Check}
-use Rattle.special_cli.specs.Refusals.{refusal_of}
+use Rattle.special_cli.specs.Words.{Wish, Check, Info}
+use Rattle.special_cli.specs.Refusals.{refusal_of, refusal_if, unless}
 use Rattle.special_cli.specs.Openings.{check_opening}
 use Rattle.special_cli.specs.declared.refusals.Reason.{Reason}
 
--- the key of a check is refused so
+-- the key of a check or an info is refused so
 abbrev pub refused_in : Option Wish → Option Reason
 refused_in (Some (Check program key)) = refusal_of key
+refused_in (Some (Info program key)) = refusal_if key
 refused_in wish = None
 
 -- the program and the key of a check whose key is not refused
 abbrev pub check_in : Option Wish → Option (List ℕ × List ℕ)
-check_in (Some (Check program key)) = unless (refusal_of key) program key
-  where
-    unless : Option Reason → List ℕ → List ℕ → Option (List ℕ × List ℕ)
-    unless None program key = Some (program, key)
-    unless (Some reason) program key = None
+check_in (Some (Check program key)) = unless (refusal_of key) (program, key)
 check_in wish = None
+
+-- the program of an info, and its key where it has one, which is not refused
+abbrev pub info_in : Option Wish → Option (List ℕ × Option (List ℕ))
+info_in (Some (Info program key)) = unless (refusal_if key) (program, key)
+info_in wish = None
+
+-- the program of such a check or info
+abbrev pub run_in : Option Wish → Option (List ℕ)
+run_in (Some (Check program key)) = unless (refusal_of key) program
+run_in (Some (Info program key)) = unless (refusal_if key) program
+run_in wish = None
 
 -- ---- the journal
 
@@ -67,19 +76,29 @@ abbrev pub status_of : Answer → ℕ
 status_of Present = 0
 status_of answer = 1
 
--- there is one answer: the one that the journal gave, and what the task's requests say; where no line said it, it has its cause
+-- the closing of the child, where one was started and has not ended
+abbrev pub closing : List Entry → List Entry
+closing past = if is_live past 1 then record { by = 0; what = End 1 Closed } ∷ [] else []
+
+-- the journal ends with the answer, and then the closing
+abbrev pub IsClosed : List Entry → Answer → Type 0
+IsClosed journal answer = (past : List Entry) × (journal ≡ past ++ record { by = 0; what = Answered 1 answer } ∷ closing past)
+
+-- There is one answer: the one that the journal gave, and what the task's requests say; where no line said it, it has its
+-- cause. Behind it the child is closed.
 pub record IsAnswered (key : List ℕ) (journal : List Entry) (answers : List Answer) (answer : Answer) : Type 0 where
   pub one : answers ≡ answer ∷ []
   pub given : answers_in journal ≡ (1, answer) ∷ []
   pub run : CheckTask key journal 1 answer
   pub cause : HasCause journal answer
+  pub closed : IsClosed journal answer
 
--- out gained the line, and the status is the answer's; or at status 5 or 7 it gained the first bytes of the line, which may be
--- none or all
-abbrev pub IsPrinted : ℕ → Option (List ℕ) → Option (List ℕ) → List ℕ → Answer → Type 0
-IsPrinted status taken taken' line answer =
-    ((status ≡ status_of answer) × Appends taken taken' line)
-    ⊎ (((status ≡ 5) ⊎ (status ≡ 7)) × ((n : ℕ) × Appends taken taken' (take n line)))
+-- out gained the text, and the status is the one that goes with it; or at status 5 or 7 it gained the first bytes of the text,
+-- which may be none or all
+abbrev pub IsPrinted : ℕ → Option (List ℕ) → Option (List ℕ) → List ℕ → ℕ → Type 0
+IsPrinted status taken taken' text wanted =
+    ((status ≡ wanted) × Appends taken taken' text)
+    ⊎ (((status ≡ 5) ⊎ (status ≡ 7)) × ((n : ℕ) × Appends taken taken' (take n text)))
 
 -- no memory was found for an answer, and nothing was printed to out
 pub record IsUnanswered (status : ℕ) (err_rose : Type 0) (taken taken' : Option (List ℕ)) (answers : List Answer) : Type 0 where
@@ -89,5 +108,5 @@ pub record IsUnanswered (status : ℕ) (err_rose : Type 0) (taken taken' : Optio
 
 abbrev pub IsTold : ℕ → Type 0 → Option (List ℕ) → Option (List ℕ) → List ℕ → List Entry → List Answer → Type 0
 IsTold status err_rose taken taken' key journal answers =
-    ((answer : Answer) × IsAnswered key journal answers answer × IsPrinted status taken taken' (answer_line journal 1 answer) answer)
+    ((answer : Answer) × IsAnswered key journal answers answer × IsPrinted status taken taken' (answer_line journal 1 answer) (status_of answer))
     ⊎ IsUnanswered status err_rose taken taken' answers

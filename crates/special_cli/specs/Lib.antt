@@ -1,9 +1,11 @@
 pub mod Causes
 pub mod Endings
+pub mod Informs
 pub mod Objects
 pub mod Openings
 pub mod Refusals
 pub mod Rows
 pub mod Runs
+pub mod Talks
 pub mod Texts
 pub mod Words

@@ -1,5 +1,5 @@
 -- Why a key is refused.
-use Rattle.std.specs.Prelude.{ℕ, ◌≡◌, not, if◌then◌else◌, List, Option, Some, None, is_some, IsTrue}
+use Rattle.std.specs.Prelude.{ℕ, ◌≡◌, not, if◌then◌else◌, List, Option, Some, None, is_some, option_and_then, IsTrue}
 use Rattle.ann_key.specs.Keys.{Parts, IsKey, key_reading, is_sendable}
 use Rattle.special_cli.specs.declared.refusals.Reason.{Reason}
 use Rattle.special_cli.specs.declared.refusals.Reason.TheVariants.{Key, Unsendable, ChunkKey}
@@ -14,6 +14,15 @@ refusal_in bytes (Some parts) =
 
 abbrev pub refusal_of : List ℕ → Option Reason
 refusal_of bytes = refusal_in bytes (key_reading bytes)
+
+-- a key that isn't given isn't refused
+abbrev pub refusal_if : Option (List ℕ) → Option Reason
+refusal_if key = option_and_then refusal_of key
+
+-- what is refused so is left out
+abbrev pub unless : {X : Type 0} → Option Reason → X → Option X
+unless None x = Some x
+unless (Some reason) x = None
 
 -- the bytes spell a key that can stand in a request and has no chunk fields
 pub record IsTaskKey (bytes : List ℕ) : Type 0 where

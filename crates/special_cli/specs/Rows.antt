@@ -1,8 +1,9 @@
--- The wire of a worked check.
+-- The wire of a worked check, and an info that asks nothing.
 use Rattle.std.specs.Prelude.{ℕ, List, [], ◌∷◌, ◌++◌, Option, Some, codes}
 use Rattle.annex_model.specs.Lines.{text}
 use Rattle.journal_model.specs.Journal.{got_lines}
-use Rattle.journal_model.specs.Rows.{sample_key, check_present}
+use Rattle.journal_model.specs.declared.entry.Entry.{Entry}
+use Rattle.journal_model.specs.Rows.{sample_key, greeting, closed, check_present}
 use Rattle.child_link.specs.declared.wire.Wire.{Wire}
 use Rattle.special_cli.specs.Objects.{AreWires, came}
 
@@ -24,3 +25,7 @@ abbrev pub HasWires : Option ℕ → List (Wire Half Half) → Type 0
 HasWires number wires =
     AreWires (λ (x : Half). x) (λ (x : Half). 0) (λ (x : Half). number) (λ (x : Half). x) (λ (x : Half). Some []) (λ (x : Half). 0) (λ (x : Half). number)
     (Some []) check_present 0 (came check_present) wires
+
+-- the child got ready, and was closed before it was asked about itself
+abbrev pub unasked : List Entry
+unasked = greeting ++ closed ∷ []

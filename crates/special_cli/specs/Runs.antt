@@ -15,7 +15,7 @@ use Rattle.journal_model.specs.Legality.{is_claimed_by, job_for, has_open_job}
 use Rattle.task_run.specs.TaskRuns.{askings, came_of, failed_start, check_answer, CheckTask}
 use Rattle.child_link.specs.Asks.{HasAsked}
 use Rattle.special_cli.specs.Causes.{HasCause}
-use Rattle.special_cli.specs.Endings.{starts_in, is_for_task}
+use Rattle.special_cli.specs.Endings.{starts_in, is_for_task, IsClosed}
 
 -- an entry of the main thread's own
 abbrev pub main_entry : What → Entry
@@ -53,7 +53,7 @@ pub record IsDone (key : List ℕ) (first : What) (journal : List Entry) (answer
   pub cause : HasCause journal answer
   pub tasked : list_all (λ e. is_for_task e.what) journal ≡ true
 
--- the answer is given
+-- the answer is given, and the child is closed
 pub record IsRun (key : List ℕ) (first : What) (journal : List Entry) (answer : Answer) : Type 0 where
   pub is_start : IsStart first
   pub starts : starts_in journal ≡ first ∷ []
@@ -61,6 +61,7 @@ pub record IsRun (key : List ℕ) (first : What) (journal : List Entry) (answer 
   pub given : answers_in journal ≡ (1, answer) ∷ []
   pub run : CheckTask key journal 1 answer
   pub cause : HasCause journal answer
+  pub closed : IsClosed journal answer
   pub tasked : list_all (λ e. is_for_task e.what) journal ≡ true
 
 -- the run has one task

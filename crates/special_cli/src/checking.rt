@@ -1,14 +1,15 @@
 // The one task of a check, event by event through the core, over a child that was greeted or over none.
-ghost use Rattle.std.specs.Prelude.{◌≡◌, ◌++◌, ℕ, List, [], ◌∷◌, Some, true, false, if◌then◌else◌, MatchResult};
+ghost use Rattle.std.specs.Prelude.{◌≡◌, ◌++◌, ℕ, List, [], ◌∷◌, Some, true, false, if◌then◌else◌, MatchResult, IfOk};
 ghost use Rattle.annex_model.specs.Messages.{Checkpresent, is_sent_key};
 ghost use Rattle.annex_model.specs.declared.verdict.Why.TheVariants.{Closed};
 ghost use Rattle.journal_model.specs.declared.entry.What.TheVariants.{Claim, Start, NoStart, Answer as Answered};
 ghost use Rattle.journal_model.specs.declared.entry.What.{What};
 ghost use Rattle.journal_model.specs.Journal.{is_started, open_jobs};
 ghost use Rattle.journal_model.specs.Legality.{Legal, least_free, is_prepared, may_stop};
+ghost use Rattle.journal_model.specs.Projection.{IsNamed};
 ghost use Rattle.host_core.specs.Steps.{may_answer, may_request};
 ghost use Rattle.child_link.specs.Asks.{HasAsked};
-ghost use Rattle.child_link.specs.Doors.{GoesOn};
+ghost use Rattle.child_link.specs.Doors.{Closes};
 ghost use Rattle.child_link.specs.Links.{IsLinked};
 ghost use Rattle.child_start.specs.Greetings.{Greeted, IsReady};
 ghost use Rattle.special_cli.specs.Runs.{main_entry, AsksFor, IsUnready, IsDone, IsRun, HasOneTask};
@@ -65,6 +66,7 @@ fn ask<I: Sink, O: Source>(
     requires started { is_started core.old.journal link.old.child ≡ true }
     requires may { may_request core.old.journal 0 1 link.old.child (Checkpresent key) ≡ true }
     ensures asked { MatchResult result (HasAsked core.old.opening core.old.journal core.new.journal 0 link.old.child 1 (Checkpresent key)) (λ _. core.new.journal ≡ core.old.journal) }
+    ensures named { Legal core.old.opening core.old.journal → IfOk result (IsNamed (Checkpresent key)) }
     ensures linked { IsLinked I.taken I.faults O.given O.left O.faults core.old.journal link.old → IsLinked I.taken I.faults O.given O.left O.faults core.new.journal link.new }
     ensures child { link.new.child ≡ link.old.child }
     ensures numbers { (I.number link.new.inlet ≡ I.number link.old.inlet) × (O.number link.new.outlet ≡ O.number link.old.outlet) }
@@ -76,10 +78,10 @@ fn ask<I: Sink, O: Source>(
 }
 
 // The child is closed.
-fn close<I: Sink, O: Source>(link: &mut Lone<I, O>, core: &mut Core)
+pub(super) fn close<I: Sink, O: Source>(link: &mut Lone<I, O>, core: &mut Core)
     requires started { is_started core.old.journal link.old.child ≡ true }
     requires idle { may_stop core.old.journal link.old.child Closed ≡ true }
-    ensures goes { GoesOn core.old.journal core.new.journal }
+    ensures closes { Closes 0 link.old.child core.old.journal core.new.journal }
     ensures linked { IsLinked I.taken I.faults O.given O.left O.faults core.old.journal link.old → IsLinked I.taken I.faults O.given O.left O.faults core.new.journal link.new }
     ensures child { link.new.child ≡ link.old.child }
     ensures numbers { (I.number link.new.inlet ≡ I.number link.old.inlet) × (O.number link.new.outlet ≡ O.number link.old.outlet) }
@@ -90,8 +92,10 @@ fn close<I: Sink, O: Source>(link: &mut Lone<I, O>, core: &mut Core)
     link.close(&mut door);
 }
 
-// What comes of asking the child for the key.
+// What comes of asking the child for the key. No line says that a check failed.
+#[tactic(auto, using(crate::proofs::Causing::check_settles))]
 fn answer_of<I: Sink, O: Source>(link: &mut Lone<I, O>, core: &mut Core, key: Key) -> Answer
+    requires legal { Legal core.old.opening core.old.journal }
     requires started { is_started core.old.journal link.old.child ≡ true }
     requires may { may_request core.old.journal 0 1 link.old.child (Checkpresent key) ≡ true }
     ensures asked { AsksFor core.old.opening core.old.journal core.new.journal link.old.child key result }
@@ -99,7 +103,7 @@ fn answer_of<I: Sink, O: Source>(link: &mut Lone<I, O>, core: &mut Core, key: Ke
     ensures child { link.new.child ≡ link.old.child }
     ensures numbers { (I.number link.new.inlet ≡ I.number link.old.inlet) × (O.number link.new.outlet ≡ O.number link.old.outlet) }
     ensures opening { core.new.opening ≡ core.old.opening }
-    ensures legal { Legal core.old.opening core.old.journal → Legal core.new.opening core.new.journal }
+    ensures legal { Legal core.new.opening core.new.journal }
 {
     match ask(link, core, key) {
         Ok(verdict) => check_answer(verdict),
@@ -137,6 +141,7 @@ fn end<I: Sink, O: Source>(link: &mut Lone<I, O>, core: &mut Core, answer: Answe
     requires done { (key : List ℕ) × (first : What) × IsDone key first core.old.journal answer }
     requires idle { open_jobs core.old.journal link.old.child ≡ [] }
     requires started { is_started core.old.journal link.old.child ≡ true }
+    requires number { link.old.child ≡ 1 }
     ensures run { (key : List ℕ) (first : What) → IsDone key first core.old.journal answer → IsRun key first core.new.journal answer }
     ensures linked { IsLinked I.taken I.faults O.given O.left O.faults core.old.journal link.old → IsLinked I.taken I.faults O.given O.left O.faults core.new.journal link.new }
     ensures child { link.new.child ≡ link.old.child }
@@ -172,6 +177,7 @@ pub(super) fn give_up<I: Sink, O: Source>(link: &mut Lone<I, O>, core: &mut Core
     requires unready { IsUnready core.old.journal answer }
     requires idle { open_jobs core.old.journal link.old.child ≡ [] }
     requires started { is_started core.old.journal link.old.child ≡ true }
+    requires number { link.old.child ≡ 1 }
     ensures run { (key : List ℕ) → IsRun key (Start 1 0 false) core.new.journal answer }
     ensures linked { IsLinked I.taken I.faults O.given O.left O.faults core.old.journal link.old → IsLinked I.taken I.faults O.given O.left O.faults core.new.journal link.new }
     ensures child { link.new.child ≡ link.old.child }

@@ -1,25 +1,46 @@
 // Laws over the definitions, each the contract of a function with nothing to do.
-ghost use Rattle.std.specs.Prelude.{◌≡◌, ◌++◌, [], ◌∷◌, Some, None, codes, true, false};
-ghost use Rattle.journal_model.specs.declared.answer.Answer.TheVariants.{Present, Absent};
+ghost use Rattle.std.specs.Prelude.{ℕ, ◌≡◌, ◌++◌, List, [], ◌∷◌, Option, Some, None, codes, true, false};
+ghost use Rattle.annex_model.specs.declared.verdict.Why.TheVariants.{Error};
+ghost use Rattle.journal_model.specs.declared.answer.Answer.{Answer};
+ghost use Rattle.journal_model.specs.declared.answer.Answer.TheVariants.{Present, Absent, Unknown, NotPrepared, Ended};
 ghost use Rattle.journal_model.specs.declared.entry.What.TheVariants.{Got};
 ghost use Rattle.journal_model.specs.Wires.{is_heard_in_turn};
-ghost use Rattle.journal_model.specs.Rows.{sample_key, by_main, greeting, check_present};
+ghost use Rattle.journal_model.specs.Rows.{sample_key, by_main, greeting, check_present, not_closed, no_disk, away, out_of_disk};
 ghost use Rattle.special_cli.specs.Endings.{IsTold};
 ghost use Rattle.special_cli.specs.Objects.{HaveStarted};
 ghost use Rattle.special_cli.specs.Rows.{present_wire, HasWires};
 
 /// A check that found its key is told by its one answer, whole, or cut off where a write failed; by no other answer and with no
-/// other status, and not where nothing was started.
+/// other status, and neither where nothing was started nor where the child was not closed.
 pub fn check_present_is_told()
     ensures told { IsTold 0 ⊥ (Some []) (Some (codes "1 present" ++ 10 ∷ [])) sample_key check_present (Present ∷ []) }
     ensures cut { IsTold 5 ⊥ (Some []) (Some (codes "1 pre")) sample_key check_present (Present ∷ []) }
     ensures absent { IsTold 1 ⊥ (Some []) (Some (codes "1 absent" ++ 10 ∷ [])) sample_key check_present (Absent ∷ []) → ⊥ }
     ensures status { IsTold 1 ⊥ (Some []) (Some (codes "1 present" ++ 10 ∷ [])) sample_key check_present (Present ∷ []) → ⊥ }
     ensures unstarted { IsTold 0 ⊥ (Some []) (Some (codes "1 present" ++ 10 ∷ [])) sample_key [] (Present ∷ []) → ⊥ }
+    ensures unclosed { IsTold 0 ⊥ (Some []) (Some (codes "1 present" ++ 10 ∷ [])) sample_key not_closed (Present ∷ []) → ⊥ }
     ensures nothing { IsTold 0 ⊥ (Some []) (Some []) sample_key [] [] → ⊥ }
 {}
 
-/// The wire of that check has what the child said and what it was asked. There is one, with the halves of the first start.
+/// A check whose child can't get ready is told by what the child said of that, and by no other answer.
+pub fn refusal_is_told()
+    ensures told { IsTold 1 ⊥ (Some []) (Some (codes "1 notprepared no disk" ++ 10 ∷ [])) sample_key no_disk (NotPrepared 8 ∷ []) }
+    ensures alone { (status : ℕ) (out : Option (List ℕ)) (answer : Answer) → IsTold status ⊥ (Some []) out sample_key no_disk (answer ∷ []) → answer ≡ NotPrepared 8 }
+{}
+
+/// So is one whose child doesn't know whether it has the key.
+pub fn unknown_is_told()
+    ensures told { IsTold 1 ⊥ (Some []) (Some (codes "1 unknown away" ++ 10 ∷ [])) sample_key away (Unknown 15 ∷ []) }
+    ensures alone { (status : ℕ) (out : Option (List ℕ)) (answer : Answer) → IsTold status ⊥ (Some []) out sample_key away (answer ∷ []) → answer ≡ Unknown 15 }
+{}
+
+/// And one whose child gives up.
+pub fn error_is_told()
+    ensures told { IsTold 1 ⊥ (Some []) (Some (codes "1 ended error out of disk" ++ 10 ∷ [])) sample_key out_of_disk (Ended (Error 13) ∷ []) }
+    ensures alone { (status : ℕ) (out : Option (List ℕ)) (answer : Answer) → IsTold status ⊥ (Some []) out sample_key out_of_disk (answer ∷ []) → answer ≡ Ended (Error 13) }
+{}
+
+/// The wire of that first check has what the child said and what it was asked. There is one, with the halves of the first start.
 pub fn check_present_has_its_wire()
     ensures one { HasWires (Some 1) (present_wire ∷ []) }
     ensures none { HasWires (Some 1) [] → ⊥ }

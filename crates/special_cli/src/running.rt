@@ -1,9 +1,11 @@
 // One start of the program, and the one answer.
-ghost use Rattle.std.specs.Prelude.{◌≡◌, ◌⊎◌, ◌<◌, ◌≤◌, Bool, [], true, MatchResult, vec_len, vec_capacity};
+ghost use Rattle.std.specs.Prelude.{◌≡◌, ◌⊎◌, ◌<◌, ◌≤◌, Bool, [], true, Some, is_some, option_map, MatchResult, vec_len, vec_capacity};
 ghost use Rattle.ann_outside.specs.Causes.{Rose, Stays, AddsOne};
 ghost use Rattle.annex_model.specs.Messages.{is_sent_key};
 ghost use Rattle.journal_model.specs.Journal.{any};
 ghost use Rattle.journal_model.specs.Legality.{Legal};
+ghost use Rattle.journal_model.specs.declared.answer.Answer.TheVariants.{NotPrepared};
+ghost use Rattle.task_run.specs.TaskRuns.{refused_at};
 ghost use Rattle.special_cli.specs.Objects.{AreWires, OneIsLeft, AddsAll, told, came, is_failed_start};
 ghost use Rattle.special_cli.specs.Runs.{HasAnswered, HasOneTask};
 
@@ -13,11 +15,11 @@ use ann_outside::Programs;
 use child_link::{Lone, Wire};
 use child_start::{Greeting, Mode, greet};
 use host_core::Core;
-use journal_model::Answer;
+use journal_model::{Answer, Verdict};
 use std::alloc::Global;
 
 // The link's halves are closed and kept as a wire, and the program is waited for.
-fn finish<P: Programs>(
+pub(super) fn finish<P: Programs>(
     programs: &mut P,
     link: Lone<P::Inlet, P::Outlet>,
     stub: P::Stub,
@@ -31,6 +33,17 @@ fn finish<P: Programs>(
 {
     wires.push_reserved(link.finish());
     let _status = programs.finish(stub);
+}
+
+// The answer where a line refused to get ready, with that line's place.
+fn not_prepared(verdict: Verdict) -> Answer
+    requires { is_some (refused_at verdict) ≡ true }
+    ensures { Some result ≡ option_map NotPrepared (refused_at verdict) }
+{
+    match verdict {
+        Verdict::Failed { at } | Verdict::Unsupported { at } => Answer::NotPrepared { at },
+        _ => unreachable!(),
+    }
 }
 
 /// Starts the program, and answers the one task by what its child says. Where no memory is found before the child has a
@@ -65,6 +78,16 @@ where
             tagged: _,
         } => {
             let answer = checking::check(&mut link, core, key);
+            finish(programs, link, stub, wires);
+            Ok(answer)
+        }
+        Greeting::Refused {
+            verdict,
+            mut link,
+            stub,
+        } => {
+            let answer = not_prepared(verdict);
+            checking::give_up(&mut link, core, answer);
             finish(programs, link, stub, wires);
             Ok(answer)
         }

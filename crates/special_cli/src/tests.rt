@@ -14,14 +14,19 @@ fn words(alloc: Global, texts: &[&str]) -> Result<Vec<String>, NoMemory> {
 #[test]
 fn words_in_the_grammar(rt: HostRuntime) -> Result<(), NoMemory> {
     let check = |program, key| Some(Command::Check { program, key });
-    let cases: [(&[&str], Option<Command>); 18] = [
+    let info = |program, key| Some(Command::Info { program, key });
+    let cases: [(&[&str], Option<Command>); 27] = [
         (&["check", "p", "WORM--a"], check("p", "WORM--a")),
         (&["check", "p", "sha--x"], check("p", "sha--x")),
         (&["check", "p", "WORM--a b"], check("p", "WORM--a b")),
         (&["check", "p", "--help"], check("p", "--help")),
         (&["check", "--version", "k"], check("--version", "k")),
+        (&["info", "p"], info("p", None)),
+        (&["info", "p", "WORM--a"], info("p", Some("WORM--a"))),
+        (&["info", "p", "--help"], info("p", Some("--help"))),
         (&["--help"], Some(Command::Help)),
         (&["check", "--help"], Some(Command::CheckHelp)),
+        (&["info", "--help"], Some(Command::InfoHelp)),
         (&["--version"], Some(Command::Version)),
         (&[], None),
         (&["run"], None),
@@ -31,6 +36,11 @@ fn words_in_the_grammar(rt: HostRuntime) -> Result<(), NoMemory> {
         (&["check", "", "k"], None),
         (&["check", "p", "a\nb"], None),
         (&["check", "p", "k", "k"], None),
+        (&["info"], None),
+        (&["info", ""], None),
+        (&["info", "p", ""], None),
+        (&["info", "a\nb"], None),
+        (&["info", "p", "k", "k"], None),
         (&["--help", "check"], None),
         (&["Check", "p", "k"], None),
     ];
@@ -74,8 +84,13 @@ fn texts_end_with_their_line(rt: HostRuntime) -> Result<(), NoMemory> {
     assert_eq!(rt; memory_line(), "special: memory\n".as_bytes());
     let late = refused_line(rt.alloc(), 65537, Reason::ChunkKey)?;
     assert_eq!(rt; late.view(), "special: line 65537: chunkkey\n".as_bytes());
-    for help in [HELP, CHECK_HELP] {
-        assert!(rt; help.contains("special check PROGRAM KEY"));
+    for (help, words) in [
+        (HELP, "special check PROGRAM KEY"),
+        (HELP, "special info PROGRAM [KEY]"),
+        (CHECK_HELP, "special check PROGRAM KEY"),
+        (INFO_HELP, "special info PROGRAM [KEY]"),
+    ] {
+        assert!(rt; help.contains(words));
         assert!(rt; help.ends_with("\n"));
     }
     Ok(())

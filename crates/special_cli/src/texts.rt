@@ -10,6 +10,8 @@ pub const HELP: &str = "special asks external special remotes of git-annex.\n\
     \n\
     special check PROGRAM KEY   ask the remote that PROGRAM serves whether it has the content of KEY\n\
     special check --help        more on check\n\
+    special info PROGRAM [KEY]  ask the remote that PROGRAM serves about itself, and where it has KEY\n\
+    special info --help         more on info\n\
     special --help              this text\n\
     special --version           the version\n";
 
@@ -17,8 +19,19 @@ pub const HELP: &str = "special asks external special remotes of git-annex.\n\
 pub const CHECK_HELP: &str = "special check PROGRAM KEY\n\
     \n\
     Starts PROGRAM, which speaks the protocol of external special remotes on its standard input and output, and asks\n\
-    it whether it has the content of KEY. One line is printed: 1 present, 1 absent, or 1 and why there is no answer.\n\
+    it whether it has the content of KEY. One line is printed: 1 present, 1 absent, 1 unknown with what the remote says\n\
+    of it, or 1 and why there is no answer: unsupported, notprepared, ended, foul, unsent, startfault or memory.\n\
     The status is 0 where the content is there.\n";
+
+/// What `info --help` prints.
+pub const INFO_HELP: &str = "special info PROGRAM [KEY]\n\
+    \n\
+    Starts PROGRAM, which speaks the protocol of external special remotes on its standard input and output, and asks\n\
+    it for its configs, its cost, its availability and its infos, and with KEY where the content of KEY is. The answers\n\
+    are printed: config NAME DESCRIPTION, cost NUMBER, availability global or local, info NAME=VALUE, and whereis TEXT\n\
+    or whereis failure; or configs, cost, availability, infos or whereis, and unsupported. In place of an answer that did\n\
+    not come one line says why: ended, foul, unsent, notprepared or startfault, and nothing follows it.\n\
+    The status is 0 where the remote answered all.\n";
 
 /// What `--version` prints.
 pub fn version_line() -> &'static [u8]

@@ -5,11 +5,21 @@ ghost use Rattle.special_cli.specs.Words.{command_of, command_shown, is_value, a
 #[derive(Clone, Copy, Debug, PartialEq, Eq)]
 pub enum Command<'a> {
     /// Whether the remote that the program serves has the key's content.
-    Check { program: &'a str, key: &'a str },
+    Check {
+        program: &'a str,
+        key: &'a str,
+    },
+    /// What the remote that the program serves says of itself, and of the key where there is one.
+    Info {
+        program: &'a str,
+        key: Option<&'a str>,
+    },
     /// What the program does.
     Help,
     /// What `check` does.
     CheckHelp,
+    /// What `info` does.
+    InfoHelp,
     /// The program's version.
     Version,
 }
@@ -39,11 +49,18 @@ fn alone(word: &str) -> Option<Command<'static>>
     }
 }
 
-fn with_one(word: &str, next: &str) -> Option<Command<'static>>
-    ensures { option_map command_shown result ≡ with_one word.entry.now next.entry.now }
+fn with_one<'a>(word: &str, next: &'a str) -> Option<Command<'a>>
+    ensures { option_map command_shown result ≡ with_one word.now next.entry.now }
 {
     if word == "check" && next == "--help" {
         Some(Command::CheckHelp)
+    } else if word == "info" && next == "--help" {
+        Some(Command::InfoHelp)
+    } else if word == "info" && is_value(next) {
+        Some(Command::Info {
+            program: next,
+            key: None,
+        })
     } else {
         None
     }
@@ -54,6 +71,11 @@ fn with_two<'a>(word: &str, program: &'a str, key: &'a str) -> Option<Command<'a
 {
     if word == "check" && is_value(program) && is_value(key) {
         Some(Command::Check { program, key })
+    } else if word == "info" && is_value(program) && is_value(key) {
+        Some(Command::Info {
+            program,
+            key: Some(key),
+        })
     } else {
         None
     }

@@ -160,14 +160,9 @@ fn a_child_that_breaks_off_or_speaks_out_of_turn_is_told(rt: HostRuntime) -> Res
         ("VERSION 2\n", "1 ended version\n"),
         ("VERSION 1", "1 ended eof\n"),
         ("VERSION 1\nEXTENSIONS\nPREPARE-SUCC", "1 ended eof\n"),
-        (
-            "VERSION 1\nEXTENSIONS\nPREPARE-SUCCESS\nDEBUG x\n",
-            "1 foul DEBUG x\n",
-        ),
-        (
-            "VERSION 1\nEXTENSIONS\nPREPARE-SUCCESS\nCHECKPRESENT-SUCCESS WORM--x\n",
-            "1 foul CHECKPRESENT-SUCCESS WORM--x\n",
-        ),
+        ("ERROR no\n", "1 ended error no\n"),
+        ("VERSION 1\nPREPARE-SUCCESS\n", "1 foul PREPARE-SUCCESS\n"),
+        ("VERSION 1\nEXTENSIONS\nEXTENSIONS\n", "1 foul EXTENSIONS\n"),
     ] {
         let left = run(alloc, &["check", "p", KEY], one_speaker(alloc, says)?, &[])?;
         assert_eq!(rt; left.out.as_str(), out, "{says}");

@@ -60,9 +60,11 @@ fn why_text(alloc: Global, why: Why) -> Result<String, AllocError> {
         Why::Eof => String::from_str(alloc, "eof"),
         Why::ReadFault => String::from_str(alloc, "readfault"),
         Why::LongLine => String::from_str(alloc, "longline"),
+        Why::Full => String::from_str(alloc, "full"),
         Why::Memory => String::from_str(alloc, "memory"),
         Why::Closed => String::from_str(alloc, "closed"),
         Why::Foul { at } => format!(in alloc; "foul {at}"),
+        Why::Error { at } => format!(in alloc; "error {at}"),
         Why::Version { at } => format!(in alloc; "version {at}"),
     }
 }
@@ -70,7 +72,10 @@ fn why_text(alloc: Global, why: Why) -> Result<String, AllocError> {
 fn verdict_text(alloc: Global, verdict: Verdict) -> Result<String, AllocError> {
     match verdict {
         Verdict::Done { at } => format!(in alloc; "done {at}"),
+        Verdict::Failed { at } => format!(in alloc; "failed {at}"),
         Verdict::Absent { at } => format!(in alloc; "absent {at}"),
+        Verdict::Unknown { at } => format!(in alloc; "unknown {at}"),
+        Verdict::Unsupported { at } => format!(in alloc; "unsupported {at}"),
         Verdict::Ended { why } => {
             let why = why_text(alloc, why)?;
             format!(in alloc; "ended {why}")
@@ -83,9 +88,12 @@ fn answer_text(alloc: Global, answer: Answer) -> Result<String, AllocError> {
     match answer {
         Answer::Present => String::from_str(alloc, "present"),
         Answer::Absent => String::from_str(alloc, "absent"),
+        Answer::Unsupported => String::from_str(alloc, "unsupported"),
         Answer::Unsent => String::from_str(alloc, "unsent"),
         Answer::StartFault => String::from_str(alloc, "startfault"),
         Answer::Memory => String::from_str(alloc, "memory"),
+        Answer::Unknown { at } => format!(in alloc; "unknown {at}"),
+        Answer::NotPrepared { at } => format!(in alloc; "notprepared {at}"),
         Answer::Ended { why } => {
             let why = why_text(alloc, why)?;
             format!(in alloc; "ended {why}")

@@ -4,8 +4,12 @@
 #[cfg(test)]
 mod checks;
 #[cfg(test)]
+mod infos;
+#[cfg(test)]
 mod journal;
 #[cfg(test)]
 mod memory;
+#[cfg(test)]
+mod messages;
 #[cfg(test)]
 mod real;

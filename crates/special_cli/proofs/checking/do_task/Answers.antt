@@ -44,14 +44,14 @@ returns-then-claim-clause-done g c =
     (done_answer c.args.core.now.opening (Start 1 0 false) c.args.core.now.journal c.args.link.now.child (begun_child c.args.core.now.journal c.args.link.now.child c.requires.greeted) c.requires.ready
     c.args.key c.requires.greeted.next c.claim.new.core.opening c.answer_of.new.core.opening c.claim.new.core.journal c.answer_of.new.core.journal c.answer_of.result c.requires.key c.requires.greeted.idle
     (then_claimed c.args.core.now.journal c.claim.new.core.journal c.args.link.now.child c.child-child.result c.claim.result c.claim.ensures.claimed c.if-claim.true c.child-child.ensures)
-    (c.answer_of.ensures.legal c.claim.ensures.legal) c.answer_of.ensures.asked).0
+    c.answer_of.ensures.legal c.answer_of.ensures.asked).0
 
 pub returns-then-claim-clause-idle : goal.returns-then-claim-clause-idle
 returns-then-claim-clause-idle g c =
     (done_answer c.args.core.now.opening (Start 1 0 false) c.args.core.now.journal c.args.link.now.child (begun_child c.args.core.now.journal c.args.link.now.child c.requires.greeted) c.requires.ready
     c.args.key c.requires.greeted.next c.claim.new.core.opening c.answer_of.new.core.opening c.claim.new.core.journal c.answer_of.new.core.journal c.answer_of.result c.requires.key c.requires.greeted.idle
     (then_claimed c.args.core.now.journal c.claim.new.core.journal c.args.link.now.child c.child-child.result c.claim.result c.claim.ensures.claimed c.if-claim.true c.child-child.ensures)
-    (c.answer_of.ensures.legal c.claim.ensures.legal) c.answer_of.ensures.asked).1
+    c.answer_of.ensures.legal c.answer_of.ensures.asked).1
 
 pub returns-then-claim-clause-linked : goal.returns-then-claim-clause-linked
 returns-then-claim-clause-linked g c = λ before.

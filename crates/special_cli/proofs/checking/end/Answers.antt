@@ -1,8 +1,4 @@
-use Rattle.std.proofs.Common.{◌∙◌, List, [], ◌∷◌, ◌++◌, ap, append_assoc}
-use Rattle.journal_model.specs.declared.entry.Entry.{Entry}
-use Rattle.journal_model.specs.declared.entry.What.TheVariants.{Answer as Answered}
-use Rattle.special_cli.specs.Runs.{main_entry}
-use Rattle.special_cli.proofs.Finishing.{may_give, may_close, run_done, links_answer}
+use Rattle.special_cli.proofs.Finishing.{may_give, may_close, closed_over, run_done, links_answer}
 use Rattle.special_cli.proofs.checking.end.Goals as goal
 
 pub give-requires : goal.give-requires
@@ -14,10 +10,8 @@ close-requires-clause-idle g c =
 
 pub returns-clause-run : goal.returns-clause-run
 returns-clause-run g c = λ key first done.
-    run_done key first c.args.core.now.journal c.close.ensures.goes.more c.close.new.core.journal c.args.answer done
-    (c.close.ensures.goes.is ∙ ap (λ (j : List Entry). j ++ c.close.ensures.goes.more) c.give.ensures.given
-    ∙ append_assoc c.args.core.now.journal (main_entry (Answered 1 c.args.answer) ∷ []) c.close.ensures.goes.more)
-    c.close.ensures.goes.quiet
+    run_done key first c.args.core.now.journal c.close.new.core.journal c.args.answer done
+    (closed_over c.args.core.now.journal c.give.new.core.journal c.close.new.core.journal c.args.link.now.child c.args.answer c.requires.number c.requires.started c.give.ensures.given c.close.ensures.closes)
 
 pub returns-clause-linked : goal.returns-clause-linked
 returns-clause-linked g c = λ before.

@@ -2,16 +2,37 @@ use Rattle.std.proofs.Common.{◌∙◌, true, false, List, subst}
 use Rattle.journal_model.specs.declared.entry.What.TheVariants.{Start, NoStart}
 use Rattle.journal_model.specs.declared.entry.Entry.{Entry}
 use Rattle.child_start.specs.Greetings.{Greeted}
-use Rattle.special_cli.proofs.Leaving.{unready_ended, unready_unsent, none_failed, child_told, fault_told, one_wire, no_wire}
+use Rattle.special_cli.proofs.Doing.{refused_some}
+use Rattle.special_cli.proofs.Leaving.{unready_refused, unready_ended, unready_unsent, none_failed, child_told, fault_told, one_wire, no_wire}
 use Rattle.special_cli.proofs.running.run.Goals as goal
+
+pub not_prepared-answer-requires : goal.not_prepared-answer-requires
+not_prepared-answer-requires g c = refused_some c.greet.new.core.journal c.in-Refused.link.child c.in-Refused.verdict c.in-Refused.ensures.tells.1
 
 pub give_up-requires-clause-unready : goal.give_up-requires-clause-unready
 give_up-requires-clause-unready g c =
+    unready_refused c.args.core.now.journal c.greet.new.core.journal c.in-Refused.link.child c.in-Refused.verdict c.not_prepared-answer.result c.requires.empty c.in-Refused.ensures.tells.0 c.in-Refused.ensures.tells.1
+    c.not_prepared-answer.ensures
+
+pub give_up-requires-in-Ended-clause-unready : goal.give_up-requires-in-Ended-clause-unready
+give_up-requires-in-Ended-clause-unready g c =
     unready_ended c.args.core.now.journal c.greet.new.core.journal c.in-Ended.link.child c.in-Ended.why c.requires.empty c.in-Ended.ensures.tells.0 c.in-Ended.ensures.tells.1
 
 pub give_up-requires-in-Unsent-clause-unready : goal.give_up-requires-in-Unsent-clause-unready
 give_up-requires-in-Unsent-clause-unready g c =
     unready_unsent c.args.core.now.journal c.greet.new.core.journal c.in-Unsent.link.child c.requires.empty c.in-Unsent.ensures.tells.0 c.in-Unsent.ensures.tells.1
+
+pub give_up-requires-clause-number : goal.give_up-requires-clause-number
+give_up-requires-clause-number g c =
+    (subst (λ (j : List Entry). Greeted j c.greet.new.core.journal 0 false c.in-Refused.link.child) c.requires.empty c.in-Refused.ensures.tells.0).next
+
+pub give_up-requires-in-Ended-clause-number : goal.give_up-requires-in-Ended-clause-number
+give_up-requires-in-Ended-clause-number g c =
+    (subst (λ (j : List Entry). Greeted j c.greet.new.core.journal 0 false c.in-Ended.link.child) c.requires.empty c.in-Ended.ensures.tells.0).next
+
+pub give_up-requires-in-Unsent-clause-number : goal.give_up-requires-in-Unsent-clause-number
+give_up-requires-in-Unsent-clause-number g c =
+    (subst (λ (j : List Entry). Greeted j c.greet.new.core.journal 0 false c.in-Unsent.link.child) c.requires.empty c.in-Unsent.ensures.tells.0).next
 
 pub returns-in-Ready-clause-wires : goal.returns-in-Ready-clause-wires
 returns-in-Ready-clause-wires g c =
@@ -29,24 +50,43 @@ returns-in-Ready-clause-starts g c =
 pub returns-in-Ready-clause-fault : goal.returns-in-Ready-clause-fault
 returns-in-Ready-clause-fault g c = λ failed. none_failed c.check-answer.new.core.journal 1 0 false c.check-answer.ensures.run.starts failed
 
+pub returns-in-Refused-clause-ran : goal.returns-in-Refused-clause-ran
+returns-in-Refused-clause-ran g c = (Start 1 0 false, c.give_up.ensures.run c.args.key)
+
 pub returns-in-Ended-clause-ran : goal.returns-in-Ended-clause-ran
-returns-in-Ended-clause-ran g c = (Start 1 0 false, c.give_up.ensures.run c.args.key)
+returns-in-Ended-clause-ran g c = (Start 1 0 false, c.give_up-in-Ended.ensures.run c.args.key)
+
+pub returns-in-Refused-clause-wires : goal.returns-in-Refused-clause-wires
+returns-in-Refused-clause-wires g c =
+    one_wire g.P.Inlet.Sink.taken g.P.Inlet.Sink.faults g.P.Inlet.Sink.number g.P.Outlet.Source.given g.P.Outlet.Source.left g.P.Outlet.Source.faults g.P.Outlet.Source.number (g.P.Programs.starts c.args.programs.now) c.give_up.new.core.journal
+    (g.P.Programs.starts c.greet.new.programs) (c.args.program.now, true) c.in-Refused.link c.give_up.new.link c.finish-in-Refused.new.wires.items (c.give_up.ensures.run c.args.key).starts
+    c.in-Refused.ensures.starts c.in-Refused.ensures.numbers c.give_up.ensures.numbers
+    (c.give_up.ensures.child ∙ (subst (λ (j : List Entry). Greeted j c.greet.new.core.journal 0 false c.in-Refused.link.child) c.requires.empty c.in-Refused.ensures.tells.0).next)
+    (c.give_up.ensures.linked c.in-Refused.ensures.linked) c.finish-in-Refused.ensures.left
 
 pub returns-in-Ended-clause-wires : goal.returns-in-Ended-clause-wires
 returns-in-Ended-clause-wires g c =
-    one_wire g.P.Inlet.Sink.taken g.P.Inlet.Sink.faults g.P.Inlet.Sink.number g.P.Outlet.Source.given g.P.Outlet.Source.left g.P.Outlet.Source.faults g.P.Outlet.Source.number (g.P.Programs.starts c.args.programs.now) c.give_up.new.core.journal
-    (g.P.Programs.starts c.greet.new.programs) (c.args.program.now, true) c.in-Ended.link c.give_up.new.link c.finish-in-Ended.new.wires.items (c.give_up.ensures.run c.args.key).starts
-    c.in-Ended.ensures.starts c.in-Ended.ensures.numbers c.give_up.ensures.numbers
-    (c.give_up.ensures.child ∙ (subst (λ (j : List Entry). Greeted j c.greet.new.core.journal 0 false c.in-Ended.link.child) c.requires.empty c.in-Ended.ensures.tells.0).next)
-    (c.give_up.ensures.linked c.in-Ended.ensures.linked) c.finish-in-Ended.ensures.left
+    one_wire g.P.Inlet.Sink.taken g.P.Inlet.Sink.faults g.P.Inlet.Sink.number g.P.Outlet.Source.given g.P.Outlet.Source.left g.P.Outlet.Source.faults g.P.Outlet.Source.number (g.P.Programs.starts c.args.programs.now) c.give_up-in-Ended.new.core.journal
+    (g.P.Programs.starts c.greet.new.programs) (c.args.program.now, true) c.in-Ended.link c.give_up-in-Ended.new.link c.finish-in-Ended.new.wires.items (c.give_up-in-Ended.ensures.run c.args.key).starts
+    c.in-Ended.ensures.starts c.in-Ended.ensures.numbers c.give_up-in-Ended.ensures.numbers
+    (c.give_up-in-Ended.ensures.child ∙ (subst (λ (j : List Entry). Greeted j c.greet.new.core.journal 0 false c.in-Ended.link.child) c.requires.empty c.in-Ended.ensures.tells.0).next)
+    (c.give_up-in-Ended.ensures.linked c.in-Ended.ensures.linked) c.finish-in-Ended.ensures.left
+
+pub returns-in-Refused-clause-starts : goal.returns-in-Refused-clause-starts
+returns-in-Refused-clause-starts g c =
+    child_told c.args.program.now c.give_up.new.core.journal (g.P.Programs.starts c.args.programs.now) (g.P.Programs.starts c.greet.new.programs) (g.P.Programs.starts c.finish-in-Refused.new.programs)
+    (c.give_up.ensures.run c.args.key).starts c.in-Refused.ensures.starts c.finish-in-Refused.ensures.starts
 
 pub returns-in-Ended-clause-starts : goal.returns-in-Ended-clause-starts
 returns-in-Ended-clause-starts g c =
-    child_told c.args.program.now c.give_up.new.core.journal (g.P.Programs.starts c.args.programs.now) (g.P.Programs.starts c.greet.new.programs) (g.P.Programs.starts c.finish-in-Ended.new.programs)
-    (c.give_up.ensures.run c.args.key).starts c.in-Ended.ensures.starts c.finish-in-Ended.ensures.starts
+    child_told c.args.program.now c.give_up-in-Ended.new.core.journal (g.P.Programs.starts c.args.programs.now) (g.P.Programs.starts c.greet.new.programs) (g.P.Programs.starts c.finish-in-Ended.new.programs)
+    (c.give_up-in-Ended.ensures.run c.args.key).starts c.in-Ended.ensures.starts c.finish-in-Ended.ensures.starts
+
+pub returns-in-Refused-clause-fault : goal.returns-in-Refused-clause-fault
+returns-in-Refused-clause-fault g c = λ failed. none_failed c.give_up.new.core.journal 1 0 false (c.give_up.ensures.run c.args.key).starts failed
 
 pub returns-in-Ended-clause-fault : goal.returns-in-Ended-clause-fault
-returns-in-Ended-clause-fault g c = λ failed. none_failed c.give_up.new.core.journal 1 0 false (c.give_up.ensures.run c.args.key).starts failed
+returns-in-Ended-clause-fault g c = λ failed. none_failed c.give_up-in-Ended.new.core.journal 1 0 false (c.give_up-in-Ended.ensures.run c.args.key).starts failed
 
 pub returns-in-Unsent-clause-ran : goal.returns-in-Unsent-clause-ran
 returns-in-Unsent-clause-ran g c = (Start 1 0 false, c.give_up-in-Unsent.ensures.run c.args.key)

@@ -2,7 +2,7 @@ use Rattle.std.proofs.Common.{sym, subst}
 use Rattle.ann_key.specs.KeyRefs.{text_of}
 use Rattle.special_cli.specs.Objects.{HaveStarted}
 use Rattle.special_cli.proofs.Checked.{checked, told_key, ran_key, started_none}
-use Rattle.special_cli.proofs.top.check.Goals as goal
+use Rattle.special_cli.proofs.top_check.check.Goals as goal
 
 pub returns-in-Ok-clause-checked : goal.returns-in-Ok-clause-checked
 returns-in-Ok-clause-checked g c =

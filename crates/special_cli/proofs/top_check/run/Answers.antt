@@ -1,7 +1,7 @@
 use Rattle.std.proofs.Common.{◌∙◌, [], ◌∷◌, ◌++◌, ap, sym, subst}
 use Rattle.special_cli.specs.Objects.{HaveStarted}
 use Rattle.special_cli.proofs.Checked.{told_answer, told_nothing, started_once}
-use Rattle.special_cli.proofs.top.run.Goals as goal
+use Rattle.special_cli.proofs.top_check.run.Goals as goal
 
 pub returns-in-Ok-clause-told : goal.returns-in-Ok-clause-told
 returns-in-Ok-clause-told g c =

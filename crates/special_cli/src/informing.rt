@@ -1,0 +1,131 @@
+// One start of the program, and what its child says of itself.
+ghost use Rattle.std.specs.Prelude.{◌≡◌, ◌<◌, [], true, IfSome, IfOk, MatchResult, option_map, vec_len, vec_capacity};
+ghost use Rattle.ann_key.specs.KeyRefs.{text_of};
+ghost use Rattle.ann_outside.specs.Causes.{Rose};
+ghost use Rattle.annex_model.specs.Messages.{is_sent_key};
+ghost use Rattle.journal_model.specs.Journal.{any};
+ghost use Rattle.journal_model.specs.Legality.{Legal};
+ghost use Rattle.child_link.specs.Links.{IsLinked};
+ghost use Rattle.child_start.specs.Greetings.{AreNumbered};
+ghost use Rattle.special_cli.specs.Informs.{IsAsked, IsComplete};
+ghost use Rattle.special_cli.specs.Objects.{AreWires, AddsAll, HaveStarted, told, came, is_failed_start};
+ghost use Rattle.special_cli.specs.Talks.{Talked, HasLink, TalkStarts};
+
+use crate::{checking, running};
+use ann_key::{KeyRef, NoMemory};
+use ann_outside::{Programs, Sink, Source};
+use child_link::{Lone, Wire};
+use child_start::{Greeting, Mode, greet};
+use host_core::Core;
+use info_run::ask_all;
+use std::alloc::Global;
+
+// What became of a child that was to be asked about itself.
+enum Talk<I: Sink, O: Source, S> {
+    // It was asked what it could be asked. Where no memory was found, that may not be all.
+    Over {
+        link: Lone<I, O>,
+        stub: S,
+        asked: Result<(), NoMemory>,
+    },
+    // The program couldn't be started.
+    StartFault,
+    // No memory was found before anything was noted.
+    NoMemory,
+}
+
+// Starts the program, and asks its child about itself once it is ready.
+fn talk_to_child<P: Programs>(
+    alloc: Global,
+    program: &str,
+    key: Option<KeyRef<'_>>,
+    programs: &mut P,
+    core: &mut Core,
+) -> Talk<P::Inlet, P::Outlet, P::Stub>
+where
+    P::Inlet: Drop,
+    P::Outlet: Drop,
+    requires empty { core.old.journal ≡ [] }
+    requires legal { Legal core.old.opening core.old.journal }
+    requires key { IfSome key (λ k. is_sent_key (text_of k) ≡ true) }
+    ensures talked { Talked (option_map text_of key.entry) core.new.journal result }
+    ensures linked { HasLink (IsLinked P.Inlet.taken P.Inlet.faults P.Outlet.given P.Outlet.left P.Outlet.faults core.new.journal) result }
+    ensures numbers { HasLink (AreNumbered P.Inlet.number P.Outlet.number (P.starts programs.new)) result }
+    ensures starts { TalkStarts (P.starts programs.old) (P.starts programs.new) program.now result }
+    ensures fault { result ≡ Talk.StartFault → Rose (P.faults programs.old) (P.faults programs.new) }
+    ensures opening { core.new.opening ≡ core.old.opening }
+    ensures legal { Legal core.new.opening core.new.journal }
+{
+    match greet(alloc, programs, program, core, 0, false, Mode::Serve) {
+        Greeting::Ready {
+            mut link,
+            stub,
+            tagged: _,
+        } => {
+            let asked = ask_all(alloc, &mut link, core, key);
+            Talk::Over { link, stub, asked }
+        }
+        Greeting::Refused {
+            verdict: _,
+            link,
+            stub,
+        } => Talk::Over {
+            link,
+            stub,
+            asked: Ok(()),
+        },
+        Greeting::Ended { why: _, link, stub } => Talk::Over {
+            link,
+            stub,
+            asked: Ok(()),
+        },
+        Greeting::Unsent { link, stub } => Talk::Over {
+            link,
+            stub,
+            asked: Ok(()),
+        },
+        Greeting::StartFault => Talk::StartFault,
+        Greeting::NoMemory => Talk::NoMemory,
+    }
+}
+
+/// Starts the program, asks its child about itself, and closes the child. Where no memory is found, not all may have been
+/// asked.
+pub(super) fn inform<P: Programs>(
+    alloc: Global,
+    program: &str,
+    key: Option<KeyRef<'_>>,
+    programs: &mut P,
+    core: &mut Core,
+    wires: &mut Vec<Wire<P::Inlet, P::Outlet>>,
+) -> Result<(), NoMemory>
+where
+    P::Inlet: Drop,
+    P::Outlet: Drop,
+    requires empty { core.old.journal ≡ [] }
+    requires legal { Legal core.old.opening core.old.journal }
+    requires key { IfSome key (λ k. is_sent_key (text_of k) ≡ true) }
+    requires room { vec_len wires.old < vec_capacity wires.old }
+    requires none { wires.old.items ≡ [] }
+    ensures asked { IsAsked (option_map text_of key.entry) core.new.journal }
+    ensures complete { IfOk result (λ _. IsComplete (option_map text_of key.entry) core.new.journal) }
+    ensures wires { AreWires P.Inlet.taken P.Inlet.faults P.Inlet.number P.Outlet.given P.Outlet.left P.Outlet.faults P.Outlet.number (P.starts programs.old) core.new.journal 0 (came core.new.journal) wires.new.items }
+    ensures starts { MatchResult result (λ _. AddsAll (P.starts programs.old) (P.starts programs.new) (told program.now core.new.journal)) (λ _. HaveStarted 7 program.now core.new.journal (P.starts programs.old) (P.starts programs.new)) }
+    ensures fault { any is_failed_start core.new.journal ≡ true → Rose (P.faults programs.old) (P.faults programs.new) }
+    ensures opening { core.new.opening ≡ core.old.opening }
+    ensures legal { Legal core.new.opening core.new.journal }
+{
+    match talk_to_child(alloc, program, key, programs, core) {
+        Talk::Over {
+            mut link,
+            stub,
+            asked,
+        } => {
+            checking::close(&mut link, core);
+            running::finish(programs, link, stub, wires);
+            asked
+        }
+        Talk::StartFault => Ok(()),
+        Talk::NoMemory => Err(NoMemory),
+    }
+}
