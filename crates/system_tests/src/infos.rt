@@ -1,6 +1,8 @@
 // `special info` over children in memory: what is written to the child, printed, kept and left.
 use crate::memory::{one_speaker, run};
 use ann_outside::MemPrograms;
+use std::alloc::Global;
+use std::process::Abort;
 use std::test::Fail;
 
 // What a child says that answers all, and what is printed of it.
@@ -47,28 +49,47 @@ COST 7
 AVAILABILITY LOCAL
 ";
 
+// A remote that says this is asked with these words; what is printed of it, and what was written to it.
+fn is_told(
+    rt: &impl Abort,
+    alloc: Global,
+    words: &[&str],
+    says: &str,
+    out: &str,
+    asked: &str,
+) -> Result<(), Fail> {
+    let left = run(alloc, words, one_speaker(alloc, says)?, &[])?;
+    assert!(rt; left.out.as_str() == out);
+    assert!(rt; left.written.as_str() == asked);
+    assert!(rt; left.err.is_empty());
+    assert!(rt; left.status == 0);
+    assert!(rt; left.children.len() == 1);
+    Ok(())
+}
+
 #[test]
 fn a_remote_is_asked_in_order_and_told(rt: HostRuntime) -> Result<(), Fail> {
+    is_told(&rt, rt.alloc(), &["info", "p"], SAYS, TOLD, ASKED)
+}
+
+#[test]
+fn a_remote_is_asked_where_it_has_a_key(rt: HostRuntime) -> Result<(), Fail> {
     let alloc = rt.alloc();
-    let found = format!(in alloc; "{SAYS}WHEREIS-SUCCESS on the shelf\n")?;
-    let found_told = format!(in alloc; "{TOLD}whereis on the shelf\n")?;
-    let lost = format!(in alloc; "{SAYS}WHEREIS-FAILURE\n")?;
-    let lost_told = format!(in alloc; "{TOLD}whereis failure\n")?;
     let asked = format!(in alloc; "{ASKED}WHEREIS WORM--a\n")?;
-    let plain: [&str; 2] = ["info", "p"];
-    let keyed: [&str; 3] = ["info", "p", "WORM--a"];
-    let cases: [(&[&str], &str, &str, &str); 3] = [
-        (&plain, SAYS, TOLD, ASKED),
-        (&keyed, found.as_str(), found_told.as_str(), asked.as_str()),
-        (&keyed, lost.as_str(), lost_told.as_str(), asked.as_str()),
-    ];
-    for (words, says, out, written) in cases {
-        let left = run(alloc, words, one_speaker(alloc, says)?, &[])?;
-        assert_eq!(rt; left.out.as_str(), out);
-        assert_eq!(rt; left.written.as_str(), written);
-        assert_eq!(rt; left.err.as_str(), "");
-        assert_eq!(rt; left.status, 0);
-        assert_eq!(rt; left.children.as_slice(), [1].as_slice());
+    for (answer, line) in [
+        ("WHEREIS-SUCCESS on the shelf", "whereis on the shelf"),
+        ("WHEREIS-FAILURE", "whereis failure"),
+    ] {
+        let says = format!(in alloc; "{SAYS}{answer}\n")?;
+        let told = format!(in alloc; "{TOLD}{line}\n")?;
+        is_told(
+            &rt,
+            alloc,
+            &["info", "p", "WORM--a"],
+            says.as_str(),
+            told.as_str(),
+            asked.as_str(),
+        )?;
     }
     Ok(())
 }
