@@ -1,0 +1,3 @@
+pub mod Awaiting
+pub mod Cutting
+pub mod Fronts
