@@ -1,3 +1,4 @@
+pub mod Extensions
 pub mod Lines
 pub mod Messages
 pub mod Tags

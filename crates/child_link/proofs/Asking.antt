@@ -23,8 +23,8 @@ use Rattle.talk_serial.specs.Requests.{message_of}
 use Rattle.host_core.specs.Steps.{group_of, is_asked, is_askable, may_request, next_job}
 use Rattle.host_core.proofs.Wiring.{askable_is, wired_text}
 use Rattle.annex_model.proofs.Readings.{canonical_read}
-use Rattle.child_link.specs.declared.events.Asked.{Asked}
-use Rattle.child_link.specs.declared.events.Asked.TheVariants.{Job, Lost}
+use Rattle.child_link.specs.declared.events.AskReply.{AskReply}
+use Rattle.child_link.specs.declared.events.AskReply.TheVariants.{Job, Lost}
 use Rattle.child_link.specs.Doors.{GoesOn}
 use Rattle.child_link.specs.Events.{IsAsked}
 use Rattle.child_link.specs.Asks.{HasAsked, lost_as}
@@ -38,10 +38,10 @@ may_copy past by t c d r s e f h = ap (λ (k : ℕ). may_request past by t k (me
 pub may_askable : (past : List Entry) (by t c : ℕ) (q : HostMessage) → may_request past by t c q ≡ true → is_askable q ≡ true
 may_askable past by t c q h = and_right (is_started past c && may_ask past by t c && is_in_turn past c (next_job past c) q) (is_askable q) h
 
-pub asked_copy : (o : Opening) (old new : List Entry) (by t c d : ℕ) (r s : Request) (a b : Asked) → d ≡ c → s ≡ r → a ≡ b
+pub asked_copy : (o : Opening) (old new : List Entry) (by t c d : ℕ) (r s : Request) (a b : AskReply) → d ≡ c → s ≡ r → a ≡ b
     → IsAsked o old new by d t (message_of s) a → IsAsked o old new by c t (message_of r) b
 asked_copy o old new by t c d r s a b e f k h =
-    subst (λ (x : Asked). IsAsked o old new by c t (message_of r) x) k
+    subst (λ (x : AskReply). IsAsked o old new by c t (message_of r) x) k
     (subst (λ (x : Request). IsAsked o old new by c t (message_of x) a) f (subst (λ (n : ℕ). IsAsked o old new by n t (message_of s) a) e h))
 
 module _ (o : Opening) (old mid : List Entry) (by c t : ℕ) (q : HostMessage) where

@@ -7,8 +7,8 @@ use Rattle.journal_model.specs.declared.entry.Entry.{Entry}
 use Rattle.journal_model.specs.declared.opening.Opening.{Opening}
 use Rattle.journal_model.specs.Journal.{is_ended, is_full, is_mute, unsent, on_wire, why_of}
 use Rattle.host_core.specs.Steps.{group_of, is_gone, next_job}
-use Rattle.child_link.specs.declared.events.Asked.{Asked}
-use Rattle.child_link.specs.declared.events.Asked.TheVariants.{Job, Lost}
+use Rattle.child_link.specs.declared.events.AskReply.{AskReply}
+use Rattle.child_link.specs.declared.events.AskReply.TheVariants.{Job, Lost}
 
 -- the line is the next that no Sent covers, of a child that is neither ended nor mute
 pub record IsNextLine (journal : List Entry) (c : ℕ) (line : List ℕ) : Type 0 where
@@ -25,7 +25,7 @@ IsTaken o old new by c line true = (is_full old ≡ false) × (new ≡ old ++ gr
 IsTaken o old new by c line false = (is_full old ≡ true) × (new ≡ old ++ group_of o old by (End c Full))
 
 -- the request stands in the journal as the child's next job, or as lost where the child is gone
-abbrev pub IsAsked : Opening → List Entry → List Entry → ℕ → ℕ → ℕ → HostMessage → Asked → Type 0
+abbrev pub IsAsked : Opening → List Entry → List Entry → ℕ → ℕ → ℕ → HostMessage → AskReply → Type 0
 IsAsked o old new by c t q (Job job) =
     (job ≡ next_job old c) × (is_ended old c ≡ false) × (is_mute old c ≡ false)
     × (new ≡ old ++ group_of o old by (AskEntry c job t (on_wire old c job (host_line q))))

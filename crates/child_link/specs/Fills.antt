@@ -1,7 +1,7 @@
 -- What one read of a child's output does to a link.
 use Rattle.std.specs.Prelude.{ℕ, ◌≡◌, Bool, true, false, List, Option, None}
 use Rattle.std.specs.Io.KnownBytes.{Appends}
-use Rattle.wire_line.specs.Held.{TakesPiece}
+use Rattle.wire_line.specs.HeldBytes.{TakesPiece}
 use Rattle.child_link.specs.declared.lone.Fill.{Fill}
 use Rattle.child_link.specs.declared.lone.Fill.TheVariants.{Got, End, Fault, NoRoom}
 use Rattle.child_link.specs.Links.{LinkValue}

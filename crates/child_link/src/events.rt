@@ -222,7 +222,7 @@ pub(super) fn mute<D: Door>(door: &mut D, child: u32)
 }
 
 /// What became of a request.
-pub(super) enum Asked {
+pub(super) enum AskReply {
     /// It is this job.
     Job(u64),
     /// The child had ended or was mute.
@@ -235,7 +235,7 @@ pub(super) fn ask<D: Door>(
     child: u32,
     task: u32,
     request: Request,
-) -> Result<Asked, NoMemory>
+) -> Result<AskReply, NoMemory>
     requires alone { D.alone door.old ≡ true }
     requires may { may_request (D.seen door.old) (D.number door.old) task child (message_of request) ≡ true }
     ensures asked { MatchResult result (IsAsked (D.opening door.old) (D.seen door.old) (D.seen door.new) (D.number door.old) child task (message_of request)) (λ _. D.seen door.new ≡ D.seen door.old) }
@@ -254,7 +254,7 @@ pub(super) fn ask<D: Door>(
         },
     )?;
     match job_of(&reply) {
-        Some(job) => Ok(Asked::Job(job)),
-        None => Ok(Asked::Lost(gone_why(reply))),
+        Some(job) => Ok(AskReply::Job(job)),
+        None => Ok(AskReply::Lost(gone_why(reply))),
     }
 }

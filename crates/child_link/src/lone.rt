@@ -1,12 +1,13 @@
 ghost use Rattle.std.specs.Prelude.{◌≡◌, ◌<◌, ◌≤◌, ◌^◌, ◌++◌, ◌∷◌, [], ℕ, List, Option, Some, None, true, false, not, length, take, IsTrue, IsFalse, OnOk, OnErr, IfSome, IfNone, IsSome, IfOk};
 ghost use Rattle.std.specs.Io.KnownBytes.{Appends};
 ghost use Rattle.annex_model.specs.declared.verdict.Why.TheVariants.{Eof, ReadFault, LongLine, Memory, Closed};
+ghost use Rattle.journal_model.specs.Limits.{longest_line};
 ghost use Rattle.journal_model.specs.declared.entry.What.TheVariants.{Got, End};
 ghost use Rattle.journal_model.specs.Journal.{is_started, is_ended, has_spoken, why_of, verdict_of};
 ghost use Rattle.journal_model.specs.Legality.{Legal, may_stop, said_version};
 ghost use Rattle.journal_model.specs.Projection.{IsNamed};
 ghost use Rattle.journal_model.specs.Wires.{RestFits, may_hear};
-ghost use Rattle.wire_line.specs.Held.{has_line, first_line, TakesLine};
+ghost use Rattle.wire_line.specs.HeldBytes.{has_line, first_line, TakesLine};
 ghost use Rattle.host_core.specs.Steps.{group_of, is_asked, may_end, may_request};
 ghost use Rattle.talk_serial.specs.Requests.{message_of};
 ghost use Rattle.child_link.specs.Doors.{GoesOn, Closes, is_closed};
@@ -18,7 +19,7 @@ ghost use Rattle.child_link.specs.Asks.{HasAsked, IsSettling};
 ghost use Rattle.child_link.specs.Fills.{Fills, ReadsOn, is_got};
 
 use crate::door::Door;
-use crate::events::{self, Asked};
+use crate::events::{self, AskReply};
 use crate::wire::Wire;
 use ann_key::{Bytes, NoMemory};
 use ann_outside::{Failed, Sink, Source, write_all};
@@ -47,17 +48,18 @@ pub struct Lone<I: Sink, O: Source> {
 
 impl<I: Sink, O: Source> Model for Lone<I, O> {
     ghost use Rattle.std.specs.Prelude.{◌≡◌, true};
+    ghost use Rattle.journal_model.specs.Limits.{longest_line};
     ghost use Rattle.child_link.specs.Links.{LinkValue};
 
     ghost Value = { LinkValue I O };
 
     ghost view = { λ s. record { child = s.child; inlet = s.inlet; outlet = s.outlet; held = s.splitter.bytes } };
 
-    ghost invariant = { λ s. (I.is_open s.inlet ≡ true) × (O.is_open s.outlet ≡ true) × (s.splitter.limit ≡ 65536) };
+    ghost invariant = { λ s. (I.is_open s.inlet ≡ true) × (O.is_open s.outlet ≡ true) × (s.splitter.limit ≡ longest_line) };
 }
 
 // What stands first in what a link holds.
-enum Held {
+enum FirstHeld {
     Line(Bytes),
     Long,
     More,
@@ -93,22 +95,22 @@ impl<I: Sink, O: Source> Lone<I, O> {
 
 impl<I: Sink, O: Source> Lone<I, O> {
     // What stands first, as a copy that can be fed.
-    fn first(&self) -> Held
+    fn first(&self) -> FirstHeld
         ensures { IsFirst self.now.held result }
     {
         match self.splitter.first() {
             Next::Line(line) => match Bytes::copy(self.alloc, line) {
-                Ok(line) => Held::Line(line),
-                Err(NoMemory) => Held::NoRoom,
+                Ok(line) => FirstHeld::Line(line),
+                Err(NoMemory) => FirstHeld::NoRoom,
             },
-            Next::Long => Held::Long,
-            Next::More => Held::More,
+            Next::Long => FirstHeld::Long,
+            Next::More => FirstHeld::More,
         }
     }
 
     // Takes the first line away.
     fn drop_line(&mut self)
-        requires { IsTrue (has_line 65536 self.old.held) }
+        requires { IsTrue (has_line longest_line self.old.held) }
         ensures same { self.new ≡ record self.old { held = self.new.held } }
         ensures cut { TakesLine self.old.held (first_line self.old.held) self.new.held }
     {
@@ -122,7 +124,7 @@ impl<I: Sink, O: Source> Lone<I, O> {
         requires started { is_started (D.seen door.old) self.old.child ≡ true }
         requires live { is_ended (D.seen door.old) self.old.child ≡ false }
         requires turn { IsTrue (may_hear (D.seen door.old) self.old.child) }
-        requires line { IsTrue (has_line 65536 self.old.held) × (line ≡ first_line self.old.held) }
+        requires line { IsTrue (has_line longest_line self.old.held) × (line ≡ first_line self.old.held) }
         ensures linked { IsLinked I.taken I.faults O.given O.left O.faults (D.seen door.old) self.old → IsLinked I.taken I.faults O.given O.left O.faults (D.seen door.new) self.new }
         ensures goes { GoesOn (D.seen door.old) (D.seen door.new) }
         ensures child { self.new.child ≡ self.old.child }
@@ -190,7 +192,7 @@ impl<I: Sink, O: Source> Lone<I, O> {
         requires alone { D.alone door.old ≡ true }
         requires started { is_started (D.seen door.old) self.old.child ≡ true }
         requires live { is_ended (D.seen door.old) self.old.child ≡ false }
-        requires more { IsTrue (not (has_line 65536 self.old.held)) × (length self.old.held ≤ 65536) }
+        requires more { IsTrue (not (has_line longest_line self.old.held)) × (length self.old.held ≤ longest_line) }
         ensures linked { IsLinked I.taken I.faults O.given O.left O.faults (D.seen door.old) self.old → IsLinked I.taken I.faults O.given O.left O.faults (D.seen door.new) self.new }
         ensures goes { GoesOn (D.seen door.old) (D.seen door.new) }
         ensures child { self.new.child ≡ self.old.child }
@@ -258,7 +260,7 @@ impl<I: Sink, O: Source> Lone<I, O> {
     }
 
     /// Ends a child that hasn't ended, for want of memory.
-    pub fn give_up<D: Door>(&mut self, door: &mut D)
+    pub fn end_for_memory<D: Door>(&mut self, door: &mut D)
         requires alone { D.alone door.old ≡ true }
         requires started { is_started (D.seen door.old) self.old.child ≡ true }
         ensures linked { IsLinked I.taken I.faults O.given O.left O.faults (D.seen door.old) self.old → IsLinked I.taken I.faults O.given O.left O.faults (D.seen door.new) self.new }
@@ -302,25 +304,25 @@ impl<I: Sink, O: Source> Lone<I, O> {
             return Turn::Over;
         }
         match self.first() {
-            Held::Line(line) => {
+            FirstHeld::Line(line) => {
                 if self.feed(door, line) {
                     Turn::Fed
                 } else {
                     Turn::Over
                 }
             }
-            Held::More => {
+            FirstHeld::More => {
                 if self.read(door) {
                     Turn::Read
                 } else {
                     Turn::Over
                 }
             }
-            Held::Long => {
+            FirstHeld::Long => {
                 self.stop(door, Why::LongLine);
                 Turn::Over
             }
-            Held::NoRoom => {
+            FirstHeld::NoRoom => {
                 self.stop(door, Why::Memory);
                 Turn::Over
             }
@@ -351,7 +353,7 @@ impl<I: Sink, O: Source> Lone<I, O> {
             }
             Ok(None) => false,
             Err(NoMemory) => {
-                self.give_up(door);
+                self.end_for_memory(door);
                 false
             }
         }
@@ -402,7 +404,7 @@ impl<I: Sink, O: Source> Lone<I, O> {
                 Turn::Read => {}
             }
         }
-        self.give_up(door);
+        self.end_for_memory(door);
         false
     }
 }
@@ -473,7 +475,7 @@ impl<I: Sink, O: Source> Lone<I, O> {
         ensures alone { D.alone door.new ≡ true }
         ensures loans { D.loans door.new ≡ D.loans door.old }
     {
-        self.give_up(door);
+        self.end_for_memory(door);
         match self.look_up(door, job) {
             Some(verdict) => verdict,
             None => unreachable!(),
@@ -557,9 +559,9 @@ impl<I: Sink, O: Source> Lone<I, O> {
         let child = self.child();
         let request = request.copy(self.alloc())?;
         match events::ask(door, child, task, request)? {
-            Asked::Job(job) => Ok(self.settle(door, job)),
-            Asked::Lost(Some(why)) => Ok(Verdict::Ended { why }),
-            Asked::Lost(None) => Ok(Verdict::Unsent),
+            AskReply::Job(job) => Ok(self.settle(door, job)),
+            AskReply::Lost(Some(why)) => Ok(Verdict::Ended { why }),
+            AskReply::Lost(None) => Ok(Verdict::Unsent),
         }
     }
 

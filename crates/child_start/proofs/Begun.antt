@@ -18,7 +18,7 @@ use Rattle.journal_model.proofs.Fresh.{Nothing, fresh}
 use Rattle.journal_model.proofs.Linking.{linked_start, why_is_end}
 use Rattle.journal_model.proofs.Heard.{heard_on}
 use Rattle.journal_model.proofs.Projecting.{invariant}
-use Rattle.talk_serial.specs.Requests.{names_of}
+use Rattle.annex_model.specs.Extensions.{names_of}
 use Rattle.child_link.specs.Links.{LinkValue, IsLinked}
 use Rattle.child_start.specs.Stages.{HasBegun}
 use Rattle.child_start.proofs.Jobs.{or_true, or_false}
@@ -129,10 +129,6 @@ unstarted_offers (e ∷ past) c h = step e.what h (unstarted_offers past c)
         go false h = r h
     step w h r = r h
 
-names_told : (b : Bool) → cond b (codes "INFO GETGITREMOTENAME ASYNC") (codes "INFO GETGITREMOTENAME") ≡ names_of b
-names_told true = refl
-names_told false = refl
-
 module _ (o : Opening) (old new : List Entry) (c slot : ℕ) (offer : Bool) (number : c ≡ count is_start old + 1)
     (is : new ≡ old ++ entry 0 (Start c slot offer) ∷ []) (legal : Legal o new) where
   abbrev one : List Entry
@@ -169,7 +165,7 @@ module _ (o : Opening) (old new : List Entry) (c slot : ℕ) (offer : Bool) (num
     live = live;
     silent = silent;
     jobs = (invariant o new legal).silent c silent;
-    names = ap (λ (b : Bool). cond b (codes "INFO GETGITREMOTENAME ASYNC") (codes "INFO GETGITREMOTENAME")) offered ∙ names_told offer;
+    names = ap names_of offered;
   }
 
   module _ {I O : Type 0} (taken : I → Option (List ℕ)) (wf : I → ℕ) (given : O → Option (List ℕ)) (left : O → Option (List ℕ)) (rf : O → ℕ) (link : LinkValue I O)

@@ -4,6 +4,7 @@ use Rattle.std.specs.Prelude.{◌||◌, filter, codes}
 use Rattle.std.specs.List.{list_all, cons_option}
 use Rattle.std.proofs.lemmas.List.Elements.{filter-append}
 use Rattle.annex_model.specs.declared.verdict.Verdict.{Verdict}
+use Rattle.annex_model.specs.Extensions.{names_of}
 use Rattle.annex_model.specs.Messages.{HostMessage, host_line}
 use Rattle.journal_model.specs.declared.entry.What.{What}
 use Rattle.journal_model.specs.declared.entry.What.TheVariants.{Start, Ask, Lost}
@@ -54,7 +55,7 @@ or_false false = refl
 
 pub goes_names : (old new : List Entry) (c : ℕ) → GoesOn old new → offered_names new c ≡ offered_names old c
 goes_names old new c g =
-    ap (λ (b : Bool). cond b (codes "INFO GETGITREMOTENAME ASYNC") (codes "INFO GETGITREMOTENAME")) (
+    ap names_of (
     ap (any (offers c)) g.is ∙ any-append (offers c) old g.more ∙ ap (λ (b : Bool). any (offers c) old || b) (link_offers_none c g.more g.quiet) ∙ or_false (any (offers c) old)
     )
 

@@ -17,8 +17,8 @@ use Rattle.journal_model.proofs.Linking.{why_alone, why_is_end}
 use Rattle.host_core.specs.Steps.{next_job, may_request}
 use Rattle.child_link.specs.Doors.{GoesOn, is_closed}
 use Rattle.child_link.proofs.Turning.{started_after}
-use Rattle.child_start.specs.declared.starting.Asked.{Asked}
-use Rattle.child_start.specs.declared.starting.Asked.TheVariants.{Done, Refused, Gone}
+use Rattle.child_start.specs.declared.starting.RequestOutcome.{RequestOutcome}
+use Rattle.child_start.specs.declared.starting.RequestOutcome.TheVariants.{Done, Refused, Gone}
 use Rattle.child_start.specs.Greetings.{is_of_greeting, is_refusal, HasEnded, IsUnsent}
 use Rattle.child_start.specs.Stages.{HasBegun, MayAsk, GreetsOn, IsGoneNext, AsksNext, IsGoneUnready, Prepares}
 use Rattle.child_start.proofs.Jobs.{goes_jobs, goes_names, verdict_settled, or_true}
@@ -62,11 +62,11 @@ module _ (old mid : List Entry) (c : ℕ) (none : asked_jobs old c ≡ []) where
       few (inl e) = let n : length (asked_jobs mid c) ≡ 0 = ap length (e ∙ none) in omega (arith, n)
       few (inr e) = let n : length (asked_jobs mid c) ≡ 1 = ap length (e ∙ ap (λ (ks : List ℕ). ks ++ length ks ∷ []) none) in omega (arith, n)
 
-  module _ (a : Asked) (here : a ≡ Gone → ⊥) (n : AsksNext old mid c a) where
+  module _ (a : RequestOutcome) (here : a ≡ Gone → ⊥) (n : AsksNext old mid c a) where
     one_job : asked_jobs mid c ≡ 0 ∷ []
     one_job = go a here n ∙ ap (λ (ks : List ℕ). ks ++ length ks ∷ []) none
       where
-        go : (a : Asked) → (a ≡ Gone → ⊥) → AsksNext old mid c a → asked_jobs mid c ≡ asked_jobs old c ++ next_job old c ∷ []
+        go : (a : RequestOutcome) → (a ≡ Gone → ⊥) → AsksNext old mid c a → asked_jobs mid c ≡ asked_jobs old c ++ next_job old c ∷ []
         go Done here n = n.jobs
         go (Refused verdict) here n = n.jobs
         go Gone here n = absurd (here refl)
@@ -74,7 +74,7 @@ module _ (old mid : List Entry) (c : ℕ) (none : asked_jobs old c ≡ []) where
     settled : is_settled mid c 0 ≡ true
     settled = go a here n
       where
-        go : (a : Asked) → (a ≡ Gone → ⊥) → AsksNext old mid c a → is_settled mid c 0 ≡ true
+        go : (a : RequestOutcome) → (a ≡ Gone → ⊥) → AsksNext old mid c a → is_settled mid c 0 ≡ true
         go Done here n = done_settled mid c 0 (ap (λ (k : ℕ). is_done (verdict_of mid c k)) (sym first_job) ∙ n.done)
         go (Refused verdict) here n = verdict_settled mid c 0 verdict (ap (verdict_of mid c) (sym first_job) ∙ n.settled)
         go Gone here n = absurd (here refl)
@@ -92,7 +92,7 @@ module _ (old mid : List Entry) (c : ℕ) (none : asked_jobs old c ≡ []) where
         ap (λ (k : ℕ). may_request mid by 0 k Prepare) e ∙ ap (λ (b : Bool). b && true) three
 
     -- PREPARE was asked
-    pub prepared_second : (new : List Entry) (b : Asked) → AsksNext mid new c b → Prepares new c b
+    pub prepared_second : (new : List Entry) (b : RequestOutcome) → AsksNext mid new c b → Prepares new c b
     prepared_second new Done a = record {
       prepared = ap (λ (ks : List ℕ). is_done (verdict_of new c (length ks))) (sym one_job) ∙ a.done;
       jobs = a.jobs ∙ ap (λ (ks : List ℕ). ks ++ length ks ∷ []) one_job;
@@ -187,8 +187,8 @@ unsent_told journal last c k l e p is =
     (record { unprepared = p.unprepared; unrefused = p.unrefused; live = live; mute = sym (ap (λ (b : Bool). b || is_mute journal c) live) ∙ p.gone })
 
 -- what was prepared or not, by the child's number under another name
-pub prepares_as : (journal : List Entry) (c d : ℕ) (b r : Asked) → d ≡ c → r ≡ b → Prepares journal d r → Prepares journal c b
-prepares_as journal c d b r e f p = subst (λ (x : Asked). Prepares journal c x) f (subst (λ (k : ℕ). Prepares journal k r) e p)
+pub prepares_as : (journal : List Entry) (c d : ℕ) (b r : RequestOutcome) → d ≡ c → r ≡ b → Prepares journal d r → Prepares journal c b
+prepares_as journal c d b r e f p = subst (λ (x : RequestOutcome). Prepares journal c x) f (subst (λ (k : ℕ). Prepares journal k r) e p)
 
 pub greets_as : (old new : List Entry) (c d : ℕ) → d ≡ c → GreetsOn old new d → GreetsOn old new c
 greets_as old new c d e g = subst (λ (k : ℕ). GreetsOn old new k) e g

@@ -75,13 +75,13 @@ Tells old new slot offer StartFault = new ≡ old ++ record { by = 0; what = NoS
 Tells old new slot offer NoMemory = new ≡ old
 
 -- the link of a greeting that has one
-abbrev pub Has : {I O S : Type 0} → (LinkValue I O → Type 0) → Greeting I O S → Type 0
-Has P (Ready link stub tagged) = P link
-Has P (Refused verdict link stub) = P link
-Has P (Ended why link stub) = P link
-Has P (Unsent link stub) = P link
-Has P StartFault = Unit {0}
-Has P NoMemory = Unit {0}
+abbrev pub IfHasLink : {I O S : Type 0} → (LinkValue I O → Type 0) → Greeting I O S → Type 0
+IfHasLink P (Ready link stub tagged) = P link
+IfHasLink P (Refused verdict link stub) = P link
+IfHasLink P (Ended why link stub) = P link
+IfHasLink P (Unsent link stub) = P link
+IfHasLink P StartFault = Unit {0}
+IfHasLink P NoMemory = Unit {0}
 
 -- Where programs tell, they were asked for the program once, which gave a child or not. Without memory they may not have
 -- been asked, or it may have been for nothing.

@@ -7,15 +7,15 @@ use Rattle.annex_model.specs.Messages.{HostMessage, AskExtensions, Prepare}
 use Rattle.journal_model.specs.declared.entry.Entry.{Entry}
 use Rattle.journal_model.specs.Journal.{is_started, is_ended, has_spoken, is_tagged, verdict_of, asked_jobs, open_jobs}
 use Rattle.journal_model.specs.Legality.{said_version, offered_names, is_done, is_prepared}
-use Rattle.talk_serial.specs.Requests.{names_of}
+use Rattle.annex_model.specs.Extensions.{names_of}
 use Rattle.host_core.specs.declared.event.Reply.{Reply}
 use Rattle.host_core.specs.declared.event.Reply.TheVariants.{Child}
 use Rattle.host_core.specs.Steps.{is_gone, next_job}
 use Rattle.child_link.specs.Links.{LinkValue}
 use Rattle.child_start.specs.declared.greeting.Greeting.{Greeting}
 use Rattle.child_start.specs.declared.greeting.Greeting.TheVariants.{Ready, Refused as RefusedGreeting, Ended, Unsent, StartFault, NoMemory}
-use Rattle.child_start.specs.declared.starting.Asked.{Asked}
-use Rattle.child_start.specs.declared.starting.Asked.TheVariants.{Done, Refused, Gone}
+use Rattle.child_start.specs.declared.starting.RequestOutcome.{RequestOutcome}
+use Rattle.child_start.specs.declared.starting.RequestOutcome.TheVariants.{Done, Refused, Gone}
 use Rattle.child_start.specs.declared.starting.Came.{Came}
 use Rattle.child_start.specs.declared.starting.Came.TheVariants.{Prepared, Refused as RefusedToPrepare, Over, Mute}
 use Rattle.child_start.specs.Greetings.{is_of_greeting, is_refusal, IsReady, IsRefused, HasEnded, IsUnsent}
@@ -32,7 +32,7 @@ is_greeting Prepare = true
 is_greeting q = false
 
 -- what the verdict of a request of the greeting is to it
-abbrev pub asked_as : Verdict → Asked
+abbrev pub asked_as : Verdict → RequestOutcome
 asked_as (DoneAt at) = Done
 asked_as (FailedAt at) = Refused (FailedAt at)
 asked_as (UnsupportedAt at) = Refused (UnsupportedAt at)
@@ -79,7 +79,7 @@ pub record IsGoneNext (old new : List Entry) (c : ℕ) : Type 0 where
   pub unrefused : is_refusal (verdict_of new c (next_job old c)) ≡ false
   pub jobs : (asked_jobs new c ≡ asked_jobs old c) ⊎ (asked_jobs new c ≡ asked_jobs old c ++ next_job old c ∷ [])
 
-abbrev pub AsksNext : List Entry → List Entry → ℕ → Asked → Type 0
+abbrev pub AsksNext : List Entry → List Entry → ℕ → RequestOutcome → Type 0
 AsksNext old new c Done = IsDoneNext old new c
 AsksNext old new c (Refused verdict) = IsRefusedNext old new c verdict
 AsksNext old new c Gone = IsGoneNext old new c
@@ -90,7 +90,7 @@ pub record IsGoneUnready (journal : List Entry) (c : ℕ) : Type 0 where
   pub unprepared : is_prepared journal c ≡ false
   pub unrefused : is_refusal (verdict_of journal c 1) ≡ false
 
-abbrev pub Prepares : List Entry → ℕ → Asked → Type 0
+abbrev pub Prepares : List Entry → ℕ → RequestOutcome → Type 0
 Prepares journal c Done = IsReady journal c
 Prepares journal c (Refused verdict) = IsRefused journal c verdict
 Prepares journal c Gone = IsGoneUnready journal c

@@ -6,7 +6,7 @@ ghost use Rattle.journal_model.specs.Legality.{Legal, count, is_start};
 ghost use Rattle.talk_serial.specs.Requests.{message_of};
 ghost use Rattle.host_core.specs.Steps.{may_request};
 ghost use Rattle.child_link.specs.Links.{IsLinked};
-ghost use Rattle.child_start.specs.Greetings.{Tells, Has, StartsOnce, AreNumbered};
+ghost use Rattle.child_start.specs.Greetings.{Tells, IfHasLink, StartsOnce, AreNumbered};
 ghost use Rattle.child_start.specs.Stages.{asked_as, child_of, is_greeting, HasBegun, MayAsk, GreetsOn, AsksNext, Prepares, ComesTo, TellsOf, AreSameNumbers};
 
 use crate::greeting::{Greeting, Mode};
@@ -20,7 +20,7 @@ use talk_serial::Request;
 
 // What a request of the greeting comes to.
 #[derive(Drop)]
-enum Asked {
+enum RequestOutcome {
     Done,
     // A line said that it failed, or that the remote doesn't know it.
     Refused(Verdict),
@@ -36,13 +36,13 @@ enum Came {
     Mute,
 }
 
-fn asked_as(verdict: Verdict) -> Asked
+fn asked_as(verdict: Verdict) -> RequestOutcome
     ensures { result ≡ asked_as verdict }
 {
     match verdict {
-        Verdict::Done { .. } => Asked::Done,
-        Verdict::Failed { .. } | Verdict::Unsupported { .. } => Asked::Refused(verdict),
-        _ => Asked::Gone,
+        Verdict::Done { .. } => RequestOutcome::Done,
+        Verdict::Failed { .. } | Verdict::Unsupported { .. } => RequestOutcome::Refused(verdict),
+        _ => RequestOutcome::Gone,
     }
 }
 
@@ -51,7 +51,7 @@ fn ask_one<I: Sink, O: Source, D: Door>(
     link: &mut Lone<I, O>,
     door: &mut D,
     request: &Request,
-) -> Asked
+) -> RequestOutcome
     requires alone { D.alone door.old ≡ true }
     requires first { D.number door.old ≡ 0 }
     requires legal { Legal (D.opening door.old) (D.seen door.old) }
@@ -73,8 +73,8 @@ fn ask_one<I: Sink, O: Source, D: Door>(
     match link.ask(door, 0, request) {
         Ok(verdict) => asked_as(verdict),
         Err(NoMemory) => {
-            link.give_up(door);
-            Asked::Gone
+            link.end_for_memory(door);
+            RequestOutcome::Gone
         }
     }
 }
@@ -85,7 +85,7 @@ fn ask_both<I: Sink, O: Source, D: Door>(
     door: &mut D,
     offer: bool,
     mode: Mode,
-) -> Asked
+) -> RequestOutcome
     requires alone { D.alone door.old ≡ true }
     requires first { D.number door.old ≡ 0 }
     requires legal { Legal (D.opening door.old) (D.seen door.old) }
@@ -102,8 +102,8 @@ fn ask_both<I: Sink, O: Source, D: Door>(
     ensures loans { D.loans door.new ≡ D.loans door.old }
 {
     let extensions = Request::Extensions { offer };
-    if let Asked::Gone = ask_one(link, door, &extensions) {
-        return Asked::Gone;
+    if let RequestOutcome::Gone = ask_one(link, door, &extensions) {
+        return RequestOutcome::Gone;
     }
     match mode {
         Mode::Serve => ask_one(link, door, &Request::Prepare),
@@ -136,9 +136,9 @@ fn hear_and_ask<I: Sink, O: Source, D: Door>(
         return Came::Over(why);
     }
     match ask_both(link, door, offer, mode) {
-        Asked::Done => Came::Prepared,
-        Asked::Refused(verdict) => Came::Refused(verdict),
-        Asked::Gone => match link.why_ended(door) {
+        RequestOutcome::Done => Came::Prepared,
+        RequestOutcome::Refused(verdict) => Came::Refused(verdict),
+        RequestOutcome::Gone => match link.why_ended(door) {
             Some(why) => Came::Over(why),
             None => Came::Mute,
         },
@@ -180,8 +180,8 @@ fn greet_child<I: Sink, O: Source, S>(
     requires begun { HasBegun core.old.journal link.child offer }
     ensures on { GreetsOn core.old.journal core.new.journal link.child }
     ensures tells { TellsOf core.new.journal link.child result }
-    ensures linked { IsLinked I.taken I.faults O.given O.left O.faults core.old.journal link → Has (IsLinked I.taken I.faults O.given O.left O.faults core.new.journal) result }
-    ensures numbers { Has (AreSameNumbers I.number O.number link) result }
+    ensures linked { IsLinked I.taken I.faults O.given O.left O.faults core.old.journal link → IfHasLink (IsLinked I.taken I.faults O.given O.left O.faults core.new.journal) result }
+    ensures numbers { IfHasLink (AreSameNumbers I.number O.number link) result }
     ensures legal { Legal core.new.opening core.new.journal }
     ensures opening { core.new.opening ≡ core.old.opening }
 {
@@ -268,8 +268,8 @@ where
     P::Outlet: Drop,
     requires few { count is_start core.old.journal < 4294967295 }
     ensures tells { Tells core.old.journal core.new.journal slot offer result }
-    ensures linked { Has (IsLinked P.Inlet.taken P.Inlet.faults P.Outlet.given P.Outlet.left P.Outlet.faults core.new.journal) result }
-    ensures numbers { Has (AreNumbered P.Inlet.number P.Outlet.number (P.starts programs.new)) result }
+    ensures linked { IfHasLink (IsLinked P.Inlet.taken P.Inlet.faults P.Outlet.given P.Outlet.left P.Outlet.faults core.new.journal) result }
+    ensures numbers { IfHasLink (AreNumbered P.Inlet.number P.Outlet.number (P.starts programs.new)) result }
     ensures starts { StartsOnce (P.starts programs.old) (P.starts programs.new) program.now result }
     ensures fault { result ≡ Greeting.StartFault → Rose (P.faults programs.old) (P.faults programs.new) }
     ensures later { P.faults programs.old ≤ P.faults programs.new }

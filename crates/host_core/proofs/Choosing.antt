@@ -17,7 +17,8 @@ use Rattle.journal_model.proofs.Looks.{same_number, both}
 use Rattle.journal_model.proofs.Asking.{read_askable}
 use Rattle.talk_serial.specs.declared.request.Request.{Request}
 use Rattle.talk_serial.specs.declared.request.Request.TheVariants.{Extensions, Prepare as PrepareRequest, ListConfigs, GetCost, GetAvailability, GetInfo, Transfer as TransferRequest, CheckPresent, Remove as RemoveRequest, WhereIs}
-use Rattle.talk_serial.specs.Requests.{message_of, names_of}
+use Rattle.annex_model.specs.Extensions.{names_of}
+use Rattle.talk_serial.specs.Requests.{message_of}
 use Rattle.host_core.specs.declared.event.Event.TheVariants.{Claim as ClaimEvent, Start as StartEvent, NoStart as NoStartEvent, Ask as AskEvent, Got as GotEvent, Stop, Sent as SentEvent, Mute as MuteEvent, Answer as AnswerEvent}
 use Rattle.host_core.specs.declared.event.Reply.TheVariants.{Job}
 use Rattle.host_core.specs.Steps.{Step, step_of, group_of, append, odd, gone, claim, next_job, may_request, may_end, is_askable, Comes, Appends}
@@ -59,11 +60,7 @@ claim_chosen o past by t child false m e h =
 requested : (past : List Entry) (c job : ℕ) (q : HostMessage) → is_in_turn past c job q ≡ true → (r : Request) × (message_of r ≡ q)
 requested past c job (AskExtensions names) h =
     let t = both (job == 0) (bytes_eq names (offered_names past c)) h in
-    (Extensions (any (offers c) past), ap AskExtensions (told (any (offers c) past) ∙ sym ((bytes_eq-Decides names (offered_names past c)).0 t.1)))
-  where
-    told : (b : Bool) → names_of b ≡ cond b (codes "INFO GETGITREMOTENAME ASYNC") (codes "INFO GETGITREMOTENAME")
-    told true = refl
-    told false = refl
+    (Extensions (any (offers c) past), ap AskExtensions (sym ((bytes_eq-Decides names (offered_names past c)).0 t.1)))
 requested past c job Prepare h = (PrepareRequest, refl)
 requested past c job Initremote h = absurd cc
 requested past c job (Transfer store key file) h = (TransferRequest store key file, refl)
@@ -110,7 +107,7 @@ ask_chosen o past by child job task line (Some q) reads s e m j turn may =
 some_request : (past : List Entry) (c job : ℕ) → (r : Request) × (is_in_turn past c job (message_of r) ≡ true) × (is_askable (message_of r) ≡ true)
 some_request past c job = go (job == 0) refl (job == 1) refl
   where
-    offered : (b : Bool) → bytes_eq (names_of b) (cond b (codes "INFO GETGITREMOTENAME ASYNC") (codes "INFO GETGITREMOTENAME")) ≡ true
+    offered : (b : Bool) → bytes_eq (names_of b) (names_of b) ≡ true
     offered true = refl
     offered false = refl
 

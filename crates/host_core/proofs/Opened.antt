@@ -122,13 +122,13 @@ first_asked : (p : List Item) → request_in p ≡ option_and_then host_reading 
 first_asked [] = refl
 first_asked (i ∷ is) = refl
 
-pub record Asked (p : List Item) (q : HostMessage) : Type 0 where
+pub record BeginsAsked (p : List Item) (q : HostMessage) : Type 0 where
   pub request : request_in p ≡ Some q
   pub asks : is_request q ≡ true
   pub waits : awaits q (said p) ≡ true
 
 pub job_asked : (o : Opening) (past : List Entry) (c j : ℕ) (text : List ℕ) (q : HostMessage) → Legal o past → is_open past c j ≡ true
-    → Some text ≡ first_text (part past c j) → Some q ≡ host_reading text → Asked (part past c j) q
+    → Some text ≡ first_text (part past c j) → Some q ≡ host_reading text → BeginsAsked (part past c j) q
 job_asked o past c j text q legal is first reads =
     let p = part past c j in
     let job = opened o past c j legal is in
@@ -190,12 +190,12 @@ alike_file store key a b = record { hears = by_lines (Transfer store key a) (Tra
 pub alike_transfer : (store : Bool) (k l a b : List ℕ) → k ≡ l → Alike (Transfer store k a) (Transfer store l b)
 alike_transfer store k l a b e = subst (λ (x : List ℕ). Alike (Transfer store k a) (Transfer store x b)) e (alike_file store k a b)
 
-pub asked_alike : (p : List Item) (q r s : HostMessage) → Asked p q → Alike r q → s ≡ r → AlikeTo s (request_in p)
+pub asked_alike : (p : List Item) (q r s : HostMessage) → BeginsAsked p q → Alike r q → s ≡ r → AlikeTo s (request_in p)
 asked_alike p q r s asked alike same =
     let here : AlikeTo r (request_in p) = subst (AlikeTo r) (sym asked.request) alike in
     subst (λ (x : HostMessage). AlikeTo x (request_in p)) (sym same) here
 
-pub alike_waits : (p : List Item) (q r : HostMessage) → Asked p q → Alike r q → awaits r (said p) ≡ true
+pub alike_waits : (p : List Item) (q r : HostMessage) → BeginsAsked p q → Alike r q → awaits r (said p) ≡ true
 alike_waits p q r asked alike = subst (λ (s : Shape). may_go_on s (said p) ≡ true) (sym alike.shape) asked.waits
 
 -- a talk about a request like the job's hears what the job does

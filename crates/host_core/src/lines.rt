@@ -1,13 +1,15 @@
 // What the lines of the journal say: the greeting, tags, and what is still to be written.
 ghost use Rattle.std.specs.Prelude.{◌≡◌, ◌==◌, ◌≤◌, ◌++◌, ◌∷◌, [], slice_get, filter, length, if◌then◌else◌, find, option_copied, option_map, IfOk, bytes_eq, codes, Some, drop, nat_le};
 ghost use Rattle.std.specs.List.{list_any, slice_split};
+ghost use Rattle.annex_model.specs.Extensions.{names_of};
 ghost use Rattle.annex_model.specs.Lines.{has_newline};
 ghost use Rattle.annex_model.specs.Messages.{remote_reading, host_line, is_sent_key, is_space, IsAskable};
 ghost use Rattle.annex_model.specs.Tags.{names_async, untag};
+ghost use Rattle.journal_model.specs.Limits.{most_line_bytes};
 ghost use Rattle.journal_model.specs.Journal.{each_of, first_of, line_at, is_tagged, accepts_async, addressed, by_tag, on_wire, got_lines, sends, writes, unsent, is_unsent, is_job, got_from, line_bytes, bytes_in, is_full};
 ghost use Rattle.journal_model.specs.Due.{is_version_one, is_error};
 ghost use Rattle.journal_model.specs.Legality.{said_version, is_prepared, is_greeted, is_in_turn, is_empty, may_ask, is_done, offered_names, is_text};
-ghost use Rattle.talk_serial.specs.Requests.{message_of, names_of};
+ghost use Rattle.talk_serial.specs.Requests.{message_of};
 ghost use Rattle.host_core.specs.Steps.{is_askable, may_request, next_job, written_to, got_line, next_line};
 ghost use Rattle.host_core.specs.Moves.{is_written, hosts_line, next_reply};
 
@@ -19,6 +21,11 @@ use std::alloc::Global;
 use std::str;
 use talk_serial::Request;
 use wire_msg::{RemoteMsg, read_remote, tag, untag};
+
+// A journal that has so many entries, or so many bytes in lines, is full.
+const MOST_ENTRIES: usize = 8_000_000;
+
+const MOST_LINE_BYTES: usize = 1_073_741_824;
 
 /// How many bytes the entry's line has, where it has one.
 fn line_bytes(what: &What) -> usize
@@ -34,9 +41,9 @@ fn line_bytes(what: &What) -> usize
 
 /// Whether the lines of the entries have as many bytes as a journal may have.
 fn is_heavy(entries: &[Entry]) -> bool
-    ensures { result ≡ nat_le 1073741824 (bytes_in entries.now) }
+    ensures { result ≡ nat_le most_line_bytes (bytes_in entries.now) }
 {
-    let mut left: usize = 1_073_741_824;
+    let mut left = MOST_LINE_BYTES;
     for e in entries {
         let bytes = line_bytes(&e.what);
         if left <= bytes {
@@ -51,7 +58,7 @@ fn is_heavy(entries: &[Entry]) -> bool
 pub(super) fn is_full(entries: &[Entry]) -> bool
     ensures { result ≡ is_full entries.now }
 {
-    8_000_000 <= entries.len() || is_heavy(entries)
+    MOST_ENTRIES <= entries.len() || is_heavy(entries)
 }
 
 pub(super) fn has_newline(line: &[u8]) -> bool
@@ -227,7 +234,7 @@ fn is_greeted(entries: &[Entry], child: u32, job: u64) -> bool
 
 // Whether the names of an EXTENSIONS that offers ASYNC or not are those that the child is told.
 fn are_offered(offer: bool, offered: bool) -> bool
-    ensures { result ≡ bytes_eq (names_of offer) (if offered then codes "INFO GETGITREMOTENAME ASYNC" else codes "INFO GETGITREMOTENAME") }
+    ensures { result ≡ bytes_eq (names_of offer) (names_of offered) }
 {
     match (offer, offered) {
         (true, true) => true,

@@ -1,4 +1,5 @@
 ghost use Rattle.std.specs.Prelude.{◌≡◌, ◌≤◌, ◌++◌, [], length, true, IfOk, IsOk, OnOk, OnErr};
+ghost use Rattle.journal_model.specs.Limits.{most_tasks};
 ghost use Rattle.journal_model.specs.Journal.{is_tagged};
 ghost use Rattle.journal_model.specs.Legality.{Legal};
 ghost use Rattle.host_core.specs.Steps.{step_of, takes_no_memory, unclaimed};
@@ -24,19 +25,20 @@ impl Model for Core {
     ghost use Rattle.std.specs.Prelude.{◌≤◌, length, vec_capacity};
     ghost use Rattle.journal_model.specs.Room.{room_of};
     ghost use Rattle.journal_model.specs.Legality.{Legal};
-    ghost use Rattle.host_core.specs.Held.{Held};
+    ghost use Rattle.journal_model.specs.Limits.{most_tasks};
+    ghost use Rattle.host_core.specs.CoreValue.{CoreValue};
 
-    ghost Value = { Held };
+    ghost Value = { CoreValue };
 
     ghost view = { λ c. record { opening = c.opening; journal = c.entries.items } };
 
-    ghost invariant = { λ c. Legal c.opening c.entries.items × (length c.opening.tasks ≤ 65536) × (room_of c.opening c.entries.items ≤ c.room) × (c.room ≤ vec_capacity c.entries) };
+    ghost invariant = { λ c. Legal c.opening c.entries.items × (length c.opening.tasks ≤ most_tasks) × (room_of c.opening c.entries.items ≤ c.room) × (c.room ≤ vec_capacity c.entries) };
 }
 
 impl Core {
     /// A core with an empty journal. It has at most 65,536 tasks.
     pub fn new(alloc: Global, opening: Opening) -> Result<Core, NoMemory>
-        requires few { length opening.tasks ≤ 65536 }
+        requires few { length opening.tasks ≤ most_tasks }
         ensures opening { IfOk result (λ c. c.opening ≡ opening) }
         ensures empty { IfOk result (λ c. c.journal ≡ []) }
     {

@@ -1,6 +1,7 @@
 // What each event appends, and what is answered, found before anything is changed.
 ghost use Rattle.std.specs.Prelude.{◌≡◌, ◌≤◌, length, IfOk, true, Some, None, IsOk};
 ghost use Rattle.annex_model.specs.Messages.{host_line};
+ghost use Rattle.journal_model.specs.Limits.{most_tasks};
 ghost use Rattle.journal_model.specs.Journal.{on_wire};
 ghost use Rattle.journal_model.specs.Legality.{Legal, least_free};
 ghost use Rattle.talk_serial.specs.Requests.{message_of};
@@ -65,7 +66,7 @@ fn gone(entries: &[Entry], child: u32) -> Reply
 
 /// The least free task, claimed for the child.
 fn least(opening: &Opening, entries: &[Entry], by: u32, child: u32) -> Move
-    requires { length opening.now.tasks ≤ 65536 }
+    requires { length opening.now.tasks ≤ most_tasks }
     ensures step { IsStep entries.now by (claim opening.now entries.now by child (least_free opening.now entries.now)) result }
     ensures room { first_room result.what ≡ 0 }
 {
@@ -82,7 +83,7 @@ fn least(opening: &Opening, entries: &[Entry], by: u32, child: u32) -> Move
 }
 
 fn claim(opening: &Opening, entries: &[Entry], by: u32, child: u32) -> Move
-    requires { length opening.now.tasks ≤ 65536 }
+    requires { length opening.now.tasks ≤ most_tasks }
     ensures step { IsStep entries.now by (step_of opening.now entries.now by (Event.Claim child)) result }
     ensures room { first_room result.what ≡ 0 }
 {
@@ -346,7 +347,7 @@ pub(super) fn move_of(
     by: u32,
     event: Event,
 ) -> Result<Move, NoMemory>
-    requires few { length opening.now.tasks ≤ 65536 }
+    requires few { length opening.now.tasks ≤ most_tasks }
     requires legal { Legal opening.now entries.now }
     ensures step { IfOk result (IsStep entries.now by (step_of opening.now entries.now by event)) }
     ensures room { takes_no_memory event ≡ true → IfOk result (λ m. first_room m.what ≡ 0) }

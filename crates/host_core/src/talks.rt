@@ -17,7 +17,7 @@ use crate::{children, lines};
 use ann_key::{Key, NoMemory, Text};
 use journal_model::{Entry, Opening, What, Why};
 use std::alloc::Global;
-use talk_serial::{Heard, Request, Talk};
+use talk_serial::{Heard, Request, Talk, extension_names};
 use wire_msg::{HostMsg, RemoteMsg, read_host, read_remote};
 
 /// Whether the line of the entry is the host's, in this job.
@@ -71,7 +71,7 @@ fn first_text(entries: &[Entry], child: u32, job: u64) -> Option<&[u8]>
 }
 
 fn is_offer(names: &[u8]) -> bool {
-    names == b"INFO GETGITREMOTENAME ASYNC".as_slice()
+    names == extension_names(true)
 }
 
 /// A request to which the same is an answer as to the message, which asks one. No answer names a file.

@@ -1,6 +1,7 @@
 // What the journal says of the tasks.
 ghost use Rattle.std.specs.Prelude.{◌≡◌, ◌≤◌, ◌^◌, ◌&&◌, ◌==◌, ◌++◌, find, length, not, option_copied, bytes_eq, codes};
 ghost use Rattle.std.specs.List.{list_any, list_all, range_with_len};
+ghost use Rattle.journal_model.specs.Limits.{most_tasks};
 ghost use Rattle.journal_model.specs.Journal.{each_of};
 ghost use Rattle.journal_model.specs.Legality.{claims, answers, is_claimed, is_busy, clashes, conflicts, task_of, both_conflict, numbers_of, is_free, least_free, claims_with, is_claimed_by, job_for, has_open_job, may_work, claimed_for, has_busy_task};
 ghost use Rattle.host_core.specs.Steps.{are_all_claimed, unclaimed};
@@ -106,7 +107,7 @@ fn both_conflict(opening: &Opening, one: u32, other: u32) -> bool
 
 /// How many tasks there are.
 pub(super) fn task_count(opening: &Opening) -> u32
-    requires { length opening.now.tasks ≤ 65536 }
+    requires { length opening.now.tasks ≤ most_tasks }
     ensures { result ≡ length opening.now.tasks }
 {
     opening.tasks.view().len() as u32
@@ -114,7 +115,7 @@ pub(super) fn task_count(opening: &Opening) -> u32
 
 /// Whether a busy task is in the task's way.
 fn is_in_way(opening: &Opening, entries: &[Entry], task: u32) -> bool
-    requires { length opening.now.tasks ≤ 65536 }
+    requires { length opening.now.tasks ≤ most_tasks }
     ensures { result ≡ list_any (λ u. is_busy entries.now u && both_conflict (task_of opening.now u) (task_of opening.now task)) (numbers_of opening.now) }
 {
     (1..task_count(opening) + 1).any(|other| is_busy(entries, other)
@@ -122,7 +123,7 @@ fn is_in_way(opening: &Opening, entries: &[Entry], task: u32) -> bool
 }
 
 fn is_free(opening: &Opening, entries: &[Entry], task: u32) -> bool
-    requires { length opening.now.tasks ≤ 65536 }
+    requires { length opening.now.tasks ≤ most_tasks }
     ensures { result ≡ is_free opening.now entries.now task }
 {
     !is_claimed(entries, task) && !is_in_way(opening, entries, task)
@@ -130,14 +131,14 @@ fn is_free(opening: &Opening, entries: &[Entry], task: u32) -> bool
 
 /// The first task that is free to be claimed.
 pub(super) fn least_free(opening: &Opening, entries: &[Entry]) -> Option<u32>
-    requires { length opening.now.tasks ≤ 65536 }
+    requires { length opening.now.tasks ≤ most_tasks }
     ensures { result ≡ least_free opening.now entries.now }
 {
     (1..task_count(opening) + 1).find(|task| is_free(opening, entries, *task))
 }
 
 pub(super) fn are_all_claimed(opening: &Opening, entries: &[Entry]) -> bool
-    requires { length opening.now.tasks ≤ 65536 }
+    requires { length opening.now.tasks ≤ most_tasks }
     ensures { result ≡ are_all_claimed opening.now entries.now }
 {
     (1..task_count(opening) + 1).all(|task| is_claimed(entries, task))
@@ -220,7 +221,7 @@ pub(super) fn has_busy_task(entries: &[Entry], child: u32) -> bool
 
 /// How many tasks are not claimed.
 pub(super) fn unclaimed(opening: &Opening, entries: &[Entry]) -> u32
-    requires { length opening.now.tasks ≤ 65536 }
+    requires { length opening.now.tasks ≤ most_tasks }
     ensures { result ≡ length (unclaimed opening.now entries.now) }
 {
     (1..task_count(opening) + 1)

@@ -16,7 +16,8 @@ use Rattle.journal_model.proofs.Looks.{same_number, both}
 use Rattle.journal_model.proofs.Asking.{read_askable}
 use Rattle.talk_serial.specs.declared.request.Request.{Request}
 use Rattle.talk_serial.specs.declared.request.Request.TheVariants.{Extensions}
-use Rattle.talk_serial.specs.Requests.{message_of, names_of}
+use Rattle.annex_model.specs.Extensions.{names_of}
+use Rattle.talk_serial.specs.Requests.{message_of}
 use Rattle.host_core.specs.declared.event.Event.TheVariants.{Claim as ClaimEvent, Ask as AskEvent, Got as GotEvent}
 use Rattle.host_core.specs.declared.event.Reply.TheVariants.{Job}
 use Rattle.host_core.specs.Steps.{step_of, group_of, append, odd, gone, next_job, may_request, is_askable}
@@ -58,20 +59,20 @@ suits_claim o past w task child is = subst (λ (v : What). Suits o past v (Some 
 -- ---- a request
 
 -- the names of a message in its turn are those of the request that offers so
-pub offered : (names : List ℕ) (b : Bool) → b ≡ bytes_eq names (codes "INFO GETGITREMOTENAME ASYNC") → IsRequestOf (AskExtensions names) (Extensions b)
+pub offered : (names : List ℕ) (b : Bool) → b ≡ bytes_eq names (names_of true) → IsRequestOf (AskExtensions names) (Extensions b)
 offered names b is = λ past c job turn. (
     let t = both (job == 0) (bytes_eq names (offered_names past c)) turn in
     go (any (offers c) past) ((bytes_eq-Decides names (offered_names past c)).0 t.1))
   where
-    told : (b : Bool) (a : Bool) → names ≡ cond a (codes "INFO GETGITREMOTENAME ASYNC") (codes "INFO GETGITREMOTENAME")
-        → b ≡ bytes_eq (cond a (codes "INFO GETGITREMOTENAME ASYNC") (codes "INFO GETGITREMOTENAME")) (codes "INFO GETGITREMOTENAME ASYNC") → names_of b ≡ names
+    told : (b : Bool) (a : Bool) → names ≡ names_of a
+        → b ≡ bytes_eq (names_of a) (names_of true) → names_of b ≡ names
     told true true e h = sym e
     told true false e h = absurd cc
     told false true e h = absurd cc
     told false false e h = sym e
 
-    go : (a : Bool) → names ≡ cond a (codes "INFO GETGITREMOTENAME ASYNC") (codes "INFO GETGITREMOTENAME") → AskExtensions (names_of b) ≡ AskExtensions names
-    go a e = ap AskExtensions (told b a e (is ∙ ap (λ (ns : List ℕ). bytes_eq ns (codes "INFO GETGITREMOTENAME ASYNC")) e))
+    go : (a : Bool) → names ≡ names_of a → AskExtensions (names_of b) ≡ AskExtensions names
+    go a e = ap AskExtensions (told b a e (is ∙ ap (λ (ns : List ℕ). bytes_eq ns (names_of true)) e))
 
 -- no job asks to transfer a file whose name is no text
 pub no_text : (store : Bool) (key file : List ℕ) (r : Request) → (IsUtf8 file → ⊥) → IsRequestOf (Transfer store key file) r

@@ -1,5 +1,6 @@
 // The request that an entry's line asks, and one that may be asked next.
-ghost use Rattle.std.specs.Prelude.{◌≡◌, true, IfOk, bytes_eq, codes, length};
+ghost use Rattle.std.specs.Prelude.{◌≡◌, true, IfOk, bytes_eq, length};
+ghost use Rattle.annex_model.specs.Extensions.{names_of};
 ghost use Rattle.annex_model.specs.Messages.{is_sent_key, Transfer};
 ghost use Rattle.wire_msg.specs.Shown.{host_shown};
 ghost use Rattle.talk_serial.specs.Requests.{message_of};
@@ -14,7 +15,7 @@ use host_core::Core;
 use journal_model::{Entry, What};
 use std::alloc::Global;
 use std::str;
-use talk_serial::Request;
+use talk_serial::{Request, extension_names};
 use wire_msg::{HostMsg, untag};
 
 /// The text of a line of the child, without its tag.
@@ -31,9 +32,9 @@ pub(super) fn text_of<'a>(core: &Core, child: u32, line: &'a [u8]) -> &'a [u8]
 }
 
 fn is_offer(names: &[u8]) -> bool
-    ensures { result ≡ bytes_eq names.now (codes "INFO GETGITREMOTENAME ASYNC") }
+    ensures { result ≡ bytes_eq names.now (names_of true) }
 {
-    names == b"INFO GETGITREMOTENAME ASYNC".as_slice()
+    names == extension_names(true)
 }
 
 // A file whose name is no text is asked for by no job.

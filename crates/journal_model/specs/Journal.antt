@@ -10,6 +10,7 @@ use Rattle.annex_model.specs.Tags.{untag, tagged_line, names_async}
 use Rattle.journal_model.specs.declared.entry.What.{What}
 use Rattle.journal_model.specs.declared.entry.What.TheVariants.{Start, Ask, Put, Sent, Mute, Got, End, Verdict as Settled}
 use Rattle.journal_model.specs.declared.entry.Entry.{Entry}
+use Rattle.journal_model.specs.Limits.{most_entries, most_line_bytes}
 
 -- ---- what one entry says of a child, a job or a task
 
@@ -143,7 +144,7 @@ bytes_in past = sum_by (λ e. line_bytes e.what) past
 
 -- a full journal takes no line of a child
 abbrev pub is_full : List Entry → Bool
-is_full past = nat_le 8000000 (length past) || nat_le 1073741824 (bytes_in past)
+is_full past = nat_le most_entries (length past) || nat_le most_line_bytes (bytes_in past)
 
 -- the line got at a place, if one was
 abbrev pub line_at : List Entry → ℕ → List ℕ

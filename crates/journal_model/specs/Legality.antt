@@ -3,6 +3,7 @@ use Rattle.std.specs.Prelude.{ℕ, ◌≡◌, ◌+◌, ◌-◌, ◌^◌, ◌==�
 use Rattle.std.specs.List.{list_any, range_with_len}
 use Rattle.std.specs.Str.{is_utf8}
 use Rattle.task_text.specs.declared.task.Task.{Task}
+use Rattle.annex_model.specs.Extensions.{names_of}
 use Rattle.annex_model.specs.declared.verdict.Why.{Why}
 use Rattle.annex_model.specs.declared.verdict.Why.TheVariants.{Eof, ReadFault, LongLine, Full, Memory, Closed}
 use Rattle.annex_model.specs.declared.verdict.Verdict.{Verdict}
@@ -133,8 +134,7 @@ is_greeted past c job =
 
 -- the names of extensions that c is told
 abbrev pub offered_names : List Entry → ℕ → List ℕ
-offered_names past c =
-    if any (offers c) past then codes "INFO GETGITREMOTENAME ASYNC" else codes "INFO GETGITREMOTENAME"
+offered_names past c = names_of (any (offers c) past)
 
 -- the name of a file is text on one line
 abbrev pub is_text : List ℕ → Bool

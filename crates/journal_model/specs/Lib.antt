@@ -1,6 +1,7 @@
 pub mod Due
 pub mod Journal
 pub mod Legality
+pub mod Limits
 pub mod Links
 pub mod Output
 pub mod Parts

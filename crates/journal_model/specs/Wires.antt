@@ -6,6 +6,7 @@ use Rattle.annex_model.specs.Lines.{text, has_newline, Cut}
 use Rattle.journal_model.specs.declared.entry.Entry.{Entry}
 use Rattle.journal_model.specs.Journal.{each_of, writes, sends, unsent, is_mute, is_ended, why_of, got_lines, got_from, has_spoken, is_tagged, open_jobs}
 use Rattle.journal_model.specs.Legality.{is_empty}
+use Rattle.journal_model.specs.Limits.{longest_line}
 
 -- the lines written to c that a Sent covers
 abbrev pub sent_lines : List Entry → ℕ → List (List ℕ)
@@ -20,7 +21,7 @@ next_text (w ∷ ws) = text (w.1 ∷ [])
 abbrev pub RestFits : Why → List ℕ → Type 0
 RestFits Eof rest = IsTrue (not (has_newline rest))
 RestFits ReadFault rest = IsTrue (not (has_newline rest))
-RestFits LongLine rest = (65537 ≤ length rest) × IsTrue (not (has_newline (take 65537 rest)))
+RestFits LongLine rest = (longest_line + 1 ≤ length rest) × IsTrue (not (has_newline (take (longest_line + 1) rest)))
 RestFits _ rest = Unit {0}
 
 -- What was taken is the text of the sent lines, and behind an end or a mute the first bytes of the next line, which may be

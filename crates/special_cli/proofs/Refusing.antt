@@ -7,12 +7,12 @@ use Rattle.journal_model.proofs.Looks.{both, same_number}
 use Rattle.ann_key.specs.Keys.{Parts, key_reading, is_sendable}
 use Rattle.ann_key.proofs.Spelling.{read_of_spelled, spelled_of_read}
 use Rattle.special_cli.specs.declared.refusals.Reason.TheVariants.{Unsendable, ChunkKey}
-use Rattle.special_cli.specs.Refusals.{IsTaskKey, refusal_of, refusal_in}
+use Rattle.special_cli.specs.Refusals.{IsTaskKey, reason_refused, refusal_in}
 
-pub not_refused : (bytes : List ℕ) → IsTaskKey bytes → refusal_of bytes ≡ None
+pub not_refused : (bytes : List ℕ) → IsTaskKey bytes → reason_refused bytes ≡ None
 not_refused bytes k = rw (read_of_spelled bytes k.parts k.key) (rw k.sendable (rw k.whole refl))
 
-pub task_key : (bytes : List ℕ) → refusal_of bytes ≡ None → IsTaskKey bytes
+pub task_key : (bytes : List ℕ) → reason_refused bytes ≡ None → IsTaskKey bytes
 task_key bytes h = go (key_reading bytes) refl h
   where
     go : (r : Option Parts) → key_reading bytes ≡ r → refusal_in bytes r ≡ None → IsTaskKey bytes
@@ -43,7 +43,7 @@ spaceless (b ∷ bs) h =
     rw (above b t.0, spaceless bs t.1) refl
 
 -- a sendable key holds no space
-pub sent_key : (bytes : List ℕ) → refusal_of bytes ≡ None → is_sent_key bytes ≡ true
+pub sent_key : (bytes : List ℕ) → reason_refused bytes ≡ None → is_sent_key bytes ≡ true
 sent_key bytes h =
     let k = task_key bytes h in
     let read : key_reading bytes ≡ Some k.parts = read_of_spelled bytes k.parts k.key in

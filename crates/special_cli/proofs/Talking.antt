@@ -27,7 +27,7 @@ use Rattle.special_cli.specs.Endings.{start_in, starts_in}
 use Rattle.special_cli.specs.Informs.{info_requests, is_of_task, IsAsked, IsComplete}
 use Rattle.special_cli.specs.Objects.{told, AddsAll, HaveStarted, is_failed_start}
 use Rattle.special_cli.specs.Runs.{main_entry}
-use Rattle.special_cli.specs.Talks.{IsTalked}
+use Rattle.special_cli.specs.Interviews.{IsInterviewed}
 use Rattle.special_cli.proofs.Asked.{greeting_lines, is_early, begins}
 use Rattle.special_cli.proofs.Beginning.{begun_child}
 use Rattle.special_cli.proofs.Finishing.{greeted_started}
@@ -80,7 +80,7 @@ from_nothing : (old new : List Entry) (c : ℕ) → old ≡ [] → Greeted old n
 from_nothing old new c none g = subst (λ (j : List Entry). Greeted j new 0 false c) none g
 
 -- a child that isn't ready
-pub unready_talked : (o : Opening) (key : Option (List ℕ)) (old journal : List Entry) (c : ℕ) → old ≡ [] → Legal o journal → Greeted old journal 0 false c → IsTalked key journal c
+pub unready_talked : (o : Opening) (key : Option (List ℕ)) (old journal : List Entry) (c : ℕ) → old ≡ [] → Legal o journal → Greeted old journal 0 false c → IsInterviewed key journal c
 unready_talked o key old journal c none legal greeted =
     let g = from_nothing old journal c none greeted in
     let f = front key (length (asked_jobs journal c)) in
@@ -143,13 +143,13 @@ either : (a b : Bool) → a ≡ false → b ≡ false → (a || b) ≡ false
 either a b x y = rw (x, y) refl
 
 pub ready_talked : (o : Opening) (key : Option (List ℕ)) (old mid journal : List Entry) (c d : ℕ) → old ≡ [] → Legal o mid → Greeted old mid 0 false c → IsReady mid c
-    → AsksFront (questions key) mid journal c → d ≡ c → IsTalked key journal d
+    → AsksFront (questions key) mid journal c → d ≡ c → IsInterviewed key journal d
 ready_talked o key old mid journal c d none legal greeted ready (n, a) same_child =
     let g = from_nothing old mid c none greeted in
     let lines : asked_lines journal c ≡ take (suc (suc n)) (info_requests key) =
     a.lines ∙ ap (λ (ls : List (List ℕ)). ls ++ map host_line (take n (questions key))) (ready_lines o mid c legal g ready)
     ∙ ap (λ (ls : List (List ℕ)). codes "EXTENSIONS INFO GETGITREMOTENAME" ∷ codes "PREPARE" ∷ ls) (map_take host_line n (questions key)) in
-    subst (IsTalked key journal) (sym same_child) record {
+    subst (IsInterviewed key journal) (sym same_child) record {
       first = g.next;
       started = ap (λ (j : List Entry). is_started j c) a.is ∙ any-append (starts c) mid a.more ∙ ap (λ (b : Bool). b || any (starts c) a.more) (greeted_started mid c g);
       starts = ap starts_in a.is ∙ each_of-append start_in mid a.more ∙ (rw ((begun_child mid c g).starts, no_more_starts c a.more a.own) refl);
@@ -184,7 +184,7 @@ no_claims c (e ∷ journal) h = go e.what h (no_claims c journal)
     go (Answered task answer) h r = absurd cc
     go w h r = r h
 
-pub may_close : (key : Option (List ℕ)) (journal : List Entry) (c : ℕ) → IsTalked key journal c → may_stop journal c Closed ≡ true
+pub may_close : (key : Option (List ℕ)) (journal : List Entry) (c : ℕ) → IsInterviewed key journal c → may_stop journal c Closed ≡ true
 may_close key journal c t =
     let idle : has_busy_task journal c ≡ false = ap (list_any (is_busy journal)) (no_claims c journal t.taskless) in
     rw (t.settled, idle) refl
@@ -214,7 +214,7 @@ over_or : (b : Bool) → (b || any (ends 1) (closing_of b 1)) ≡ true
 over_or true = refl
 over_or false = refl
 
-pub closed_asked : (key : Option (List ℕ)) (past journal : List Entry) (c : ℕ) → IsTalked key past c → Closes 0 c past journal → IsAsked key journal
+pub closed_asked : (key : Option (List ℕ)) (past journal : List Entry) (c : ℕ) → IsInterviewed key past c → Closes 0 c past journal → IsAsked key journal
 closed_asked key past journal c t closes =
     let more : List Entry = closing_of (is_ended past 1) 1 in
     let s : IsStill more = closing_still (is_ended past 1) in
@@ -235,7 +235,7 @@ refused_on : (v w : Option Verdict) → IsSome (option_and_then refused_at v) �
 refused_on None w h = absurd cc
 refused_on (Some v) w h = h
 
-pub closed_complete : (key : Option (List ℕ)) (past journal : List Entry) (c : ℕ) → IsTalked key past c → Closes 0 c past journal → IsComplete key past → IsComplete key journal
+pub closed_complete : (key : Option (List ℕ)) (past journal : List Entry) (c : ℕ) → IsInterviewed key past c → Closes 0 c past journal → IsComplete key past → IsComplete key journal
 closed_complete key past journal c t closes h =
     let grown : journal ≡ past ++ closing_of (is_ended past 1) 1 = closed_so 1 past journal (subst (λ (x : ℕ). Closes 0 x past journal) t.first closes) in
     subst (IsComplete key) (sym grown) (go (closing_of (is_ended past 1) 1) (closing_still (is_ended past 1)) h)
@@ -270,7 +270,7 @@ pub either_way : {T E : Type 0} (r : Result T E) (P Q : Type 0) → P → (P →
 either_way (Ok x) P Q h f = h
 either_way (Err e) P Q h f = f h
 
-pub closed_starts : (key : Option (List ℕ)) (past journal : List Entry) (c : ℕ) → IsTalked key past c → Closes 0 c past journal → starts_in journal ≡ Start 1 0 false ∷ []
+pub closed_starts : (key : Option (List ℕ)) (past journal : List Entry) (c : ℕ) → IsInterviewed key past c → Closes 0 c past journal → starts_in journal ≡ Start 1 0 false ∷ []
 closed_starts key past journal c t closes =
     let more : List Entry = closing_of (is_ended past 1) 1 in
     let s : IsStill more = closing_still (is_ended past 1) in

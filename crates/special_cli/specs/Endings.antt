@@ -17,19 +17,19 @@ use Rattle.journal_model.specs.Projection.{JobFits}
 use Rattle.task_run.specs.TaskRuns.{CheckTask}
 use Rattle.special_cli.specs.Causes.{HasCause}
 use Rattle.special_cli.specs.Words.{Wish, Check, Info}
-use Rattle.special_cli.specs.Refusals.{refusal_of, refusal_if, unless}
+use Rattle.special_cli.specs.Refusals.{reason_refused, refusal_if, unless}
 use Rattle.special_cli.specs.Openings.{check_opening}
 use Rattle.special_cli.specs.declared.refusals.Reason.{Reason}
 
 -- the key of a check or an info is refused so
 abbrev pub refused_in : Option Wish → Option Reason
-refused_in (Some (Check program key)) = refusal_of key
+refused_in (Some (Check program key)) = reason_refused key
 refused_in (Some (Info program key)) = refusal_if key
 refused_in wish = None
 
 -- the program and the key of a check whose key is not refused
 abbrev pub check_in : Option Wish → Option (List ℕ × List ℕ)
-check_in (Some (Check program key)) = unless (refusal_of key) (program, key)
+check_in (Some (Check program key)) = unless (reason_refused key) (program, key)
 check_in wish = None
 
 -- the program of an info, and its key where it has one, which is not refused
@@ -39,7 +39,7 @@ info_in wish = None
 
 -- the program of such a check or info
 abbrev pub run_in : Option Wish → Option (List ℕ)
-run_in (Some (Check program key)) = unless (refusal_of key) program
+run_in (Some (Check program key)) = unless (reason_refused key) program
 run_in (Some (Info program key)) = unless (refusal_if key) program
 run_in wish = None
 

@@ -6,6 +6,6 @@ pub mod Openings
 pub mod Refusals
 pub mod Rows
 pub mod Runs
-pub mod Talks
+pub mod Interviews
 pub mod Texts
 pub mod Words

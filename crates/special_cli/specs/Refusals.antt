@@ -12,12 +12,12 @@ refusal_in bytes (Some parts) =
     else if is_some parts.chunk then Some ChunkKey
     else None
 
-abbrev pub refusal_of : List ℕ → Option Reason
-refusal_of bytes = refusal_in bytes (key_reading bytes)
+abbrev pub reason_refused : List ℕ → Option Reason
+reason_refused bytes = refusal_in bytes (key_reading bytes)
 
 -- a key that isn't given isn't refused
 abbrev pub refusal_if : Option (List ℕ) → Option Reason
-refusal_if key = option_and_then refusal_of key
+refusal_if key = option_and_then reason_refused key
 
 -- what is refused so is left out
 abbrev pub unless : {X : Type 0} → Option Reason → X → Option X

@@ -78,7 +78,7 @@ fn ask<I: Sink, O: Source>(
 }
 
 // The child is closed.
-pub(super) fn close<I: Sink, O: Source>(link: &mut Lone<I, O>, core: &mut Core)
+pub(super) fn close_child<I: Sink, O: Source>(link: &mut Lone<I, O>, core: &mut Core)
     requires started { is_started core.old.journal link.old.child ≡ true }
     requires idle { may_stop core.old.journal link.old.child Closed ≡ true }
     ensures closes { Closes 0 link.old.child core.old.journal core.new.journal }
@@ -150,7 +150,7 @@ fn end<I: Sink, O: Source>(link: &mut Lone<I, O>, core: &mut Core, answer: Answe
     ensures legal { Legal core.old.opening core.old.journal → Legal core.new.opening core.new.journal }
 {
     give(core, answer);
-    close(link, core);
+    close_child(link, core);
 }
 
 /// The answer of the one task over a child that is ready, which is closed at the end.
@@ -172,7 +172,11 @@ pub(super) fn check<I: Sink, O: Source>(link: &mut Lone<I, O>, core: &mut Core, 
 }
 
 /// The one task is answered for a child that isn't ready, which is closed.
-pub(super) fn give_up<I: Sink, O: Source>(link: &mut Lone<I, O>, core: &mut Core, answer: Answer)
+pub(super) fn answer_unready<I: Sink, O: Source>(
+    link: &mut Lone<I, O>,
+    core: &mut Core,
+    answer: Answer,
+)
     requires one { HasOneTask core.old.opening }
     requires unready { IsUnready core.old.journal answer }
     requires idle { open_jobs core.old.journal link.old.child ≡ [] }

@@ -9,7 +9,7 @@ ghost use Rattle.child_link.specs.Links.{IsLinked};
 ghost use Rattle.child_start.specs.Greetings.{AreNumbered};
 ghost use Rattle.special_cli.specs.Informs.{IsAsked, IsComplete};
 ghost use Rattle.special_cli.specs.Objects.{AreWires, AddsAll, HaveStarted, told, came, is_failed_start};
-ghost use Rattle.special_cli.specs.Talks.{Talked, HasLink, TalkStarts};
+ghost use Rattle.special_cli.specs.Interviews.{Interviewed, IfOver, InterviewStarts};
 
 use crate::{checking, running};
 use ann_key::{KeyRef, NoMemory};
@@ -21,7 +21,7 @@ use info_run::ask_all;
 use std::alloc::Global;
 
 // What became of a child that was to be asked about itself.
-enum Talk<I: Sink, O: Source, S> {
+enum Interview<I: Sink, O: Source, S> {
     // It was asked what it could be asked. Where no memory was found, that may not be all.
     Over {
         link: Lone<I, O>,
@@ -35,24 +35,24 @@ enum Talk<I: Sink, O: Source, S> {
 }
 
 // Starts the program, and asks its child about itself once it is ready.
-fn talk_to_child<P: Programs>(
+fn interview<P: Programs>(
     alloc: Global,
     program: &str,
     key: Option<KeyRef<'_>>,
     programs: &mut P,
     core: &mut Core,
-) -> Talk<P::Inlet, P::Outlet, P::Stub>
+) -> Interview<P::Inlet, P::Outlet, P::Stub>
 where
     P::Inlet: Drop,
     P::Outlet: Drop,
     requires empty { core.old.journal ≡ [] }
     requires legal { Legal core.old.opening core.old.journal }
     requires key { IfSome key (λ k. is_sent_key (text_of k) ≡ true) }
-    ensures talked { Talked (option_map text_of key.entry) core.new.journal result }
-    ensures linked { HasLink (IsLinked P.Inlet.taken P.Inlet.faults P.Outlet.given P.Outlet.left P.Outlet.faults core.new.journal) result }
-    ensures numbers { HasLink (AreNumbered P.Inlet.number P.Outlet.number (P.starts programs.new)) result }
-    ensures starts { TalkStarts (P.starts programs.old) (P.starts programs.new) program.now result }
-    ensures fault { result ≡ Talk.StartFault → Rose (P.faults programs.old) (P.faults programs.new) }
+    ensures interviewed { Interviewed (option_map text_of key.entry) core.new.journal result }
+    ensures linked { IfOver (IsLinked P.Inlet.taken P.Inlet.faults P.Outlet.given P.Outlet.left P.Outlet.faults core.new.journal) result }
+    ensures numbers { IfOver (AreNumbered P.Inlet.number P.Outlet.number (P.starts programs.new)) result }
+    ensures starts { InterviewStarts (P.starts programs.old) (P.starts programs.new) program.now result }
+    ensures fault { result ≡ Interview.StartFault → Rose (P.faults programs.old) (P.faults programs.new) }
     ensures opening { core.new.opening ≡ core.old.opening }
     ensures legal { Legal core.new.opening core.new.journal }
 {
@@ -63,29 +63,29 @@ where
             tagged: _,
         } => {
             let asked = ask_all(alloc, &mut link, core, key);
-            Talk::Over { link, stub, asked }
+            Interview::Over { link, stub, asked }
         }
         Greeting::Refused {
             verdict: _,
             link,
             stub,
-        } => Talk::Over {
+        } => Interview::Over {
             link,
             stub,
             asked: Ok(()),
         },
-        Greeting::Ended { why: _, link, stub } => Talk::Over {
+        Greeting::Ended { why: _, link, stub } => Interview::Over {
             link,
             stub,
             asked: Ok(()),
         },
-        Greeting::Unsent { link, stub } => Talk::Over {
+        Greeting::Unsent { link, stub } => Interview::Over {
             link,
             stub,
             asked: Ok(()),
         },
-        Greeting::StartFault => Talk::StartFault,
-        Greeting::NoMemory => Talk::NoMemory,
+        Greeting::StartFault => Interview::StartFault,
+        Greeting::NoMemory => Interview::NoMemory,
     }
 }
 
@@ -115,17 +115,17 @@ where
     ensures opening { core.new.opening ≡ core.old.opening }
     ensures legal { Legal core.new.opening core.new.journal }
 {
-    match talk_to_child(alloc, program, key, programs, core) {
-        Talk::Over {
+    match interview(alloc, program, key, programs, core) {
+        Interview::Over {
             mut link,
             stub,
             asked,
         } => {
-            checking::close(&mut link, core);
+            checking::close_child(&mut link, core);
             running::finish(programs, link, stub, wires);
             asked
         }
-        Talk::StartFault => Ok(()),
-        Talk::NoMemory => Err(NoMemory),
+        Interview::StartFault => Ok(()),
+        Interview::NoMemory => Err(NoMemory),
     }
 }

@@ -1,6 +1,6 @@
 ghost use Rattle.std.specs.Prelude.{◌≡◌, ◌↔◌, None, Some};
 ghost use Rattle.ann_key.specs.KeyRefs.{parts_of, text_of};
-ghost use Rattle.special_cli.specs.Refusals.{refusal_of, refusal_in, IsTaskKey};
+ghost use Rattle.special_cli.specs.Refusals.{reason_refused, refusal_in, IsTaskKey};
 ghost use Rattle.special_cli.specs.Texts.{reason_word};
 
 use ann_key::KeyRef;
@@ -44,14 +44,14 @@ impl fmt::Display for Reason {
 /// Why these bytes can't be the key of a task, if they can't: they are a key, every byte of it can be sent, and it is no
 /// chunk's, asked in this order. <https://git-annex.branchable.com/internals/key_format/>
 pub fn refusal(key: &[u8]) -> Option<Reason>
-    ensures reason { result ≡ refusal_of key.now }
+    ensures reason { result ≡ reason_refused key.now }
     ensures fit { (result ≡ None) ↔ IsTaskKey key.now }
 {
     first_reason(key)
 }
 
 fn first_reason(key: &[u8]) -> Option<Reason>
-    ensures { result ≡ refusal_of key.now }
+    ensures { result ≡ reason_refused key.now }
 {
     match KeyRef::read(key) {
         Ok(key) => unfit(key),

@@ -48,7 +48,7 @@ fn not_prepared(verdict: Verdict) -> Answer
 
 /// Starts the program, and answers the one task by what its child says. Where no memory is found before the child has a
 /// number, there is no answer.
-pub(super) fn run<P: Programs>(
+pub(super) fn run_child<P: Programs>(
     alloc: Global,
     program: &str,
     key: Key,
@@ -87,7 +87,7 @@ where
             stub,
         } => {
             let answer = not_prepared(verdict);
-            checking::give_up(&mut link, core, answer);
+            checking::answer_unready(&mut link, core, answer);
             finish(programs, link, stub, wires);
             Ok(answer)
         }
@@ -97,13 +97,13 @@ where
             stub,
         } => {
             let answer = Answer::Ended { why };
-            checking::give_up(&mut link, core, answer);
+            checking::answer_unready(&mut link, core, answer);
             finish(programs, link, stub, wires);
             Ok(answer)
         }
         Greeting::Unsent { mut link, stub } => {
             let answer = Answer::Unsent;
-            checking::give_up(&mut link, core, answer);
+            checking::answer_unready(&mut link, core, answer);
             finish(programs, link, stub, wires);
             Ok(answer)
         }

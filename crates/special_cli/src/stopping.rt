@@ -64,7 +64,7 @@ pub(super) fn refuse<P: Programs, E: Sink>(
 }
 
 // No memory was found once the run had begun: there is no answer.
-pub(super) fn give_up<P: Programs, E: Sink>(closing: Closing<P>, err: &mut E) -> Closing<P>
+pub(super) fn stop_for_memory<P: Programs, E: Sink>(closing: Closing<P>, err: &mut E) -> Closing<P>
     requires { E.is_open err.old ≡ true }
     ensures status { (result.status ≡ 7) ⊎ ((result.status ≡ 5) × Rose (E.faults err.old) (E.faults err.new)) }
     ensures same { (result.journal ≡ closing.journal) × (result.programs ≡ closing.programs) × (result.answers ≡ closing.answers) × (result.wires ≡ closing.wires) }

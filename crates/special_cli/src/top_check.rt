@@ -10,14 +10,14 @@ ghost use Rattle.ann_outside.specs.Causes.{Rose};
 ghost use Rattle.special_cli.specs.Endings.{status_of, IsChecked, IsPrinted, IsTold};
 ghost use Rattle.special_cli.specs.Objects.{AreWires, HaveStarted, came, is_failed_start};
 ghost use Rattle.special_cli.specs.Openings.{check_opening};
-ghost use Rattle.special_cli.specs.Refusals.{refusal_of};
+ghost use Rattle.special_cli.specs.Refusals.{reason_refused};
 ghost use Rattle.special_cli.specs.Runs.{HasAnswered, HasOneTask};
 
 use crate::closing::Closing;
 use crate::opening::check_opening;
 use crate::refusals::refusal;
 use crate::running;
-use crate::stopping::{give_up, no_memory, refuse};
+use crate::stopping::{no_memory, refuse, stop_for_memory};
 use crate::texts::memory_line;
 use ann_key::{Key, KeyRef, NoMemory};
 use ann_outside::{Clock, Failed, Programs, Sink, write_all};
@@ -42,7 +42,7 @@ fn prepare<P: Programs>(alloc: Global, key: KeyRef<'_>, stamp: u64) -> Result<Re
 where
     P::Inlet: Drop,
     P::Outlet: Drop,
-    requires fit { refusal_of (text_of key) ≡ None }
+    requires fit { reason_refused (text_of key) ≡ None }
     ensures opening { IfOk result (λ r. r.core.opening ≡ check_opening (text_of key.entry) stamp) }
     ensures one { IfOk result (λ r. HasOneTask r.core.opening) }
     ensures sent { IfOk result (λ r. is_sent_key r.key ≡ true) }
@@ -80,15 +80,15 @@ where
     requires out { O.is_open out.old ≡ true }
     requires err { E.is_open err.old ≡ true }
     ensures usage { result.status ≡ 2 → ⊥ }
-    ensures refused { result.status ≡ 3 → IsSome (refusal_of key.now) }
-    ensures key { IsSome (refusal_of key.now) → (result.status ≡ 3) ⊎ (result.status ≡ 5) ⊎ (result.status ≡ 7) }
-    ensures early { IsSome (refusal_of key.now) → (P.starts result.programs ≡ P.starts programs) × (result.journal ≡ []) × (result.answers.items ≡ []) × (result.wires.items ≡ []) }
+    ensures refused { result.status ≡ 3 → IsSome (reason_refused key.now) }
+    ensures key { IsSome (reason_refused key.now) → (result.status ≡ 3) ⊎ (result.status ≡ 5) ⊎ (result.status ≡ 7) }
+    ensures early { IsSome (reason_refused key.now) → (P.starts result.programs ≡ P.starts programs) × (result.journal ≡ []) × (result.answers.items ≡ []) × (result.wires.items ≡ []) }
     ensures output { result.status ≡ 5 → Rose (O.faults out.old) (O.faults out.new) ⊎ Rose (E.faults err.old) (E.faults err.new) }
-    ensures checked { IfNone (refusal_of key.now) (IsChecked (C.answer clock.old) key.now result.journal) }
-    ensures told { IfNone (refusal_of key.now) (IsTold result.status (Rose (E.faults err.old) (E.faults err.new)) (O.taken out.old) (O.taken out.new) key.now result.journal result.answers.items) }
-    ensures wires { IfNone (refusal_of key.now) (AreWires P.Inlet.taken P.Inlet.faults P.Inlet.number P.Outlet.given P.Outlet.left P.Outlet.faults P.Outlet.number (P.starts programs) result.journal 0 (came result.journal) result.wires.items) }
-    ensures starts { IfNone (refusal_of key.now) (HaveStarted result.status program.now result.journal (P.starts programs) (P.starts result.programs)) }
-    ensures fault { IfNone (refusal_of key.now) (any is_failed_start result.journal ≡ true → Rose (P.faults programs) (P.faults result.programs)) }
+    ensures checked { IfNone (reason_refused key.now) (IsChecked (C.answer clock.old) key.now result.journal) }
+    ensures told { IfNone (reason_refused key.now) (IsTold result.status (Rose (E.faults err.old) (E.faults err.new)) (O.taken out.old) (O.taken out.new) key.now result.journal result.answers.items) }
+    ensures wires { IfNone (reason_refused key.now) (AreWires P.Inlet.taken P.Inlet.faults P.Inlet.number P.Outlet.given P.Outlet.left P.Outlet.faults P.Outlet.number (P.starts programs) result.journal 0 (came result.journal) result.wires.items) }
+    ensures starts { IfNone (reason_refused key.now) (HaveStarted result.status program.now result.journal (P.starts programs) (P.starts result.programs)) }
+    ensures fault { IfNone (reason_refused key.now) (any is_failed_start result.journal ≡ true → Rose (P.faults programs) (P.faults result.programs)) }
 {
     let bytes = key.as_bytes();
     if let Some(reason) = refusal(bytes) {
@@ -115,7 +115,7 @@ where
     P::Outlet: Drop,
     requires out { O.is_open out.old ≡ true }
     requires err { E.is_open err.old ≡ true }
-    requires key { refusal_of (text_of key) ≡ None }
+    requires key { reason_refused (text_of key) ≡ None }
     ensures other { (result.status ≡ 2 → ⊥) × (result.status ≡ 3 → ⊥) }
     ensures output { result.status ≡ 5 → Rose (O.faults out.old) (O.faults out.new) ⊎ Rose (E.faults err.old) (E.faults err.new) }
     ensures checked { IsChecked (C.answer clock.old) (text_of key.entry) result.journal }
@@ -126,13 +126,13 @@ where
 {
     let stamp = clock.now();
     match prepare(alloc, key, stamp) {
-        Ok(ready) => run(alloc, program, ready, programs, out, err),
+        Ok(ready) => run_check(alloc, program, ready, programs, out, err),
         Err(NoMemory) => no_memory(alloc, programs, err),
     }
 }
 
 // The run of a check that all is ready for.
-fn run<P: Programs, O: Sink, E: Sink>(
+fn run_check<P: Programs, O: Sink, E: Sink>(
     alloc: Global,
     program: &str,
     ready: Ready<P>,
@@ -166,7 +166,7 @@ where
         mut answers,
         mut wires,
     } = ready;
-    let answer = running::run(alloc, program, key, &mut programs, &mut core, &mut wires);
+    let answer = running::run_child(alloc, program, key, &mut programs, &mut core, &mut wires);
     let journal = core.close();
     match answer {
         Ok(answer) => {
@@ -178,7 +178,7 @@ where
                 answers,
                 wires,
             };
-            close(alloc, answer, closing, out, err)
+            close_check(alloc, answer, closing, out, err)
         }
         Err(NoMemory) => {
             let closing = Closing {
@@ -188,13 +188,13 @@ where
                 answers,
                 wires,
             };
-            give_up(closing, err)
+            stop_for_memory(closing, err)
         }
     }
 }
 
 // Prints the answer, and closes the run.
-fn close<P: Programs, O: Sink, E: Sink>(
+fn close_check<P: Programs, O: Sink, E: Sink>(
     alloc: Global,
     answer: Answer,
     closing: Closing<P>,

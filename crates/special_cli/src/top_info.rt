@@ -11,13 +11,13 @@ ghost use Rattle.special_cli.specs.Endings.{IsPrinted};
 ghost use Rattle.special_cli.specs.Informs.{info_status, IsAsked, IsComplete, IsInformed, IsInfoTold};
 ghost use Rattle.special_cli.specs.Objects.{AreWires, HaveStarted, came, is_failed_start};
 ghost use Rattle.special_cli.specs.Openings.{info_opening};
-ghost use Rattle.special_cli.specs.Refusals.{refusal_of, refusal_if};
+ghost use Rattle.special_cli.specs.Refusals.{reason_refused, refusal_if};
 
 use crate::closing::Closing;
 use crate::informing;
 use crate::opening::info_opening;
 use crate::refusals::refusal;
-use crate::stopping::{give_up, no_memory, refuse};
+use crate::stopping::{no_memory, refuse, stop_for_memory};
 use crate::texts::memory_line;
 use ann_key::{KeyRef, NoMemory};
 use ann_outside::{Failed, Programs, Sink, write_all};
@@ -97,15 +97,15 @@ where
     requires out { O.is_open out.old ≡ true }
     requires err { E.is_open err.old ≡ true }
     ensures usage { result.status ≡ 2 → ⊥ }
-    ensures refused { result.status ≡ 3 → IsSome (refusal_of key.now) }
-    ensures key { IsSome (refusal_of key.now) → (result.status ≡ 3) ⊎ (result.status ≡ 5) ⊎ (result.status ≡ 7) }
-    ensures early { IsSome (refusal_of key.now) → (P.starts result.programs ≡ P.starts programs) × (result.journal ≡ []) × (result.answers.items ≡ []) × (result.wires.items ≡ []) }
+    ensures refused { result.status ≡ 3 → IsSome (reason_refused key.now) }
+    ensures key { IsSome (reason_refused key.now) → (result.status ≡ 3) ⊎ (result.status ≡ 5) ⊎ (result.status ≡ 7) }
+    ensures early { IsSome (reason_refused key.now) → (P.starts result.programs ≡ P.starts programs) × (result.journal ≡ []) × (result.answers.items ≡ []) × (result.wires.items ≡ []) }
     ensures output { result.status ≡ 5 → Rose (O.faults out.old) (O.faults out.new) ⊎ Rose (E.faults err.old) (E.faults err.new) }
-    ensures informed { IfNone (refusal_of key.now) (IsInformed (Some key.now) result.journal) }
-    ensures told { IfNone (refusal_of key.now) (IsInfoTold result.status (O.taken out.old) (O.taken out.new) (Some key.now) result.journal × (result.answers.items ≡ [])) }
-    ensures wires { IfNone (refusal_of key.now) (AreWires P.Inlet.taken P.Inlet.faults P.Inlet.number P.Outlet.given P.Outlet.left P.Outlet.faults P.Outlet.number (P.starts programs) result.journal 0 (came result.journal) result.wires.items) }
-    ensures starts { IfNone (refusal_of key.now) (HaveStarted result.status program.now result.journal (P.starts programs) (P.starts result.programs)) }
-    ensures fault { IfNone (refusal_of key.now) (any is_failed_start result.journal ≡ true → Rose (P.faults programs) (P.faults result.programs)) }
+    ensures informed { IfNone (reason_refused key.now) (IsInformed (Some key.now) result.journal) }
+    ensures told { IfNone (reason_refused key.now) (IsInfoTold result.status (O.taken out.old) (O.taken out.new) (Some key.now) result.journal × (result.answers.items ≡ [])) }
+    ensures wires { IfNone (reason_refused key.now) (AreWires P.Inlet.taken P.Inlet.faults P.Inlet.number P.Outlet.given P.Outlet.left P.Outlet.faults P.Outlet.number (P.starts programs) result.journal 0 (came result.journal) result.wires.items) }
+    ensures starts { IfNone (reason_refused key.now) (HaveStarted result.status program.now result.journal (P.starts programs) (P.starts result.programs)) }
+    ensures fault { IfNone (reason_refused key.now) (any is_failed_start result.journal ≡ true → Rose (P.faults programs) (P.faults result.programs)) }
 {
     let bytes = key.as_bytes();
     if let Some(reason) = refusal(bytes) {
@@ -142,13 +142,13 @@ where
     ensures fault { any is_failed_start result.journal ≡ true → Rose (P.faults programs) (P.faults result.programs) }
 {
     match prepare(alloc) {
-        Ok(ready) => run(alloc, program, key, ready, programs, out, err),
+        Ok(ready) => run_info(alloc, program, key, ready, programs, out, err),
         Err(NoMemory) => no_memory(alloc, programs, err),
     }
 }
 
 // The run of an info that all is ready for.
-fn run<P: Programs, O: Sink, E: Sink>(
+fn run_info<P: Programs, O: Sink, E: Sink>(
     alloc: Global,
     program: &str,
     key: Option<KeyRef<'_>>,
@@ -192,13 +192,13 @@ where
         wires,
     };
     match asked {
-        Ok(()) => close(alloc, key, closing, out, err),
-        Err(NoMemory) => give_up(closing, err),
+        Ok(()) => close_info(alloc, key, closing, out, err),
+        Err(NoMemory) => stop_for_memory(closing, err),
     }
 }
 
 // Prints what was answered, and closes the run.
-fn close<P: Programs, O: Sink, E: Sink>(
+fn close_info<P: Programs, O: Sink, E: Sink>(
     alloc: Global,
     key: Option<KeyRef<'_>>,
     closing: Closing<P>,

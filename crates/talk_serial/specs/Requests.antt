@@ -1,13 +1,9 @@
 -- The message that asks a request.
 use Rattle.std.specs.Prelude.{ℕ, Bool, true, false, List, codes}
+use Rattle.annex_model.specs.Extensions.{names_of}
 use Rattle.annex_model.specs.Messages.{HostMessage, AskExtensions, Prepare, Initremote, Transfer, Checkpresent, Remove, Listconfigs, Getcost, Getavailability, Getinfo, Whereis}
 use Rattle.talk_serial.specs.declared.request.Request.{Request}
 use Rattle.talk_serial.specs.declared.request.Request.TheVariants.{Extensions as ExtensionsRequest, Prepare as PrepareRequest, InitRemote as InitRemoteRequest, ListConfigs as ListConfigsRequest, GetCost as GetCostRequest, GetAvailability as GetAvailabilityRequest, GetInfo as GetInfoRequest, Transfer as TransferRequest, CheckPresent as CheckPresentRequest, Remove as RemoveRequest, WhereIs as WhereIsRequest}
-
--- the extensions that the host names, with ASYNC where it is offered
-abbrev pub names_of : Bool → List ℕ
-names_of false = codes "INFO GETGITREMOTENAME"
-names_of true = codes "INFO GETGITREMOTENAME ASYNC"
 
 abbrev pub message_of : Request → HostMessage
 message_of (ExtensionsRequest offer) = AskExtensions (names_of offer)

@@ -10,5 +10,5 @@ mod talk;
 mod tests;
 
 pub use answer::is_aside;
-pub use request::Request;
+pub use request::{Request, extension_names};
 pub use talk::{Heard, Talk};

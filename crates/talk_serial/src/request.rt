@@ -1,6 +1,7 @@
 ghost use Rattle.std.specs.Prelude.{◌≡◌, IfOk};
 ghost use Rattle.wire_msg.specs.Shown.{host_shown};
-ghost use Rattle.talk_serial.specs.Requests.{message_of, names_of};
+ghost use Rattle.annex_model.specs.Extensions.{names_of};
+ghost use Rattle.talk_serial.specs.Requests.{message_of};
 
 use ann_key::{Key, NoMemory, Text};
 use std::alloc::Global;
@@ -33,7 +34,8 @@ pub enum Request {
     WhereIs { key: Key },
 }
 
-fn names(offer: bool) -> &'static [u8]
+/// The names of extensions that an EXTENSIONS of the host lists, with ASYNC where it is offered.
+pub fn extension_names(offer: bool) -> &'static [u8]
     ensures { result.now ≡ names_of offer }
 {
     if offer {
@@ -49,7 +51,7 @@ impl Request {
         ensures { host_shown result ≡ message_of self.now }
     {
         match self {
-            Request::Extensions { offer } => HostMsg::Extensions(names(*offer)),
+            Request::Extensions { offer } => HostMsg::Extensions(extension_names(*offer)),
             Request::Prepare => HostMsg::Prepare,
             Request::InitRemote => HostMsg::Initremote,
             Request::ListConfigs => HostMsg::Listconfigs,

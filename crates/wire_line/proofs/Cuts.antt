@@ -5,7 +5,7 @@ use Rattle.std.proofs.lemmas.List.{take_at, length-append}
 use Rattle.std.proofs.lemmas.List.Folds.{list_any_at}
 use Rattle.std.proofs.lemmas.List.Sums.{passes_at_first}
 use Rattle.annex_model.specs.Lines.{has_newline, text, Cut}
-use Rattle.wire_line.specs.Held.{first_line}
+use Rattle.wire_line.specs.HeldBytes.{first_line}
 use Rattle.wire_line.specs.Nexts.{IsNext, IsNextOfLines, NextOfLines}
 use Rattle.wire_line.specs.declared.splitter.Next.{Next}
 use Rattle.wire_line.specs.declared.splitter.Next.TheVariants.{Line, Long, More}

@@ -6,7 +6,7 @@ use Rattle.std.proofs.lemmas.List.{get_or-take, length-take, length-take-le, len
 use Rattle.std.proofs.lemmas.List.Folds.{list_any_at, list_any_none, list_all-append}
 use Rattle.std.proofs.lemmas.List.Sums.{position_or_len_is, fails_before_first, passes_at_first, prefix_len-le-length, split_at_first}
 use Rattle.annex_model.specs.Lines.{has_newline, text}
-use Rattle.wire_line.specs.Held.{has_line, first_line, after_line, TakesLine}
+use Rattle.wire_line.specs.HeldBytes.{has_line, first_line, after_line, TakesLine}
 use Rattle.memchr.specs.Find.{IsFirstByte, is_byte}
 
 no_true : (b : Bool) → (b ≡ true → ⊥) → b ≡ false

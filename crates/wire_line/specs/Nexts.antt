@@ -1,7 +1,7 @@
 -- What stands first among held bytes.
 use Rattle.std.specs.Prelude.{ℕ, ◌≡◌, ◌<◌, ◌≤◌, not, List, [], ◌∷◌, length, IsTrue}
 use Rattle.annex_model.specs.Lines.{has_newline, Cut}
-use Rattle.wire_line.specs.Held.{has_line, first_line}
+use Rattle.wire_line.specs.HeldBytes.{has_line, first_line}
 use Rattle.wire_line.specs.declared.splitter.Next.{Next}
 use Rattle.wire_line.specs.declared.splitter.Next.TheVariants.{Line, Long, More}
 

@@ -1,6 +1,6 @@
 ghost use Rattle.std.specs.Prelude.{◌≡◌, ◌+◌, ◌≤◌, [], ◌∷◌, ◌++◌, drop, length, IsOk, IsTrue, OnErr, OnOk};
 ghost use Rattle.std.specs.Vec.{vec_capacity, vec_len};
-ghost use Rattle.wire_line.specs.Held.{after_line, first_line, has_line, TakesLine, TakesPiece};
+ghost use Rattle.wire_line.specs.HeldBytes.{after_line, first_line, has_line, TakesLine, TakesPiece};
 ghost use Rattle.wire_line.specs.Nexts.{IsNext, NextOfLines};
 
 use ann_key::{Bytes, NoMemory};
@@ -31,9 +31,9 @@ pub struct Splitter {
 impl Model for Splitter {
     ghost use Rattle.std.specs.Prelude.{◌≤◌, ◌-◌, drop};
     ghost use Rattle.std.specs.Vec.{vec_capacity, vec_len};
-    ghost use Rattle.wire_line.specs.Held.{Held};
+    ghost use Rattle.wire_line.specs.HeldBytes.{HeldBytes};
 
-    ghost Value = { Held };
+    ghost Value = { HeldBytes };
 
     ghost view = { λ s. record { limit = s.limit; bytes = drop s.start s.bytes.items; room = vec_capacity s.bytes - vec_len s.bytes } };
 

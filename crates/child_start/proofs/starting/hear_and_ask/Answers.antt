@@ -1,5 +1,5 @@
 use Rattle.std.proofs.Common.{refl, sym, ◌∙◌}
-use Rattle.child_start.specs.declared.starting.Asked.TheVariants.{Done, Refused, Gone}
+use Rattle.child_start.specs.declared.starting.RequestOutcome.TheVariants.{Done, Refused, Gone}
 use Rattle.child_link.proofs.Turning.{started_after}
 use Rattle.child_start.proofs.Requests.{greets_goes}
 use Rattle.child_start.proofs.Preparing.{unasked_idle, may_ask_first, ended_first, ended_told, unsent_told, greets_started, prepares_as, greets_heard}

@@ -1,6 +1,6 @@
 use Rattle.std.proofs.Common.{◌≡◌, length, ◌∙◌, sym, ap, subst, List, Some, slice_get}
 use Rattle.std.specs.Prelude.{IsTrue, ◌↔◌}
-use Rattle.host_core.specs.Held.{Held}
+use Rattle.host_core.specs.CoreValue.{CoreValue}
 use Rattle.journal_model.specs.declared.entry.Entry.{Entry}
 use Rattle.journal_audit.specs.Replays.{IsTold}
 use Rattle.journal_audit.proofs.Replaying.{next_entry}
@@ -13,11 +13,11 @@ returns-clause-next c =
     λ past count replayed.
     next_entry c.args.core.now.opening past c.args.entry.now c.args.at c.args.core.now.journal c.if-journal-at.core.journal c.is_at.result count replayed
     (λ level. elim c.if-journal-at.branch [
-      | then-journal-at+in_ok-tell w ↦ subst (λ (h : Held). IsTold c.args.core.now.opening c.args.core.now.journal c.args.entry.now h.journal) (sym w.core-is) w.in_ok-tell.ensures.told
+      | then-journal-at+in_ok-tell w ↦ subst (λ (h : CoreValue). IsTold c.args.core.now.opening c.args.core.now.journal c.args.entry.now h.journal) (sym w.core-is) w.in_ok-tell.ensures.told
       | else-journal-at w ↦ absurd (w.if-journal-at.false (long ∙ level))
     ])
     (λ longer. elim c.if-journal-at.branch [
       | then-journal-at+in_ok-tell w ↦ absurd (longer (sym long ∙ w.if-journal-at.true))
-      | else-journal-at w ↦ ap (λ (h : Held). h.journal) w.core-is
+      | else-journal-at w ↦ ap (λ (h : CoreValue). h.journal) w.core-is
     ])
     (subst (λ (made : List Entry). IsTrue c.is_at.result ↔ (slice_get made c.args.at ≡ Some c.args.entry.now)) c.journal-2.ensures c.is_at.ensures)

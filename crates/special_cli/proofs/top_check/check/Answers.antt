@@ -6,13 +6,13 @@ use Rattle.special_cli.proofs.top_check.check.Goals as goal
 
 pub returns-in-Ok-clause-checked : goal.returns-in-Ok-clause-checked
 returns-in-Ok-clause-checked g c =
-    checked (g.C.Clock.answer c.args.clock.now) (text_of c.args.key) c.now-stamp.result c.in-Ok.ready.core.opening c.run.result.journal c.now-stamp.ensures.told c.in-Ok.ensures.opening
-    c.run.ensures.legal (ran_key (text_of c.args.key) c.in-Ok.ready.key c.run.result.journal c.in-Ok.ensures.key c.run.ensures.ran)
+    checked (g.C.Clock.answer c.args.clock.now) (text_of c.args.key) c.now-stamp.result c.in-Ok.ready.core.opening c.run_check.result.journal c.now-stamp.ensures.told c.in-Ok.ensures.opening
+    c.run_check.ensures.legal (ran_key (text_of c.args.key) c.in-Ok.ready.key c.run_check.result.journal c.in-Ok.ensures.key c.run_check.ensures.ran)
 
 pub returns-in-Ok-clause-told : goal.returns-in-Ok-clause-told
 returns-in-Ok-clause-told g c =
-    told_key c.run.result.status _ (g.O.Sink.taken c.args.out.now) (g.O.Sink.taken c.run.new.out) (text_of c.args.key) c.in-Ok.ready.key c.run.result.journal c.run.result.answers.items
-    c.in-Ok.ensures.key c.run.ensures.told
+    told_key c.run_check.result.status _ (g.O.Sink.taken c.args.out.now) (g.O.Sink.taken c.run_check.new.out) (text_of c.args.key) c.in-Ok.ready.key c.run_check.result.journal c.run_check.result.answers.items
+    c.in-Ok.ensures.key c.run_check.ensures.told
 
 pub returns-in-Err-clause-starts : goal.returns-in-Err-clause-starts
 returns-in-Err-clause-starts g c =

@@ -7,7 +7,7 @@ use Rattle.special_cli.proofs.Informed.{informed, nothing_informed, told_none}
 use Rattle.special_cli.proofs.top_info.info.Goals as goal
 
 pub returns-in-Ok-clause-informed : goal.returns-in-Ok-clause-informed
-returns-in-Ok-clause-informed g c = informed (option_map text_of c.args.key) c.run.result.journal c.run.ensures.legal c.run.ensures.asked
+returns-in-Ok-clause-informed g c = informed (option_map text_of c.args.key) c.run_info.result.journal c.run_info.ensures.legal c.run_info.ensures.asked
 
 pub returns-in-Err-clause-informed : goal.returns-in-Err-clause-informed
 returns-in-Err-clause-informed g c = nothing_informed (option_map text_of c.args.key) c.no_memory.result.journal c.no_memory.ensures.nothing.0

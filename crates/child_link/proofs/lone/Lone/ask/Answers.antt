@@ -1,6 +1,6 @@
 use Rattle.std.proofs.Common.{Some, None, ap, ◌∙◌}
 use Rattle.talk_serial.specs.Requests.{message_of}
-use Rattle.child_link.specs.declared.events.Asked.TheVariants.{Job, Lost}
+use Rattle.child_link.specs.declared.events.AskReply.TheVariants.{Job, Lost}
 use Rattle.child_link.proofs.Asking.{may_copy, asked_copy, is_asked_now, asked_settled, asked_named, asked_lost, may_askable, links_asked, links_lost}
 use Rattle.child_link.proofs.lone.Lone.ask.Goals as goal
 

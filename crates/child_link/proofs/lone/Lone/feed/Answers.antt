@@ -4,7 +4,7 @@ use Rattle.annex_model.specs.declared.verdict.Why.TheVariants.{Full, Memory}
 use Rattle.journal_model.specs.declared.entry.What.TheVariants.{End}
 use Rattle.journal_model.specs.Journal.{is_ended}
 use Rattle.journal_model.specs.declared.entry.Entry.{Entry}
-use Rattle.wire_line.specs.Held.{TakesLine}
+use Rattle.wire_line.specs.HeldBytes.{TakesLine}
 use Rattle.child_link.specs.Doors.{GoesOn}
 use Rattle.child_link.specs.Links.{IsLinked}
 use Rattle.child_link.proofs.Firsts.{line_whole}

@@ -1,5 +1,5 @@
 use Rattle.std.proofs.Common.{◌∷◌, ◌++◌, sym, ap, ◌∙◌, subst, arith}
-use Rattle.wire_line.specs.Held.{first_line, TakesLine}
+use Rattle.wire_line.specs.HeldBytes.{first_line, TakesLine}
 use Rattle.wire_line.proofs.Firsts.{ends_within, dropped, dropped_within, split_line, takes_line}
 use Rattle.wire_line.proofs.splitter.Splitter.drop_line.Goals as goal
 

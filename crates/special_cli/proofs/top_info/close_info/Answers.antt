@@ -5,7 +5,7 @@ use Rattle.annex_model.specs.Lines.{text}
 use Rattle.info_run.specs.Infos.{info_lines}
 use Rattle.special_cli.specs.Informs.{info_status}
 use Rattle.special_cli.proofs.Informed.{stays, printed_as}
-use Rattle.special_cli.proofs.top_info.close.Goals as goal
+use Rattle.special_cli.proofs.top_info.close_info.Goals as goal
 
 pub returns-in-Ok-clause-printed : goal.returns-in-Ok-clause-printed
 returns-in-Ok-clause-printed g c =

@@ -3,6 +3,6 @@ use Rattle.journal_model.specs.declared.entry.Entry.{Entry}
 use Rattle.journal_model.specs.declared.opening.Opening.{Opening}
 
 -- what contracts see of a core
-pub record Held : Type 0 where
+pub record CoreValue : Type 0 where
   pub opening : Opening
   pub journal : List Entry

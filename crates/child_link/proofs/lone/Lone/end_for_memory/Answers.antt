@@ -3,7 +3,7 @@ use Rattle.annex_model.specs.declared.verdict.Why.TheVariants.{Memory}
 use Rattle.journal_model.specs.declared.entry.Entry.{Entry}
 use Rattle.journal_model.specs.Journal.{is_ended}
 use Rattle.child_link.proofs.Turning.{stopped_so, ended_live}
-use Rattle.child_link.proofs.lone.Lone.give_up.Goals as goal
+use Rattle.child_link.proofs.lone.Lone.end_for_memory.Goals as goal
 
 pub returns-then-not-has_ended-clause-memory : goal.returns-then-not-has_ended-clause-memory
 returns-then-not-has_ended-clause-memory g c = λ live.

@@ -4,7 +4,7 @@ use Rattle.std.specs.List.{before_first, after_first}
 use Rattle.annex_model.specs.Lines.{has_newline, Cut}
 
 -- the longest line that is taken, the bytes that were pushed and not dropped, and how many more fit without memory
-pub record Held : Type 0 where
+pub record HeldBytes : Type 0 where
   pub limit : ℕ
   pub bytes : List ℕ
   pub room : ℕ

@@ -7,7 +7,7 @@ use Rattle.special_cli.specs.Runs.{main_entry}
 use Rattle.special_cli.proofs.Beginning.{free_one}
 use Rattle.special_cli.proofs.Doing.{done_alone}
 use Rattle.special_cli.proofs.Finishing.{links_claim}
-use Rattle.special_cli.proofs.checking.give_up.Goals as goal
+use Rattle.special_cli.proofs.checking.answer_unready.Goals as goal
 
 pub claim_alone-requires : goal.claim_alone-requires
 claim_alone-requires g c = record { free = free_one c.args.core.now.opening c.args.core.now.journal c.requires.one c.requires.unready.begun.unclaimed }

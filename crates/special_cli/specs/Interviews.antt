@@ -1,0 +1,42 @@
+-- How far an info has come, by its journal.
+use Rattle.std.specs.Prelude.{ℕ, ◌≡◌, ◌⊎◌, Bool, true, false, List, [], ◌∷◌, take, Option, IfOk}
+use Rattle.ann_outside.specs.Starts.{Starts}
+use Rattle.ann_outside.specs.Causes.{AddsOne, Stays}
+use Rattle.journal_model.specs.declared.entry.What.TheVariants.{Start, NoStart}
+use Rattle.journal_model.specs.declared.entry.Entry.{Entry}
+use Rattle.journal_model.specs.Journal.{any, is_started, open_jobs}
+use Rattle.child_link.specs.Links.{LinkValue}
+use Rattle.info_run.specs.Askings.{asked_lines}
+use Rattle.special_cli.specs.declared.informing.Interview.{Interview}
+use Rattle.special_cli.specs.declared.informing.Interview.TheVariants.{Over, StartFault, NoMemory}
+use Rattle.special_cli.specs.Endings.{starts_in}
+use Rattle.special_cli.specs.Informs.{info_requests, is_of_task, IsComplete}
+use Rattle.special_cli.specs.Runs.{main_entry}
+
+-- the one child was asked the first of the requests, and no job of it is open
+pub record IsInterviewed (key : Option (List ℕ)) (journal : List Entry) (c : ℕ) : Type 0 where
+  pub first : c ≡ 1
+  pub started : is_started journal c ≡ true
+  pub starts : starts_in journal ≡ Start 1 0 false ∷ []
+  pub asked : (n : ℕ) × (asked_lines journal c ≡ take n (info_requests key))
+  pub settled : open_jobs journal c ≡ []
+  pub taskless : any is_of_task journal ≡ false
+
+-- what the journal says of an interview
+abbrev pub Interviewed : {I O S : Type 0} → Option (List ℕ) → List Entry → Interview I O S → Type 0
+Interviewed key journal (Over link stub asked) = IsInterviewed key journal link.child × IfOk asked (λ _. IsComplete key journal)
+Interviewed key journal StartFault = journal ≡ main_entry (NoStart 0) ∷ []
+Interviewed key journal NoMemory = journal ≡ []
+
+-- the link of an interview that has one
+abbrev pub IfOver : {I O S : Type 0} → (LinkValue I O → Type 0) → Interview I O S → Type 0
+IfOver P (Over link stub asked) = P link
+IfOver P StartFault = Unit {0}
+IfOver P NoMemory = Unit {0}
+
+-- Where programs tell, they were asked for the program once, which gave a child or not. Without memory they may not have been
+-- asked, or it may have been for nothing.
+abbrev pub InterviewStarts : {I O S : Type 0} → Option Starts → Option Starts → List ℕ → Interview I O S → Type 0
+InterviewStarts old new program (Over link stub asked) = AddsOne old new (program, true)
+InterviewStarts old new program StartFault = AddsOne old new (program, false)
+InterviewStarts old new program NoMemory = Stays old new ⊎ ((b : Bool) × AddsOne old new (program, b))
