@@ -1,7 +1,7 @@
 use Rattle.std.specs.Prelude.{option_map}
 use Rattle.ann_key.specs.KeyRefs.{text_of}
 use Rattle.special_cli.proofs.Talking.{unready_talked, refused_complete, ended_complete, unsent_complete, ready_talked, ready_complete, if_ok}
-use Rattle.special_cli.proofs.informing.interview.Goals as goal
+use Rattle.special_cli.proofs.informing.hold_interview.Goals as goal
 
 pub returns-in-Ready-clause-interviewed : goal.returns-in-Ready-clause-interviewed
 returns-in-Ready-clause-interviewed g c = (
