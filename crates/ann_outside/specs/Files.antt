@@ -1,5 +1,5 @@
 -- What each call does to the files of a desk that tells them.
-use Rattle.std.specs.Prelude.{ℕ, ◌≡◌, ◌≢◌, ◌≤◌, ◌<◌, ⊤, if◌then◌else◌, bytes_eq, List, [], ◌∷◌, ◌++◌, take, drop, length, Option, Some, None, option_map, IfSome, Result, Ok, Err}
+use Rattle.std.specs.Prelude.{ℕ, ◌≡◌, ◌≢◌, ◌≤◌, ◌<◌, ⊤, if◌then◌else◌, bytes_eq, List, [], ◌∷◌, ◌++◌, take, drop, length, slice_get, Option, Some, None, option_map, IfSome, Result, Ok, Err}
 use Rattle.ann_outside.specs.declared.file_desk.DeskError.{DeskError}
 use Rattle.ann_outside.specs.declared.file_desk.DeskError.TheVariants.{Failed, Missing, NoMemory}
 
@@ -11,6 +11,12 @@ Files = List (List ℕ × List ℕ)
 abbrev pub content : List ℕ → Files → Option (List ℕ)
 content name [] = None
 content name (file ∷ files) = if bytes_eq file.0 name then Some file.1 else content name files
+
+-- the file at that place has that name
+pub record IsAt (files : Files) (at : ℕ) (name : List ℕ) : Type 0 where
+  pub file : List ℕ × List ℕ
+  pub at_place : slice_get files at ≡ Some file
+  pub name_is : file.0 ≡ name
 
 -- what is told changes by that relation, and what isn't told stays untold
 abbrev pub WhereTold : Option Files → Option Files → (Files → Files → Type 0) → Type 0
