@@ -1,8 +1,8 @@
 -- What taking a file away and putting it back does to the files.
 use Rattle.std.proofs.Common.{◌≡◌, ◌∙◌, ℕ, List, [], ◌∷◌, ◌++◌, refl, ap, sym, zero, suc}
-use Rattle.std.specs.Prelude.{Bool, true, false, bytes_eq, slice_get, remove, Option, Some, None, if◌then◌else◌}
+use Rattle.std.specs.Prelude.{Bool, true, false, bytes_eq, slice_get, remove, Some, None, if◌then◌else◌}
 use Rattle.std.proofs.lemmas.Slice.Eq.{bytes_eq-Decides}
-use Rattle.ann_outside.specs.Files.{Files, content, OthersStay}
+use Rattle.ann_outside.specs.Files.{Files, content}
 
 same_name : (name : List ℕ) → bytes_eq name name ≡ true
 same_name name = (bytes_eq-Decides name name).1 refl

@@ -11,7 +11,7 @@ ghost use Rattle.ann_outside.specs.declared.file_desk.Call.TheVariants.{Size, Re
 
 use super::super::{Call, Desk, DeskError};
 use super::fails::Fails;
-use super::files::{FileList, copy_of, joined, piece_of, put, size_of, take_away};
+use super::files::{FileList, copy_all, copy_of, joined, piece_of, put, size_of, take_away};
 use super::source::copy_front;
 use ann_key::{Bytes, NoMemory, Text};
 use std::alloc::Global;
@@ -46,6 +46,22 @@ impl MemDesk {
             files,
             log: Vec::with_capacity(alloc, 1)?,
             fails: Fails::new(fails),
+            missing: 0,
+        })
+    }
+
+    // A desk with the same files, on which no call was made, and of which the same calls fail.
+    pub(super) fn begun(&self) -> Result<MemDesk, NoMemory>
+        ensures files { IfOk result (λ d. d.files.items ≡ self.now.files.items) }
+        ensures fails { IfOk result (λ d. Begins (desk_fails d) self.now.fails.at.items) }
+        ensures log { IfOk result (λ d. d.log.items ≡ []) }
+        ensures missing { IfOk result (λ d. d.missing ≡ 0) }
+    {
+        Ok(MemDesk {
+            alloc: self.alloc,
+            files: copy_all(self.alloc, self.files.as_slice())?,
+            log: Vec::with_capacity(self.alloc, 1)?,
+            fails: self.fails.begun(self.alloc)?,
             missing: 0,
         })
     }
@@ -123,12 +139,7 @@ impl MemDesk {
     }
 
     // Counts the call, and gives the file its other name.
-    fn move_file(
-        &mut self,
-        from: &str,
-        to: Text,
-        moved: Option<Bytes>,
-    ) -> Result<(), DeskError>
+    fn move_file(&mut self, from: &str, to: Text, moved: Option<Bytes>) -> Result<(), DeskError>
         requires room { vec_len self.old.files < vec_capacity self.old.files }
         requires moved { moved ≡ content from.now self.old.files.items }
         ensures files { RenameDoes from.now to result self.old.files.items self.new.files.items }

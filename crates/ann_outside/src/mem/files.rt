@@ -99,6 +99,18 @@ fn window(bytes: &[u8], from: u64, room: usize) -> &[u8]
     &rest[..room]
 }
 
+// A copy of all the files.
+pub fn copy_all(alloc: Global, files: &[(Text, Bytes)]) -> Result<FileList, NoMemory>
+    ensures { IfOk result (λ copy. copy.items ≡ files.now) }
+{
+    let mut copy = Vec::with_capacity(alloc, files.len())?;
+    for file in files {
+        let name = Text::copy(alloc, file.0.view())?;
+        copy.push((name, Bytes::copy(alloc, file.1.view())?))?;
+    }
+    Ok(copy)
+}
+
 // A copy of the file's bytes; none where there is no such file.
 pub fn copy_of(
     alloc: Global,

@@ -1,5 +1,5 @@
-use Rattle.std.proofs.Common.{ℕ, ◌+◌, List, take, drop, length, arith, sym, ap, ◌∙◌, subst}
-use Rattle.ann_outside.proofs.Telling.{appends_both, taken_next}
+use Rattle.std.proofs.Common.{arith, ◌∙◌}
+use Rattle.ann_outside.proofs.Telling.{taken_next}
 use Rattle.ann_outside.proofs.writing.write_all.Goals as goal
 
 pub loop-at-preserved : goal.loop-at-preserved

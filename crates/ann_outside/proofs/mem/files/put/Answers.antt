@@ -1,4 +1,4 @@
-use Rattle.std.proofs.Common.{◌≡◌, ◌∙◌}
+use Rattle.std.proofs.Common.{◌∙◌}
 use Rattle.ann_outside.proofs.FileLaws.{content-snoc, others-snoc}
 use Rattle.ann_outside.proofs.mem.files.put.Goals as goal
 

@@ -1,4 +1,4 @@
-use Rattle.std.proofs.Common.{◌≡◌, ◌∙◌, sym, arith}
+use Rattle.std.proofs.Common.{◌∙◌, arith}
 use Rattle.ann_outside.proofs.FileLaws.{content-remove}
 use Rattle.ann_outside.proofs.mem.files.take_away.Goals as goal
 
