@@ -28,7 +28,7 @@ lacks_memory (Remove name answer) = is_without_memory answer
 
 -- the calls of the log, where one is kept, and this one, unless no memory was found for it
 abbrev pub logged : Option (List Call) → Call → Option (List Call)
-logged log call = if lacks_memory call then log else option_map (λ calls. calls ++ call ∷ []) log
+logged log call = option_map (λ calls. if lacks_memory call then calls else calls ++ call ∷ []) log
 
 -- the log, where one is kept, gained these calls
 abbrev pub Gained : Option (List Call) → Option (List Call) → List Call → Type 0
