@@ -1,5 +1,5 @@
 // A desk in memory.
-ghost use Rattle.std.specs.Prelude.{◌≡◌, ◌+◌, ◌-◌, ◌<◌, ◌^◌, [], ◌∷◌, ◌++◌, ◌≢◌, ℕ, List, Some, None, length, min, vec_len, vec_capacity, IfOk, OnOk, OnErr, IfSome};
+ghost use Rattle.std.specs.Prelude.{◌≡◌, ◌+◌, ◌-◌, ◌<◌, ◌^◌, [], ◌∷◌, ◌++◌, ◌≢◌, ℕ, List, Some, None, option_copied, length, min, vec_len, vec_capacity, IfOk, OnOk, OnErr, IfSome};
 ghost use Rattle.std.specs.Io.{ReadsAtMost};
 ghost use Rattle.ann_outside.specs.Calls.{logged, bytes_read};
 ghost use Rattle.ann_outside.specs.DeskCauses.{HasCauses};
@@ -11,7 +11,7 @@ ghost use Rattle.ann_outside.specs.declared.file_desk.Call.TheVariants.{Size, Re
 
 use super::super::{Call, Desk, DeskError};
 use super::fails::Fails;
-use super::files::{FileList, copy_all, copy_of, joined, piece_of, put, size_of, take_away};
+use super::files::{FileList, copy_all, copy_of, find, joined, piece_of, put, size_of, take_away};
 use super::source::copy_front;
 use ann_key::{Bytes, NoMemory, Text};
 use std::alloc::Global;
@@ -48,6 +48,20 @@ impl MemDesk {
             fails: Fails::new(fails),
             missing: 0,
         })
+    }
+
+    /// The bytes of the file of that name, if there is one.
+    pub fn content(&self, name: &str) -> Option<&Bytes>
+        ensures { IfSome (⟦<MemDesk as Desk>⟧.files self.now) (λ fs. option_copied result ≡ content name.now fs) }
+    {
+        find(self.files.as_slice(), name)
+    }
+
+    /// Its calls so far, in order, without those that found no memory.
+    pub fn log(&self) -> &[Call]
+        ensures { ⟦<MemDesk as Desk>⟧.log self.now ≡ Some result.now }
+    {
+        self.log.as_slice()
     }
 
     // A desk with the same files, on which no call was made, and of which the same calls fail.

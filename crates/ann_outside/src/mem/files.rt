@@ -22,7 +22,7 @@ fn position(files: &[(Text, Bytes)], name: &str) -> Option<usize>
 }
 
 // The bytes of the file of that name.
-fn find<'a>(files: &'a [(Text, Bytes)], name: &str) -> Option<&'a Bytes>
+pub fn find<'a>(files: &'a [(Text, Bytes)], name: &str) -> Option<&'a Bytes>
     ensures { option_copied result ≡ content name.now files.entry.now }
 {
     for file in files {
