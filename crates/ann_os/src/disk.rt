@@ -14,8 +14,8 @@ use std::path::Path;
 use std::rt::Files;
 use std::{fs, io};
 
-/// Files of this machine by their paths, which go from the folder that this process was started in. A folder in the
-/// place of a file is a fault.
+/// Files of this machine by their paths, which go from the folder that this process was started in. `create` and `rename`
+/// make the folders of the new name that are missing. A folder in the place of a file is a fault.
 #[derive(Drop)]
 pub struct OsDesk<R> {
     rt: R,
@@ -101,12 +101,17 @@ fn read_from<R: Files>(
     Ok(count)
 }
 
-fn make(rt: &impl Files, name: &str) -> Result<(), DeskError> {
-    if let Some(folder) = Path::new(name).parent() {
-        if !folder.as_str().is_empty() {
-            fs::create_dir_all(rt, folder).map_err(desk_error)?;
+fn make_folders(rt: &impl Files, name: &str) -> Result<(), DeskError> {
+    match Path::new(name).parent() {
+        Some(folder) if !folder.as_str().is_empty() => {
+            fs::create_dir_all(rt, folder).map_err(desk_error)
         }
+        _ => Ok(()),
     }
+}
+
+fn make(rt: &impl Files, name: &str) -> Result<(), DeskError> {
+    make_folders(rt, name)?;
     let _ = File::create(rt, name).map_err(desk_error)?;
     Ok(())
 }
@@ -129,9 +134,10 @@ fn shorten(rt: &impl Files, name: &str, size: u64) -> Result<(), DeskError> {
     file.set_len(size).map_err(desk_error)
 }
 
-// What is missing behind the look at the file is the folder of the other name.
+// Once the file was found, something else that is missing is a fault.
 fn give_name(rt: &impl Files, from: &str, to: &str) -> Result<(), DeskError> {
     let _ = size_of(rt, from)?;
+    make_folders(rt, to).map_err(fault)?;
     fs::rename(rt, from, to).map_err(desk_error).map_err(fault)
 }
 

@@ -48,7 +48,10 @@ fn calls_on_files_and_folders(rt: HostRuntime) -> Result<(), Fail> {
         (Size("calls/other"), "0"),
         // names in a folder that isn't there, or that is a file
         (Append("calls/gone/x", "x"), "missing"),
-        (Rename("calls/other", "calls/gone/x"), "failed"),
+        (Rename("calls/gone/x", "calls/none/x"), "missing"),
+        (Rename("calls/other", "calls/gone/x"), "done"),
+        (Rename("calls/gone/x", "calls/other"), "done"),
+        (Rename("calls/other", "calls/other/x"), "failed"),
         (Size("calls/other"), "0"),
         (Create("calls/other/x"), "failed"),
         // a full disk

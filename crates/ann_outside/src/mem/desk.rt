@@ -1,5 +1,5 @@
 // A desk in memory.
-ghost use Rattle.std.specs.Prelude.{◌≡◌, ◌+◌, ◌-◌, ◌<◌, ◌^◌, [], ◌∷◌, ◌++◌, ◌≢◌, ℕ, List, Some, None, option_copied, length, min, vec_len, vec_capacity, IfOk, OnOk, OnErr, IfSome};
+ghost use Rattle.std.specs.Prelude.{◌≡◌, ◌+◌, ◌-◌, ◌<◌, ◌^◌, [], ◌∷◌, ◌++◌, ◌≢◌, ℕ, List, Some, None, option_copied, length, min, drop, vec_len, vec_capacity, IfOk, OnOk, OnErr, IfSome, MatchResult};
 ghost use Rattle.std.specs.Io.{ReadsAtMost};
 ghost use Rattle.ann_outside.specs.Calls.{logged, bytes_read};
 ghost use Rattle.ann_outside.specs.DeskCauses.{HasCauses};
@@ -209,6 +209,7 @@ impl Desk for MemDesk {
         ensures told { IfSome (⟦<MemDesk as Desk>⟧.files self.old) (λ fs. ReadIs name.now from buf.new fs result) }
         ensures much { IfSome (⟦<MemDesk as Desk>⟧.files self.old) (λ fs. IfOk result (λ n. (bytes : List ℕ) → content name.now fs ≡ Some bytes
             → n ≡ min (length bytes - from) (length buf.old))) }
+        ensures behind { MatchResult result (λ n. drop n buf.new ≡ drop n buf.old) (λ _. buf.new ≡ buf.old) }
         ensures causes { HasCauses (⟦<MemDesk as Desk>⟧.counts self.old) (⟦<MemDesk as Desk>⟧.counts self.new) result }
         ensures log { ⟦<MemDesk as Desk>⟧.log self.new ≡ logged (⟦<MemDesk as Desk>⟧.log self.old) (ReadAt name.now from (bytes_read buf.new result)) }
         ensures counted { IsCounted (desk_fails self.old) (desk_fails self.new) result }
