@@ -3,11 +3,14 @@
 #![tactic(auto)]
 
 mod call;
+mod finals;
+mod kit;
 mod lists;
 mod noted;
 mod remote;
 
 pub use call::{Asked, Call, Said};
+pub use kit::{Kit, Step};
 pub use lists::{Lines, Values};
 pub use noted::Noted;
 pub use remote::Remote;
