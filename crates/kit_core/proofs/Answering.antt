@@ -31,7 +31,7 @@ untold_due p store key file is no_text =
     (is_false (is_utf8 file) (λ h. no_text (IsUtf8-from_is_utf8 file h)))
 
 -- without a call nothing more is prepared
-no_more : (b p : Bool) → b || (p && false) ≡ b
+pub no_more : (b p : Bool) → b || (p && false) ≡ b
 no_more true p = refl
 no_more false true = refl
 no_more false false = refl
@@ -61,11 +61,14 @@ pub tries_asked : {R E T : Type 0} (calls : R → Option (List Call)) (r r' : R)
     → OnErr result (new ≡ record { remote = r'; prepared = p; stage = s })
     → OnErr result (Tries calls old new due × (new.stage ≡ old.stage))
 tries_asked calls r r' p s old new due asked said (Ok say) before is_due gained after = tt
-tries_asked {R} {E} calls r r' p s old new due asked said (Err e) before is_due gained after = (record {
-  call = Some (record { asked = asked; said = said });
-  asks = inr (ap asked_by is_due);
-  gained = ap (λ k. calls k.remote) after ∙ gained ∙ ap (λ k. called {E = E} (calls k.remote) asked (Ok said)) before;
-}, ap (λ k. k.stage) after ∙ ap (λ k. k.stage) before)
+tries_asked {R} {E} calls r r' p s old new due asked said (Err e) before is_due gained after = (
+  record {
+    call = Some (record { asked = asked; said = said });
+    asks = inr (ap asked_by is_due);
+    gained = ap (λ k. calls k.remote) after ∙ gained ∙ ap (λ k. called {E = E} (calls k.remote) asked (Ok said)) before;
+  },
+  ap (λ k. k.stage) after ∙ ap (λ k. k.stage) before,
+)
 
 -- a line was due, and was said
 pub answers_line : {R E : Type 0} (calls : R → Option (List Call)) (r : R) (p : Bool) (s stage : Stage) (old new : KitValue R) (due : Due) (line : RemoteMessage) (request : Option HostMessage) (result : Result (List (List ℕ)) E)
@@ -89,3 +92,8 @@ pub tries_line : {R E T : Type 0} (calls : R → Option (List Call)) (old new : 
     → OnErr result (Tries calls old new due × (new.stage ≡ old.stage))
 tries_line calls old new due (Ok say) same = tt
 tries_line calls old new due (Err e) same = (record { call = None; asks = inl refl; gained = ap (λ k. calls k.remote) same }, ap (λ k. k.stage) same)
+
+-- what holds anyway holds of an error
+pub on_err : {T E : Type 0} {P : Type 0} (result : Result T E) → P → OnErr result P
+on_err (Ok x) holds = tt
+on_err (Err e) holds = holds

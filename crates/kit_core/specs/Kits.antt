@@ -1,11 +1,11 @@
 -- What a kit says to a host: by all that the host said so far, and by what the remote said to the calls that were made for it.
-use Rattle.std.specs.Prelude.{ℕ, ◌≡◌, ◌⊎◌, ◌&&◌, ◌||◌, not, Bool, true, false, if◌then◌else◌, List, [], ◌∷◌, ◌++◌, map, filter, filter_map, length, slice_get, Option, Some, None, option_map, is_some, codes}
+use Rattle.std.specs.Prelude.{ℕ, ◌≡◌, ◌&&◌, ◌||◌, not, Bool, true, false, if◌then◌else◌, List, [], ◌∷◌, ◌++◌, map, filter, filter_map, length, slice_get, Option, Some, None, option_map, is_some, codes}
 use Rattle.std.specs.List.{last_or, after_last, list_all}
 use Rattle.std.specs.Str.{is_utf8}
 use Rattle.annex_model.specs.Lines.{has_newline}
 use Rattle.annex_model.specs.Messages.{RemoteMessage, Extensions, UnsupportedRequest, Error, Getconfig, PrepareSuccess, PrepareFailure, InitremoteSuccess, InitremoteFailure, TransferSuccess, TransferFailure, CheckpresentSuccess, CheckpresentFailure, CheckpresentUnknown, RemoveSuccess, RemoveFailure}
 use Rattle.annex_model.specs.Messages.{HostMessage, AskExtensions, Prepare, Initremote, Transfer, Checkpresent, Remove, Listconfigs, Getcost, Getavailability, Getinfo, Whereis, Value, Creds, HostError}
-use Rattle.annex_model.specs.Messages.{Param, Number, Key, Word, Rest, Direction, Scope, host_row, remote_line}
+use Rattle.annex_model.specs.Messages.{Param, Key, Word, Rest, host_row, remote_line}
 use Rattle.kit_core.specs.declared.call.Said.{Said}
 use Rattle.kit_core.specs.declared.call.Said.TheVariants.{Yes, No, Failure}
 use Rattle.kit_core.specs.declared.call.Asked.{Asked}

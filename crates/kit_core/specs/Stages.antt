@@ -1,11 +1,11 @@
 -- How a kit stands, as it keeps it between two messages, and how that follows from what it heard.
-use Rattle.std.specs.Prelude.{ℕ, ◌≡◌, ◌+◌, ◌<◌, ◌^◌, ◌⊎◌, ◌&&◌, ◌||◌, Bool, true, false, if◌then◌else◌, List, [], ◌∷◌, ◌++◌, map, length, slice_get, Option, Some, None, IsTrue}
-use Rattle.annex_model.specs.Messages.{HostMessage, AskExtensions, Prepare, Initremote, Transfer, Checkpresent, Remove, Listconfigs, Getcost, Getavailability, Getinfo, Whereis, Value, Creds, HostError, remote_line}
+use Rattle.std.specs.Prelude.{ℕ, ◌≡◌, ◌+◌, ◌<◌, ◌^◌, ◌⊎◌, ◌&&◌, ◌||◌, Bool, true, false, List, [], ◌∷◌, ◌++◌, map, length, slice_get, Option, Some, None, IsTrue}
+use Rattle.annex_model.specs.Messages.{HostMessage, Prepare, Initremote, Value, Creds, HostError, remote_line}
 use Rattle.kit_core.specs.declared.call.Call.{Call}
 use Rattle.kit_core.specs.declared.kit.Stage.{Stage}
 use Rattle.kit_core.specs.declared.kit.Stage.TheVariants.{Waiting, Readying, Over}
 use Rattle.kit_core.specs.Calls.{are_lines}
-use Rattle.kit_core.specs.Kits.{Heard, messages, is_over, awaits_value, is_prepare, request_of, values_of, is_prepared, is_value, value_in, said_yes, Due, IsServed, IsAskedBy, said_by, with_call, work_due, expected_due, live_due, is_unexpected}
+use Rattle.kit_core.specs.Kits.{Heard, messages, is_over, awaits_value, is_prepare, request_of, values_of, is_prepared, said_yes, Due, IsServed, IsAskedBy, said_by, with_call, work_due, expected_due, live_due, is_unexpected, due_of, IsStep}
 
 -- what contracts see of a kit: its remote, whether it is prepared, and where it stands
 pub record KitValue (R : Type 0) : Type 0 where
@@ -22,12 +22,15 @@ abbrev pub IsSound : Stage → Type 0
 IsSound (Readying by_prepare values) = (length values + 1 < 2 ^ 32) × IsTrue (are_lines values)
 IsSound stage = Unit {0}
 
--- where a kit stands behind these messages
+-- where a kit stands: it is over, or awaits a value for the request, or neither
+abbrev pub stage_by : Bool → Bool → Option HostMessage → List (List ℕ) → Stage
+stage_by true awaits request values = Over
+stage_by false true request values = Readying (is_prepare request) values
+stage_by false false request values = Waiting
+
+-- where it stands behind these messages
 abbrev pub stage_of : List (List ℕ) → List HostMessage → Stage
-stage_of settings ms =
-    if is_over settings ms then Over
-    else if awaits_value settings ms then Readying (is_prepare (request_of ms)) (values_of ms)
-    else Waiting
+stage_of settings ms = stage_by (is_over settings ms) (awaits_value settings ms) (request_of ms) (values_of ms)
 
 -- the kit stands as what was heard makes it stand, and each call was made that was due
 pub record Follows {R : Type 0} (settings : List (List ℕ)) (kit : KitValue R) (h : List Heard) : Type 0 where
@@ -106,3 +109,20 @@ pub record Tries {R : Type 0} (calls : R → Option (List Call)) (old new : KitV
   pub call : Option Call
   pub asks : (call ≡ None) ⊎ IsAskedBy due call
   pub gained : calls new.remote ≡ with_call (calls old.remote) call
+
+-- ---- one step
+
+-- The message had one call made, or none, and it is the one that is due behind whatever the kit followed; these lines are said,
+-- and the kit is over or not. It follows what was heard with this message.
+pub record Steps {R : Type 0} (calls : R → Option (List Call)) (settings : List (List ℕ)) (old new : KitValue R) (m : HostMessage) (say : List (List ℕ)) (over : Bool) : Type 0 where
+  pub call : Option Call
+  pub gained : calls new.remote ≡ with_call (calls old.remote) call
+  pub step : (h : List Heard) → Follows settings old h → IsStep settings h m call say over
+  pub follows : (h : List Heard) → Follows settings old h → Follows settings new (h ++ record { message = m; call = call } ∷ [])
+
+-- For want of memory no line is said, and the kit is over. The remote may have been asked for what is due, and for nothing else.
+pub record Stops {R : Type 0} (calls : R → Option (List Call)) (settings : List (List ℕ)) (old new : KitValue R) (m : HostMessage) : Type 0 where
+  pub call : Option Call
+  pub gained : calls new.remote ≡ with_call (calls old.remote) call
+  pub asks : (h : List Heard) → Follows settings old h → (call ≡ None) ⊎ IsAskedBy (due_of settings h m) call
+  pub over : is_last new.stage ≡ true

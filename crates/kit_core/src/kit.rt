@@ -1,4 +1,4 @@
-ghost use Rattle.std.specs.Prelude.{◌≡◌, ◌&&◌, ◌||◌, ◌<◌, ◌^◌, ◌+◌, ◌∷◌, [], not, codes, List, Option, Some, None, length, slice_get, IsTrue, IfOk, OnOk, OnErr};
+ghost use Rattle.std.specs.Prelude.{◌≡◌, ◌&&◌, ◌||◌, ◌<◌, ◌^◌, ◌+◌, ◌∷◌, [], not, codes, List, Option, Some, None, length, slice_get, IsTrue, true, ℕ, IfOk, IsOkAnd, OnOk, OnErr};
 ghost use Rattle.annex_model.specs.Lines.{has_newline};
 ghost use Rattle.annex_model.specs.Messages.{Transfer, Checkpresent, Remove, Error, is_sent_key, IsAskable, IsSayable, remote_line};
 ghost use Rattle.ann_key.specs.KeyRefs.{text_of};
@@ -8,7 +8,7 @@ ghost use Rattle.kit_core.specs.declared.call.Asked.TheVariants.{Prepare as AskP
 ghost use Rattle.kit_core.specs.declared.kit.Stage.TheVariants.{Readying};
 ghost use Rattle.kit_core.specs.Calls.{are_lines};
 ghost use Rattle.kit_core.specs.Kits.{has_line_fields, readying, work_due, final_line, is_prepare, is_yes, Asks};
-ghost use Rattle.kit_core.specs.Stages.{Answers, Tries, prepare_of, ready_stage, stage_due, stage_after, stage_after_request, stage_after_value, request_after};
+ghost use Rattle.kit_core.specs.Stages.{Answers, Tries, prepare_of, ready_stage, stage_due, stage_after, stage_after_request, stage_after_value, request_after, is_last, Follows, Steps, Stops};
 
 use crate::call::Said;
 use crate::finals;
@@ -17,8 +17,7 @@ use crate::remote::Remote;
 use ann_key::{Bytes, KeyRef, NoMemory};
 use std::alloc::Global;
 use std::marker::Model;
-use std::mem;
-use std::str;
+use std::{mem, str};
 use wire_msg::{HostMsg, RemoteMsg};
 
 /// What a kit says to one message: lines, each without its byte 10, and whether it is over.
@@ -237,7 +236,12 @@ impl<R: Remote> Kit<R> {
     }
 
     // What any message gets while a value is awaited.
-    fn reply(&mut self, by_prepare: bool, values: Values, message: HostMsg<'_>) -> Result<Lines, NoMemory>
+    fn reply(
+        &mut self,
+        by_prepare: bool,
+        values: Values,
+        message: HostMsg<'_>,
+    ) -> Result<Lines, NoMemory>
         requires lines { IsTrue (has_line_fields (host_shown message)) }
         requires over { self.old.stage ≡ Stage.Over }
         requires sound { (length values + 1 < 2 ^ 32) × IsTrue (are_lines values) }
@@ -271,5 +275,63 @@ impl<R: Remote> Kit<R> {
             Stage::Readying { by_prepare, values } => self.reply(by_prepare, values, message),
             Stage::Over => Ok(silence(self.alloc)),
         }
+    }
+}
+
+impl<R: Remote> Kit<R> {
+    /// A kit that has heard nothing. It takes no memory.
+    pub fn new(alloc: Global, remote: R) -> Kit<R>
+        ensures remote { result.remote ≡ remote }
+        ensures follows { (settings : List (List ℕ)) → Follows settings result [] }
+    {
+        Kit {
+            alloc,
+            remote,
+            prepared: false,
+            stage: Stage::Waiting,
+        }
+    }
+
+    fn is_over(&self) -> bool
+        ensures { result ≡ is_last self.now.stage }
+    {
+        matches!(self.stage, Stage::Over)
+    }
+
+    /// What is said to the next message. No line ends in a field of it, and each is of its class. After `NoMemory` the kit is
+    /// over: it says nothing more, and asks nothing of its remote.
+    pub fn step(&mut self, message: &HostMsg<'_>) -> Result<Step, NoMemory>
+        requires askable { IsAskable (host_shown message.now) }
+        requires lines { IsTrue (has_line_fields (host_shown message.now)) }
+        ensures step { IfOk result (λ s. Steps R.calls (R.settings self.old.remote) self.old self.new (host_shown message.now) s.say s.over) }
+        ensures over { IfOk result (λ s. s.over ≡ is_last self.new.stage) }
+        ensures stopped { OnErr result (Stops R.calls (R.settings self.old.remote) self.old self.new (host_shown message.now)) }
+        ensures silent { is_last self.old.stage ≡ true → IsOkAnd result (λ s. (s.say ≡ []) × (s.over ≡ true)) × (self.new ≡ self.old) }
+        ensures settings { R.settings self.new.remote ≡ R.settings self.old.remote }
+    {
+        if self.is_over() {
+            return Ok(Step {
+                say: silence(self.alloc),
+                over: true,
+            });
+        }
+        let say = self.answer(*message)?;
+        Ok(Step {
+            say,
+            over: self.is_over(),
+        })
+    }
+
+    /// The remote. It takes no memory.
+    pub fn close(self) -> R
+        ensures { result ≡ self.remote }
+    {
+        let Kit {
+            alloc: _,
+            remote,
+            prepared: _,
+            stage: _,
+        } = self;
+        remote
     }
 }

@@ -5,6 +5,7 @@
 mod call;
 mod finals;
 mod kit;
+pub mod laws;
 mod lists;
 mod noted;
 mod remote;

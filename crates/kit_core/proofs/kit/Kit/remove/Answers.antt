@@ -1,4 +1,4 @@
-use Rattle.std.proofs.Common.{◌≡◌, true, false, Some, None, [], codes, Bool, ap, sym, ◌∙◌, refl, rules}
+use Rattle.std.proofs.Common.{◌≡◌, true, false, Some, None, [], codes, Bool, ap, refl, rules}
 use Rattle.ann_key.specs.KeyRefs.{text_of}
 use Rattle.annex_model.specs.Messages.{Remove}
 use Rattle.kit_core.specs.declared.call.Said.TheVariants.{Failure}

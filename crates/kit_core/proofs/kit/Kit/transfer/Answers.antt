@@ -1,4 +1,4 @@
-use Rattle.std.proofs.Common.{◌≡◌, true, false, Some, None, [], codes, Bool, ap, sym, ◌∙◌, refl, rules}
+use Rattle.std.proofs.Common.{◌≡◌, true, false, Some, None, [], codes, Bool, ap, ◌∙◌, refl, rules}
 use Rattle.ann_key.specs.KeyRefs.{text_of}
 use Rattle.annex_model.specs.Messages.{Transfer}
 use Rattle.kit_core.specs.declared.call.Said.TheVariants.{Failure}
@@ -64,4 +64,3 @@ returns-in_ok-said-2-clause-err g c =
     (ap (λ (s : Bool). work_due None [] c.args.self.now.prepared (Transfer s (text_of c.args.key) c.args.file.now)) c.if-store.false
     ∙ transfer_due c.args.self.now.prepared false (text_of c.args.key) c.args.file.now c.in-Ok.file.now prepared c.in-Ok.ensures.cases.0 c.in-Ok.ensures.cases.1)
     c.in_ok-said-2.ensures.calls c.finish-else-store.ensures.err
-
