@@ -9,6 +9,9 @@ use Rattle.ann_outside.specs.declared.file_desk.DeskError.TheVariants.{Failed, M
 use Rattle.dir_remote.specs.Copies.{PieceDoes, Copying, CopyDoes}
 use Rattle.dir_remote.proofs.Telling.{told_refl, told_both, told_map, told_and, told_same}
 
+some_none : (l : List ℕ) → Some l ≡ None → ⊥
+some_none l e = cc
+
 pub some_of : {A : Type 0} → (o : Option A) → o ≢ None → (x : A) × (o ≡ Some x)
 some_of None h = absurd (h refl)
 some_of (Some x) h = (x, refl)
@@ -102,10 +105,7 @@ create_refused from to e a b does = told_map (CreateDoes to (Err e)) (λ x y. fr
 pub copying_begins : (from to : List ℕ) (a b : Option Files) → WhereTold a b (CreateDoes to (Ok tt)) → WhereTold a b (Copying from to 0)
 copying_begins from to a b does =
     told_map (CreateDoes to (Ok tt)) (Copying from to 0) a b
-      (λ x y h. record { others = h.1; there = λ none. absurd (some_none (sym h.0 ∙ none)); front = λ d bytes is. h.0 }) does
-  where
-    some_none : Some {T = List ℕ} [] ≡ None → ⊥
-    some_none e = cc
+      (λ x y h. record { others = h.1; there = λ none. absurd (some_none [] (sym h.0 ∙ none)); front = λ d bytes is. h.0 }) does
 
 pub copying_goes_on : (from to : List ℕ) (at n : ℕ) (a b c : Option Files) → WhereTold a b (Copying from to at)
     → WhereTold b c (PieceDoes from to at (Ok n)) → WhereTold b c (OthersStay (λ other. other ≡ to)) → WhereTold a c (Copying from to (at + n))
@@ -126,9 +126,6 @@ copying_goes_on from to at n a b c copying piece others =
             ∙ ap (option_map (λ l. l ++ take n (drop at bytes))) (so_far.front d bytes is)
             ∙ ap Some (sym (take-add at n bytes));
         }
-      where
-        some_none : (l : List ℕ) → Some l ≡ None → ⊥
-        some_none l e = cc
 
 pub copy_others : (from to : List ℕ) (at : ℕ) (a b c : Option Files) → WhereTold a b (Copying from to at) → WhereTold b c (OthersStay (λ other. other ≡ to))
     → WhereTold a c (OthersStay (λ other. other ≡ to))
@@ -151,9 +148,6 @@ copy_ends from to at a b c copying piece =
           λ none. absurd (some_none bytes (sym is ∙ none)),
           (h.1 bytes source.1).0 ∙ map_nil (content to y) ∙ so_far.front d bytes is ∙ ap Some whole ∙ sym is,
         )
-      where
-        some_none : (l : List ℕ) → Some l ≡ None → ⊥
-        some_none l e = cc
 
 pub copy_refused : (from to : List ℕ) (at : ℕ) (e : DeskError) (a b c : Option Files) → WhereTold a b (Copying from to at)
     → WhereTold b c (PieceDoes from to at (Err e)) → WhereTold a c (λ x y. from ≢ to → CopyDoes from to (Err e) x y)

@@ -1,12 +1,20 @@
 -- The names of files in the directory differ where they should.
-use Rattle.std.proofs.Common.{◌≡◌, ◌≢◌, ◌∙◌, ℕ, List, [], ◌∷◌, ◌++◌, refl, sym, ap, take, drop, append_assoc}
-use Rattle.std.specs.Prelude.{Bool, true, false, Some, codes, ◌==◌, ◌||◌}
-use Rattle.std.specs.List.{list_any}
+use Rattle.std.proofs.Common.{◌≡◌, ◌≢◌, ◌∙◌, ℕ, List, [], ◌∷◌, ◌++◌, refl, sym, ap, take, drop, append_assoc, arith}
+use Rattle.std.specs.Prelude.{Bool, true, false, Some, codes, ◌==◌, ◌||◌, nat_lt}
+use Rattle.std.specs.List.{list_any, list_all}
 use Rattle.std.proofs.lemmas.List.{append_cancel_left}
-use Rattle.hex.specs.Hex.{encode_lower}
+use Rattle.std.specs.Str.{IsAscii, IsUtf8}
+use Rattle.std.proofs.lemmas.Bool.{and_parts, ltb-true}
+use Rattle.std.proofs.lemmas.Str.{IsUtf8-from_ascii, IsAscii-append, IsAscii-take, IsAscii-drop}
+use Rattle.std.proofs.lemmas.Str.Ascii.{IsAscii-cons, IsAscii-nil}
+use Rattle.hex.specs.Hex.{encode_lower, lower_digits}
+use Rattle.hex.proofs.HexLemmas.{IsAscii-encode_with}
 use Rattle.md5.specs.Md5.{md5}
 use Rattle.ann_key.specs.Keys.{Parts, IsKey, key_reading, without_chunk}
 use Rattle.ann_key.specs.FileNames.{file_name_of}
+use Rattle.ann_key.specs.KeyRefs.{parts_of}
+use Rattle.ann_key.specs.declared.key.KeyRef.{KeyRef}
+use Rattle.ann_key.proofs.Spelling.{spelled_of_read}
 use Rattle.ann_key.proofs.Unique.{spelling_unique}
 use Rattle.ann_digest.specs.Directories.{lower_of, lower_under}
 use Rattle.dir_remote.specs.Contents.{IsContentName, IsOutside, place_of, temporary_name}
@@ -75,3 +83,27 @@ content_name_inside directory text other n outside p e = outside (lower_of p.bas
 
 pub temporary_name_inside : (directory text other : List ℕ) → IsOutside directory other → other ≢ temporary_name directory text
 temporary_name_inside directory text other outside e = outside (codes "tmp" ++ 47 ∷ file_name_of text) e
+
+-- ---- the folder is text
+
+all_below : (xs : List ℕ) → list_all (λ b. nat_lt b 128) xs ≡ true → IsAscii xs
+all_below [] e = IsAscii-nil
+all_below (x ∷ xs) e =
+    let parts = and_parts (nat_lt x 128) (list_all (λ b. nat_lt b 128) xs) e in
+    IsAscii-cons x xs (ltb-true x 128 parts.0) (all_below xs parts.1)
+
+lower_digits_ascii : IsAscii lower_digits
+lower_digits_ascii = all_below lower_digits refl
+
+pub lower_text : (base : List ℕ) → IsUtf8 (lower_of base)
+lower_text base =
+    let hex = encode_lower (md5 base) in
+    let ascii : IsAscii hex = IsAscii-encode_with lower_digits (md5 base) lower_digits_ascii in
+    IsUtf8-from_ascii (lower_of base)
+      (IsAscii-append (take 3 hex ++ codes "/") (take 3 (drop 3 hex))
+        (IsAscii-append (take 3 hex) (codes "/") (IsAscii-take hex 3 ascii) (IsAscii-cons 47 [] (omega arith) IsAscii-nil))
+        (IsAscii-take (drop 3 hex) 3 (IsAscii-drop hex 3 ascii)))
+
+-- the base of a key that was read
+pub base_of : (key : KeyRef) → (base : List ℕ) × IsKey base (without_chunk (parts_of key))
+base_of key = (key.head.now ++ key.tail.now, spelled_of_read (key.head.now ++ key.tail.now) (without_chunk (parts_of key)) key.outside)

@@ -1,33 +1,23 @@
 -- What the work of a call does to the contents of the keys.
-use Rattle.std.proofs.Common.{◌≡◌, ◌≢◌, ◌∙◌, ℕ, ◌≤◌, List, ◌⊎◌, inl, inr, refl, sym, ap, subst, rules}
-use Rattle.std.specs.Prelude.{Option, Some, None, IfSome, Result, Ok, Err}
+use Rattle.std.proofs.Common.{◌≡◌, ◌≢◌, ◌∙◌, ℕ, ◌≤◌, List, refl, sym, ap, subst, arith}
+use Rattle.std.specs.Str.{IsUtf8}
+use Rattle.ann_key.specs.FileNames.{file_name_of}
+use Rattle.std.specs.Prelude.{Bool, IsTrue, Option, Some, None, IfSome, Result, Ok, Err}
 use Rattle.ann_outside.specs.Causes.{Rose}
 use Rattle.ann_outside.specs.DeskCauses.{Counts, HasCauses}
 use Rattle.ann_outside.specs.Files.{Files, content, WhereTold, OthersStay, AllStay, SizeIs, RenameDoes, RemoveDoes}
 use Rattle.ann_outside.specs.declared.file_desk.DeskError.{DeskError}
 use Rattle.ann_outside.specs.declared.file_desk.DeskError.TheVariants.{Failed, Missing, NoMemory}
-use Rattle.dir_remote.specs.Answers.{StoreDoes, StoredUnder, RetrieveDoes, RetrievedTo, CheckDoes, FoundUnder, RemoveDoes as RemovalDoes, RemovedUnder}
+use Rattle.dir_remote.specs.Answers.{Works, StoreDoes, StoredUnder, RetrieveDoes, RetrievedTo, CheckDoes, FoundUnder, RemoveDoes as RemovalDoes, RemovedUnder, is_of_transfer, is_of_check, is_of_removal}
 use Rattle.dir_remote.specs.Contents.{IsContentName, IsOutside, OtherKeysStay, KeysStay, OutsideStays, temporary_name}
 use Rattle.dir_remote.specs.Copies.{CopyDoes}
-use Rattle.dir_remote.specs.Outcomes.{HasOutcomeCauses, refusal_of}
+use Rattle.dir_remote.specs.Outcomes.{HasOutcomeCauses, IsUnnamed, refusal_of}
 use Rattle.dir_remote.specs.declared.outcome.Outcome.{Outcome}
 use Rattle.dir_remote.specs.declared.outcome.Outcome.TheVariants as O
 use Rattle.dir_remote.proofs.PlaceLaws.{content_name_unique, content_names_differ, temporary_name_differs, content_name_inside, temporary_name_inside}
 use Rattle.dir_remote.proofs.Telling.{told_refl, told_both, told_map, told_and, told_same}
 
 -- ---- causes
-
-pub causes_nothing : (old new : Counts) (outcome : Outcome) → new ≡ old → outcome ≢ O.DiskFailed → outcome ≢ O.NoSuchFile → outcome ≢ O.NotThere
-    → HasOutcomeCauses old new outcome
-causes_nothing old new outcome same a b d =
-    let P : Counts → Type 0 = λ c. HasOutcomeCauses old c outcome in
-    subst P (sym same) record {
-      faults_later = search rules;
-      missing_later = search rules;
-      failed = λ e. absurd (a e);
-      missing = λ e. absurd (b e);
-      not_there = λ e. absurd (d e);
-    }
 
 pub causes_done : {T : Type 0} (old new : Counts) (result : Result T DeskError) → HasCauses old new result → HasOutcomeCauses old new O.Done
 causes_done old new result h =
@@ -45,12 +35,93 @@ pub causes_not_there : {T : Type 0} (old new : Counts) → HasCauses {T = T} old
 causes_not_there old new h =
     record { faults_later = h.faults_later; missing_later = h.missing_later; failed = λ e. cc; missing = λ e. cc; not_there = λ e. h.missing refl }
 
--- ---- nothing was done
+-- a copy whose last step was this one
+pub causes_ended : (a b c : Counts) (n : ℕ) → b ≡ a → HasCauses {T = ℕ} b c (Ok n) → HasCauses {T = Unit {0}} a c (Ok tt)
+causes_ended a b c n same h =
+    let P : Counts → Type 0 = λ x. HasCauses {T = ℕ} x c (Ok n) in
+    let k = subst P same h in
+    record { faults_later = k.faults_later; missing_later = k.missing_later; failed = λ e. cc; missing = λ e. cc; done = k.done; no_memory = λ e. cc }
 
-pub store_idle : (directory key file : List ℕ) (outcome : Outcome) (a : Option Files) → (outcome ≡ O.NotText) ⊎ (outcome ≡ O.NoMemory)
-    → WhereTold a a (StoreDoes directory key file outcome)
-store_idle directory key file outcome a (inl e) = rw e (told_refl (StoreDoes directory key file O.NotText) a (λ x. record { this = λ name is. refl; other_keys = λ other name d is. refl; outside = λ other out. refl }))
-store_idle directory key file outcome a (inr e) = rw e (told_refl (StoreDoes directory key file O.NoMemory) a (λ x. record { this = λ name is. refl; other_keys = λ other name d is. refl; outside = λ other out. refl }))
+pub causes_broken : (a b c : Counts) (e : DeskError) → b ≡ a → HasCauses {T = ℕ} b c (Err e) → HasCauses {T = Unit {0}} a c (Err e)
+causes_broken a b c e same h =
+    let P : Counts → Type 0 = λ x. HasCauses {T = ℕ} x c (Err e) in
+    let k = subst P same h in
+    record {
+      faults_later = k.faults_later;
+      missing_later = k.missing_later;
+      failed = λ q. k.failed (ap Err (of_error e Failed q));
+      missing = λ q. k.missing (ap Err (of_error e Missing q));
+      done = tt;
+      no_memory = λ q. k.no_memory (ap Err (of_error e NoMemory q));
+    }
+  where
+    of_error : (x y : DeskError) → Err {T = Unit {0}} x ≡ Err y → x ≡ y
+    of_error x y q = cc
+
+-- a call behind one that left the counts as they were
+pub causes_behind : {T : Type 0} (a b c : Counts) (e : DeskError) → b ≡ a → HasCauses {T = T} b c (Err e) → HasOutcomeCauses a c (refusal_of e)
+causes_behind {T} a b c e same h =
+    let P : Counts → Type 0 = λ x. HasCauses {T = T} x c (Err e) in
+    causes_refused {T = T} a c e (subst P same h)
+
+pub causes_done_behind : {T : Type 0} (a b c : Counts) (x : T) → b ≡ a → HasCauses {T = T} b c (Ok x) → HasOutcomeCauses a c O.Done
+causes_done_behind {T} a b c x same h =
+    let P : Counts → Type 0 = λ y. HasCauses {T = T} y c (Ok x) in
+    causes_done {T = T} a c (Ok x) (subst P same h)
+
+-- ---- nothing was done, since the key's file got no name
+
+causes_same : (counts : Counts) (outcome : Outcome) → outcome ≢ O.DiskFailed → outcome ≢ O.NoSuchFile → outcome ≢ O.NotThere → HasOutcomeCauses counts counts outcome
+causes_same counts outcome a b d =
+    record { faults_later = omega arith; missing_later = omega arith; failed = λ e. absurd (a e); missing = λ e. absurd (b e); not_there = λ e. absurd (d e) }
+
+unnamed : (is_word : Outcome → Bool) (Does : Outcome → Files → Files → Type 0) (key : List ℕ) (counts : Counts) (a : Option Files) (outcome : Outcome)
+    → IsTrue (is_word O.NotText) → IsTrue (is_word O.NoMemory) → ((x : Files) → Does O.NotText x x) → ((x : Files) → Does O.NoMemory x x)
+    → IsUnnamed key outcome → Works is_word Does key counts counts a a outcome
+unnamed is_word Does key counts a O.NotText v w f g h =
+    record { word = v; prepared = λ e. cc; text = h; causes = causes_same counts O.NotText (λ e. cc) (λ e. cc) (λ e. cc); files_do = told_refl (Does O.NotText) a f }
+unnamed is_word Does key counts a O.NoMemory v w f g h =
+    record { word = w; prepared = λ e. cc; text = tt; causes = causes_same counts O.NoMemory (λ e. cc) (λ e. cc) (λ e. cc); files_do = told_refl (Does O.NoMemory) a g }
+unnamed is_word Does key counts a O.Done v w f g h = absurd h
+unnamed is_word Does key counts a O.NotThere v w f g h = absurd h
+unnamed is_word Does key counts a O.NotPrepared v w f g h = absurd h
+unnamed is_word Does key counts a O.NoDirectory v w f g h = absurd h
+unnamed is_word Does key counts a O.DiskFailed v w f g h = absurd h
+unnamed is_word Does key counts a O.NoSuchFile v w f g h = absurd h
+
+pub store_idle : (directory key file : List ℕ) (counts : Counts) (a : Option Files) (outcome : Outcome) → IsUnnamed key outcome
+    → Works is_of_transfer (StoreDoes directory key file) key counts counts a a outcome
+store_idle directory key file counts a outcome =
+    unnamed is_of_transfer (StoreDoes directory key file) key counts a outcome refl refl
+      (λ x. record { this = λ name is. refl; other_keys = λ other name d is. refl; outside = λ other out. refl })
+      (λ x. record { this = λ name is. refl; other_keys = λ other name d is. refl; outside = λ other out. refl })
+
+pub retrieve_idle : (directory key file : List ℕ) (counts : Counts) (a : Option Files) (outcome : Outcome) → IsUnnamed key outcome
+    → Works is_of_transfer (RetrieveDoes directory key file) key counts counts a a outcome
+retrieve_idle directory key file counts a outcome =
+    unnamed is_of_transfer (RetrieveDoes directory key file) key counts a outcome refl refl
+      (λ x. record { this = λ out name is. tt; keys = λ out text name is. refl; others = λ other d. refl })
+      (λ x. record { this = λ out name is. tt; keys = λ out text name is. refl; others = λ other d. refl })
+
+pub check_idle : (directory key : List ℕ) (counts : Counts) (a : Option Files) (outcome : Outcome) → IsUnnamed key outcome
+    → Works is_of_check (CheckDoes directory key) key counts counts a a outcome
+check_idle directory key counts a outcome =
+    unnamed is_of_check (CheckDoes directory key) key counts a outcome refl refl (λ x. record { this = λ name is. tt; all = λ other. refl }) (λ x. record { this = λ name is. tt; all = λ other. refl })
+
+pub remove_idle : (directory key : List ℕ) (counts : Counts) (a : Option Files) (outcome : Outcome) → IsUnnamed key outcome
+    → Works is_of_removal (RemovalDoes directory key) key counts counts a a outcome
+remove_idle directory key counts a outcome =
+    unnamed is_of_removal (RemovalDoes directory key) key counts a outcome refl refl
+      (λ x. record { this = λ name is. refl; other_keys = λ other name d is. refl; outside = λ other out. refl })
+      (λ x. record { this = λ name is. refl; other_keys = λ other name d is. refl; outside = λ other out. refl })
+
+-- ---- the desk refused
+
+pub transfer_refused : (Does : Outcome → Files → Files → Type 0) (key : List ℕ) (counts after : Counts) (a b : Option Files) (e : DeskError) → IsUtf8 (file_name_of key)
+    → HasOutcomeCauses counts after (refusal_of e) → WhereTold a b (Does (refusal_of e)) → Works is_of_transfer Does key counts after a b (refusal_of e)
+transfer_refused Does key counts after a b Failed text causes does = record { word = refl; prepared = λ e. cc; text = text; causes = causes; files_do = does }
+transfer_refused Does key counts after a b Missing text causes does = record { word = refl; prepared = λ e. cc; text = text; causes = causes; files_do = does }
+transfer_refused Does key counts after a b NoMemory text causes does = record { word = refl; prepared = λ e. cc; text = tt; causes = causes; files_do = does }
 
 -- ---- store
 
@@ -126,11 +197,6 @@ store_unnamed directory key file temporary place e a b c at_temporary others cop
 
 -- ---- retrieve
 
-pub retrieve_idle : (directory key file : List ℕ) (outcome : Outcome) (a : Option Files) → (outcome ≡ O.NotText) ⊎ (outcome ≡ O.NoMemory)
-    → WhereTold a a (RetrieveDoes directory key file outcome)
-retrieve_idle directory key file outcome a (inl e) = rw e (told_refl (RetrieveDoes directory key file O.NotText) a (λ x. record { this = λ out name is. tt; keys = λ out text name is. refl; others = λ other d. refl }))
-retrieve_idle directory key file outcome a (inr e) = rw e (told_refl (RetrieveDoes directory key file O.NoMemory) a (λ x. record { this = λ out name is. tt; keys = λ out text name is. refl; others = λ other d. refl }))
-
 pub retrieve_unfound : (directory key file place : List ℕ) (e : DeskError) (a b : Option Files) → IsContentName directory key place → b ≡ a
     → IfSome a (λ fs. SizeIs place fs (Err e)) → WhereTold a b (RetrieveDoes directory key file (refusal_of e))
 retrieve_unfound directory key file place e a b at_place same told =
@@ -188,11 +254,6 @@ retrieve_uncopied directory key file place n e a b c at_place same told others c
 
 -- ---- check
 
-pub check_idle : (directory key : List ℕ) (outcome : Outcome) (a : Option Files) → (outcome ≡ O.NotText) ⊎ (outcome ≡ O.NoMemory)
-    → WhereTold a a (CheckDoes directory key outcome)
-check_idle directory key outcome a (inl e) = rw e (told_refl (CheckDoes directory key O.NotText) a (λ x. record { this = λ name is. tt; all = λ other. refl }))
-check_idle directory key outcome a (inr e) = rw e (told_refl (CheckDoes directory key O.NoMemory) a (λ x. record { this = λ name is. tt; all = λ other. refl }))
-
 pub check_found : (directory key place : List ℕ) (n : ℕ) (a b : Option Files) → IsContentName directory key place → b ≡ a
     → IfSome a (λ fs. SizeIs place fs (Ok n)) → WhereTold a b (CheckDoes directory key O.Done)
 check_found directory key place n a b at_place same told =
@@ -207,17 +268,13 @@ check_missing directory key place a b at_place same told =
       (λ x y h. record { this = λ name is. ap (λ m. content m x) (content_name_unique directory key name place is at_place) ∙ h.1; all = λ other. ap (content other) h.0 })
       (told_same (λ fs. SizeIs place fs (Err Missing)) a b same told)
 
-pub check_refused : (directory key : List ℕ) (outcome : Outcome) (a b : Option Files) → b ≡ a → (outcome ≡ O.DiskFailed) ⊎ (outcome ≡ O.NoMemory)
-    → WhereTold a b (CheckDoes directory key outcome)
-check_refused directory key outcome a b same (inl e) = rw (same, e) (told_refl (CheckDoes directory key O.DiskFailed) a (λ x. record { this = λ name is. tt; all = λ other. refl }))
-check_refused directory key outcome a b same (inr e) = rw (same, e) (told_refl (CheckDoes directory key O.NoMemory) a (λ x. record { this = λ name is. tt; all = λ other. refl }))
+pub check_failed : (directory key : List ℕ) (a b : Option Files) → b ≡ a → WhereTold a b (CheckDoes directory key O.DiskFailed)
+check_failed directory key a b same = rw same (told_refl (CheckDoes directory key O.DiskFailed) a (λ x. record { this = λ name is. tt; all = λ other. refl }))
+
+pub check_without_memory : (directory key : List ℕ) (a b : Option Files) → b ≡ a → WhereTold a b (CheckDoes directory key O.NoMemory)
+check_without_memory directory key a b same = rw same (told_refl (CheckDoes directory key O.NoMemory) a (λ x. record { this = λ name is. tt; all = λ other. refl }))
 
 -- ---- remove
-
-pub remove_idle : (directory key : List ℕ) (outcome : Outcome) (a : Option Files) → (outcome ≡ O.NotText) ⊎ (outcome ≡ O.NoMemory)
-    → WhereTold a a (RemovalDoes directory key outcome)
-remove_idle directory key outcome a (inl e) = rw e (told_refl (RemovalDoes directory key O.NotText) a (λ x. record { this = λ name is. refl; other_keys = λ other name d is. refl; outside = λ other out. refl }))
-remove_idle directory key outcome a (inr e) = rw e (told_refl (RemovalDoes directory key O.NoMemory) a (λ x. record { this = λ name is. refl; other_keys = λ other name d is. refl; outside = λ other out. refl }))
 
 pub remove_done : (directory key place : List ℕ) (a b : Option Files) → IsContentName directory key place → WhereTold a b (RemoveDoes place (Ok tt))
     → WhereTold a b (RemovalDoes directory key O.Done)
@@ -239,11 +296,12 @@ remove_missing directory key place a b at_place does =
         outside = λ other out. h.1 other;
       }) does
 
-pub remove_refused : (directory key place : List ℕ) (e : DeskError) (a b : Option Files) → e ≢ Missing → WhereTold a b (RemoveDoes place (Err e))
-    → WhereTold a b (RemovalDoes directory key (refusal_of e))
-remove_refused directory key place e a b known does = told_map (RemoveDoes place (Err e)) (RemovalDoes directory key (refusal_of e)) a b (by_error e known) does
-  where
-    by_error : (f : DeskError) → f ≢ Missing → (x y : Files) → RemoveDoes place (Err f) x y → RemovalDoes directory key (refusal_of f) x y
-    by_error Failed d x y h = record { this = λ name is. h name; other_keys = λ other name q is. h name; outside = λ other out. h other }
-    by_error Missing d x y h = absurd (d refl)
-    by_error NoMemory d x y h = record { this = λ name is. h name; other_keys = λ other name q is. h name; outside = λ other out. h other }
+pub remove_failed : (directory key place : List ℕ) (a b : Option Files) → WhereTold a b (RemoveDoes place (Err Failed)) → WhereTold a b (RemovalDoes directory key O.DiskFailed)
+remove_failed directory key place a b does =
+    told_map (RemoveDoes place (Err Failed)) (RemovalDoes directory key O.DiskFailed) a b
+      (λ x y h. record { this = λ name is. h name; other_keys = λ other name q is. h name; outside = λ other out. h other }) does
+
+pub remove_without_memory : (directory key place : List ℕ) (a b : Option Files) → WhereTold a b (RemoveDoes place (Err NoMemory)) → WhereTold a b (RemovalDoes directory key O.NoMemory)
+remove_without_memory directory key place a b does =
+    told_map (RemoveDoes place (Err NoMemory)) (RemovalDoes directory key O.NoMemory) a b
+      (λ x y h. record { this = λ name is. h name; other_keys = λ other name q is. h name; outside = λ other out. h other }) does
