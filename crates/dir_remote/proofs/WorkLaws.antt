@@ -55,7 +55,7 @@ causes_broken a b c e same h =
       no_memory = λ q. k.no_memory (ap Err (of_error e NoMemory q));
     }
   where
-    of_error : (x y : DeskError) → Err {T = Unit {0}} x ≡ Err y → x ≡ y
+    of_error : (x y : DeskError) → ◌≡◌ {A = Result (Unit {0}) DeskError} (Err x) (Err y) → x ≡ y
     of_error x y q = cc
 
 -- a call behind one that left the counts as they were
