@@ -35,6 +35,11 @@ pub causes_not_there : {T : Type 0} (old new : Counts) → HasCauses {T = T} old
 causes_not_there old new h =
     record { faults_later = h.faults_later; missing_later = h.missing_later; failed = λ e. cc; missing = λ e. cc; not_there = λ e. h.missing refl }
 
+-- what is missing needn't be removed
+pub causes_gone : {T : Type 0} (old new : Counts) → HasCauses {T = T} old new (Err Missing) → HasOutcomeCauses old new O.Done
+causes_gone old new h =
+    record { faults_later = h.faults_later; missing_later = h.missing_later; failed = λ e. cc; missing = λ e. cc; not_there = λ e. cc }
+
 -- a copy whose last step was this one
 pub causes_ended : (a b c : Counts) (n : ℕ) → b ≡ a → HasCauses {T = ℕ} b c (Ok n) → HasCauses {T = Unit {0}} a c (Ok tt)
 causes_ended a b c n same h =
