@@ -35,36 +35,36 @@ pub others_append : (to piece : List ℕ) (result : Result (Unit {0}) DeskError)
     → WhereTold b c (AppendDoes to piece result) → WhereTold a c (OthersStay (λ other. other ≡ to))
 others_append to piece result a b c same does =
     subst (λ (x : Option Files). WhereTold x c (OthersStay (λ other. other ≡ to))) same
-      (told_map (AppendDoes to piece result) (OthersStay (λ other. other ≡ to)) b c (append_others to piece result) does)
+    (told_map (AppendDoes to piece result) (OthersStay (λ other. other ≡ to)) b c (append_others to piece result) does)
 
 -- nothing was left to read
 pub piece_end : (from to buffer : List ℕ) (at : ℕ) (a b : Option Files) → b ≡ a → 0 < length buffer
     → IfSome a (λ fs. ReadIs from at buffer fs (Ok 0)) → WhereTold a b (PieceDoes from to at (Ok 0))
 piece_end from to buffer at a b same some told =
     told_map (λ x y. (y ≡ x) × ReadIs from at buffer x (Ok 0)) (PieceDoes from to at (Ok 0)) a b
-      (λ x y h. (h.1.0, λ bytes is. (ap (content to) h.0 ∙ sym (map_nil (content to x)), λ zero. (h.1.1 bytes is).1 refl some)))
-      (told_same (λ fs. ReadIs from at buffer fs (Ok 0)) a b same told)
+    (λ x y h. (h.1.0, λ bytes is. (ap (content to) h.0 ∙ sym (map_nil (content to x)), λ zero. (h.1.1 bytes is).1 refl some)))
+    (told_same (λ fs. ReadIs from at buffer fs (Ok 0)) a b same told)
 
 -- a piece was read and appended
 pub piece_moved : (from to buffer : List ℕ) (at n : ℕ) (a b c : Option Files) → b ≡ a → (n ≡ 0 → ⊥)
     → IfSome a (λ fs. ReadIs from at buffer fs (Ok n)) → WhereTold b c (AppendDoes to (take n buffer) (Ok tt)) → WhereTold a c (PieceDoes from to at (Ok n))
 piece_moved from to buffer at n a b c same some told does =
     told_both (λ x y. (y ≡ x) × ReadIs from at buffer x (Ok n)) (AppendDoes to (take n buffer) (Ok tt)) (PieceDoes from to at (Ok n)) a b c
-      (λ x y z h app. (
-        h.1.0,
-        λ bytes is. (
-          app.1 ∙ ap (λ piece. option_map (λ held. held ++ piece) (content to y)) (h.1.1 bytes is).0
+    (λ x y z h app. (
+      h.1.0,
+      λ bytes is. (
+        app.1 ∙ ap (λ piece. option_map (λ held. held ++ piece) (content to y)) (h.1.1 bytes is).0
             ∙ ap (λ fs. option_map (λ held. held ++ take n (drop at bytes)) (content to fs)) h.0,
-          λ zero. absurd (some zero),
-        ),
-      ))
-      (told_same (λ fs. ReadIs from at buffer fs (Ok n)) a b same told) does
+        λ zero. absurd (some zero),
+      ),
+    ))
+    (told_same (λ fs. ReadIs from at buffer fs (Ok n)) a b same told) does
 
 pub piece_unread : (from to buffer : List ℕ) (at : ℕ) (e : DeskError) (a b : Option Files) → b ≡ a
     → IfSome a (λ fs. ReadIs from at buffer fs (Err e)) → WhereTold a b (PieceDoes from to at (Err e))
 piece_unread from to buffer at e a b same told =
     told_map (λ x y. (y ≡ x) × ReadIs from at buffer x (Err e)) (PieceDoes from to at (Err e)) a b (by_error e)
-      (told_same (λ fs. ReadIs from at buffer fs (Err e)) a b same told)
+    (told_same (λ fs. ReadIs from at buffer fs (Err e)) a b same told)
   where
     by_error : (f : DeskError) (x y : Files) → ((y ≡ x) × ReadIs from at buffer x (Err f)) → PieceDoes from to at (Err f) x y
     by_error Failed x y h = tt
@@ -75,7 +75,7 @@ pub piece_unwritten : (from to piece : List ℕ) (at : ℕ) (e : DeskError) (a b
     → WhereTold b c (AppendDoes to piece (Err e)) → WhereTold a c (PieceDoes from to at (Err e))
 piece_unwritten from to piece at e a b c same does =
     subst (λ (x : Option Files). WhereTold x c (PieceDoes from to at (Err e))) same
-      (told_map (AppendDoes to piece (Err e)) (PieceDoes from to at (Err e)) b c (by_error e) does)
+    (told_map (AppendDoes to piece (Err e)) (PieceDoes from to at (Err e)) b c (by_error e) does)
   where
     by_error : (f : DeskError) (x y : Files) → AppendDoes to piece (Err f) x y → PieceDoes from to at (Err f) x y
     by_error Failed x y h = tt
@@ -105,13 +105,13 @@ create_refused from to e a b does = told_map (CreateDoes to (Err e)) (λ x y. fr
 pub copying_begins : (from to : List ℕ) (a b : Option Files) → WhereTold a b (CreateDoes to (Ok tt)) → WhereTold a b (Copying from to 0)
 copying_begins from to a b does =
     told_map (CreateDoes to (Ok tt)) (Copying from to 0) a b
-      (λ x y h. record { others = h.1; there = λ none. absurd (some_none [] (sym h.0 ∙ none)); front = λ d bytes is. h.0 }) does
+    (λ x y h. record { others = h.1; there = λ none. absurd (some_none [] (sym h.0 ∙ none)); front = λ d bytes is. h.0 }) does
 
 pub copying_goes_on : (from to : List ℕ) (at n : ℕ) (a b c : Option Files) → WhereTold a b (Copying from to at)
     → WhereTold b c (PieceDoes from to at (Ok n)) → WhereTold b c (OthersStay (λ other. other ≡ to)) → WhereTold a c (Copying from to (at + n))
 copying_goes_on from to at n a b c copying piece others =
     told_both (Copying from to at) (λ y z. PieceDoes from to at (Ok n) y z × OthersStay (λ other. other ≡ to) y z) (Copying from to (at + n)) a b c
-      step copying (told_and (PieceDoes from to at (Ok n)) (OthersStay (λ other. other ≡ to)) b c piece others)
+    step copying (told_and (PieceDoes from to at (Ok n)) (OthersStay (λ other. other ≡ to)) b c piece others)
   where
     step : (x y z : Files) → Copying from to at x y → (PieceDoes from to at (Ok n) y z × OthersStay (λ other. other ≡ to) y z) → Copying from to (at + n) x z
     step x y z so_far h =
@@ -122,16 +122,16 @@ copying_goes_on from to at n a b c copying piece others =
           others = λ other d. h.1 other d ∙ so_far.others other d;
           there = λ none. absurd (some_none (held.0 ++ take n (drop at source.0)) (sym longer ∙ none));
           front = λ d bytes is.
-            (h.0.1 bytes (so_far.others from d ∙ is)).0
-            ∙ ap (option_map (λ l. l ++ take n (drop at bytes))) (so_far.front d bytes is)
-            ∙ ap Some (sym (take-add at n bytes));
+              (h.0.1 bytes (so_far.others from d ∙ is)).0
+              ∙ ap (option_map (λ l. l ++ take n (drop at bytes))) (so_far.front d bytes is)
+              ∙ ap Some (sym (take-add at n bytes));
         }
 
 pub copy_others : (from to : List ℕ) (at : ℕ) (a b c : Option Files) → WhereTold a b (Copying from to at) → WhereTold b c (OthersStay (λ other. other ≡ to))
     → WhereTold a c (OthersStay (λ other. other ≡ to))
 copy_others from to at a b c copying others =
     told_both (Copying from to at) (OthersStay (λ other. other ≡ to)) (OthersStay (λ other. other ≡ to)) a b c
-      (λ x y z so_far h other d. h other d ∙ so_far.others other d) copying others
+    (λ x y z so_far h other d. h other d ∙ so_far.others other d) copying others
 
 pub copy_ends : (from to : List ℕ) (at : ℕ) (a b c : Option Files) → WhereTold a b (Copying from to at)
     → WhereTold b c (PieceDoes from to at (Ok 0)) → WhereTold a c (λ x y. from ≢ to → CopyDoes from to (Ok tt) x y)
@@ -143,8 +143,7 @@ copy_ends from to at a b c copying piece =
         let source = some_of (content from y) h.0 in
         let bytes = source.0 in
         let is : content from x ≡ Some bytes = sym (so_far.others from d) ∙ source.1 in
-        let whole : take at bytes ≡ bytes = take_all at bytes ((h.1 bytes source.1).1 refl) in
-        (
+        let whole : take at bytes ≡ bytes = take_all at bytes ((h.1 bytes source.1).1 refl) in (
           λ none. absurd (some_none bytes (sym is ∙ none)),
           (h.1 bytes source.1).0 ∙ map_nil (content to y) ∙ so_far.front d bytes is ∙ ap Some whole ∙ sym is,
         )

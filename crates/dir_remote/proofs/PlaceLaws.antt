@@ -100,9 +100,9 @@ lower_text base =
     let hex = encode_lower (md5 base) in
     let ascii : IsAscii hex = IsAscii-encode_with lower_digits (md5 base) lower_digits_ascii in
     IsUtf8-from_ascii (lower_of base)
-      (IsAscii-append (take 3 hex ++ codes "/") (take 3 (drop 3 hex))
-        (IsAscii-append (take 3 hex) (codes "/") (IsAscii-take hex 3 ascii) (IsAscii-cons 47 [] (omega arith) IsAscii-nil))
-        (IsAscii-take (drop 3 hex) 3 (IsAscii-drop hex 3 ascii)))
+    (IsAscii-append (take 3 hex ++ codes "/") (take 3 (drop 3 hex))
+    (IsAscii-append (take 3 hex) (codes "/") (IsAscii-take hex 3 ascii) (IsAscii-cons 47 [] (omega arith) IsAscii-nil))
+    (IsAscii-take (drop 3 hex) 3 (IsAscii-drop hex 3 ascii)))
 
 -- the base of a key that was read
 pub base_of : (key : KeyRef) → (base : List ℕ) × IsKey base (without_chunk (parts_of key))

@@ -98,15 +98,15 @@ pub store_idle : (directory key file : List ℕ) (counts : Counts) (a : Option F
     → Works is_of_transfer (StoreDoes directory key file) key counts counts a a outcome
 store_idle directory key file counts a outcome =
     unnamed is_of_transfer (StoreDoes directory key file) key counts a outcome refl refl
-      (λ x. record { this = λ name is. refl; other_keys = λ other name d is. refl; outside = λ other out. refl })
-      (λ x. record { this = λ name is. refl; other_keys = λ other name d is. refl; outside = λ other out. refl })
+    (λ x. record { this = λ name is. refl; other_keys = λ other name d is. refl; outside = λ other out. refl })
+    (λ x. record { this = λ name is. refl; other_keys = λ other name d is. refl; outside = λ other out. refl })
 
 pub retrieve_idle : (directory key file : List ℕ) (counts : Counts) (a : Option Files) (outcome : Outcome) → IsUnnamed key outcome
     → Works is_of_transfer (RetrieveDoes directory key file) key counts counts a a outcome
 retrieve_idle directory key file counts a outcome =
     unnamed is_of_transfer (RetrieveDoes directory key file) key counts a outcome refl refl
-      (λ x. record { this = λ out name is. tt; keys = λ out text name is. refl; others = λ other d. refl })
-      (λ x. record { this = λ out name is. tt; keys = λ out text name is. refl; others = λ other d. refl })
+    (λ x. record { this = λ out name is. tt; keys = λ out text name is. refl; others = λ other d. refl })
+    (λ x. record { this = λ out name is. tt; keys = λ out text name is. refl; others = λ other d. refl })
 
 pub check_idle : (directory key : List ℕ) (counts : Counts) (a : Option Files) (outcome : Outcome) → IsUnnamed key outcome
     → Works is_of_check (CheckDoes directory key) key counts counts a a outcome
@@ -117,8 +117,8 @@ pub remove_idle : (directory key : List ℕ) (counts : Counts) (a : Option Files
     → Works is_of_removal (RemovalDoes directory key) key counts counts a a outcome
 remove_idle directory key counts a outcome =
     unnamed is_of_removal (RemovalDoes directory key) key counts a outcome refl refl
-      (λ x. record { this = λ name is. refl; other_keys = λ other name d is. refl; outside = λ other out. refl })
-      (λ x. record { this = λ name is. refl; other_keys = λ other name d is. refl; outside = λ other out. refl })
+    (λ x. record { this = λ name is. refl; other_keys = λ other name d is. refl; outside = λ other out. refl })
+    (λ x. record { this = λ name is. refl; other_keys = λ other name d is. refl; outside = λ other out. refl })
 
 -- ---- the desk refused
 
@@ -135,13 +135,14 @@ pub store_uncopied : (directory key file temporary : List ℕ) (e : DeskError) (
     → WhereTold a b (StoreDoes directory key file (refusal_of e))
 store_uncopied directory key file temporary e a b place others copied =
     told_map (λ x y. OthersStay (λ other. other ≡ temporary) x y × (file ≢ temporary → CopyDoes file temporary (Err e) x y)) (StoreDoes directory key file (refusal_of e)) a b step
-      (told_and (OthersStay (λ other. other ≡ temporary)) (λ x y. file ≢ temporary → CopyDoes file temporary (Err e) x y) a b others copied)
+    (told_and (OthersStay (λ other. other ≡ temporary)) (λ x y. file ≢ temporary → CopyDoes file temporary (Err e) x y) a b others copied)
   where
     by_error : (f : DeskError) (name : List ℕ) (x y : Files) → content name y ≡ content name x → (IsOutside directory file → CopyDoes file temporary (Err f) x y)
         → StoredUnder directory file name (refusal_of f) x y
     by_error Failed name x y same h = same
     by_error Missing name x y same h = (same, h)
     by_error NoMemory name x y same h = same
+
     step : (x y : Files) → (OthersStay (λ other. other ≡ temporary) x y × (file ≢ temporary → CopyDoes file temporary (Err e) x y)) → StoreDoes directory key file (refusal_of e) x y
     step x y h = record {
       this = λ name is. by_error e name x y (h.0 name (λ same. temporary_name_differs directory key key name is (same ∙ place))) (λ outside. h.1 (λ same. temporary_name_inside directory key file outside (same ∙ place)));
@@ -158,19 +159,19 @@ pub store_done : (directory key file temporary place : List ℕ) (a b c : Option
     → WhereTold b c (RenameDoes temporary place (Ok tt)) → WhereTold a c (StoreDoes directory key file O.Done)
 store_done directory key file temporary place a b c at_temporary at_place others copied renamed =
     told_both (Copied file temporary) (RenameDoes temporary place (Ok tt)) (StoreDoes directory key file O.Done) a b c step
-      (told_and (OthersStay (λ other. other ≡ temporary)) (λ x y. file ≢ temporary → CopyDoes file temporary (Ok tt) x y) a b others copied) renamed
+    (told_and (OthersStay (λ other. other ≡ temporary)) (λ x y. file ≢ temporary → CopyDoes file temporary (Ok tt) x y) a b others copied) renamed
   where
     step : (x y z : Files) → Copied file temporary x y → RenameDoes temporary place (Ok tt) y z → StoreDoes directory key file O.Done x z
     step x y z h r = record {
       this = λ name is outside.
-        let made = h.1 (λ same. temporary_name_inside directory key file outside (same ∙ at_temporary)) in
-        (made.0, ap (λ n. content n z) (content_name_unique directory key name place is at_place) ∙ r.1 ∙ made.1);
+          let made = h.1 (λ same. temporary_name_inside directory key file outside (same ∙ at_temporary)) in
+          (made.0, ap (λ n. content n z) (content_name_unique directory key name place is at_place) ∙ r.1 ∙ made.1);
       other_keys = λ other name d is.
-        let away : name ≢ temporary = λ same. temporary_name_differs directory key other name is (same ∙ at_temporary) in
-        r.3 name away (content_names_differ directory key other name place d is at_place) ∙ h.0 name away;
+          let away : name ≢ temporary = λ same. temporary_name_differs directory key other name is (same ∙ at_temporary) in
+          r.3 name away (content_names_differ directory key other name place d is at_place) ∙ h.0 name away;
       outside = λ other out.
-        let away : other ≢ temporary = λ same. temporary_name_inside directory key other out (same ∙ at_temporary) in
-        r.3 other away (content_name_inside directory key other place out at_place) ∙ h.0 other away;
+          let away : other ≢ temporary = λ same. temporary_name_inside directory key other out (same ∙ at_temporary) in
+          r.3 other away (content_name_inside directory key other place out at_place) ∙ h.0 other away;
     }
 
 pub store_unnamed : (directory key file temporary place : List ℕ) (e : DeskError) (a b c : Option Files) → temporary ≡ temporary_name directory key
@@ -178,23 +179,25 @@ pub store_unnamed : (directory key file temporary place : List ℕ) (e : DeskErr
     → WhereTold b c (RenameDoes temporary place (Err e)) → WhereTold a c (StoreDoes directory key file (refusal_of e))
 store_unnamed directory key file temporary place e a b c at_temporary others copied renamed =
     told_both (Copied file temporary) (RenameDoes temporary place (Err e)) (StoreDoes directory key file (refusal_of e)) a b c step
-      (told_and (OthersStay (λ other. other ≡ temporary)) (λ x y. file ≢ temporary → CopyDoes file temporary (Ok tt) x y) a b others copied) renamed
+    (told_and (OthersStay (λ other. other ≡ temporary)) (λ x y. file ≢ temporary → CopyDoes file temporary (Ok tt) x y) a b others copied) renamed
   where
     all_stay : (f : DeskError) (y z : Files) → RenameDoes temporary place (Err f) y z → AllStay y z
     all_stay Failed y z r = r
     all_stay Missing y z r = r.1
     all_stay NoMemory y z r = r
+
     by_error : (f : DeskError) (name : List ℕ) (x y z : Files) → content name z ≡ content name x → (IsOutside directory file → CopyDoes file temporary (Ok tt) x y)
         → RenameDoes temporary place (Err f) y z → StoredUnder directory file name (refusal_of f) x z
     by_error Failed name x y z same h r = same
     by_error Missing name x y z same h r = (same, λ outside. absurd ((h outside).0 (sym (h outside).1 ∙ r.0)))
     by_error NoMemory name x y z same h r = same
+
     step : (x y z : Files) → Copied file temporary x y → RenameDoes temporary place (Err e) y z → StoreDoes directory key file (refusal_of e) x z
     step x y z h r =
         let stay = all_stay e y z r in
         record {
           this = λ name is.
-            by_error e name x y z (stay name ∙ h.0 name (λ same. temporary_name_differs directory key key name is (same ∙ at_temporary)))
+              by_error e name x y z (stay name ∙ h.0 name (λ same. temporary_name_differs directory key key name is (same ∙ at_temporary)))
               (λ outside. h.1 (λ same. temporary_name_inside directory key file outside (same ∙ at_temporary))) r;
           other_keys = λ other name d is. stay name ∙ h.0 name (λ same. temporary_name_differs directory key other name is (same ∙ at_temporary));
           outside = λ other out. stay other ∙ h.0 other (λ same. temporary_name_inside directory key other out (same ∙ at_temporary));
@@ -211,6 +214,7 @@ retrieve_unfound directory key file place e a b at_place same told =
     by_error Failed name x y n s h = tt
     by_error Missing name x y n s h = (ap (λ m. content m x) n ∙ h, λ other. ap (content other) s)
     by_error NoMemory name x y n s h = tt
+
     step : (x y : Files) → ((y ≡ x) × SizeIs place x (Err e)) → RetrieveDoes directory key file (refusal_of e) x y
     step x y h = record {
       this = λ out name is. by_error e name x y (content_name_unique directory key name place is at_place) h.0 h.1;
@@ -223,16 +227,16 @@ pub retrieve_done : (directory key file place : List ℕ) (a b c : Option Files)
     → WhereTold a c (RetrieveDoes directory key file O.Done)
 retrieve_done directory key file place a b c at_place same others copied =
     subst (λ (x : Option Files). WhereTold x c (RetrieveDoes directory key file O.Done)) same
-      (told_map (λ x y. OthersStay (λ other. other ≡ file) x y × (place ≢ file → CopyDoes place file (Ok tt) x y)) (RetrieveDoes directory key file O.Done) b c
-        (λ x y h. record {
-          this = λ out name is.
-            let n = content_name_unique directory key name place is at_place in
-            let made = h.1 (λ e. content_name_inside directory key file place out at_place (sym e)) in
-            (λ none. made.0 (sym (ap (λ m. content m x) n) ∙ none), made.1 ∙ sym (ap (λ m. content m x) n));
-          keys = λ out text name is. h.0 name (λ e. content_name_inside directory text file name out is (sym e));
-          others = h.0;
-        })
-        (told_and (OthersStay (λ other. other ≡ file)) (λ x y. place ≢ file → CopyDoes place file (Ok tt) x y) b c others copied))
+    (told_map (λ x y. OthersStay (λ other. other ≡ file) x y × (place ≢ file → CopyDoes place file (Ok tt) x y)) (RetrieveDoes directory key file O.Done) b c
+    (λ x y h. record {
+      this = λ out name is.
+          let n = content_name_unique directory key name place is at_place in
+          let made = h.1 (λ e. content_name_inside directory key file place out at_place (sym e)) in
+          (λ none. made.0 (sym (ap (λ m. content m x) n) ∙ none), made.1 ∙ sym (ap (λ m. content m x) n));
+      keys = λ out text name is. h.0 name (λ e. content_name_inside directory text file name out is (sym e));
+      others = h.0;
+    })
+    (told_and (OthersStay (λ other. other ≡ file)) (λ x y. place ≢ file → CopyDoes place file (Ok tt) x y) b c others copied))
 
 pub retrieve_uncopied : (directory key file place : List ℕ) (n : ℕ) (e : DeskError) (a b c : Option Files) → IsContentName directory key place → b ≡ a
     → IfSome a (λ fs. SizeIs place fs (Ok n))
@@ -240,13 +244,14 @@ pub retrieve_uncopied : (directory key file place : List ℕ) (n : ℕ) (e : Des
     → WhereTold a c (RetrieveDoes directory key file (refusal_of e))
 retrieve_uncopied directory key file place n e a b c at_place same told others copied =
     told_both (λ x y. (y ≡ x) × SizeIs place x (Ok n)) (λ x y. OthersStay (λ other. other ≡ file) x y × (place ≢ file → CopyDoes place file (Err e) x y)) (RetrieveDoes directory key file (refusal_of e)) a b c step
-      (told_same (λ fs. SizeIs place fs (Ok n)) a b same told)
-      (told_and (OthersStay (λ other. other ≡ file)) (λ x y. place ≢ file → CopyDoes place file (Err e) x y) b c others copied)
+    (told_same (λ fs. SizeIs place fs (Ok n)) a b same told)
+    (told_and (OthersStay (λ other. other ≡ file)) (λ x y. place ≢ file → CopyDoes place file (Err e) x y) b c others copied)
   where
     by_error : (f : DeskError) (name : List ℕ) (x z : Files) → content place x ≢ None → CopyDoes place file (Err f) x z → RetrievedTo file name (refusal_of f) x z
     by_error Failed name x z there h = tt
     by_error Missing name x z there h = absurd (there h)
     by_error NoMemory name x z there h = tt
+
     step : (x y z : Files) → ((y ≡ x) × SizeIs place x (Ok n)) → (OthersStay (λ other. other ≡ file) y z × (place ≢ file → CopyDoes place file (Err e) y z)) → RetrieveDoes directory key file (refusal_of e) x z
     step x y z s h =
         let P : Files → Type 0 = λ f. OthersStay (λ other. other ≡ file) f z × (place ≢ file → CopyDoes place file (Err e) f z) in
@@ -263,15 +268,15 @@ pub check_found : (directory key place : List ℕ) (n : ℕ) (a b : Option Files
     → IfSome a (λ fs. SizeIs place fs (Ok n)) → WhereTold a b (CheckDoes directory key O.Done)
 check_found directory key place n a b at_place same told =
     told_map (λ x y. (y ≡ x) × SizeIs place x (Ok n)) (CheckDoes directory key O.Done) a b
-      (λ x y h. record { this = λ name is none. h.1.0 (sym (ap (λ m. content m x) (content_name_unique directory key name place is at_place)) ∙ none); all = λ other. ap (content other) h.0 })
-      (told_same (λ fs. SizeIs place fs (Ok n)) a b same told)
+    (λ x y h. record { this = λ name is none. h.1.0 (sym (ap (λ m. content m x) (content_name_unique directory key name place is at_place)) ∙ none); all = λ other. ap (content other) h.0 })
+    (told_same (λ fs. SizeIs place fs (Ok n)) a b same told)
 
 pub check_missing : (directory key place : List ℕ) (a b : Option Files) → IsContentName directory key place → b ≡ a
     → IfSome a (λ fs. SizeIs place fs (Err Missing)) → WhereTold a b (CheckDoes directory key O.NotThere)
 check_missing directory key place a b at_place same told =
     told_map (λ x y. (y ≡ x) × SizeIs place x (Err Missing)) (CheckDoes directory key O.NotThere) a b
-      (λ x y h. record { this = λ name is. ap (λ m. content m x) (content_name_unique directory key name place is at_place) ∙ h.1; all = λ other. ap (content other) h.0 })
-      (told_same (λ fs. SizeIs place fs (Err Missing)) a b same told)
+    (λ x y h. record { this = λ name is. ap (λ m. content m x) (content_name_unique directory key name place is at_place) ∙ h.1; all = λ other. ap (content other) h.0 })
+    (told_same (λ fs. SizeIs place fs (Err Missing)) a b same told)
 
 pub check_failed : (directory key : List ℕ) (a b : Option Files) → b ≡ a → WhereTold a b (CheckDoes directory key O.DiskFailed)
 check_failed directory key a b same = rw same (told_refl (CheckDoes directory key O.DiskFailed) a (λ x. record { this = λ name is. tt; all = λ other. refl }))
@@ -285,28 +290,28 @@ pub remove_done : (directory key place : List ℕ) (a b : Option Files) → IsCo
     → WhereTold a b (RemovalDoes directory key O.Done)
 remove_done directory key place a b at_place does =
     told_map (RemoveDoes place (Ok tt)) (RemovalDoes directory key O.Done) a b
-      (λ x y h. record {
-        this = λ name is. ap (λ m. content m y) (content_name_unique directory key name place is at_place) ∙ h.1;
-        other_keys = λ other name d is. h.2 name (content_names_differ directory key other name place d is at_place);
-        outside = λ other out. h.2 other (content_name_inside directory key other place out at_place);
-      }) does
+    (λ x y h. record {
+      this = λ name is. ap (λ m. content m y) (content_name_unique directory key name place is at_place) ∙ h.1;
+      other_keys = λ other name d is. h.2 name (content_names_differ directory key other name place d is at_place);
+      outside = λ other out. h.2 other (content_name_inside directory key other place out at_place);
+    }) does
 
 pub remove_missing : (directory key place : List ℕ) (a b : Option Files) → IsContentName directory key place → WhereTold a b (RemoveDoes place (Err Missing))
     → WhereTold a b (RemovalDoes directory key O.Done)
 remove_missing directory key place a b at_place does =
     told_map (RemoveDoes place (Err Missing)) (RemovalDoes directory key O.Done) a b
-      (λ x y h. record {
-        this = λ name is. ap (λ m. content m y) (content_name_unique directory key name place is at_place) ∙ h.1 place ∙ h.0;
-        other_keys = λ other name d is. h.1 name;
-        outside = λ other out. h.1 other;
-      }) does
+    (λ x y h. record {
+      this = λ name is. ap (λ m. content m y) (content_name_unique directory key name place is at_place) ∙ h.1 place ∙ h.0;
+      other_keys = λ other name d is. h.1 name;
+      outside = λ other out. h.1 other;
+    }) does
 
 pub remove_failed : (directory key place : List ℕ) (a b : Option Files) → WhereTold a b (RemoveDoes place (Err Failed)) → WhereTold a b (RemovalDoes directory key O.DiskFailed)
 remove_failed directory key place a b does =
     told_map (RemoveDoes place (Err Failed)) (RemovalDoes directory key O.DiskFailed) a b
-      (λ x y h. record { this = λ name is. h name; other_keys = λ other name q is. h name; outside = λ other out. h other }) does
+    (λ x y h. record { this = λ name is. h name; other_keys = λ other name q is. h name; outside = λ other out. h other }) does
 
 pub remove_without_memory : (directory key place : List ℕ) (a b : Option Files) → WhereTold a b (RemoveDoes place (Err NoMemory)) → WhereTold a b (RemovalDoes directory key O.NoMemory)
 remove_without_memory directory key place a b does =
     told_map (RemoveDoes place (Err NoMemory)) (RemovalDoes directory key O.NoMemory) a b
-      (λ x y h. record { this = λ name is. h name; other_keys = λ other name q is. h name; outside = λ other out. h other }) does
+    (λ x y h. record { this = λ name is. h name; other_keys = λ other name q is. h name; outside = λ other out. h other }) does

@@ -121,7 +121,13 @@ impl<D: Desk> Remote for DirRemote<D> {
         ensures directory { self.new.directory ≡ self.old.directory }
     {
         let outcome = match &self.directory {
-            Some(directory) => works::store(self.alloc, &mut self.desk, directory.view(), key, file),
+            Some(directory) => works::store(
+                self.alloc,
+                &mut self.desk,
+                directory.view(),
+                key,
+                file,
+            ),
             None => Outcome::NotPrepared,
         };
         say(self.alloc, outcome)
@@ -138,7 +144,13 @@ impl<D: Desk> Remote for DirRemote<D> {
         ensures directory { self.new.directory ≡ self.old.directory }
     {
         let outcome = match &self.directory {
-            Some(directory) => works::retrieve(self.alloc, &mut self.desk, directory.view(), key, file),
+            Some(directory) => works::retrieve(
+                self.alloc,
+                &mut self.desk,
+                directory.view(),
+                key,
+                file,
+            ),
             None => Outcome::NotPrepared,
         };
         say(self.alloc, outcome)

@@ -63,12 +63,7 @@ pub fn retrieve<D: Desk>(
 }
 
 // Whether there is a content.
-pub fn check<D: Desk>(
-    alloc: Global,
-    desk: &mut D,
-    directory: &str,
-    key: KeyRef<'_>,
-) -> Outcome
+pub fn check<D: Desk>(alloc: Global, desk: &mut D, directory: &str, key: KeyRef<'_>) -> Outcome
     ensures { Works is_of_check (CheckDoes directory.now (text_of key.entry)) (text_of key.entry) (D.counts desk.old) (D.counts desk.new) (D.files desk.old) (D.files desk.new) result }
 {
     let content = match content_place(alloc, directory, key) {
@@ -85,12 +80,7 @@ pub fn check<D: Desk>(
 }
 
 // Takes the content away, where there is one.
-pub fn remove<D: Desk>(
-    alloc: Global,
-    desk: &mut D,
-    directory: &str,
-    key: KeyRef<'_>,
-) -> Outcome
+pub fn remove<D: Desk>(alloc: Global, desk: &mut D, directory: &str, key: KeyRef<'_>) -> Outcome
     ensures { Works is_of_removal (RemoveDoes directory.now (text_of key.entry)) (text_of key.entry) (D.counts desk.old) (D.counts desk.new) (D.files desk.old) (D.files desk.new) result }
 {
     let content = match content_place(alloc, directory, key) {

@@ -33,7 +33,7 @@ pub returns-in-Ok-eq0-clause-copied : goal.returns-in-Ok-eq0-clause-copied
 returns-in-Ok-eq0-clause-copied g c =
     let P : ℕ → Type 0 = λ n. WhereTold (g.D.Desk.files c.loop-buffer.desk) (g.D.Desk.files c.copy_piece.new.desk) (PieceDoes c.args.from.now c.args.to.now c.loop-buffer.at (Ok n)) in
     copy_ends c.args.from.now c.args.to.now c.loop-buffer.at (g.D.Desk.files c.args.desk.now) (g.D.Desk.files c.loop-buffer.desk) (g.D.Desk.files c.copy_piece.new.desk) c.loop-buffer.invariant.copying
-      (subst P c.in-Ok-eq0.field-0-test c.in-Ok-eq0.ensures.piece)
+    (subst P c.in-Ok-eq0.field-0-test c.in-Ok-eq0.ensures.piece)
 
 pub loop-buffer-preserved : goal.loop-buffer-preserved
 loop-buffer-preserved g c =

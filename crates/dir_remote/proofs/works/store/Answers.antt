@@ -17,14 +17,14 @@ returns-in-Err-temporary_place g c =
 pub returns-in-Err-copy : goal.returns-in-Err-copy
 returns-in-Err-copy g c =
     let W : Outcome → Type 0 = λ o. Works is_of_transfer (StoreDoes c.args.directory.now (text_of c.args.key) c.args.file.now) (text_of c.args.key)
-        (g.D.Desk.counts c.args.desk.now) (g.D.Desk.counts c.copy.new.desk) (g.D.Desk.files c.args.desk.now) (g.D.Desk.files c.copy.new.desk) o in
+    (g.D.Desk.counts c.args.desk.now) (g.D.Desk.counts c.copy.new.desk) (g.D.Desk.files c.args.desk.now) (g.D.Desk.files c.copy.new.desk) o in
     subst W (sym c.refusal.ensures)
-      (transfer_refused (StoreDoes c.args.directory.now (text_of c.args.key) c.args.file.now) (text_of c.args.key)
-        (g.D.Desk.counts c.args.desk.now) (g.D.Desk.counts c.copy.new.desk) (g.D.Desk.files c.args.desk.now) (g.D.Desk.files c.copy.new.desk) c.in-Err-copy.error
-        c.in-Ok.ensures.1
-        (causes_refused {T = Unit {0}} (g.D.Desk.counts c.args.desk.now) (g.D.Desk.counts c.copy.new.desk) c.in-Err-copy.error c.in-Err-copy.ensures.causes)
-        (store_uncopied c.args.directory.now (text_of c.args.key) c.args.file.now c.view-beside.result.now c.in-Err-copy.error (g.D.Desk.files c.args.desk.now) (g.D.Desk.files c.copy.new.desk)
-          (c.view-beside.ensures ∙ c.in-Ok-temporary_place.ensures) c.in-Err-copy.ensures.others c.in-Err-copy.ensures.copied))
+    (transfer_refused (StoreDoes c.args.directory.now (text_of c.args.key) c.args.file.now) (text_of c.args.key)
+    (g.D.Desk.counts c.args.desk.now) (g.D.Desk.counts c.copy.new.desk) (g.D.Desk.files c.args.desk.now) (g.D.Desk.files c.copy.new.desk) c.in-Err-copy.error
+    c.in-Ok.ensures.1
+    (causes_refused {T = Unit {0}} (g.D.Desk.counts c.args.desk.now) (g.D.Desk.counts c.copy.new.desk) c.in-Err-copy.error c.in-Err-copy.ensures.causes)
+    (store_uncopied c.args.directory.now (text_of c.args.key) c.args.file.now c.view-beside.result.now c.in-Err-copy.error (g.D.Desk.files c.args.desk.now) (g.D.Desk.files c.copy.new.desk)
+    (c.view-beside.ensures ∙ c.in-Ok-temporary_place.ensures) c.in-Err-copy.ensures.others c.in-Err-copy.ensures.copied))
 
 pub returns-in-Ok-rename : goal.returns-in-Ok-rename
 returns-in-Ok-rename g c =
@@ -42,11 +42,11 @@ pub returns : goal.returns
 returns g c =
     let P : List ℕ → Type 0 = λ l. IsContentName c.args.directory.now (text_of c.args.key) l in
     let W : Outcome → Type 0 = λ o. Works is_of_transfer (StoreDoes c.args.directory.now (text_of c.args.key) c.args.file.now) (text_of c.args.key)
-        (g.D.Desk.counts c.args.desk.now) (g.D.Desk.counts c.rename.new.self) (g.D.Desk.files c.args.desk.now) (g.D.Desk.files c.rename.new.self) o in
+    (g.D.Desk.counts c.args.desk.now) (g.D.Desk.counts c.rename.new.self) (g.D.Desk.files c.args.desk.now) (g.D.Desk.files c.rename.new.self) o in
     subst W (sym c.refusal-in-Err-rename.ensures)
-      (transfer_refused (StoreDoes c.args.directory.now (text_of c.args.key) c.args.file.now) (text_of c.args.key)
-        (g.D.Desk.counts c.args.desk.now) (g.D.Desk.counts c.rename.new.self) (g.D.Desk.files c.args.desk.now) (g.D.Desk.files c.rename.new.self) c.in-Err-rename.error
-        c.in-Ok.ensures.1
-        (causes_behind {T = Unit {0}} (g.D.Desk.counts c.args.desk.now) (g.D.Desk.counts c.copy.new.desk) (g.D.Desk.counts c.rename.new.self) c.in-Err-rename.error c.in_default.ensures.causes.done c.in-Err-rename.ensures.causes)
-        (store_unnamed c.args.directory.now (text_of c.args.key) c.args.file.now c.view-beside.result.now c.view-place.result.now c.in-Err-rename.error (g.D.Desk.files c.args.desk.now) (g.D.Desk.files c.copy.new.desk) (g.D.Desk.files c.rename.new.self)
-          (c.view-beside.ensures ∙ c.in-Ok-temporary_place.ensures) c.in_default.ensures.others c.in_default.ensures.copied c.in-Err-rename.ensures.files))
+    (transfer_refused (StoreDoes c.args.directory.now (text_of c.args.key) c.args.file.now) (text_of c.args.key)
+    (g.D.Desk.counts c.args.desk.now) (g.D.Desk.counts c.rename.new.self) (g.D.Desk.files c.args.desk.now) (g.D.Desk.files c.rename.new.self) c.in-Err-rename.error
+    c.in-Ok.ensures.1
+    (causes_behind {T = Unit {0}} (g.D.Desk.counts c.args.desk.now) (g.D.Desk.counts c.copy.new.desk) (g.D.Desk.counts c.rename.new.self) c.in-Err-rename.error c.in_default.ensures.causes.done c.in-Err-rename.ensures.causes)
+    (store_unnamed c.args.directory.now (text_of c.args.key) c.args.file.now c.view-beside.result.now c.view-place.result.now c.in-Err-rename.error (g.D.Desk.files c.args.desk.now) (g.D.Desk.files c.copy.new.desk) (g.D.Desk.files c.rename.new.self)
+    (c.view-beside.ensures ∙ c.in-Ok-temporary_place.ensures) c.in_default.ensures.others c.in_default.ensures.copied c.in-Err-rename.ensures.files))
