@@ -1,8 +1,8 @@
 -- Texts of lines, and how much of one was written.
-use Rattle.std.proofs.Common.{◌≡◌, ℕ, ◌+◌, ◌-◌, ◌<◌, ◌≤◌, List, [], ◌∷◌, ◌++◌, length, take, drop, get_or, Option, Some, None, refl, sym, ap, ◌∙◌, subst, arith, append_assoc, ⊎_elim}
+use Rattle.std.proofs.Common.{◌≡◌, ℕ, ◌+◌, ◌<◌, ◌≤◌, List, [], ◌∷◌, ◌++◌, length, take, drop, get_or, Option, refl, sym, ap, ◌∙◌, subst, arith, append_assoc, ⊎_elim}
 use Rattle.std.proofs.Math.Seq.{take-append-add, take-append_seam, take-length}
 use Rattle.std.proofs.lemmas.Bool.{cases_lt}
-use Rattle.std.proofs.lemmas.List.{take-append-le, take_all, take_more, take-append-drop, append-nil}
+use Rattle.std.proofs.lemmas.List.{take-append-le, take_all, take_more, take-append-drop}
 use Rattle.std.specs.Io.KnownBytes.{Appends}
 use Rattle.ann_outside.proofs.Telling.{appends_both}
 use Rattle.annex_model.specs.Lines.{text}
@@ -21,9 +21,11 @@ front_of_longer n xs ys =
 pub prefix_more : (a b c : Option (List ℕ)) (xs ys zs : List ℕ) → Appends a b xs
     → ((n : ℕ) × Appends b c (take n ys)) → (m : ℕ) × Appends a c (take m (xs ++ (ys ++ zs)))
 prefix_more a b c xs ys zs p q =
-    let front = front_of_longer q.0 ys zs in
-    (length xs + front.0, subst (λ (l : List ℕ). Appends a c l)
-    (sym (take-append-add xs (ys ++ zs) front.0 ∙ ap (λ (l : List ℕ). xs ++ l) front.1)) (appends_both a b c xs (take q.0 ys) p q.1))
+    let front = front_of_longer q.0 ys zs in (
+      length xs + front.0,
+      subst (λ (l : List ℕ). Appends a c l)
+          (sym (take-append-add xs (ys ++ zs) front.0 ∙ ap (λ (l : List ℕ). xs ++ l) front.1)) (appends_both a b c xs (take q.0 ys) p q.1),
+    )
 
 -- the first bytes are first bytes of more
 pub prefix_longer : (a c : Option (List ℕ)) (ys zs : List ℕ) → ((n : ℕ) × Appends a c (take n ys)) → (m : ℕ) × Appends a c (take m (ys ++ zs))

@@ -1,25 +1,26 @@
 -- One turn more of a host that is served, and the end.
-use Rattle.std.proofs.Common.{◌≡◌, ℕ, ◌+◌, ◌<◌, ◌≤◌, ◌==◌, nat_le, min, suc, cond, Bool, true, false, not, ◌||◌, ◌&&◌, List, [], ◌∷◌, ◌++◌, length, map, take, codes, Option, Some, None, option_map, Result, Ok, Err, IfOk, OnOk, IfErr, IsTrue, refl, sym, ap, ◌∙◌, subst, inl, inr, ⊎_elim, ◌⊎◌, arith, append_assoc, length-take}
+use Rattle.std.proofs.Common.{◌≡◌, ℕ, ◌+◌, ◌<◌, ◌≤◌, ◌==◌, suc, cond, Bool, true, false, not, ◌||◌, ◌&&◌, List, [], ◌∷◌, ◌++◌, length, map, take, codes, Option, Some, None, option_map, Result, Ok, Err, OnOk, IfErr, IsTrue, refl, sym, ap, ◌∙◌, subst, inl, inr, ⊎_elim, ◌⊎◌, arith, append_assoc, length-take}
 use Rattle.std.specs.Io.KnownBytes.{Appends}
-use Rattle.std.specs.List.{list_all, list_any, position_or_len}
+use Rattle.std.specs.List.{list_all, position_or_len}
 use Rattle.std.proofs.lemmas.Bool.{cases_lt}
 use Rattle.std.proofs.lemmas.Bool.Decides.{nat_tests}
 use Rattle.std.proofs.lemmas.List.{map-append, append-nil, take_all}
 use Rattle.std.proofs.Math.Seq.{take-append-add}
 use Rattle.std.proofs.lemmas.List.Folds.{list_all-append, list_any-append}
+use Rattle.ann_outside.specs.Causes.{Rose}
 use Rattle.ann_outside.proofs.Telling.{appends_both}
-use Rattle.annex_model.specs.Lines.{text, has_newline, Cut}
+use Rattle.annex_model.specs.Lines.{text, has_newline}
 use Rattle.annex_model.specs.Messages.{HostMessage, host_reading}
 use Rattle.wire_line.specs.Held.{has_line, first_line, TakesLine}
 use Rattle.wire_line.proofs.Firsts.{end_of, end_of-le-length, ends_within, has_line_at}
 use Rattle.kit_core.specs.declared.call.Call.{Call}
-use Rattle.kit_core.specs.Kits.{Heard, messages, calls_of, lines_said, lines_to, is_over, IsStep, with_call, IsAskedBy, due_of}
-use Rattle.kit_core.specs.Stages.{KitValue, Follows, Steps, Stops, is_last}
+use Rattle.kit_core.specs.Kits.{Heard, messages, calls_of, lines_said, lines_to, with_call, IsAskedBy, due_of}
+use Rattle.kit_core.specs.Stages.{KitValue, Follows, Steps, is_last}
 use Rattle.kit_core.proofs.Behind.{lines_behind-push, calls_of-push, IsServedBehind-push}
 use Rattle.kit_core.proofs.Following.{last_over}
 use Rattle.kit_serve.specs.declared.end.End.{End}
 use Rattle.kit_serve.specs.declared.end.End.TheVariants.{Eof, Bad, ReadFault, WriteFault, Memory}
-use Rattle.kit_serve.specs.Sessions.{Told, Gains, IsHeard, is_short, said_to, Going, Ended, EndsKit, IsLive, IsBadNext, as_list, MayBeLast, IsLastCall, IsEnd, IsWritten, AreMade, next_line}
+use Rattle.kit_serve.specs.Sessions.{Told, Gains, IsHeard, is_short, said_to, Going, Ended, EndsKit, IsLive, as_list, MayBeLast, IsEnd, IsWritten, AreMade, next_line}
 use Rattle.kit_serve.specs.Turns.{ReadsOn, Speaks, Falters, Lacks, Passes, Hears}
 use Rattle.kit_serve.proofs.Texts.{text-append}
 
@@ -379,3 +380,72 @@ read_ends settings_of calls given given' taken kit held held' (Err Memory) r kep
     (λ out. refl) (λ h. (None, sym (append-nil (calls_of h)), tt)) (λ h f. live_followed settings kit h f live)
 read_ends settings_of calls given given' taken kit held held' (Err Bad) r kept none live not_bad not_write = absurd (not_bad refl)
 read_ends settings_of calls given given' taken kit held held' (Err WriteFault) r kept none live not_bad not_write = absurd (not_write refl)
+
+-- ---- the whole
+
+-- no more turns are taken
+pub going_stops : {R : Type 0} (settings_of : R → List (List ℕ)) (calls : R → Option (List Call)) (given taken : Option (List ℕ)) (kit : KitValue R) (held : List ℕ)
+    → is_last kit.stage ≡ false → (settings : List (List ℕ)) (begun : Told) → Going settings_of calls settings begun given taken kit held
+    → Ended settings begun (record { given = given; taken = taken; calls = calls kit.remote }) Memory
+going_stops settings_of calls given taken kit held live settings begun g =
+    ended_now settings_of calls settings begun given taken taken kit kit.remote held Memory g refl refl
+    (λ out. refl) (λ h. (None, sym (append-nil (calls_of h)), tt)) (λ h f. live_followed settings kit h f live)
+
+appends_nothing : (told : Option (List ℕ)) → Appends told told []
+appends_nothing None = tt
+appends_nothing (Some xs) = sym (append-nil xs)
+
+calls_nothing : (told : Option (List Call)) → told ≡ option_map (λ calls. calls ++ []) told
+calls_nothing None = refl
+calls_nothing (Some calls) = ap Some (sym (append-nil calls))
+
+-- only the version was said, and nothing was read
+pub going_begins : {R : Type 0} (settings_of : R → List (List ℕ)) (calls : R → Option (List Call)) (given taken taken' : Option (List ℕ)) (kit : KitValue R) (held : List ℕ)
+    → held ≡ [] → Appends taken taken' (codes "VERSION 1" ++ 10 ∷ []) → (taken ≡ None → taken' ≡ None) → Follows (settings_of kit.remote) kit []
+    → Going settings_of calls (settings_of kit.remote) (record { given = given; taken = taken; calls = calls kit.remote }) given taken' kit held
+going_begins settings_of calls given taken taken' kit held empty took silent follows = record {
+  bytes = [];
+  lines = [];
+  h = [];
+  gains = record {
+    gave = appends_nothing given;
+    gave_silent = λ untold. untold;
+    took = took;
+    took_silent = silent;
+    called = calls_nothing (calls kit.remote);
+  };
+  heard = record { cut = record { whole = sym empty; apart = refl }; short = refl; read = refl; served = tt };
+  follows = follows;
+  same = refl;
+}
+
+-- not all of the version was written
+pub unsaid_ends : {R : Type 0} (calls : R → Option (List Call)) (settings : List (List ℕ)) (given taken taken' : Option (List ℕ)) (r : R)
+    → ((n : ℕ) × Appends taken taken' (take n (codes "VERSION 1" ++ 10 ∷ []))) → (taken ≡ None → taken' ≡ None)
+    → Ended settings (record { given = given; taken = taken; calls = calls r }) (record { given = given; taken = taken'; calls = calls r }) WriteFault
+unsaid_ends calls settings given taken taken' r took silent = record {
+  bytes = [];
+  lines = [];
+  rest = [];
+  h = [];
+  out = take took.0 (codes "VERSION 1" ++ 10 ∷ []);
+  made = [];
+  gains = record {
+    gave = appends_nothing given;
+    gave_silent = λ untold. untold;
+    took = took.1;
+    took_silent = silent;
+    called = calls_nothing (calls r);
+  };
+  heard = record { cut = record { whole = refl; apart = refl }; short = refl; read = refl; served = tt };
+  written = (took.0, refl);
+  calls = refl;
+  ends = inl refl;
+}
+
+pub rose_later : (a b c : ℕ) → a ≤ b → Rose b c → Rose a c
+rose_later a b c h r = omega arith
+
+-- a kit that has heard nothing isn't over
+pub begins_live : {R : Type 0} (kit : KitValue R) → ((settings : List (List ℕ)) → Follows settings kit []) → is_last kit.stage ≡ false
+begins_live kit follows = ap is_last (follows []).stage

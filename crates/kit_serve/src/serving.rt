@@ -8,9 +8,9 @@ ghost use Rattle.kit_serve.specs.Sessions.{Told, Going, Ended, Serves};
 ghost use Rattle.kit_serve.specs.Turns.{Hears, ReadsOn};
 
 use crate::end::End;
-use crate::writing::write_lines;
+use crate::writing::{write_lines, write_version};
 use ann_key::NoMemory;
-use ann_outside::{Failed, Sink, Source, write_all};
+use ann_outside::{Failed, Sink, Source};
 use kit_core::{Kit, Remote};
 use std::alloc::Global;
 use wire_line::{Next, Splitter};
@@ -169,14 +169,13 @@ fn talk<R: Remote, S: Source, W: Sink>(
     ensures numbers { (S.number source.new ≡ S.number source.old) × (W.number sink.new ≡ W.number sink.old) }
     ensures settings { R.settings kit.new.remote ≡ R.settings kit.old.remote }
 {
-    if write_all(sink, b"VERSION 1\n").is_err() {
-        return End::WriteFault;
+    match write_version(sink) {
+        Ok(()) => {
+            let mut splitter = Splitter::new(alloc, LONGEST_LINE);
+            converse(kit, &mut splitter, source, sink)
+        }
+        Err(Failed) => End::WriteFault,
     }
-    if sink.flush().is_err() {
-        return End::WriteFault;
-    }
-    let mut splitter = Splitter::new(alloc, LONGEST_LINE);
-    converse(kit, &mut splitter, source, sink)
 }
 
 /// Serves the remote to the host behind the source and the sink until one of them ends it, and hands the remote back.
