@@ -23,6 +23,7 @@ pub const LONGEST_LINE: usize = 131_072;
 pub const READ_SIZE: usize = 4096;
 
 /// How a remote was served, and the remote.
+#[derive(Drop)]
 pub struct Served<R> {
     /// The exit status of a program that did nothing else: 0 where the host's lines came to an end; 1 where a line of it spells no
     /// message, is longer than 131,072 bytes, or has no place where it stands; 4 and 5 where reading or writing failed; 7
