@@ -1,9 +1,9 @@
 -- How a copy goes, piece by piece.
-use Rattle.std.proofs.Common.{◌≡◌, ◌≢◌, ◌∙◌, ℕ, ◌+◌, ◌≤◌, ◌<◌, List, [], ◌++◌, length, take, drop, refl, sym, ap, subst, append-nil, arith}
+use Rattle.std.proofs.Common.{◌≡◌, ◌≢◌, ◌∙◌, ℕ, ◌+◌, ◌<◌, List, [], ◌++◌, length, take, drop, refl, sym, ap, subst, append-nil}
 use Rattle.std.specs.Prelude.{Option, Some, None, IfSome, option_map, Result, Ok, Err}
 use Rattle.std.proofs.Math.Seq.{take-add}
 use Rattle.std.proofs.lemmas.List.{take_all}
-use Rattle.ann_outside.specs.Files.{Files, content, WhereTold, OthersStay, AllStay, ReadIs, CreateDoes, AppendDoes}
+use Rattle.ann_outside.specs.Files.{Files, content, WhereTold, OthersStay, ReadIs, CreateDoes, AppendDoes}
 use Rattle.ann_outside.specs.declared.file_desk.DeskError.{DeskError}
 use Rattle.ann_outside.specs.declared.file_desk.DeskError.TheVariants.{Failed, Missing, NoMemory}
 use Rattle.dir_remote.specs.Copies.{PieceDoes, Copying, CopyDoes}

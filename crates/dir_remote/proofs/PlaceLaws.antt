@@ -10,13 +10,13 @@ use Rattle.std.proofs.lemmas.Str.Ascii.{IsAscii-cons, IsAscii-nil}
 use Rattle.hex.specs.Hex.{encode_lower, lower_digits}
 use Rattle.hex.proofs.HexLemmas.{IsAscii-encode_with}
 use Rattle.md5.specs.Md5.{md5}
-use Rattle.ann_key.specs.Keys.{Parts, IsKey, key_reading, without_chunk}
+use Rattle.ann_key.specs.Keys.{Parts, IsKey, without_chunk}
 use Rattle.ann_key.specs.FileNames.{file_name_of}
 use Rattle.ann_key.specs.KeyRefs.{parts_of}
 use Rattle.ann_key.specs.declared.key.KeyRef.{KeyRef}
 use Rattle.ann_key.proofs.Spelling.{spelled_of_read}
 use Rattle.ann_key.proofs.Unique.{spelling_unique}
-use Rattle.ann_digest.specs.Directories.{lower_of, lower_under}
+use Rattle.ann_digest.specs.Directories.{lower_of}
 use Rattle.dir_remote.specs.Contents.{IsContentName, IsOutside, place_of, temporary_name}
 use Rattle.dir_remote.proofs.FileNameLaws.{is_slash, file_name_clean, file_name_tells}
 

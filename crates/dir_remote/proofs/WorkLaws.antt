@@ -1,15 +1,14 @@
 -- What the work of a call does to the contents of the keys.
-use Rattle.std.proofs.Common.{◌≡◌, ◌≢◌, ◌∙◌, ℕ, ◌≤◌, List, refl, sym, ap, subst, arith}
+use Rattle.std.proofs.Common.{◌≡◌, ◌≢◌, ◌∙◌, ℕ, List, refl, sym, ap, subst, arith}
 use Rattle.std.specs.Str.{IsUtf8}
 use Rattle.ann_key.specs.FileNames.{file_name_of}
-use Rattle.std.specs.Prelude.{Bool, IsTrue, Option, Some, None, IfSome, Result, Ok, Err}
-use Rattle.ann_outside.specs.Causes.{Rose}
+use Rattle.std.specs.Prelude.{Bool, IsTrue, Option, None, IfSome, Result, Ok, Err}
 use Rattle.ann_outside.specs.DeskCauses.{Counts, HasCauses}
 use Rattle.ann_outside.specs.Files.{Files, content, WhereTold, OthersStay, AllStay, SizeIs, RenameDoes, RemoveDoes}
 use Rattle.ann_outside.specs.declared.file_desk.DeskError.{DeskError}
 use Rattle.ann_outside.specs.declared.file_desk.DeskError.TheVariants.{Failed, Missing, NoMemory}
-use Rattle.dir_remote.specs.Answers.{Works, StoreDoes, StoredUnder, RetrieveDoes, RetrievedTo, CheckDoes, FoundUnder, RemoveDoes as RemovalDoes, RemovedUnder, is_of_transfer, is_of_check, is_of_removal}
-use Rattle.dir_remote.specs.Contents.{IsContentName, IsOutside, OtherKeysStay, KeysStay, OutsideStays, temporary_name}
+use Rattle.dir_remote.specs.Answers.{Works, StoreDoes, StoredUnder, RetrieveDoes, RetrievedTo, CheckDoes, RemoveDoes as RemovalDoes, is_of_transfer, is_of_check, is_of_removal}
+use Rattle.dir_remote.specs.Contents.{IsContentName, IsOutside, temporary_name}
 use Rattle.dir_remote.specs.Copies.{CopyDoes}
 use Rattle.dir_remote.specs.Outcomes.{HasOutcomeCauses, IsUnnamed, refusal_of}
 use Rattle.dir_remote.specs.declared.outcome.Outcome.{Outcome}

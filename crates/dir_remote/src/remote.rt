@@ -19,6 +19,7 @@ use std::str;
 /// Keeps the content of each key in a file of its own below one directory of a desk. Its one setting is the directory.
 ///
 /// Contracts see its directory, once one was given, and its desk. It tells no calls.
+#[derive(Drop)]
 pub struct DirRemote<D: Desk> {
     alloc: Global,
     directory: Option<Text>,

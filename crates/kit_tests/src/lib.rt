@@ -1,6 +1,8 @@
 // Tests of the kit over public calls: remotes that are served to a host in memory.
 #![tactic(auto)]
 
+#[cfg(test)]
+mod disk;
 mod empty;
 mod scripted;
 #[cfg(test)]

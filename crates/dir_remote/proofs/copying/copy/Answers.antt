@@ -1,4 +1,4 @@
-use Rattle.std.proofs.Common.{◌≡◌, ◌∙◌, ℕ, arith, subst, Ok, Err}
+use Rattle.std.proofs.Common.{◌∙◌, ℕ, arith, subst, Ok, Err}
 use Rattle.ann_outside.specs.Files.{WhereTold}
 use Rattle.dir_remote.specs.Copies.{PieceDoes}
 use Rattle.dir_remote.proofs.CopyLaws.{create_others, create_refused, copying_begins, copying_goes_on, copy_others, copy_ends, copy_refused}

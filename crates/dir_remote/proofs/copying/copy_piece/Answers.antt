@@ -1,4 +1,4 @@
-use Rattle.std.proofs.Common.{◌≡◌, ℕ, arith, subst, Ok, IfSome}
+use Rattle.std.proofs.Common.{ℕ, arith, subst, Ok, IfSome}
 use Rattle.ann_outside.specs.Files.{ReadIs}
 use Rattle.dir_remote.proofs.CopyLaws.{piece_end}
 use Rattle.dir_remote.proofs.copying.copy_piece.Goals as goal

@@ -1,7 +1,6 @@
-use Rattle.std.proofs.Common.{◌≡◌, ◌∙◌, sym, subst, ap, List, ℕ}
+use Rattle.std.proofs.Common.{◌∙◌, sym, subst, ap, List, ℕ}
 use Rattle.std.specs.Str.{IsUtf8}
-use Rattle.ann_key.specs.FileNames.{file_name_of}
-use Rattle.ann_key.specs.KeyRefs.{parts_of, text_of}
+use Rattle.ann_key.specs.KeyRefs.{parts_of}
 use Rattle.ann_digest.specs.Directories.{lower_of}
 use Rattle.dir_remote.specs.Contents.{place_of}
 use Rattle.dir_remote.proofs.PlaceLaws.{lower_text, base_of}

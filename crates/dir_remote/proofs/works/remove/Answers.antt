@@ -1,4 +1,4 @@
-use Rattle.std.proofs.Common.{◌≡◌, ℕ, List, refl, sym, subst, Ok, Err}
+use Rattle.std.proofs.Common.{ℕ, List, refl, sym, subst, Ok, Err}
 use Rattle.ann_key.specs.KeyRefs.{text_of}
 use Rattle.ann_outside.specs.DeskCauses.{HasCauses}
 use Rattle.ann_outside.specs.Files.{WhereTold, RemoveDoes}

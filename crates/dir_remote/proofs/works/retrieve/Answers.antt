@@ -1,4 +1,4 @@
-use Rattle.std.proofs.Common.{◌≡◌, ℕ, List, refl, sym, subst, Ok, Err}
+use Rattle.std.proofs.Common.{ℕ, List, refl, sym, subst}
 use Rattle.ann_key.specs.KeyRefs.{text_of}
 use Rattle.dir_remote.specs.Answers.{Works, RetrieveDoes, is_of_transfer}
 use Rattle.dir_remote.specs.declared.outcome.Outcome.{Outcome}

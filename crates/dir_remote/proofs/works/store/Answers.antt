@@ -1,8 +1,8 @@
-use Rattle.std.proofs.Common.{◌≡◌, ◌∙◌, ℕ, List, refl, sym, subst, Ok, Err}
+use Rattle.std.proofs.Common.{◌∙◌, ℕ, List, refl, sym, subst}
 use Rattle.ann_key.specs.KeyRefs.{text_of}
 use Rattle.dir_remote.specs.Answers.{Works, StoreDoes, is_of_transfer}
 use Rattle.dir_remote.specs.declared.outcome.Outcome.{Outcome}
-use Rattle.dir_remote.specs.Contents.{IsContentName, temporary_name}
+use Rattle.dir_remote.specs.Contents.{IsContentName}
 use Rattle.dir_remote.proofs.WorkLaws.{causes_done_behind, causes_refused, causes_behind, transfer_refused, store_idle, store_uncopied, store_done, store_unnamed}
 use Rattle.dir_remote.proofs.works.store.Goals as goal
 
