@@ -81,12 +81,7 @@ fn size_of(rt: &impl Files, name: &str) -> Result<u64, DeskError> {
     Ok(metadata.len())
 }
 
-fn read_from<R: Files>(
-    rt: &R,
-    name: &str,
-    from: u64,
-    buf: &mut [u8],
-) -> Result<usize, DeskError>
+fn read_from<R: Files>(rt: &R, name: &str, from: u64, buf: &mut [u8]) -> Result<usize, DeskError>
     ensures bound { ReadsAtMost result buf.new }
     ensures place { IfOk result (λ n. from + n < 2 ^ 64) }
 {

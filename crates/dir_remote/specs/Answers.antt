@@ -1,5 +1,5 @@
 -- What each call of the directory remote does and says.
-use Rattle.std.specs.Prelude.{ℕ, ◌≡◌, ◌≢◌, ◌||◌, Bool, true, false, List, ◌∷◌, [], Option, Some, None, IsTrue, IfSome, OnOk, OnErr, Result}
+use Rattle.std.specs.Prelude.{ℕ, ◌≡◌, ◌≢◌, Bool, true, false, List, ◌∷◌, [], Option, Some, None, IsTrue, IfSome, OnOk, OnErr, Result}
 use Rattle.std.specs.Str.{IsUtf8}
 use Rattle.ann_key.specs.FileNames.{file_name_of}
 use Rattle.ann_key.specs.declared.bytes.NoMemory.{NoMemory as WithoutMemory}
@@ -9,7 +9,7 @@ use Rattle.kit_core.specs.declared.call.Said.{Said}
 use Rattle.dir_remote.specs.Contents.{IsContentName, IsOutside, OutsideStays, OtherKeysStay, KeysStay}
 use Rattle.dir_remote.specs.Outcomes.{Says, HasOutcomeCauses, TextFits, PreparedFits}
 use Rattle.dir_remote.specs.declared.outcome.Outcome.{Outcome}
-use Rattle.dir_remote.specs.declared.outcome.Outcome.TheVariants.{Done, NotThere, NotPrepared, NoDirectory, NotText, DiskFailed, NoSuchFile, NoMemory}
+use Rattle.dir_remote.specs.declared.outcome.Outcome.TheVariants.{Done, NotThere, NotPrepared, NoDirectory, NotText, NoSuchFile, NoMemory}
 
 -- No and `no directory` are no words of these calls
 abbrev pub is_of_transfer : Outcome → Bool

@@ -9,7 +9,7 @@ abbrev pub PieceDoes : List ℕ → List ℕ → ℕ → Result ℕ DeskError �
 PieceDoes from to at (Ok n) old new =
     (content from old ≢ None)
     × ((bytes : List ℕ) → content from old ≡ Some bytes
-      → (content to new ≡ option_map (λ held. held ++ take n (drop at bytes)) (content to old)) × (n ≡ 0 → length bytes ≤ at))
+    → (content to new ≡ option_map (λ held. held ++ take n (drop at bytes)) (content to old)) × (n ≡ 0 → length bytes ≤ at))
 PieceDoes from to at (Err Missing) old new = content to old ≢ None → content from old ≡ None
 PieceDoes from to at (Err Failed) old new = ⊤
 PieceDoes from to at (Err NoMemory) old new = ⊤

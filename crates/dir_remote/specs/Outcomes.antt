@@ -1,6 +1,7 @@
 -- How a call of the directory remote went, and what is said of it.
-use Rattle.std.specs.Prelude.{ℕ, ◌≡◌, ◌≤◌, ⊤, codes, List, Option, Some, None, Result, Ok, Err, IfOk}
+use Rattle.std.specs.Prelude.{ℕ, ◌≡◌, ◌≤◌, ⊤, codes, List, Option, Some, None, Result, Ok, IfOk}
 use Rattle.std.specs.Str.{IsUtf8}
+use Rattle.ann_key.specs.FileNames.{file_name_of}
 use Rattle.ann_key.specs.declared.bytes.NoMemory.{NoMemory as WithoutMemory}
 use Rattle.ann_outside.specs.Causes.{Rose}
 use Rattle.ann_outside.specs.DeskCauses.{Counts}
@@ -42,6 +43,12 @@ abbrev pub TextFits : List ℕ → Outcome → Type 0
 TextFits name NotText = ¬ (IsUtf8 name)
 TextFits name NoMemory = ⊤
 TextFits name outcome = IsUtf8 name
+
+-- why a key's file got no name
+abbrev pub IsUnnamed : List ℕ → Outcome → Type 0
+IsUnnamed text NotText = ¬ (IsUtf8 (file_name_of text))
+IsUnnamed text NoMemory = ⊤
+IsUnnamed text outcome = ⊥
 
 -- `not prepared` is said exactly where no directory was given
 abbrev pub PreparedFits : Option (List ℕ) → Outcome → Type 0

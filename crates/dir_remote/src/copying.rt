@@ -37,7 +37,7 @@ fn copy_piece<D: Desk>(
 pub fn copy<D: Desk>(alloc: Global, desk: &mut D, from: &str, to: &str) -> Result<(), DeskError>
     ensures causes { HasCauses (D.counts desk.old) (D.counts desk.new) result }
     ensures others { WhereTold (D.files desk.old) (D.files desk.new) (OthersStay (λ other. other ≡ to.now)) }
-    ensures copied { from.now ≢ to.now → WhereTold (D.files desk.old) (D.files desk.new) (CopyDoes from.now to.now result) }
+    ensures copied { WhereTold (D.files desk.old) (D.files desk.new) (λ old new. from.now ≢ to.now → CopyDoes from.now to.now result old new) }
 {
     let Ok(mut buffer) = vec![in alloc; 0; STEP] else {
         return Err(DeskError::NoMemory);

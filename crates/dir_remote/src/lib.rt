@@ -4,8 +4,7 @@
 mod copying;
 mod outcome;
 mod places;
-mod works;
-
 mod remote;
+mod works;
 
 pub use remote::DirRemote;

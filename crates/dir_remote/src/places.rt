@@ -1,33 +1,19 @@
 // The names of the files in the directory.
-ghost use Rattle.std.specs.Prelude.{◌≡◌, IfOk, MatchOption};
+ghost use Rattle.std.specs.Prelude.{◌≡◌, IfOk, MatchOption, MatchResult};
 ghost use Rattle.std.specs.Str.{IsUtf8};
 ghost use Rattle.ann_key.specs.FileNames.{file_name_of};
 ghost use Rattle.ann_key.specs.KeyRefs.{text_of};
-ghost use Rattle.dir_remote.specs.Contents.{IsContentName, place_of};
+ghost use Rattle.dir_remote.specs.Contents.{IsContentName, place_of, temporary_name};
+ghost use Rattle.dir_remote.specs.Outcomes.{IsUnnamed};
 
+use crate::outcome::Outcome;
 use ann_digest::lower;
 use ann_key::{KeyRef, NoMemory, Text};
 use std::alloc::Global;
 use std::str;
 
-// The name of the key's file, where it is text.
-pub fn file_name(alloc: Global, key: KeyRef<'_>) -> Result<Option<Text>, NoMemory>
-    ensures text { IfOk result (λ name. MatchOption name (¬ (IsUtf8 (file_name_of (text_of key.entry)))) (λ text. text ≡ file_name_of (text_of key.entry))) }
-    ensures utf8 { IfOk result (λ name. MatchOption name (Unit {0}) (λ _. IsUtf8 (file_name_of (text_of key.entry)))) }
-{
-    let name = key.file_name(alloc)?;
-    match str::from_utf8(name.view()) {
-        Ok(name) => Ok(Some(Text::copy(alloc, name)?)),
-        Err(_) => Ok(None),
-    }
-}
-
-pub fn place(
-    alloc: Global,
-    directory: &str,
-    folder: &str,
-    file: &str,
-) -> Result<Text, NoMemory>
+// DIRECTORY/FOLDER/FILE
+fn place(alloc: Global, directory: &str, folder: &str, file: &str) -> Result<Text, NoMemory>
     ensures { IfOk result (λ name. name ≡ place_of directory.now folder.now file.now) }
 {
     let mut name = String::from_str(alloc, directory)?;
@@ -38,19 +24,50 @@ pub fn place(
     Ok(Text::from_string(name))
 }
 
-// Where the content of the key stands; its file has that name.
-pub fn content_place(
-    alloc: Global,
-    directory: &str,
-    key: KeyRef<'_>,
-    file: &str,
-) -> Result<Text, NoMemory>
-    requires { file.now ≡ file_name_of (text_of key) }
-    ensures { IfOk result (λ name. IsContentName directory.now (text_of key.entry) name) }
+// The name of the key's file, where it is text.
+fn file_name(alloc: Global, key: KeyRef<'_>) -> Result<Text, Outcome>
+    ensures { MatchResult result (λ name. (name ≡ file_name_of (text_of key.entry)) × IsUtf8 (file_name_of (text_of key.entry))) (IsUnnamed (text_of key.entry)) }
 {
+    let Ok(name) = key.file_name(alloc) else {
+        return Err(Outcome::NoMemory);
+    };
+    match str::from_utf8(name.view()) {
+        Ok(name) => match Text::copy(alloc, name) {
+            Ok(name) => Ok(name),
+            Err(_) => Err(Outcome::NoMemory),
+        },
+        Err(_) => Err(Outcome::NotText),
+    }
+}
+
+// Where the content of the key stands.
+pub fn content_place(alloc: Global, directory: &str, key: KeyRef<'_>) -> Result<Text, Outcome>
+    ensures { MatchResult result (λ name. IsContentName directory.now (text_of key.entry) name × IsUtf8 (file_name_of (text_of key.entry))) (IsUnnamed (text_of key.entry)) }
+{
+    let file = match file_name(alloc, key) {
+        Ok(file) => file,
+        Err(outcome) => return Err(outcome),
+    };
     let folder = lower(key);
-    match str::from_utf8(&folder) {
-        Ok(folder) => place(alloc, directory, folder, file),
-        Err(_) => unreachable!(),
+    let Ok(folder) = str::from_utf8(&folder) else {
+        unreachable!()
+    };
+    match place(alloc, directory, folder, file.view()) {
+        Ok(name) => Ok(name),
+        Err(_) => Err(Outcome::NoMemory),
+    }
+}
+
+// Where it is put together before it gets its name.
+pub fn temporary_place(alloc: Global, directory: &str, key: KeyRef<'_>) -> Result<Text, Outcome>
+    ensures { MatchResult result (λ name. name ≡ temporary_name directory.now (text_of key.entry)) (IsUnnamed (text_of key.entry)) }
+{
+    let file = match file_name(alloc, key) {
+        Ok(file) => file,
+        Err(outcome) => return Err(outcome),
+    };
+    match place(alloc, directory, "tmp", file.view()) {
+        Ok(name) => Ok(name),
+        Err(_) => Err(Outcome::NoMemory),
     }
 }

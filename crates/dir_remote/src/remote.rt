@@ -19,6 +19,7 @@ use std::str;
 /// Keeps the content of each key in a file of its own below one directory of a desk. Its one setting is the directory.
 ///
 /// Contracts see its directory, once one was given, and its desk. It tells no calls.
+#[derive(Drop)]
 pub struct DirRemote<D: Desk> {
     alloc: Global,
     directory: Option<Text>,
@@ -121,7 +122,13 @@ impl<D: Desk> Remote for DirRemote<D> {
         ensures directory { self.new.directory ≡ self.old.directory }
     {
         let outcome = match &self.directory {
-            Some(directory) => works::store(self.alloc, &mut self.desk, directory.view(), key, file),
+            Some(directory) => works::store(
+                self.alloc,
+                &mut self.desk,
+                directory.view(),
+                key,
+                file,
+            ),
             None => Outcome::NotPrepared,
         };
         say(self.alloc, outcome)
@@ -138,7 +145,13 @@ impl<D: Desk> Remote for DirRemote<D> {
         ensures directory { self.new.directory ≡ self.old.directory }
     {
         let outcome = match &self.directory {
-            Some(directory) => works::retrieve(self.alloc, &mut self.desk, directory.view(), key, file),
+            Some(directory) => works::retrieve(
+                self.alloc,
+                &mut self.desk,
+                directory.view(),
+                key,
+                file,
+            ),
             None => Outcome::NotPrepared,
         };
         say(self.alloc, outcome)

@@ -4,11 +4,12 @@ ghost use Rattle.dir_remote.specs.Answers.{Works, StoreDoes, RetrieveDoes, Check
 
 use crate::copying::copy;
 use crate::outcome::{Outcome, refusal};
-use crate::places::{content_place, file_name, place};
+use crate::places::{content_place, temporary_place};
 use ann_key::KeyRef;
 use ann_outside::{Desk, DeskError};
 use std::alloc::Global;
 
+// The content is put together beside the one that stands, and takes its place by a rename.
 pub fn store<D: Desk>(
     alloc: Global,
     desk: &mut D,
@@ -18,26 +19,26 @@ pub fn store<D: Desk>(
 ) -> Outcome
     ensures { Works is_of_transfer (StoreDoes directory.now (text_of key.entry) file.now) (text_of key.entry) (D.counts desk.old) (D.counts desk.new) (D.files desk.old) (D.files desk.new) result }
 {
-    let name = match file_name(alloc, key) {
-        Ok(Some(name)) => name,
-        Ok(None) => return Outcome::NotText,
-        Err(_) => return Outcome::NoMemory,
+    let content = match content_place(alloc, directory, key) {
+        Ok(content) => content,
+        Err(outcome) => return outcome,
     };
-    let Ok(content) = content_place(alloc, directory, key, name.view()) else {
-        return Outcome::NoMemory;
+    let temporary = match temporary_place(alloc, directory, key) {
+        Ok(temporary) => temporary,
+        Err(outcome) => return outcome,
     };
-    let Ok(temporary) = place(alloc, directory, "tmp", name.view()) else {
-        return Outcome::NoMemory;
-    };
-    if let Err(error) = copy(alloc, desk, file, temporary.view()) {
+    let place = content.view();
+    let beside = temporary.view();
+    if let Err(error) = copy(alloc, desk, file, beside) {
         return refusal(error);
     }
-    match desk.rename(temporary.view(), content.view()) {
+    match desk.rename(beside, place) {
         Ok(()) => Outcome::Done,
         Err(error) => refusal(error),
     }
 }
 
+// The content is looked for first: where it is missing nothing is made.
 pub fn retrieve<D: Desk>(
     alloc: Global,
     desk: &mut D,
@@ -47,64 +48,50 @@ pub fn retrieve<D: Desk>(
 ) -> Outcome
     ensures { Works is_of_transfer (RetrieveDoes directory.now (text_of key.entry) file.now) (text_of key.entry) (D.counts desk.old) (D.counts desk.new) (D.files desk.old) (D.files desk.new) result }
 {
-    let name = match file_name(alloc, key) {
-        Ok(Some(name)) => name,
-        Ok(None) => return Outcome::NotText,
-        Err(_) => return Outcome::NoMemory,
+    let content = match content_place(alloc, directory, key) {
+        Ok(content) => content,
+        Err(outcome) => return outcome,
     };
-    let Ok(content) = content_place(alloc, directory, key, name.view()) else {
-        return Outcome::NoMemory;
-    };
-    if let Err(error) = desk.size(content.view()) {
+    let place = content.view();
+    if let Err(error) = desk.size(place) {
         return refusal(error);
     }
-    match copy(alloc, desk, content.view(), file) {
+    match copy(alloc, desk, place, file) {
         Ok(()) => Outcome::Done,
         Err(error) => refusal(error),
     }
 }
 
-pub fn check<D: Desk>(
-    alloc: Global,
-    desk: &mut D,
-    directory: &str,
-    key: KeyRef<'_>,
-) -> Outcome
+// Whether there is a content.
+pub fn check<D: Desk>(alloc: Global, desk: &mut D, directory: &str, key: KeyRef<'_>) -> Outcome
     ensures { Works is_of_check (CheckDoes directory.now (text_of key.entry)) (text_of key.entry) (D.counts desk.old) (D.counts desk.new) (D.files desk.old) (D.files desk.new) result }
 {
-    let name = match file_name(alloc, key) {
-        Ok(Some(name)) => name,
-        Ok(None) => return Outcome::NotText,
-        Err(_) => return Outcome::NoMemory,
+    let content = match content_place(alloc, directory, key) {
+        Ok(content) => content,
+        Err(outcome) => return outcome,
     };
-    let Ok(content) = content_place(alloc, directory, key, name.view()) else {
-        return Outcome::NoMemory;
-    };
-    match desk.size(content.view()) {
+    let place = content.view();
+    match desk.size(place) {
         Ok(_) => Outcome::Done,
         Err(DeskError::Missing) => Outcome::NotThere,
-        Err(error) => refusal(error),
+        Err(DeskError::Failed) => Outcome::DiskFailed,
+        Err(DeskError::NoMemory) => Outcome::NoMemory,
     }
 }
 
-pub fn remove<D: Desk>(
-    alloc: Global,
-    desk: &mut D,
-    directory: &str,
-    key: KeyRef<'_>,
-) -> Outcome
+// Takes the content away, where there is one.
+pub fn remove<D: Desk>(alloc: Global, desk: &mut D, directory: &str, key: KeyRef<'_>) -> Outcome
     ensures { Works is_of_removal (RemoveDoes directory.now (text_of key.entry)) (text_of key.entry) (D.counts desk.old) (D.counts desk.new) (D.files desk.old) (D.files desk.new) result }
 {
-    let name = match file_name(alloc, key) {
-        Ok(Some(name)) => name,
-        Ok(None) => return Outcome::NotText,
-        Err(_) => return Outcome::NoMemory,
+    let content = match content_place(alloc, directory, key) {
+        Ok(content) => content,
+        Err(outcome) => return outcome,
     };
-    let Ok(content) = content_place(alloc, directory, key, name.view()) else {
-        return Outcome::NoMemory;
-    };
-    match desk.remove(content.view()) {
-        Ok(()) | Err(DeskError::Missing) => Outcome::Done,
-        Err(error) => refusal(error),
+    let place = content.view();
+    match desk.remove(place) {
+        Ok(()) => Outcome::Done,
+        Err(DeskError::Missing) => Outcome::Done,
+        Err(DeskError::Failed) => Outcome::DiskFailed,
+        Err(DeskError::NoMemory) => Outcome::NoMemory,
     }
 }

@@ -160,7 +160,7 @@ last_by true awaits request values = refl
 last_by false true request values = refl
 last_by false false request values = refl
 
-last_over : (settings : List (List ℕ)) (ms : List HostMessage) → is_last (stage_of settings ms) ≡ is_over settings ms
+pub last_over : (settings : List (List ℕ)) (ms : List HostMessage) → is_last (stage_of settings ms) ≡ is_over settings ms
 last_over settings ms = last_by (is_over settings ms) (awaits_value settings ms) (request_of ms) (values_of ms)
 
 -- ---- the step

@@ -41,6 +41,7 @@ enum Stage {
 /// A remote, served to a host message by message. Each request is answered before the next one is taken.
 ///
 /// Contracts see of it the remote, whether it is prepared, and where it stands; and how that follows from what it heard.
+#[derive(Drop)]
 pub struct Kit<R: Remote> {
     alloc: Global,
     remote: R,

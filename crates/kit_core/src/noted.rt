@@ -16,6 +16,7 @@ use std::marker::Model;
 /// it answers so, and the other remote may have been called.
 ///
 /// Contracts see the other remote, and the calls that are kept.
+#[derive(Drop)]
 pub struct Noted<R: Remote> {
     alloc: Global,
     remote: R,

@@ -1,0 +1,57 @@
+-- Texts of lines, and how much of one was written.
+use Rattle.std.proofs.Common.{◌≡◌, ℕ, ◌+◌, ◌<◌, ◌≤◌, List, [], ◌∷◌, ◌++◌, length, take, drop, get_or, Option, refl, sym, ap, ◌∙◌, subst, arith, append_assoc, ⊎_elim}
+use Rattle.std.proofs.Math.Seq.{take-append-add, take-append_seam, take-length}
+use Rattle.std.proofs.lemmas.Bool.{cases_lt}
+use Rattle.std.proofs.lemmas.List.{take-append-le, take_all, take_more, take-append-drop}
+use Rattle.std.specs.Io.KnownBytes.{Appends}
+use Rattle.ann_outside.proofs.Telling.{appends_both}
+use Rattle.annex_model.specs.Lines.{text}
+
+pub text-append : (xs ys : List (List ℕ)) → text (xs ++ ys) ≡ text xs ++ text ys
+text-append [] ys = refl
+text-append (x ∷ xs) ys = ap (λ (zs : List ℕ). x ++ 10 ∷ zs) (text-append xs ys) ∙ sym (append_assoc x (10 ∷ text xs) (text ys))
+
+-- the first bytes of a text are first bytes of a longer one
+front_of_longer : (n : ℕ) (xs ys : List ℕ) → (m : ℕ) × (take m (xs ++ ys) ≡ take n xs)
+front_of_longer n xs ys =
+    ⊎_elim (λ (past : length xs < n). (length xs, take-append_seam xs ys ∙ sym (take_all n xs (omega arith))))
+    (λ (within : n ≤ length xs). (n, take-append-le n xs ys within)) (cases_lt (length xs) n)
+
+-- A whole text, and then the first bytes of what follows it
+pub prefix_more : (a b c : Option (List ℕ)) (xs ys zs : List ℕ) → Appends a b xs
+    → ((n : ℕ) × Appends b c (take n ys)) → (m : ℕ) × Appends a c (take m (xs ++ (ys ++ zs)))
+prefix_more a b c xs ys zs p q =
+    let front = front_of_longer q.0 ys zs in (
+      length xs + front.0,
+      subst (λ (l : List ℕ). Appends a c l)
+          (sym (take-append-add xs (ys ++ zs) front.0 ∙ ap (λ (l : List ℕ). xs ++ l) front.1)) (appends_both a b c xs (take q.0 ys) p q.1),
+    )
+
+-- the first bytes are first bytes of more
+pub prefix_longer : (a c : Option (List ℕ)) (ys zs : List ℕ) → ((n : ℕ) × Appends a c (take n ys)) → (m : ℕ) × Appends a c (take m (ys ++ zs))
+prefix_longer a c ys zs q =
+    let front = front_of_longer q.0 ys zs in
+    (front.0, subst (λ (l : List ℕ). Appends a c l) (sym front.1) q.1)
+
+-- all of it is a prefix of it
+pub prefix_whole : (a c : Option (List ℕ)) (xs : List ℕ) → Appends a c xs → (m : ℕ) × Appends a c (take m xs)
+prefix_whole a c xs p = (length xs, subst (λ (l : List ℕ). Appends a c l) (sym (take-length xs)) p)
+
+-- ---- a loop over lines
+
+pub text_next : (ls : List (List ℕ)) (i : ℕ) (line : List ℕ) → i < length ls → get_or ls i [] ≡ line → text (take i ls) ++ (line ++ 10 ∷ []) ≡ text (take (i + 1) ls)
+text_next ls i line within is =
+    ap (λ (l : List ℕ). text (take i ls) ++ (l ++ 10 ∷ [])) (sym is)
+    ∙ sym (ap text (take_more ls i [] within) ∙ text-append (take i ls) (get_or ls i [] ∷ []))
+
+-- the text of all lines, from one line on
+pub text_behind : (ls : List (List ℕ)) (i : ℕ) (line : List ℕ) → i < length ls → get_or ls i [] ≡ line
+    → text ls ≡ text (take i ls) ++ ((line ++ 10 ∷ []) ++ text (drop (i + 1) ls))
+text_behind ls i line within is =
+    ap text (sym (take-append-drop (i + 1) ls))
+    ∙ text-append (take (i + 1) ls) (drop (i + 1) ls)
+    ∙ ap (λ (l : List ℕ). l ++ text (drop (i + 1) ls)) (sym (text_next ls i line within is))
+    ∙ append_assoc (text (take i ls)) (line ++ 10 ∷ []) (text (drop (i + 1) ls))
+
+pub text_all : (ls : List (List ℕ)) (i : ℕ) → length ls ≤ i → text (take i ls) ≡ text ls
+text_all ls i past = ap text (take_all i ls past)

@@ -1,0 +1,43 @@
+use Rattle.std.proofs.Common.{◌≡◌, ◌+◌, ◌<◌, ◌≤◌, [], ◌∷◌, ◌++◌, List, ℕ, length, take, drop, get_or, sym, ap, ◌∙◌, subst, arith}
+use Rattle.std.specs.Io.KnownBytes.{Appends}
+use Rattle.std.proofs.lemmas.List.{get_or_read}
+use Rattle.ann_outside.proofs.Telling.{appends_both}
+use Rattle.annex_model.specs.Lines.{text}
+use Rattle.kit_serve.proofs.Texts.{prefix_more, prefix_whole, text_next, text_behind, text_all}
+use Rattle.kit_serve.proofs.writing.write_lines.Goals as goal
+
+pub loop-line-preserved : goal.loop-line-preserved
+loop-line-preserved g c =
+    let ls : List (List ℕ) = c.view-line-items.result.now in
+    let i : ℕ = c.loop-line.line-index in
+    let within : i < length ls = omega arith in
+    let line : get_or ls i [] ≡ c.view.result.now = sym (get_or_read ls i _ within c.line-item.is []) ∙ sym c.view.ensures in
+    record {
+      took = subst (λ (l : List ℕ). Appends (g.W.Sink.taken c.args.sink.now) (g.W.Sink.taken c.write_line.new.sink) l) (text_next ls i c.view.result.now within line)
+          (appends_both (g.W.Sink.taken c.args.sink.now) (g.W.Sink.taken c.loop-line.sink) (g.W.Sink.taken c.write_line.new.sink) (text (take i ls)) (c.view.result.now ++ 10 ∷ [])
+          c.loop-line.invariant.took c.in_ok-write_line.ensures.ok);
+      silent = λ untold. c.write_line.ensures.silent (c.loop-line.invariant.silent untold);
+      later = omega (arith, c.loop-line.invariant.later, c.write_line.ensures.later);
+      opened = c.write_line.ensures.open;
+      number = c.write_line.ensures.number ∙ c.loop-line.invariant.number;
+    }
+
+pub returns-in_err-write_line-clause-prefix : goal.returns-in_err-write_line-clause-prefix
+returns-in_err-write_line-clause-prefix g c =
+    let ls : List (List ℕ) = c.view-line-items.result.now in
+    let i : ℕ = c.loop-line.line-index in
+    let within : i < length ls = omega arith in
+    let line : get_or ls i [] ≡ c.view.result.now = sym (get_or_read ls i _ within c.line-item.is []) ∙ sym c.view.ensures in
+    subst (λ (l : List ℕ). (n : ℕ) × Appends (g.W.Sink.taken c.args.sink.now) (g.W.Sink.taken c.write_line.new.sink) (take n l))
+    (sym (text_behind ls i c.view.result.now within line) ∙ ap text c.view-line-items.ensures)
+    (prefix_more (g.W.Sink.taken c.args.sink.now) (g.W.Sink.taken c.loop-line.sink) (g.W.Sink.taken c.write_line.new.sink) (text (take i ls)) (c.view.result.now ++ 10 ∷ []) (text (drop (i + 1) ls))
+    c.loop-line.invariant.took c.write_line.ensures.prefix)
+
+pub returns-clause-prefix : goal.returns-clause-prefix
+returns-clause-prefix g c =
+    let ls : List (List ℕ) = c.view-line-items.result.now in
+    let i : ℕ = c.loop-line.line-index in
+    let past : length ls ≤ i = omega arith in
+    prefix_whole (g.W.Sink.taken c.args.sink.now) (g.W.Sink.taken c.flush.new.self) (text c.args.lines.now)
+    (subst (λ t. Appends (g.W.Sink.taken c.args.sink.now) t (text c.args.lines.now)) (sym c.flush.ensures.bytes)
+    (subst (λ (l : List ℕ). Appends (g.W.Sink.taken c.args.sink.now) (g.W.Sink.taken c.loop-line.sink) l) (text_all ls i past ∙ ap text c.view-line-items.ensures) c.loop-line.invariant.took))

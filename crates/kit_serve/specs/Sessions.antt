@@ -1,0 +1,134 @@
+-- What a host that was served said, what it was told, and how it ended.
+use Rattle.std.specs.Prelude.{ℕ, ◌≡◌, ◌<◌, ◌==◌, ◌⊎◌, nat_le, Bool, true, false, List, [], ◌∷◌, ◌++◌, map, take, length, Option, Some, None, option_map, IsTrue, codes}
+use Rattle.std.specs.List.{list_all, before_first}
+use Rattle.std.specs.Io.KnownBytes.{Appends}
+use Rattle.ann_outside.specs.Causes.{StaysUntold}
+use Rattle.annex_model.specs.Lines.{text, has_newline, Cut}
+use Rattle.annex_model.specs.Messages.{HostMessage, host_reading}
+use Rattle.kit_core.specs.declared.call.Call.{Call}
+use Rattle.kit_core.specs.Kits.{Heard, messages, calls_of, lines_said, is_over, due_of, IsServed, IsAskedBy}
+use Rattle.kit_core.specs.Stages.{KitValue, Follows}
+use Rattle.kit_serve.specs.Ends.{status_of}
+use Rattle.kit_serve.specs.declared.end.End.{End}
+use Rattle.kit_serve.specs.declared.end.End.TheVariants.{Eof, Bad, ReadFault, WriteFault, Memory}
+
+-- ---- what was heard and said
+
+abbrev pub is_short : List ℕ → Bool
+is_short line = nat_le (length line) 131072
+
+-- The bytes are cut into these lines and a rest. Each line is short and spells its message, and for each message exactly the call
+-- was made that is due.
+pub record IsHeard (settings : List (List ℕ)) (bytes : List ℕ) (lines : List (List ℕ)) (rest : List ℕ) (h : List Heard) : Type 0 where
+  pub cut : Cut bytes lines rest
+  pub short : IsTrue (list_all is_short lines)
+  pub read : map host_reading lines ≡ map (λ e. Some e.message) h
+  pub served : IsServed settings h
+
+-- the version, and what the kit says to these
+abbrev pub said_to : List (List ℕ) → List Heard → List ℕ
+said_to settings h = text (codes "VERSION 1" ∷ lines_said settings h)
+
+-- ---- the end
+
+-- the bytes before the first byte 10, or all where there is none
+abbrev pub next_line : List ℕ → List ℕ
+next_line rest = before_first (λ b. b == 10) rest
+
+-- a line that is too long, or a whole line that spells no message
+abbrev pub IsBadNext : List ℕ → Type 0
+IsBadNext rest = (131072 < length (next_line rest)) ⊎ ((has_newline rest ≡ true) × (host_reading (next_line rest) ≡ None))
+
+-- the last message ended the kit, and none before it
+pub record EndsKit (settings : List (List ℕ)) (h : List Heard) : Type 0 where
+  pub front : List Heard
+  pub last : Heard
+  pub whole : h ≡ front ++ last ∷ []
+  pub live : is_over settings (messages front) ≡ false
+  pub over : is_over settings (messages h) ≡ true
+
+abbrev pub IsLive : List (List ℕ) → List Heard → Type 0
+IsLive settings h = is_over settings (messages h) ≡ false
+
+-- where the host's lines came to an end or reading failed, all whole lines were heard
+abbrev pub IsEnd : End → List (List ℕ) → List Heard → List ℕ → Type 0
+IsEnd Eof settings h rest = IsLive settings h × (has_newline rest ≡ false)
+IsEnd ReadFault settings h rest = IsLive settings h × (has_newline rest ≡ false)
+IsEnd Bad settings h rest = EndsKit settings h ⊎ (IsLive settings h × IsBadNext rest)
+IsEnd WriteFault settings h rest = IsLive settings h ⊎ EndsKit settings h
+IsEnd Memory settings h rest = IsLive settings h
+
+-- all of it was written; where writing failed, its first bytes
+abbrev pub IsWritten : End → List ℕ → List ℕ → Type 0
+IsWritten WriteFault out said = (n : ℕ) × (out ≡ take n said)
+IsWritten end out said = out ≡ said
+
+abbrev pub as_list : Option Call → List Call
+as_list None = []
+as_list (Some call) = call ∷ []
+
+-- the message that comes next, whole
+pub record IsNextMessage (rest : List ℕ) (m : HostMessage) : Type 0 where
+  pub whole : has_newline rest ≡ true
+  pub reads : host_reading (next_line rest) ≡ Some m
+
+-- where memory ran out, the call that the next message makes due may have been made, and its line wasn't said
+pub record IsLastCall (settings : List (List ℕ)) (h : List Heard) (rest : List ℕ) (call : Call) : Type 0 where
+  pub m : HostMessage
+  pub next : IsNextMessage rest m
+  pub asks : IsAskedBy (due_of settings h m) (Some call)
+
+abbrev pub MayBeLast : List (List ℕ) → List Heard → List ℕ → Option Call → Type 0
+MayBeLast settings h rest None = Unit {0}
+MayBeLast settings h rest (Some call) = IsLastCall settings h rest call
+
+-- the calls that were made
+abbrev pub AreMade : End → List Call → List (List ℕ) → List Heard → List ℕ → Type 0
+AreMade Memory made settings h rest = (last : Option Call) × (made ≡ calls_of h ++ as_list last) × MayBeLast settings h rest last
+AreMade end made settings h rest = made ≡ calls_of h
+
+-- ---- what is told
+
+-- what a source gave, a sink took and a remote was called for, where they tell it
+pub record Told : Type 0 where
+  pub given : Option (List ℕ)
+  pub taken : Option (List ℕ)
+  pub calls : Option (List Call)
+
+pub record Gains (old new : Told) (bytes out : List ℕ) (made : List Call) : Type 0 where
+  pub gave : Appends old.given new.given bytes
+  pub gave_silent : StaysUntold old.given new.given
+  pub took : Appends old.taken new.taken out
+  pub took_silent : StaysUntold old.taken new.taken
+  pub called : new.calls ≡ option_map (λ calls. calls ++ made) old.calls
+
+-- From one place to a later one a host was served so far: the kit follows what was heard, and holds the rest.
+pub record Going {R : Type 0} (settings_of : R → List (List ℕ)) (calls : R → Option (List Call)) (settings : List (List ℕ)) (old : Told)
+    (given taken : Option (List ℕ)) (kit : KitValue R) (held : List ℕ) : Type 0 where
+  pub bytes : List ℕ
+  pub lines : List (List ℕ)
+  pub h : List Heard
+  pub gains : Gains old (record { given = given; taken = taken; calls = calls kit.remote }) bytes (said_to settings h) (calls_of h)
+  pub heard : IsHeard settings bytes lines held h
+  pub follows : Follows settings kit h
+  pub same : settings_of kit.remote ≡ settings
+
+-- From one place to a later one a host was served to this end.
+pub record Ended (settings : List (List ℕ)) (old new : Told) (end : End) : Type 0 where
+  pub bytes : List ℕ
+  pub lines : List (List ℕ)
+  pub rest : List ℕ
+  pub h : List Heard
+  pub out : List ℕ
+  pub made : List Call
+  pub gains : Gains old new bytes out made
+  pub heard : IsHeard settings bytes lines rest h
+  pub written : IsWritten end out (said_to settings h)
+  pub calls : AreMade end made settings h rest
+  pub ends : IsEnd end settings h rest
+
+-- and the status is that of the end
+pub record Serves (settings : List (List ℕ)) (old new : Told) (status : ℕ) : Type 0 where
+  pub end : End
+  pub is : status ≡ status_of end
+  pub ended : Ended settings old new end
