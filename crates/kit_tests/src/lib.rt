@@ -2,6 +2,8 @@
 #![tactic(auto)]
 
 mod empty;
+#[cfg(test)]
+mod programs;
 mod scripted;
 #[cfg(test)]
 mod serving;

@@ -129,8 +129,20 @@ const ANSWERS: [Row; 3] = [
 ];
 
 const OUT_OF_PLACE: [Row; 11] = [
-    (b"VALUE x\nGETCOST\n", Word::Yes, b"ERROR unexpected message\n", 0, 1),
-    (b"CREDS user word\n", Word::Yes, b"ERROR unexpected message\n", 0, 1),
+    (
+        b"VALUE x\nGETCOST\n",
+        Word::Yes,
+        b"ERROR unexpected message\n",
+        0,
+        1,
+    ),
+    (
+        b"CREDS user word\n",
+        Word::Yes,
+        b"ERROR unexpected message\n",
+        0,
+        1,
+    ),
     (
         b"PREPARE\nVALUE d\nVALUE e\n",
         Word::Yes,
@@ -159,18 +171,48 @@ const OUT_OF_PLACE: [Row; 11] = [
         0,
         1,
     ),
-    (b"PREPARE\nERROR no such setting\n", Word::Yes, b"GETCONFIG directory\n", 0, 1),
+    (
+        b"PREPARE\nERROR no such setting\n",
+        Word::Yes,
+        b"GETCONFIG directory\n",
+        0,
+        1,
+    ),
     (b"ERROR\nGETCOST\n", Word::Yes, b"", 0, 1),
     // Lines that spell no message.
-    (b"GETCOST\nCHECKPRESENT WORM--a b\nGETCOST\n", Word::Yes, b"UNSUPPORTED-REQUEST\n", 0, 1),
-    (b"GETCOST\n\nGETCOST\n", Word::Yes, b"UNSUPPORTED-REQUEST\n", 0, 1),
-    (b"GETCOST\nPREPARE now\n", Word::Yes, b"UNSUPPORTED-REQUEST\n", 0, 1),
+    (
+        b"GETCOST\nCHECKPRESENT WORM--a b\nGETCOST\n",
+        Word::Yes,
+        b"UNSUPPORTED-REQUEST\n",
+        0,
+        1,
+    ),
+    (
+        b"GETCOST\n\nGETCOST\n",
+        Word::Yes,
+        b"UNSUPPORTED-REQUEST\n",
+        0,
+        1,
+    ),
+    (
+        b"GETCOST\nPREPARE now\n",
+        Word::Yes,
+        b"UNSUPPORTED-REQUEST\n",
+        0,
+        1,
+    ),
 ];
 
 const NO_END: [Row; 3] = [
     (b"", Word::Yes, b"", 0, 0),
     (b"GETCOST\nGETCO", Word::Yes, b"UNSUPPORTED-REQUEST\n", 0, 0),
-    (b"GETCOST\nGETCOST", Word::Yes, b"UNSUPPORTED-REQUEST\n", 0, 0),
+    (
+        b"GETCOST\nGETCOST",
+        Word::Yes,
+        b"UNSUPPORTED-REQUEST\n",
+        0,
+        0,
+    ),
 ];
 
 // Each row is read one byte at a time, and all at once.
@@ -237,7 +279,13 @@ fn a_read_and_a_write_that_fail_have_their_status(rt: HostRuntime) -> Result<(),
         (&[], &[3], b"VERSION 1", 5),
     ];
     for (read_fails, write_fails, out, status) in rows {
-        let left = served(alloc, Empty, pieces(alloc, says, 8)?, read_fails, write_fails)?;
+        let left = served(
+            alloc,
+            Empty,
+            pieces(alloc, says, 8)?,
+            read_fails,
+            write_fails,
+        )?;
         assert_eq!(rt; left.out.as_slice(), out);
         assert_eq!(rt; left.status, status);
     }
