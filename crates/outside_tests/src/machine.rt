@@ -1,5 +1,5 @@
 // Real children and the real clock, and streams of std that fail.
-use super::*;
+use ann_os::{OsClock, OsInput, OsOutput, OsPrograms};
 use ann_outside::{Clock, Failed, Programs, Sink, Source, StartError, Started};
 use std::io;
 use std::io::{ErrorKind, Read, Write};
@@ -21,7 +21,6 @@ fn cat_gives_back_a_line(rt: HostRuntime) -> Result<(), StartError> {
     assert_eq!(rt; outlet.read(&mut buf), Ok(0));
     outlet.close();
     assert_eq!(rt; programs.finish(stub), Ok(0));
-    assert_eq!(rt; (inlet.faults, outlet.faults, programs.faults), (0, 0, 0));
     Ok(())
 }
 
@@ -59,7 +58,6 @@ fn a_missing_program_is_a_fault(rt: HostRuntime) {
             Ok(Started { stub, .. }) => panic!(rt; "{name} ends with {:?}", programs.finish(stub)),
         }
     }
-    assert_eq!(rt; programs.faults, 3);
 }
 
 // Once a child has closed its output it is gone, and what is written to it fails. No signal ends this test.
@@ -76,7 +74,6 @@ fn a_write_to_a_child_that_is_gone_is_a_fault(rt: HostRuntime) -> Result<(), Sta
     assert_eq!(rt; programs.finish(stub), Ok(0));
     assert_eq!(rt; inlet.write(&[10]), Err(Failed));
     assert_eq!(rt; inlet.write(&[10]), Err(Failed));
-    assert_eq!(rt; inlet.faults, 2);
     Ok(())
 }
 
@@ -143,12 +140,10 @@ fn an_interrupted_call_is_tried_again(rt: HostRuntime) {
     assert_eq!(rt; input.read(&mut buf), Ok(1));
     assert_eq!(rt; input.read(&mut buf), Err(Failed));
     assert_eq!(rt; input.read(&mut buf), Ok(0));
-    assert_eq!(rt; input.faults, 1);
 
     let mut output = OsOutput::new(Flaky { calls: 0 });
     assert_eq!(rt; output.write(&[1, 2]), Ok(1));
     assert_eq!(rt; output.flush(), Err(Failed));
     assert_eq!(rt; output.write(&[3]), Err(Failed));
     assert_eq!(rt; output.write(&[]), Ok(0));
-    assert_eq!(rt; output.faults, 2);
 }

@@ -2,8 +2,11 @@
 ghost use Rattle.std.specs.Prelude.{◌≡◌, true};
 ghost use Rattle.std.specs.Io.{ReadsAtMost};
 
-use super::*;
 use ann_key::{Bytes, NoMemory};
+use ann_outside::{
+    Clock, Failed, MemChild, MemClock, MemPrograms, MemSink, MemSource, Programs, Sink, Source,
+    StartError, Started,
+};
 use std::alloc::Global;
 
 #[derive(Drop)]

@@ -1,0 +1,10 @@
+// A remote that keeps the contents of keys in a directory, over any desk.
+#![tactic(auto)]
+
+mod copying;
+mod outcome;
+mod places;
+mod remote;
+mod works;
+
+pub use remote::DirRemote;

@@ -1,0 +1,97 @@
+// The work of a remote in a directory that is known.
+ghost use Rattle.ann_key.specs.KeyRefs.{text_of};
+ghost use Rattle.dir_remote.specs.Answers.{Works, StoreDoes, RetrieveDoes, CheckDoes, RemoveDoes, is_of_transfer, is_of_check, is_of_removal};
+
+use crate::copying::copy;
+use crate::outcome::{Outcome, refusal};
+use crate::places::{content_place, temporary_place};
+use ann_key::KeyRef;
+use ann_outside::{Desk, DeskError};
+use std::alloc::Global;
+
+// The content is put together beside the one that stands, and takes its place by a rename.
+pub fn store<D: Desk>(
+    alloc: Global,
+    desk: &mut D,
+    directory: &str,
+    key: KeyRef<'_>,
+    file: &str,
+) -> Outcome
+    ensures { Works is_of_transfer (StoreDoes directory.now (text_of key.entry) file.now) (text_of key.entry) (D.counts desk.old) (D.counts desk.new) (D.files desk.old) (D.files desk.new) result }
+{
+    let content = match content_place(alloc, directory, key) {
+        Ok(content) => content,
+        Err(outcome) => return outcome,
+    };
+    let temporary = match temporary_place(alloc, directory, key) {
+        Ok(temporary) => temporary,
+        Err(outcome) => return outcome,
+    };
+    let place = content.view();
+    let beside = temporary.view();
+    if let Err(error) = copy(alloc, desk, file, beside) {
+        return refusal(error);
+    }
+    match desk.rename(beside, place) {
+        Ok(()) => Outcome::Done,
+        Err(error) => refusal(error),
+    }
+}
+
+// The content is looked for first: where it is missing nothing is made.
+pub fn retrieve<D: Desk>(
+    alloc: Global,
+    desk: &mut D,
+    directory: &str,
+    key: KeyRef<'_>,
+    file: &str,
+) -> Outcome
+    ensures { Works is_of_transfer (RetrieveDoes directory.now (text_of key.entry) file.now) (text_of key.entry) (D.counts desk.old) (D.counts desk.new) (D.files desk.old) (D.files desk.new) result }
+{
+    let content = match content_place(alloc, directory, key) {
+        Ok(content) => content,
+        Err(outcome) => return outcome,
+    };
+    let place = content.view();
+    if let Err(error) = desk.size(place) {
+        return refusal(error);
+    }
+    match copy(alloc, desk, place, file) {
+        Ok(()) => Outcome::Done,
+        Err(error) => refusal(error),
+    }
+}
+
+// Whether there is a content.
+pub fn check<D: Desk>(alloc: Global, desk: &mut D, directory: &str, key: KeyRef<'_>) -> Outcome
+    ensures { Works is_of_check (CheckDoes directory.now (text_of key.entry)) (text_of key.entry) (D.counts desk.old) (D.counts desk.new) (D.files desk.old) (D.files desk.new) result }
+{
+    let content = match content_place(alloc, directory, key) {
+        Ok(content) => content,
+        Err(outcome) => return outcome,
+    };
+    let place = content.view();
+    match desk.size(place) {
+        Ok(_) => Outcome::Done,
+        Err(DeskError::Missing) => Outcome::NotThere,
+        Err(DeskError::Failed) => Outcome::DiskFailed,
+        Err(DeskError::NoMemory) => Outcome::NoMemory,
+    }
+}
+
+// Takes the content away, where there is one.
+pub fn remove<D: Desk>(alloc: Global, desk: &mut D, directory: &str, key: KeyRef<'_>) -> Outcome
+    ensures { Works is_of_removal (RemoveDoes directory.now (text_of key.entry)) (text_of key.entry) (D.counts desk.old) (D.counts desk.new) (D.files desk.old) (D.files desk.new) result }
+{
+    let content = match content_place(alloc, directory, key) {
+        Ok(content) => content,
+        Err(outcome) => return outcome,
+    };
+    let place = content.view();
+    match desk.remove(place) {
+        Ok(()) => Outcome::Done,
+        Err(DeskError::Missing) => Outcome::Done,
+        Err(DeskError::Failed) => Outcome::DiskFailed,
+        Err(DeskError::NoMemory) => Outcome::NoMemory,
+    }
+}
