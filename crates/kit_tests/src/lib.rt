@@ -4,6 +4,8 @@
 #[cfg(test)]
 mod disk;
 mod empty;
+#[cfg(test)]
+mod programs;
 mod scripted;
 #[cfg(test)]
 mod serving;
