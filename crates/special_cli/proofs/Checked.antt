@@ -1,6 +1,6 @@
 -- What is told of a check at its end.
 use Rattle.std.proofs.Common.{◌≡◌, ◌⊎◌, ℕ, List, [], ◌∷◌, length, refl, sym, ap, subst, ◌∙◌, Bool, true, false, Some, None, Option, inl, inr}
-use Rattle.std.specs.Prelude.{IfSome, IfNone}
+use Rattle.std.specs.Prelude.{IfSome}
 use Rattle.std.specs.List.{list_all}
 use Rattle.std.proofs.lemmas.List.{append-nil}
 use Rattle.ann_outside.specs.Starts.{Starts}
@@ -109,14 +109,6 @@ pub none_failed : {A : Type 0} (journal : List Entry) → journal ≡ [] → any
 none_failed journal none h = absurd (let bad : true ≡ false = sym h ∙ ap (any is_failed_start) none in cc)
 
 -- ---- a key that is not refused
-
-pub if_none : {A : Type 0} (o : Option A) (P : Type 0) → P → IfNone o P
-if_none None P h = h
-if_none (Some x) P h = tt
-
-pub told_key : (status : ℕ) (R : Type 0) (taken taken' : Option (List ℕ)) (key key' : List ℕ) (journal : List Entry) (answers : List Answer) → key' ≡ key
-    → IsTold status R taken taken' key' journal answers → IsTold status R taken taken' key journal answers
-told_key status R taken taken' key key' journal answers e h = subst (λ (k : List ℕ). IsTold status R taken taken' k journal answers) e h
 
 pub ran_key : (key key' : List ℕ) (journal : List Entry) → key' ≡ key → (journal ≡ []) ⊎ ((answer : Answer) × HasAnswered key' journal answer)
     → (journal ≡ []) ⊎ ((answer : Answer) × HasAnswered key journal answer)

@@ -3,7 +3,6 @@ use Rattle.std.proofs.Common.{◌≡◌, ◌⊎◌, ℕ, List, [], length, refl,
 use Rattle.std.specs.Prelude.{option_map, IfSome}
 use Rattle.std.specs.Io.KnownBytes.{Appends}
 use Rattle.std.proofs.lemmas.List.{append-nil}
-use Rattle.ann_outside.specs.Starts.{Starts}
 use Rattle.annex_model.specs.Lines.{text}
 use Rattle.annex_model.specs.Messages.{is_sent_key}
 use Rattle.journal_model.specs.declared.entry.Entry.{Entry}
@@ -13,7 +12,6 @@ use Rattle.journal_model.proofs.Projecting.{parts_fit}
 use Rattle.info_run.specs.Infos.{info_lines}
 use Rattle.special_cli.specs.Endings.{IsPrinted}
 use Rattle.special_cli.specs.Informs.{IsAsked, IsComplete, IsInformed, IsInfoTold, info_status}
-use Rattle.special_cli.specs.Objects.{HaveStarted}
 use Rattle.special_cli.specs.Openings.{info_opening}
 use Rattle.special_cli.specs.Refusals.{refusal_if}
 use Rattle.special_cli.proofs.Checked.{status_only}
@@ -69,15 +67,6 @@ told_none status R taken key journal s =
     record { printed = inr (turned status low, (0, stays taken)); complete = λ small. late status low small }
 
 -- ---- the starts
-
--- one start may have been for nothing
-pub started_late : (status : ℕ) (R : Type 0) (program : List ℕ) (journal kept : List Entry) (old new : Option Starts) → journal ≡ kept → (status ≡ 7) ⊎ ((status ≡ 5) × R)
-    → HaveStarted 7 program kept old new → HaveStarted status program journal old new
-started_late status R program journal kept old new same s h = subst (λ (j : List Entry). HaveStarted status program j old new) (sym same) (go h)
-  where
-    go : HaveStarted 7 program kept old new → HaveStarted status program kept old new
-    go (inl all) = inl all
-    go (inr more) = inr (status_only status R s, more.1)
 
 pub printed_as : (status : ℕ) (taken taken' : Option (List ℕ)) (line line' : List ℕ) (wanted wanted' : ℕ) → line ≡ line' → wanted ≡ wanted' → IsPrinted status taken taken' line wanted
     → IsPrinted status taken taken' line' wanted'

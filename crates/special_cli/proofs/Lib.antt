@@ -1,5 +1,6 @@
 pub mod Asked
 pub mod Beginning
+pub mod Calling
 pub mod Causing
 pub mod Checked
 pub mod Doing
@@ -11,4 +12,3 @@ pub mod Looking
 pub mod Refusing
 pub mod Talking
 pub mod Telling
-pub mod Wishes

@@ -1,9 +1,8 @@
 -- From a greeting to a child that was asked about itself, and its closing.
 use Rattle.std.proofs.Common.{◌≡◌, ◌⊎◌, ℕ, zero, suc, List, [], ◌∷◌, ◌++◌, length, refl, sym, ap, subst, ◌∙◌, Bool, true, false, not, ◌==◌, cond, Some, None, Option, inl, inr, append-nil}
-use Rattle.std.specs.Prelude.{◌&&◌, ◌||◌, nat_lt, take, map, codes, option_and_then, IsSome, IfOk, MatchResult, Result, Ok, Err}
+use Rattle.std.specs.Prelude.{◌&&◌, ◌||◌, nat_lt, take, map, codes, option_and_then, IsSome, IfOk, Result, Ok, Err}
 use Rattle.std.specs.Option.{option_or}
 use Rattle.std.specs.List.{list_all, list_any, cons_option}
-use Rattle.ann_outside.specs.Starts.{Starts}
 use Rattle.annex_model.specs.declared.verdict.Why.{Why}
 use Rattle.annex_model.specs.declared.verdict.Why.TheVariants.{Closed}
 use Rattle.annex_model.specs.declared.verdict.Verdict.{Verdict}
@@ -25,7 +24,7 @@ use Rattle.info_run.specs.Infos.{questions}
 use Rattle.info_run.specs.Askings.{line_to, asked_lines, is_of_asking, AsksFront, IsAnswered, HasFailed}
 use Rattle.special_cli.specs.Endings.{start_in, starts_in}
 use Rattle.special_cli.specs.Informs.{info_requests, is_of_task, IsAsked, IsComplete}
-use Rattle.special_cli.specs.Objects.{told, AddsAll, HaveStarted, is_failed_start}
+use Rattle.special_cli.specs.Objects.{is_failed_start}
 use Rattle.special_cli.specs.Runs.{main_entry}
 use Rattle.special_cli.specs.Interviews.{IsInterviewed}
 use Rattle.special_cli.proofs.Asked.{greeting_lines, is_early, begins}
@@ -266,10 +265,6 @@ pub if_ok : {T E : Type 0} (r : Result T E) (P Q : Type 0) → (P → Q) → IfO
 if_ok (Ok x) P Q f h = f h
 if_ok (Err e) P Q f h = tt
 
-pub either_way : {T E : Type 0} (r : Result T E) (P Q : Type 0) → P → (P → Q) → MatchResult r (λ _. P) (λ _. Q)
-either_way (Ok x) P Q h f = h
-either_way (Err e) P Q h f = f h
-
 pub closed_starts : (key : Option (List ℕ)) (past journal : List Entry) (c : ℕ) → IsInterviewed key past c → Closes 0 c past journal → starts_in journal ≡ Start 1 0 false ∷ []
 closed_starts key past journal c t closes =
     let more : List Entry = closing_of (is_ended past 1) 1 in
@@ -278,6 +273,3 @@ closed_starts key past journal c t closes =
     ap starts_in grown ∙ each_of-append start_in past more ∙ (rw (t.starts, s.starts) refl)
 
 -- a start that is told is told whatever came of the questions
-pub told_either : {T E : Type 0} (r : Result T E) (program : List ℕ) (journal : List Entry) (old new : Option Starts) → AddsAll old new (told program journal)
-    → MatchResult r (λ _. AddsAll old new (told program journal)) (λ _. HaveStarted 7 program journal old new)
-told_either r program journal old new h = either_way r (AddsAll old new (told program journal)) (HaveStarted 7 program journal old new) h (λ a. inl a)

@@ -1,14 +1,13 @@
 // One start of the program, and what its child says of itself.
-ghost use Rattle.std.specs.Prelude.{◌≡◌, ◌<◌, [], true, IfSome, IfOk, MatchResult, option_map, vec_len, vec_capacity};
+ghost use Rattle.std.specs.Prelude.{ℕ, ◌≡◌, ◌<◌, [], true, IfSome, IfOk, MatchResult, option_map, vec_len, vec_capacity};
 ghost use Rattle.ann_key.specs.KeyRefs.{text_of};
 ghost use Rattle.ann_outside.specs.Causes.{Rose};
 ghost use Rattle.annex_model.specs.Messages.{is_sent_key};
-ghost use Rattle.journal_model.specs.Journal.{any};
 ghost use Rattle.journal_model.specs.Legality.{Legal};
 ghost use Rattle.child_link.specs.Links.{IsLinked};
 ghost use Rattle.child_start.specs.Greetings.{AreNumbered};
+ghost use Rattle.special_cli.specs.Calls.{Leaves};
 ghost use Rattle.special_cli.specs.Informs.{IsAsked, IsComplete};
-ghost use Rattle.special_cli.specs.Objects.{AreWires, AddsAll, HaveStarted, told, came, is_failed_start};
 ghost use Rattle.special_cli.specs.Interviews.{Interviewed, IfOver, InterviewStarts};
 
 use crate::{checking, running};
@@ -109,9 +108,7 @@ where
     requires none { wires.old.items ≡ [] }
     ensures asked { IsAsked (option_map text_of key.entry) core.new.journal }
     ensures complete { IfOk result (λ _. IsComplete (option_map text_of key.entry) core.new.journal) }
-    ensures wires { AreWires P.Inlet.taken P.Inlet.faults P.Inlet.number P.Outlet.given P.Outlet.left P.Outlet.faults P.Outlet.number (P.starts programs.old) core.new.journal 0 (came core.new.journal) wires.new.items }
-    ensures starts { MatchResult result (λ _. AddsAll (P.starts programs.old) (P.starts programs.new) (told program.now core.new.journal)) (λ _. HaveStarted 7 program.now core.new.journal (P.starts programs.old) (P.starts programs.new)) }
-    ensures fault { any is_failed_start core.new.journal ≡ true → Rose (P.faults programs.old) (P.faults programs.new) }
+    ensures leaves { MatchResult result (λ _. (status : ℕ) → Leaves P.Inlet.taken P.Inlet.faults P.Inlet.number P.Outlet.given P.Outlet.left P.Outlet.faults P.Outlet.number (P.starts programs.old) (P.starts programs.new) (P.faults programs.old) (P.faults programs.new) status program.now core.new.journal wires.new.items) (λ _. Leaves P.Inlet.taken P.Inlet.faults P.Inlet.number P.Outlet.given P.Outlet.left P.Outlet.faults P.Outlet.number (P.starts programs.old) (P.starts programs.new) (P.faults programs.old) (P.faults programs.new) 7 program.now core.new.journal wires.new.items) }
     ensures opening { core.new.opening ≡ core.old.opening }
     ensures legal { Legal core.new.opening core.new.journal }
 {

@@ -1,12 +1,12 @@
 // One start of the program, and the one answer.
-ghost use Rattle.std.specs.Prelude.{◌≡◌, ◌⊎◌, ◌<◌, ◌≤◌, Bool, [], true, Some, is_some, option_map, MatchResult, vec_len, vec_capacity};
-ghost use Rattle.ann_outside.specs.Causes.{Rose, Stays, AddsOne};
+ghost use Rattle.std.specs.Prelude.{ℕ, ◌≡◌, ◌<◌, ◌≤◌, [], true, Some, is_some, option_map, MatchResult, vec_len, vec_capacity};
+ghost use Rattle.ann_outside.specs.Causes.{Stays};
 ghost use Rattle.annex_model.specs.Messages.{is_sent_key};
-ghost use Rattle.journal_model.specs.Journal.{any};
 ghost use Rattle.journal_model.specs.Legality.{Legal};
 ghost use Rattle.journal_model.specs.declared.answer.Answer.TheVariants.{NotPrepared};
 ghost use Rattle.task_run.specs.TaskRuns.{refused_at};
-ghost use Rattle.special_cli.specs.Objects.{AreWires, OneIsLeft, AddsAll, told, came, is_failed_start};
+ghost use Rattle.special_cli.specs.Calls.{Leaves};
+ghost use Rattle.special_cli.specs.Objects.{OneIsLeft};
 ghost use Rattle.special_cli.specs.Runs.{HasAnswered, HasOneTask};
 
 use crate::checking;
@@ -65,9 +65,7 @@ where
     requires room { vec_len wires.old < vec_capacity wires.old }
     requires none { wires.old.items ≡ [] }
     ensures ran { MatchResult result (HasAnswered key core.new.journal) (λ _. core.new.journal ≡ []) }
-    ensures wires { AreWires P.Inlet.taken P.Inlet.faults P.Inlet.number P.Outlet.given P.Outlet.left P.Outlet.faults P.Outlet.number (P.starts programs.old) core.new.journal 0 (came core.new.journal) wires.new.items }
-    ensures starts { MatchResult result (λ _. AddsAll (P.starts programs.old) (P.starts programs.new) (told program.now core.new.journal)) (λ _. Stays (P.starts programs.old) (P.starts programs.new) ⊎ ((b : Bool) × AddsOne (P.starts programs.old) (P.starts programs.new) (program.now, b))) }
-    ensures fault { any is_failed_start core.new.journal ≡ true → Rose (P.faults programs.old) (P.faults programs.new) }
+    ensures leaves { MatchResult result (λ _. (status : ℕ) → Leaves P.Inlet.taken P.Inlet.faults P.Inlet.number P.Outlet.given P.Outlet.left P.Outlet.faults P.Outlet.number (P.starts programs.old) (P.starts programs.new) (P.faults programs.old) (P.faults programs.new) status program.now core.new.journal wires.new.items) (λ _. Leaves P.Inlet.taken P.Inlet.faults P.Inlet.number P.Outlet.given P.Outlet.left P.Outlet.faults P.Outlet.number (P.starts programs.old) (P.starts programs.new) (P.faults programs.old) (P.faults programs.new) 7 program.now core.new.journal wires.new.items) }
     ensures opening { core.new.opening ≡ core.old.opening }
     ensures legal { Legal core.old.opening core.old.journal → Legal core.new.opening core.new.journal }
 {

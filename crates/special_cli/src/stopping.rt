@@ -1,6 +1,7 @@
 // The ends of a call that leave no answer, and what is told of them.
-ghost use Rattle.std.specs.Prelude.{◌≡◌, ◌⊎◌, [], if◌then◌else◌, is_ok, true};
+ghost use Rattle.std.specs.Prelude.{◌≡◌, ◌⊎◌, [], true};
 ghost use Rattle.ann_outside.specs.Causes.{Rose};
+ghost use Rattle.special_cli.specs.Calls.{IsRefused};
 
 use crate::closing::Closing;
 use crate::refusals::Reason;
@@ -10,23 +11,37 @@ use ann_outside::{Failed, Programs, Sink, write_all};
 use journal_model::Journal;
 use std::alloc::Global;
 
-// The end of a call that started nothing.
-pub(super) fn end<P: Programs>(
-    alloc: Global,
-    programs: P,
-    status: u8,
-    written: Result<(), Failed>,
-) -> Closing<P>
-    ensures status { result.status ≡ (if is_ok written then status else 5) }
+// What is left where nothing was started.
+fn nothing<P: Programs>(alloc: Global, programs: P, status: u8) -> Closing<P>
+    ensures status { result.status ≡ status }
     ensures programs { result.programs ≡ programs }
     ensures nothing { (result.journal ≡ []) × (result.answers.items ≡ []) × (result.wires.items ≡ []) }
 {
     Closing {
-        status: if written.is_ok() { status } else { 5 },
+        status,
         programs,
         journal: Journal::new(alloc),
         answers: Vec::new(alloc),
         wires: Vec::new(alloc),
+    }
+}
+
+// The end of a call that started nothing: the line is written, and the status is this where it was.
+pub(super) fn end<P: Programs, S: Sink>(
+    alloc: Global,
+    programs: P,
+    status: u8,
+    sink: &mut S,
+    line: &[u8],
+) -> Closing<P>
+    requires { S.is_open sink.old ≡ true }
+    ensures status { (result.status ≡ status) ⊎ ((result.status ≡ 5) × Rose (S.faults sink.old) (S.faults sink.new)) }
+    ensures programs { result.programs ≡ programs }
+    ensures nothing { (result.journal ≡ []) × (result.answers.items ≡ []) × (result.wires.items ≡ []) }
+{
+    match write_all(sink, line) {
+        Ok(()) => nothing(alloc, programs, status),
+        Err(Failed) => nothing(alloc, programs, 5),
     }
 }
 
@@ -37,8 +52,7 @@ pub(super) fn no_memory<P: Programs, E: Sink>(alloc: Global, programs: P, err: &
     ensures programs { result.programs ≡ programs }
     ensures nothing { (result.journal ≡ []) × (result.answers.items ≡ []) × (result.wires.items ≡ []) }
 {
-    let written = write_all(err, memory_line());
-    end(alloc, programs, 7, written)
+    end(alloc, programs, 7, err, memory_line())
 }
 
 // The key is refused.
@@ -49,16 +63,10 @@ pub(super) fn refuse<P: Programs, E: Sink>(
     err: &mut E,
 ) -> Closing<P>
     requires { E.is_open err.old ≡ true }
-    ensures status { (result.status ≡ 3) ⊎ (result.status ≡ 5) ⊎ (result.status ≡ 7) }
-    ensures output { result.status ≡ 5 → Rose (E.faults err.old) (E.faults err.new) }
-    ensures programs { result.programs ≡ programs }
-    ensures nothing { (result.journal ≡ []) × (result.answers.items ≡ []) × (result.wires.items ≡ []) }
+    ensures { IsRefused (P.starts programs) (P.starts result.programs) (E.faults err.old) (E.faults err.new) result.status result.journal result.answers.items result.wires.items }
 {
     match refused_line(alloc, 1, reason) {
-        Ok(line) => {
-            let written = write_all(err, line.view());
-            end(alloc, programs, 3, written)
-        }
+        Ok(line) => end(alloc, programs, 3, err, line.view()),
         Err(NoMemory) => no_memory(alloc, programs, err),
     }
 }

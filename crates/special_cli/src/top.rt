@@ -1,7 +1,8 @@
-ghost use Rattle.std.specs.Prelude.{◌≡◌, ◌⊎◌, [], None, IfSome, IsSome, true};
+ghost use Rattle.std.specs.Prelude.{◌≡◌, ◌⊎◌, [], None, IfSome, IsSome, option_map, true};
 ghost use Rattle.journal_model.specs.Journal.{any};
 ghost use Rattle.ann_outside.specs.Causes.{Rose};
-ghost use Rattle.special_cli.specs.Words.{command_of};
+ghost use Rattle.special_cli.specs.Calls.{IsCalled};
+ghost use Rattle.special_cli.specs.Words.{command_of, command_shown};
 ghost use Rattle.special_cli.specs.Endings.{refused_in, check_in, info_in, run_in, IsChecked, IsTold};
 ghost use Rattle.special_cli.specs.Informs.{IsInformed, IsInfoTold};
 ghost use Rattle.special_cli.specs.Objects.{AreWires, HaveStarted, came, is_failed_start};
@@ -12,7 +13,7 @@ use crate::texts::{CHECK_HELP, HELP, INFO_HELP, usage_line, version_line};
 use crate::top_check::check_words;
 use crate::top_info::info_words;
 use crate::words::{Command, command_of};
-use ann_outside::{Clock, Programs, Sink, Source, write_all};
+use ann_outside::{Clock, Programs, Sink, Source};
 use std::alloc::Global;
 
 /// Does all that the program does: reads the words behind its name, starts what they ask for, prints what comes of it to
@@ -48,12 +49,31 @@ where
     ensures starts { IfSome (run_in (command_of words.entry.now)) (λ program. HaveStarted result.status program result.journal (P.starts programs) (P.starts result.programs)) }
     ensures fault { IfSome (run_in (command_of words.entry.now)) (λ program. any is_failed_start result.journal ≡ true → Rose (P.faults programs) (P.faults result.programs)) }
 {
-    match command_of(words) {
-        None => end(alloc, programs, 2, write_all(err, usage_line())),
-        Some(Command::Help) => end(alloc, programs, 0, write_all(out, HELP.as_bytes())),
-        Some(Command::CheckHelp) => end(alloc, programs, 0, write_all(out, CHECK_HELP.as_bytes())),
-        Some(Command::InfoHelp) => end(alloc, programs, 0, write_all(out, INFO_HELP.as_bytes())),
-        Some(Command::Version) => end(alloc, programs, 0, write_all(out, version_line())),
+    obey(alloc, command_of(words), programs, out, err, clock)
+}
+
+// Does what was asked for.
+fn obey<P: Programs, O: Sink, E: Sink, C: Clock>(
+    alloc: Global,
+    command: Option<Command<'_>>,
+    programs: P,
+    out: &mut O,
+    err: &mut E,
+    clock: &mut C,
+) -> Closing<P>
+where
+    P::Inlet: Drop,
+    P::Outlet: Drop,
+    requires out { O.is_open out.old ≡ true }
+    requires err { E.is_open err.old ≡ true }
+    ensures { IsCalled P.Inlet.taken P.Inlet.faults P.Inlet.number P.Outlet.given P.Outlet.left P.Outlet.faults P.Outlet.number (P.starts programs) (P.starts result.programs) (P.faults programs) (P.faults result.programs) (O.faults out.old) (O.faults out.new) (E.faults err.old) (E.faults err.new) (O.taken out.old) (O.taken out.new) (C.answer clock.old) (option_map command_shown command.entry) result.status result.journal result.answers.items result.wires.items }
+{
+    match command {
+        None => end(alloc, programs, 2, err, usage_line()),
+        Some(Command::Help) => end(alloc, programs, 0, out, HELP.as_bytes()),
+        Some(Command::CheckHelp) => end(alloc, programs, 0, out, CHECK_HELP.as_bytes()),
+        Some(Command::InfoHelp) => end(alloc, programs, 0, out, INFO_HELP.as_bytes()),
+        Some(Command::Version) => end(alloc, programs, 0, out, version_line()),
         Some(Command::Check { program, key }) => {
             check_words(alloc, program, key, programs, out, err, clock)
         }

@@ -1,14 +1,13 @@
 // The run of a check, from its words to its closing.
-ghost use Rattle.std.specs.Prelude.{◌≡◌, ◌⊎◌, ◌<◌, [], IfNone, IsSome, IfOk, vec_len, vec_capacity, true};
+ghost use Rattle.std.specs.Prelude.{◌≡◌, ◌⊎◌, ◌<◌, [], None, IsSome, IfOk, vec_len, vec_capacity, true};
 ghost use Rattle.ann_key.specs.KeyRefs.{text_of};
 ghost use Rattle.annex_model.specs.Messages.{is_sent_key};
-ghost use Rattle.journal_model.specs.Journal.{any};
 ghost use Rattle.journal_model.specs.Legality.{Legal};
 ghost use Rattle.journal_model.specs.Output.{answer_line};
 ghost use Rattle.journal_model.specs.declared.answer.Answer.{Answer};
 ghost use Rattle.ann_outside.specs.Causes.{Rose};
-ghost use Rattle.special_cli.specs.Endings.{status_of, IsChecked, IsPrinted, IsTold};
-ghost use Rattle.special_cli.specs.Objects.{AreWires, HaveStarted, came, is_failed_start};
+ghost use Rattle.special_cli.specs.Calls.{IsRefused, CheckEnds};
+ghost use Rattle.special_cli.specs.Endings.{status_of, IsChecked, IsPrinted};
 ghost use Rattle.special_cli.specs.Openings.{check_opening};
 ghost use Rattle.special_cli.specs.Refusals.{reason_refused};
 ghost use Rattle.special_cli.specs.Runs.{HasAnswered, HasOneTask};
@@ -79,16 +78,9 @@ where
     P::Outlet: Drop,
     requires out { O.is_open out.old ≡ true }
     requires err { E.is_open err.old ≡ true }
-    ensures usage { result.status ≡ 2 → ⊥ }
-    ensures refused { result.status ≡ 3 → IsSome (reason_refused key.now) }
-    ensures key { IsSome (reason_refused key.now) → (result.status ≡ 3) ⊎ (result.status ≡ 5) ⊎ (result.status ≡ 7) }
-    ensures early { IsSome (reason_refused key.now) → (P.starts result.programs ≡ P.starts programs) × (result.journal ≡ []) × (result.answers.items ≡ []) × (result.wires.items ≡ []) }
-    ensures output { result.status ≡ 5 → Rose (O.faults out.old) (O.faults out.new) ⊎ Rose (E.faults err.old) (E.faults err.new) }
-    ensures checked { IfNone (reason_refused key.now) (IsChecked (C.answer clock.old) key.now result.journal) }
-    ensures told { IfNone (reason_refused key.now) (IsTold result.status (Rose (E.faults err.old) (E.faults err.new)) (O.taken out.old) (O.taken out.new) key.now result.journal result.answers.items) }
-    ensures wires { IfNone (reason_refused key.now) (AreWires P.Inlet.taken P.Inlet.faults P.Inlet.number P.Outlet.given P.Outlet.left P.Outlet.faults P.Outlet.number (P.starts programs) result.journal 0 (came result.journal) result.wires.items) }
-    ensures starts { IfNone (reason_refused key.now) (HaveStarted result.status program.now result.journal (P.starts programs) (P.starts result.programs)) }
-    ensures fault { IfNone (reason_refused key.now) (any is_failed_start result.journal ≡ true → Rose (P.faults programs) (P.faults result.programs)) }
+    ensures refused { IsSome (reason_refused key.now) → IsRefused (P.starts programs) (P.starts result.programs) (E.faults err.old) (E.faults err.new) result.status result.journal result.answers.items result.wires.items }
+    ensures checked { reason_refused key.now ≡ None → IsChecked (C.answer clock.old) key.now result.journal }
+    ensures ends { reason_refused key.now ≡ None → CheckEnds P.Inlet.taken P.Inlet.faults P.Inlet.number P.Outlet.given P.Outlet.left P.Outlet.faults P.Outlet.number (P.starts programs) (P.starts result.programs) (P.faults programs) (P.faults result.programs) (O.faults out.old) (O.faults out.new) (E.faults err.old) (E.faults err.new) (O.taken out.old) (O.taken out.new) result.status program.now key.now result.journal result.answers.items result.wires.items }
 {
     let bytes = key.as_bytes();
     if let Some(reason) = refusal(bytes) {
@@ -116,13 +108,8 @@ where
     requires out { O.is_open out.old ≡ true }
     requires err { E.is_open err.old ≡ true }
     requires key { reason_refused (text_of key) ≡ None }
-    ensures other { (result.status ≡ 2 → ⊥) × (result.status ≡ 3 → ⊥) }
-    ensures output { result.status ≡ 5 → Rose (O.faults out.old) (O.faults out.new) ⊎ Rose (E.faults err.old) (E.faults err.new) }
     ensures checked { IsChecked (C.answer clock.old) (text_of key.entry) result.journal }
-    ensures told { IsTold result.status (Rose (E.faults err.old) (E.faults err.new)) (O.taken out.old) (O.taken out.new) (text_of key.entry) result.journal result.answers.items }
-    ensures wires { AreWires P.Inlet.taken P.Inlet.faults P.Inlet.number P.Outlet.given P.Outlet.left P.Outlet.faults P.Outlet.number (P.starts programs) result.journal 0 (came result.journal) result.wires.items }
-    ensures starts { HaveStarted result.status program.now result.journal (P.starts programs) (P.starts result.programs) }
-    ensures fault { any is_failed_start result.journal ≡ true → Rose (P.faults programs) (P.faults result.programs) }
+    ensures ends { CheckEnds P.Inlet.taken P.Inlet.faults P.Inlet.number P.Outlet.given P.Outlet.left P.Outlet.faults P.Outlet.number (P.starts programs) (P.starts result.programs) (P.faults programs) (P.faults result.programs) (O.faults out.old) (O.faults out.new) (E.faults err.old) (E.faults err.new) (O.taken out.old) (O.taken out.new) result.status program.now (text_of key.entry) result.journal result.answers.items result.wires.items }
 {
     let stamp = clock.now();
     match prepare(alloc, key, stamp) {
@@ -150,14 +137,9 @@ where
     requires journal { ready.core.journal ≡ [] }
     requires none { (ready.answers.items ≡ []) × (ready.wires.items ≡ []) }
     requires room { (vec_len ready.answers < vec_capacity ready.answers) × (vec_len ready.wires < vec_capacity ready.wires) }
-    ensures other { (result.status ≡ 2 → ⊥) × (result.status ≡ 3 → ⊥) }
-    ensures output { result.status ≡ 5 → Rose (O.faults out.old) (O.faults out.new) ⊎ Rose (E.faults err.old) (E.faults err.new) }
     ensures legal { Legal ready.core.opening result.journal }
     ensures ran { (result.journal ≡ []) ⊎ ((answer : Answer) × HasAnswered ready.key result.journal answer) }
-    ensures told { IsTold result.status (Rose (E.faults err.old) (E.faults err.new)) (O.taken out.old) (O.taken out.new) ready.key result.journal result.answers.items }
-    ensures wires { AreWires P.Inlet.taken P.Inlet.faults P.Inlet.number P.Outlet.given P.Outlet.left P.Outlet.faults P.Outlet.number (P.starts programs) result.journal 0 (came result.journal) result.wires.items }
-    ensures starts { HaveStarted result.status program.now result.journal (P.starts programs) (P.starts result.programs) }
-    ensures fault { any is_failed_start result.journal ≡ true → Rose (P.faults programs) (P.faults result.programs) }
+    ensures ends { CheckEnds P.Inlet.taken P.Inlet.faults P.Inlet.number P.Outlet.given P.Outlet.left P.Outlet.faults P.Outlet.number (P.starts programs) (P.starts result.programs) (P.faults programs) (P.faults result.programs) (O.faults out.old) (O.faults out.new) (E.faults err.old) (E.faults err.new) (O.taken out.old) (O.taken out.new) result.status program.now ready.key result.journal result.answers.items result.wires.items }
 {
     let mut programs = programs;
     let Ready {

@@ -1,15 +1,14 @@
 // The run of an info, from its words to its closing.
-ghost use Rattle.std.specs.Prelude.{◌≡◌, ◌⊎◌, ◌<◌, ◌≤◌, [], None, IfNone, IfSome, IsSome, IfOk, option_map, vec_len, vec_capacity, true};
+ghost use Rattle.std.specs.Prelude.{◌≡◌, ◌⊎◌, ◌<◌, ◌≤◌, [], None, Some, IsSome, IfOk, option_map, vec_len, vec_capacity, true};
 ghost use Rattle.ann_key.specs.KeyRefs.{text_of};
 ghost use Rattle.annex_model.specs.Lines.{text};
 ghost use Rattle.annex_model.specs.Messages.{is_sent_key};
-ghost use Rattle.journal_model.specs.Journal.{any};
 ghost use Rattle.journal_model.specs.Legality.{Legal};
 ghost use Rattle.info_run.specs.Infos.{info_lines};
 ghost use Rattle.ann_outside.specs.Causes.{Rose};
+ghost use Rattle.special_cli.specs.Calls.{IsRefused, InfoEnds};
 ghost use Rattle.special_cli.specs.Endings.{IsPrinted};
-ghost use Rattle.special_cli.specs.Informs.{info_status, IsAsked, IsComplete, IsInformed, IsInfoTold};
-ghost use Rattle.special_cli.specs.Objects.{AreWires, HaveStarted, came, is_failed_start};
+ghost use Rattle.special_cli.specs.Informs.{info_status, IsAsked, IsInformed};
 ghost use Rattle.special_cli.specs.Openings.{info_opening};
 ghost use Rattle.special_cli.specs.Refusals.{reason_refused, refusal_if};
 
@@ -65,16 +64,9 @@ where
     P::Outlet: Drop,
     requires out { O.is_open out.old ≡ true }
     requires err { E.is_open err.old ≡ true }
-    ensures usage { result.status ≡ 2 → ⊥ }
-    ensures refused { result.status ≡ 3 → IsSome (refusal_if (option_map (λ k. k.now) key.entry)) }
-    ensures key { IsSome (refusal_if (option_map (λ k. k.now) key.entry)) → (result.status ≡ 3) ⊎ (result.status ≡ 5) ⊎ (result.status ≡ 7) }
-    ensures early { IsSome (refusal_if (option_map (λ k. k.now) key.entry)) → (P.starts result.programs ≡ P.starts programs) × (result.journal ≡ []) × (result.answers.items ≡ []) × (result.wires.items ≡ []) }
-    ensures output { result.status ≡ 5 → Rose (O.faults out.old) (O.faults out.new) ⊎ Rose (E.faults err.old) (E.faults err.new) }
-    ensures informed { IfNone (refusal_if (option_map (λ k. k.now) key.entry)) (IsInformed (option_map (λ k. k.now) key.entry) result.journal) }
-    ensures told { IfNone (refusal_if (option_map (λ k. k.now) key.entry)) (IsInfoTold result.status (O.taken out.old) (O.taken out.new) (option_map (λ k. k.now) key.entry) result.journal × (result.answers.items ≡ [])) }
-    ensures wires { IfNone (refusal_if (option_map (λ k. k.now) key.entry)) (AreWires P.Inlet.taken P.Inlet.faults P.Inlet.number P.Outlet.given P.Outlet.left P.Outlet.faults P.Outlet.number (P.starts programs) result.journal 0 (came result.journal) result.wires.items) }
-    ensures starts { IfNone (refusal_if (option_map (λ k. k.now) key.entry)) (HaveStarted result.status program.now result.journal (P.starts programs) (P.starts result.programs)) }
-    ensures fault { IfNone (refusal_if (option_map (λ k. k.now) key.entry)) (any is_failed_start result.journal ≡ true → Rose (P.faults programs) (P.faults result.programs)) }
+    ensures refused { IsSome (refusal_if (option_map (λ k. k.now) key.entry)) → IsRefused (P.starts programs) (P.starts result.programs) (E.faults err.old) (E.faults err.new) result.status result.journal result.answers.items result.wires.items }
+    ensures informed { refusal_if (option_map (λ k. k.now) key.entry) ≡ None → IsInformed (option_map (λ k. k.now) key.entry) result.journal }
+    ensures ends { refusal_if (option_map (λ k. k.now) key.entry) ≡ None → InfoEnds P.Inlet.taken P.Inlet.faults P.Inlet.number P.Outlet.given P.Outlet.left P.Outlet.faults P.Outlet.number (P.starts programs) (P.starts result.programs) (P.faults programs) (P.faults result.programs) (O.faults out.old) (O.faults out.new) (E.faults err.old) (E.faults err.new) (O.taken out.old) (O.taken out.new) result.status program.now (option_map (λ k. k.now) key.entry) result.journal result.answers.items result.wires.items }
 {
     match key {
         Some(text) => info_key(alloc, program, text, programs, out, err),
@@ -96,16 +88,9 @@ where
     P::Outlet: Drop,
     requires out { O.is_open out.old ≡ true }
     requires err { E.is_open err.old ≡ true }
-    ensures usage { result.status ≡ 2 → ⊥ }
-    ensures refused { result.status ≡ 3 → IsSome (reason_refused key.now) }
-    ensures key { IsSome (reason_refused key.now) → (result.status ≡ 3) ⊎ (result.status ≡ 5) ⊎ (result.status ≡ 7) }
-    ensures early { IsSome (reason_refused key.now) → (P.starts result.programs ≡ P.starts programs) × (result.journal ≡ []) × (result.answers.items ≡ []) × (result.wires.items ≡ []) }
-    ensures output { result.status ≡ 5 → Rose (O.faults out.old) (O.faults out.new) ⊎ Rose (E.faults err.old) (E.faults err.new) }
-    ensures informed { IfNone (reason_refused key.now) (IsInformed (Some key.now) result.journal) }
-    ensures told { IfNone (reason_refused key.now) (IsInfoTold result.status (O.taken out.old) (O.taken out.new) (Some key.now) result.journal × (result.answers.items ≡ [])) }
-    ensures wires { IfNone (reason_refused key.now) (AreWires P.Inlet.taken P.Inlet.faults P.Inlet.number P.Outlet.given P.Outlet.left P.Outlet.faults P.Outlet.number (P.starts programs) result.journal 0 (came result.journal) result.wires.items) }
-    ensures starts { IfNone (reason_refused key.now) (HaveStarted result.status program.now result.journal (P.starts programs) (P.starts result.programs)) }
-    ensures fault { IfNone (reason_refused key.now) (any is_failed_start result.journal ≡ true → Rose (P.faults programs) (P.faults result.programs)) }
+    ensures refused { IsSome (reason_refused key.now) → IsRefused (P.starts programs) (P.starts result.programs) (E.faults err.old) (E.faults err.new) result.status result.journal result.answers.items result.wires.items }
+    ensures informed { reason_refused key.now ≡ None → IsInformed (Some key.now) result.journal }
+    ensures ends { reason_refused key.now ≡ None → InfoEnds P.Inlet.taken P.Inlet.faults P.Inlet.number P.Outlet.given P.Outlet.left P.Outlet.faults P.Outlet.number (P.starts programs) (P.starts result.programs) (P.faults programs) (P.faults result.programs) (O.faults out.old) (O.faults out.new) (E.faults err.old) (E.faults err.new) (O.taken out.old) (O.taken out.new) result.status program.now (Some key.now) result.journal result.answers.items result.wires.items }
 {
     let bytes = key.as_bytes();
     if let Some(reason) = refusal(bytes) {
@@ -132,14 +117,8 @@ where
     requires out { O.is_open out.old ≡ true }
     requires err { E.is_open err.old ≡ true }
     requires key { refusal_if (option_map text_of key) ≡ None }
-    ensures other { (result.status ≡ 2 → ⊥) × (result.status ≡ 3 → ⊥) }
-    ensures output { result.status ≡ 5 → Rose (O.faults out.old) (O.faults out.new) ⊎ Rose (E.faults err.old) (E.faults err.new) }
     ensures informed { IsInformed (option_map text_of key.entry) result.journal }
-    ensures told { IsInfoTold result.status (O.taken out.old) (O.taken out.new) (option_map text_of key.entry) result.journal }
-    ensures answers { result.answers.items ≡ [] }
-    ensures wires { AreWires P.Inlet.taken P.Inlet.faults P.Inlet.number P.Outlet.given P.Outlet.left P.Outlet.faults P.Outlet.number (P.starts programs) result.journal 0 (came result.journal) result.wires.items }
-    ensures starts { HaveStarted result.status program.now result.journal (P.starts programs) (P.starts result.programs) }
-    ensures fault { any is_failed_start result.journal ≡ true → Rose (P.faults programs) (P.faults result.programs) }
+    ensures ends { InfoEnds P.Inlet.taken P.Inlet.faults P.Inlet.number P.Outlet.given P.Outlet.left P.Outlet.faults P.Outlet.number (P.starts programs) (P.starts result.programs) (P.faults programs) (P.faults result.programs) (O.faults out.old) (O.faults out.new) (E.faults err.old) (E.faults err.new) (O.taken out.old) (O.taken out.new) result.status program.now (option_map text_of key.entry) result.journal result.answers.items result.wires.items }
 {
     match prepare(alloc) {
         Ok(ready) => run_info(alloc, program, key, ready, programs, out, err),
@@ -167,15 +146,9 @@ where
     requires journal { ready.core.journal ≡ [] }
     requires none { ready.wires.items ≡ [] }
     requires room { vec_len ready.wires < vec_capacity ready.wires }
-    ensures other { (result.status ≡ 2 → ⊥) × (result.status ≡ 3 → ⊥) }
-    ensures output { result.status ≡ 5 → Rose (O.faults out.old) (O.faults out.new) ⊎ Rose (E.faults err.old) (E.faults err.new) }
     ensures legal { Legal info_opening result.journal }
     ensures asked { IsAsked (option_map text_of key.entry) result.journal }
-    ensures told { IsInfoTold result.status (O.taken out.old) (O.taken out.new) (option_map text_of key.entry) result.journal }
-    ensures answers { result.answers.items ≡ [] }
-    ensures wires { AreWires P.Inlet.taken P.Inlet.faults P.Inlet.number P.Outlet.given P.Outlet.left P.Outlet.faults P.Outlet.number (P.starts programs) result.journal 0 (came result.journal) result.wires.items }
-    ensures starts { HaveStarted result.status program.now result.journal (P.starts programs) (P.starts result.programs) }
-    ensures fault { any is_failed_start result.journal ≡ true → Rose (P.faults programs) (P.faults result.programs) }
+    ensures ends { InfoEnds P.Inlet.taken P.Inlet.faults P.Inlet.number P.Outlet.given P.Outlet.left P.Outlet.faults P.Outlet.number (P.starts programs) (P.starts result.programs) (P.faults programs) (P.faults result.programs) (O.faults out.old) (O.faults out.new) (E.faults err.old) (E.faults err.new) (O.taken out.old) (O.taken out.new) result.status program.now (option_map text_of key.entry) result.journal result.answers.items result.wires.items }
 {
     let mut programs = programs;
     let Ready {
