@@ -1,13 +1,14 @@
 // Laws over what remotes set and ask for, each the contract of a function with nothing to do.
-ghost use Rattle.std.specs.Prelude.{ℕ, ◌≡◌, ◌++◌, List, [], ◌∷◌, codes};
+ghost use Rattle.std.specs.Prelude.{ℕ, ◌≡◌, ◌++◌, not, List, [], ◌∷◌, IsTrue, codes};
 ghost use Rattle.std.specs.List.Sorted.{IsStrictlySortedBy};
 ghost use Rattle.ann_key.specs.Keys.{Parts, IsKey, without_chunk};
-ghost use Rattle.annex_model.specs.Messages.{RemoteMessage, Getconfig, Setconfig, Getcreds, Setcreds, Getuuid, Getwanted, Getstate, Setstate, Geturls};
+ghost use Rattle.annex_model.specs.Lines.{has_newline};
+ghost use Rattle.annex_model.specs.Messages.{RemoteMessage, RemoteSpells, IsSayable, Getconfig, Setconfig, Getcreds, Setcreds, Getuuid, Getwanted, Getstate, Setstate, Geturls};
 ghost use Rattle.reg_file.specs.Tables.{by_bytes};
 ghost use Rattle.reg_file.specs.Registers.{RegisterFile, IsKept};
 ghost use Rattle.journal_model.specs.declared.entry.Entry.{Entry};
 ghost use Rattle.journal_model.specs.declared.opening.Identity.{Identity};
-ghost use Rattle.journal_model.specs.Replies.{base_text, SameValues, Values, values_of, replies_by, set_by_all};
+ghost use Rattle.journal_model.specs.Replies.{base_text, are_line_fields, SameValues, Values, values_of, replies_by, set_by_all};
 ghost use Rattle.journal_model.specs.Registers.{settings, settings_from, values_at, urls_at, NamesNoLine, HasNoLine};
 ghost use Rattle.journal_model.specs.RegisterRows.{says, saying, with_second, foul_setting, tagged_saying, before, owed};
 ghost use Rattle.journal_model.specs.Rows.{greeting};
@@ -30,6 +31,12 @@ pub fn settings_grow()
 /// The base key's text spells the key without its chunk.
 pub fn base_text_is_the_base()
     ensures { (text : List ℕ) (key : Parts) → IsKey text key → IsKey (base_text text) (without_chunk key) }
+{}
+
+/// A message that a line spells has fields of their classes, and none holds byte 10 where the line holds none.
+pub fn said_fields_fit()
+    ensures class { (m : RemoteMessage) (line : List ℕ) → RemoteSpells m line → IsSayable m }
+    ensures lines { (m : RemoteMessage) (line : List ℕ) → RemoteSpells m line → IsTrue (not (has_newline line)) → IsTrue (are_line_fields m) }
 {}
 
 /// Settings, and what is owed behind them.
