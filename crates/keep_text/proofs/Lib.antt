@@ -1,0 +1,6 @@
+pub mod Spelled
+pub mod Words
+pub mod Chunked
+pub mod Cutting
+pub mod Taking
+pub mod Heads
