@@ -2,11 +2,8 @@
 use Rattle.std.proofs.Common.{◌≡◌, ℕ, ◌==◌, Bool, true, false, not, ◌&&◌, ◌||◌, List, [], ◌∷◌, Some, refl, sym, ap, ◌∙◌}
 use mathlib.Core.Bool.{false≢true}
 use Rattle.std.specs.List.{list_any}
-use Rattle.uuid.specs.Text.{hyphenated_text, lower}
 use Rattle.reg_file.specs.Registers.{is_word}
-use Rattle.reg_file.proofs.LinkLists.{both}
-use Rattle.chunk_log.specs.ChunkLines.{IsChunkLine, is_space, stamp_part, word_part, count_part, uuid_in, counts_in}
-use Rattle.chunk_log.specs.Stamps.{stamp_in}
+use Rattle.chunk_log.specs.ChunkLines.{IsChunkLine, is_space, word_part, count_part, uuid_in, counts_in}
 use Rattle.chunk_log.specs.declared.line.ChunkLine.{ChunkLine}
 use Rattle.keep_text.specs.KeptLines.{chunk_in, chunk_from}
 

@@ -1,5 +1,5 @@
 -- A text by its first line and those behind it.
-use Rattle.std.proofs.Common.{◌≡◌, ℕ, Bool, true, false, cond, List, ◌∷◌, Option, Some, None, refl, sym, ap, ◌∙◌}
+use Rattle.std.proofs.Common.{◌≡◌, ℕ, Bool, true, false, cond, List, ◌∷◌, Some, sym, ap, ◌∙◌}
 use Rattle.std.specs.Prelude.{bytes_eq}
 use Rattle.reg_file.specs.Registers.{RegisterFile, nothing_set}
 use Rattle.reg_file.specs.RegLines.{set_by_lines}

@@ -4,3 +4,4 @@ pub mod Chunked
 pub mod Cutting
 pub mod Taking
 pub mod Heads
+pub mod Texts

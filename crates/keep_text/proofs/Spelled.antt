@@ -1,8 +1,8 @@
 -- A line is read as what it spells, and as nothing else; its fields are of the classes that are asked for.
-use Rattle.std.proofs.Common.{◌≡◌, ℕ, ◌==◌, Bool, true, false, not, ◌&&◌, ◌||◌, ◌⊎◌, inl, inr, List, [], ◌∷◌, ◌++◌, Option, Some, None, refl, sym, ap, ◌∙◌}
+use Rattle.std.proofs.Common.{◌≡◌, ℕ, ◌==◌, Bool, true, false, not, ◌&&◌, ◌||◌, inl, inr, List, [], ◌∷◌, ◌++◌, Option, Some, refl, sym, ap, ◌∙◌}
 use mathlib.Core.Bool.{false≢true}
 use Rattle.std.specs.Prelude.{codes}
-use Rattle.std.specs.List.{list_all, list_any}
+use Rattle.std.specs.List.{list_any}
 use Rattle.std.proofs.lemmas.List.Folds.{list_any-append}
 use Rattle.annex_model.specs.Lines.{has_newline}
 use Rattle.annex_model.specs.Messages.{by_rows, SpelledBy, Followed, Param, Word, Key, Rest, is_space, is_sent_key, word_of, field_of}
@@ -11,7 +11,6 @@ use Rattle.annex_model.proofs.Parts.{behind, word_and_field, word_before, field_
 use Rattle.annex_model.proofs.Shapes.{Reads, rest_reads, word_rest_reads, key_rest_reads}
 use Rattle.annex_model.proofs.Rows.{Fills, AllOwn, rest_own, word_rest_own, key_rest_own, rows_fill}
 use Rattle.reg_file.specs.Registers.{is_word, is_line}
-use Rattle.reg_file.proofs.LinkLists.{both}
 use Rattle.keep_text.specs.KeptLines.{KeptLine, Setting, Expression, State, Url, Chunks, KeptSpells, KeptFits, kept_row, kept_rows, kept_reading}
 
 -- ---- what is spelled is read

@@ -1,10 +1,10 @@
 -- What reading the lines of a kept file one by one keeps.
-use Rattle.std.proofs.Common.{◌≡◌, ℕ, ◌+◌, Bool, true, false, cond, List, [], ◌∷◌, ◌++◌, filter, fold, Option, Some, None, refl, sym, ap, ◌∙◌, append_assoc}
+use Rattle.std.proofs.Common.{◌≡◌, ℕ, ◌+◌, Bool, true, cond, List, [], ◌∷◌, ◌++◌, filter, fold, Option, Some, None, refl, sym, ap, ◌∙◌, append_assoc}
 use Rattle.std.specs.List.{cons_option}
 use Rattle.std.proofs.lemmas.List.Elements.{filter-append}
 use Rattle.std.proofs.lemmas.List.Sums.{fold-append}
 use Rattle.reg_file.specs.Registers.{RegisterFile}
-use Rattle.reg_file.specs.RegLines.{Line, set_by_line, set_by_lines}
+use Rattle.reg_file.specs.RegLines.{set_by_line, set_by_lines}
 use Rattle.chunk_log.specs.NoteBooks.{counting, is_of, newer}
 use Rattle.chunk_log.specs.declared.line.ChunkLine.{ChunkLine}
 use Rattle.chunk_log.specs.declared.note.Note.{Note}

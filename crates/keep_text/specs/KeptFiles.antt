@@ -92,13 +92,25 @@ kept_of (UrlLine key url) = Url key url
 abbrev pub kept_note : Note → KeptLine
 kept_note note = Chunks note.key (line_text note.line)
 
--- the config lines of one register file, the others of another, and the notes
-abbrev pub kept_lines : RegisterFile → RegisterFile → List Note → List KeptLine
-kept_lines config now notes =
-    map kept_of (filter is_config (lines_of config)) ++ map kept_of (filter (λ line. not (is_config line)) (lines_of now)) ++ map kept_note notes
+-- the lines as they are written
+abbrev pub written_line : Line → List ℕ
+written_line line = line_of (kept_of line)
 
+abbrev pub written_note : Note → List ℕ
+written_note note = line_of (kept_note note)
+
+-- config lines, or the others
+abbrev pub is_of_kind : Bool → Line → Bool
+is_of_kind true line = is_config line
+is_of_kind false line = not (is_config line)
+
+-- the lines of that kind which the registers have, in their order
+abbrev pub lines_of_kind : Bool → RegisterFile → List (List ℕ)
+lines_of_kind kind r = map written_line (filter (is_of_kind kind) (lines_of r))
+
+-- the head, the config lines of one register file, the others of another, and the notes
 abbrev pub kept_text : RegisterFile → RegisterFile → List Note → List ℕ
-kept_text config now notes = text (head ∷ map line_of (kept_lines config now notes))
+kept_text config now notes = text (head ∷ (lines_of_kind true config ++ lines_of_kind false now ++ map written_note notes))
 
 -- a note as it is read back
 abbrev pub cut_note : Note → Note

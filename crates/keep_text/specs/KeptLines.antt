@@ -1,5 +1,5 @@
 -- The lines of a kept file.
-use Rattle.std.specs.Prelude.{ℕ, ◌≡◌, ◌==◌, Bool, true, false, if◌then◌else◌, List, [], ◌∷◌, ◌++◌, Option, Some, None, codes, option_map, is_some, IsTrue}
+use Rattle.std.specs.Prelude.{ℕ, Bool, true, false, List, [], ◌∷◌, Option, Some, None, codes, option_map, is_some, IsTrue}
 use Rattle.uuid.specs.Text.{hyphenated_text, lower}
 use Rattle.annex_model.specs.Messages.{Param, Key, Word, Rest, Row, SpelledBy, row_line, by_rows, word_of, field_of, rest_row, word_rest_row, key_rest_row}
 use Rattle.reg_file.specs.Registers.{is_word, is_line}

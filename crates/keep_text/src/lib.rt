@@ -7,6 +7,8 @@ mod kept;
 pub mod laws;
 mod lines;
 mod reading;
+mod writing;
 
 pub use error::KeepError;
 pub use reading::read_keep;
+pub use writing::write_keep;

@@ -1,8 +1,7 @@
-use Rattle.std.proofs.Common.{◌≡◌, ◌==◌, ◌∷◌, true, false, length, arith, sym, refl, ◌∙◌}
-use Rattle.std.specs.Prelude.{bytes_eq}
+use Rattle.std.proofs.Common.{◌≡◌, ◌==◌, ◌∷◌, false, length, arith, sym, ◌∙◌}
 use Rattle.std.proofs.lemmas.Bool.Decides.{nat_tests}
 use Rattle.std.proofs.lemmas.Result.{err_from_is_err_and}
-use Rattle.keep_text.specs.KeptFiles.{head, lines_in, IsFaultOf}
+use Rattle.keep_text.specs.KeptFiles.{lines_in, IsFaultOf}
 use Rattle.keep_text.proofs.Cutting.{first_line}
 use Rattle.keep_text.proofs.Heads.{other_head, right_head, head_fault, head_registers, head_notes}
 use Rattle.keep_text.proofs.reading.read_keep.Goals as goal
