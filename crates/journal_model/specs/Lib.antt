@@ -6,6 +6,9 @@ pub mod Links
 pub mod Output
 pub mod Parts
 pub mod Projection
+pub mod RegisterRows
+pub mod Registers
+pub mod Replies
 pub mod Room
 pub mod Rows
 pub mod Wires

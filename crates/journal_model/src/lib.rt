@@ -6,6 +6,7 @@ mod entry;
 mod journal;
 pub mod laws;
 mod opening;
+pub mod register_laws;
 
 pub use annex_model::{Final, Verdict, Why};
 pub use answer::Answer;

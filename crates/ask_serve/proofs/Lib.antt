@@ -1,0 +1,5 @@
+pub mod Fields
+pub mod KeyDirectories
+pub mod Owed
+pub mod Settable
+pub mod UrlLines

@@ -1,0 +1,11 @@
+//! What a remote is answered when it asks its host for something, and what it sets.
+#![tactic(auto)]
+
+mod directories;
+mod lines;
+mod replies;
+mod serving;
+mod setting;
+
+pub use replies::Replies;
+pub use serving::serve;

@@ -1,0 +1,117 @@
+-- Kept files: what their text says, and how they are written.
+use Rattle.std.specs.Prelude.{ℕ, ◌≡◌, ◌+◌, ◌==◌, not, Bool, true, false, if◌then◌else◌, List, [], ◌∷◌, ◌++◌, Option, Some, None, map, filter, filter_map, codes, bytes_eq}
+use Rattle.annex_model.specs.Lines.{text}
+use Rattle.reg_file.specs.Registers.{RegisterFile, nothing_set}
+use Rattle.reg_file.specs.RegLines.{Line, ConfigLine, WantedLine, StateLine, UrlLine, lines_of, set_by_lines}
+use Rattle.chunk_log.specs.ChunkLines.{line_text}
+use Rattle.chunk_log.specs.LogLaws.{cut}
+use Rattle.chunk_log.specs.NoteBooks.{counting}
+use Rattle.chunk_log.specs.declared.note.Note.{Note}
+use Rattle.keep_text.specs.KeptLines.{KeptLine, Setting, Expression, State, Url, Chunks, kept_reading, is_kept_line, setting_of, note_of, line_of}
+use Rattle.keep_text.specs.declared.error.KeepError.{KeepError}
+use Rattle.keep_text.specs.declared.error.KeepError.TheVariants.{BadLine, NoMemory}
+
+-- ---- lines
+
+abbrev pub with_byte : ℕ → List (List ℕ) → List (List ℕ)
+with_byte b [] = (b ∷ []) ∷ []
+with_byte b (line ∷ lines) = (b ∷ line) ∷ lines
+
+-- the lines of the text, each up to its byte 10; the last may lack it
+abbrev pub lines_in : List ℕ → List (List ℕ)
+lines_in [] = []
+lines_in (b ∷ bytes) = if b == 10 then [] ∷ lines_in bytes else with_byte b (lines_in bytes)
+
+abbrev pub head : List ℕ
+head = codes "annex-keep 1"
+
+-- the number of the first line that is none of a kept file's, where the first of them has the number n
+abbrev pub first_bad : ℕ → List (List ℕ) → Option ℕ
+first_bad n [] = None
+first_bad n (line ∷ lines) = if is_kept_line line then first_bad (n + 1) lines else Some n
+
+abbrev pub bad_among : List (List ℕ) → Option ℕ
+bad_among [] = None
+bad_among (first ∷ lines) = if bytes_eq first head then first_bad 2 lines else Some 1
+
+-- the number of the text's first bad line, from 1. The empty text has none
+abbrev pub bad_line : List ℕ → Option ℕ
+bad_line bytes = bad_among (lines_in bytes)
+
+-- ---- what the lines say
+
+abbrev pub behind_head : List (List ℕ) → List (List ℕ)
+behind_head [] = []
+behind_head (first ∷ lines) = lines
+
+abbrev pub settings_in : List (List ℕ) → List Line
+settings_in lines = filter_map (λ line. setting_of (kept_reading line)) lines
+
+abbrev pub notes_in : List (List ℕ) → List Note
+notes_in lines = filter_map (λ line. note_of (kept_reading line)) lines
+
+-- the registers that the text's lines set, one behind the other
+abbrev pub registers_of : List ℕ → RegisterFile
+registers_of bytes = set_by_lines nothing_set (settings_in (behind_head (lines_in bytes)))
+
+-- the notes of its lines, in their order
+abbrev pub notes_of : List ℕ → List Note
+notes_of bytes = notes_in (behind_head (lines_in bytes))
+
+-- of each key, UUID and chunk size the same line counts in both
+abbrev pub CountsAs : List Note → List Note → Type 0
+CountsAs notes others = (key uuid : List ℕ) (chunk : ℕ) → counting notes key uuid chunk ≡ counting others key uuid chunk
+
+-- the error names the first bad line. Want of memory may come at any text
+abbrev pub IsFaultOf : List ℕ → KeepError → Type 0
+IsFaultOf bytes (BadLine line) = bad_line bytes ≡ Some line
+IsFaultOf bytes NoMemory = Unit {0}
+
+-- the same, of the lines behind the head
+abbrev pub IsFirstFault : List (List ℕ) → KeepError → Type 0
+IsFirstFault lines (BadLine line) = first_bad 2 lines ≡ Some line
+IsFirstFault lines NoMemory = Unit {0}
+
+-- the same of one line, which has that number and is right or not
+abbrev pub IsLineFault : Bool → ℕ → KeepError → Type 0
+IsLineFault right number (BadLine line) = (line ≡ number) × (right ≡ false)
+IsLineFault right number NoMemory = Unit {0}
+
+-- ---- writing
+
+abbrev pub is_config : Line → Bool
+is_config (ConfigLine name value) = true
+is_config line = false
+
+abbrev pub kept_of : Line → KeptLine
+kept_of (ConfigLine name value) = Setting name value
+kept_of (WantedLine expression) = Expression expression
+kept_of (StateLine key value) = State key value
+kept_of (UrlLine key url) = Url key url
+
+abbrev pub kept_note : Note → KeptLine
+kept_note note = Chunks note.key (line_text note.line)
+
+-- the lines as they are written
+abbrev pub written_line : Line → List ℕ
+written_line line = line_of (kept_of line)
+
+abbrev pub written_note : Note → List ℕ
+written_note note = line_of (kept_note note)
+
+-- config lines, or the others
+abbrev pub is_of_kind : Bool → Line → Bool
+is_of_kind true line = is_config line
+is_of_kind false line = not (is_config line)
+
+-- the lines of that kind which the registers have, in their order
+abbrev pub lines_of_kind : Bool → RegisterFile → List (List ℕ)
+lines_of_kind kind r = map written_line (filter (is_of_kind kind) (lines_of r))
+
+-- the head, the config lines of one register file, the others of another, and the notes
+abbrev pub kept_text : RegisterFile → RegisterFile → List Note → List ℕ
+kept_text config now notes = text (head ∷ (lines_of_kind true config ++ lines_of_kind false now ++ map written_note notes))
+
+-- a note as it is read back
+abbrev pub cut_note : Note → Note
+cut_note note = record note { line = record note.line { stamp = cut note.line.stamp } }

@@ -1,0 +1,150 @@
+// Writing a kept file.
+ghost use Rattle.std.specs.Prelude.{◌≡◌, ◌++◌, ◌∷◌, [], IfOk, OnOk, map, filter};
+ghost use Rattle.ann_key.specs.KeyRefs.{text_of};
+ghost use Rattle.annex_model.specs.Lines.{text as text_of_lines};
+ghost use Rattle.reg_file.specs.RegLines.{line_of as register_line, lines_of};
+ghost use Rattle.chunk_log.specs.ChunkLines.{IsWritable, line_text};
+ghost use Rattle.keep_text.specs.KeptLines.{Chunks, line_of as kept_line};
+ghost use Rattle.keep_text.specs.KeptFiles.{kept_text, is_config, is_of_kind, lines_of_kind, written_line, written_note};
+
+use ann_key::{Bytes, KeyRef, NoMemory};
+use chunk_log::{ChunkLine, NoteBook, write_line};
+use reg_file::{RegLine, Registers};
+use std::alloc::Global;
+
+/// The text of a kept file: the config values of the first registers, all else of the second, and the notes.
+pub fn write_keep(
+    alloc: Global,
+    config: &Registers,
+    now: &Registers,
+    notes: &NoteBook,
+) -> Result<Bytes, NoMemory>
+    ensures { IfOk result (λ bytes. bytes ≡ kept_text config.now now.now notes.now) }
+{
+    let mut text = Vec::from_slice(alloc, b"annex-keep 1\n")?;
+    push_registers(alloc, &mut text, config, true)?;
+    push_registers(alloc, &mut text, now, false)?;
+    push_notes(alloc, &mut text, notes)?;
+    Ok(Bytes::from_vec(text))
+}
+
+// The lines of the registers that are config lines, or the others.
+fn push_registers(
+    alloc: Global,
+    text: &mut Vec<u8>,
+    registers: &Registers,
+    config: bool,
+) -> Result<(), NoMemory>
+    ensures { OnOk result (text.new.items ≡ text.old.items ++ text_of_lines (lines_of_kind config registers.now)) }
+{
+    let lines = all_lines(alloc, registers)?;
+    push_kind(text, lines.as_slice(), config)
+}
+
+fn all_lines<'a>(alloc: Global, registers: &'a Registers) -> Result<Vec<RegLine<'a>>, NoMemory>
+    ensures { IfOk result (λ lines. map register_line lines.items ≡ lines_of registers.now) }
+{
+    let mut lines = Vec::new(alloc);
+    while let Some(line) = registers.line(lines.len()) {
+        lines.push(line)?;
+    }
+    Ok(lines)
+}
+
+fn push_kind(text: &mut Vec<u8>, lines: &[RegLine<'_>], config: bool) -> Result<(), NoMemory>
+    ensures { OnOk result (text.new.items ≡ text.old.items ++ text_of_lines (map written_line (filter (is_of_kind config) (map register_line lines.now)))) }
+{
+    for line in lines {
+        push_if(text, line, config)?;
+    }
+    Ok(())
+}
+
+fn push_if(text: &mut Vec<u8>, line: &RegLine<'_>, config: bool) -> Result<(), NoMemory>
+    ensures { OnOk result (text.new.items ≡ text.old.items ++ text_of_lines (map written_line (filter (is_of_kind config) (register_line line.now ∷ [])))) }
+{
+    if is_config(line) == config {
+        push_register(text, *line)
+    } else {
+        Ok(())
+    }
+}
+
+fn is_config(line: &RegLine<'_>) -> bool
+    ensures { result ≡ is_config (register_line line.now) }
+{
+    match line {
+        RegLine::Config { .. } => true,
+        RegLine::Wanted { .. } | RegLine::State { .. } | RegLine::Url { .. } => false,
+    }
+}
+
+fn push_register(text: &mut Vec<u8>, line: RegLine<'_>) -> Result<(), NoMemory>
+    ensures { OnOk result (text.new.items ≡ text.old.items ++ text_of_lines (written_line (register_line line.entry) ∷ [])) }
+{
+    match line {
+        RegLine::Config { name, value } => push_two(text, b"config", name, value),
+        RegLine::Wanted { value } => push_one(text, b"wanted", value),
+        RegLine::State { key, value } => push_two(text, b"state", key, value),
+        RegLine::Url { key, url } => push_two(text, b"url", key, url),
+    }
+}
+
+// The word and a field behind a space.
+fn push_one(text: &mut Vec<u8>, word: &[u8], field: &[u8]) -> Result<(), NoMemory>
+    ensures { OnOk result (text.new.items ≡ text.old.items ++ ((word.now ++ 32 ∷ field.now) ++ 10 ∷ [])) }
+{
+    text.extend_from_slice(word)?;
+    text.push(b' ')?;
+    text.extend_from_slice(field)?;
+    text.push(b'\n')?;
+    Ok(())
+}
+
+// The word and two fields, each behind a space.
+fn push_two(text: &mut Vec<u8>, word: &[u8], first: &[u8], second: &[u8]) -> Result<(), NoMemory>
+    ensures { OnOk result (text.new.items ≡ text.old.items ++ ((word.now ++ 32 ∷ (first.now ++ 32 ∷ second.now)) ++ 10 ∷ [])) }
+{
+    text.extend_from_slice(word)?;
+    text.push(b' ')?;
+    push_one(text, first, second)
+}
+
+fn push_notes(alloc: Global, text: &mut Vec<u8>, notes: &NoteBook) -> Result<(), NoMemory>
+    ensures { OnOk result (text.new.items ≡ text.old.items ++ text_of_lines (map written_note notes.now)) }
+{
+    let lines = note_lines(alloc, notes)?;
+    push_lines(text, lines.as_slice())
+}
+
+fn note_lines(alloc: Global, notes: &NoteBook) -> Result<Vec<Bytes>, NoMemory>
+    ensures { IfOk result (λ lines. lines.items ≡ map written_note notes.now) }
+{
+    let mut lines = Vec::new(alloc);
+    while let Some((key, line)) = notes.line(lines.len()) {
+        lines.push(note_line(alloc, key, line)?)?;
+    }
+    Ok(lines)
+}
+
+fn note_line(alloc: Global, key: KeyRef<'_>, line: &ChunkLine) -> Result<Bytes, NoMemory>
+    requires { IsWritable line.now }
+    ensures { IfOk result (λ bytes. bytes ≡ kept_line (Chunks (text_of key.entry) (line_text line.now))) }
+{
+    let log = write_line(alloc, line)?;
+    let mut text = Vec::from_slice(alloc, b"chunks ")?;
+    text.extend_from_slice(key.text())?;
+    text.push(b' ')?;
+    text.extend_from_slice(log.view())?;
+    Ok(Bytes::from_vec(text))
+}
+
+fn push_lines(text: &mut Vec<u8>, lines: &[Bytes]) -> Result<(), NoMemory>
+    ensures { OnOk result (text.new.items ≡ text.old.items ++ text_of_lines lines.now) }
+{
+    for line in lines {
+        text.extend_from_slice(line.view())?;
+        text.push(b'\n')?;
+    }
+    Ok(())
+}
