@@ -11,7 +11,7 @@ use Rattle.ann_outside.specs.Causes.{Rose}
 use Rattle.ann_outside.proofs.Telling.{appends_both}
 use Rattle.annex_model.specs.Lines.{text, has_newline}
 use Rattle.annex_model.specs.Messages.{HostMessage, host_reading}
-use Rattle.wire_line.specs.Held.{has_line, first_line, TakesLine}
+use Rattle.wire_line.specs.HeldBytes.{has_line, first_line, TakesLine}
 use Rattle.wire_line.proofs.Firsts.{end_of, end_of-le-length, ends_within, has_line_at}
 use Rattle.kit_core.specs.declared.call.Call.{Call}
 use Rattle.kit_core.specs.Kits.{Heard, messages, calls_of, lines_said, lines_to, with_call, IsAskedBy, due_of}

@@ -4,7 +4,7 @@ use Rattle.std.specs.Io.KnownBytes.{Appends}
 use Rattle.ann_outside.specs.Causes.{StaysUntold}
 use Rattle.annex_model.specs.Lines.{text}
 use Rattle.annex_model.specs.Messages.{HostMessage, host_reading}
-use Rattle.wire_line.specs.Held.{TakesPiece}
+use Rattle.wire_line.specs.HeldBytes.{TakesPiece}
 use Rattle.kit_core.specs.declared.call.Call.{Call}
 use Rattle.kit_core.specs.Stages.{KitValue, Steps, Stops}
 use Rattle.kit_serve.specs.declared.end.End.{End}

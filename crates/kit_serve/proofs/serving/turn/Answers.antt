@@ -1,6 +1,6 @@
 use Rattle.std.proofs.Common.{◌<◌, ◌≤◌, ℕ, List, not, length, IsTrue, ap, ◌∙◌, subst}
 use Rattle.annex_model.specs.Lines.{has_newline}
-use Rattle.wire_line.specs.Held.{has_line}
+use Rattle.wire_line.specs.HeldBytes.{has_line}
 use Rattle.kit_serve.specs.Turns.{Hears}
 use Rattle.kit_serve.proofs.Turning.{heard_goes, heard_ends, long_ends, read_goes, read_ends, no_line, long_line, line_whole}
 use Rattle.kit_serve.proofs.serving.turn.Goals as goal
