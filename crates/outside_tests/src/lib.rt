@@ -11,3 +11,5 @@ mod disk;
 mod machine;
 #[cfg(test)]
 mod memory;
+#[cfg(test)]
+mod shared;

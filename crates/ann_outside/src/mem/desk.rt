@@ -64,6 +64,14 @@ impl MemDesk {
         self.log.as_slice()
     }
 
+    /// Forgets its calls so far; the numbers of the calls to come go on.
+    pub fn forget_log(&mut self)
+        ensures log { ⟦<MemDesk as Desk>⟧.log self.new ≡ Some [] }
+        ensures same { SameButLog self.old self.new }
+    {
+        self.log.clear();
+    }
+
     // A desk with the same files, on which no call was made, and of which the same calls fail.
     pub(super) fn begun(&self) -> Result<MemDesk, NoMemory>
         ensures files { IfOk result (λ d. d.files.items ≡ self.now.files.items) }

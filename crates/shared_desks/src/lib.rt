@@ -1,0 +1,161 @@
+// Desks that are all one map of files, for several threads.
+//
+// The map is a desk in memory behind a lock. What another thread does to it is known to nobody, so these desks tell
+// their counts alone.
+#![tactic(auto)]
+
+ghost use Rattle.std.specs.Prelude.{◌≡◌, None, IfOk};
+ghost use Rattle.ann_outside.specs.DeskCauses.{HasCauses};
+
+use ann_key::NoMemory;
+use ann_outside::{Desk, DeskError, Desks, MemDesk};
+use std::alloc::Global;
+use std::marker::Send;
+use std::sync::{Arc, Mutex, Wait};
+
+/// Makes desks over the files of one desk in memory. The calls of that desk that are to fail are counted over all calls of
+/// them together.
+#[derive(Drop)]
+pub struct SharedDesks<R> {
+    rt: R,
+    map: Arc<Mutex<MemDesk>>,
+}
+
+/// A desk over the shared files. No log is kept.
+#[derive(Drop)]
+pub struct SharedDesk<R> {
+    rt: R,
+    map: Arc<Mutex<MemDesk>>,
+    faults: u64,
+    missing: u64,
+}
+
+impl<R: Wait + Clone + Drop + Send> SharedDesks<R> {
+    /// Desks over the files of this one. They wait for the lock by that runtime.
+    pub fn new(rt: R, alloc: Global, desk: MemDesk) -> Result<SharedDesks<R>, NoMemory>
+        ensures { IfOk result (λ d. ⟦<SharedDesks<R> as Desks>⟧.made d ≡ None) }
+    {
+        let map = Arc::new(alloc, Mutex::new(desk))?;
+        Ok(SharedDesks { rt, map })
+    }
+}
+
+impl<R: Wait + Clone + Drop + Send> Desks for SharedDesks<R> {
+    type Desk = SharedDesk<R>;
+
+    ghost made = { λ s. None };
+
+    fn desk(&mut self, _number: u32) -> Result<SharedDesk<R>, NoMemory> {
+        let rt = self.rt.clone()?;
+        let map = self.map.clone()?;
+        Ok(SharedDesk {
+            rt,
+            map,
+            faults: 0,
+            missing: 0,
+        })
+    }
+}
+
+// A file that is shorter than asked stays as it is.
+fn cut_if_long(desk: &mut MemDesk, name: &str, size: u64) -> Result<(), DeskError> {
+    if let Some(bytes) = desk.content(name) {
+        if (bytes.view().len() as u64) < size {
+            return Err(DeskError::Failed);
+        }
+    }
+    desk.cut(name, size)
+}
+
+impl<R: Wait> SharedDesk<R> {
+    // Counts a fault or a missing file where the outcome is one, and hands the outcome on.
+    fn counted<T>(&mut self, outcome: Result<T, DeskError>) -> Result<T, DeskError>
+        ensures same { result ≡ outcome }
+        ensures causes { HasCauses (⟦<SharedDesk<R> as Desk>⟧.counts self.old) (⟦<SharedDesk<R> as Desk>⟧.counts self.new) result }
+    {
+        match outcome {
+            Err(DeskError::Failed) => self.faults = self.faults.saturating_add(1),
+            Err(DeskError::Missing) => self.missing = self.missing.saturating_add(1),
+            _ => {}
+        }
+        outcome
+    }
+}
+
+impl<R: Wait> Desk for SharedDesk<R> {
+    ghost counts = { λ d. record { faults = d.faults; missing = d.missing } };
+
+    ghost files = { λ d. None };
+
+    ghost log = { λ d. None };
+
+    fn size(&mut self, name: &str) -> Result<u64, DeskError> {
+        let size = {
+            let mut desk = self.map.lock(&self.rt);
+            let size = desk.size(name);
+            desk.forget_log();
+            size
+        };
+        self.counted(size)
+    }
+
+    fn read_at(&mut self, name: &str, from: u64, buf: &mut [u8]) -> Result<usize, DeskError> {
+        let count = {
+            let mut desk = self.map.lock(&self.rt);
+            let count = desk.read_at(name, from, buf);
+            desk.forget_log();
+            count
+        };
+        self.counted(count)
+    }
+
+    fn create(&mut self, name: &str) -> Result<(), DeskError> {
+        let done = {
+            let mut desk = self.map.lock(&self.rt);
+            let done = desk.create(name);
+            desk.forget_log();
+            done
+        };
+        self.counted(done)
+    }
+
+    fn append(&mut self, name: &str, piece: &[u8]) -> Result<(), DeskError> {
+        let done = {
+            let mut desk = self.map.lock(&self.rt);
+            let done = desk.append(name, piece);
+            desk.forget_log();
+            done
+        };
+        self.counted(done)
+    }
+
+    fn cut(&mut self, name: &str, size: u64) -> Result<(), DeskError> {
+        let done = {
+            let mut desk = self.map.lock(&self.rt);
+            let done = cut_if_long(&mut desk, name, size);
+            desk.forget_log();
+            done
+        };
+        self.counted(done)
+    }
+
+    fn rename(&mut self, from: &str, to: &str) -> Result<(), DeskError> {
+        let done = {
+            let mut desk = self.map.lock(&self.rt);
+            let done = desk.rename(from, to);
+            desk.forget_log();
+            done
+        };
+        self.counted(done)
+    }
+
+    fn remove(&mut self, name: &str) -> Result<(), DeskError> {
+        let done = {
+            let mut desk = self.map.lock(&self.rt);
+            let done = desk.remove(name);
+            desk.forget_log();
+            done
+        };
+        self.counted(done)
+    }
+}
