@@ -5,3 +5,6 @@ pub mod Cutting
 pub mod Taking
 pub mod Heads
 pub mod Texts
+pub mod LogText
+pub mod WrittenLines
+pub mod WrittenRead

@@ -1,9 +1,9 @@
 -- Kept files: what their text says, and how they are written.
-use Rattle.std.specs.Prelude.{ℕ, ◌≡◌, ◌+◌, ◌==◌, not, Bool, true, false, if◌then◌else◌, List, [], ◌∷◌, ◌++◌, Option, Some, None, map, filter, filter_map, codes, bytes_eq}
+use Rattle.std.specs.Prelude.{ℕ, ◌≡◌, ◌+◌, ◌==◌, not, Bool, true, false, if◌then◌else◌, List, [], ◌∷◌, ◌++◌, Option, Some, None, map, filter, filter_map, codes, bytes_eq, IsTrue, ◌<◌, ◌^◌}
 use Rattle.annex_model.specs.Lines.{text}
-use Rattle.reg_file.specs.Registers.{RegisterFile, nothing_set}
+use Rattle.reg_file.specs.Registers.{RegisterFile, nothing_set, is_key_word}
 use Rattle.reg_file.specs.RegLines.{Line, ConfigLine, WantedLine, StateLine, UrlLine, lines_of, set_by_lines}
-use Rattle.chunk_log.specs.ChunkLines.{line_text}
+use Rattle.chunk_log.specs.ChunkLines.{line_text, IsWritable}
 use Rattle.chunk_log.specs.LogLaws.{cut}
 use Rattle.chunk_log.specs.NoteBooks.{counting}
 use Rattle.chunk_log.specs.declared.note.Note.{Note}
@@ -115,3 +115,11 @@ kept_text config now notes = text (head ∷ (lines_of_kind true config ++ lines_
 -- a note as it is read back
 abbrev pub cut_note : Note → Note
 cut_note note = record note { line = record note.line { stamp = cut note.line.stamp } }
+
+-- what a note can be written and read with
+pub record IsKeepable (note : Note) : Type 0 where
+  pub key : IsTrue (is_key_word note.key)
+  pub line : IsWritable note.line
+  pub seconds : note.line.stamp.seconds < 2 ^ 64
+  pub chunk : note.line.chunk < 2 ^ 64
+  pub count : note.line.count < 2 ^ 64
