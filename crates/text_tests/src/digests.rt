@@ -1,0 +1,53 @@
+// Digests, hash directories, and whether content fits its key.
+use crate::{fits, words};
+use ann_digest::{Digest, lower, mixed};
+use ann_key::{KeyRef, NoMemory};
+use std::alloc::Global;
+
+/// What is said of a key, before a bar, and of content; or of the bytes of a digest.
+pub(crate) fn said(alloc: Global, word: &str, text: &str) -> Result<String, NoMemory> {
+    if word == "digest" {
+        let bytes = words::bytes(alloc, text)?;
+        return digest(alloc, bytes.as_slice());
+    }
+    let (key, content) = words::halves(text);
+    match KeyRef::read(key.as_bytes()) {
+        Ok(key) if word == "directories" => directories(alloc, key),
+        Ok(key) if word == "pattern" => {
+            let content = pattern(alloc)?;
+            fits::in_any_cut(alloc, key, content.as_slice())
+        }
+        Ok(key) => fits::in_any_cut(alloc, key, content.as_bytes()),
+        Err(_) => words::told(alloc, "no key"),
+    }
+}
+
+// 200 bytes of many values.
+fn pattern(alloc: Global) -> Result<Vec<u8>, NoMemory> {
+    let mut content = Vec::new(alloc);
+    for i in 0..200usize {
+        content.push(((7 * i + i / 13) % 256) as u8)?;
+    }
+    Ok(content)
+}
+
+fn directories(alloc: Global, key: KeyRef<'_>) -> Result<String, NoMemory> {
+    let lower = lower(key);
+    let mixed = mixed(key);
+    let lower = words::shown(&lower);
+    let mixed = words::shown(&mixed);
+    Ok(format!(in alloc; " => {lower} {mixed}")?)
+}
+
+// How a digest of these bytes is printed, what was given, and whether one byte more makes another.
+fn digest(alloc: Global, bytes: &[u8]) -> Result<String, NoMemory> {
+    if bytes.len() > 63 {
+        return words::told(alloc, "too long");
+    }
+    let digest = Digest::of(bytes);
+    let given = digest.given();
+    let mut longer = Vec::from_slice(alloc, bytes)?;
+    longer.push(0)?;
+    let differs = digest != Digest::of(longer.as_slice());
+    Ok(format!(in alloc; " => {digest} {given:?} {differs}")?)
+}
