@@ -12,6 +12,7 @@ pub fn write_all<S: Sink>(sink: &mut S, bytes: &[u8]) -> Result<(), Failed>
     ensures prefix { (n : ℕ) × Appends (S.taken sink.old) (S.taken sink.new) (take n bytes.now) }
     ensures silent { StaysUntold (S.taken sink.old) (S.taken sink.new) }
     ensures later { S.faults sink.old ≤ S.faults sink.new }
+    ensures done { OnOk result (S.faults sink.new ≡ S.faults sink.old) }
     ensures err { OnErr result (Rose (S.faults sink.old) (S.faults sink.new)) }
     ensures open { S.is_open sink.new ≡ true }
     ensures number { S.number sink.new ≡ S.number sink.old }

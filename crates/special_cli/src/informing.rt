@@ -35,7 +35,7 @@ enum Interview<I: Sink, O: Source, S> {
 }
 
 // Starts the program, and asks its child about itself once it is ready.
-fn interview<P: Programs>(
+fn hold_interview<P: Programs>(
     alloc: Global,
     program: &str,
     key: Option<KeyRef<'_>>,
@@ -115,7 +115,7 @@ where
     ensures opening { core.new.opening ≡ core.old.opening }
     ensures legal { Legal core.new.opening core.new.journal }
 {
-    match interview(alloc, program, key, programs, core) {
+    match hold_interview(alloc, program, key, programs, core) {
         Interview::Over {
             mut link,
             stub,

@@ -1,5 +1,5 @@
-use Rattle.std.proofs.Common.{ℕ, ◌+◌, List, take, drop, length, arith, sym, ap, ◌∙◌, subst}
-use Rattle.ann_outside.proofs.Telling.{appends_both, taken_next}
+use Rattle.std.proofs.Common.{arith, ◌∙◌}
+use Rattle.ann_outside.proofs.Telling.{taken_next}
 use Rattle.ann_outside.proofs.writing.write_all.Goals as goal
 
 pub loop-at-preserved : goal.loop-at-preserved
@@ -7,7 +7,7 @@ loop-at-preserved g c = record {
   within = omega (arith, c.in-Ok.ensures.bound);
   taken = taken_next (g.S.Sink.taken c.args.sink.now) (g.S.Sink.taken c.loop-at.sink) (g.S.Sink.taken c.write.new.self) c.args.bytes.now c.loop-at.at c.in-Ok.n c.loop-at.invariant.taken c.in-Ok.ensures.bytes;
   silent = λ e. c.in-Ok.ensures.silent (c.loop-at.invariant.silent e);
-  later = omega (arith, c.loop-at.invariant.later, c.in-Ok.ensures.cause.later);
+  faults = c.in-Ok.ensures.cause.done ∙ c.loop-at.invariant.faults;
   opened = c.in-Ok.ensures.open;
   number = c.in-Ok.ensures.number ∙ c.loop-at.invariant.number;
 }

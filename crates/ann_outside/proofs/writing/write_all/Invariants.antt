@@ -8,7 +8,7 @@ invariant-loop-at g l = record {
   within : l.at ≤ length l.bytes;
   taken : Appends (g.S.Sink.taken l.initial.sink) (g.S.Sink.taken l.sink) (take l.at l.bytes);
   silent : StaysUntold (g.S.Sink.taken l.initial.sink) (g.S.Sink.taken l.sink);
-  later : g.S.Sink.faults l.initial.sink ≤ g.S.Sink.faults l.sink;
+  faults : g.S.Sink.faults l.sink ≡ g.S.Sink.faults l.initial.sink;
   opened : g.S.Sink.is_open l.sink ≡ true;
   number : g.S.Sink.number l.sink ≡ g.S.Sink.number l.initial.sink;
 }

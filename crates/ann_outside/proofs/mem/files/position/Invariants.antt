@@ -1,0 +1,9 @@
+use Rattle.std.proofs.Common.{◌≡◌, drop}
+use Rattle.ann_outside.specs.Files.{content}
+use Rattle.ann_outside.proofs.mem.files.position.Given as goal
+
+abbrev pub invariant-loop-file : goal.invariant-loop-file
+invariant-loop-file l = record {
+  place : l.at ≡ l.file-index;
+  before : content l.name (drop l.file-index l.files) ≡ content l.name l.files;
+}

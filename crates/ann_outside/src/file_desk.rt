@@ -1,0 +1,141 @@
+// Desks: files by name, which a task reads and writes.
+//
+// A desk has a count of faults and a count of missing files, and neither ever falls. A call answers `Failed` only where
+// the first rose in that call, and `Missing` only where the second did. What files it has, and the log of its calls,
+// are meanings that it may or may not tell; a desk in memory tells them, a real one doesn't.
+ghost use Rattle.std.specs.Prelude.{◌≡◌, ℕ, ◌+◌, ◌<◌, ◌^◌, List, Option, IfOk, IfSome, MatchResult};
+ghost use Rattle.std.specs.Io.{ReadsAtMost};
+ghost use Rattle.ann_outside.specs.Calls.{logged, bytes_read, IsLogBlank};
+ghost use Rattle.ann_outside.specs.Causes.{AddsOne, Stays};
+ghost use Rattle.ann_outside.specs.DeskCauses.{HasCauses, Counts};
+ghost use Rattle.ann_outside.specs.Desks.{Made, no_counts};
+ghost use Rattle.ann_outside.specs.Files.{Files, WhereTold, CanCut, SizeIs, ReadIs, CreateDoes, AppendDoes, CutDoes, RenameDoes, RemoveDoes};
+ghost use Rattle.ann_outside.specs.declared.file_desk.Call.{Call};
+ghost use Rattle.ann_outside.specs.declared.file_desk.Call.TheVariants.{Size, ReadAt, Create, Append, Cut, Rename, Remove};
+
+use ann_key::{Bytes, NoMemory, Text};
+use std::marker::Send;
+
+/// Why a call of a desk did nothing.
+#[derive(Clone, Copy, Debug, PartialEq, Eq)]
+pub enum DeskError {
+    /// It failed, and the desk counted it.
+    Failed,
+    /// There is no file of that name, and the desk counted it.
+    Missing,
+    /// No memory was found.
+    NoMemory,
+}
+
+/// A call of a desk, and its answer.
+#[derive(Drop)]
+pub enum Call {
+    Size {
+        name: Text,
+        answer: Result<u64, DeskError>,
+    },
+    /// The bytes that were read from that place on.
+    ReadAt {
+        name: Text,
+        from: u64,
+        answer: Result<Bytes, DeskError>,
+    },
+    Create {
+        name: Text,
+        answer: Result<(), DeskError>,
+    },
+    Append {
+        name: Text,
+        piece: Bytes,
+        answer: Result<(), DeskError>,
+    },
+    Cut {
+        name: Text,
+        size: u64,
+        answer: Result<(), DeskError>,
+    },
+    Rename {
+        from: Text,
+        to: Text,
+        answer: Result<(), DeskError>,
+    },
+    Remove {
+        name: Text,
+        answer: Result<(), DeskError>,
+    },
+}
+
+/// Files by name.
+pub trait Desk {
+    ghost counts: { Self → Counts };
+
+    // its files, where it tells them
+    ghost files: { Self → Option Files };
+
+    // its calls so far, where it tells them; a call that found no memory isn't among them
+    ghost log: { Self → Option (List Call) };
+
+    /// The length of the file.
+    fn size(&mut self, name: &str) -> Result<u64, DeskError>
+        ensures causes { HasCauses (counts self.old) (counts self.new) result }
+        ensures files { files self.new ≡ files self.old }
+        ensures told { IfSome (files self.old) (λ fs. SizeIs name.now fs result) }
+        ensures log { log self.new ≡ logged (log self.old) (Size name.now result) };
+
+    /// Puts bytes of the file, from place `from` on, at the front of `buf`, and answers how many. 0 at a `buf` that isn't empty
+    /// is the end of the file.
+    fn read_at(&mut self, name: &str, from: u64, buf: &mut [u8]) -> Result<usize, DeskError>
+        ensures bound { ReadsAtMost result buf.new }
+        ensures place { IfOk result (λ n. from + n < 2 ^ 64) }
+        ensures causes { HasCauses (counts self.old) (counts self.new) result }
+        ensures files { files self.new ≡ files self.old }
+        ensures told { IfSome (files self.old) (λ fs. ReadIs name.now from buf.new fs result) }
+        ensures log { log self.new ≡ logged (log self.old) (ReadAt name.now from (bytes_read buf.new result)) };
+
+    /// Makes the file, empty. It never answers `Missing`.
+    fn create(&mut self, name: &str) -> Result<(), DeskError>
+        ensures causes { HasCauses (counts self.old) (counts self.new) result }
+        ensures found { result ≡ Err DeskError.Missing → ⊥ }
+        ensures files { WhereTold (files self.old) (files self.new) (CreateDoes name.now result) }
+        ensures log { log self.new ≡ logged (log self.old) (Create name.now result) };
+
+    /// Adds the piece at the end of the file.
+    fn append(&mut self, name: &str, piece: &[u8]) -> Result<(), DeskError>
+        ensures causes { HasCauses (counts self.old) (counts self.new) result }
+        ensures files { WhereTold (files self.old) (files self.new) (AppendDoes name.now piece.now result) }
+        ensures log { log self.new ≡ logged (log self.old) (Append name.now piece.now result) };
+
+    /// Shortens the file, which is at least that long.
+    fn cut(&mut self, name: &str, size: u64) -> Result<(), DeskError>
+        requires { IfSome (files self.old) (λ fs. CanCut name.now size fs) }
+        ensures causes { HasCauses (counts self.old) (counts self.new) result }
+        ensures files { WhereTold (files self.old) (files self.new) (CutDoes name.now size result) }
+        ensures log { log self.new ≡ logged (log self.old) (Cut name.now size result) };
+
+    /// Gives the file another name, in the place of the file that had it.
+    fn rename(&mut self, from: &str, to: &str) -> Result<(), DeskError>
+        ensures causes { HasCauses (counts self.old) (counts self.new) result }
+        ensures files { WhereTold (files self.old) (files self.new) (RenameDoes from.now to.now result) }
+        ensures log { log self.new ≡ logged (log self.old) (Rename from.now to.now result) };
+
+    /// Takes the file away.
+    fn remove(&mut self, name: &str) -> Result<(), DeskError>
+        ensures causes { HasCauses (counts self.old) (counts self.new) result }
+        ensures files { WhereTold (files self.old) (files self.new) (RemoveDoes name.now result) }
+        ensures log { log self.new ≡ logged (log self.old) (Remove name.now result) };
+}
+
+/// What makes desks, one for each worker.
+pub trait Desks {
+    type Desk: Desk + Send;
+
+    // the desks that it made so far; a call that found no memory isn't among them
+    ghost made: { Self → Option (List Made) };
+
+    /// The desk of that worker. It has counted nothing and no call was made on it.
+    fn desk(&mut self, number: u32) -> Result<Self::Desk, NoMemory>
+        ensures made { MatchResult result
+            (λ d. AddsOne (made self.old) (made self.new) (record { number = number; files = Self.Desk.files d }))
+            (λ _. Stays (made self.old) (made self.new)) }
+        ensures fresh { IfOk result (λ d. (Self.Desk.counts d ≡ no_counts) × IsLogBlank (Self.Desk.log d)) };
+}

@@ -1,0 +1,39 @@
+-- Where the content of a key stands in a directory.
+use Rattle.std.specs.Prelude.{ℕ, ◌≡◌, ◌≢◌, codes, List, ◌∷◌, ◌++◌, Some}
+use Rattle.ann_key.specs.Keys.{Parts, IsKey, key_reading, without_chunk}
+use Rattle.ann_key.specs.FileNames.{file_name_of}
+use Rattle.ann_digest.specs.Directories.{lower_of}
+use Rattle.ann_outside.specs.Files.{Files, content}
+
+-- DIRECTORY/FOLDER/FILE
+abbrev pub place_of : List ℕ → List ℕ → List ℕ → List ℕ
+place_of directory folder file = directory ++ 47 ∷ (folder ++ 47 ∷ file)
+
+-- the content of the key of that text stands in DIRECTORY/LOWER/FILENAME; LOWER goes by the key without its chunk fields
+pub record IsContentName (directory text name : List ℕ) : Type 0 where
+  pub parts : Parts
+  pub read : key_reading text ≡ Some parts
+  pub base : List ℕ
+  pub base_is : IsKey base (without_chunk parts)
+  pub whole : name ≡ place_of directory (lower_of base) (file_name_of text)
+
+-- where the content is put together before it gets its name
+abbrev pub temporary_name : List ℕ → List ℕ → List ℕ
+temporary_name directory text = place_of directory (codes "tmp") (file_name_of text)
+
+-- the file's name doesn't begin with the directory's name and a slash
+abbrev pub IsOutside : List ℕ → List ℕ → Type 0
+IsOutside directory file = (rest : List ℕ) → file ≢ directory ++ 47 ∷ rest
+
+-- the files outside of the directory are as before
+abbrev pub OutsideStays : List ℕ → Files → Files → Type 0
+OutsideStays directory old new = (other : List ℕ) → IsOutside directory other → content other new ≡ content other old
+
+-- the content of every key but this one is as before
+abbrev pub OtherKeysStay : List ℕ → List ℕ → Files → Files → Type 0
+OtherKeysStay directory key old new =
+    (other name : List ℕ) → other ≢ key → IsContentName directory other name → content name new ≡ content name old
+
+-- the content of every key is as before
+abbrev pub KeysStay : List ℕ → Files → Files → Type 0
+KeysStay directory old new = (text name : List ℕ) → IsContentName directory text name → content name new ≡ content name old

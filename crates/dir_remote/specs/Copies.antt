@@ -1,0 +1,28 @@
+-- What a copy of a file does to the files of a desk.
+use Rattle.std.specs.Prelude.{ℕ, ◌≡◌, ◌≢◌, ◌≤◌, ⊤, List, ◌++◌, take, drop, length, option_map, Some, None, Result, Ok, Err}
+use Rattle.ann_outside.specs.Files.{Files, content, OthersStay}
+use Rattle.ann_outside.specs.declared.file_desk.DeskError.{DeskError}
+use Rattle.ann_outside.specs.declared.file_desk.DeskError.TheVariants.{Failed, Missing, NoMemory}
+
+-- Bytes of one file, from a place on, were put behind those of the other; none are the file's end.
+abbrev pub PieceDoes : List ℕ → List ℕ → ℕ → Result ℕ DeskError → Files → Files → Type 0
+PieceDoes from to at (Ok n) old new =
+    (content from old ≢ None)
+    × ((bytes : List ℕ) → content from old ≡ Some bytes
+      → (content to new ≡ option_map (λ held. held ++ take n (drop at bytes)) (content to old)) × (n ≡ 0 → length bytes ≤ at))
+PieceDoes from to at (Err Missing) old new = content to old ≢ None → content from old ≡ None
+PieceDoes from to at (Err Failed) old new = ⊤
+PieceDoes from to at (Err NoMemory) old new = ⊤
+
+-- so far the first bytes were copied
+pub record Copying (from to : List ℕ) (at : ℕ) (old now : Files) : Type 0 where
+  pub others : OthersStay (λ other. other ≡ to) old now
+  pub there : content to now ≢ None
+  pub front : from ≢ to → (bytes : List ℕ) → content from old ≡ Some bytes → content to now ≡ Some (take at bytes)
+
+-- The one file has the content of the other.
+abbrev pub CopyDoes : List ℕ → List ℕ → Result (Unit {0}) DeskError → Files → Files → Type 0
+CopyDoes from to (Ok done) old new = (content from old ≢ None) × (content to new ≡ content from old)
+CopyDoes from to (Err Missing) old new = content from old ≡ None
+CopyDoes from to (Err Failed) old new = ⊤
+CopyDoes from to (Err NoMemory) old new = ⊤

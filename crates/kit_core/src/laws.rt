@@ -1,0 +1,36 @@
+// Laws over the definitions, each the contract of a function with nothing to do.
+ghost use Rattle.std.specs.Prelude.{◌≡◌, [], ◌∷◌, codes, true, false};
+ghost use Rattle.kit_core.specs.Kits.{IsServed, lines_said, is_over, messages};
+ghost use Rattle.kit_core.specs.Rows.{settings, check_session, invented_session, early_session, hasty_session, init_session, again_session, transfer_session, value_session, request_session, error_session};
+
+/// What a kit with the one setting `directory` says in worked sessions.
+pub fn worked_lines()
+    ensures check { lines_said settings check_session ≡ codes "EXTENSIONS " ∷ codes "GETCONFIG directory" ∷ codes "PREPARE-SUCCESS" ∷ codes "CHECKPRESENT-FAILURE WORM--a" ∷ [] }
+    ensures init { lines_said settings init_session ≡ codes "GETCONFIG directory" ∷ codes "INITREMOTE-SUCCESS" ∷ codes "CHECKPRESENT-UNKNOWN WORM--a not prepared" ∷ [] }
+    ensures again { lines_said settings again_session ≡ codes "GETCONFIG directory" ∷ codes "PREPARE-SUCCESS" ∷ codes "GETCONFIG directory" ∷ codes "PREPARE-FAILURE no directory" ∷ codes "CHECKPRESENT-SUCCESS WORM--a" ∷ [] }
+    ensures transfer { lines_said settings transfer_session ≡ codes "EXTENSIONS " ∷ codes "TRANSFER-FAILURE STORE WORM--a not prepared" ∷ [] }
+    ensures value { lines_said settings value_session ≡ codes "ERROR unexpected message" ∷ [] }
+    ensures request { lines_said settings request_session ≡ codes "GETCONFIG directory" ∷ codes "ERROR unexpected message" ∷ [] }
+    ensures error { lines_said settings error_session ≡ codes "GETCONFIG directory" ∷ [] }
+{}
+
+/// Which calls its remote must have had in them, and which it may not.
+pub fn worked_calls()
+    ensures check { IsServed settings check_session }
+    ensures invented { IsServed settings invented_session → ⊥ }
+    ensures early { IsServed settings early_session → ⊥ }
+    ensures hasty { IsServed settings hasty_session → ⊥ }
+    ensures init { IsServed settings init_session }
+    ensures again { IsServed settings again_session }
+    ensures transfer { IsServed settings transfer_session }
+    ensures value { IsServed settings value_session }
+{}
+
+/// After which of them the kit is over.
+pub fn worked_ends()
+    ensures check { is_over settings (messages check_session) ≡ false }
+    ensures transfer { is_over settings (messages transfer_session) ≡ false }
+    ensures value { is_over settings (messages value_session) ≡ true }
+    ensures request { is_over settings (messages request_session) ≡ true }
+    ensures error { is_over settings (messages error_session) ≡ true }
+{}

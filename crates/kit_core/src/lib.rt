@@ -1,0 +1,17 @@
+// The remote's side of the protocol: what a remote is, and the kit that lets one be served to a host.
+// https://git-annex.branchable.com/design/external_special_remote_protocol/
+#![tactic(auto)]
+
+mod call;
+mod finals;
+mod kit;
+pub mod laws;
+mod lists;
+mod noted;
+mod remote;
+
+pub use call::{Asked, Call, Said};
+pub use kit::{Kit, Step};
+pub use lists::{Lines, Values};
+pub use noted::Noted;
+pub use remote::Remote;

@@ -1,0 +1,100 @@
+// Lists of byte lists, each seen as one value.
+ghost use Rattle.std.specs.Prelude.{◌≡◌, ◌↔◌, ◌++◌, ◌∷◌, [], length, IsTrue, IfOk, OnOk};
+
+use ann_key::{Bytes, NoMemory};
+use std::alloc::Global;
+use std::marker::Model;
+
+/// The values of a remote's settings, in the order in which they were asked for.
+#[derive(Drop)]
+pub struct Values {
+    items: Vec<Bytes>,
+}
+
+impl Model for Values {
+    ghost use Rattle.std.specs.Prelude.{List, ℕ};
+
+    ghost Value = { List (List ℕ) };
+
+    ghost view = { λ v. v.items.items };
+}
+
+impl Values {
+    /// The byte lists of the vector. It takes no memory.
+    pub fn new(list: Vec<Bytes>) -> Values
+        ensures { result ≡ list.items }
+    {
+        Values { items: list }
+    }
+
+    /// The byte lists, lent. It takes no memory.
+    pub fn view(&self) -> &[Bytes]
+        ensures { result.now ≡ self.now }
+    {
+        self.items.as_slice()
+    }
+
+    /// How many there are.
+    pub fn len(&self) -> usize
+        ensures { result ≡ length self.now }
+    {
+        self.items.len()
+    }
+
+    /// Whether there is none.
+    pub fn is_empty(&self) -> bool
+        ensures { IsTrue result ↔ (self.now ≡ []) }
+    {
+        self.items.is_empty()
+    }
+
+    // Adds one more.
+    pub(super) fn push(&mut self, value: Bytes) -> Result<(), NoMemory>
+        ensures { OnOk result (self.new ≡ self.old ++ value ∷ []) }
+    {
+        self.items.push(value)?;
+        Ok(())
+    }
+
+    /// Equal values.
+    pub fn copy(&self, alloc: Global) -> Result<Values, NoMemory>
+        ensures { IfOk result (λ v. v ≡ self.now) }
+    {
+        let mut items = Vec::new(alloc);
+        for value in self.items.as_slice() {
+            let copy = Bytes::copy(alloc, value.view())?;
+            items.push(copy)?;
+        }
+        Ok(Values { items })
+    }
+}
+
+/// Lines, each without its byte 10.
+#[derive(Drop)]
+pub struct Lines {
+    items: Vec<Bytes>,
+}
+
+impl Model for Lines {
+    ghost use Rattle.std.specs.Prelude.{List, ℕ};
+
+    ghost Value = { List (List ℕ) };
+
+    ghost view = { λ l. l.items.items };
+}
+
+impl Lines {
+    /// The byte lists of the vector. It takes no memory.
+    pub fn new(list: Vec<Bytes>) -> Lines
+        ensures { result ≡ list.items }
+    {
+        Lines { items: list }
+    }
+
+    /// The byte lists, lent. It takes no memory.
+    pub fn view(&self) -> &[Bytes]
+        ensures { result.now ≡ self.now }
+    {
+        self.items.as_slice()
+    }
+}

@@ -1,0 +1,152 @@
+ghost use Rattle.std.specs.Prelude.{◌≡◌, ◌++◌, ◌∷◌, [], not, IsTrue, IfOk, OnOk, OnErr, Some, Ok};
+ghost use Rattle.ann_key.specs.KeyRefs.{text_of};
+ghost use Rattle.annex_model.specs.Lines.{has_newline};
+ghost use Rattle.annex_model.specs.Messages.{is_sent_key};
+ghost use Rattle.kit_core.specs.declared.call.Asked.TheVariants.{Prepare, Store, Retrieve, Check, Remove};
+ghost use Rattle.kit_core.specs.Calls.{called, are_lines, is_line_said};
+
+use crate::call::{Asked, Call, Said};
+use crate::lists::Values;
+use crate::remote::Remote;
+use ann_key::{Key, KeyRef, NoMemory, Text};
+use std::alloc::Global;
+use std::marker::Model;
+
+/// A remote that passes each call on to another, keeps its calls and tells them. Where a call can't be kept for want of memory
+/// it answers so, and the other remote may have been called.
+///
+/// Contracts see the other remote, and the calls that are kept.
+pub struct Noted<R: Remote> {
+    alloc: Global,
+    remote: R,
+    calls: Vec<Call>,
+}
+
+impl<R: Remote> Model for Noted<R> {
+    ghost use Rattle.kit_core.specs.Calls.{NotedValue};
+
+    ghost Value = { NotedValue R };
+
+    ghost view = { λ n. record { remote = n.remote; calls = n.calls.items } };
+}
+
+impl<R: Remote> Noted<R> {
+    /// That remote, of which no call is kept yet. It takes no memory.
+    pub fn new(alloc: Global, remote: R) -> Noted<R>
+        ensures remote { result.remote ≡ remote }
+        ensures calls { result.calls ≡ [] }
+    {
+        Noted {
+            alloc,
+            remote,
+            calls: Vec::new(alloc),
+        }
+    }
+
+    /// The calls that are kept, the first one first. It takes no memory.
+    pub fn calls(&self) -> &[Call]
+        ensures { result.now ≡ self.now.calls }
+    {
+        self.calls.as_slice()
+    }
+
+    /// The other remote, without the calls. It takes no memory.
+    pub fn close(self) -> R
+        ensures { result ≡ self.remote }
+    {
+        let Noted {
+            alloc: _,
+            remote,
+            calls: _,
+        } = self;
+        remote
+    }
+
+    // Keeps a call.
+    fn note(&mut self, asked: Asked, said: &Said) -> Result<(), NoMemory>
+        ensures ok { OnOk result (self.new.calls ≡ self.old.calls ++ record { asked = asked; said = said.now } ∷ []) }
+        ensures err { OnErr result (self.new.calls ≡ self.old.calls) }
+        ensures remote { self.new.remote ≡ self.old.remote }
+    {
+        let said = said.copy(self.alloc)?;
+        self.calls.push(Call { asked, said })?;
+        Ok(())
+    }
+}
+
+impl<R: Remote> Remote for Noted<R> {
+    ghost settings = { λ n. R.settings n.remote };
+
+    ghost calls = { λ n. Some n.calls };
+
+    fn setting(&self, n: u32) -> Option<&str> {
+        self.remote.setting(n)
+    }
+
+    fn prepare(&mut self, values: &Values) -> Result<Said, NoMemory>
+        requires lines { IsTrue (are_lines values.now) }
+        ensures calls { Some self.new.calls ≡ called (Some self.old.calls) (Prepare values.now) result }
+        ensures settings { R.settings self.new.remote ≡ R.settings self.old.remote }
+        ensures text { IfOk result (λ said. IsTrue (is_line_said said)) }
+        ensures passed { OnOk result (R.calls self.new.remote ≡ called (R.calls self.old.remote) (Prepare values.now) result) }
+    {
+        let asked = Asked::Prepare(values.copy(self.alloc)?);
+        let said = self.remote.prepare(values)?;
+        self.note(asked, &said)?;
+        Ok(said)
+    }
+
+    fn store(&mut self, key: KeyRef<'_>, file: &str) -> Result<Said, NoMemory>
+        requires key { IsTrue (is_sent_key (text_of key)) }
+        requires line { IsTrue (not (has_newline file.now)) }
+        ensures calls { Some self.new.calls ≡ called (Some self.old.calls) (Store (text_of key.entry) file.now) result }
+        ensures settings { R.settings self.new.remote ≡ R.settings self.old.remote }
+        ensures text { IfOk result (λ said. IsTrue (is_line_said said)) }
+        ensures passed { OnOk result (R.calls self.new.remote ≡ called (R.calls self.old.remote) (Store (text_of key.entry) file.now) result) }
+    {
+        let asked = Asked::Store(Key::copy(self.alloc, key)?, Text::copy(self.alloc, file)?);
+        let said = self.remote.store(key, file)?;
+        self.note(asked, &said)?;
+        Ok(said)
+    }
+
+    fn retrieve(&mut self, key: KeyRef<'_>, file: &str) -> Result<Said, NoMemory>
+        requires key { IsTrue (is_sent_key (text_of key)) }
+        requires line { IsTrue (not (has_newline file.now)) }
+        ensures calls { Some self.new.calls ≡ called (Some self.old.calls) (Retrieve (text_of key.entry) file.now) result }
+        ensures settings { R.settings self.new.remote ≡ R.settings self.old.remote }
+        ensures text { IfOk result (λ said. IsTrue (is_line_said said)) }
+        ensures passed { OnOk result (R.calls self.new.remote ≡ called (R.calls self.old.remote) (Retrieve (text_of key.entry) file.now) result) }
+    {
+        let asked = Asked::Retrieve(Key::copy(self.alloc, key)?, Text::copy(self.alloc, file)?);
+        let said = self.remote.retrieve(key, file)?;
+        self.note(asked, &said)?;
+        Ok(said)
+    }
+
+    fn check(&mut self, key: KeyRef<'_>) -> Result<Said, NoMemory>
+        requires key { IsTrue (is_sent_key (text_of key)) }
+        ensures calls { Some self.new.calls ≡ called (Some self.old.calls) (Check (text_of key.entry)) result }
+        ensures settings { R.settings self.new.remote ≡ R.settings self.old.remote }
+        ensures text { IfOk result (λ said. IsTrue (is_line_said said)) }
+        ensures passed { OnOk result (R.calls self.new.remote ≡ called (R.calls self.old.remote) (Check (text_of key.entry)) result) }
+    {
+        let asked = Asked::Check(Key::copy(self.alloc, key)?);
+        let said = self.remote.check(key)?;
+        self.note(asked, &said)?;
+        Ok(said)
+    }
+
+    fn remove(&mut self, key: KeyRef<'_>) -> Result<Said, NoMemory>
+        requires key { IsTrue (is_sent_key (text_of key)) }
+        ensures calls { Some self.new.calls ≡ called (Some self.old.calls) (Remove (text_of key.entry)) result }
+        ensures settings { R.settings self.new.remote ≡ R.settings self.old.remote }
+        ensures text { IfOk result (λ said. IsTrue (is_line_said said)) }
+        ensures passed { OnOk result (R.calls self.new.remote ≡ called (R.calls self.old.remote) (Remove (text_of key.entry)) result) }
+    {
+        let asked = Asked::Remove(Key::copy(self.alloc, key)?);
+        let said = self.remote.remove(key)?;
+        self.note(asked, &said)?;
+        Ok(said)
+    }
+}
