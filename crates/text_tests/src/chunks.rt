@@ -25,7 +25,10 @@ fn layout(alloc: Global, size: u64, chunk: u64, part: u64) -> Result<String, NoM
     let number = count(size, chunk);
     let last = range(size, chunk, number);
     let there = held(size, chunk, part);
-    Ok(format!(in alloc; " => {number} {last:?} {there}")?)
+    let number = words::printed(alloc, &number)?;
+    let last = words::named(alloc, &last)?;
+    let there = words::printed(alloc, &there)?;
+    words::joined(alloc, &[number.as_str(), last.as_str(), there.as_str()])
 }
 
 fn one_range(alloc: Global, size: u64, chunk: u64, number: u64) -> Result<String, NoMemory> {
@@ -33,7 +36,7 @@ fn one_range(alloc: Global, size: u64, chunk: u64, number: u64) -> Result<String
         return words::told(alloc, "no chunk");
     }
     let range = range(size, chunk, number);
-    Ok(format!(in alloc; " => {range:?}")?)
+    words::told(alloc, words::named(alloc, &range)?.as_str())
 }
 
 fn one_piece(alloc: Global, chunk: u64, number: u64, key: &str) -> Result<String, NoMemory> {

@@ -34,20 +34,23 @@ fn pattern(alloc: Global) -> Result<Vec<u8>, NoMemory> {
 fn directories(alloc: Global, key: KeyRef<'_>) -> Result<String, NoMemory> {
     let lower = lower(key);
     let mixed = mixed(key);
-    let lower = words::shown(&lower);
-    let mixed = words::shown(&mixed);
-    Ok(format!(in alloc; " => {lower} {mixed}")?)
+    words::joined(alloc, &[words::shown(&lower), words::shown(&mixed)])
 }
 
 // How a digest of these bytes is printed, what was given, and whether one byte more makes another.
 fn digest(alloc: Global, bytes: &[u8]) -> Result<String, NoMemory> {
-    if bytes.len() > 63 {
-        return words::told(alloc, "too long");
-    }
-    let digest = Digest::of(bytes);
-    let given = digest.given();
     let mut longer = Vec::from_slice(alloc, bytes)?;
     longer.push(0)?;
-    let differs = digest != Digest::of(longer.as_slice());
-    Ok(format!(in alloc; " => {digest} {given:?} {differs}")?)
+    if longer.len() > 64 {
+        return words::told(alloc, "too long");
+    }
+    let other = Digest::of(longer.as_slice());
+    digest_text(alloc, Digest::of(&longer[..longer.len() - 1]), other)
+}
+
+fn digest_text(alloc: Global, digest: Digest, other: Digest) -> Result<String, NoMemory> {
+    let hex = words::printed(alloc, &digest)?;
+    let given = words::named(alloc, &digest.given())?;
+    let differs = words::printed(alloc, &(digest != other))?;
+    words::joined(alloc, &[hex.as_str(), given.as_str(), differs.as_str()])
 }

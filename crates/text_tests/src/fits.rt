@@ -1,6 +1,7 @@
 // Whether content fits a key, however it is cut.
 ghost use Rattle.std.specs.Prelude.{◌≤◌, length};
 
+use crate::words;
 use ann_digest::{Checker, Fit};
 use ann_key::{KeyRef, NoMemory};
 use std::alloc::Global;
@@ -15,10 +16,11 @@ pub(crate) fn in_any_cut(
     for cut in 0..content.len() {
         let said = in_pieces(alloc, key, content, cut)?;
         if said.as_str() != whole.as_str() {
-            return Ok(format!(in alloc; " differs where cut at {cut}")?);
+            let cut = words::printed(alloc, &cut)?;
+            return words::joined(alloc, &["differs where cut at", cut.as_str()]);
         }
     }
-    Ok(format!(in alloc; " => {whole}")?)
+    words::told(alloc, whole.as_str())
 }
 
 fn in_pieces(alloc: Global, key: KeyRef<'_>, content: &[u8], cut: usize) -> Result<String, NoMemory>
@@ -29,7 +31,13 @@ fn in_pieces(alloc: Global, key: KeyRef<'_>, content: &[u8], cut: usize) -> Resu
     checker.update(&content[cut..]);
     match checker.finish() {
         Fit::Fits => Ok(String::from_str(alloc, "fits")?),
-        Fit::Size(size) => Ok(format!(in alloc; "size {size}")?),
-        Fit::Hash(digest) => Ok(format!(in alloc; "hash {digest}")?),
+        Fit::Size(size) => numbered(alloc, "size ", words::printed(alloc, &size)?),
+        Fit::Hash(digest) => numbered(alloc, "hash ", words::printed(alloc, &digest)?),
     }
+}
+
+fn numbered(alloc: Global, word: &str, value: String) -> Result<String, NoMemory> {
+    let mut said = String::from_str(alloc, word)?;
+    said.push_str(value.as_str())?;
+    Ok(said)
 }

@@ -12,7 +12,7 @@ pub(crate) fn said(alloc: Global, word: &str, text: &str) -> Result<String, NoMe
             let bytes = words::bytes(alloc, text)?;
             match KeyRef::read(bytes.as_slice()) {
                 Ok(key) => of_key(alloc, word, key),
-                Err(error) => Ok(format!(in alloc; " => {error}")?),
+                Err(error) => words::told(alloc, words::printed(alloc, &error)?.as_str()),
             }
         }
     }
@@ -33,15 +33,25 @@ fn of_key(alloc: Global, word: &str, key: KeyRef<'_>) -> Result<String, NoMemory
 }
 
 fn parts(alloc: Global, key: KeyRef<'_>) -> Result<String, NoMemory> {
+    let size = words::named(alloc, &key.size())?;
+    let mtime = words::named(alloc, &key.mtime())?;
+    let chunk = words::named(alloc, &key.chunk())?;
+    let numbers = words::joined(alloc, &[size.as_str(), mtime.as_str(), chunk.as_str()])?;
+    named_parts(alloc, key, numbers)
+}
+
+fn named_parts(alloc: Global, key: KeyRef<'_>, numbers: String) -> Result<String, NoMemory> {
     let backend = words::shown(key.backend());
-    let size = key.size();
-    let mtime = key.mtime();
-    let name = words::shown(key.name());
-    let sendable = key.sendable();
-    let chunk = key.chunk();
-    Ok(format!(in alloc;
-        " => {backend} {size:?} {mtime:?} {chunk:?} {name:?} sendable {sendable}"
-    )?)
+    let name = words::quoted(alloc, words::shown(key.name()))?;
+    let sendable = if key.sendable() {
+        "sendable"
+    } else {
+        "unsendable"
+    };
+    words::joined(
+        alloc,
+        &[backend, name.as_str(), sendable, numbers.trim_start()],
+    )
 }
 
 // A size, a number, and the key whose chunk is made: that, what stands around its chunk's fields, and its copy's chunk.
@@ -60,21 +70,26 @@ fn chunk(alloc: Global, text: &str) -> Result<String, NoMemory> {
 }
 
 fn parted(alloc: Global, key: KeyRef<'_>) -> Result<String, NoMemory> {
-    let text = words::shown(key.text());
     let (head, tail) = key.outside_chunk();
-    let head = words::shown(head);
-    let tail = words::shown(tail);
+    let chunk = copied_chunk(alloc, key)?;
+    let text = words::shown(key.text());
+    words::joined(
+        alloc,
+        &[text, words::shown(head), words::shown(tail), chunk.as_str()],
+    )
+}
+
+fn copied_chunk(alloc: Global, key: KeyRef<'_>) -> Result<String, NoMemory> {
     let copy = Key::copy(alloc, key)?;
-    let chunk = copy.view().chunk();
-    Ok(format!(in alloc; " => {text} {head} {tail} {chunk:?}")?)
+    words::named(alloc, &copy.view().chunk())
 }
 
 // The bytes, through what holds them, and the text of the row too.
 fn held(alloc: Global, text: &str) -> Result<String, NoMemory> {
     let bytes = Bytes::from_vec(words::bytes(alloc, text)?);
     let copy = Bytes::copy(alloc, bytes.view())?.into_vec();
+    let bytes = words::named(alloc, &copy.as_slice())?;
     let text = Text::from_string(String::from_str(alloc, text)?);
     let again = Text::copy(alloc, text.view())?;
-    let again = again.view();
-    Ok(format!(in alloc; " => {copy:?} {again}")?)
+    words::joined(alloc, &[bytes.as_str(), again.view()])
 }

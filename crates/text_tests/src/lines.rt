@@ -26,11 +26,12 @@ fn any_cut(alloc: Global, limit: usize, bytes: &[u8]) -> Result<String, NoMemory
     for size in 2..9 {
         let other = split(alloc, limit, bytes, size)?;
         if other.as_slice() != lines.as_slice() {
-            return Ok(format!(in alloc; " differs in pieces of {size}")?);
+            let size = words::printed(alloc, &size)?;
+            return words::joined(alloc, &["differs in pieces of", size.as_str()]);
         }
     }
-    let lines = words::shown(lines.as_slice());
-    Ok(format!(in alloc; " => {lines:?}")?)
+    let lines = words::quoted(alloc, words::shown(lines.as_slice()))?;
+    words::told(alloc, lines.as_str())
 }
 
 // The lines, each with a bar behind it, what then stands first, and the rest.
@@ -81,6 +82,6 @@ fn two_pieces(
     }
     splitter.push(second)?;
     let rest = splitter.rest();
-    let rest = words::shown(rest.view());
-    Ok(format!(in alloc; " => {rest:?}")?)
+    let rest = words::quoted(alloc, words::shown(rest.view()))?;
+    words::told(alloc, rest.as_str())
 }

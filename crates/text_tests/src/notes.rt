@@ -16,20 +16,23 @@ pub(crate) fn said(alloc: Global, word: &str, line: &str) -> Result<String, NoMe
             words::told(alloc, words::shown(written.view()))
         }
         Ok(line) => {
-            let seconds = line.stamp.seconds;
-            let nanos = line.stamp.nanos;
-            let rest = layout(alloc, &line)?;
-            Ok(format!(in alloc; " => {seconds} {nanos} {rest}")?)
+            let seconds = words::printed(alloc, &line.stamp.seconds)?;
+            let nanos = words::printed(alloc, &line.stamp.nanos)?;
+            let layout = layout(alloc, &line)?;
+            words::joined(alloc, &[seconds.as_str(), nanos.as_str(), layout.as_str()])
         }
-        Err(error) => Ok(format!(in alloc; " => {error}")?),
+        Err(error) => words::told(alloc, words::printed(alloc, &error)?.as_str()),
     }
 }
 
+// The UUID, the chunk size and the count.
 fn layout(alloc: Global, line: &ChunkLine) -> Result<String, NoMemory> {
-    let uuid = line.uuid.view();
-    let chunk = line.chunk;
-    let count = line.count;
-    Ok(format!(in alloc; "{uuid} {chunk} {count}")?)
+    let mut text = String::from_str(alloc, line.uuid.view())?;
+    text.push_str(" ")?;
+    text.push_str(words::printed(alloc, &line.chunk)?.as_str())?;
+    text.push_str(" ")?;
+    text.push_str(words::printed(alloc, &line.count)?.as_str())?;
+    Ok(text)
 }
 
 /// Adds a line of a key, takes a copy for the book, or tells its lines or the layouts of a key that are current.
@@ -68,10 +71,10 @@ fn lines(alloc: Global, book: &NoteBook) -> Result<String, NoMemory> {
     let mut text = String::new(alloc);
     for n in 0..20 {
         if let Some((key, line)) = book.line(n) {
-            let key = words::shown(key.text());
-            let layout = layout(alloc, line)?;
-            let line = format!(in alloc; "\n{key} {layout}")?;
-            text.push_str(line.as_str())?;
+            text.push_str("\n")?;
+            text.push_str(words::shown(key.text()))?;
+            text.push_str(" ")?;
+            text.push_str(layout(alloc, line)?.as_str())?;
         }
     }
     Ok(text)
@@ -81,8 +84,7 @@ fn current(alloc: Global, book: &NoteBook, key: &str, uuid: &str) -> Result<Stri
     match KeyRef::read(key.as_bytes()) {
         Ok(key) => {
             let layouts = book.current(alloc, key, uuid)?;
-            let layouts = layouts.view();
-            Ok(format!(in alloc; " => {layouts:?}")?)
+            words::told(alloc, words::named(alloc, &layouts.view())?.as_str())
         }
         Err(_) => words::told(alloc, "no key"),
     }

@@ -104,9 +104,9 @@ pub(crate) fn got(alloc: Global, registers: &Registers, text: &str) -> Result<St
         "wanted" => value_text(alloc, registers.wanted()),
         "creds" => {
             let (user, password) = registers.creds(rest.as_bytes());
-            let user = words::shown(user);
-            let password = words::shown(password);
-            Ok(format!(in alloc; " => {user:?} {password:?}")?)
+            let user = words::quoted(alloc, words::shown(user))?;
+            let password = words::quoted(alloc, words::shown(password))?;
+            words::joined(alloc, &[user.as_str(), password.as_str()])
         }
         "url" => url(alloc, registers, rest),
         _ => lines(alloc, registers),
@@ -114,8 +114,8 @@ pub(crate) fn got(alloc: Global, registers: &Registers, text: &str) -> Result<St
 }
 
 fn value_text(alloc: Global, value: &[u8]) -> Result<String, NoMemory> {
-    let value = words::shown(value);
-    Ok(format!(in alloc; " => {value:?}")?)
+    let value = words::quoted(alloc, words::shown(value))?;
+    words::told(alloc, value.as_str())
 }
 
 // A place, a key, and how the URL begins.
@@ -141,13 +141,16 @@ fn lines(alloc: Global, registers: &Registers) -> Result<String, NoMemory> {
 }
 
 fn line_text(alloc: Global, line: RegLine<'_>) -> Result<String, NoMemory> {
-    let (word, name, value) = match line {
-        RegLine::Config { name, value } => ("config", name, value),
-        RegLine::Wanted { value } => ("wanted", b"".as_slice(), value),
-        RegLine::State { key, value } => ("state", key, value),
-        RegLine::Url { key, url } => ("url", key, url),
-    };
-    let name = words::shown(name);
-    let value = words::shown(value);
-    Ok(format!(in alloc; "{word} {name:?} {value:?}")?)
+    match line {
+        RegLine::Config { name, value } => setting_text(alloc, "config", name, value),
+        RegLine::Wanted { value } => setting_text(alloc, "wanted", b"", value),
+        RegLine::State { key, value } => setting_text(alloc, "state", key, value),
+        RegLine::Url { key, url } => setting_text(alloc, "url", key, url),
+    }
+}
+
+fn setting_text(alloc: Global, word: &str, name: &[u8], value: &[u8]) -> Result<String, NoMemory> {
+    let name = words::quoted(alloc, words::shown(name))?;
+    let value = words::quoted(alloc, words::shown(value))?;
+    words::joined(alloc, &[word, name.as_str(), value.as_str()])
 }

@@ -9,16 +9,19 @@ pub(crate) fn said(alloc: Global, line: &str) -> Result<String, NoMemory> {
     let line = words::bytes(alloc, line)?;
     match read_task(alloc, line.as_slice()) {
         Ok(task) => task_said(alloc, &task),
-        Err(fault) => Ok(format!(in alloc; " => {fault:?}")?),
+        Err(fault) => words::told(alloc, words::named(alloc, &fault)?.as_str()),
     }
 }
 
 fn task_said(alloc: Global, task: &Task) -> Result<String, NoMemory> {
     let task = task.copy(alloc)?;
     let line = write_task(alloc, &task)?;
-    let line = words::shown(line.view());
-    let work = task.work;
+    let line = words::quoted(alloc, words::shown(line.view()))?;
+    let work = words::named(alloc, &task.work)?;
+    let file = words::quoted(alloc, task.file.view())?;
     let key = words::shown(task.key.view().text());
-    let file = task.file.view();
-    Ok(format!(in alloc; " => {work:?} {key} {file:?} = {line:?}")?)
+    words::joined(
+        alloc,
+        &[work.as_str(), key, file.as_str(), "=", line.as_str()],
+    )
 }

@@ -1,6 +1,7 @@
 // Words, numbers and bytes of a row.
 use ann_key::NoMemory;
 use std::alloc::Global;
+use std::fmt::{Debug, Display};
 use std::str;
 
 /// The first word, and what stands behind its blank.
@@ -26,17 +27,30 @@ pub(crate) fn number(text: &str) -> u64 {
 
 /// The bytes of the text, where `\n` stands for byte 10, `\r` for 13, `\d` for 127 and `\f` for 255.
 pub(crate) fn bytes(alloc: Global, text: &str) -> Result<Vec<u8>, NoMemory> {
-    let text = text.replace(alloc, "\\n", "\n")?;
-    let text = text.replace(alloc, "\\r", "\r")?;
-    let text = text.replace(alloc, "\\d", "\x7f")?;
     let mut bytes = Vec::new(alloc);
-    for (at, piece) in text.split("\\f").enumerate() {
-        if at > 0 {
-            bytes.push(255)?;
+    let mut is_behind = false;
+    for byte in text.as_bytes() {
+        if is_behind {
+            bytes.push(meant(*byte))?;
+            is_behind = false;
+        } else if *byte == b'\\' {
+            is_behind = true;
+        } else {
+            bytes.push(*byte)?;
         }
-        bytes.extend_from_slice(piece.as_bytes())?;
     }
     Ok(bytes)
+}
+
+// The byte that a letter behind a backslash stands for.
+fn meant(letter: u8) -> u8 {
+    match letter {
+        b'n' => 10,
+        b'r' => 13,
+        b'd' => 127,
+        b'f' => 255,
+        _ => letter,
+    }
 }
 
 /// The bytes as text.
@@ -47,7 +61,32 @@ pub(crate) fn shown(bytes: &[u8]) -> &str {
     }
 }
 
+/// The words behind a mark.
+pub(crate) fn joined(alloc: Global, words: &[&str]) -> Result<String, NoMemory> {
+    let mut said = String::from_str(alloc, " =>")?;
+    for word in words {
+        said.push_str(" ")?;
+        said.push_str(word)?;
+    }
+    Ok(said)
+}
+
 /// The text, behind a mark.
 pub(crate) fn told(alloc: Global, text: &str) -> Result<String, NoMemory> {
-    Ok(format!(in alloc; " => {text}")?)
+    joined(alloc, &[text])
+}
+
+/// The value, as it is printed.
+pub(crate) fn printed(alloc: Global, value: &impl Display) -> Result<String, NoMemory> {
+    Ok(format!(in alloc; "{value}")?)
+}
+
+/// The value by its name.
+pub(crate) fn named(alloc: Global, value: &impl Debug) -> Result<String, NoMemory> {
+    Ok(format!(in alloc; "{value:?}")?)
+}
+
+/// The text in quotes.
+pub(crate) fn quoted(alloc: Global, text: &str) -> Result<String, NoMemory> {
+    Ok(format!(in alloc; "{text:?}")?)
 }
