@@ -12,6 +12,3 @@ pub use checker::Checker;
 pub use digest::Digest;
 pub use directories::{lower, mixed};
 pub use fit::Fit;
-
-#[cfg(test)]
-mod tests;

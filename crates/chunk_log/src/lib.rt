@@ -22,6 +22,3 @@ pub use layouts::Layouts;
 pub use line::{ChunkLine, read_line};
 pub use stamp::Stamp;
 pub use written::write_line;
-
-#[cfg(test)]
-mod tests;

@@ -3,7 +3,5 @@
 
 mod laws;
 mod plan;
-#[cfg(test)]
-mod tests;
 
 pub use plan::{count, held, piece, range};

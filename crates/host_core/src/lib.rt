@@ -11,8 +11,6 @@ mod machine;
 mod moves;
 mod talks;
 mod tasks;
-#[cfg(test)]
-mod tests;
 
 pub use children::{is_mute, is_started, verdict_of, why_of};
 pub use event::{Event, Reply};

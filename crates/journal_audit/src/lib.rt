@@ -8,8 +8,6 @@ mod kind;
 pub mod laws;
 mod replay;
 mod requests;
-#[cfg(test)]
-mod tests;
 
 pub use found::Audit;
 pub use replay::audit;

@@ -7,8 +7,6 @@ mod links;
 mod logins;
 mod registers;
 mod table;
-#[cfg(test)]
-mod tests;
 
 pub use line::RegLine;
 pub use registers::Registers;

@@ -6,8 +6,6 @@ mod answer;
 pub mod laws;
 mod request;
 mod talk;
-#[cfg(test)]
-mod tests;
 
 pub use answer::is_aside;
 pub use request::{Request, extension_names};

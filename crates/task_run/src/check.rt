@@ -18,24 +18,3 @@ pub fn check_answer(verdict: Verdict) -> Answer
         Verdict::Unsent | Verdict::Failed { .. } => Answer::Unsent,
     }
 }
-
-#[cfg(test)]
-mod tests {
-    use super::*;
-    use annex_model::Why;
-
-    #[test]
-    fn verdicts_of_a_check(rt: HostRuntime) {
-        let why = Why::Foul { at: 13 };
-        for (verdict, want) in [
-            (Verdict::Done { at: 13 }, Answer::Present),
-            (Verdict::Absent { at: 13 }, Answer::Absent),
-            (Verdict::Unknown { at: 13 }, Answer::Unknown { at: 13 }),
-            (Verdict::Unsupported { at: 13 }, Answer::Unsupported),
-            (Verdict::Ended { why }, Answer::Ended { why }),
-            (Verdict::Unsent, Answer::Unsent),
-        ] {
-            assert_eq!(rt; check_answer(verdict), want);
-        }
-    }
-}

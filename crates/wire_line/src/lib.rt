@@ -2,7 +2,5 @@
 #![tactic(auto)]
 
 mod splitter;
-#[cfg(test)]
-mod tests;
 
 pub use splitter::{Next, Splitter};

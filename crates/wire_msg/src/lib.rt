@@ -12,6 +12,3 @@ pub use host::{HostMsg, read_host, write_host};
 pub use remote::{RemoteMsg, read_remote};
 pub use said::{text_of, write_remote};
 pub use tags::{tag, untag};
-
-#[cfg(test)]
-mod tests;

@@ -1,0 +1,79 @@
+// Ends, verdicts and answers, each from a word and a number behind it.
+use crate::words;
+use journal_model::{Answer, Verdict, Why};
+
+const PLAIN: &[(&str, Why)] = &[
+    ("eof", Why::Eof),
+    ("readfault", Why::ReadFault),
+    ("longline", Why::LongLine),
+    ("full", Why::Full),
+    ("memory", Why::Memory),
+    ("closed", Why::Closed),
+];
+
+/// Why a child ended.
+pub(crate) fn why(text: &str) -> Option<Why> {
+    let (word, rest) = words::cut(text);
+    let at = words::number(rest);
+    match word {
+        "foul" => Some(Why::Foul { at }),
+        "error" => Some(Why::Error { at }),
+        "version" => Some(Why::Version { at }),
+        _ => plain_why(word),
+    }
+}
+
+fn plain_why(word: &str) -> Option<Why> {
+    for (name, why) in PLAIN {
+        if *name == word {
+            return Some(*why);
+        }
+    }
+    None
+}
+
+/// How a request was settled.
+pub(crate) fn verdict(text: &str) -> Option<Verdict> {
+    let (word, rest) = words::cut(text);
+    let at = words::number(rest);
+    match word {
+        "done" => Some(Verdict::Done { at }),
+        "failed" => Some(Verdict::Failed { at }),
+        "absent" => Some(Verdict::Absent { at }),
+        "unknown" => Some(Verdict::Unknown { at }),
+        "unsupported" => Some(Verdict::Unsupported { at }),
+        "unsent" => Some(Verdict::Unsent),
+        "ended" => why(rest).map(|why| Verdict::Ended { why }),
+        _ => None,
+    }
+}
+
+const ANSWERS: &[(&str, Answer)] = &[
+    ("present", Answer::Present),
+    ("absent", Answer::Absent),
+    ("unsupported", Answer::Unsupported),
+    ("unsent", Answer::Unsent),
+    ("startfault", Answer::StartFault),
+    ("memory", Answer::Memory),
+];
+
+/// The answer of a task.
+pub(crate) fn answer(text: &str) -> Option<Answer> {
+    let (word, rest) = words::cut(text);
+    let at = words::number(rest);
+    match word {
+        "unknown" => Some(Answer::Unknown { at }),
+        "notprepared" => Some(Answer::NotPrepared { at }),
+        "ended" => why(rest).map(|why| Answer::Ended { why }),
+        _ => plain_answer(word),
+    }
+}
+
+fn plain_answer(word: &str) -> Option<Answer> {
+    for (name, answer) in ANSWERS {
+        if *name == word {
+            return Some(*answer);
+        }
+    }
+    None
+}
