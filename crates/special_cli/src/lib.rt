@@ -10,8 +10,6 @@ mod opening;
 mod refusals;
 mod running;
 mod stopping;
-#[cfg(test)]
-mod tests;
 mod texts;
 mod top;
 mod top_check;

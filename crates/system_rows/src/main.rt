@@ -1,0 +1,69 @@
+//! Plays the program `special` over children in memory. Each row of input is printed with what came of it.
+#![tactic(auto)]
+
+mod cli;
+mod memory;
+mod scene;
+mod words;
+
+use ann_key::NoMemory;
+use memory::Left;
+use scene::Scene;
+use std::alloc::Global;
+use std::io;
+
+fn print_row(rt: &(impl Print + AllocGlobal), scene: &mut Scene, row: &str) -> io::Result<()> {
+    let (word, rest) = match row.split_once(' ') {
+        Some(parts) => parts,
+        None => (row, ""),
+    };
+    match said(rt.alloc(), scene, word, rest) {
+        Ok(said) => println!(rt; "{row}{said}"),
+        Err(_) => println!(rt; "{row} takes memory that is not there"),
+    }
+}
+
+// What is printed behind a row; nothing behind a heading, and behind one that says how the next child is.
+fn said(alloc: Global, scene: &mut Scene, word: &str, rest: &str) -> Result<String, NoMemory> {
+    match word {
+        "special" => scene.call(alloc, rest),
+        "journal" | "asked" | "rest" | "restlength" => match scene.left() {
+            Some(left) => left_text(alloc, left, word),
+            None => Ok(String::new(alloc)),
+        },
+        "words" => cli::command(alloc, scene::written_out(alloc, rest)?.as_str()),
+        "refused" => cli::refused(alloc, scene::written_out(alloc, rest)?.as_str()),
+        "texts" => cli::texts(alloc),
+        "helps" => cli::helps(alloc, rest),
+        _ => {
+            scene.set(alloc, word, rest)?;
+            Ok(String::new(alloc))
+        }
+    }
+}
+
+// What the last call left.
+fn left_text(alloc: Global, left: &Left, word: &str) -> Result<String, NoMemory> {
+    match word {
+        "journal" => {
+            let mut said = String::from_str(alloc, "\n")?;
+            said.push_str(left.journal.trim_end())?;
+            Ok(said)
+        }
+        "asked" => words::told(alloc, words::quoted(alloc, left.written.as_str())?.as_str()),
+        "rest" => words::told(alloc, words::quoted(alloc, left.rest.as_str())?.as_str()),
+        _ => words::told(alloc, words::printed(alloc, &left.rest.len())?.as_str()),
+    }
+}
+
+fn print_rows(rt: &(impl Input + Print + AllocGlobal)) -> io::Result<()> {
+    let mut scene = Scene::new(rt.alloc());
+    for row in rt.lines(rt.alloc()) {
+        print_row(rt, &mut scene, row?.as_str())?;
+    }
+    Ok(())
+}
+
+fn main(rt: HostRuntime) -> io::Result<()> {
+    print_rows(&rt)
+}

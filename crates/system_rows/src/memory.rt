@@ -1,0 +1,122 @@
+// A call of the program over children in memory, and what it leaves.
+ghost use Rattle.std.specs.Prelude.{◌<◌};
+
+use ann_key::{Bytes, NoMemory};
+use ann_outside::{MemChild, MemClock, MemPrograms, MemSink, MemSource};
+use entry_text::text_of;
+use special_cli::special;
+use std::alloc::Global;
+use std::str;
+
+/// What a call leaves: the journal as text, and of the wires the children's numbers, what was written to them and what
+/// was read and not fed.
+#[derive(Drop)]
+pub(crate) struct Left {
+    pub(crate) status: u8,
+    pub(crate) out: String,
+    pub(crate) err: String,
+    pub(crate) journal: String,
+    pub(crate) children: Vec<u32>,
+    pub(crate) written: String,
+    pub(crate) rest: String,
+}
+
+/// What a child says, so many bytes a read.
+pub(crate) fn pieces(alloc: Global, says: &str, size: usize) -> Result<Vec<Bytes>, NoMemory>
+    requires { 0 < size }
+{
+    let mut list = Vec::new(alloc);
+    for piece in says.as_bytes().chunks(size) {
+        list.push(Bytes::copy(alloc, piece)?)?;
+    }
+    Ok(list)
+}
+
+/// The first lines of what a child says, one a read.
+pub(crate) fn first_lines(alloc: Global, says: &str, count: usize) -> Result<Vec<Bytes>, NoMemory> {
+    let mut list = Vec::new(alloc);
+    for line in says.split_inclusive('\n').take(count) {
+        list.push(Bytes::copy(alloc, line.as_bytes())?)?;
+    }
+    Ok(list)
+}
+
+/// One child that says these pieces, with reads and writes that fail.
+pub(crate) fn one_child(
+    alloc: Global,
+    says: Vec<Bytes>,
+    read_fails: &[u64],
+    write_fails: &[u64],
+) -> Result<MemPrograms, NoMemory> {
+    let mut children = Vec::new(alloc);
+    children.push(MemChild {
+        says,
+        read_fails: Vec::from_slice(alloc, read_fails)?,
+        write_fails: Vec::from_slice(alloc, write_fails)?,
+    })?;
+    Ok(MemPrograms::new(alloc, children, Vec::new(alloc)))
+}
+
+/// Programs whose first start fails.
+pub(crate) fn no_child(alloc: Global) -> Result<MemPrograms, NoMemory> {
+    let fails = Vec::from_slice(alloc, &[1])?;
+    Ok(MemPrograms::new(alloc, Vec::new(alloc), fails))
+}
+
+/// The call with the words between bars, where each write takes at most 7 bytes and those that are listed fail.
+pub(crate) fn run(
+    alloc: Global,
+    words: &str,
+    programs: MemPrograms,
+    out_fails: &[u64],
+) -> Result<Left, NoMemory> {
+    let words = words_of(alloc, words)?;
+    let mut input = MemSource::new(Vec::new(alloc), Vec::new(alloc));
+    let mut out = MemSink::new(alloc, 7, Vec::from_slice(alloc, out_fails)?);
+    let mut err = MemSink::new(alloc, 7, Vec::new(alloc));
+    let mut clock = MemClock::new(1_700_000_000_000_000);
+    let closing = special(
+        alloc,
+        words.as_slice(),
+        programs,
+        &mut input,
+        &mut out,
+        &mut err,
+        &mut clock,
+    );
+    let mut left = Left {
+        status: closing.status,
+        out: String::from_str(alloc, shown(out.taken()))?,
+        err: String::from_str(alloc, shown(err.taken()))?,
+        journal: text_of(alloc, closing.journal.entries())?,
+        children: Vec::new(alloc),
+        written: String::new(alloc),
+        rest: String::new(alloc),
+    };
+    for wire in &closing.wires {
+        left.children.push(wire.child)?;
+        left.written.push_str(shown(wire.inlet.taken()))?;
+        left.rest.push_str(shown(wire.rest.view()))?;
+    }
+    Ok(left)
+}
+
+/// The words between bars; none in an empty text.
+pub(crate) fn words_of(alloc: Global, words: &str) -> Result<Vec<String>, NoMemory> {
+    let mut list = Vec::new(alloc);
+    if words.is_empty() {
+        return Ok(list);
+    }
+    for word in words.split('|') {
+        list.push(String::from_str(alloc, word)?)?;
+    }
+    Ok(list)
+}
+
+/// The bytes as text.
+pub(crate) fn shown(bytes: &[u8]) -> &str {
+    match str::from_utf8(bytes) {
+        Ok(text) => text,
+        Err(_) => "(no text)",
+    }
+}

@@ -1,0 +1,143 @@
+// The child of the next call, and what the last call left.
+use crate::memory::{self, Left};
+use crate::words;
+use ann_key::NoMemory;
+use ann_outside::MemPrograms;
+use std::alloc::Global;
+
+const KEY: &str = "SHA256E-s0--e3b0c44298fc1c149afbf4c8996fb92427ae41e4649b934ca495991b7852b855";
+
+/// The child of the next call: what it says, how much of it a read takes, and the calls that fail, by number.
+#[derive(Drop)]
+pub(crate) struct Scene {
+    says: String,
+    // Bytes a read; 0 for whole lines.
+    bytes: usize,
+    lines: usize,
+    starts: bool,
+    read_fails: Vec<u64>,
+    write_fails: Vec<u64>,
+    out_fails: Vec<u64>,
+    left: Option<Left>,
+}
+
+fn number(text: &str) -> u64 {
+    text.parse::<u64>().unwrap_or(0)
+}
+
+fn size(text: &str) -> usize {
+    text.parse::<usize>().unwrap_or(0)
+}
+
+/// The text with the key for its mark, and with the ends of lines.
+pub(crate) fn written_out(alloc: Global, text: &str) -> Result<String, NoMemory> {
+    let text = text.replace(alloc, "$KEY", KEY)?;
+    let mut out = String::new(alloc);
+    let mut is_behind = false;
+    for letter in text.chars() {
+        if is_behind {
+            out.push(meant(letter))?;
+            is_behind = false;
+        } else if letter == '\\' {
+            is_behind = true;
+        } else {
+            out.push(letter)?;
+        }
+    }
+    Ok(out)
+}
+
+// What a letter behind a backslash stands for.
+fn meant(letter: char) -> char {
+    match letter {
+        'n' => '\n',
+        'r' => '\r',
+        _ => letter,
+    }
+}
+
+impl Scene {
+    pub(crate) fn new(alloc: Global) -> Scene {
+        Scene {
+            says: String::new(alloc),
+            bytes: usize::MAX,
+            lines: usize::MAX,
+            starts: true,
+            read_fails: Vec::new(alloc),
+            write_fails: Vec::new(alloc),
+            out_fails: Vec::new(alloc),
+            left: None,
+        }
+    }
+
+    /// What the last call left.
+    pub(crate) fn left(&self) -> Option<&Left> {
+        self.left.as_ref()
+    }
+
+    /// Sets how the child is: `says` begins another.
+    pub(crate) fn set(&mut self, alloc: Global, word: &str, rest: &str) -> Result<(), NoMemory> {
+        match word {
+            "says" => {
+                *self = Scene::new(alloc);
+                self.says = written_out(alloc, rest)?;
+            }
+            "fill" => self.fill(alloc, size(rest))?,
+            "bytes" => self.bytes = size(rest),
+            "lines" => {
+                self.bytes = 0;
+                self.lines = size(rest);
+            }
+            "nostart" => self.starts = false,
+            "readfault" => self.read_fails.push(number(rest))?,
+            "writefault" => self.write_fails.push(number(rest))?,
+            "outfault" => self.out_fails.push(number(rest))?,
+            _ => {}
+        }
+        Ok(())
+    }
+
+    // Puts so many letters for the mark in what the child says.
+    fn fill(&mut self, alloc: Global, length: usize) -> Result<(), NoMemory> {
+        let filling = "x".repeat(alloc, length)?;
+        self.says = self.says.replace(alloc, "$FILL", filling.as_str())?;
+        Ok(())
+    }
+
+    /// Calls the program with the words between bars, and tells its status and what it prints.
+    pub(crate) fn call(&mut self, alloc: Global, words: &str) -> Result<String, NoMemory> {
+        let words = written_out(alloc, words)?;
+        let programs = self.programs(alloc)?;
+        let left = memory::run(alloc, words.as_str(), programs, &self.out_fails)?;
+        let said = said(alloc, &left)?;
+        self.left = Some(left);
+        Ok(said)
+    }
+
+    fn programs(&self, alloc: Global) -> Result<MemPrograms, NoMemory> {
+        if !self.starts {
+            return memory::no_child(alloc);
+        }
+        let says = if self.bytes == 0 {
+            memory::first_lines(alloc, self.says.as_str(), self.lines)?
+        } else {
+            memory::pieces(alloc, self.says.as_str(), self.bytes)?
+        };
+        memory::one_child(alloc, says, &self.read_fails, &self.write_fails)
+    }
+}
+
+// The status, out, err, and the children.
+fn said(alloc: Global, left: &Left) -> Result<String, NoMemory> {
+    let status = words::printed(alloc, &left.status)?;
+    let out = words::quoted(alloc, left.out.as_str())?;
+    let err = words::quoted(alloc, left.err.as_str())?;
+    let children = words::named(alloc, &left.children.as_slice())?;
+    let list = [
+        status.as_str(),
+        out.as_str(),
+        err.as_str(),
+        children.as_str(),
+    ];
+    words::joined(alloc, &list)
+}
