@@ -1,4 +1,6 @@
 pub mod Extensions
+pub mod Hearings
+pub mod Laws
 pub mod Lines
 pub mod Messages
 pub mod Tags

@@ -1,7 +1,7 @@
 -- What the replies of the core say.
 use Rattle.std.proofs.Common.{◌≡◌, ℕ, List, [], ◌∷◌, ◌++◌, refl, sym, subst, Bool, true, false, cond, Some, None, Option}
 use Rattle.std.specs.Prelude.{IsTrue, IfSome}
-use Rattle.annex_model.specs.declared.verdict.Why.TheVariants.{Full}
+use Rattle.journal_model.specs.declared.verdict.Why.TheVariants.{Full}
 use Rattle.annex_model.specs.Lines.{has_newline}
 use Rattle.journal_model.specs.declared.entry.What.TheVariants.{Lost, Ask as AskEntry, Got as GotEntry, End}
 use Rattle.journal_model.specs.declared.entry.Entry.{Entry}

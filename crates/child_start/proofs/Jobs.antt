@@ -3,7 +3,7 @@ use Rattle.std.proofs.Common.{◌≡◌, ℕ, List, [], ◌∷◌, ◌++◌, ref
 use Rattle.std.specs.Prelude.{◌||◌, filter, codes}
 use Rattle.std.specs.List.{list_all, cons_option}
 use Rattle.std.proofs.lemmas.List.Elements.{filter-append}
-use Rattle.annex_model.specs.declared.verdict.Verdict.{Verdict}
+use Rattle.journal_model.specs.declared.verdict.Verdict.{Verdict}
 use Rattle.annex_model.specs.Extensions.{names_of}
 use Rattle.annex_model.specs.Messages.{HostMessage, host_line}
 use Rattle.journal_model.specs.declared.entry.What.{What}

@@ -3,11 +3,11 @@ use Rattle.std.proofs.Common.{◌≡◌, ℕ, ◌≤◌, List, [], ◌∷◌, �
 use Rattle.std.specs.Prelude.{◌&&◌, ◌||◌, nat_lt, bytes_eq, is_some}
 use Rattle.std.specs.List.{list_all}
 use Rattle.std.proofs.lemmas.List.Folds.{list_all-append}
-use Rattle.annex_model.specs.declared.verdict.Why.{Why}
-use Rattle.annex_model.specs.declared.verdict.Final.{Final}
-use Rattle.annex_model.specs.declared.verdict.Final.TheVariants.{Absent, Unknown, Unsupported}
-use Rattle.annex_model.specs.declared.verdict.Verdict.{Verdict}
-use Rattle.annex_model.specs.declared.verdict.Verdict.TheVariants.{Done as DoneAt, Failed as FailedAt, Absent as AbsentAt, Unknown as UnknownAt, Unsupported as UnsupportedAt, Ended, Unsent}
+use Rattle.journal_model.specs.declared.verdict.Why.{Why}
+use Rattle.annex_model.specs.declared.final_line.Final.{Final}
+use Rattle.annex_model.specs.declared.final_line.Final.TheVariants.{Absent, Unknown, Unsupported}
+use Rattle.journal_model.specs.declared.verdict.Verdict.{Verdict}
+use Rattle.journal_model.specs.declared.verdict.Verdict.TheVariants.{Done as DoneAt, Failed as FailedAt, Absent as AbsentAt, Unknown as UnknownAt, Unsupported as UnsupportedAt, Ended, Unsent}
 use Rattle.annex_model.specs.Messages.{RemoteMessage, Extensions, PrepareSuccess, PrepareFailure, HostMessage, AskExtensions, Prepare, host_line}
 use Rattle.annex_model.specs.Talks.{final_of, is_unsupported, one_line, said_alone}
 use Rattle.journal_model.specs.declared.entry.What.{What}

@@ -2,10 +2,10 @@
 use Rattle.std.proofs.Common.{◌≡◌, ◌∙◌, ℕ, List, [], ◌∷◌, ◌++◌, refl, sym, ap, subst, Bool, true, false, not, cond, Option, Some, None, length}
 use Rattle.std.specs.Prelude.{◌&&◌, ◌==◌, option_and_then, bytes_eq}
 use Rattle.std.specs.List.{list_all, cons_option}
-use Rattle.annex_model.specs.declared.verdict.Verdict.{Verdict}
-use Rattle.annex_model.specs.declared.verdict.Verdict.TheVariants.{Ended}
-use Rattle.annex_model.specs.declared.verdict.Final.{Final}
-use Rattle.annex_model.specs.declared.verdict.Final.TheVariants.{Unsupported}
+use Rattle.journal_model.specs.declared.verdict.Verdict.{Verdict}
+use Rattle.journal_model.specs.declared.verdict.Verdict.TheVariants.{Ended}
+use Rattle.annex_model.specs.declared.final_line.Final.{Final}
+use Rattle.annex_model.specs.declared.final_line.Final.TheVariants.{Unsupported}
 use Rattle.annex_model.specs.Messages.{RemoteMessage, Extensions, TransferSuccess, TransferFailure, HostMessage, AskExtensions, Transfer, Value, Creds, HostError, host_reading, host_line}
 use Rattle.annex_model.specs.Talks.{Item, Host, Shape, may_go_on, Talking, is_aside, awaits, said, one_line, said_alone, is_unsupported, is_nothing}
 use Rattle.journal_model.specs.declared.opening.Opening.{Opening}
@@ -13,8 +13,9 @@ use Rattle.journal_model.specs.declared.entry.What.{What}
 use Rattle.journal_model.specs.declared.entry.What.TheVariants.{Ask, Put, Mute, Got, End, Verdict as Settled}
 use Rattle.journal_model.specs.declared.entry.Entry.{Entry}
 use Rattle.journal_model.specs.Journal.{is_open, addressed, verdict_of, open_jobs, asked_jobs, on_wire, is_live, is_mute}
-use Rattle.journal_model.specs.Parts.{item_of, part_from, part, request_in}
-use Rattle.journal_model.specs.Due.{Aside, hearing, hearing_of, by_answer, replies_at, due_by, due_after, made_by}
+use Rattle.journal_model.specs.Parts.{item_of, part_from, part}
+use Rattle.annex_model.specs.Hearings.{request_in, Aside, hearing, hearing_of, by_answer}
+use Rattle.journal_model.specs.Due.{replies_at, due_by, due_after, made_by}
 use Rattle.journal_model.specs.Legality.{Legal, may_come, may_ask, asks_in_turn, is_in_turn}
 use Rattle.journal_model.specs.Projection.{Fits}
 use Rattle.journal_model.proofs.Growing.{Legal-induction}

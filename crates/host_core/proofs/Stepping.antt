@@ -2,8 +2,8 @@
 use Rattle.std.proofs.Common.{◌≡◌, ℕ, List, ◌++◌, ◌+◌, ◌<◌, refl, sym, ap, subst, ◌∙◌, Bool, true, false, cond, not, Option, Some, None, arith, inl, inr, length, append-nil}
 use Rattle.std.specs.Prelude.{◌&&◌, ◌||◌, ◌==◌, ◌^◌, nat_lt}
 use Rattle.std.proofs.lemmas.Bool.Decides.{nat_tests}
-use Rattle.annex_model.specs.declared.verdict.Why.{Why}
-use Rattle.annex_model.specs.declared.verdict.Why.TheVariants.{Full}
+use Rattle.journal_model.specs.declared.verdict.Why.{Why}
+use Rattle.journal_model.specs.declared.verdict.Why.TheVariants.{Full}
 use Rattle.annex_model.specs.Lines.{has_newline}
 use Rattle.annex_model.specs.Messages.{HostMessage, host_line, host_reading}
 use Rattle.journal_model.specs.declared.answer.Answer.{Answer}

@@ -1,9 +1,9 @@
 -- Words for the core's code: an entry's due entries in short, and what a job's part begins with.
 use Rattle.std.specs.Prelude.{ℕ, ◌≡◌, ◌==◌, ◌&&◌, ◌||◌, not, Bool, true, false, if◌then◌else◌, List, [], ◌∷◌, length, Option, Some, None, map, filter, filter_map, option_and_then, is_some, take, slice_get}
 use Rattle.std.specs.List.{range_with_len}
-use Rattle.annex_model.specs.declared.verdict.Why.TheVariants.{Error as ErrorAt, Version as VersionFault}
-use Rattle.annex_model.specs.declared.verdict.Verdict.{Verdict}
-use Rattle.annex_model.specs.declared.verdict.Verdict.TheVariants.{Unsent}
+use Rattle.journal_model.specs.declared.verdict.Why.TheVariants.{Error as ErrorAt, Version as VersionFault}
+use Rattle.journal_model.specs.declared.verdict.Verdict.{Verdict}
+use Rattle.journal_model.specs.declared.verdict.Verdict.TheVariants.{Unsent}
 use Rattle.annex_model.specs.Messages.{RemoteMessage, HostMessage, Value, Creds, HostError, remote_reading}
 use Rattle.annex_model.specs.Talks.{Item, Shape, OneLine, Configs, Infos, shape_of, is_remote, spells_aside, said}
 use Rattle.journal_model.specs.declared.entry.What.{What}
@@ -13,7 +13,8 @@ use Rattle.journal_model.specs.declared.opening.Opening.{Opening}
 use Rattle.journal_model.specs.Journal.{asks, each_of, writes, is_settled, open_jobs, is_unsent, has_spoken}
 use Rattle.journal_model.specs.Parts.{item_at}
 use Rattle.journal_model.specs.Room.{room_for}
-use Rattle.journal_model.specs.Due.{hearing_of, ending, ended_jobs, made_by, is_version_one, is_error, after_line}
+use Rattle.journal_model.specs.Due.{ending, ended_jobs, made_by, is_version_one, is_error, after_line}
+use Rattle.annex_model.specs.Hearings.{hearing_of}
 use Rattle.host_core.specs.declared.due.Due.{Due}
 use Rattle.host_core.specs.declared.due.Due.TheVariants.{Nothing, Settle, EndOf, EndedJobs, UnsentJobs}
 use Rattle.host_core.specs.declared.moves.Move.{Move}

@@ -7,7 +7,7 @@ ghost use Rattle.journal_model.specs.Legality.{Legal, least_free};
 ghost use Rattle.talk_serial.specs.Requests.{message_of};
 ghost use Rattle.host_core.specs.Steps.{takes_no_memory, step_of, claim, is_askable, is_gone, gone, may_end, may_answer};
 ghost use Rattle.host_core.specs.Moves.{IsStep, first_room};
-ghost use Rattle.annex_model.specs.declared.verdict.Why.TheVariants.{Full};
+ghost use Rattle.journal_model.specs.declared.verdict.Why.TheVariants.{Full};
 ghost use Rattle.journal_model.specs.declared.entry.What.TheVariants.{End};
 ghost use Rattle.host_core.specs.declared.event.Reply.TheVariants.{Gone};
 ghost use Rattle.host_core.specs.declared.due.Due.TheVariants.{Nothing, EndedJobs};

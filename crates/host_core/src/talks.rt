@@ -8,8 +8,8 @@ ghost use Rattle.talk_serial.specs.Requests.{message_of};
 ghost use Rattle.talk_serial.specs.Talked.{is_over};
 ghost use Rattle.talk_serial.specs.Hearings.{heard_as, Follows};
 ghost use Rattle.journal_model.specs.Journal.{is_open};
-ghost use Rattle.journal_model.specs.Parts.{part, request_in, item_of, item_at, ends_at, is_place};
-ghost use Rattle.journal_model.specs.Due.{hearing};
+ghost use Rattle.journal_model.specs.Parts.{part, item_of, item_at, ends_at, is_place};
+ghost use Rattle.annex_model.specs.Hearings.{request_in, hearing};
 ghost use Rattle.journal_model.specs.Legality.{Legal};
 ghost use Rattle.host_core.specs.Moves.{is_hosts, hosts_line, first_text, takes_lines, is_request, remote_text, said_by, Alike, AlikeTo};
 

@@ -1,7 +1,7 @@
 -- Worked journals: one child that is asked about itself.
 use Rattle.std.specs.Prelude.{List, [], ◌∷◌, ◌++◌, codes}
-use Rattle.annex_model.specs.declared.verdict.Why.TheVariants.{Eof, Foul}
-use Rattle.annex_model.specs.declared.verdict.Verdict.TheVariants.{Done, Unsupported, Ended}
+use Rattle.journal_model.specs.declared.verdict.Why.TheVariants.{Eof, Foul}
+use Rattle.journal_model.specs.declared.verdict.Verdict.TheVariants.{Done, Unsupported, Ended}
 use Rattle.journal_model.specs.declared.entry.What.TheVariants.{NoStart, Ask, Sent, Got, End, Verdict as Settled, Lost}
 use Rattle.journal_model.specs.declared.entry.Entry.{Entry}
 use Rattle.journal_model.specs.Rows.{by_main, greeting}

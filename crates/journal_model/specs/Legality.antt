@@ -4,10 +4,10 @@ use Rattle.std.specs.List.{list_any, range_with_len}
 use Rattle.std.specs.Str.{is_utf8}
 use Rattle.task_text.specs.declared.task.Task.{Task}
 use Rattle.annex_model.specs.Extensions.{names_of}
-use Rattle.annex_model.specs.declared.verdict.Why.{Why}
-use Rattle.annex_model.specs.declared.verdict.Why.TheVariants.{Eof, ReadFault, LongLine, Full, Memory, Closed}
-use Rattle.annex_model.specs.declared.verdict.Verdict.{Verdict}
-use Rattle.annex_model.specs.declared.verdict.Verdict.TheVariants.{Done as DoneAt}
+use Rattle.journal_model.specs.declared.verdict.Why.{Why}
+use Rattle.journal_model.specs.declared.verdict.Why.TheVariants.{Eof, ReadFault, LongLine, Full, Memory, Closed}
+use Rattle.journal_model.specs.declared.verdict.Verdict.{Verdict}
+use Rattle.journal_model.specs.declared.verdict.Verdict.TheVariants.{Done as DoneAt}
 use Rattle.annex_model.specs.Lines.{has_newline}
 use Rattle.annex_model.specs.Messages.{HostMessage, AskExtensions, Prepare, Initremote, Transfer, Checkpresent, Remove, Listconfigs, Getcost, Getavailability, Getinfo, Whereis, Value, Creds, HostError, remote_reading, host_reading, host_line}
 use Rattle.journal_model.specs.declared.entry.What.{What}

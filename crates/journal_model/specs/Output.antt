@@ -1,7 +1,7 @@
 -- What is printed of an answer.
 use Rattle.std.specs.Prelude.{ℕ, List, [], ◌∷◌, ◌++◌, Option, Some, None, codes, decimal}
-use Rattle.annex_model.specs.declared.verdict.Why.{Why}
-use Rattle.annex_model.specs.declared.verdict.Why.TheVariants.{Eof, ReadFault, LongLine, Full, Memory, Closed, Foul, Error, Version}
+use Rattle.journal_model.specs.declared.verdict.Why.{Why}
+use Rattle.journal_model.specs.declared.verdict.Why.TheVariants.{Eof, ReadFault, LongLine, Full, Memory, Closed, Foul, Error, Version}
 use Rattle.annex_model.specs.Messages.{RemoteMessage, remote_reading, text_in}
 use Rattle.annex_model.specs.Tags.{untag}
 use Rattle.journal_model.specs.declared.answer.Answer.{Answer}

@@ -1,7 +1,7 @@
 // Laws over the definitions, each the contract of a function with nothing to do.
 ghost use Rattle.std.specs.Prelude.{ℕ, ◌≡◌, ◌≤◌, ◌+◌, ◌↔◌, ◌++◌, true, false, List, [], ◌∷◌, take, IsTrue, Some, codes, length};
-ghost use Rattle.annex_model.specs.declared.verdict.Why.TheVariants.{Closed, Full, Foul, Error};
-ghost use Rattle.annex_model.specs.declared.verdict.Verdict.TheVariants.{Ended, Done, Failed, Unsupported};
+ghost use Rattle.journal_model.specs.declared.verdict.Why.TheVariants.{Closed, Full, Foul, Error};
+ghost use Rattle.journal_model.specs.declared.verdict.Verdict.TheVariants.{Ended, Done, Failed, Unsupported};
 ghost use Rattle.annex_model.specs.Messages.{Checkpresent};
 ghost use Rattle.annex_model.specs.Talks.{Conv, ConvFront, Talking};
 ghost use Rattle.annex_model.specs.Lines.{text};

@@ -6,9 +6,11 @@ mod entry;
 mod journal;
 pub mod laws;
 mod opening;
+mod verdict;
 
-pub use annex_model::{Final, Verdict, Why};
+pub use annex_model::Final;
 pub use answer::Answer;
 pub use entry::{Entry, What};
 pub use journal::Journal;
 pub use opening::{Identity, Opening};
+pub use verdict::{Verdict, Why};

@@ -1,8 +1,7 @@
 // Lines that a run prints of its answers.
 use super::*;
 use ann_key::{Bytes, NoMemory};
-use annex_model::Why;
-use journal_model::{Answer, Entry, Journal, What};
+use journal_model::{Answer, Entry, Journal, What, Why};
 use std::alloc::Global;
 
 // A child that was started, and the line that it said at place 1.

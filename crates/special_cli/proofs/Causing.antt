@@ -3,11 +3,11 @@ use Rattle.std.proofs.Common.{◌≡◌, ℕ, List, [], ◌∷◌, ◌++◌, ref
 use Rattle.std.specs.Prelude.{◌||◌, filter_map, is_some, bytes_eq}
 use Rattle.std.specs.List.{list_any, last_or}
 use Rattle.std.specs.Option.{option_or}
-use Rattle.annex_model.specs.declared.verdict.Why.{Why}
-use Rattle.annex_model.specs.declared.verdict.Why.TheVariants.{Closed}
-use Rattle.annex_model.specs.declared.verdict.Verdict.{Verdict}
-use Rattle.annex_model.specs.declared.verdict.Verdict.TheVariants.{Done, Failed, Absent, Unknown, Unsupported, Ended, Unsent}
-use Rattle.annex_model.specs.declared.verdict.Final.TheVariants.{Done as DoneSo, Failed as FailedSo, Absent as AbsentSo, Unknown as UnknownSo, Unsupported as UnsupportedSo}
+use Rattle.journal_model.specs.declared.verdict.Why.{Why}
+use Rattle.journal_model.specs.declared.verdict.Why.TheVariants.{Closed}
+use Rattle.journal_model.specs.declared.verdict.Verdict.{Verdict}
+use Rattle.journal_model.specs.declared.verdict.Verdict.TheVariants.{Done, Failed, Absent, Unknown, Unsupported, Ended, Unsent}
+use Rattle.annex_model.specs.declared.final_line.Final.TheVariants.{Done as DoneSo, Failed as FailedSo, Absent as AbsentSo, Unknown as UnknownSo, Unsupported as UnsupportedSo}
 use Rattle.annex_model.specs.Messages.{RemoteMessage, CheckpresentSuccess, CheckpresentFailure, CheckpresentUnknown, Checkpresent}
 use Rattle.annex_model.specs.Talks.{one_line, said_alone, is_unsupported, final_of}
 use Rattle.journal_model.specs.declared.answer.Answer.{Answer}

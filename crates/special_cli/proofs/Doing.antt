@@ -3,10 +3,10 @@ use Rattle.std.proofs.Common.{◌≡◌, ◌⊎◌, ◌<◌, ◌^◌, ℕ, List,
 use Rattle.std.specs.Prelude.{◌||◌, nat_lt, filter_map, option_and_then, option_map, is_some}
 use Rattle.std.specs.List.{list_all, list_any, last_or}
 use Rattle.std.proofs.lemmas.List.Folds.{list_any-append}
-use Rattle.annex_model.specs.declared.verdict.Why.{Why}
-use Rattle.annex_model.specs.declared.verdict.Why.TheVariants.{Closed}
-use Rattle.annex_model.specs.declared.verdict.Verdict.{Verdict}
-use Rattle.annex_model.specs.declared.verdict.Verdict.TheVariants.{Failed, Unsupported}
+use Rattle.journal_model.specs.declared.verdict.Why.{Why}
+use Rattle.journal_model.specs.declared.verdict.Why.TheVariants.{Closed}
+use Rattle.journal_model.specs.declared.verdict.Verdict.{Verdict}
+use Rattle.journal_model.specs.declared.verdict.Verdict.TheVariants.{Failed, Unsupported}
 use Rattle.annex_model.specs.Messages.{HostMessage, Checkpresent, host_line, host_reading, is_sent_key}
 use Rattle.annex_model.proofs.Readings.{canonical_read}
 use Rattle.journal_model.specs.declared.answer.Answer.{Answer}

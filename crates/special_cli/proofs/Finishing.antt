@@ -2,7 +2,7 @@
 use Rattle.std.proofs.Common.{◌≡◌, ◌⊎◌, ℕ, zero, suc, List, [], ◌∷◌, ◌++◌, refl, sym, ap, subst, ◌∙◌, append_assoc, Bool, true, false, not, ◌==◌, cond, Some, None, Option, inl, inr}
 use Rattle.std.specs.Prelude.{◌&&◌, ◌||◌, filter_map, option_and_then}
 use Rattle.std.specs.List.{list_all, list_any, cons_option}
-use Rattle.annex_model.specs.declared.verdict.Why.TheVariants.{Closed}
+use Rattle.journal_model.specs.declared.verdict.Why.TheVariants.{Closed}
 use Rattle.journal_model.specs.declared.answer.Answer.{Answer}
 use Rattle.journal_model.specs.declared.answer.Answer.TheVariants.{Memory}
 use Rattle.journal_model.specs.declared.entry.What.{What}

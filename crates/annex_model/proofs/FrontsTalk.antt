@@ -5,21 +5,14 @@ use Rattle.std.specs.List.{flat_map, last_or}
 use Rattle.std.proofs.lemmas.List.Elements.{filter-append}
 use Rattle.annex_model.specs.Messages.{RemoteMessage, HostMessage, remote_reading, host_line}
 use Rattle.annex_model.specs.Talks.{Item, Host, Conv, ConvFront, Talking, IsReplied, shown, is_remote, remote_items, said, with_replies, final_of, awaits, item_is_aside, is_final_item, begins_with_remote}
-use Rattle.talk_laws.proofs.Awaiting.{before_awaits}
-use Rattle.talk_laws.proofs.Cutting.{Shown, blocks, cut, begins}
-
-map-append : {X Y : Type 0} (f : X → Y) (xs ys : List X) → map f (xs ++ ys) ≡ map f xs ++ map f ys
-map-append f [] ys = refl
-map-append f (x ∷ xs) ys = ap (λ zs. f x ∷ zs) (map-append f xs ys)
-
-flat_map-append : {X Y : Type 0} (f : X → List Y) (xs ys : List X) → flat_map f (xs ++ ys) ≡ flat_map f xs ++ flat_map f ys
-flat_map-append f [] ys = refl
-flat_map-append f (x ∷ xs) ys = ap (λ zs. f x ++ zs) (flat_map-append f xs ys) ∙ sym (append_assoc (f x) (flat_map f xs) (flat_map f ys))
+use Rattle.annex_model.proofs.Awaiting.{before_awaits}
+use Rattle.annex_model.proofs.Cutting.{Shown, blocks, cut, begins}
+use Rattle.annex_model.proofs.TalksGrow.{map-append, flat_map-append}
 
 remote_items-append : (xs ys : List Item) → remote_items (xs ++ ys) ≡ remote_items xs ++ remote_items ys
 remote_items-append xs ys = filter-append (λ (x : Item). is_remote x.side) xs ys
 
-said-append : (xs ys : List Item) → said (xs ++ ys) ≡ said xs ++ said ys
+pub said-append : (xs ys : List Item) → said (xs ++ ys) ≡ said xs ++ said ys
 said-append xs ys =
     ap (λ (zs : List Item). map (λ (x : Item). remote_reading x.text) (filter (λ (x : Item). not (item_is_aside x)) zs)) (remote_items-append xs ys)
     ∙ ap (map (λ (x : Item). remote_reading x.text)) (filter-append (λ (x : Item). not (item_is_aside x)) (remote_items xs) (remote_items ys))

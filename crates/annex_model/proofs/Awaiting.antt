@@ -2,18 +2,14 @@
 use Rattle.std.proofs.Common.{◌≡◌, List, [], ◌∷◌, ◌++◌, refl, ap, Bool, true, false, cond, Some, None, Option}
 use Rattle.std.specs.Prelude.{◌&&◌, IsSome}
 use Rattle.std.specs.List.{list_all}
-use Rattle.annex_model.specs.declared.verdict.Final.{Final}
-use Rattle.annex_model.specs.declared.verdict.Final.TheVariants.{Unsupported}
+use Rattle.annex_model.specs.declared.final_line.Final.{Final}
+use Rattle.annex_model.specs.declared.final_line.Final.TheVariants.{Unsupported}
 use Rattle.annex_model.specs.Messages.{RemoteMessage, UnsupportedRequest, HostMessage}
 use Rattle.annex_model.specs.Talks.{Shape, OneLine, Configs, Infos, shape_of, final_of, awaits, may_go_on, by_shape, said_alone, done_if, are_configs, are_infos, are_pairs, is_config, is_infofield, is_infovalue, is_unsupported}
+use Rattle.annex_model.proofs.Parts.{both}
 
 abbrev Said : Type 0
 Said = List (Option RemoteMessage)
-
-both : (a b : Bool) → (a && b) ≡ true → (a ≡ true) × (b ≡ true)
-both true true h = (refl, refl)
-both true false h = absurd cc
-both false b h = absurd cc
 
 nothing_goes_on : (s : Shape) → may_go_on s [] ≡ true
 nothing_goes_on OneLine = refl

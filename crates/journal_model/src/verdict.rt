@@ -21,17 +21,6 @@ pub enum Why {
     Version { at: u64 },
 }
 
-/// What a final line says of its request.
-#[derive(Clone, Copy, PartialEq, Eq, Debug)]
-pub enum Final {
-    Done,
-    Failed,
-    Absent,
-    Unknown,
-    /// The remote doesn't know the request.
-    Unsupported,
-}
-
 /// How a job was settled: by the line at that place, or with its child, or unsent.
 #[derive(Clone, Copy, PartialEq, Eq, Debug)]
 pub enum Verdict {
