@@ -1,5 +1,5 @@
 -- A front talks so far, or is whole.
-use Rattle.std.proofs.Common.{◌≡◌, ℕ, List, [], ◌∷◌, ◌++◌, refl, sym, ap, subst, ◌∙◌, append_assoc, append-nil, Bool, true, false, not, cond, Some, None, Option, ◌⊎◌, inl, inr}
+use Rattle.std.proofs.Common.{◌≡◌, ℕ, List, [], ◌∷◌, ◌++◌, refl, sym, ap, subst, ◌∙◌, append-nil, Bool, true, false, not, cond, Some, None, Option, ◌⊎◌, inl, inr}
 use Rattle.std.specs.Prelude.{IsSome, ◌&&◌, map, filter}
 use Rattle.std.specs.List.{flat_map, last_or}
 use Rattle.std.proofs.lemmas.List.Elements.{filter-append}

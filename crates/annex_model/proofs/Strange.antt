@@ -1,10 +1,10 @@
 -- Behind a front that awaits a line, a message that is no aside is foul exactly where it can't follow.
 use Rattle.std.proofs.Common.{◌≡◌, ℕ, List, [], ◌∷◌, ◌++◌, refl, sym, ap, subst, ◌∙◌, append_assoc, append-nil, Bool, true, false, Some, None, Option, ◌⊎◌, inl, inr}
-use Rattle.std.specs.Prelude.{IsSome, map, if◌then◌else◌}
+use Rattle.std.specs.Prelude.{IsSome, if◌then◌else◌}
 use Rattle.annex_model.specs.declared.final_line.Final.{Final}
 use Rattle.annex_model.specs.Messages.{RemoteMessage, HostMessage, IsAskable, remote_reading, host_reading, host_line}
-use Rattle.annex_model.specs.Talks.{Item, Side, Host, Conv, ConvFront, Talking, IsReplied, shown, said, is_aside, spells_aside, final_of, awaits, item_is_aside, with_replies, remote_items}
-use Rattle.annex_model.specs.Hearings.{Hearing, Aside, Part, Settles, Strange, by_answer, hearing_of, hearing, request_in}
+use Rattle.annex_model.specs.Talks.{Item, Side, Host, Conv, ConvFront, Talking, IsReplied, shown, said, is_aside, spells_aside, final_of, awaits, item_is_aside}
+use Rattle.annex_model.specs.Hearings.{Aside, Strange, by_answer, hearing_of, hearing, request_in}
 use Rattle.annex_model.proofs.Readings.{canonical_read}
 use Rattle.annex_model.proofs.Awaiting.{before_awaits}
 use Rattle.annex_model.proofs.Fronts.{front_of}

@@ -5,3 +5,4 @@ pub mod Lines
 pub mod Messages
 pub mod Tags
 pub mod Talks
+pub mod Turns

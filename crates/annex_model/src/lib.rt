@@ -4,5 +4,7 @@
 
 pub mod final_line;
 pub mod laws;
+pub mod turn;
 
 pub use final_line::Final;
+pub use turn::Turn;

@@ -5,7 +5,7 @@ use Rattle.std.proofs.lemmas.Bool.Decides.{nat_tests}
 use Rattle.journal_model.specs.declared.verdict.Why.{Why}
 use Rattle.journal_model.specs.declared.verdict.Why.TheVariants.{Full}
 use Rattle.annex_model.specs.Lines.{has_newline}
-use Rattle.annex_model.specs.Messages.{HostMessage, host_line, host_reading}
+use Rattle.annex_model.specs.Messages.{HostMessage, host_line, host_reading, is_askable}
 use Rattle.journal_model.specs.declared.answer.Answer.{Answer}
 use Rattle.journal_model.specs.declared.entry.What.{What}
 use Rattle.journal_model.specs.declared.entry.What.TheVariants.{Claim, Start, NoStart, Ask, Sent, Mute, Got, End, Lost, Answer as Answered}
@@ -18,7 +18,7 @@ use Rattle.journal_model.proofs.Looks.{same, both}
 use Rattle.host_core.specs.declared.event.Event.{Event}
 use Rattle.host_core.specs.declared.event.Event.TheVariants.{Claim as ClaimEvent, Start as StartEvent, NoStart as NoStartEvent, Ask as AskEvent, Lookup, Look, Fetch, Got as GotEvent, Stop, Sent as SentEvent, Mute as MuteEvent, Answer as AnswerEvent}
 use Rattle.host_core.specs.declared.event.Reply.TheVariants.{Child, Job, Over, Done, Gone}
-use Rattle.host_core.specs.Steps.{Step, step_of, group_of, append, odd, only, gone, is_gone, claim, next_job, may_request, may_answer, may_end, is_full_why, is_askable, is_asked, settled_so, next_line, Comes}
+use Rattle.host_core.specs.Steps.{Step, step_of, group_of, append, odd, only, gone, is_gone, claim, next_job, may_request, may_answer, may_end, is_full_why, is_asked, settled_so, next_line, Comes}
 use Rattle.talk_serial.specs.Requests.{message_of}
 use Rattle.host_core.proofs.Wiring.{wired_turn, few_jobs}
 

@@ -4,7 +4,7 @@ use Rattle.std.specs.List.{range_with_len}
 use Rattle.journal_model.specs.declared.verdict.Why.TheVariants.{Error as ErrorAt, Version as VersionFault}
 use Rattle.journal_model.specs.declared.verdict.Verdict.{Verdict}
 use Rattle.journal_model.specs.declared.verdict.Verdict.TheVariants.{Unsent}
-use Rattle.annex_model.specs.Messages.{RemoteMessage, HostMessage, Value, Creds, HostError, remote_reading}
+use Rattle.annex_model.specs.Messages.{RemoteMessage, remote_reading}
 use Rattle.annex_model.specs.Talks.{Item, Shape, OneLine, Configs, Infos, shape_of, is_remote, spells_aside, said}
 use Rattle.journal_model.specs.declared.entry.What.{What}
 use Rattle.journal_model.specs.declared.entry.What.TheVariants.{Ask, Put, Verdict as Settled}
@@ -14,7 +14,6 @@ use Rattle.journal_model.specs.Journal.{asks, each_of, writes, is_settled, open_
 use Rattle.journal_model.specs.Parts.{item_at}
 use Rattle.journal_model.specs.Room.{room_for}
 use Rattle.journal_model.specs.Due.{ending, ended_jobs, made_by, is_version_one, is_error, after_line}
-use Rattle.annex_model.specs.Hearings.{hearing_of}
 use Rattle.host_core.specs.declared.due.Due.{Due}
 use Rattle.host_core.specs.declared.due.Due.TheVariants.{Nothing, Settle, EndOf, EndedJobs, UnsentJobs}
 use Rattle.host_core.specs.declared.moves.Move.{Move}
@@ -83,26 +82,6 @@ due_from o past c line to =
     else after_line o past c to.0 (remote_reading to.1)
 
 -- ---- the talk about an open job
-
--- the message asks something
-abbrev pub is_request : HostMessage → Bool
-is_request (Value value) = false
-is_request (Creds user password) = false
-is_request (HostError text) = false
-is_request q = true
-
--- the same is an answer to both
-abbrev pub HearsAlike : HostMessage → HostMessage → Type 0
-HearsAlike q p = (ms : List (Option RemoteMessage)) → hearing_of (Some q) ms ≡ hearing_of (Some p) ms
-
--- and the same begins one
-pub record Alike (q p : HostMessage) : Type 0 where
-  pub hears : HearsAlike q p
-  pub shape : shape_of q ≡ shape_of p
-
-abbrev pub AlikeTo : HostMessage → Option HostMessage → Type 0
-AlikeTo q None = ⊥
-AlikeTo q (Some p) = Alike q p
 
 -- answers of the shape have several lines
 abbrev pub takes_lines : Shape → Bool

@@ -5,14 +5,14 @@ use Rattle.journal_model.specs.declared.verdict.Why.{Why}
 use Rattle.journal_model.specs.declared.verdict.Why.TheVariants.{Full}
 use Rattle.journal_model.specs.declared.verdict.Verdict.{Verdict}
 use Rattle.annex_model.specs.Lines.{has_newline}
-use Rattle.annex_model.specs.Messages.{HostMessage, AskExtensions, Prepare, Initremote, Transfer, Checkpresent, Remove, Listconfigs, Getcost, Getavailability, Getinfo, Whereis, Value, Creds, HostError, host_line, is_sent_key, is_word}
+use Rattle.annex_model.specs.Messages.{HostMessage, host_line, is_askable}
 use Rattle.journal_model.specs.declared.entry.What.{What}
 use Rattle.journal_model.specs.declared.entry.What.TheVariants.{Claim, Start, NoStart, Ask, Sent, Mute, Got, End, Lost, Answer as Answered}
 use Rattle.journal_model.specs.declared.entry.Entry.{Entry}
 use Rattle.journal_model.specs.declared.opening.Opening.{Opening}
 use Rattle.journal_model.specs.Journal.{is_started, is_ended, is_mute, asked_jobs, verdict_of, unsent, is_full, on_wire, why_of, writes}
 use Rattle.journal_model.specs.Due.{due_after}
-use Rattle.journal_model.specs.Legality.{may_come, is_empty, count, is_start, is_claimed, numbers_of, least_free, is_prepared, is_in_turn, may_ask, may_stop, is_claimed_by, is_busy, has_open_job}
+use Rattle.journal_model.specs.Legality.{may_come, is_empty, count, is_start, is_claimed, numbers_of, least_free, is_prepared, is_in_turn, may_ask, may_stop, is_claimed_by, has_open_job}
 use Rattle.talk_serial.specs.Requests.{message_of}
 use Rattle.host_core.specs.declared.event.Event.{Event}
 use Rattle.host_core.specs.declared.event.Event.TheVariants.{Claim as ClaimEvent, Start as StartEvent, NoStart as NoStartEvent, Ask as AskEvent, Lookup, Look, Fetch, Got as GotEvent, Stop, Sent as SentEvent, Mute as MuteEvent, Answer as AnswerEvent}
@@ -52,23 +52,6 @@ gone past child = Gone (why_of past child)
 abbrev pub is_asked : List Entry → ℕ → ℕ → Bool
 is_asked past child job = list_any (λ k. k == job) (asked_jobs past child)
 
--- each field of the message is of its class
-abbrev pub is_askable : HostMessage → Bool
-is_askable (AskExtensions names) = true
-is_askable Prepare = true
-is_askable Initremote = true
-is_askable (Transfer store key file) = is_sent_key key
-is_askable (Checkpresent key) = is_sent_key key
-is_askable (Remove key) = is_sent_key key
-is_askable Listconfigs = true
-is_askable Getcost = true
-is_askable Getavailability = true
-is_askable Getinfo = true
-is_askable (Whereis key) = is_sent_key key
-is_askable (Value value) = true
-is_askable (Creds user password) = is_word user
-is_askable (HostError text) = true
-
 abbrev pub next_job : List Entry → ℕ → ℕ
 next_job past child = length (asked_jobs past child)
 
@@ -86,7 +69,7 @@ abbrev pub may_end : List Entry → ℕ → Why → Bool
 may_end past child why = not (is_full_why why) && may_stop past child why
 
 abbrev pub may_answer : List Entry → ℕ → ℕ → Bool
-may_answer past by task = is_claimed_by past by task && is_busy past task && not (has_open_job past task)
+may_answer past by task = is_claimed_by past by task && not (has_open_job past task)
 
 -- ---- memory
 

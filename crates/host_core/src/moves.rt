@@ -1,11 +1,11 @@
 // What each event appends, and what is answered, found before anything is changed.
 ghost use Rattle.std.specs.Prelude.{◌≡◌, ◌≤◌, length, IfOk, true, Some, None, IsOk};
-ghost use Rattle.annex_model.specs.Messages.{host_line};
+ghost use Rattle.annex_model.specs.Messages.{host_line, is_askable};
 ghost use Rattle.journal_model.specs.Limits.{most_tasks};
 ghost use Rattle.journal_model.specs.Journal.{on_wire};
 ghost use Rattle.journal_model.specs.Legality.{Legal, least_free};
 ghost use Rattle.talk_serial.specs.Requests.{message_of};
-ghost use Rattle.host_core.specs.Steps.{takes_no_memory, step_of, claim, is_askable, is_gone, gone, may_end, may_answer};
+ghost use Rattle.host_core.specs.Steps.{takes_no_memory, step_of, claim, is_gone, gone, may_end, may_answer};
 ghost use Rattle.host_core.specs.Moves.{IsStep, first_room};
 ghost use Rattle.journal_model.specs.declared.verdict.Why.TheVariants.{Full};
 ghost use Rattle.journal_model.specs.declared.entry.What.TheVariants.{End};
@@ -324,7 +324,6 @@ fn may_answer(entries: &[Entry], by: u32, task: u32) -> bool
     ensures { result ≡ may_answer entries.now by task }
 {
     tasks::is_claimed_by(entries, by, task)
-        && tasks::is_busy(entries, task)
         && !tasks::has_open_job(entries, task)
 }
 

@@ -1,5 +1,5 @@
 -- What an entry makes due: the entries that have to stand directly behind it, made by the same number.
-use Rattle.std.specs.Prelude.{ℕ, ◌==◌, ◌&&◌, ◌||◌, not, Bool, true, false, if◌then◌else◌, List, [], ◌∷◌, ◌++◌, length, Option, Some, None, map, filter}
+use Rattle.std.specs.Prelude.{ℕ, ◌==◌, ◌&&◌, ◌||◌, not, Bool, true, false, if◌then◌else◌, List, [], ◌∷◌, length, Option, Some, None, map, filter}
 use Rattle.std.specs.List.{list_any}
 use Rattle.journal_model.specs.declared.verdict.Why.{Why}
 use Rattle.journal_model.specs.declared.verdict.Why.TheVariants.{Foul, Error as ErrorAt, Version as VersionFault}

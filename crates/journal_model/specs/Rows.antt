@@ -218,3 +218,19 @@ listing = greeting ++ by_main ask_configs ∷ by_main (Sent 1) ∷ []
 
 abbrev pub one_listed : List Entry
 one_listed = listing ++ by_main (Got 1 (codes "CONFIG a b")) ∷ []
+
+-- ---- a child that was set up, and not prepared
+
+abbrev pub set_up : List Entry
+set_up =
+    by_main (Start 1 0 false)
+    ∷ by_main (Got 1 (codes "VERSION 1"))
+    ∷ by_main (Ask 1 0 0 (codes "EXTENSIONS INFO GETGITREMOTENAME"))
+    ∷ by_main (Sent 1)
+    ∷ by_main (Got 1 (codes "EXTENSIONS"))
+    ∷ by_main (Settled 1 0 (Done 4))
+    ∷ by_main (Ask 1 1 0 (codes "INITREMOTE"))
+    ∷ by_main (Sent 1)
+    ∷ by_main (Got 1 (codes "INITREMOTE-SUCCESS"))
+    ∷ by_main (Settled 1 1 (Done 8))
+    ∷ []

@@ -3,6 +3,7 @@
 
 mod answer;
 mod entry;
+mod holder;
 mod journal;
 pub mod laws;
 mod opening;
@@ -11,6 +12,7 @@ mod verdict;
 pub use annex_model::Final;
 pub use answer::Answer;
 pub use entry::{Entry, What};
+pub use holder::Holder;
 pub use journal::Journal;
 pub use opening::{Identity, Opening};
 pub use verdict::{Verdict, Why};

@@ -17,7 +17,7 @@ use Rattle.journal_model.specs.declared.entry.What.TheVariants.{Start, NoStart}
 use Rattle.journal_model.specs.declared.entry.Entry.{Entry}
 use Rattle.journal_model.specs.declared.opening.Opening.{Opening}
 use Rattle.journal_model.specs.Journal.{any, each_of, mutes, is_ended, is_mute, verdict_of, why_of}
-use Rattle.journal_model.specs.Legality.{Legal, is_prepared}
+use Rattle.journal_model.specs.Legality.{Legal, is_done}
 use Rattle.journal_model.specs.Projection.{IsNamed}
 use Rattle.journal_model.proofs.Looks.{any-append}
 use Rattle.journal_model.proofs.Linking.{why_is_end, why_of-append}
@@ -101,7 +101,7 @@ cause_of_lost past c answer gone None is says =
 
 -- an answer by a child that was not ready
 cause_unready : (past : List Entry) (c : ℕ) (answer : Answer) → unready_answer past c ≡ Some answer → HasCause past answer
-cause_unready past c answer h = go (is_prepared past c) (refusal_of past c) (is_ended past c) (is_mute past c) refl (why_of past c) refl h
+cause_unready past c answer h = go (is_done (verdict_of past c 1)) (refusal_of past c) (is_ended past c) (is_mute past c) refl (why_of past c) refl h
   where
     go : (p : Bool) (r : Option ℕ) (e m : Bool) → is_mute past c ≡ m → (w : Option Why) → why_of past c ≡ w
         → cond p None (or_refusal (cond e (ended_answer w) (cond m (Some UnsentAnswer) None)) r) ≡ Some answer → HasCause past answer
