@@ -1,5 +1,5 @@
 -- The line of a request in its turn is read back as that request.
-use Rattle.std.proofs.Common.{◌≡◌, ◌∙◌, ℕ, ◌+◌, ◌-◌, ◌*◌, ◌/◌, ◌%◌, ◌<◌, ◌≤◌, ◌^◌, List, [], ◌∷◌, ◌++◌, refl, sym, ap, subst, Bool, true, false, cond, Option, Some, None, arith, length}
+use Rattle.std.proofs.Common.{◌≡◌, ◌∙◌, ℕ, ◌<◌, ◌≤◌, ◌^◌, List, [], ◌∷◌, refl, ap, Bool, true, false, cond, Option, Some, None, arith, length}
 use Rattle.std.specs.Prelude.{◌&&◌, bytes_eq}
 use Rattle.std.specs.List.{cons_option}
 use Rattle.std.proofs.lemmas.Slice.Eq.{bytes_eq-Decides}

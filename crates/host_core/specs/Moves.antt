@@ -5,7 +5,7 @@ use Rattle.journal_model.specs.declared.verdict.Why.TheVariants.{Error as ErrorA
 use Rattle.journal_model.specs.declared.verdict.Verdict.{Verdict}
 use Rattle.journal_model.specs.declared.verdict.Verdict.TheVariants.{Unsent}
 use Rattle.annex_model.specs.Messages.{RemoteMessage, remote_reading}
-use Rattle.annex_model.specs.Talks.{Item, Shape, OneLine, Configs, Infos, shape_of, is_remote, spells_aside, said}
+use Rattle.annex_model.specs.Talks.{Item, Shape, OneLine, Configs, Infos, is_remote, spells_aside, said}
 use Rattle.journal_model.specs.declared.entry.What.{What}
 use Rattle.journal_model.specs.declared.entry.What.TheVariants.{Ask, Put, Verdict as Settled}
 use Rattle.journal_model.specs.declared.entry.Entry.{Entry}
@@ -18,7 +18,7 @@ use Rattle.host_core.specs.declared.due.Due.{Due}
 use Rattle.host_core.specs.declared.due.Due.TheVariants.{Nothing, Settle, EndOf, EndedJobs, UnsentJobs}
 use Rattle.host_core.specs.declared.moves.Move.{Move}
 use Rattle.host_core.specs.declared.event.Reply.{Reply}
-use Rattle.host_core.specs.declared.event.Reply.TheVariants.{Wait, Line}
+use Rattle.host_core.specs.declared.event.Reply.TheVariants.{Line}
 use Rattle.host_core.specs.Steps.{Step}
 
 -- the verdicts of the open jobs whose requests were not written whole
@@ -58,9 +58,9 @@ abbrev pub is_written : ℕ → What → Bool
 is_written c w = is_some (writes c w)
 
 -- what is answered where this is the next line to write
-abbrev pub next_reply : Option (List ℕ) → Reply
-next_reply None = Wait
-next_reply (Some line) = Line line
+abbrev pub next_reply : Reply → Option (List ℕ) → Reply
+next_reply rest None = rest
+next_reply rest (Some line) = Line line
 
 abbrev pub first_text : List Item → Option (List ℕ)
 first_text [] = None

@@ -11,8 +11,9 @@ ghost use Rattle.journal_model.specs.Due.{is_version_one, is_error};
 ghost use Rattle.journal_model.specs.Legality.{said_version, asks_prepare, prepares, is_prepared, is_greeted, suits_child, is_in_turn, is_empty, may_ask, is_done, is_text};
 ghost use Rattle.talk_serial.specs.Requests.{message_of};
 ghost use Rattle.host_core.specs.Steps.{may_request, next_job, written_to, got_line, next_line};
-ghost use Rattle.host_core.specs.Moves.{is_written, hosts_line, next_reply};
+ghost use Rattle.host_core.specs.Moves.{is_written, hosts_line};
 
+use crate::event::Reply;
 use crate::talks::hosts_line;
 use crate::{children, tasks};
 use ann_key::{Bytes, Key, NoMemory};
@@ -235,7 +236,10 @@ fn prepares(what: &What, c: u32) -> bool
 {
     match what {
         What::Ask {
-            child, job, line, ..
+            child,
+            job,
+            line,
+            ..
         } => *child == c && *job == 1 && asks_prepare(line.view()),
         _ => false,
     }
@@ -426,17 +430,18 @@ fn nth_written(entries: &[Entry], child: u32, n: usize) -> Option<&Entry>
     entries.iter().filter(|e| is_written(&e.what, child)).nth(n)
 }
 
-/// The first of the lines for the child that were not written whole, with its byte 10.
+/// The first of the lines for the child that were not written whole, with its byte 10, or else the other reply.
 pub(super) fn next_line(
     alloc: Global,
     entries: &[Entry],
     child: u32,
-) -> Result<Option<Bytes>, NoMemory>
-    ensures { IfOk result (λ line. next_reply line ≡ next_line (unsent entries.now child)) }
+    rest: Reply,
+) -> Result<Reply, NoMemory>
+    ensures { IfOk result (λ reply. reply ≡ next_line rest (unsent entries.now child)) }
 {
     match nth_written(entries, child, sents(entries, child)) {
-        Some(e) => Ok(Some(with_newline(alloc, hosts_line(&e.what))?)),
-        None => Ok(None),
+        Some(e) => Ok(Reply::Line(with_newline(alloc, hosts_line(&e.what))?)),
+        None => Ok(rest),
     }
 }
 

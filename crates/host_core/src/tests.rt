@@ -130,6 +130,7 @@ fn is_said(reply: &Reply, want: Said) -> bool {
         Reply::Gone { why: None } => matches!(want, Said::Mute),
         Reply::Wait => matches!(want, Said::Wait),
         Reply::NoTask => matches!(want, Said::NoTask),
+        Reply::Read => false,
         Reply::Over => matches!(want, Said::Over),
         Reply::Done => matches!(want, Said::Done),
         Reply::Odd => matches!(want, Said::Odd),
