@@ -8,8 +8,8 @@ use Rattle.journal_model.specs.declared.entry.What.{What}
 use Rattle.journal_model.specs.declared.entry.What.TheVariants.{Claim, Ask, Got, Lost}
 use Rattle.journal_model.specs.declared.entry.Entry.{Entry}
 use Rattle.journal_model.specs.declared.opening.Opening.{Opening}
-use Rattle.journal_model.specs.Journal.{any, offers, is_started, is_ended, is_mute, is_live, is_full, addressed, on_wire}
-use Rattle.journal_model.specs.Legality.{least_free, is_prepared, is_in_turn, may_ask, may_come, is_number, asks_in_turn, offered_names}
+use Rattle.journal_model.specs.Journal.{is_started, is_ended, is_mute, is_live, is_full, addressed, on_wire}
+use Rattle.journal_model.specs.Legality.{least_free, is_prepared, is_in_turn, may_ask, may_come, is_number, asks_in_turn}
 use Rattle.journal_model.proofs.Looks.{same_number, both}
 use Rattle.annex_model.proofs.Classes.{askable_test}
 use Rattle.journal_model.proofs.Asking.{read_askable}

@@ -2,7 +2,6 @@
 use Rattle.std.proofs.Common.{◌≡◌, ℕ, List, [], ◌∷◌, ◌++◌, refl, sym, ap, subst, ◌∙◌, Bool, true, false, not, ◌==◌, cond, Some, None, Option, inl, inr}
 use Rattle.std.specs.Prelude.{◌&&◌, ◌||◌, find, fold, is_some, nat_lt, filter_map, option_and_then}
 use Rattle.std.specs.List.{list_all, list_any, range_with_len, cons_option}
-use Rattle.std.proofs.lemmas.List.Folds.{list_any-append}
 use Rattle.journal_model.specs.declared.answer.Answer.{Answer}
 use Rattle.journal_model.specs.declared.entry.What.{What}
 use Rattle.journal_model.specs.declared.entry.What.TheVariants.{Claim, Start, NoStart, Ask, Lost, Answer as Answered}
@@ -20,7 +19,7 @@ use Rattle.child_link.specs.Doors.{is_of_link}
 use Rattle.child_start.specs.Greetings.{Greeted, is_greeting_line, is_of_greeting}
 use Rattle.special_cli.specs.Endings.{start_in, is_for_task}
 use Rattle.special_cli.specs.Runs.{main_entry, claim_in, IsBegun, HasOneTask}
-use Rattle.special_cli.proofs.Looking.{or_true, Vanishes, holds_in, greeting_says_none, through, any_through, all_weaken, any_none, no_task}
+use Rattle.special_cli.proofs.Looking.{Vanishes, holds_in, greeting_says_none, through, any_through, all_weaken, any_none, no_task}
 
 -- ---- what links and greetings don't say
 

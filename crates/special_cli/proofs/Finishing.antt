@@ -1,6 +1,6 @@
 -- From a task that is done to the end of the run.
-use Rattle.std.proofs.Common.{◌≡◌, ◌⊎◌, ℕ, zero, suc, List, [], ◌∷◌, ◌++◌, refl, sym, ap, subst, ◌∙◌, append_assoc, Bool, true, false, not, ◌==◌, cond, Some, None, Option, inl, inr}
-use Rattle.std.specs.Prelude.{◌&&◌, ◌||◌, filter_map, option_and_then}
+use Rattle.std.proofs.Common.{◌≡◌, ◌⊎◌, ℕ, zero, suc, List, [], ◌∷◌, ◌++◌, refl, sym, ap, subst, ◌∙◌, append_assoc, Bool, true, false, ◌==◌, cond, Some, None, Option, inl, inr}
+use Rattle.std.specs.Prelude.{◌||◌, filter_map, option_and_then}
 use Rattle.std.specs.List.{list_all, list_any, cons_option}
 use Rattle.journal_model.specs.declared.verdict.Why.TheVariants.{Closed}
 use Rattle.journal_model.specs.declared.answer.Answer.{Answer}
@@ -26,7 +26,7 @@ use Rattle.child_start.proofs.Jobs.{idle_on}
 use Rattle.special_cli.specs.Endings.{start_in, is_for_task, closing}
 use Rattle.special_cli.specs.Runs.{main_entry, claim_in, IsDone, IsRun}
 use Rattle.special_cli.proofs.Causing.{cause_grows}
-use Rattle.special_cli.proofs.Looking.{or_true, through, all_both}
+use Rattle.special_cli.proofs.Looking.{through, all_both}
 use Rattle.special_cli.proofs.Beginning.{first_claim}
 
 -- the answer may be given

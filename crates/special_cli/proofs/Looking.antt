@@ -1,6 +1,6 @@
 -- What a list of entries says through one small function of an entry.
 use Rattle.std.proofs.Common.{◌≡◌, ℕ, List, [], ◌∷◌, ◌++◌, refl, ap, ◌∙◌, Bool, true, false, ◌==◌, Some, None, Option}
-use Rattle.std.specs.Prelude.{◌&&◌, ◌||◌, nat_lt, filter_map, option_and_then}
+use Rattle.std.specs.Prelude.{◌&&◌, ◌||◌, filter_map, option_and_then}
 use Rattle.std.specs.List.{list_all, list_any, cons_option}
 use Rattle.journal_model.specs.declared.verdict.Why.{Why}
 use Rattle.journal_model.specs.declared.verdict.Verdict.{Verdict}

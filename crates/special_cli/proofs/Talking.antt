@@ -1,6 +1,6 @@
 -- From a greeting to a child that was asked about itself, and its closing.
 use Rattle.std.proofs.Common.{◌≡◌, ◌⊎◌, ℕ, zero, suc, List, [], ◌∷◌, ◌++◌, length, refl, sym, ap, subst, ◌∙◌, Bool, true, false, not, ◌==◌, cond, Some, None, Option, inl, inr, append-nil}
-use Rattle.std.specs.Prelude.{◌&&◌, ◌||◌, nat_lt, take, map, codes, option_and_then, IsSome, IfOk, MatchResult, Result, Ok, Err}
+use Rattle.std.specs.Prelude.{◌&&◌, ◌||◌, take, map, codes, option_and_then, IsSome, IfOk, MatchResult, Result, Ok, Err}
 use Rattle.std.specs.Option.{option_or}
 use Rattle.std.specs.List.{list_all, list_any, cons_option}
 use Rattle.ann_outside.specs.Starts.{Starts}
