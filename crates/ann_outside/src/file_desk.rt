@@ -92,7 +92,7 @@ pub trait Desk {
         ensures told { IfSome (files self.old) (λ fs. ReadIs name.now from buf.new fs result) }
         ensures log { log self.new ≡ logged (log self.old) (ReadAt name.now from (bytes_read buf.new result)) };
 
-    /// Makes the file, empty. It never answers `Missing`.
+    /// Makes the file, empty, and the folders of its name that are missing. It never answers `Missing`.
     fn create(&mut self, name: &str) -> Result<(), DeskError>
         ensures causes { HasCauses (counts self.old) (counts self.new) result }
         ensures found { result ≡ Err DeskError.Missing → ⊥ }
@@ -112,7 +112,7 @@ pub trait Desk {
         ensures files { WhereTold (files self.old) (files self.new) (CutDoes name.now size result) }
         ensures log { log self.new ≡ logged (log self.old) (Cut name.now size result) };
 
-    /// Gives the file another name, in the place of the file that had it.
+    /// Gives the file another name, in the place of the file that had it. Folders of that name that are missing are made.
     fn rename(&mut self, from: &str, to: &str) -> Result<(), DeskError>
         ensures causes { HasCauses (counts self.old) (counts self.new) result }
         ensures files { WhereTold (files self.old) (files self.new) (RenameDoes from.now to.now result) }

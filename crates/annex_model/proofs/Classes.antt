@@ -1,11 +1,11 @@
 -- What is of its class is spelled by its text, and what is spelled is of its class.
-use Rattle.std.proofs.Common.{◌<◌, ◌^◌, ℕ, List, [], ◌∷◌, ◌++◌, refl, subst, inl, arith}
+use Rattle.std.proofs.Common.{◌≡◌, true, ◌<◌, ◌^◌, ℕ, List, [], ◌∷◌, ◌++◌, refl, subst, inl, arith}
 use Rattle.std.specs.Prelude.{decimal, ◌||◌, ◌&&◌, ◌==◌, not, length, slice_index, nat_le, nat_lt}
 use Rattle.std.specs.List.{list_all}
 use Rattle.std.proofs.lemmas.Bool.Decides.{nat_tests}
 use Rattle.ann_key.specs.Numbers.{is_number, is_digit, value_of}
 use Rattle.ann_key.proofs.Unique.{decimal_is_numeral}
-use Rattle.annex_model.specs.Messages.{Followed, Spelled, Param, Number, Key, Word, Rest, Direction, Scope, IsOfClass, AreOfClass, field_text, fields_text}
+use Rattle.annex_model.specs.Messages.{Followed, Spelled, Param, Number, Key, Word, Rest, Direction, Scope, IsOfClass, AreOfClass, is_of_class, are_of_class, HostMessage, IsAskable, is_askable, host_row, field_text, fields_text}
 use Rattle.annex_model.proofs.Parts.{both}
 use Rattle.annex_model.proofs.Shapes.{single}
 
@@ -77,3 +77,39 @@ followed_classes (p ∷ []) tail h = last_class p tail h
 followed_classes (p ∷ (q ∷ ps)) tail h =
     let f = first_class p q ps tail h in
     (f.0, followed_classes (q ∷ ps) f.1.0 f.1.1)
+
+-- ---- the tests of the classes
+
+class_test : (p : Param) → IsOfClass p → is_of_class p ≡ true
+class_test (Number n) h = grind (arith, nat_tests)
+class_test (Key key) h = h
+class_test (Word word) h = h
+class_test (Rest rest) h = refl
+class_test (Direction store) h = refl
+class_test (Scope global) h = refl
+
+test_class : (p : Param) → is_of_class p ≡ true → IsOfClass p
+test_class (Number n) h = grind (arith, nat_tests)
+test_class (Key key) h = h
+test_class (Word word) h = h
+test_class (Rest rest) h = tt
+test_class (Direction store) h = tt
+test_class (Scope global) h = tt
+
+pub classes_test : (ps : List Param) → AreOfClass ps → are_of_class ps ≡ true
+classes_test [] h = refl
+classes_test (p ∷ []) h = class_test p h
+classes_test (p ∷ (q ∷ ps)) h = rw (class_test p h.0, classes_test (q ∷ ps) h.1) refl
+
+pub test_classes : (ps : List Param) → are_of_class ps ≡ true → AreOfClass ps
+test_classes [] h = tt
+test_classes (p ∷ []) h = test_class p h
+test_classes (p ∷ (q ∷ ps)) h =
+    let t = both (is_of_class p) (are_of_class (q ∷ ps)) h in
+    (test_class p t.0, test_classes (q ∷ ps) t.1)
+
+pub askable_test : (q : HostMessage) → IsAskable q → is_askable q ≡ true
+askable_test q h = classes_test (host_row q).1 h
+
+pub test_askable : (q : HostMessage) → is_askable q ≡ true → IsAskable q
+test_askable q h = test_classes (host_row q).1 h

@@ -2,9 +2,9 @@
 use Rattle.std.proofs.Common.{◌≡◌, ℕ, List, [], ◌∷◌, ◌++◌, refl, sym, ap, subst, append_assoc, Bool, true, false, Some, Option, cond, ◌⊎◌, inl, inr}
 use Rattle.std.specs.Prelude.{IsSome, codes, map, ◌&&◌}
 use Rattle.std.specs.List.{list_all}
-use Rattle.annex_model.specs.declared.verdict.Final.{Final}
-use Rattle.annex_model.specs.declared.verdict.Final.TheVariants.{Unsupported}
-use Rattle.annex_model.specs.Messages.{RemoteMessage, UnsupportedRequest, Configend, Infovalue, Infoend, HostMessage, IsAskable, remote_reading}
+use Rattle.annex_model.specs.declared.final_line.Final.{Final}
+use Rattle.annex_model.specs.declared.final_line.Final.TheVariants.{Unsupported}
+use Rattle.annex_model.specs.Messages.{RemoteMessage, UnsupportedRequest, Configend, Infovalue, Infoend, HostMessage, remote_reading}
 use Rattle.annex_model.specs.Talks.{Item, Conv, ConvFront, Talking, Shape, OneLine, Configs, Infos, said, final_of, by_shape, shape_of, may_go_on, is_nothing, is_config, is_infofield, is_infovalue, are_configs, are_infos, are_pairs, is_unsupported, item_is_aside, IsReplied, shown}
 use Rattle.annex_model.proofs.Parts.{both}
 use Rattle.annex_model.proofs.TalksGrow.{Conv-push, said-push, replied-push, from_remote}
@@ -101,5 +101,5 @@ module _ (replies : ℕ → List (List ℕ)) (q : HostMessage) where
       go (inl a) = ended part (codes "INFOEND") refl talking (final_by_shape q (with_end (said part)) Infos e (rw a refl))
       go (inr b) = ended_with_value part talking e b.0 b.1
 
-pub front_of : (replies : ℕ → List (List ℕ)) (q : HostMessage) (part : List Item) → IsAskable q → Talking replies q part → ConvFront replies q part
-front_of replies q part askable talking = by_shapes replies q part (shape_of q) refl talking.waits talking
+pub front_of : (replies : ℕ → List (List ℕ)) (q : HostMessage) (part : List Item) → Talking replies q part → ConvFront replies q part
+front_of replies q part talking = by_shapes replies q part (shape_of q) refl talking.waits talking

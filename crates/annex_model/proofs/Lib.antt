@@ -1,8 +1,12 @@
+pub mod Awaiting
 pub mod Classes
+pub mod Cutting
 pub mod Fronts
+pub mod FrontsTalk
 pub mod Parts
 pub mod Readings
 pub mod Rows
 pub mod Shapes
+pub mod Strange
 pub mod TagReadings
 pub mod TalksGrow

@@ -1,11 +1,12 @@
 -- A line is read as tagged exactly where it is.
-use Rattle.std.proofs.Common.{◌≡◌, ℕ, ◌^◌, List, [], ◌∷◌, ◌++◌, refl, ap, subst, Bool, true, false, Some, None, Option, cond}
-use Rattle.std.specs.Prelude.{◌==◌, ◌&&◌, nat_le, nat_lt, length}
+use Rattle.std.proofs.Common.{◌≡◌, ℕ, ◌<◌, ◌^◌, List, [], ◌∷◌, ◌++◌, refl, ap, subst, Bool, true, false, Some, None, Option, cond}
+use Rattle.std.specs.Prelude.{◌==◌, ◌&&◌, ◌||◌, not, nat_le, nat_lt, length, slice_index, decimal}
 use Rattle.std.specs.List.{list_all}
 use Rattle.std.proofs.lemmas.Bool.{eqb-true}
 use Rattle.ann_key.specs.Numbers.{is_digit, is_number, value_of}
+use Rattle.ann_key.proofs.Unique.{decimal_is_numeral}
 use Rattle.annex_model.specs.Messages.{word_of, field_of, is_space, number_field}
-use Rattle.annex_model.specs.Tags.{Tagged, untag, numbered}
+use Rattle.annex_model.specs.Tags.{Tagged, untag, tagged_line, numbered}
 use Rattle.annex_model.proofs.Parts.{both, word_and_field, behind}
 
 -- digits hold no space
@@ -38,6 +39,18 @@ read_of_tagged line number rest t =
     let digits = number_digits t.digits t.form in
     let whole : line ≡ 74 ∷ 32 ∷ (t.digits ++ 32 ∷ rest) = t.whole in
     rw (whole, digits_word t.digits rest digits, digits_field t.digits rest digits, t.form, t.value) refl
+
+-- the line that is written for a number of 64 bits gives it back
+pub untag_of_tagged : (number : ℕ) (message : List ℕ) → number < 2 ^ 64 → untag (tagged_line number message) ≡ Some (number, message)
+untag_of_tagged number message h =
+    let d = decimal_is_numeral number h in
+    let t : Tagged (tagged_line number message) number message = record {
+      digits = decimal number;
+      whole = refl;
+      form = (both (is_number (decimal number)) (length (decimal number) == 1 || not (slice_index (decimal number) 0 == 48)) d.form).0;
+      value = d.value;
+    } in
+    read_of_tagged (tagged_line number message) number message t
 
 pub tagged_of_read : (line : List ℕ) (number : ℕ) (rest : List ℕ) → untag line ≡ Some (number, rest) → Tagged line number rest
 tagged_of_read [] number rest h = absurd cc

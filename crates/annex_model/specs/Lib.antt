@@ -1,5 +1,8 @@
 pub mod Extensions
+pub mod Hearings
+pub mod Laws
 pub mod Lines
 pub mod Messages
 pub mod Tags
 pub mod Talks
+pub mod Turns

@@ -1,6 +1,6 @@
 -- The messages of the protocol, and the lines that spell them.
 -- https://git-annex.branchable.com/design/external_special_remote_protocol/
-use Rattle.std.specs.Prelude.{ℕ, ◌≡◌, ◌⊎◌, ◌<◌, ◌^◌, ◌==◌, ◌&&◌, not, Bool, true, false, if◌then◌else◌, List, [], ◌∷◌, ◌++◌, Option, Some, None, codes, option_map, option_and_then, bytes_eq, IsTrue, decimal}
+use Rattle.std.specs.Prelude.{ℕ, ◌≡◌, ◌⊎◌, ◌<◌, ◌^◌, ◌==◌, ◌&&◌, not, nat_lt, Bool, true, false, if◌then◌else◌, List, [], ◌∷◌, ◌++◌, Option, Some, None, codes, option_map, option_and_then, bytes_eq, IsTrue, decimal}
 use Rattle.std.specs.List.{list_any}
 use Rattle.std.specs.Option.{option_or}
 use Rattle.ann_key.specs.Numbers.{is_number, value_of}
@@ -236,6 +236,23 @@ IsSayable m = AreOfClass (remote_row m).1
 
 abbrev pub IsAskable : HostMessage → Type 0
 IsAskable m = AreOfClass (host_row m).1
+
+-- the same as tests
+abbrev pub is_of_class : Param → Bool
+is_of_class (Number n) = nat_lt n (2 ^ 64)
+is_of_class (Key key) = is_sent_key key
+is_of_class (Word word) = is_word word
+is_of_class (Rest rest) = true
+is_of_class (Direction store) = true
+is_of_class (Scope global) = true
+
+abbrev pub are_of_class : List Param → Bool
+are_of_class [] = true
+are_of_class (p ∷ []) = is_of_class p
+are_of_class (p ∷ ps) = is_of_class p && are_of_class ps
+
+abbrev pub is_askable : HostMessage → Bool
+is_askable m = are_of_class (host_row m).1
 
 -- the rest of the line that the message ends with, which is empty where it has none
 abbrev pub rest_in : List Param → List ℕ

@@ -28,6 +28,11 @@ abbrev pub untag : List ℕ → Option (ℕ × List ℕ)
 untag (a ∷ b ∷ more) = if a == 74 && b == 32 then numbered (number_field (Some (word_of more))) (field_of more) else None
 untag line = None
 
+-- what a line is without its tag
+abbrev pub without_tag : List ℕ → Option (ℕ × List ℕ) → List ℕ
+without_tag line None = line
+without_tag line (Some t) = t.1
+
 -- ---- the answer to EXTENSIONS
 
 -- ASYNC stands among the words, which are separated by single spaces

@@ -1,9 +1,10 @@
 // Laws over the definitions, each the contract of a function with nothing to do.
 ghost use Rattle.std.specs.Prelude.{◌≡◌, ◌↔◌, ℕ, List, Some, None, true, false, codes, [], ◌∷◌};
-ghost use Rattle.annex_model.specs.declared.verdict.Final.TheVariants.{Done, Failed, Absent, Unknown, Unsupported};
+ghost use Rattle.annex_model.specs.declared.final_line.Final.TheVariants.{Done, Failed, Absent, Unknown, Unsupported};
 ghost use Rattle.annex_model.specs.Messages.{RemoteMessage, HostMessage, RemoteSpells, HostSpells, remote_reading, remote_line, host_reading, host_line, text_in, IsAskable, IsSayable, Version, Extensions, UnsupportedRequest, Progress, Setconfig, Setcreds, PrepareSuccess, PrepareFailure, TransferSuccess, TransferFailure, CheckpresentSuccess, CheckpresentUnknown, Config, Configend, Availability, Infofield, Infovalue, Infoend, WhereisFailure, Prepare, Transfer, Checkpresent, Listconfigs, Getinfo, Whereis, Value};
 ghost use Rattle.annex_model.specs.Tags.{Tagged, untag};
-ghost use Rattle.annex_model.specs.Talks.{Item, Talking, ConvFront, final_of, awaits};
+ghost use Rattle.annex_model.specs.Talks.{final_of, awaits};
+ghost use Rattle.annex_model.specs.Laws.{TalksAreFronts, FrontsTalk, FoulCannotFollow};
 
 /// A line is read as the message that it spells, and as no other: it spells one at most.
 pub fn reading_is_spelling()
@@ -17,9 +18,19 @@ pub fn canonical_line_is_read()
     ensures remote { (m : RemoteMessage) → IsSayable m → remote_reading (remote_line m) ≡ Some m }
 {}
 
-/// What talks may go on to a conversation.
+/// What talks so far goes on to a conversation.
 pub fn talks_are_fronts()
-    ensures { (replies : ℕ → List (List ℕ)) (q : HostMessage) (part : List Item) → IsAskable q → Talking replies q part → ConvFront replies q part }
+    ensures { TalksAreFronts }
+{}
+
+/// A front of a conversation is one that talks so far, or a whole one.
+pub fn fronts_talk()
+    ensures { FrontsTalk }
+{}
+
+/// Behind a front that awaits a line, a message that is no aside is foul exactly where no lines behind it make a conversation.
+pub fn foul_cannot_follow()
+    ensures { FoulCannotFollow }
 {}
 
 /// Lines that spell a message, and lines that spell none.

@@ -2,7 +2,9 @@
 // Nothing here knows a journal. https://git-annex.branchable.com/design/external_special_remote_protocol/
 #![tactic(auto)]
 
+pub mod final_line;
 pub mod laws;
-pub mod verdict;
+pub mod turn;
 
-pub use verdict::{Final, Verdict, Why};
+pub use final_line::Final;
+pub use turn::Turn;

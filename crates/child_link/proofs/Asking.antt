@@ -3,9 +3,9 @@ use Rattle.std.proofs.Common.{◌≡◌, ◌<◌, ◌≤◌, ◌^◌, arith, len
 use Rattle.std.specs.Prelude.{◌||◌, ◌&&◌}
 use Rattle.std.specs.List.{list_any, cons_option}
 use Rattle.std.proofs.lemmas.List.Folds.{list_any-append}
-use Rattle.annex_model.specs.declared.verdict.Why.{Why}
-use Rattle.annex_model.specs.declared.verdict.Verdict.{Verdict}
-use Rattle.annex_model.specs.Messages.{HostMessage, host_line, host_reading}
+use Rattle.journal_model.specs.declared.verdict.Why.{Why}
+use Rattle.journal_model.specs.declared.verdict.Verdict.{Verdict}
+use Rattle.annex_model.specs.Messages.{HostMessage, host_line, host_reading, is_askable}
 use Rattle.journal_model.specs.declared.entry.What.TheVariants.{Ask, Lost as LostEntry}
 use Rattle.journal_model.specs.declared.entry.Entry.{Entry}
 use Rattle.journal_model.specs.declared.opening.Opening.{Opening}
@@ -20,8 +20,9 @@ use Rattle.journal_model.proofs.Linking.{linked_apart}
 use Rattle.journal_model.proofs.Heard.{heard_on}
 use Rattle.talk_serial.specs.declared.request.Request.{Request}
 use Rattle.talk_serial.specs.Requests.{message_of}
-use Rattle.host_core.specs.Steps.{group_of, is_asked, is_askable, may_request, next_job}
-use Rattle.host_core.proofs.Wiring.{askable_is, wired_text}
+use Rattle.host_core.specs.Steps.{group_of, is_asked, may_request, next_job}
+use Rattle.host_core.proofs.Wiring.{wired_text}
+use Rattle.annex_model.proofs.Classes.{test_askable}
 use Rattle.annex_model.proofs.Readings.{canonical_read}
 use Rattle.child_link.specs.declared.events.AskReply.{AskReply}
 use Rattle.child_link.specs.declared.events.AskReply.TheVariants.{Job, Lost}
@@ -84,7 +85,7 @@ module _ (o : Opening) (old mid : List Entry) (by c t : ℕ) (q : HostMessage) w
         g.is ∙ ap (λ (x : List Entry). x ++ g.more) h.3 ∙ append_assoc old (group_of o old by (Ask c job t line)) g.more in
         let few : length (asked_jobs old c) ≤ job = omega (arith, h.0) in
         let reads : host_reading (addressed old c line).1 ≡ Some q =
-        ap host_reading (wired_text old c job (host_line q) small) ∙ canonical_read q (askable_is q askable) in
+        ap host_reading (wired_text old c job (host_line q) small) ∙ canonical_read q (test_askable q askable) in
         named o old g.more c by job t line q before ((invariant o old before).fresh c job few) reads
         (subst (λ (x : List Entry). Legal o x) all (subst (λ (x : Opening). Legal x new) same_o after)) verdict
         (subst (λ (x : List Entry). verdict_of x c job ≡ Some verdict) all v)

@@ -1,21 +1,23 @@
 -- What the replies of the core say.
-use Rattle.std.proofs.Common.{◌≡◌, ℕ, List, [], ◌∷◌, ◌++◌, refl, sym, subst, Bool, true, false, cond, Some, None, Option}
-use Rattle.std.specs.Prelude.{IsTrue, IfSome}
-use Rattle.annex_model.specs.declared.verdict.Why.TheVariants.{Full}
+use Rattle.std.proofs.Common.{◌≡◌, ℕ, List, [], ◌∷◌, ◌++◌, refl, sym, subst, Bool, true, false, not, cond, Some, None, Option}
+use Rattle.std.specs.Prelude.{◌&&◌, IsTrue, IfSome}
+use Rattle.journal_model.specs.declared.verdict.Verdict.{Verdict}
+use Rattle.journal_model.specs.declared.verdict.Why.TheVariants.{Full}
 use Rattle.annex_model.specs.Lines.{has_newline}
 use Rattle.journal_model.specs.declared.entry.What.TheVariants.{Lost, Ask as AskEntry, Got as GotEntry, End}
 use Rattle.journal_model.specs.declared.entry.Entry.{Entry}
 use Rattle.journal_model.specs.declared.opening.Opening.{Opening}
-use Rattle.journal_model.specs.Journal.{is_started, is_ended, is_full, is_mute, why_of, unsent, on_wire}
+use Rattle.journal_model.specs.Journal.{is_started, is_ended, is_full, is_mute, why_of, verdict_of, unsent, on_wire}
 use Rattle.journal_model.proofs.Looks.{either_left, either_right}
 use Rattle.journal_model.proofs.Linking.{unended}
 use Rattle.annex_model.specs.Messages.{HostMessage, host_line}
 use Rattle.talk_serial.specs.declared.request.Request.{Request}
 use Rattle.talk_serial.specs.Requests.{message_of}
-use Rattle.host_core.specs.declared.event.Reply.TheVariants.{Done, Gone, Over, Job}
-use Rattle.host_core.specs.declared.event.Event.TheVariants.{Look, Fetch, Got, Ask}
-use Rattle.host_core.specs.Steps.{Step, step_of, only, append, gone, is_gone, next_job, next_line, group_of, may_request, ask}
-use Rattle.child_link.specs.Replies.{gone_why, is_done, job_of, line_of}
+use Rattle.host_core.specs.declared.event.Reply.{Reply}
+use Rattle.host_core.specs.declared.event.Reply.TheVariants.{Done, Gone, Over, Wait, Job}
+use Rattle.host_core.specs.declared.event.Event.TheVariants.{Lookup, Look, Fetch, Got, Ask}
+use Rattle.host_core.specs.Steps.{Step, step_of, only, append, gone, is_gone, is_asked, is_awaited, is_idle, resting, settled_so, unless_shut, next_job, next_line, group_of, may_request, ask}
+use Rattle.child_link.specs.Replies.{gone_why, is_done, settled_as, job_of, line_of}
 use Rattle.child_link.specs.Events.{IsNextLine, IsTaken}
 
 pub look_why : (o : Opening) (past : List Entry) (by c : ℕ) → is_started past c ≡ true → gone_why (step_of o past by (Look c)).reply ≡ why_of past c
@@ -55,15 +57,32 @@ pub ask_lost : (o : Opening) (past : List Entry) (by c t : ℕ) (request : Reque
 ask_lost o past by c t request may none =
     subst (λ (s : Step). job_of s.reply ≡ None → IsLost o past by c t s) (sym (ask_step o past by c t request may)) (lost_ask o past by c t (message_of request)) none
 
+pub lookup_verdict : (o : Opening) (past : List Entry) (by c j : ℕ) → is_asked past c j ≡ true → settled_as (step_of o past by (Lookup c j)).reply ≡ verdict_of past c j
+lookup_verdict o past by c j asked = rw asked (go (verdict_of past c j))
+  where
+    go : (v : Option Verdict) → settled_as (settled_so v) ≡ v
+    go None = refl
+    go (Some v) = refl
+
+-- a core that is shut turns no line
+pub told_line : (shut : Bool) (reply : Reply) → line_of (unless_shut shut reply) ≡ line_of reply
+told_line true Wait = refl
+told_line false Wait = refl
+told_line shut reply = refl
+
 pub fetch_line : (o : Opening) (past : List Entry) (by c : ℕ) → is_started past c ≡ true
     → IfSome (line_of (step_of o past by (Fetch c)).reply) (IsNextLine past c)
 fetch_line o past by c started = rw started (go (is_gone past c) refl)
   where
-    next : (ws : List (Option ℕ × List ℕ)) → unsent past c ≡ ws → is_gone past c ≡ false → IfSome (line_of (next_line ws)) (IsNextLine past c)
-    next [] e g = tt
+    rested : (b : Bool) → IfSome (line_of (cond b Over Wait)) (IsNextLine past c)
+    rested true = tt
+    rested false = tt
+
+    next : (ws : List (Option ℕ × List ℕ)) → unsent past c ≡ ws → is_gone past c ≡ false → IfSome (line_of (next_line (resting o past c) ws)) (IsNextLine past c)
+    next [] e g = rested (not (is_awaited past c) && is_idle o past c)
     next (w ∷ ws) e g = record { next = w; more = ws; unsent = e; whole = refl; live = either_left (is_ended past c) (is_mute past c) g; loud = either_right (is_ended past c) (is_mute past c) g }
 
-    go : (b : Bool) → is_gone past c ≡ b → IfSome (line_of (cond b (only Over) (only (next_line (unsent past c)))).reply) (IsNextLine past c)
+    go : (b : Bool) → is_gone past c ≡ b → IfSome (line_of (cond b (only Over) (only (next_line (resting o past c) (unsent past c)))).reply) (IsNextLine past c)
     go true e = tt
     go false e = next (unsent past c) refl e
 

@@ -5,9 +5,9 @@ use Rattle.std.proofs.lemmas.List.Folds.{list_any-append}
 use Rattle.std.specs.List.{list_all, list_any}
 use Rattle.std.specs.Io.KnownBytes.{Appends}
 use Rattle.annex_model.specs.Lines.{Cut}
-use Rattle.annex_model.specs.declared.verdict.Why.{Why}
-use Rattle.annex_model.specs.declared.verdict.Why.TheVariants.{Eof, ReadFault, Full, Closed}
-use Rattle.annex_model.specs.declared.verdict.Verdict.TheVariants.{Ended}
+use Rattle.journal_model.specs.declared.verdict.Why.{Why}
+use Rattle.journal_model.specs.declared.verdict.Why.TheVariants.{Eof, ReadFault, Full, Closed}
+use Rattle.journal_model.specs.declared.verdict.Verdict.TheVariants.{Ended}
 use Rattle.journal_model.specs.declared.entry.What.{What}
 use Rattle.journal_model.specs.declared.entry.What.TheVariants.{Ask, Sent, Mute, Got, End, Verdict as Settled}
 use Rattle.journal_model.specs.declared.entry.Entry.{Entry}

@@ -1,8 +1,8 @@
 -- What asking a request comes to.
 use Rattle.std.specs.Prelude.{ℕ, ◌≡◌, ◌⊎◌, IsTrue, false, List, ◌++◌, Option, Some, None}
-use Rattle.annex_model.specs.declared.verdict.Why.{Why}
-use Rattle.annex_model.specs.declared.verdict.Verdict.{Verdict}
-use Rattle.annex_model.specs.declared.verdict.Verdict.TheVariants.{Ended, Unsent}
+use Rattle.journal_model.specs.declared.verdict.Why.{Why}
+use Rattle.journal_model.specs.declared.verdict.Verdict.{Verdict}
+use Rattle.journal_model.specs.declared.verdict.Verdict.TheVariants.{Ended, Unsent}
 use Rattle.annex_model.specs.Messages.{HostMessage, host_line}
 use Rattle.journal_model.specs.declared.entry.What.TheVariants.{Ask, Lost}
 use Rattle.journal_model.specs.declared.entry.Entry.{Entry}

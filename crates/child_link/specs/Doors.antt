@@ -2,8 +2,8 @@
 use Rattle.std.specs.Prelude.{ℕ, ◌≡◌, ◌==◌, not, if◌then◌else◌, Bool, true, false, List, [], ◌∷◌, ◌++◌, Result, IsTrue, MatchResult}
 use Rattle.std.specs.List.{list_all}
 use Rattle.ann_key.specs.declared.bytes.NoMemory.{NoMemory}
-use Rattle.annex_model.specs.declared.verdict.Why.{Why}
-use Rattle.annex_model.specs.declared.verdict.Why.TheVariants.{Closed}
+use Rattle.journal_model.specs.declared.verdict.Why.{Why}
+use Rattle.journal_model.specs.declared.verdict.Why.TheVariants.{Closed}
 use Rattle.journal_model.specs.declared.entry.What.{What}
 use Rattle.journal_model.specs.declared.entry.What.TheVariants.{Put, Sent, Mute, Got, End, Verdict as Settled}
 use Rattle.journal_model.specs.declared.entry.Entry.{Entry}
@@ -11,11 +11,15 @@ use Rattle.journal_model.specs.declared.opening.Opening.{Opening}
 use Rattle.journal_model.specs.Journal.{is_ended}
 use Rattle.host_core.specs.declared.event.Event.{Event}
 use Rattle.host_core.specs.declared.event.Reply.{Reply}
-use Rattle.host_core.specs.Steps.{step_of}
+use Rattle.host_core.specs.Steps.{step_of, told}
 
 -- none of the entries is of this number
 abbrev pub are_others : ℕ → List Entry → Bool
 are_others number entries = list_all (λ e. not (e.by == number)) entries
+
+-- the reply is the event's, of a core that is shut or not
+abbrev pub IsReply : Opening → List Entry → ℕ → Event → Reply → Type 0
+IsReply o past number event reply = (shut : Bool) × (reply ≡ told shut event (step_of o past number event).reply)
 
 -- Others may have made entries behind those that were seen; where the door is alone they have made none. Then stands what the
 -- event appends there by the door's number, and the reply is the event's. Where no memory is found nothing is appended.
@@ -24,13 +28,13 @@ pub record Stepped (o : Opening) (number : ℕ) (alone : Bool) (old new : List E
   pub apart : IsTrue (are_others number others)
   pub none : alone ≡ true → others ≡ []
   pub made : MatchResult result
-      (λ reply. (reply ≡ (step_of o (old ++ others) number event).reply) × (new ≡ (old ++ others) ++ (step_of o (old ++ others) number event).group))
+      (λ reply. IsReply o (old ++ others) number event reply × (new ≡ (old ++ others) ++ (step_of o (old ++ others) number event).group))
       (λ _. new ≡ old ++ others)
 
 -- the event's reply, and behind what was seen the event's group
 abbrev pub Makes : Opening → ℕ → List Entry → List Entry → Event → Reply → Type 0
 Makes o number old new event reply =
-    (reply ≡ (step_of o old number event).reply) × (new ≡ old ++ (step_of o old number event).group)
+    IsReply o old number event reply × (new ≡ old ++ (step_of o old number event).group)
 
 -- a step where the door is alone
 abbrev pub SteppedAlone : Opening → ℕ → List Entry → List Entry → Event → Result Reply NoMemory → Type 0

@@ -1,6 +1,6 @@
 -- What the events of a link find and leave.
 use Rattle.std.specs.Prelude.{ℕ, ◌≡◌, IsTrue, Bool, true, false, List, [], ◌∷◌, ◌++◌, Option}
-use Rattle.annex_model.specs.declared.verdict.Why.TheVariants.{Full}
+use Rattle.journal_model.specs.declared.verdict.Why.TheVariants.{Full}
 use Rattle.annex_model.specs.Messages.{HostMessage, host_line}
 use Rattle.journal_model.specs.declared.entry.What.TheVariants.{Ask as AskEntry, Got, End, Lost as LostEntry}
 use Rattle.journal_model.specs.declared.entry.Entry.{Entry}

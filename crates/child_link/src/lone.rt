@@ -1,6 +1,6 @@
 ghost use Rattle.std.specs.Prelude.{◌≡◌, ◌<◌, ◌≤◌, ◌^◌, ◌++◌, ◌∷◌, [], ℕ, List, Option, Some, None, true, false, not, length, take, IsTrue, IsFalse, OnOk, OnErr, IfSome, IfNone, IsSome, IfOk};
 ghost use Rattle.std.specs.Io.KnownBytes.{Appends};
-ghost use Rattle.annex_model.specs.declared.verdict.Why.TheVariants.{Eof, ReadFault, LongLine, Memory, Closed};
+ghost use Rattle.journal_model.specs.declared.verdict.Why.TheVariants.{Eof, ReadFault, LongLine, Memory, Closed};
 ghost use Rattle.journal_model.specs.Limits.{longest_line};
 ghost use Rattle.journal_model.specs.declared.entry.What.TheVariants.{Got, End};
 ghost use Rattle.journal_model.specs.Journal.{is_started, is_ended, has_spoken, why_of, verdict_of};

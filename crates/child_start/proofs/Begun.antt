@@ -1,9 +1,9 @@
 -- A child that was started just now has begun: it has said nothing and was asked nothing, and its link is a link to it.
 use Rattle.std.proofs.Common.{◌≡◌, ◌≢◌, ℕ, ◌+◌, ◌<◌, List, [], ◌∷◌, ◌++◌, refl, sym, ap, subst, ◌∙◌, length, length-append, append-nil, arith, Bool, true, false, ◌==◌, cond, Some, None, Option}
-use Rattle.std.specs.Prelude.{◌&&◌, ◌||◌, filter, codes, IfSome, is_some}
+use Rattle.std.specs.Prelude.{◌&&◌, ◌||◌, filter, IfSome, is_some}
 use Rattle.std.specs.List.{list_all, cons_option}
 use Rattle.std.proofs.lemmas.List.Elements.{filter-append}
-use Rattle.annex_model.specs.declared.verdict.Verdict.TheVariants.{Ended}
+use Rattle.journal_model.specs.declared.verdict.Verdict.TheVariants.{Ended}
 use Rattle.journal_model.specs.declared.entry.What.{What}
 use Rattle.journal_model.specs.declared.entry.What.TheVariants.{Start, Mute, Got, End}
 use Rattle.journal_model.specs.declared.entry.Entry.{Entry}

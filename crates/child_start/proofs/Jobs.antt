@@ -1,9 +1,9 @@
 -- What a child's jobs are as the journal grows by its link's entries, or by one request.
 use Rattle.std.proofs.Common.{◌≡◌, ℕ, List, [], ◌∷◌, ◌++◌, refl, sym, ap, ◌∙◌, append-nil, Bool, true, false, not, ◌==◌, cond, Some, None, ◌⊎◌, inl, inr}
-use Rattle.std.specs.Prelude.{◌||◌, filter, codes}
+use Rattle.std.specs.Prelude.{◌||◌, filter}
 use Rattle.std.specs.List.{list_all, cons_option}
 use Rattle.std.proofs.lemmas.List.Elements.{filter-append}
-use Rattle.annex_model.specs.declared.verdict.Verdict.{Verdict}
+use Rattle.journal_model.specs.declared.verdict.Verdict.{Verdict}
 use Rattle.annex_model.specs.Extensions.{names_of}
 use Rattle.annex_model.specs.Messages.{HostMessage, host_line}
 use Rattle.journal_model.specs.declared.entry.What.{What}

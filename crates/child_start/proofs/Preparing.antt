@@ -1,25 +1,25 @@
 -- From a child's version over its extensions to its being prepared, or to its end.
 use Rattle.std.proofs.Common.{◌≡◌, ℕ, ◌≤◌, List, [], ◌∷◌, ◌++◌, refl, sym, ap, subst, ◌∙◌, length, arith, Bool, true, false, not, cond, ◌==◌, Some, None, Option, ◌⊎◌, inl, inr}
 use Rattle.std.specs.Prelude.{◌&&◌, ◌||◌, filter, find, option_and_then, is_some}
-use Rattle.std.specs.List.{list_all}
-use Rattle.annex_model.specs.declared.verdict.Why.{Why}
-use Rattle.annex_model.specs.declared.verdict.Verdict.{Verdict}
-use Rattle.annex_model.specs.declared.verdict.Verdict.TheVariants.{Failed as FailedAt, Unsupported as UnsupportedAt}
+use Rattle.std.specs.List.{list_all, list_any, cons_option}
+use Rattle.journal_model.specs.declared.verdict.Why.{Why}
+use Rattle.journal_model.specs.declared.verdict.Verdict.{Verdict}
+use Rattle.journal_model.specs.declared.verdict.Verdict.TheVariants.{Failed as FailedAt, Unsupported as UnsupportedAt}
 use Rattle.annex_model.specs.Messages.{Prepare}
 use Rattle.journal_model.specs.declared.entry.What.{What}
-use Rattle.journal_model.specs.declared.entry.What.TheVariants.{End}
+use Rattle.journal_model.specs.declared.entry.What.TheVariants.{Ask, End}
 use Rattle.journal_model.specs.declared.entry.Entry.{Entry}
 use Rattle.journal_model.specs.declared.opening.Opening.{Opening}
-use Rattle.journal_model.specs.Journal.{starts, ends, end_why, is_started, is_ended, is_mute, is_settled, is_tagged, asked_jobs, open_jobs, verdict_of, why_of}
-use Rattle.journal_model.specs.Legality.{Legal, is_prepared, is_done, is_empty, is_greeted, is_in_turn, may_ask, may_work, said_version, offered_names}
-use Rattle.journal_model.proofs.Looks.{both, any-append}
+use Rattle.journal_model.specs.Journal.{any, asks, starts, ends, end_why, is_started, is_ended, is_mute, is_settled, is_tagged, asked_jobs, open_jobs, verdict_of, why_of}
+use Rattle.journal_model.specs.Legality.{Legal, asks_prepare, prepares, is_done, is_empty, is_greeted, is_in_turn, may_ask, may_work, said_version, offered_names}
+use Rattle.journal_model.proofs.Looks.{both, same_number, any-append, each_of-append}
 use Rattle.journal_model.proofs.Linking.{why_alone, why_is_end}
 use Rattle.host_core.specs.Steps.{next_job, may_request}
 use Rattle.child_link.specs.Doors.{GoesOn, is_closed}
 use Rattle.child_link.proofs.Turning.{started_after}
 use Rattle.child_start.specs.declared.starting.RequestOutcome.{RequestOutcome}
 use Rattle.child_start.specs.declared.starting.RequestOutcome.TheVariants.{Done, Refused, Gone}
-use Rattle.child_start.specs.Greetings.{is_of_greeting, is_refusal, HasEnded, IsUnsent}
+use Rattle.child_start.specs.Greetings.{is_greeting_line, is_of_greeting, is_refusal, HasEnded, IsUnsent}
 use Rattle.child_start.specs.Stages.{HasBegun, MayAsk, GreetsOn, IsGoneNext, AsksNext, IsGoneUnready, Prepares}
 use Rattle.child_start.proofs.Jobs.{goes_jobs, goes_names, verdict_settled, or_true}
 use Rattle.child_start.proofs.Requests.{none_later, greets_goes, greets_both}
@@ -46,6 +46,39 @@ refused_undone : (v : Verdict) (at : ℕ) → (v ≡ FailedAt at) ⊎ (v ≡ Uns
 refused_undone v at (inl e) = ap (λ (x : Verdict). is_done (Some x)) e
 refused_undone v at (inr e) = ap (λ (x : Verdict). is_done (Some x)) e
 
+-- a request of the greeting that is job 1 is to get ready
+second_prepares : (c : ℕ) (more : List Entry) → list_all (λ (e : Entry). is_of_greeting c e.what) more ≡ true
+    → list_any (λ k. k == 1) (asked_jobs more c) ≡ true → any (prepares c) more ≡ true
+second_prepares c [] own second = absurd cc
+second_prepares c (e ∷ more) own second =
+    let t = both (is_of_greeting c e.what) (list_all (λ (x : Entry). is_of_greeting c x.what) more) own in
+    go e.what t.0 second (second_prepares c more t.1)
+  where
+    here : (a t z p o : Bool) → (a && (t && (z || (o && p)))) ≡ true → o ≡ true → z ≡ false → (a && o && p) ≡ true
+    here true true false true true h e f = refl
+    here true true z p false h e f = absurd cc
+    here true true true p true h e f = absurd cc
+    here true true false false true h e f = absurd cc
+    here true false z p o h e f = absurd cc
+    here false t z p o h e f = absurd cc
+
+    go : (w : What) → is_of_greeting c w ≡ true → list_any (λ k. k == 1) (cons_option (asks c w) (asked_jobs more c)) ≡ true
+        → (list_any (λ k. k == 1) (asked_jobs more c) ≡ true → any (prepares c) more ≡ true) → (prepares c w || any (prepares c) more) ≡ true
+    go (Ask child job task line) o s r = by_child (child == c) refl s
+      where
+        by_job : (b : Bool) → (job == 1) ≡ b → (b || list_any (λ k. k == 1) (asked_jobs more c)) ≡ true → (prepares c (Ask child job task line) || any (prepares c) more) ≡ true
+        by_job true e h =
+            let zero : (job == 0) ≡ false = ap (λ (k : ℕ). k == 0) (same_number job 1 e) in
+            let p : prepares c (Ask child job task line) ≡ true = here (child == c) (task == 0) (job == 0) (asks_prepare line) (job == 1) o e zero in
+            ap (λ (b : Bool). b || any (prepares c) more) p
+        by_job false e h = ap (λ (b : Bool). prepares c (Ask child job task line) || b) (r h) ∙ or_true (prepares c (Ask child job task line))
+
+        by_child : (b : Bool) → (child == c) ≡ b → list_any (λ k. k == 1) (cons_option (cond {A = Option ℕ} b (Some job) None) (asked_jobs more c)) ≡ true
+            → (prepares c (Ask child job task line) || any (prepares c) more) ≡ true
+        by_child true e h = by_job (job == 1) refl h
+        by_child false e h = absurd (let bad : false ≡ true = ap (λ (b : Bool). b && (task == 0 && is_greeting_line job line)) (sym e) ∙ o in cc)
+    go w o s r = r s
+
 -- ---- behind EXTENSIONS
 
 module _ (old mid : List Entry) (c : ℕ) (none : asked_jobs old c ≡ []) where
@@ -56,7 +89,7 @@ module _ (old mid : List Entry) (c : ℕ) (none : asked_jobs old c ≡ []) where
   pub unprepared_first : (o : Opening) → Legal o mid → IsGoneNext old mid c → Prepares mid c Gone
   unprepared_first o legal n =
       let none : verdict_of mid c 1 ≡ None = none_later o mid c 1 legal (few n.jobs) in
-      record { gone = n.gone; unprepared = ap is_done none; unrefused = ap is_refusal none }
+      record { gone = n.gone; undone = ap is_done none; unrefused = ap is_refusal none }
     where
       few : (asked_jobs mid c ≡ asked_jobs old c) ⊎ (asked_jobs mid c ≡ asked_jobs old c ++ next_job old c ∷ []) → length (asked_jobs mid c) ≤ 1
       few (inl e) = let n : length (asked_jobs mid c) ≡ 0 = ap length (e ∙ none) in omega (arith, n)
@@ -86,29 +119,34 @@ module _ (old mid : List Entry) (c : ℕ) (none : asked_jobs old c ≡ []) where
         let work : may_work mid by 0 c ≡ true = ap (λ (k : ℕ). may_work mid k 0 c) main in
         let free : (is_tagged mid c || is_empty (open_jobs mid c)) ≡ true = ap (λ (ks : List ℕ). is_tagged mid c || is_empty ks) g.idle ∙ or_true (is_tagged mid c) in
         let may : may_ask mid by 0 c ≡ true = all_three (is_greeted mid c (next_job mid c)) (may_work mid by 0 c) (is_tagged mid c || is_empty (open_jobs mid c)) greeted work free in
-        let turn : is_in_turn mid c (next_job mid c) Prepare ≡ true = ap (λ (ks : List ℕ). length ks == 1) one_job in
+        let turn : is_in_turn mid c (next_job mid c) Prepare ≡ true = ap (λ (ks : List ℕ). length ks == 1 && true) one_job in
         let three : (is_started mid c && may_ask mid by 0 c && is_in_turn mid c (next_job mid c) Prepare) ≡ true =
         all_three (is_started mid c) (may_ask mid by 0 c) (is_in_turn mid c (next_job mid c) Prepare) (greets_started old mid c c refl g started) may turn in
         ap (λ (k : ℕ). may_request mid by 0 k Prepare) e ∙ ap (λ (b : Bool). b && true) three
 
     -- PREPARE was asked
-    pub prepared_second : (new : List Entry) (b : RequestOutcome) → AsksNext mid new c b → Prepares new c b
-    prepared_second new Done a = record {
-      prepared = ap (λ (ks : List ℕ). is_done (verdict_of new c (length ks))) (sym one_job) ∙ a.done;
-      jobs = a.jobs ∙ ap (λ (ks : List ℕ). ks ++ length ks ∷ []) one_job;
-    }
-    prepared_second new (Refused verdict) a =
+    pub prepared_second : (new : List Entry) (b : RequestOutcome) → GreetsOn mid new c → AsksNext mid new c b → Prepares new c b
+    prepared_second new Done g a =
+        let done : is_done (verdict_of new c 1) ≡ true = ap (λ (ks : List ℕ). is_done (verdict_of new c (length ks))) (sym one_job) ∙ a.done in
+        let jobs : asked_jobs new c ≡ 0 ∷ 1 ∷ [] = a.jobs ∙ ap (λ (ks : List ℕ). ks ++ length ks ∷ []) one_job in
+        let later : (0 ∷ []) ++ asked_jobs g.more c ≡ 0 ∷ 1 ∷ [] =
+        sym (ap (λ (x : List Entry). asked_jobs x c) g.is ∙ each_of-append (asks c) mid g.more ∙ ap (λ (ks : List ℕ). ks ++ asked_jobs g.more c) one_job) ∙ jobs in
+        let second : list_any (λ k. k == 1) (asked_jobs g.more c) ≡ true = ap (list_any (λ k. k == 1)) later in
+        let asked : any (prepares c) new ≡ true =
+        ap (any (prepares c)) g.is ∙ any-append (prepares c) mid g.more ∙ ap (λ (b : Bool). any (prepares c) mid || b) (second_prepares c g.more g.own second) ∙ or_true (any (prepares c) mid) in
+        record { prepared = rw (done, asked) refl; jobs = jobs }
+    prepared_second new (Refused verdict) g a =
         let told : verdict_of new c 1 ≡ Some verdict = ap (λ (ks : List ℕ). verdict_of new c (length ks)) (sym one_job) ∙ a.settled in
         record {
-          unprepared = ap is_done told ∙ refused_undone verdict a.place a.refusal;
+          undone = ap is_done told ∙ refused_undone verdict a.place a.refusal;
           settled = told;
           place = a.place;
           refusal = a.refusal;
           jobs = a.jobs ∙ ap (λ (ks : List ℕ). ks ++ length ks ∷ []) one_job;
         }
-    prepared_second new Gone a = record {
+    prepared_second new Gone g a = record {
       gone = a.gone;
-      unprepared = ap (λ (ks : List ℕ). is_done (verdict_of new c (length ks))) (sym one_job) ∙ a.undone;
+      undone = ap (λ (ks : List ℕ). is_done (verdict_of new c (length ks))) (sym one_job) ∙ a.undone;
       unrefused = ap (λ (ks : List ℕ). is_refusal (verdict_of new c (length ks))) (sym one_job) ∙ a.unrefused;
     }
 
@@ -161,7 +199,7 @@ ended_first o old new c offer why legal h g is =
     let none : length (asked_jobs new c) ≡ 0 = ap length (goes_jobs old new c g ∙ h.jobs) in
     let later : verdict_of new c 1 ≡ None = none_later o new c 1 legal (omega (arith, none)) in
     record {
-      unprepared = ap is_done later;
+      undone = ap is_done later;
       unrefused = ap is_refusal later;
       ended = sym is;
       kept = greeted_kept old new c offer why h (greets_goes old new c g (unasked_idle old c h.jobs)) (sym is);
@@ -173,7 +211,7 @@ pub ended_told : (old journal last : List Entry) (c k : ℕ) (offer : Bool) (why
 ended_told old journal last c k offer why l e h g p is =
     let ended : why_of last c ≡ Some why = ap (λ (x : List Entry). why_of x c) l ∙ ap (why_of journal) (sym e) ∙ sym is in
     record {
-      unprepared = ap (λ (x : List Entry). is_prepared x c) l ∙ p.unprepared;
+      undone = ap (λ (x : List Entry). is_done (verdict_of x c 1)) l ∙ p.undone;
       unrefused = ap (λ (x : List Entry). is_refusal (verdict_of x c 1)) l ∙ p.unrefused;
       ended = ended;
       kept = greeted_kept old last c offer why h g ended;
@@ -184,7 +222,7 @@ pub unsent_told : (journal last : List Entry) (c k : ℕ) → last ≡ journal �
 unsent_told journal last c k l e p is =
     let live : is_ended journal c ≡ false = sym (why_is_end journal c) ∙ ap is_some (sym (is ∙ ap (why_of journal) e)) in
     subst (λ (x : List Entry). IsUnsent x c) (sym l)
-    (record { unprepared = p.unprepared; unrefused = p.unrefused; live = live; mute = sym (ap (λ (b : Bool). b || is_mute journal c) live) ∙ p.gone })
+    (record { undone = p.undone; unrefused = p.unrefused; live = live; mute = sym (ap (λ (b : Bool). b || is_mute journal c) live) ∙ p.gone })
 
 -- what was prepared or not, by the child's number under another name
 pub prepares_as : (journal : List Entry) (c d : ℕ) (b r : RequestOutcome) → d ≡ c → r ≡ b → Prepares journal d r → Prepares journal c b

@@ -1,29 +1,31 @@
 -- What one request of a greeting leaves, whether it is done, refused or neither.
-use Rattle.std.proofs.Common.{◌≡◌, ℕ, ◌≤◌, List, [], ◌∷◌, ◌++◌, refl, sym, ap, subst, ◌∙◌, append_assoc, length, arith, Bool, true, false, cond, ◌==◌, Some, None, Option, inl, inr}
-use Rattle.std.specs.Prelude.{◌&&◌, ◌||◌, nat_lt, bytes_eq, is_some}
+use Rattle.std.proofs.Common.{◌≡◌, ℕ, ◌≤◌, ◌<◌, ◌^◌, lit<, List, [], ◌∷◌, ◌++◌, refl, sym, ap, subst, ◌∙◌, append_assoc, length, arith, Bool, true, false, cond, ◌==◌, Some, None, Option, inl, inr}
+use Rattle.std.specs.Prelude.{◌&&◌, ◌||◌, bytes_eq, is_some}
 use Rattle.std.specs.List.{list_all}
 use Rattle.std.proofs.lemmas.List.Folds.{list_all-append}
-use Rattle.annex_model.specs.declared.verdict.Why.{Why}
-use Rattle.annex_model.specs.declared.verdict.Final.{Final}
-use Rattle.annex_model.specs.declared.verdict.Final.TheVariants.{Absent, Unknown, Unsupported}
-use Rattle.annex_model.specs.declared.verdict.Verdict.{Verdict}
-use Rattle.annex_model.specs.declared.verdict.Verdict.TheVariants.{Done as DoneAt, Failed as FailedAt, Absent as AbsentAt, Unknown as UnknownAt, Unsupported as UnsupportedAt, Ended, Unsent}
-use Rattle.annex_model.specs.Messages.{RemoteMessage, Extensions, PrepareSuccess, PrepareFailure, HostMessage, AskExtensions, Prepare, host_line}
+use Rattle.journal_model.specs.declared.verdict.Why.{Why}
+use Rattle.annex_model.specs.declared.final_line.Final.{Final}
+use Rattle.annex_model.specs.declared.final_line.Final.TheVariants.{Absent, Unknown, Unsupported}
+use Rattle.journal_model.specs.declared.verdict.Verdict.{Verdict}
+use Rattle.journal_model.specs.declared.verdict.Verdict.TheVariants.{Done as DoneAt, Failed as FailedAt, Absent as AbsentAt, Unknown as UnknownAt, Unsupported as UnsupportedAt, Ended, Unsent}
+use Rattle.annex_model.specs.Messages.{RemoteMessage, Extensions, PrepareSuccess, PrepareFailure, HostMessage, AskExtensions, Prepare, host_line, host_reading, is_askable}
+use Rattle.annex_model.specs.Tags.{tagged_line, without_tag}
+use Rattle.annex_model.proofs.TagReadings.{untag_of_tagged}
 use Rattle.annex_model.specs.Talks.{final_of, is_unsupported, one_line, said_alone}
 use Rattle.journal_model.specs.declared.entry.What.{What}
 use Rattle.journal_model.specs.declared.entry.What.TheVariants.{Ask, Lost}
 use Rattle.journal_model.specs.declared.entry.Entry.{Entry}
 use Rattle.journal_model.specs.declared.opening.Opening.{Opening}
-use Rattle.journal_model.specs.Journal.{ends, mutes, is_started, is_ended, is_mute, asked_jobs, open_jobs, verdict_of, on_wire, why_of}
-use Rattle.journal_model.specs.Legality.{Legal, is_done, is_in_turn, may_ask, offered_names}
+use Rattle.journal_model.specs.Journal.{ends, mutes, is_started, is_ended, is_mute, asked_jobs, open_jobs, verdict_of, is_tagged, on_wire, why_of}
+use Rattle.journal_model.specs.Legality.{Legal, is_prepare, asks_prepare, is_done, is_in_turn, may_ask, offered_names}
 use Rattle.journal_model.specs.Projection.{IsNamed, final_in}
 use Rattle.journal_model.proofs.Looks.{both, same, same_number, any-append}
 use Rattle.journal_model.proofs.Projecting.{invariant}
 use Rattle.journal_model.proofs.Verdicts.{ended_verdict, unsent_verdict, unasked_none}
-use Rattle.host_core.specs.Steps.{group_of, is_gone, next_job, may_request, is_askable}
+use Rattle.host_core.specs.Steps.{group_of, is_gone, next_job, may_request}
 use Rattle.child_link.specs.Doors.{GoesOn, is_of_link}
 use Rattle.child_link.specs.Asks.{HasAsked, IsSettled, IsLost, lost_as}
-use Rattle.child_start.specs.Greetings.{is_of_greeting, is_refusal}
+use Rattle.child_start.specs.Greetings.{is_greeting_line, is_of_greeting, is_refusal}
 use Rattle.child_start.specs.Stages.{asked_as, is_greeting, GreetsOn, IsGoneNext, AsksNext}
 use Rattle.child_start.proofs.Jobs.{goes_jobs, goes_idle, jobs_settled, jobs_lost, idle_asked, or_true}
 
@@ -57,13 +59,25 @@ greets_both a b d c x y = record {
 pub greets_goes : (old new : List Entry) (c : ℕ) → GoesOn old new → open_jobs old c ≡ [] → GreetsOn old new c
 greets_goes old new c g idle = record { more = g.more; is = g.is; own = own_links c g.more g.quiet; idle = goes_idle old new c g idle }
 
--- a request of the greeting is job 0 or 1
-early_turn : (past : List Entry) (c job : ℕ) (q : HostMessage) → is_greeting q ≡ true → is_in_turn past c job q ≡ true → nat_lt job 2 ≡ true
-early_turn past c job (AskExtensions names) g h = ap (λ (k : ℕ). nat_lt k 2) (same_number job 0 (both (job == 0) (bytes_eq names (offered_names past c)) h).0)
-early_turn past c job Prepare g h = ap (λ (k : ℕ). nat_lt k 2) (same_number job 1 h)
+-- a request of the greeting is job 0, or job 1 to get ready
+early_turn : (past : List Entry) (c job : ℕ) (q : HostMessage) → is_greeting q ≡ true → is_in_turn past c job q ≡ true → is_greeting_line job (on_wire past c job (host_line q)) ≡ true
+early_turn past c job (AskExtensions names) g h =
+    ap (λ (b : Bool). b || (job == 1 && asks_prepare (on_wire past c job (host_line (AskExtensions names))))) (both (job == 0) (bytes_eq names (offered_names past c)) h).0
+early_turn past c job Prepare g h =
+    let one : (job == 1) ≡ true = (both (job == 1) true h).0 in
+    let asks : asks_prepare (on_wire past c job (host_line Prepare)) ≡ true =
+    ap (λ (k : ℕ). asks_prepare (on_wire past c k (host_line Prepare))) (same_number job 1 one) ∙ wired (is_tagged past c) in
+    ap (λ (b : Bool). job == 0 || (b && asks_prepare (on_wire past c job (host_line Prepare)))) one ∙ ap (λ (b : Bool). job == 0 || b) asks ∙ or_true (job == 0)
+  where
+    wired : (b : Bool) → asks_prepare (cond b (tagged_line 1 (host_line Prepare)) (host_line Prepare)) ≡ true
+    wired true =
+        let small : 1 < 2 ^ 64 = lit< tt in
+        ap (λ (t : Option (ℕ × List ℕ)). is_prepare (host_reading (without_tag (tagged_line 1 (host_line Prepare)) t))) (untag_of_tagged 1 (host_line Prepare) small)
+    wired false = refl
 early_turn past c job q g h = absurd cc
 
-pub early_job : (past : List Entry) (by c : ℕ) (q : HostMessage) → is_greeting q ≡ true → may_request past by 0 c q ≡ true → nat_lt (next_job past c) 2 ≡ true
+pub early_job : (past : List Entry) (by c : ℕ) (q : HostMessage) → is_greeting q ≡ true → may_request past by 0 c q ≡ true
+    → is_greeting_line (next_job past c) (on_wire past c (next_job past c) (host_line q)) ≡ true
 early_job past by c q g h =
     let turn : (is_started past c && may_ask past by 0 c && is_in_turn past c (next_job past c) q) ≡ true =
     (both (is_started past c && may_ask past by 0 c && is_in_turn past c (next_job past c) q) (is_askable q) h).0 in
@@ -71,7 +85,7 @@ early_job past by c q g h =
 
 -- a request that is no task's
 pub greets_asked : (o : Opening) (old new : List Entry) (by c : ℕ) (q : HostMessage) (verdict : Verdict) → open_jobs old c ≡ []
-    → nat_lt (next_job old c) 2 ≡ true → HasAsked o old new by c 0 q verdict → GreetsOn old new c
+    → is_greeting_line (next_job old c) (on_wire old c (next_job old c) (host_line q)) ≡ true → HasAsked o old new by c 0 q verdict → GreetsOn old new c
 greets_asked o old new by c q verdict idle early (inl s) =
     let asked : List Entry = group_of o old by (Ask c (next_job old c) 0 (on_wire old c (next_job old c) (host_line q))) in
     record {

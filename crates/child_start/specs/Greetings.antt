@@ -1,25 +1,29 @@
 -- What a greeting leaves: in the journal, in the link, and of the programs.
 -- https://git-annex.branchable.com/design/external_special_remote_protocol/
-use Rattle.std.specs.Prelude.{ℕ, ◌≡◌, ◌⊎◌, ◌+◌, ◌==◌, ◌&&◌, nat_lt, Bool, true, false, List, [], ◌∷◌, ◌++◌, Option, Some}
+use Rattle.std.specs.Prelude.{ℕ, ◌≡◌, ◌⊎◌, ◌+◌, ◌==◌, ◌&&◌, ◌||◌, Bool, true, false, List, [], ◌∷◌, ◌++◌, Option, Some}
 use Rattle.std.specs.List.{list_all}
 use Rattle.ann_outside.specs.Starts.{Starts, IsNumbered}
 use Rattle.ann_outside.specs.Causes.{AddsOne, Stays}
-use Rattle.annex_model.specs.declared.verdict.Why.{Why}
-use Rattle.annex_model.specs.declared.verdict.Verdict.{Verdict}
-use Rattle.annex_model.specs.declared.verdict.Verdict.TheVariants.{Failed as FailedAt, Unsupported as UnsupportedAt}
+use Rattle.journal_model.specs.declared.verdict.Why.{Why}
+use Rattle.journal_model.specs.declared.verdict.Verdict.{Verdict}
+use Rattle.journal_model.specs.declared.verdict.Verdict.TheVariants.{Failed as FailedAt, Unsupported as UnsupportedAt}
 use Rattle.journal_model.specs.declared.entry.What.{What}
 use Rattle.journal_model.specs.declared.entry.What.TheVariants.{Start, NoStart, Ask, Lost}
 use Rattle.journal_model.specs.declared.entry.Entry.{Entry}
 use Rattle.journal_model.specs.Journal.{is_ended, is_mute, is_tagged, why_of, verdict_of, asked_jobs, open_jobs}
-use Rattle.journal_model.specs.Legality.{count, is_start, is_prepared}
+use Rattle.journal_model.specs.Legality.{count, is_start, is_done, asks_prepare, is_prepared}
 use Rattle.child_link.specs.Doors.{is_closed, is_of_link}
 use Rattle.child_link.specs.Links.{LinkValue}
 use Rattle.child_start.specs.declared.greeting.Greeting.{Greeting}
 use Rattle.child_start.specs.declared.greeting.Greeting.TheVariants.{Ready, Refused, Ended, Unsent, StartFault, NoMemory}
 
--- the entry is of c's greeting: its link's own, or a request that is no task's, as job 0 or 1
+-- the line is that of job 0, or of job 1 and asks to get ready
+abbrev pub is_greeting_line : ℕ → List ℕ → Bool
+is_greeting_line job line = job == 0 || (job == 1 && asks_prepare line)
+
+-- the entry is of c's greeting: its link's own, or a request that is no task's, as job 0, or as job 1 to get ready
 abbrev pub is_of_greeting : ℕ → What → Bool
-is_of_greeting c (Ask child job task line) = child == c && (task == 0 && nat_lt job 2)
+is_of_greeting c (Ask child job task line) = child == c && (task == 0 && is_greeting_line job line)
 is_of_greeting c (Lost child task) = child == c && task == 0
 is_of_greeting c w = is_of_link w
 
@@ -42,24 +46,24 @@ is_refusal (Some (FailedAt at)) = true
 is_refusal (Some (UnsupportedAt at)) = true
 is_refusal v = false
 
--- the child refused PREPARE by the line at that place, after EXTENSIONS and PREPARE alone
+-- the child refused job 1 by the line at that place, after job 0 and job 1 alone
 pub record IsRefused (journal : List Entry) (c : ℕ) (verdict : Verdict) : Type 0 where
-  pub unprepared : is_prepared journal c ≡ false
+  pub undone : is_done (verdict_of journal c 1) ≡ false
   pub settled : verdict_of journal c 1 ≡ Some verdict
   pub place : ℕ
   pub refusal : (verdict ≡ FailedAt place) ⊎ (verdict ≡ UnsupportedAt place)
   pub jobs : asked_jobs journal c ≡ 0 ∷ 1 ∷ []
 
--- the child has ended so, and is not prepared and did not refuse to be. The host did not close it
+-- the child has ended so, and its job 1 is not done and was not refused. The host did not close it
 pub record HasEnded (journal : List Entry) (c : ℕ) (why : Why) : Type 0 where
-  pub unprepared : is_prepared journal c ≡ false
+  pub undone : is_done (verdict_of journal c 1) ≡ false
   pub unrefused : is_refusal (verdict_of journal c 1) ≡ false
   pub ended : why_of journal c ≡ Some why
   pub kept : is_closed why ≡ false
 
--- the child is mute and has not ended, and is not prepared and did not refuse to be
+-- the child is mute and has not ended, and its job 1 is not done and was not refused
 pub record IsUnsent (journal : List Entry) (c : ℕ) : Type 0 where
-  pub unprepared : is_prepared journal c ≡ false
+  pub undone : is_done (verdict_of journal c 1) ≡ false
   pub unrefused : is_refusal (verdict_of journal c 1) ≡ false
   pub live : is_ended journal c ≡ false
   pub mute : is_mute journal c ≡ true

@@ -1,12 +1,12 @@
 -- What each stage of a greeting leaves.
 use Rattle.std.specs.Prelude.{ℕ, ◌≡◌, ◌⊎◌, Bool, true, false, List, [], ◌∷◌, ◌++◌, Option, Some, None}
 use Rattle.std.specs.List.{list_all}
-use Rattle.annex_model.specs.declared.verdict.Verdict.{Verdict}
-use Rattle.annex_model.specs.declared.verdict.Verdict.TheVariants.{Done as DoneAt, Failed as FailedAt, Unsupported as UnsupportedAt}
+use Rattle.journal_model.specs.declared.verdict.Verdict.{Verdict}
+use Rattle.journal_model.specs.declared.verdict.Verdict.TheVariants.{Done as DoneAt, Failed as FailedAt, Unsupported as UnsupportedAt}
 use Rattle.annex_model.specs.Messages.{HostMessage, AskExtensions, Prepare}
 use Rattle.journal_model.specs.declared.entry.Entry.{Entry}
 use Rattle.journal_model.specs.Journal.{is_started, is_ended, has_spoken, is_tagged, verdict_of, asked_jobs, open_jobs}
-use Rattle.journal_model.specs.Legality.{said_version, offered_names, is_done, is_prepared}
+use Rattle.journal_model.specs.Legality.{said_version, offered_names, is_done}
 use Rattle.annex_model.specs.Extensions.{names_of}
 use Rattle.host_core.specs.declared.event.Reply.{Reply}
 use Rattle.host_core.specs.declared.event.Reply.TheVariants.{Child}
@@ -84,10 +84,10 @@ AsksNext old new c Done = IsDoneNext old new c
 AsksNext old new c (Refused verdict) = IsRefusedNext old new c verdict
 AsksNext old new c Gone = IsGoneNext old new c
 
--- the child is gone, and is not prepared and did not refuse to be
+-- the child is gone, and its job 1 is not done and was not refused
 pub record IsGoneUnready (journal : List Entry) (c : ℕ) : Type 0 where
   pub gone : is_gone journal c ≡ true
-  pub unprepared : is_prepared journal c ≡ false
+  pub undone : is_done (verdict_of journal c 1) ≡ false
   pub unrefused : is_refusal (verdict_of journal c 1) ≡ false
 
 abbrev pub Prepares : List Entry → ℕ → RequestOutcome → Type 0

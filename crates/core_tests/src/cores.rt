@@ -158,6 +158,7 @@ fn reply_text(alloc: Global, reply: Reply) -> Result<String, NoMemory> {
         Reply::Gone { why: None } => words::told(alloc, "gone mute"),
         Reply::Wait => words::told(alloc, "wait"),
         Reply::NoTask => words::told(alloc, "no task"),
+        Reply::Read => words::told(alloc, "read"),
         Reply::Over => words::told(alloc, "over"),
         Reply::Done => words::told(alloc, "done"),
         Reply::Odd => words::told(alloc, "odd"),

@@ -3,10 +3,10 @@ use Rattle.std.proofs.Common.{◌≡◌, ℕ, List, [], ◌∷◌, ◌+◌, ◌<
 use Rattle.std.specs.Prelude.{◌&&◌, ◌||◌, ◌==◌, nat_lt, bytes_eq, codes}
 use Rattle.std.proofs.lemmas.Bool.Decides.{nat_tests}
 use Rattle.std.proofs.lemmas.Slice.Eq.{bytes_eq-Decides}
-use Rattle.annex_model.specs.declared.verdict.Why.{Why}
-use Rattle.annex_model.specs.declared.verdict.Why.TheVariants.{Full}
+use Rattle.journal_model.specs.declared.verdict.Why.{Why}
+use Rattle.journal_model.specs.declared.verdict.Why.TheVariants.{Full}
 use Rattle.annex_model.specs.Lines.{has_newline}
-use Rattle.annex_model.specs.Messages.{HostMessage, AskExtensions, Prepare, Initremote, Transfer, Checkpresent, Remove, Listconfigs, Getcost, Getavailability, Getinfo, Whereis, Value, Creds, HostError, host_line, host_reading, IsAskable}
+use Rattle.annex_model.specs.Messages.{HostMessage, AskExtensions, Prepare, Initremote, Transfer, Checkpresent, Remove, Listconfigs, Getcost, Getavailability, Getinfo, Whereis, Value, Creds, HostError, host_line, host_reading, is_askable}
 use Rattle.journal_model.specs.declared.entry.What.{What}
 use Rattle.journal_model.specs.declared.entry.What.TheVariants.{Claim, Start, NoStart, Ask, Put, Sent, Mute, Got, End, Verdict as Settled, Lost, Answer as Answered}
 use Rattle.journal_model.specs.declared.entry.Entry.{Entry}
@@ -14,14 +14,15 @@ use Rattle.journal_model.specs.declared.opening.Opening.{Opening}
 use Rattle.journal_model.specs.Journal.{any, offers, is_started, is_ended, is_mute, is_live, unsent, addressed, on_wire, is_full}
 use Rattle.journal_model.specs.Legality.{is_empty, count, is_start, least_free, is_prepared, is_in_turn, may_ask, may_stop, may_come, is_number, asks_in_turn, offered_names}
 use Rattle.journal_model.proofs.Looks.{same_number, both}
+use Rattle.annex_model.proofs.Classes.{askable_test}
 use Rattle.journal_model.proofs.Asking.{read_askable}
 use Rattle.talk_serial.specs.declared.request.Request.{Request}
-use Rattle.talk_serial.specs.declared.request.Request.TheVariants.{Extensions, Prepare as PrepareRequest, ListConfigs, GetCost, GetAvailability, GetInfo, Transfer as TransferRequest, CheckPresent, Remove as RemoveRequest, WhereIs}
+use Rattle.talk_serial.specs.declared.request.Request.TheVariants.{Extensions, Prepare as PrepareRequest, InitRemote as InitRemoteRequest, ListConfigs, GetCost, GetAvailability, GetInfo, Transfer as TransferRequest, CheckPresent, Remove as RemoveRequest, WhereIs}
 use Rattle.annex_model.specs.Extensions.{names_of}
 use Rattle.talk_serial.specs.Requests.{message_of}
 use Rattle.host_core.specs.declared.event.Event.TheVariants.{Claim as ClaimEvent, Start as StartEvent, NoStart as NoStartEvent, Ask as AskEvent, Got as GotEvent, Stop, Sent as SentEvent, Mute as MuteEvent, Answer as AnswerEvent}
 use Rattle.host_core.specs.declared.event.Reply.TheVariants.{Job}
-use Rattle.host_core.specs.Steps.{Step, step_of, group_of, append, odd, gone, claim, next_job, may_request, may_end, is_askable, Comes, Appends}
+use Rattle.host_core.specs.Steps.{Step, step_of, group_of, append, odd, gone, claim, next_job, may_request, may_end, Comes, Appends}
 use Rattle.host_core.proofs.Stepping.{step_comes}
 
 live : (past : List Entry) (c : ℕ) → is_live past c ≡ true → (is_started past c ≡ true) × (is_ended past c ≡ false)
@@ -62,7 +63,7 @@ requested past c job (AskExtensions names) h =
     let t = both (job == 0) (bytes_eq names (offered_names past c)) h in
     (Extensions (any (offers c) past), ap AskExtensions (sym ((bytes_eq-Decides names (offered_names past c)).0 t.1)))
 requested past c job Prepare h = (PrepareRequest, refl)
-requested past c job Initremote h = absurd cc
+requested past c job Initremote h = (InitRemoteRequest, refl)
 requested past c job (Transfer store key file) h = (TransferRequest store key file, refl)
 requested past c job (Checkpresent key) h = (CheckPresent key, refl)
 requested past c job (Remove key) h = (RemoveRequest key, refl)
@@ -74,14 +75,6 @@ requested past c job (Whereis key) h = (WhereIs key, refl)
 requested past c job (Value value) h = absurd cc
 requested past c job (Creds user password) h = absurd cc
 requested past c job (HostError text) h = absurd cc
-
-askable_test : (q : HostMessage) → IsAskable q → is_askable q ≡ true
-askable_test (Transfer store key file) h = h.1.0
-askable_test (Checkpresent key) h = h
-askable_test (Remove key) h = h
-askable_test (Whereis key) h = h
-askable_test (Creds user password) h = h.0
-askable_test q h = refl
 
 ask_chosen : (o : Opening) (past : List Entry) (by child job task : ℕ) (line : List ℕ) (r : Option HostMessage)
     → host_reading (addressed past child line).1 ≡ r → is_started past child ≡ true → is_ended past child ≡ false → is_mute past child ≡ false
@@ -113,10 +106,10 @@ some_request past c job = go (job == 0) refl (job == 1) refl
 
     go : (a : Bool) → (job == 0) ≡ a → (b : Bool) → (job == 1) ≡ b → (r : Request) × (is_in_turn past c job (message_of r) ≡ true) × (is_askable (message_of r) ≡ true)
     go true e b f = (Extensions (any (offers c) past), rw e (offered (any (offers c) past)), refl)
-    go false e true f = (PrepareRequest, f, refl)
+    go false e true f = (PrepareRequest, rw f refl, refl)
     go false e false f =
         let later : nat_lt 1 job ≡ true = grind (arith, nat_tests) in
-        (CheckPresent (codes "WORM--a"), later, refl)
+        (CheckPresent (codes "WORM--a"), rw later refl, refl)
 
 lost_chosen : (o : Opening) (past : List Entry) (by child task : ℕ) → is_started past child ≡ true → (is_ended past child || is_mute past child) ≡ true
     → may_ask past by task child ≡ true → Appends o past by (Lost child task)

@@ -8,3 +8,4 @@ pub mod Wiring
 pub mod Stepping
 pub mod Choosing
 pub mod Pushing
+pub mod Sharing

@@ -1,21 +1,24 @@
 -- What a legal journal says of an open job: it has a request, and more of its answer must come.
 use Rattle.std.proofs.Common.{◌≡◌, ◌∙◌, ℕ, List, [], ◌∷◌, ◌++◌, refl, sym, ap, subst, Bool, true, false, not, cond, Option, Some, None, length}
-use Rattle.std.specs.Prelude.{◌&&◌, ◌==◌, option_and_then, bytes_eq}
+use Rattle.std.specs.Prelude.{◌&&◌, ◌==◌, nat_lt, option_and_then, bytes_eq}
+use Rattle.std.specs.Str.{is_utf8}
+use Rattle.std.proofs.lemmas.Slice.Eq.{bytes_eq-Decides}
 use Rattle.std.specs.List.{list_all, cons_option}
-use Rattle.annex_model.specs.declared.verdict.Verdict.{Verdict}
-use Rattle.annex_model.specs.declared.verdict.Verdict.TheVariants.{Ended}
-use Rattle.annex_model.specs.declared.verdict.Final.{Final}
-use Rattle.annex_model.specs.declared.verdict.Final.TheVariants.{Unsupported}
-use Rattle.annex_model.specs.Messages.{RemoteMessage, Extensions, TransferSuccess, TransferFailure, HostMessage, AskExtensions, Transfer, Value, Creds, HostError, host_reading, host_line}
-use Rattle.annex_model.specs.Talks.{Item, Host, Shape, may_go_on, Talking, is_aside, awaits, said, one_line, said_alone, is_unsupported, is_nothing}
+use Rattle.journal_model.specs.declared.verdict.Verdict.{Verdict}
+use Rattle.journal_model.specs.declared.verdict.Verdict.TheVariants.{Ended}
+use Rattle.annex_model.specs.Extensions.{names_of}
+use Rattle.annex_model.specs.Lines.{has_newline}
+use Rattle.annex_model.specs.Messages.{RemoteMessage, HostMessage, AskExtensions, Transfer, Value, Creds, HostError, host_reading, host_line}
+use Rattle.annex_model.specs.Talks.{Item, Host, Talking, is_aside, awaits, said}
 use Rattle.journal_model.specs.declared.opening.Opening.{Opening}
 use Rattle.journal_model.specs.declared.entry.What.{What}
 use Rattle.journal_model.specs.declared.entry.What.TheVariants.{Ask, Put, Mute, Got, End, Verdict as Settled}
 use Rattle.journal_model.specs.declared.entry.Entry.{Entry}
-use Rattle.journal_model.specs.Journal.{is_open, addressed, verdict_of, open_jobs, asked_jobs, on_wire, is_live, is_mute}
-use Rattle.journal_model.specs.Parts.{item_of, part_from, part, request_in}
-use Rattle.journal_model.specs.Due.{Aside, hearing, hearing_of, by_answer, replies_at, due_by, due_after, made_by}
-use Rattle.journal_model.specs.Legality.{Legal, may_come, may_ask, asks_in_turn, is_in_turn}
+use Rattle.journal_model.specs.Journal.{any, offers, is_open, addressed, verdict_of, open_jobs, asked_jobs, on_wire, is_live, is_mute}
+use Rattle.journal_model.specs.Parts.{item_of, part_from, part}
+use Rattle.annex_model.specs.Hearings.{request_in, Aside, hearing, hearing_of}
+use Rattle.journal_model.specs.Due.{replies_at, due_by, due_after, made_by}
+use Rattle.journal_model.specs.Legality.{Legal, may_come, may_ask, asks_in_turn, is_in_turn, is_text, offered_names}
 use Rattle.journal_model.specs.Projection.{Fits}
 use Rattle.journal_model.proofs.Growing.{Legal-induction}
 use Rattle.journal_model.proofs.Looks.{is_asked, both, same_number, unasked_closed, open_unsettled, settled_none}
@@ -25,7 +28,8 @@ use Rattle.journal_model.proofs.Soft.{is_soft, is_soft_why, soft_got, soft_mute,
 use Rattle.talk_serial.specs.declared.talk.Heard.TheVariants.{Aside as HeardAside}
 use Rattle.talk_serial.specs.Hearings.{heard, heard_as}
 use Rattle.host_core.proofs.FirstItem.{adds_none}
-use Rattle.host_core.specs.Moves.{first_text, is_request, Alike, AlikeTo}
+use Rattle.host_core.specs.Moves.{first_text}
+use Rattle.talk_serial.specs.Requests.{is_request}
 
 -- ---- it has a request, to which nothing but the beginning of an answer was said
 
@@ -51,7 +55,17 @@ abbrev asks_request : Option HostMessage → Bool
 asks_request None = true
 asks_request (Some q) = is_request q
 
-turn_asks : (past : List Entry) (c job : ℕ) (q : HostMessage) → is_in_turn past c job q ≡ true → is_request q ≡ true
+pub turn_asks : (past : List Entry) (c job : ℕ) (q : HostMessage) → is_in_turn past c job q ≡ true → is_request q ≡ true
+turn_asks past c job (AskExtensions names) h =
+    let t = both (job == 0) (bytes_eq names (offered_names past c)) h in
+    told (any (offers c) past) ((bytes_eq-Decides names (offered_names past c)).0 t.1)
+  where
+    told : (b : Bool) → names ≡ names_of b → is_request (AskExtensions names) ≡ true
+    told true e = subst (λ (x : List ℕ). is_request (AskExtensions x) ≡ true) (sym e) refl
+    told false e = subst (λ (x : List ℕ). is_request (AskExtensions x) ≡ true) (sym e) refl
+turn_asks past c job (Transfer store key file) h =
+    let t = both (nat_lt 1 job) (is_text file) h in
+    (both (is_utf8 file) (not (has_newline file)) t.1).0
 turn_asks past c job (Value value) h = absurd cc
 turn_asks past c job (Creds user password) h = absurd cc
 turn_asks past c job (HostError text) h = absurd cc
@@ -153,59 +167,21 @@ no_message o past c j text legal is first none =
     let request : request_in (part past c j) ≡ None = first_asked (part past c j) ∙ ap (option_and_then host_reading) (sym first) ∙ sym none in
     cc (job.1, request)
 
--- ---- requests that are alike
+-- ---- the talk about its request
 
-pub alike_same : (q : HostMessage) → Alike q q
-alike_same q = record { hears = λ ms. refl; shape = refl }
+pub asked_same : (p : List Item) (q r s : HostMessage) → BeginsAsked p q → r ≡ q → s ≡ r → request_in p ≡ Some s
+asked_same p q r s asked same told = asked.request ∙ ap Some (sym (told ∙ same))
 
-pub alike_key : (f : List ℕ → HostMessage) (k l : List ℕ) → k ≡ l → Alike (f k) (f l)
-alike_key f k l e = subst (λ (x : List ℕ). Alike (f k) (f x)) e (alike_same (f k))
+pub asked_waits : (p : List Item) (q r : HostMessage) → BeginsAsked p q → r ≡ q → awaits r (said p) ≡ true
+asked_waits p q r asked same = subst (λ (x : HostMessage). awaits x (said p) ≡ true) (sym same) asked.waits
 
-by_lines : (q p : HostMessage) → ((m : RemoteMessage) → one_line q m ≡ one_line p m) → (ms : List (Option RemoteMessage))
-    → by_answer (cond (is_unsupported ms) (Some Unsupported) (said_alone q ms)) (is_nothing ms) ≡ by_answer (cond (is_unsupported ms) (Some Unsupported) (said_alone p ms)) (is_nothing ms)
-by_lines q p lines ms = ap (λ (f : Option Final). by_answer (cond (is_unsupported ms) (Some Unsupported) f) (is_nothing ms)) (alone ms)
-  where
-    alone : (ms : List (Option RemoteMessage)) → said_alone q ms ≡ said_alone p ms
-    alone [] = refl
-    alone (Some m ∷ []) = lines m
-    alone (None ∷ []) = refl
-    alone (Some m ∷ n ∷ ms) = refl
-    alone (None ∷ n ∷ ms) = refl
-
-pub alike_extensions : (a b : List ℕ) → Alike (AskExtensions a) (AskExtensions b)
-alike_extensions a b = record { hears = by_lines (AskExtensions a) (AskExtensions b) lines; shape = refl }
-  where
-    lines : (m : RemoteMessage) → one_line (AskExtensions a) m ≡ one_line (AskExtensions b) m
-    lines (Extensions answer) = refl
-    lines m = refl
-
-alike_file : (store : Bool) (key a b : List ℕ) → Alike (Transfer store key a) (Transfer store key b)
-alike_file store key a b = record { hears = by_lines (Transfer store key a) (Transfer store key b) lines; shape = refl }
-  where
-    lines : (m : RemoteMessage) → one_line (Transfer store key a) m ≡ one_line (Transfer store key b) m
-    lines (TransferSuccess s k) = refl
-    lines (TransferFailure s k text) = refl
-    lines m = refl
-
-pub alike_transfer : (store : Bool) (k l a b : List ℕ) → k ≡ l → Alike (Transfer store k a) (Transfer store l b)
-alike_transfer store k l a b e = subst (λ (x : List ℕ). Alike (Transfer store k a) (Transfer store x b)) e (alike_file store k a b)
-
-pub asked_alike : (p : List Item) (q r s : HostMessage) → BeginsAsked p q → Alike r q → s ≡ r → AlikeTo s (request_in p)
-asked_alike p q r s asked alike same =
-    let here : AlikeTo r (request_in p) = subst (AlikeTo r) (sym asked.request) alike in
-    subst (λ (x : HostMessage). AlikeTo x (request_in p)) (sym same) here
-
-pub alike_waits : (p : List Item) (q r : HostMessage) → BeginsAsked p q → Alike r q → awaits r (said p) ≡ true
-alike_waits p q r asked alike = subst (λ (s : Shape). may_go_on s (said p) ≡ true) (sym alike.shape) asked.waits
-
--- a talk about a request like the job's hears what the job does
-pub heard_in : (p : List Item) (m : RemoteMessage) (r : HostMessage) → AlikeTo r (request_in p) → heard r (said p) m ≡ heard_as (hearing p m)
-heard_in p m r alike = go (is_aside m) (request_in p) alike
+-- a talk about the job's request hears what the job does
+pub heard_in : (p : List Item) (m : RemoteMessage) (r : HostMessage) → request_in p ≡ Some r → heard r (said p) m ≡ heard_as (hearing p m)
+heard_in p m r request = go (is_aside m) (request_in p) request
   where
     ms : List (Option RemoteMessage)
     ms = said p ++ Some m ∷ []
 
-    go : (a : Bool) (q : Option HostMessage) → AlikeTo r q → cond a HeardAside (heard_as (hearing_of (Some r) ms)) ≡ heard_as (cond a Aside (hearing_of q ms))
-    go true q h = refl
-    go false None h = absurd h
-    go false (Some q) h = ap heard_as (h.hears ms)
+    go : (a : Bool) (q : Option HostMessage) → q ≡ Some r → cond a HeardAside (heard_as (hearing_of (Some r) ms)) ≡ heard_as (cond a Aside (hearing_of q ms))
+    go true q e = refl
+    go false q e = ap (λ (x : Option HostMessage). heard_as (hearing_of x ms)) (sym e)

@@ -4,13 +4,13 @@ use Rattle.std.specs.Prelude.{◌&&◌, IsSome, map, filter, filter_map, slice_g
 use Rattle.std.specs.List.{cons_option, range_with_len, list_all}
 use Rattle.std.proofs.Math.Seq.{drop-append_seam, take-append_seam}
 use Rattle.std.proofs.lemmas.List.Elements.{filter_map-append, filter-append}
-use Rattle.annex_model.specs.declared.verdict.Final.{Final}
-use Rattle.annex_model.specs.declared.verdict.Final.TheVariants.{Unsupported}
+use Rattle.annex_model.specs.declared.final_line.Final.{Final}
+use Rattle.annex_model.specs.declared.final_line.Final.TheVariants.{Unsupported}
 use Rattle.annex_model.specs.Messages.{RemoteMessage, HostMessage, Config, Infofield, UnsupportedRequest, remote_reading}
 use Rattle.annex_model.specs.Talks.{Item, Shape, OneLine, Configs, Infos, shape_of, may_go_on, awaits, final_of, said, remote_items, item_is_aside, spells_aside, is_remote, is_aside, is_nothing, is_config, is_infofield, is_infovalue, are_pairs, is_unsupported, are_configs, are_infos, by_shape, said_alone}
 use Rattle.journal_model.specs.declared.entry.Entry.{Entry}
 use Rattle.journal_model.specs.Parts.{item_of, part_from, part, item_at}
-use Rattle.journal_model.specs.Due.{by_answer}
+use Rattle.annex_model.specs.Hearings.{by_answer}
 use Rattle.talk_serial.specs.declared.talk.Heard.{Heard}
 use Rattle.talk_serial.specs.Talked.{Talked, is_over}
 use Rattle.talk_serial.specs.Requests.{message_of}

@@ -1,11 +1,11 @@
 -- Each step appends nothing, or a group that may come; and each entry that may come is the first of some event's step.
 use Rattle.std.proofs.Common.{◌≡◌, ℕ, List, ◌++◌, ◌+◌, ◌<◌, refl, sym, ap, subst, ◌∙◌, Bool, true, false, cond, not, Option, Some, None, arith, inl, inr, length, append-nil}
-use Rattle.std.specs.Prelude.{◌&&◌, ◌||◌, ◌==◌, ◌^◌, nat_lt}
+use Rattle.std.specs.Prelude.{◌&&◌, ◌||◌, ◌==◌, ◌^◌, nat_lt, nat_le}
 use Rattle.std.proofs.lemmas.Bool.Decides.{nat_tests}
-use Rattle.annex_model.specs.declared.verdict.Why.{Why}
-use Rattle.annex_model.specs.declared.verdict.Why.TheVariants.{Full}
+use Rattle.journal_model.specs.declared.verdict.Why.{Why}
+use Rattle.journal_model.specs.declared.verdict.Why.TheVariants.{Full}
 use Rattle.annex_model.specs.Lines.{has_newline}
-use Rattle.annex_model.specs.Messages.{HostMessage, host_line, host_reading}
+use Rattle.annex_model.specs.Messages.{HostMessage, host_line, host_reading, is_askable}
 use Rattle.journal_model.specs.declared.answer.Answer.{Answer}
 use Rattle.journal_model.specs.declared.entry.What.{What}
 use Rattle.journal_model.specs.declared.entry.What.TheVariants.{Claim, Start, NoStart, Ask, Sent, Mute, Got, End, Lost, Answer as Answered}
@@ -16,9 +16,9 @@ use Rattle.journal_model.specs.Legality.{Legal, is_empty, count, is_start, least
 use Rattle.journal_model.proofs.Growing.{Legal-group}
 use Rattle.journal_model.proofs.Looks.{same, both}
 use Rattle.host_core.specs.declared.event.Event.{Event}
-use Rattle.host_core.specs.declared.event.Event.TheVariants.{Claim as ClaimEvent, Start as StartEvent, NoStart as NoStartEvent, Ask as AskEvent, Lookup, Look, Fetch, Got as GotEvent, Stop, Sent as SentEvent, Mute as MuteEvent, Answer as AnswerEvent}
+use Rattle.host_core.specs.declared.event.Event.TheVariants.{Claim as ClaimEvent, Start as StartEvent, NoStart as NoStartEvent, Ask as AskEvent, Lookup, Look, Listen, Fetch, Got as GotEvent, Stop, Sent as SentEvent, Mute as MuteEvent, Answer as AnswerEvent, Shut}
 use Rattle.host_core.specs.declared.event.Reply.TheVariants.{Child, Job, Over, Done, Gone}
-use Rattle.host_core.specs.Steps.{Step, step_of, group_of, append, odd, only, gone, is_gone, claim, next_job, may_request, may_answer, may_end, is_full_why, is_askable, is_asked, settled_so, next_line, Comes}
+use Rattle.host_core.specs.Steps.{Step, step_of, group_of, append, odd, only, gone, is_gone, claim, next_job, may_request, may_answer, may_end, is_full_why, is_asked, settled_so, next_line, listening, resting, Comes}
 use Rattle.talk_serial.specs.Requests.{message_of}
 use Rattle.host_core.proofs.Wiring.{wired_turn, few_jobs}
 
@@ -92,7 +92,16 @@ looks_keep o past by child true true = inl refl
 looks_keep o past by child true false = inl refl
 looks_keep o past by child false b = inl refl
 
-fetches_keep : (o : Opening) (past : List Entry) (by child : ℕ) (a b : Bool) → Comes o past by (cond (not a) odd (cond b (only Over) (only (next_line (unsent past child)))))
+listens_keep : (o : Opening) (past : List Entry) (by child : ℕ) (a b : Bool) → Comes o past by (cond (not a) odd (cond b (only Over) (only (listening o past child))))
+listens_keep o past by child true true = inl refl
+listens_keep o past by child true false = inl refl
+listens_keep o past by child false b = inl refl
+
+shuts_keep : (o : Opening) (past : List Entry) (by : ℕ) (b : Bool) → Comes o past by (cond b (only Done) odd)
+shuts_keep o past by true = inl refl
+shuts_keep o past by false = inl refl
+
+fetches_keep : (o : Opening) (past : List Entry) (by child : ℕ) (a b : Bool) → Comes o past by (cond (not a) odd (cond b (only Over) (only (next_line (resting o past child) (unsent past child)))))
 fetches_keep o past by child true true = inl refl
 fetches_keep o past by child true false = inl refl
 fetches_keep o past by child false b = inl refl
@@ -144,6 +153,8 @@ step_comes o past by (AskEvent child task request) few =
     asks_keep o past by task child (message_of request) (may_request past by task child (message_of request)) (is_ended past child) (is_mute past child) few refl refl refl
 step_comes o past by (Lookup child job) few = lookups_keep o past by child job (is_asked past child job)
 step_comes o past by (Look child) few = looks_keep o past by child (is_started past child) (is_gone past child)
+step_comes o past by (Listen child) few = listens_keep o past by child (is_started past child) (is_ended past child)
+step_comes o past by (Shut on) few = shuts_keep o past by (nat_le by 1)
 step_comes o past by (Fetch child) few = fetches_keep o past by child (is_started past child) (is_gone past child)
 step_comes o past by (GotEvent child line) few = gots_keep o past by child line (is_started past child) (has_newline line) (is_ended past child) (is_full past) refl refl refl refl
 step_comes o past by (Stop child why) few = stops_keep o past by child why (is_started past child) (may_end past child why) (is_ended past child) refl refl refl

@@ -13,6 +13,7 @@ use Rattle.journal_model.specs.Due.{is_version_one}
 use Rattle.journal_model.specs.Legality.{is_empty, said_version}
 use Rattle.host_core.specs.Steps.{written_to, got_line, next_line}
 use Rattle.host_core.specs.Moves.{is_written, hosts_line, next_reply}
+use Rattle.host_core.specs.declared.event.Reply.{Reply}
 use Rattle.host_core.specs.declared.event.Reply.TheVariants.{Line as Written}
 use Rattle.host_core.proofs.Firsts.{first_given}
 
@@ -216,13 +217,13 @@ unsent_by past c =
     let n = length (filter (λ e. sends c e.what) past) in
     ap (drop n) (written_by c past) ∙ drop_map (λ (e : Entry). written_in e.what) n (filter (λ e. is_written c e.what) past)
 
-next_in : (es : List Entry) (o : Option Entry) → o ≡ first_of es → next_line (map (λ (e : Entry). written_in e.what) es) ≡ next_reply (option_map (λ e. hosts_line e.what ++ 10 ∷ []) o)
-next_in [] o h = rw h refl
-next_in (e ∷ es) o h = rw h (ap (λ (l : List ℕ). Written (l ++ 10 ∷ [])) (hosts_is e.what))
+next_in : (rest : Reply) (es : List Entry) (o : Option Entry) → o ≡ first_of es → next_line rest (map (λ (e : Entry). written_in e.what) es) ≡ next_reply rest (option_map (λ e. hosts_line e.what ++ 10 ∷ []) o)
+next_in rest [] o h = rw h refl
+next_in rest (e ∷ es) o h = rw h (ap (λ (l : List ℕ). Written (l ++ 10 ∷ [])) (hosts_is e.what))
 
-pub next_found : (past : List Entry) (c n : ℕ) (o : Option Entry) → n ≡ length (filter (λ e. sends c e.what) past) → o ≡ slice_get (filter (λ e. is_written c e.what) past) n
-    → next_reply (option_map (λ e. hosts_line e.what ++ 10 ∷ []) o) ≡ next_line (unsent past c)
-next_found past c n o e h =
+pub next_found : (rest : Reply) (past : List Entry) (c n : ℕ) (o : Option Entry) → n ≡ length (filter (λ e. sends c e.what) past) → o ≡ slice_get (filter (λ e. is_written c e.what) past) n
+    → next_reply rest (option_map (λ e. hosts_line e.what ++ 10 ∷ []) o) ≡ next_line rest (unsent past c)
+next_found rest past c n o e h =
     let ws : List Entry = filter (λ e. is_written c e.what) past in
     let k = length (filter (λ e. sends c e.what) past) in
-    sym (ap next_line (unsent_by past c) ∙ next_in (drop k ws) o (h ∙ ap (slice_get ws) e ∙ sym (nth_drop k ws)))
+    sym (ap (next_line rest) (unsent_by past c) ∙ next_in rest (drop k ws) o (h ∙ ap (slice_get ws) e ∙ sym (nth_drop k ws)))

@@ -1,4 +1,4 @@
-use Rattle.std.specs.Prelude.{List}
+use Rattle.std.specs.Prelude.{List, Bool}
 use Rattle.journal_model.specs.declared.entry.Entry.{Entry}
 use Rattle.journal_model.specs.declared.opening.Opening.{Opening}
 
@@ -6,3 +6,4 @@ use Rattle.journal_model.specs.declared.opening.Opening.{Opening}
 pub record CoreValue : Type 0 where
   pub opening : Opening
   pub journal : List Entry
+  pub shut : Bool

@@ -1,11 +1,11 @@
 -- Words for the core's code: an entry's due entries in short, and what a job's part begins with.
 use Rattle.std.specs.Prelude.{ℕ, ◌≡◌, ◌==◌, ◌&&◌, ◌||◌, not, Bool, true, false, if◌then◌else◌, List, [], ◌∷◌, length, Option, Some, None, map, filter, filter_map, option_and_then, is_some, take, slice_get}
 use Rattle.std.specs.List.{range_with_len}
-use Rattle.annex_model.specs.declared.verdict.Why.TheVariants.{Error as ErrorAt, Version as VersionFault}
-use Rattle.annex_model.specs.declared.verdict.Verdict.{Verdict}
-use Rattle.annex_model.specs.declared.verdict.Verdict.TheVariants.{Unsent}
-use Rattle.annex_model.specs.Messages.{RemoteMessage, HostMessage, Value, Creds, HostError, remote_reading}
-use Rattle.annex_model.specs.Talks.{Item, Shape, OneLine, Configs, Infos, shape_of, is_remote, spells_aside, said}
+use Rattle.journal_model.specs.declared.verdict.Why.TheVariants.{Error as ErrorAt, Version as VersionFault}
+use Rattle.journal_model.specs.declared.verdict.Verdict.{Verdict}
+use Rattle.journal_model.specs.declared.verdict.Verdict.TheVariants.{Unsent}
+use Rattle.annex_model.specs.Messages.{RemoteMessage, remote_reading}
+use Rattle.annex_model.specs.Talks.{Item, Shape, OneLine, Configs, Infos, is_remote, spells_aside, said}
 use Rattle.journal_model.specs.declared.entry.What.{What}
 use Rattle.journal_model.specs.declared.entry.What.TheVariants.{Ask, Put, Verdict as Settled}
 use Rattle.journal_model.specs.declared.entry.Entry.{Entry}
@@ -13,12 +13,12 @@ use Rattle.journal_model.specs.declared.opening.Opening.{Opening}
 use Rattle.journal_model.specs.Journal.{asks, each_of, writes, is_settled, open_jobs, is_unsent, has_spoken}
 use Rattle.journal_model.specs.Parts.{item_at}
 use Rattle.journal_model.specs.Room.{room_for}
-use Rattle.journal_model.specs.Due.{hearing_of, ending, ended_jobs, made_by, is_version_one, is_error, after_line}
+use Rattle.journal_model.specs.Due.{ending, ended_jobs, made_by, is_version_one, is_error, after_line}
 use Rattle.host_core.specs.declared.due.Due.{Due}
 use Rattle.host_core.specs.declared.due.Due.TheVariants.{Nothing, Settle, EndOf, EndedJobs, UnsentJobs}
 use Rattle.host_core.specs.declared.moves.Move.{Move}
 use Rattle.host_core.specs.declared.event.Reply.{Reply}
-use Rattle.host_core.specs.declared.event.Reply.TheVariants.{Wait, Line}
+use Rattle.host_core.specs.declared.event.Reply.TheVariants.{Line}
 use Rattle.host_core.specs.Steps.{Step}
 
 -- the verdicts of the open jobs whose requests were not written whole
@@ -58,9 +58,9 @@ abbrev pub is_written : ℕ → What → Bool
 is_written c w = is_some (writes c w)
 
 -- what is answered where this is the next line to write
-abbrev pub next_reply : Option (List ℕ) → Reply
-next_reply None = Wait
-next_reply (Some line) = Line line
+abbrev pub next_reply : Reply → Option (List ℕ) → Reply
+next_reply rest None = rest
+next_reply rest (Some line) = Line line
 
 abbrev pub first_text : List Item → Option (List ℕ)
 first_text [] = None
@@ -82,26 +82,6 @@ due_from o past c line to =
     else after_line o past c to.0 (remote_reading to.1)
 
 -- ---- the talk about an open job
-
--- the message asks something
-abbrev pub is_request : HostMessage → Bool
-is_request (Value value) = false
-is_request (Creds user password) = false
-is_request (HostError text) = false
-is_request q = true
-
--- the same is an answer to both
-abbrev pub HearsAlike : HostMessage → HostMessage → Type 0
-HearsAlike q p = (ms : List (Option RemoteMessage)) → hearing_of (Some q) ms ≡ hearing_of (Some p) ms
-
--- and the same begins one
-pub record Alike (q p : HostMessage) : Type 0 where
-  pub hears : HearsAlike q p
-  pub shape : shape_of q ≡ shape_of p
-
-abbrev pub AlikeTo : HostMessage → Option HostMessage → Type 0
-AlikeTo q None = ⊥
-AlikeTo q (Some p) = Alike q p
 
 -- answers of the shape have several lines
 abbrev pub takes_lines : Shape → Bool

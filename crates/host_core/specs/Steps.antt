@@ -1,23 +1,23 @@
 -- What one event appends to the journal, and what is answered.
-use Rattle.std.specs.Prelude.{ℕ, ◌⊎◌, ◌≡◌, ◌+◌, ◌==◌, ◌&&◌, ◌||◌, not, nat_lt, Bool, true, false, if◌then◌else◌, List, [], ◌∷◌, ◌++◌, length, Option, Some, None, filter, option_map}
+use Rattle.std.specs.Prelude.{ℕ, ◌⊎◌, ◌≡◌, ◌+◌, ◌==◌, ◌&&◌, ◌||◌, not, nat_lt, nat_le, Bool, true, false, if◌then◌else◌, List, [], ◌∷◌, ◌++◌, length, Option, Some, None, filter, option_map}
 use Rattle.std.specs.List.{list_any, list_all}
-use Rattle.annex_model.specs.declared.verdict.Why.{Why}
-use Rattle.annex_model.specs.declared.verdict.Why.TheVariants.{Full}
-use Rattle.annex_model.specs.declared.verdict.Verdict.{Verdict}
+use Rattle.journal_model.specs.declared.verdict.Why.{Why}
+use Rattle.journal_model.specs.declared.verdict.Why.TheVariants.{Full}
+use Rattle.journal_model.specs.declared.verdict.Verdict.{Verdict}
 use Rattle.annex_model.specs.Lines.{has_newline}
-use Rattle.annex_model.specs.Messages.{HostMessage, AskExtensions, Prepare, Initremote, Transfer, Checkpresent, Remove, Listconfigs, Getcost, Getavailability, Getinfo, Whereis, Value, Creds, HostError, host_line, is_sent_key, is_word}
+use Rattle.annex_model.specs.Messages.{HostMessage, host_line, is_askable}
 use Rattle.journal_model.specs.declared.entry.What.{What}
 use Rattle.journal_model.specs.declared.entry.What.TheVariants.{Claim, Start, NoStart, Ask, Sent, Mute, Got, End, Lost, Answer as Answered}
 use Rattle.journal_model.specs.declared.entry.Entry.{Entry}
 use Rattle.journal_model.specs.declared.opening.Opening.{Opening}
-use Rattle.journal_model.specs.Journal.{is_started, is_ended, is_mute, asked_jobs, verdict_of, unsent, is_full, on_wire, why_of, writes}
+use Rattle.journal_model.specs.Journal.{is_started, is_ended, is_mute, asked_jobs, open_jobs, has_spoken, verdict_of, unsent, is_full, on_wire, why_of, writes}
 use Rattle.journal_model.specs.Due.{due_after}
-use Rattle.journal_model.specs.Legality.{may_come, is_empty, count, is_start, is_claimed, numbers_of, least_free, is_prepared, is_in_turn, may_ask, may_stop, is_claimed_by, is_busy, has_open_job}
+use Rattle.journal_model.specs.Legality.{may_come, is_empty, count, is_start, is_claimed, numbers_of, least_free, is_prepared, is_in_turn, may_ask, may_stop, is_claimed_by, has_open_job, has_busy_task}
 use Rattle.talk_serial.specs.Requests.{message_of}
 use Rattle.host_core.specs.declared.event.Event.{Event}
-use Rattle.host_core.specs.declared.event.Event.TheVariants.{Claim as ClaimEvent, Start as StartEvent, NoStart as NoStartEvent, Ask as AskEvent, Lookup, Look, Fetch, Got as GotEvent, Stop, Sent as SentEvent, Mute as MuteEvent, Answer as AnswerEvent}
+use Rattle.host_core.specs.declared.event.Event.TheVariants.{Claim as ClaimEvent, Start as StartEvent, NoStart as NoStartEvent, Ask as AskEvent, Lookup, Look, Listen, Fetch, Got as GotEvent, Stop, Sent as SentEvent, Mute as MuteEvent, Answer as AnswerEvent, Shut}
 use Rattle.host_core.specs.declared.event.Reply.{Reply}
-use Rattle.host_core.specs.declared.event.Reply.TheVariants.{Task, Child, Job, Verdict as Settled, Line, Wait, NoTask, Gone, Over, Done, Odd}
+use Rattle.host_core.specs.declared.event.Reply.TheVariants.{Task, Child, Job, Verdict as Settled, Line, Read, Wait, NoTask, Gone, Over, Done, Odd}
 
 pub record Step : Type 0 where
   pub reply : Reply
@@ -52,23 +52,6 @@ gone past child = Gone (why_of past child)
 abbrev pub is_asked : List Entry → ℕ → ℕ → Bool
 is_asked past child job = list_any (λ k. k == job) (asked_jobs past child)
 
--- each field of the message is of its class
-abbrev pub is_askable : HostMessage → Bool
-is_askable (AskExtensions names) = true
-is_askable Prepare = true
-is_askable Initremote = true
-is_askable (Transfer store key file) = is_sent_key key
-is_askable (Checkpresent key) = is_sent_key key
-is_askable (Remove key) = is_sent_key key
-is_askable Listconfigs = true
-is_askable Getcost = true
-is_askable Getavailability = true
-is_askable Getinfo = true
-is_askable (Whereis key) = is_sent_key key
-is_askable (Value value) = true
-is_askable (Creds user password) = is_word user
-is_askable (HostError text) = true
-
 abbrev pub next_job : List Entry → ℕ → ℕ
 next_job past child = length (asked_jobs past child)
 
@@ -86,7 +69,7 @@ abbrev pub may_end : List Entry → ℕ → Why → Bool
 may_end past child why = not (is_full_why why) && may_stop past child why
 
 abbrev pub may_answer : List Entry → ℕ → ℕ → Bool
-may_answer past by task = is_claimed_by past by task && is_busy past task && not (has_open_job past task)
+may_answer past by task = is_claimed_by past by task && not (has_open_job past task)
 
 -- ---- memory
 
@@ -133,10 +116,29 @@ abbrev pub settled_so : Option Verdict → Reply
 settled_so (Some verdict) = Settled verdict
 settled_so None = Wait
 
--- the first of the lines that are to be written, with its byte 10
-abbrev pub next_line : List (Option ℕ × List ℕ) → Reply
-next_line [] = Wait
-next_line (w ∷ ws) = Line (w.1 ++ 10 ∷ [])
+-- a line of the child is due or may be: a job of it is open, or it has not said its version
+abbrev pub is_awaited : List Entry → ℕ → Bool
+is_awaited past child = not (is_empty (open_jobs past child)) || not (has_spoken past child)
+
+-- nothing more will be asked of the child: each task is claimed, and none is busy with it
+abbrev pub is_idle : Opening → List Entry → ℕ → Bool
+is_idle o past child = are_all_claimed o past && not (has_busy_task past child)
+
+-- what is to be done about the output of a child that hasn't ended
+abbrev pub listening : Opening → List Entry → ℕ → Reply
+listening o past child =
+    if is_awaited past child then Read
+    else if is_mute past child || is_idle o past child then Over
+    else Wait
+
+-- the same about its input, where no line is to be written
+abbrev pub resting : Opening → List Entry → ℕ → Reply
+resting o past child = if not (is_awaited past child) && is_idle o past child then Over else Wait
+
+-- the first of the lines that are to be written, with its byte 10, or else this reply
+abbrev pub next_line : Reply → List (Option ℕ × List ℕ) → Reply
+next_line rest [] = rest
+next_line rest (w ∷ ws) = Line (w.1 ++ 10 ∷ [])
 
 -- ---- the table of events
 
@@ -158,10 +160,14 @@ step_of o past by (Look child) =
     if not (is_started past child) then odd
     else if is_gone past child then only (gone past child)
     else only Done
+step_of o past by (Listen child) =
+    if not (is_started past child) then odd
+    else if is_ended past child then only Over
+    else only (listening o past child)
 step_of o past by (Fetch child) =
     if not (is_started past child) then odd
     else if is_gone past child then only Over
-    else only (next_line (unsent past child))
+    else only (next_line (resting o past child) (unsent past child))
 step_of o past by (GotEvent child line) =
     if not (is_started past child) || has_newline line then odd
     else if is_ended past child then only (gone past child)
@@ -175,6 +181,24 @@ step_of o past by (SentEvent child) = if is_empty (unsent past child) then odd e
 step_of o past by (MuteEvent child) =
     if is_started past child && not (is_mute past child) then append o past by (Mute child) Done else odd
 step_of o past by (AnswerEvent task answer) = if may_answer past by task then append o past by (Answered task answer) Done else odd
+step_of o past by (Shut on) = if nat_le by 1 then only Done else odd
+
+-- ---- a core that was shut: those that would wait for a child are told that it is over
+
+abbrev pub unless_shut : Bool → Reply → Reply
+unless_shut shut Wait = if shut then Over else Wait
+unless_shut shut reply = reply
+
+-- what is answered by a core that is shut or not
+abbrev pub told : Bool → Event → Reply → Reply
+told shut (Listen child) reply = unless_shut shut reply
+told shut (Fetch child) reply = unless_shut shut reply
+told shut _ reply = reply
+
+-- whether the core is shut behind the event
+abbrev pub shut_by : ℕ → Event → Bool → Bool
+shut_by by (Shut on) shut = if nat_le by 1 then on else shut
+shut_by by _ shut = shut
 
 -- the step appends nothing, or an entry that may come, with what it makes due
 abbrev pub Comes : Opening → List Entry → ℕ → Step → Type 0

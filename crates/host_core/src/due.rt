@@ -6,7 +6,8 @@ ghost use Rattle.wire_msg.specs.Shown.{remote_shown};
 ghost use Rattle.talk_serial.specs.Hearings.{heard_as};
 ghost use Rattle.journal_model.specs.Journal.{is_open, addressed};
 ghost use Rattle.journal_model.specs.Parts.{part};
-ghost use Rattle.journal_model.specs.Due.{Hearing, due_by_got, after_line, after_message, after_late, after_hearing, was_open, is_passed, foul, verdict_at, hearing};
+ghost use Rattle.journal_model.specs.Due.{due_by_got, after_line, after_message, after_late, after_hearing, was_open, is_passed, foul, verdict_at};
+ghost use Rattle.annex_model.specs.Hearings.{Hearing, hearing};
 ghost use Rattle.journal_model.specs.Legality.{Legal};
 ghost use Rattle.host_core.specs.Moves.{dues, first_due, error_due, due_from};
 

@@ -33,6 +33,10 @@ pub enum Event {
     Look {
         child: u32,
     },
+    /// Whether the child's output is to be read.
+    Listen {
+        child: u32,
+    },
     /// The next line for the child that was not written whole.
     Fetch {
         child: u32,
@@ -60,6 +64,10 @@ pub enum Event {
         task: u32,
         answer: Answer,
     },
+    /// Those that wait for a child are to stop, or to go on. The main thread may tell it.
+    Shut {
+        on: bool,
+    },
 }
 
 /// What the core answers.
@@ -75,13 +83,15 @@ pub enum Reply {
     Verdict(Verdict),
     /// This line is to be written to the child, with its byte 10.
     Line(Bytes),
+    /// The child's output is to be read.
+    Read,
     /// The job is open, each task that is left is in the way of a busy one, or no line is to be written.
     Wait,
     /// Each task is claimed.
     NoTask,
     /// The child ended so, or is mute where there is no reason.
     Gone { why: Option<Why> },
-    /// The child has ended or is mute, so that nothing is written to it.
+    /// The child has ended or is mute, or nothing more will be asked of it: nothing is to be read of it or written to it.
     Over,
     /// It is in the journal, or needn't be.
     Done,

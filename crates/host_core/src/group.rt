@@ -1,7 +1,7 @@
 // Appends a group within room that is kept for it.
 ghost use Rattle.std.specs.Prelude.{◌≡◌, ◌≤◌, ◌<◌, ◌+◌, ◌++◌, ◌∷◌, [], length, map, take, IfOk, IsOk, vec_capacity, Some, None};
 ghost use Rattle.std.specs.List.{cons_option};
-ghost use Rattle.annex_model.specs.declared.verdict.Verdict.TheVariants.{Ended, Unsent};
+ghost use Rattle.journal_model.specs.declared.verdict.Verdict.TheVariants.{Ended, Unsent};
 ghost use Rattle.journal_model.specs.declared.entry.What.TheVariants.{Verdict as Settled};
 ghost use Rattle.journal_model.specs.Due.{made_by, ended_jobs, ending};
 ghost use Rattle.host_core.specs.Moves.{dues, group_made, first_room, due_job, due_jobs, job_at, verdicts_of, unsent_verdicts};

@@ -9,6 +9,7 @@ pub mod laws;
 mod lines;
 mod machine;
 mod moves;
+mod shared;
 mod talks;
 mod tasks;
 

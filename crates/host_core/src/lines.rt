@@ -3,16 +3,17 @@ ghost use Rattle.std.specs.Prelude.{◌≡◌, ◌==◌, ◌≤◌, ◌++◌, �
 ghost use Rattle.std.specs.List.{list_any, slice_split};
 ghost use Rattle.annex_model.specs.Extensions.{names_of};
 ghost use Rattle.annex_model.specs.Lines.{has_newline};
-ghost use Rattle.annex_model.specs.Messages.{remote_reading, host_line, is_sent_key, is_space, IsAskable};
-ghost use Rattle.annex_model.specs.Tags.{names_async, untag};
+ghost use Rattle.annex_model.specs.Messages.{remote_reading, host_line, is_sent_key, is_space, IsAskable, is_askable};
+ghost use Rattle.annex_model.specs.Tags.{names_async, untag, without_tag};
 ghost use Rattle.journal_model.specs.Limits.{most_line_bytes};
-ghost use Rattle.journal_model.specs.Journal.{each_of, first_of, line_at, is_tagged, accepts_async, addressed, by_tag, on_wire, got_lines, sends, writes, unsent, is_unsent, is_job, got_from, line_bytes, bytes_in, is_full};
+ghost use Rattle.journal_model.specs.Journal.{any, each_of, first_of, line_at, is_tagged, accepts_async, addressed, by_tag, on_wire, got_lines, sends, writes, unsent, is_unsent, is_job, got_from, line_bytes, bytes_in, is_full};
 ghost use Rattle.journal_model.specs.Due.{is_version_one, is_error};
-ghost use Rattle.journal_model.specs.Legality.{said_version, is_prepared, is_greeted, is_in_turn, is_empty, may_ask, is_done, offered_names, is_text};
+ghost use Rattle.journal_model.specs.Legality.{said_version, asks_prepare, prepares, is_prepared, is_greeted, suits_child, is_in_turn, is_empty, may_ask, is_done, is_text};
 ghost use Rattle.talk_serial.specs.Requests.{message_of};
-ghost use Rattle.host_core.specs.Steps.{is_askable, may_request, next_job, written_to, got_line, next_line};
-ghost use Rattle.host_core.specs.Moves.{is_written, hosts_line, next_reply};
+ghost use Rattle.host_core.specs.Steps.{may_request, next_job, written_to, got_line, next_line};
+ghost use Rattle.host_core.specs.Moves.{is_written, hosts_line};
 
+use crate::event::Reply;
 use crate::talks::hosts_line;
 use crate::{children, tasks};
 use ann_key::{Bytes, Key, NoMemory};
@@ -20,7 +21,7 @@ use journal_model::{Entry, Verdict, What};
 use std::alloc::Global;
 use std::str;
 use talk_serial::Request;
-use wire_msg::{RemoteMsg, read_remote, tag, untag};
+use wire_msg::{HostMsg, RemoteMsg, read_host, read_remote, tag, untag};
 
 // A journal that has so many entries, or so many bytes in lines, is full.
 const MOST_ENTRIES: usize = 8_000_000;
@@ -214,11 +215,47 @@ fn is_done(verdict: Option<Verdict>) -> bool
     matches!(verdict, Some(Verdict::Done { .. }))
 }
 
-/// Whether the child's PREPARE is done.
+/// Whether the line asks to get ready, with a tag or without.
+fn asks_prepare(line: &[u8]) -> bool
+    ensures { result ≡ asks_prepare line.now }
+{
+    matches!(read_host(without_tag(line)), Some(HostMsg::Prepare))
+}
+
+fn without_tag(line: &[u8]) -> &[u8]
+    ensures { result.now ≡ without_tag line.now (untag line.now) }
+{
+    match untag(line) {
+        Some((_, text)) => text,
+        None => line,
+    }
+}
+
+fn prepares(what: &What, c: u32) -> bool
+    ensures { result ≡ prepares c what.now }
+{
+    match what {
+        What::Ask {
+            child,
+            job,
+            line,
+            ..
+        } => *child == c && *job == 1 && asks_prepare(line.view()),
+        _ => false,
+    }
+}
+
+fn is_to_prepare(entries: &[Entry], child: u32) -> bool
+    ensures { result ≡ any (prepares child) entries.now }
+{
+    entries.iter().any(|e| prepares(&e.what, child))
+}
+
+/// Whether the child's job 1 was to get ready, and is done.
 pub fn is_prepared(entries: &[Entry], child: u32) -> bool
     ensures { result ≡ is_prepared entries.now child }
 {
-    is_done(children::verdict_of(entries, child, 1))
+    is_done(children::verdict_of(entries, child, 1)) && is_to_prepare(entries, child)
 }
 
 /// Whether some request may be asked as this job of the child.
@@ -254,21 +291,24 @@ fn is_text(file: &[u8]) -> bool
     }
 }
 
-/// Whether the request is the one of its turn.
+/// Whether the request's names are those that the child is told, and its file is named by text on one line.
+fn suits_child(entries: &[Entry], child: u32, request: &Request) -> bool
+    ensures { result ≡ suits_child entries.now child (message_of request.now) }
+{
+    match request {
+        Request::Extensions { offer } => {
+            are_offered(*offer, children::is_offered(entries, child))
+        }
+        Request::Transfer { file, .. } => is_text(file.view().as_bytes()),
+        _ => true,
+    }
+}
+
+/// Whether the request may be asked as this job of the child.
 fn is_in_turn(entries: &[Entry], child: u32, job: u64, request: &Request) -> bool
     ensures { result ≡ is_in_turn entries.now child job (message_of request.now) }
 {
-    match request {
-        Request::Extensions { offer } => job == 0
-            && are_offered(*offer, children::is_offered(entries, child)),
-        Request::Prepare => job == 1,
-        Request::InitRemote => false,
-        Request::Transfer { file, .. } => 1 < job && is_text(file.view().as_bytes()),
-        Request::CheckPresent { .. } | Request::Remove { .. } | Request::WhereIs { .. } => 1 < job,
-        Request::ListConfigs | Request::GetCost | Request::GetAvailability | Request::GetInfo => {
-            1 < job
-        }
-    }
+    request.turn().is_at(job) && suits_child(entries, child, request)
 }
 
 fn has_space(bytes: &[u8]) -> bool
@@ -390,17 +430,18 @@ fn nth_written(entries: &[Entry], child: u32, n: usize) -> Option<&Entry>
     entries.iter().filter(|e| is_written(&e.what, child)).nth(n)
 }
 
-/// The first of the lines for the child that were not written whole, with its byte 10.
+/// The first of the lines for the child that were not written whole, with its byte 10, or else the other reply.
 pub(super) fn next_line(
     alloc: Global,
     entries: &[Entry],
     child: u32,
-) -> Result<Option<Bytes>, NoMemory>
-    ensures { IfOk result (λ line. next_reply line ≡ next_line (unsent entries.now child)) }
+    rest: Reply,
+) -> Result<Reply, NoMemory>
+    ensures { IfOk result (λ reply. reply ≡ next_line rest (unsent entries.now child)) }
 {
     match nth_written(entries, child, sents(entries, child)) {
-        Some(e) => Ok(Some(with_newline(alloc, hosts_line(&e.what))?)),
-        None => Ok(None),
+        Some(e) => Ok(Reply::Line(with_newline(alloc, hosts_line(&e.what))?)),
+        None => Ok(rest),
     }
 }
 

@@ -1,14 +1,15 @@
 // What each event appends, and what is answered, found before anything is changed.
-ghost use Rattle.std.specs.Prelude.{◌≡◌, ◌≤◌, length, IfOk, true, Some, None, IsOk};
-ghost use Rattle.annex_model.specs.Messages.{host_line};
+ghost use Rattle.std.specs.Prelude.{◌≡◌, ◌≤◌, length, IfOk, true, false, Some, None, IsOk, ℕ, Bool, if◌then◌else◌};
+ghost use Rattle.annex_model.specs.Messages.{host_line, is_askable};
 ghost use Rattle.journal_model.specs.Limits.{most_tasks};
 ghost use Rattle.journal_model.specs.Journal.{on_wire};
 ghost use Rattle.journal_model.specs.Legality.{Legal, least_free};
 ghost use Rattle.talk_serial.specs.Requests.{message_of};
-ghost use Rattle.host_core.specs.Steps.{takes_no_memory, step_of, claim, is_askable, is_gone, gone, may_end, may_answer};
+ghost use Rattle.host_core.specs.Steps.{takes_no_memory, step_of, claim, is_gone, gone, may_end, may_answer, told, unless_shut, shut_by, is_awaited, is_idle, listening, resting, next_line};
 ghost use Rattle.host_core.specs.Moves.{IsStep, first_room};
-ghost use Rattle.annex_model.specs.declared.verdict.Why.TheVariants.{Full};
+ghost use Rattle.journal_model.specs.declared.verdict.Why.TheVariants.{Full};
 ghost use Rattle.journal_model.specs.declared.entry.What.TheVariants.{End};
+ghost use Rattle.host_core.specs.declared.event.Reply.{Reply};
 ghost use Rattle.host_core.specs.declared.event.Reply.TheVariants.{Gone};
 ghost use Rattle.host_core.specs.declared.due.Due.TheVariants.{Nothing, EndedJobs};
 
@@ -193,6 +194,57 @@ fn look(opening: &Opening, entries: &[Entry], by: u32, child: u32) -> Move
     }
 }
 
+fn is_awaited(entries: &[Entry], child: u32) -> bool
+    ensures { result ≡ is_awaited entries.now child }
+{
+    !children::has_no_open_job(entries, child) || !children::has_spoken(entries, child)
+}
+
+fn is_idle(opening: &Opening, entries: &[Entry], child: u32) -> bool
+    requires { length opening.now.tasks ≤ most_tasks }
+    ensures { result ≡ is_idle opening.now entries.now child }
+{
+    tasks::are_all_claimed(opening, entries) && !tasks::has_busy_task(entries, child)
+}
+
+fn listening(opening: &Opening, entries: &[Entry], child: u32) -> Reply
+    requires { length opening.now.tasks ≤ most_tasks }
+    ensures { result ≡ listening opening.now entries.now child }
+{
+    if is_awaited(entries, child) {
+        Reply::Read
+    } else if children::is_mute(entries, child) || is_idle(opening, entries, child) {
+        Reply::Over
+    } else {
+        Reply::Wait
+    }
+}
+
+fn resting(opening: &Opening, entries: &[Entry], child: u32) -> Reply
+    requires { length opening.now.tasks ≤ most_tasks }
+    ensures { result ≡ resting opening.now entries.now child }
+{
+    if !is_awaited(entries, child) && is_idle(opening, entries, child) {
+        Reply::Over
+    } else {
+        Reply::Wait
+    }
+}
+
+fn listen(opening: &Opening, entries: &[Entry], by: u32, child: u32) -> Move
+    requires { length opening.now.tasks ≤ most_tasks }
+    ensures step { IsStep entries.now by (step_of opening.now entries.now by (Event.Listen child)) result }
+    ensures room { first_room result.what ≡ 0 }
+{
+    if !children::is_started(entries, child) {
+        return only(Reply::Odd);
+    }
+    if children::is_ended(entries, child) {
+        return only(Reply::Over);
+    }
+    only(listening(opening, entries, child))
+}
+
 fn fetch(
     alloc: Global,
     opening: &Opening,
@@ -200,6 +252,7 @@ fn fetch(
     by: u32,
     child: u32,
 ) -> Result<Move, NoMemory>
+    requires { length opening.now.tasks ≤ most_tasks }
     ensures { IfOk result (IsStep entries.now by (step_of opening.now entries.now by (Event.Fetch child))) }
 {
     if !children::is_started(entries, child) {
@@ -208,10 +261,9 @@ fn fetch(
     if is_gone(entries, child) {
         return Ok(only(Reply::Over));
     }
-    match lines::next_line(alloc, entries, child)? {
-        Some(line) => Ok(only(Reply::Line(line))),
-        None => Ok(only(Reply::Wait)),
-    }
+    let rest = resting(opening, entries, child);
+    let reply = lines::next_line(alloc, entries, child, rest)?;
+    Ok(only(reply))
 }
 
 /// The child's end at a full journal, in place of its line.
@@ -323,9 +375,7 @@ fn mute(opening: &Opening, entries: &[Entry], by: u32, child: u32) -> Move
 fn may_answer(entries: &[Entry], by: u32, task: u32) -> bool
     ensures { result ≡ may_answer entries.now by task }
 {
-    tasks::is_claimed_by(entries, by, task)
-        && tasks::is_busy(entries, task)
-        && !tasks::has_open_job(entries, task)
+    tasks::is_claimed_by(entries, by, task) && !tasks::has_open_job(entries, task)
 }
 
 fn answer_task(opening: &Opening, entries: &[Entry], by: u32, task: u32, answer: Answer) -> Move
@@ -336,6 +386,44 @@ fn answer_task(opening: &Opening, entries: &[Entry], by: u32, task: u32, answer:
         append(What::Answer { task, answer }, Reply::Done)
     } else {
         only(Reply::Odd)
+    }
+}
+
+fn shut(opening: &Opening, entries: &[Entry], by: u32, on: bool) -> Move
+    ensures step { IsStep entries.now by (step_of opening.now entries.now by (Event.Shut on)) result }
+    ensures room { first_room result.what ≡ 0 }
+{
+    if by <= 1 {
+        only(Reply::Done)
+    } else {
+        only(Reply::Odd)
+    }
+}
+
+/// Whether the core is shut behind the event.
+pub(super) fn shut_by(by: u32, event: &Event, shut: bool) -> bool
+    ensures { result ≡ shut_by by event.now shut }
+{
+    match event {
+        Event::Shut { on } => { if by <= 1 { *on } else { shut } }
+        _ => shut,
+    }
+}
+
+/// Whether the event asks what there is to do about a child.
+pub(super) fn is_waiting(event: &Event) -> bool
+    ensures { (shut : Bool) (reply : Reply) → told shut event.now reply ≡ (if result then unless_shut shut reply else reply) }
+{
+    matches!(event, Event::Listen { .. } | Event::Fetch { .. })
+}
+
+/// What is answered to it by a core that is shut or not.
+pub(super) fn told(waits: bool, shut: bool, reply: Reply) -> Reply
+    ensures { result ≡ (if waits then unless_shut shut reply else reply) }
+{
+    match reply {
+        Reply::Wait if waits && shut => Reply::Over,
+        _ => reply,
     }
 }
 
@@ -364,12 +452,14 @@ pub(super) fn move_of(
         } => ask(alloc, opening, entries, by, child, task, &request)?,
         Event::Lookup { child, job } => lookup(opening, entries, by, child, job),
         Event::Look { child } => look(opening, entries, by, child),
+        Event::Listen { child } => listen(opening, entries, by, child),
         Event::Fetch { child } => fetch(alloc, opening, entries, by, child)?,
         Event::Got { child, line } => got(alloc, opening, entries, by, child, line)?,
         Event::Stop { child, why } => stop(opening, entries, by, child, why),
         Event::Sent { child } => sent(opening, entries, by, child),
         Event::Mute { child } => mute(opening, entries, by, child),
         Event::Answer { task, answer } => answer_task(opening, entries, by, task, answer),
+        Event::Shut { on } => shut(opening, entries, by, on),
     };
     Ok(step)
 }

@@ -4,20 +4,20 @@ ghost use Rattle.std.specs.List.{prefix_len, cons_option};
 ghost use Rattle.annex_model.specs.Messages.{RemoteMessage, remote_reading};
 ghost use Rattle.annex_model.specs.Talks.{said, awaits, shape_of};
 ghost use Rattle.wire_msg.specs.Shown.{remote_shown, host_shown};
-ghost use Rattle.talk_serial.specs.Requests.{message_of};
+ghost use Rattle.talk_serial.specs.Requests.{message_of, is_request};
 ghost use Rattle.talk_serial.specs.Talked.{is_over};
 ghost use Rattle.talk_serial.specs.Hearings.{heard_as, Follows};
 ghost use Rattle.journal_model.specs.Journal.{is_open};
-ghost use Rattle.journal_model.specs.Parts.{part, request_in, item_of, item_at, ends_at, is_place};
-ghost use Rattle.journal_model.specs.Due.{hearing};
+ghost use Rattle.journal_model.specs.Parts.{part, item_of, item_at, ends_at, is_place};
+ghost use Rattle.annex_model.specs.Hearings.{request_in, hearing};
 ghost use Rattle.journal_model.specs.Legality.{Legal};
-ghost use Rattle.host_core.specs.Moves.{is_hosts, hosts_line, first_text, takes_lines, is_request, remote_text, said_by, Alike, AlikeTo};
+ghost use Rattle.host_core.specs.Moves.{is_hosts, hosts_line, first_text, takes_lines, remote_text, said_by};
 
 use crate::{children, lines};
-use ann_key::{Key, NoMemory, Text};
+use ann_key::NoMemory;
 use journal_model::{Entry, Opening, What, Why};
 use std::alloc::Global;
-use talk_serial::{Heard, Request, Talk, extension_names};
+use talk_serial::{Heard, Request, Talk};
 use wire_msg::{HostMsg, RemoteMsg, read_host, read_remote};
 
 /// Whether the line of the entry is the host's, in this job.
@@ -70,44 +70,14 @@ fn first_text(entries: &[Entry], child: u32, job: u64) -> Option<&[u8]>
     }
 }
 
-fn is_offer(names: &[u8]) -> bool {
-    names == extension_names(true)
-}
-
-/// A request to which the same is an answer as to the message, which asks one. No answer names a file.
-fn request_like(alloc: Global, message: &HostMsg<'_>) -> Result<Request, NoMemory>
+/// The request that asks the message.
+fn request_of(alloc: Global, message: &HostMsg<'_>) -> Result<Request, NoMemory>
     requires { is_request (host_shown message.now) ≡ true }
-    ensures { IfOk result (λ r. Alike (message_of r) (host_shown message.now)) }
+    ensures { IfOk result (λ r. message_of r ≡ host_shown message.now) }
 {
-    match message {
-        HostMsg::Extensions(names) => Ok(Request::Extensions {
-            offer: is_offer(names),
-        }),
-        HostMsg::Prepare => Ok(Request::Prepare),
-        HostMsg::Initremote => Ok(Request::InitRemote),
-        HostMsg::Transfer(store, key, _) => {
-            let store = *store;
-            let key = Key::copy(alloc, *key)?;
-            let file = Text::copy(alloc, "")?;
-            Ok(Request::Transfer { store, key, file })
-        }
-        HostMsg::Checkpresent(key) => {
-            let key = Key::copy(alloc, *key)?;
-            Ok(Request::CheckPresent { key })
-        }
-        HostMsg::Remove(key) => {
-            let key = Key::copy(alloc, *key)?;
-            Ok(Request::Remove { key })
-        }
-        HostMsg::Listconfigs => Ok(Request::ListConfigs),
-        HostMsg::Getcost => Ok(Request::GetCost),
-        HostMsg::Getavailability => Ok(Request::GetAvailability),
-        HostMsg::Getinfo => Ok(Request::GetInfo),
-        HostMsg::Whereis(key) => {
-            let key = Key::copy(alloc, *key)?;
-            Ok(Request::WhereIs { key })
-        }
-        HostMsg::Value(_) | HostMsg::Creds(_, _) | HostMsg::Error(_) => unreachable!(),
+    match Request::read(alloc, message)? {
+        Some(request) => Ok(request),
+        None => unreachable!(),
     }
 }
 
@@ -230,7 +200,7 @@ fn talk_of(
 ) -> Result<Talk, NoMemory>
     requires legal { Legal opening.now entries.now }
     requires open { is_open entries.now child job ≡ true }
-    ensures alike { IfOk result (λ t. AlikeTo (message_of t.request) (request_in (part entries.now child job))) }
+    ensures request { IfOk result (λ t. request_in (part entries.now child job) ≡ Some (message_of t.request)) }
     ensures open { IfOk result (λ t. is_over t ≡ false) }
     ensures follows { IfOk result (λ t. Follows t (said (part entries.now child job))) }
 {
@@ -240,7 +210,7 @@ fn talk_of(
     let Some(asked) = read_host(text) else {
         unreachable!()
     };
-    let request = request_like(alloc, &asked)?;
+    let request = request_of(alloc, &asked)?;
     if takes_lines(&asked) {
         Ok(replayed(entries, child, job, request))
     } else {

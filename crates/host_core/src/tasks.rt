@@ -3,11 +3,11 @@ ghost use Rattle.std.specs.Prelude.{◌≡◌, ◌≤◌, ◌^◌, ◌&&◌, ◌
 ghost use Rattle.std.specs.List.{list_any, list_all, range_with_len};
 ghost use Rattle.journal_model.specs.Limits.{most_tasks};
 ghost use Rattle.journal_model.specs.Journal.{each_of};
-ghost use Rattle.journal_model.specs.Legality.{claims, answers, is_claimed, is_busy, clashes, conflicts, task_of, both_conflict, numbers_of, is_free, least_free, claims_with, is_claimed_by, job_for, has_open_job, may_work, claimed_for, has_busy_task};
+ghost use Rattle.journal_model.specs.Legality.{claims, is_claimed, turned, holder, is_busy, clashes, conflicts, task_of, both_conflict, numbers_of, is_free, least_free, is_claimed_by, is_busy_with, job_for, has_open_job, may_work, claimed_for, has_busy_task};
 ghost use Rattle.host_core.specs.Steps.{are_all_claimed, unclaimed};
 
 use crate::children;
-use journal_model::{Entry, Opening, What};
+use journal_model::{Entry, Holder, Opening, What};
 use task_text::Task;
 
 fn claims(what: &What, t: u32) -> bool
@@ -19,32 +19,38 @@ fn claims(what: &What, t: u32) -> bool
     }
 }
 
-fn answers(what: &What, t: u32) -> bool
-    ensures { result ≡ answers t what.now }
-{
-    match what {
-        What::Answer { task, .. } => *task == t,
-        _ => false,
-    }
-}
-
 pub(super) fn is_claimed(entries: &[Entry], task: u32) -> bool
     ensures { result ≡ is_claimed entries.now task }
 {
     entries.iter().any(|e| claims(&e.what, task))
 }
 
-fn is_answered(entries: &[Entry], task: u32) -> bool
-    ensures { result ≡ list_any (λ e. answers task e.what) entries.now }
+/// What the entry makes of the task's holder.
+fn turned(held: Option<Holder>, entry: &Entry, t: u32) -> Option<Holder>
+    ensures { result ≡ turned t held entry.now }
 {
-    entries.iter().any(|e| answers(&e.what, task))
+    match &entry.what {
+        What::Claim { task, child } if *task == t => Some(Holder {
+            by: entry.by,
+            child: *child,
+        }),
+        What::Answer { task, .. } if *task == t => None,
+        _ => held,
+    }
 }
 
-/// Whether the task is claimed and not answered.
-pub(super) fn is_busy(entries: &[Entry], task: u32) -> bool
+/// Who holds the task.
+fn holder(entries: &[Entry], task: u32) -> Option<Holder>
+    ensures { result ≡ holder entries.now task }
+{
+    entries.iter().fold(None, |held, e| turned(held, e, task))
+}
+
+/// Whether someone holds the task.
+fn is_busy(entries: &[Entry], task: u32) -> bool
     ensures { result ≡ is_busy entries.now task }
 {
-    is_claimed(entries, task) && !is_answered(entries, task)
+    holder(entries, task).is_some()
 }
 
 fn same(one: &[u8], other: &[u8]) -> bool
@@ -144,26 +150,24 @@ pub(super) fn are_all_claimed(opening: &Opening, entries: &[Entry]) -> bool
     (1..task_count(opening) + 1).all(|task| is_claimed(entries, task))
 }
 
-fn claims_with(entry: &Entry, by: u32, t: u32, c: u32) -> bool
-    ensures { result ≡ claims_with by t c entry.now }
-{
-    match &entry.what {
-        What::Claim { task, child } => entry.by == by && *task == t && *child == c,
-        _ => false,
-    }
-}
-
-fn is_claimed_for(entries: &[Entry], by: u32, task: u32, child: u32) -> bool
-    ensures { result ≡ list_any (claims_with by task child) entries.now }
-{
-    entries.iter().any(|e| claims_with(e, by, task, child))
-}
-
-/// Whether the number has claimed the task.
+/// Whether the number holds the task.
 pub(super) fn is_claimed_by(entries: &[Entry], by: u32, task: u32) -> bool
     ensures { result ≡ is_claimed_by entries.now by task }
 {
-    entries.iter().any(|e| e.by == by && claims(&e.what, task))
+    match holder(entries, task) {
+        Some(holder) => holder.by == by,
+        None => false,
+    }
+}
+
+/// Whether the task is held for the child.
+fn is_busy_with(entries: &[Entry], child: u32, task: u32) -> bool
+    ensures { result ≡ is_busy_with entries.now child task }
+{
+    match holder(entries, task) {
+        Some(holder) => holder.child == child,
+        None => false,
+    }
 }
 
 /// The job that the entry asks for the task, and its child.
@@ -195,8 +199,8 @@ pub(super) fn may_work(entries: &[Entry], by: u32, task: u32, child: u32) -> boo
     ensures { result ≡ may_work entries.now by task child }
 {
     task == 0 && by == 0
-        || is_claimed_for(entries, by, task, child)
-            && is_busy(entries, task)
+        || is_claimed_by(entries, by, task)
+            && is_busy_with(entries, child, task)
             && !has_open_job(entries, task)
 }
 
@@ -216,7 +220,7 @@ pub(super) fn has_busy_task(entries: &[Entry], child: u32) -> bool
     entries
         .iter()
         .filter_map(|e| claimed_for(&e.what, child))
-        .any(|task| is_busy(entries, task))
+        .any(|task| is_busy_with(entries, child, task))
 }
 
 /// How many tasks are not claimed.

@@ -6,23 +6,23 @@ use Rattle.std.specs.Option.{option_or}
 use Rattle.std.proofs.lemmas.List.{map-append, take-map}
 use Rattle.std.proofs.Math.Seq.{take-suc}
 use Rattle.std.proofs.lemmas.List.Folds.{list_all-append}
-use Rattle.annex_model.specs.declared.verdict.Why.{Why}
-use Rattle.annex_model.specs.declared.verdict.Verdict.{Verdict}
-use Rattle.annex_model.specs.declared.verdict.Verdict.TheVariants.{Ended, Unsent}
-use Rattle.annex_model.specs.Messages.{HostMessage, Listconfigs, Getcost, Getavailability, Getinfo, Whereis, host_line}
+use Rattle.journal_model.specs.declared.verdict.Why.{Why}
+use Rattle.journal_model.specs.declared.verdict.Verdict.{Verdict}
+use Rattle.journal_model.specs.declared.verdict.Verdict.TheVariants.{Ended, Unsent}
+use Rattle.annex_model.specs.Messages.{HostMessage, Listconfigs, Getcost, Getavailability, Getinfo, Whereis, host_line, is_askable}
 use Rattle.journal_model.specs.declared.entry.What.{What}
 use Rattle.journal_model.specs.declared.entry.What.TheVariants.{Start, Ask, End, Lost}
 use Rattle.journal_model.specs.declared.entry.Entry.{Entry}
 use Rattle.journal_model.specs.declared.opening.Opening.{Opening}
 use Rattle.journal_model.specs.Journal.{any, each_of, starts, ends, mutes, end_why, offers, is_started, is_ended, is_mute, is_tagged, on_wire, open_jobs, asked_jobs, verdict_of, why_of}
-use Rattle.journal_model.specs.Legality.{Legal, is_prepared, is_done, is_empty, is_greeted, is_in_turn, may_work}
+use Rattle.journal_model.specs.Legality.{Legal, prepares, is_prepared, is_done, is_empty, is_greeted, is_in_turn, may_work}
 use Rattle.journal_model.specs.Projection.{final_in}
 use Rattle.journal_model.proofs.Looks.{both, same, any-append, each_of-append, verdict_of-append}
 use Rattle.journal_model.proofs.Linking.{why_is_end}
 use Rattle.journal_model.proofs.Verdicts.{ended_verdict, unsent_verdict}
 use Rattle.talk_serial.specs.declared.request.Request.{Request}
 use Rattle.talk_serial.specs.Requests.{message_of}
-use Rattle.host_core.specs.Steps.{group_of, is_askable, next_job, may_request}
+use Rattle.host_core.specs.Steps.{group_of, next_job, may_request}
 use Rattle.child_link.specs.Asks.{HasAsked, IsSettled, IsLost, lost_as}
 use Rattle.child_link.specs.Doors.{is_closed, is_of_link}
 use Rattle.child_start.specs.Greetings.{is_of_greeting, Greeted, IsReady}
@@ -117,11 +117,11 @@ may_begin journal c g r =
 -- ---- the next question may be asked
 
 in_turn : (past : List Entry) (c job : ℕ) (q : HostMessage) → is_question q ≡ true → nat_lt 1 job ≡ true → (is_in_turn past c job q ≡ true) × (is_askable q ≡ true)
-in_turn past c job Listconfigs h late = (late, refl)
-in_turn past c job Getcost h late = (late, refl)
-in_turn past c job Getavailability h late = (late, refl)
-in_turn past c job Getinfo h late = (late, refl)
-in_turn past c job (Whereis key) h late = (late, h)
+in_turn past c job Listconfigs h late = (rw late refl, refl)
+in_turn past c job Getcost h late = (rw late refl, refl)
+in_turn past c job Getavailability h late = (rw late refl, refl)
+in_turn past c job Getinfo h late = (rw late refl, refl)
+in_turn past c job (Whereis key) h late = (rw late refl, h)
 in_turn past c job q h late = absurd cc
 
 late : (n : ℕ) → nat_lt 1 (n + 2) ≡ true
@@ -177,7 +177,11 @@ all_answered_on old more c (q ∷ qs) j h =
     rw (answered_on old more c j t.0, all_answered_on old more c qs (j + 1) t.1) refl
 
 prepared_on : (old more : List Entry) (c : ℕ) → is_prepared old c ≡ true → is_prepared (old ++ more) c ≡ true
-prepared_on old more c h = ap is_done (verdict_of-append c 1 old more) ∙ go (verdict_of old c 1) h
+prepared_on old more c h =
+    let t = both (is_done (verdict_of old c 1)) (any (prepares c) old) h in
+    let done : is_done (verdict_of (old ++ more) c 1) ≡ true = ap is_done (verdict_of-append c 1 old more) ∙ go (verdict_of old c 1) t.0 in
+    let asked : any (prepares c) (old ++ more) ≡ true = any-append (prepares c) old more ∙ ap (λ (b : Bool). b || any (prepares c) more) t.1 in
+    rw (done, asked) refl
   where
     go : (v : Option Verdict) → is_done v ≡ true → is_done (option_or v (verdict_of more c 1)) ≡ true
     go (Some v) h = h

@@ -2,8 +2,8 @@
 use Rattle.std.proofs.Common.{◌≡◌, ◌∙◌, ℕ, suc, ◌+◌, ◌<◌, List, [], ◌∷◌, ◌++◌, refl, sym, ap, Bool, true, false, cond, Option, Some, None, append_assoc, append-nil, length, take, drop, get_or, arith, drop-cons}
 use Rattle.std.specs.Prelude.{codes, is_some, map}
 use Rattle.std.specs.List.{cons_option}
-use Rattle.annex_model.specs.declared.verdict.Verdict.{Verdict}
-use Rattle.annex_model.specs.declared.verdict.Verdict.TheVariants.{Ended, Unsent}
+use Rattle.journal_model.specs.declared.verdict.Verdict.{Verdict}
+use Rattle.journal_model.specs.declared.verdict.Verdict.TheVariants.{Ended, Unsent}
 use Rattle.annex_model.specs.Lines.{text}
 use Rattle.annex_model.specs.Messages.{RemoteMessage, HostMessage}
 use Rattle.annex_model.specs.Talks.{said}

@@ -2,11 +2,11 @@
 -- https://git-annex.branchable.com/design/external_special_remote_protocol/
 use Rattle.std.specs.Prelude.{ℕ, ◌+◌, ◌==◌, ◌&&◌, Bool, true, false, if◌then◌else◌, List, [], ◌∷◌, ◌++◌, map, Option, Some, None, codes, decimal, is_some}
 use Rattle.std.specs.List.{cons_option}
-use Rattle.annex_model.specs.declared.verdict.Why.{Why}
-use Rattle.annex_model.specs.declared.verdict.Why.TheVariants.{Closed}
-use Rattle.annex_model.specs.declared.verdict.Verdict.{Verdict}
-use Rattle.annex_model.specs.declared.verdict.Verdict.TheVariants.{Ended}
-use Rattle.annex_model.specs.declared.verdict.Final.{Final}
+use Rattle.journal_model.specs.declared.verdict.Why.{Why}
+use Rattle.journal_model.specs.declared.verdict.Why.TheVariants.{Closed}
+use Rattle.journal_model.specs.declared.verdict.Verdict.{Verdict}
+use Rattle.journal_model.specs.declared.verdict.Verdict.TheVariants.{Ended}
+use Rattle.annex_model.specs.declared.final_line.Final.{Final}
 use Rattle.annex_model.specs.Messages.{RemoteMessage, UnsupportedRequest, Config, Cost, Availability, Infofield, Infovalue, WhereisSuccess, WhereisFailure, HostMessage, Listconfigs, Getcost, Getavailability, Getinfo, Whereis}
 use Rattle.annex_model.specs.Talks.{said}
 use Rattle.journal_model.specs.declared.entry.What.{What}

@@ -1,7 +1,7 @@
 -- Worked journals: one child that is asked about itself.
 use Rattle.std.specs.Prelude.{List, [], ◌∷◌, ◌++◌, codes}
-use Rattle.annex_model.specs.declared.verdict.Why.TheVariants.{Eof, Foul}
-use Rattle.annex_model.specs.declared.verdict.Verdict.TheVariants.{Done, Unsupported, Ended}
+use Rattle.journal_model.specs.declared.verdict.Why.TheVariants.{Eof, Foul}
+use Rattle.journal_model.specs.declared.verdict.Verdict.TheVariants.{Done, Unsupported, Ended}
 use Rattle.journal_model.specs.declared.entry.What.TheVariants.{NoStart, Ask, Sent, Got, End, Verdict as Settled, Lost}
 use Rattle.journal_model.specs.declared.entry.Entry.{Entry}
 use Rattle.journal_model.specs.Rows.{by_main, greeting}
@@ -32,10 +32,11 @@ foul_cost =
 abbrev pub lost_cost : List Entry
 lost_cost = greeting ++ configs ++ by_main (End 1 Eof) ∷ by_main (Lost 1 0) ∷ []
 
--- the verdicts of a child that knows no request but the first. The lines that gave them are left out
+-- a child was asked to get ready, and knows no request but the first: the verdicts. The lines that gave them are left out
 abbrev pub answered : List Entry
 answered =
-    by_main (Settled 1 1 (Done 8))
+    by_main (Ask 1 1 0 (codes "PREPARE"))
+    ∷ by_main (Settled 1 1 (Done 8))
     ∷ by_main (Settled 1 2 (Done 13))
     ∷ by_main (Settled 1 3 (Unsupported 17))
     ∷ by_main (Settled 1 4 (Unsupported 21))

@@ -1,6 +1,6 @@
 -- What telling some of an answer adds to what is printed.
 use Rattle.std.specs.Prelude.{ℕ, ◌≡◌, ◌+◌, ◌++◌, Bool, if◌then◌else◌, List, [], ◌∷◌, Option, codes, take, slice_get, option_and_then}
-use Rattle.annex_model.specs.declared.verdict.Verdict.{Verdict}
+use Rattle.journal_model.specs.declared.verdict.Verdict.{Verdict}
 use Rattle.annex_model.specs.Lines.{text}
 use Rattle.annex_model.specs.Messages.{RemoteMessage, HostMessage}
 use Rattle.journal_model.specs.declared.entry.Entry.{Entry}

@@ -5,9 +5,8 @@ ghost use Rattle.journal_model.specs.Projection.{final_in};
 ghost use Rattle.info_run.specs.Infos.{is_informed, is_answered};
 
 use ann_key::KeyRef;
-use annex_model::Verdict;
 use host_core::{is_prepared, verdict_of};
-use journal_model::Entry;
+use journal_model::{Entry, Verdict};
 
 /// Whether a line of the child gave the verdict.
 pub(super) fn is_final(verdict: Verdict) -> bool

@@ -18,9 +18,8 @@ use crate::questions::questions;
 use crate::telling::InfoText;
 use crate::words::{text_at, why_words};
 use ann_key::{Bytes, KeyRef, NoMemory};
-use annex_model::{Verdict, Why};
 use host_core::{is_mute, is_prepared, is_started, said_at, verdict_of, why_of};
-use journal_model::{Entry, What};
+use journal_model::{Entry, Verdict, What, Why};
 use std::alloc::Global;
 use wire_msg::HostMsg;
 

@@ -1,12 +1,11 @@
 // The words for a child that failed.
 ghost use Rattle.std.specs.Prelude.{◌≡◌, ◌++◌};
 ghost use Rattle.annex_model.specs.Messages.{remote_reading};
-ghost use Rattle.annex_model.specs.Tags.{untag};
-ghost use Rattle.journal_model.specs.Output.{without_tag, text_of_reading, text_at, why_words};
+ghost use Rattle.annex_model.specs.Tags.{untag, without_tag};
+ghost use Rattle.journal_model.specs.Output.{text_of_reading, text_at, why_words};
 
-use annex_model::Why;
 use host_core::line_at;
-use journal_model::Entry;
+use journal_model::{Entry, Why};
 use wire_msg::{read_remote, text_of, untag};
 
 /// Words that are always the same, and those of the child behind them.

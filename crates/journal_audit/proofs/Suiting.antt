@@ -1,27 +1,25 @@
 -- The event that is made for a claim, a request or a line appends it, if it may come. The other kinds need no lemma.
 use Rattle.std.proofs.Common.{◌≡◌, ℕ, List, refl, sym, ap, subst, ◌∙◌, Bool, true, false, cond, not, Option, Some, None}
-use Rattle.std.specs.Prelude.{◌&&◌, ◌||◌, ◌==◌, nat_lt, bytes_eq, codes}
-use Rattle.std.specs.Str.{IsUtf8, is_utf8}
+use Rattle.std.specs.Prelude.{◌&&◌, ◌||◌, ◌==◌, IfSome, IsNone, bytes_eq}
 use Rattle.std.proofs.lemmas.Slice.Eq.{bytes_eq-Decides}
-use Rattle.std.proofs.lemmas.Str.{IsUtf8-from_is_utf8}
 use Rattle.annex_model.specs.Lines.{has_newline}
-use Rattle.annex_model.specs.Messages.{HostMessage, AskExtensions, Transfer, Checkpresent, Remove, Whereis, Creds, host_line, host_reading, IsAskable}
+use Rattle.annex_model.specs.Messages.{HostMessage, host_line, host_reading, is_askable}
 use Rattle.journal_model.specs.declared.entry.What.{What}
 use Rattle.journal_model.specs.declared.entry.What.TheVariants.{Claim, Ask, Got, Lost}
 use Rattle.journal_model.specs.declared.entry.Entry.{Entry}
 use Rattle.journal_model.specs.declared.opening.Opening.{Opening}
-use Rattle.journal_model.specs.Journal.{any, offers, is_started, is_ended, is_mute, is_live, is_full, addressed, on_wire}
-use Rattle.journal_model.specs.Legality.{least_free, is_prepared, is_in_turn, may_ask, may_come, is_number, asks_in_turn, offered_names}
+use Rattle.journal_model.specs.Journal.{is_started, is_ended, is_mute, is_live, is_full, addressed, on_wire}
+use Rattle.journal_model.specs.Legality.{least_free, is_prepared, is_in_turn, may_ask, may_come, is_number, asks_in_turn}
 use Rattle.journal_model.proofs.Looks.{same_number, both}
+use Rattle.annex_model.proofs.Classes.{askable_test}
 use Rattle.journal_model.proofs.Asking.{read_askable}
+use Rattle.host_core.proofs.Opened.{turn_asks}
 use Rattle.talk_serial.specs.declared.request.Request.{Request}
-use Rattle.talk_serial.specs.declared.request.Request.TheVariants.{Extensions}
-use Rattle.annex_model.specs.Extensions.{names_of}
-use Rattle.talk_serial.specs.Requests.{message_of}
+use Rattle.talk_serial.specs.Requests.{message_of, is_request}
 use Rattle.host_core.specs.declared.event.Event.TheVariants.{Claim as ClaimEvent, Ask as AskEvent, Got as GotEvent}
 use Rattle.host_core.specs.declared.event.Reply.TheVariants.{Job}
-use Rattle.host_core.specs.Steps.{step_of, group_of, append, odd, gone, next_job, may_request, is_askable}
-use Rattle.journal_audit.specs.Replays.{Suits, IsRequestOf, MayBeNext}
+use Rattle.host_core.specs.Steps.{step_of, group_of, append, odd, gone, next_job, may_request}
+use Rattle.journal_audit.specs.Replays.{Suits, MayBeNext}
 
 is_not : (b : Bool) → not b ≡ true → b ≡ false
 is_not true h = absurd cc
@@ -58,35 +56,12 @@ suits_claim o past w task child is = subst (λ (v : What). Suits o past v (Some 
 
 -- ---- a request
 
--- the names of a message in its turn are those of the request that offers so
-pub offered : (names : List ℕ) (b : Bool) → b ≡ bytes_eq names (names_of true) → IsRequestOf (AskExtensions names) (Extensions b)
-offered names b is = λ past c job turn. (
-    let t = both (job == 0) (bytes_eq names (offered_names past c)) turn in
-    go (any (offers c) past) ((bytes_eq-Decides names (offered_names past c)).0 t.1))
-  where
-    told : (b : Bool) (a : Bool) → names ≡ names_of a
-        → b ≡ bytes_eq (names_of a) (names_of true) → names_of b ≡ names
-    told true true e h = sym e
-    told true false e h = absurd cc
-    told false true e h = absurd cc
-    told false false e h = sym e
+-- what was read asks the message, or no request does
+pub read_asks : (o : Option Request) (r : Request) (m : HostMessage) → IfSome o (λ x. message_of x ≡ m) → o ≡ Some r → message_of r ≡ m
+read_asks o r m asks is = subst (λ (x : Option Request). IfSome x (λ y. message_of y ≡ m)) is asks
 
-    go : (a : Bool) → names ≡ names_of a → AskExtensions (names_of b) ≡ AskExtensions names
-    go a e = ap AskExtensions (told b a e (is ∙ ap (λ (ns : List ℕ). bytes_eq ns (names_of true)) e))
-
--- no job asks to transfer a file whose name is no text
-pub no_text : (store : Bool) (key file : List ℕ) (r : Request) → (IsUtf8 file → ⊥) → IsRequestOf (Transfer store key file) r
-no_text store key file r bad = λ past c job turn. (
-    let t = both (nat_lt 1 job) (is_utf8 file && not (has_newline file)) turn in
-    absurd (bad (IsUtf8-from_is_utf8 file (both (is_utf8 file) (not (has_newline file)) t.1).0)))
-
-askable : (m : HostMessage) → IsAskable m → is_askable m ≡ true
-askable (Transfer store key file) h = h.1.0
-askable (Checkpresent key) h = h
-askable (Remove key) h = h
-askable (Whereis key) h = h
-askable (Creds user password) h = h.0
-askable m h = refl
+pub read_none : (o : Option Request) (m : HostMessage) → (IsNone o → is_request m ≡ false) → o ≡ None → is_request m ≡ false
+read_none o m none is = none (subst (λ (x : Option Request). IsNone x) (sym is) refl)
 
 -- the line of a request that may be asked is what the event writes
 asks_so : (o : Opening) (past : List Entry) (by child job task : ℕ) (line : List ℕ) (m : HostMessage) (r : Request)
@@ -99,7 +74,7 @@ asks_so o past by child job task line m r is reads s e mute j turn may =
     let wired : line ≡ on_wire past child job (host_line m) = (bytes_eq-Decides line (on_wire past child job (host_line m))).0 t.1 in
     let turned : is_in_turn past child (next_job past child) m ≡ true = ap (λ (k : ℕ). is_in_turn past child k m) (sym j) ∙ t.0 in
     let request : (is_started past child && may_ask past by task child && is_in_turn past child (next_job past child) m && is_askable m) ≡ true =
-    rw (s, may, turned, askable m (read_askable m (addressed past child line).1 reads)) refl in
+    rw (s, may, turned, askable_test m (read_askable m (addressed past child line).1 reads)) refl in
     let written : on_wire past child (next_job past child) (host_line m) ≡ line = ap (λ (k : ℕ). on_wire past child k (host_line m)) (sym j) ∙ sym wired in
     let P : HostMessage → Type 0 = λ n. (step_of o past by (AskEvent child task r)).group
     ≡ (cond (may_request past by task child n) (cond (is_ended past child || is_mute past child) (append o past by (Lost child task) (gone past child))
@@ -108,7 +83,7 @@ asks_so o past by child job task line m r is reads s e mute j turn may =
     stepped ∙ (rw (request, e, mute, written, sym j) refl)
 
 pub suits_ask : (o : Opening) (past : List Entry) (child job task : ℕ) (line text : List ℕ) (m : HostMessage) (r : Request)
-    → text ≡ (addressed past child line).1 → Some m ≡ host_reading text → IsRequestOf m r
+    → text ≡ (addressed past child line).1 → Some m ≡ host_reading text → message_of r ≡ m
     → Suits o past (Ask child job task line) (Some (AskEvent child task r))
 suits_ask o past child job task line text m r plain reading request = λ by h. go by h
   where
@@ -124,8 +99,12 @@ suits_ask o past child job task line text m r plain reading request = λ by h. g
         let e = both (is_live past child) (not (is_mute past child)) d.0 in
         let l = live past child e.0 in
         let turn : asks_in_turn past child job line (Some m) ≡ true = sym (ap (asks_in_turn past child job line) reads) ∙ b.1 in
-        let t = both (is_in_turn past child job m) (bytes_eq line (on_wire past child job (host_line m))) turn in
-        asks_so o past by child job task line m r (request past child job t.0) reads l.0 l.1 (is_not (is_mute past child) e.1) (same_number job (next_job past child) d.1) turn a.1
+        asks_so o past by child job task line m r request reads l.0 l.1 (is_not (is_mute past child) e.1) (same_number job (next_job past child) d.1) turn a.1
+
+off : (a b d : Bool) → b ≡ false → (a && b && d) ≡ false
+off true true d h = absurd cc
+off true false d h = refl
+off false b d h = refl
 
 -- a line that is no request's may not be asked
 pub suits_unread : (o : Opening) (past : List Entry) (child job task : ℕ) (line text : List ℕ)
@@ -134,11 +113,19 @@ suits_unread o past child job task line text plain reading = λ by. (
     let reads : host_reading (addressed past child line).1 ≡ None = ap host_reading (sym plain) ∙ sym reading in
     let no : asks_in_turn past child job line (host_reading (addressed past child line).1) ≡ false = ap (asks_in_turn past child job line) reads in
     off (is_live past child && not (is_mute past child) && job == next_job past child) (asks_in_turn past child job line (host_reading (addressed past child line).1)) (may_ask past by task child) no)
+
+-- nor may one whose message is no request's
+pub suits_none : (o : Opening) (past : List Entry) (child job task : ℕ) (line text : List ℕ) (m : HostMessage)
+    → text ≡ (addressed past child line).1 → Some m ≡ host_reading text → is_request m ≡ false → Suits o past (Ask child job task line) None
+suits_none o past child job task line text m plain reading none = λ by. (
+    let reads : host_reading (addressed past child line).1 ≡ Some m = ap host_reading (sym plain) ∙ sym reading in
+    let no : asks_in_turn past child job line (host_reading (addressed past child line).1) ≡ false =
+    ap (asks_in_turn past child job line) reads ∙ ap (λ (b : Bool). b && bytes_eq line (on_wire past child job (host_line m))) (turn (is_in_turn past child job m) refl) in
+    off (is_live past child && not (is_mute past child) && job == next_job past child) (asks_in_turn past child job line (host_reading (addressed past child line).1)) (may_ask past by task child) no)
   where
-    off : (a b d : Bool) → b ≡ false → (a && b && d) ≡ false
-    off true true d h = absurd cc
-    off true false d h = refl
-    off false b d h = refl
+    turn : (b : Bool) → is_in_turn past child job m ≡ b → is_in_turn past child job m ≡ false
+    turn true e = absurd (let bad : true ≡ false = sym (turn_asks past child job m e) ∙ none in cc)
+    turn false e = e
 
 pub suits_lost : (o : Opening) (past : List Entry) (child task : ℕ) (r : Request) → MayBeNext past child r → Suits o past (Lost child task) (Some (AskEvent child task r))
 suits_lost o past child task r next = λ by h. (

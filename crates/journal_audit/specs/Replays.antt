@@ -1,6 +1,6 @@
 -- Words for the audit's code: the event for an entry, and a core that makes the journal again.
 use Rattle.std.specs.Prelude.{ℕ, ◌≡◌, ◌⊎◌, Bool, true, false, List, [], ◌∷◌, ◌++◌, Option, Some, None}
-use Rattle.annex_model.specs.Messages.{HostMessage}
+use Rattle.annex_model.specs.Messages.{is_askable}
 use Rattle.talk_serial.specs.declared.request.Request.{Request}
 use Rattle.talk_serial.specs.Requests.{message_of}
 use Rattle.journal_model.specs.declared.entry.What.{What}
@@ -8,11 +8,7 @@ use Rattle.journal_model.specs.declared.entry.Entry.{Entry}
 use Rattle.journal_model.specs.declared.opening.Opening.{Opening}
 use Rattle.journal_model.specs.Legality.{may_come, is_in_turn, StandsFrom, MayStand, owed_after}
 use Rattle.host_core.specs.declared.event.Event.{Event}
-use Rattle.host_core.specs.Steps.{step_of, group_of, is_askable, next_job}
-
--- the request asks the message, if some job may ask that
-abbrev pub IsRequestOf : HostMessage → Request → Type 0
-IsRequestOf m r = (past : List Entry) (c job : ℕ) → is_in_turn past c job m ≡ true → message_of r ≡ m
+use Rattle.host_core.specs.Steps.{step_of, group_of, next_job}
 
 -- the request is the one of its turn, as the next job of c
 abbrev pub MayBeNext : List Entry → ℕ → Request → Type 0

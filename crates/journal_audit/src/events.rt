@@ -7,6 +7,7 @@ use ann_key::{Bytes, NoMemory};
 use host_core::{Core, Event};
 use journal_model::{What, Why};
 use std::alloc::Global;
+use talk_serial::Request;
 use wire_msg::read_host;
 
 fn ask_event(
@@ -21,12 +22,15 @@ fn ask_event(
     let Some(message) = read_host(requests::text_of(core, child, line)) else {
         return Ok(None);
     };
-    let request = requests::request_of(alloc, &message)?;
-    Ok(Some(Event::Ask {
-        child,
-        task,
-        request,
-    }))
+    let asked = Request::read(alloc, &message)?;
+    match asked {
+        Some(request) => Ok(Some(Event::Ask {
+            child,
+            task,
+            request,
+        })),
+        None => Ok(None),
+    }
 }
 
 fn lost_event(alloc: Global, core: &Core, child: u32, task: u32) -> Result<Option<Event>, NoMemory>

@@ -1,22 +1,16 @@
-// The request that an entry's line asks, and one that may be asked next.
-ghost use Rattle.std.specs.Prelude.{◌≡◌, true, IfOk, bytes_eq, length};
-ghost use Rattle.annex_model.specs.Extensions.{names_of};
-ghost use Rattle.annex_model.specs.Messages.{is_sent_key, Transfer};
-ghost use Rattle.wire_msg.specs.Shown.{host_shown};
-ghost use Rattle.talk_serial.specs.Requests.{message_of};
+// The text of an entry's line, and a request that may be asked next.
+ghost use Rattle.std.specs.Prelude.{◌≡◌, true, IfOk, length};
+ghost use Rattle.annex_model.specs.Messages.{is_sent_key};
 ghost use Rattle.journal_model.specs.Journal.{any, asks, asked_jobs, offers, addressed};
-ghost use Rattle.journal_model.specs.Legality.{is_in_turn};
-ghost use Rattle.host_core.specs.Steps.{is_askable, next_job};
-ghost use Rattle.ann_key.specs.KeyRefs.{text_of};
-ghost use Rattle.journal_audit.specs.Replays.{IsRequestOf, MayBeNext};
+ghost use Rattle.host_core.specs.Steps.{next_job};
+ghost use Rattle.journal_audit.specs.Replays.{MayBeNext};
 
-use ann_key::{Key, KeyRef, NoMemory, Text};
+use ann_key::{Key, KeyRef, NoMemory};
 use host_core::Core;
 use journal_model::{Entry, What};
 use std::alloc::Global;
-use std::str;
-use talk_serial::{Request, extension_names};
-use wire_msg::{HostMsg, untag};
+use talk_serial::Request;
+use wire_msg::untag;
 
 /// The text of a line of the child, without its tag.
 pub(super) fn text_of<'a>(core: &Core, child: u32, line: &'a [u8]) -> &'a [u8]
@@ -28,60 +22,6 @@ pub(super) fn text_of<'a>(core: &Core, child: u32, line: &'a [u8]) -> &'a [u8]
     match untag(line) {
         Some((_, text)) => text,
         None => line,
-    }
-}
-
-fn is_offer(names: &[u8]) -> bool
-    ensures { result ≡ bytes_eq names.now (names_of true) }
-{
-    names == extension_names(true)
-}
-
-// A file whose name is no text is asked for by no job.
-fn transfer(alloc: Global, store: bool, key: KeyRef<'_>, file: &[u8]) -> Result<Request, NoMemory>
-    ensures { IfOk result (IsRequestOf (Transfer store (text_of key.entry) file.now)) }
-{
-    match str::from_utf8(file) {
-        Ok(file) => {
-            let key = Key::copy(alloc, key)?;
-            let file = Text::copy(alloc, file)?;
-            Ok(Request::Transfer { store, key, file })
-        }
-        Err(_) => Ok(Request::Prepare),
-    }
-}
-
-/// The request that asks the message, where a job may ask it, and else any.
-#[tactic(auto, using(crate::proofs::Suiting::offered))]
-pub(super) fn request_of(alloc: Global, message: &HostMsg<'_>) -> Result<Request, NoMemory>
-    ensures { IfOk result (IsRequestOf (host_shown message.now)) }
-{
-    match message {
-        HostMsg::Extensions(names) => Ok(Request::Extensions {
-            offer: is_offer(names),
-        }),
-        HostMsg::Transfer(store, key, file) => transfer(alloc, *store, *key, file),
-        HostMsg::Checkpresent(key) => {
-            let key = Key::copy(alloc, *key)?;
-            Ok(Request::CheckPresent { key })
-        }
-        HostMsg::Remove(key) => {
-            let key = Key::copy(alloc, *key)?;
-            Ok(Request::Remove { key })
-        }
-        HostMsg::Whereis(key) => {
-            let key = Key::copy(alloc, *key)?;
-            Ok(Request::WhereIs { key })
-        }
-        HostMsg::Listconfigs => Ok(Request::ListConfigs),
-        HostMsg::Getcost => Ok(Request::GetCost),
-        HostMsg::Getavailability => Ok(Request::GetAvailability),
-        HostMsg::Getinfo => Ok(Request::GetInfo),
-        HostMsg::Prepare
-        | HostMsg::Initremote
-        | HostMsg::Value(_)
-        | HostMsg::Creds(_, _)
-        | HostMsg::Error(_) => Ok(Request::Prepare),
     }
 }
 

@@ -5,9 +5,9 @@ use Rattle.std.specs.List.{list_any, cons_option}
 use Rattle.std.specs.Option.{option_or}
 use Rattle.std.proofs.lemmas.List.{append-nil}
 use Rattle.std.proofs.lemmas.List.Folds.{list_any-append}
-use Rattle.annex_model.specs.declared.verdict.Why.{Why}
-use Rattle.annex_model.specs.declared.verdict.Verdict.{Verdict}
-use Rattle.annex_model.specs.declared.verdict.Verdict.TheVariants.{Ended, Unsent}
+use Rattle.journal_model.specs.declared.verdict.Why.{Why}
+use Rattle.journal_model.specs.declared.verdict.Verdict.{Verdict}
+use Rattle.journal_model.specs.declared.verdict.Verdict.TheVariants.{Ended, Unsent}
 use Rattle.annex_model.specs.Messages.{HostMessage, host_line, host_reading}
 use Rattle.annex_model.specs.Talks.{Item, Host, Talking, Shape, OneLine, Configs, Infos, shape_of, may_go_on}
 use Rattle.annex_model.proofs.Fronts.{front_of}
@@ -206,7 +206,7 @@ alone_fits at text q reads written =
     let part : List Item = record { side = Host; at = at; text = text } ∷ [] in
     let askable = read_askable q text reads in
     let talking : Talking none q part = record { replied = ap (λ (x : List ℕ). (Host, x) ∷ []) written; waits = waits_first (shape_of q) } in
-    (q, reads, askable, record { talking = talking; front = front_of none q part askable talking })
+    (q, reads, askable, record { talking = talking; front = front_of none q part talking })
 
 pub ask_inv : (o : Opening) (past : List Entry) (by child job task : ℕ) (line : List ℕ) → Inv past → may_come o past by (Ask child job task line) ≡ true
     → (job == length (asked_jobs past child)) ≡ true → asks_in_turn past child job line (host_reading (addressed past child line).1) ≡ true

@@ -1,15 +1,16 @@
 -- A job's verdict is one that its request may have.
 use Rattle.std.proofs.Common.{◌≡◌, ℕ, List, [], ◌∷◌, ◌++◌, refl, sym, subst, ◌∙◌, false, Some, None, Option, length}
 use Rattle.std.specs.Prelude.{IfSome}
-use Rattle.annex_model.specs.declared.verdict.Verdict.{Verdict}
-use Rattle.annex_model.specs.declared.verdict.Final.{Final}
+use Rattle.journal_model.specs.declared.verdict.Verdict.{Verdict}
+use Rattle.annex_model.specs.declared.final_line.Final.{Final}
 use Rattle.annex_model.specs.Messages.{HostMessage, RemoteMessage, host_reading}
 use Rattle.annex_model.specs.Talks.{Item, Host, said, final_of}
 use Rattle.journal_model.specs.declared.opening.Opening.{Opening}
 use Rattle.journal_model.specs.declared.entry.What.TheVariants.{Ask}
 use Rattle.journal_model.specs.declared.entry.Entry.{Entry}
 use Rattle.journal_model.specs.Journal.{addressed, verdict_of}
-use Rattle.journal_model.specs.Parts.{part, part_from, request_in}
+use Rattle.journal_model.specs.Parts.{part, part_from}
+use Rattle.annex_model.specs.Hearings.{request_in}
 use Rattle.journal_model.specs.Due.{replies_at}
 use Rattle.journal_model.specs.Legality.{Legal}
 use Rattle.journal_model.specs.Projection.{Fits, PartFits, FitsFinal, final_in, IsNamed}

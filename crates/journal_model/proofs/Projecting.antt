@@ -4,10 +4,10 @@ use Rattle.std.specs.Prelude.{◌&&◌, ◌↔◌, map}
 use Rattle.std.specs.List.{list_any, cons_option, last_or}
 use Rattle.std.specs.Option.{option_or}
 use Rattle.std.proofs.lemmas.List.{append-nil}
-use Rattle.annex_model.specs.declared.verdict.Why.TheVariants.{Foul, Error as ErrorAt, Version as VersionFault}
-use Rattle.annex_model.specs.declared.verdict.Verdict.{Verdict}
-use Rattle.annex_model.specs.declared.verdict.Final.{Final}
-use Rattle.annex_model.specs.declared.verdict.Final.TheVariants.{Done, Failed, Absent, Unknown, Unsupported}
+use Rattle.journal_model.specs.declared.verdict.Why.TheVariants.{Foul, Error as ErrorAt, Version as VersionFault}
+use Rattle.journal_model.specs.declared.verdict.Verdict.{Verdict}
+use Rattle.annex_model.specs.declared.final_line.Final.{Final}
+use Rattle.annex_model.specs.declared.final_line.Final.TheVariants.{Done, Failed, Absent, Unknown, Unsupported}
 use Rattle.annex_model.specs.Messages.{RemoteMessage, HostMessage, IsAskable, remote_reading}
 use Rattle.annex_model.specs.Talks.{Item, Conv, Talking, is_aside, is_talk, final_of, awaits, said, item_is_aside, spells_aside}
 use Rattle.annex_model.proofs.TalksGrow.{Conv-push, Talking-aside, said-push, replied-push, from_remote}
@@ -17,8 +17,9 @@ use Rattle.journal_model.specs.declared.entry.What.{What}
 use Rattle.journal_model.specs.declared.entry.What.TheVariants.{Claim, Start, NoStart, Ask, Put, Sent, Mute, Got, End, Verdict as Settled, Lost, Answer as Answered}
 use Rattle.journal_model.specs.declared.entry.Entry.{Entry}
 use Rattle.journal_model.specs.Journal.{asks, asked_jobs, first_of, verdict_of, has_spoken, got_from, is_open, is_live, on_wire, addressed}
-use Rattle.journal_model.specs.Parts.{part, part_from, is_for, request_in}
-use Rattle.journal_model.specs.Due.{Aside, due_after, made_by, verdict_at, ending, due_by_got, after_line, after_late, after_hearing, hearing, hearing_of, by_answer, is_error, is_passed, is_version_one, replies, replies_at}
+use Rattle.journal_model.specs.Parts.{part, part_from, is_for}
+use Rattle.annex_model.specs.Hearings.{request_in, Aside, hearing, hearing_of, by_answer}
+use Rattle.journal_model.specs.Due.{due_after, made_by, verdict_at, ending, due_by_got, after_line, after_late, after_hearing, is_error, is_passed, is_version_one, replies, replies_at}
 use Rattle.journal_model.specs.Legality.{Legal, may_come}
 use Rattle.journal_model.specs.Projection.{Fits, PartFits, FitsFinal, JobFits, PartIsAsked, Ends, final_in, last_place}
 use Rattle.journal_model.proofs.Growing.{Legal-induction}
@@ -76,7 +77,7 @@ more_fits (i ∷ is) q m at text request fits spelled no_aside waits =
       replied = replied-push none q p at text plain before.replied;
       waits = rw (said-push p at text plain) (rw spelled waits);
     } in
-    (q, request, askable, record { talking = talking; front = front_of none q (p ++ from_remote at text ∷ []) askable talking })
+    (q, request, askable, record { talking = talking; front = front_of none q (p ++ from_remote at text ∷ []) talking })
 
 -- an aside that is owed no reply
 aside_fits : (p : List Item) (m : RemoteMessage) (at : ℕ) (text : List ℕ) → (p ≡ [] → ⊥) → Fits none p None
@@ -86,7 +87,7 @@ aside_fits (i ∷ is) m at text some fits spelled aside =
     let p : List Item = i ∷ is in
     let talking : Talking none fits.0 (p ++ from_remote at text ∷ []) =
     Talking-aside none fits.0 p at text [] (is_plain m at text true spelled aside) refl fits.3.talking in
-    (fits.0, fits.1, fits.2, record { talking = talking; front = front_of none fits.0 (p ++ from_remote at text ∷ []) fits.2 talking })
+    (fits.0, fits.1, fits.2, record { talking = talking; front = front_of none fits.0 (p ++ from_remote at text ∷ []) talking })
 
 -- ---- a line that joins the part of its job, and settles it or makes nothing due
 

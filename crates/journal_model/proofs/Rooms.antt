@@ -1,35 +1,26 @@
 -- A legal journal is no longer than its room.
-use Rattle.std.proofs.Common.{◌≡◌, ℕ, suc, List, [], ◌∷◌, ◌++◌, ◌+◌, ◌*◌, ◌≤◌, refl, sym, ap, subst, ◌∙◌, Bool, true, false, length, not, ◌==◌, cond, Some, None, Option, arith, ◌⊎◌, inl, inr, length-drop}
+use Rattle.std.proofs.Common.{◌≡◌, ℕ, suc, List, [], ◌∷◌, ◌++◌, ◌+◌, ◌*◌, ◌≤◌, refl, sym, ap, subst, ◌∙◌, Bool, true, false, length, not, ◌==◌, cond, Some, None, Option, arith, inl, inr, length-drop}
 use Rattle.std.specs.Prelude.{◌&&◌, ◌||◌, map, filter, find}
 use Rattle.std.specs.List.{list_any, cons_option, sum_by}
 use Rattle.std.proofs.lemmas.List.{append-nil}
 use Rattle.std.proofs.lemmas.List.FromFn.{length-range_with_len}
 use Rattle.std.proofs.lemmas.List.Sums.{sum_by-append, sum_by-cons, length-filter}
-use Rattle.annex_model.specs.declared.verdict.Why.{Why}
-use Rattle.annex_model.specs.declared.verdict.Verdict.{Verdict}
-use Rattle.annex_model.specs.declared.verdict.Verdict.TheVariants.{Ended, Unsent}
+use Rattle.journal_model.specs.declared.verdict.Verdict.{Verdict}
+use Rattle.journal_model.specs.declared.verdict.Verdict.TheVariants.{Ended, Unsent}
 use Rattle.journal_model.specs.declared.opening.Opening.{Opening}
 use Rattle.journal_model.specs.declared.entry.What.{What}
 use Rattle.journal_model.specs.declared.entry.What.TheVariants.{Claim, Start, NoStart, Ask, Put, Sent, Mute, Got, End, Verdict as Settled, Lost, Answer as Answered}
 use Rattle.journal_model.specs.declared.entry.Entry.{Entry}
 use Rattle.journal_model.specs.Journal.{each_of, asks, asked_jobs, writes, sends, unsent, settles, starts, ends, mutes, is_settled, is_started, is_ended, is_mute, is_live, is_open, is_unsent, open_jobs}
-use Rattle.journal_model.specs.Due.{due_after, due_by_got, made_by, ending, verdict_at}
-use Rattle.journal_model.specs.Legality.{Legal, may_come, may_stop, is_number, is_free, numbers_of, claims, answers, is_claimed, is_empty}
+use Rattle.journal_model.specs.Due.{due_after, due_by_got, made_by}
+use Rattle.journal_model.specs.Legality.{Legal, may_come, may_stop, is_number, is_free, numbers_of, claims, answers, is_claimed, is_answered, holder, is_empty}
 use Rattle.journal_model.specs.Room.{room_for, room_of}
 use Rattle.journal_model.proofs.Growing.{Legal-induction}
 use Rattle.journal_model.proofs.Looks.{entry, same_number, both, each_of-append, settled_all}
-use Rattle.journal_model.proofs.Soft.{got_cases}
+use Rattle.journal_model.proofs.Holding.{claimed, answered, GotDue, got_due, verdicts_name, due_names, not_true, held_busy, held_unanswered}
 use Rattle.journal_model.proofs.Counting.{IsSame, same_nat, nat_is_same, same_pair, pair_is_same, Pair, one, many, many-cons, many-append, AtMost, AtMost-length, more_none, more_one, holds, named_none, named_some, named_count, named_length, is_there, filter_at_most, filter_drops}
 
 -- ---- whom an entry names
-
-abbrev claimed : What → Option ℕ
-claimed (Claim task child) = Some task
-claimed _ = None
-
-abbrev answered : What → Option ℕ
-answered (Answered task answer) = Some task
-answered _ = None
 
 abbrev started : What → Option ℕ
 started (Start child slot offer) = Some child
@@ -60,41 +51,6 @@ abbrev settled : What → Option Pair
 settled (Settled child job verdict) = Some (child, job)
 settled _ = None
 
--- ---- what a line makes due
-
--- nothing, the child's end, or the verdict of an open job
-abbrev pub GotDue : List Entry → ℕ → List What → Type 0
-GotDue past child due =
-    (due ≡ []) ⊎ ((why : Why) × (due ≡ ending past child why)) ⊎ ((j : ℕ) × (v : Verdict) × (is_open past child j ≡ true) × (due ≡ Settled child j v ∷ []))
-
-pub got_due : (o : Opening) (past : List Entry) (child : ℕ) (line : List ℕ) → GotDue past child (due_by_got o past child line)
-got_due o past child line =
-    got_cases (GotDue past child) o past child (inl refl) (λ why soft. inr (inl (why, refl)))
-    (λ j f opened. inr (inr (j, verdict_at f (length past), opened, refl))) line
-
--- ---- what is due names nobody but by an end or a verdict
-
-verdicts_name : {X : Type 0} (f : What → Option X) → ((c j : ℕ) (v : Verdict) → f (Settled c j v) ≡ None)
-    → (by child : ℕ) (v : Verdict) (ks : List ℕ) → each_of f (settled_all by child v ks) ≡ []
-verdicts_name f none by child v [] = refl
-verdicts_name f none by child v (k ∷ ks) = rw (none child k v) (verdicts_name f none by child v ks)
-
-due_names : {X : Type 0} (f : What → Option X) → ((c j : ℕ) (v : Verdict) → f (Settled c j v) ≡ None) → ((c : ℕ) (why : Why) → f (End c why) ≡ None)
-    → (o : Opening) (past : List Entry) (by : ℕ) (w : What) → each_of f (due_after o past (entry by w)) ≡ []
-due_names f verdict end o past by (End child why) = verdicts_name f verdict by child (Ended why) (open_jobs past child)
-due_names f verdict end o past by (Mute child) = by_life (is_live past child)
-  where
-    by_life : (b : Bool) → each_of f (made_by by (cond b (map (λ (k : ℕ). Settled child k Unsent) (filter (is_unsent past child) (open_jobs past child))) [])) ≡ []
-    by_life true = verdicts_name f verdict by child Unsent (filter (is_unsent past child) (open_jobs past child))
-    by_life false = refl
-due_names f verdict end o past by (Got child line) = by_due (due_by_got o past child line) (got_due o past child line)
-  where
-    by_due : (due : List What) → GotDue past child due → each_of f (made_by by due) ≡ []
-    by_due due (inl e) = rw e refl
-    by_due due (inr (inl e)) = rw (e.1, end child e.0) (verdicts_name f verdict by child (Ended e.0) (open_jobs past child))
-    by_due due (inr (inr e)) = rw (e.3, verdict child e.0 e.1) refl
-due_names f verdict end o past by w = refl
-
 -- ---- at most as many of one kind as of another
 
 grow_none : {X : Type 0} (eq : X → X → Bool) (f g : What → Option X) (past group : List Entry) → each_of f group ≡ []
@@ -111,10 +67,6 @@ grow_one eq is f g past group x single none some h =
     let fs = each_of-append f past group ∙ ap (λ (xs : List _). each_of f past ++ xs) single in
     let gs = each_of-append g past group in
     rw (fs, gs) (more_one eq is (each_of f past) (each_of g past) (each_of g group) x h (omega (arith, none, some)))
-
-not_true : (b : Bool) → not b ≡ true → b ≡ false
-not_true false h = refl
-not_true true h = absurd cc
 
 -- ---- claims and answers
 
@@ -163,14 +115,15 @@ claims_step o past by (Claim task child) h may =
 claims_step o past by w h may =
     claims_kept o past (entry by w ∷ due_after o past (entry by w)) (due_names claimed (λ c j v. refl) (λ c why. refl) o past by w) h
 
-answers_step : (o : Opening) (past : List Entry) (by : ℕ) (w : What) → AtMost same_nat (each_of answered past) (each_of claimed past) → may_come o past by w ≡ true
+answers_step : (o : Opening) (past : List Entry) (by : ℕ) (w : What) → Legal o past → AtMost same_nat (each_of answered past) (each_of claimed past) → may_come o past by w ≡ true
     → AtMost same_nat (each_of answered (past ++ entry by w ∷ due_after o past (entry by w))) (each_of claimed (past ++ entry by w ∷ due_after o past (entry by w)))
-answers_step o past by (Answered task answer) h may =
-    let busy = both _ _ (both _ _ (both _ _ may).0).1 in
+answers_step o past by (Answered task answer) legal h may =
+    let held = held_busy by (holder past task) (both _ _ may).0 in
+    let busy = both (is_claimed past task) (not (is_answered past task)) (sym (held_unanswered o past legal task) ∙ held) in
     let none = named_none same_nat answered (answers task) task (answers_is task) past (not_true _ busy.1) in
     let some = named_some same_nat claimed (claims task) task (claims_is task) past busy.0 in
     grow_one same_nat nat_is_same answered claimed past (entry by (Answered task answer) ∷ []) task refl none some h
-answers_step o past by w h may =
+answers_step o past by w legal h may =
     grow_none same_nat answered claimed past (entry by w ∷ due_after o past (entry by w)) (due_names answered (λ c j v. refl) (λ c why. refl) o past by w) h
 
 -- ---- starts, mutes and ends
@@ -466,7 +419,7 @@ invariant o journal legal =
     (record { claims = λ k. omega arith; answers = λ k. omega arith; ends = λ k. omega arith; mutes = λ k. omega arith; sents = λ k. omega arith; verdicts = λ k. omega arith })
     (λ p e l inv may. record {
       claims = claims_step o p e.by e.what inv.claims may;
-      answers = answers_step o p e.by e.what inv.answers may;
+      answers = answers_step o p e.by e.what l inv.answers may;
       ends = ends_step o p e.by e.what inv.ends may;
       mutes = mutes_step o p e.by e.what inv.mutes may;
       sents = sents_step o p e.by e.what inv.sents may;

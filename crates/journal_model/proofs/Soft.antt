@@ -2,11 +2,11 @@
 use Rattle.std.proofs.Common.{◌≡◌, ℕ, List, [], ◌∷◌, refl, sym, subst, ◌∙◌, Bool, true, false, not, cond, Some, None, Option, length}
 use Rattle.std.specs.Prelude.{◌==◌, map, filter, option_and_then, find}
 use Rattle.std.specs.List.{list_all}
-use Rattle.annex_model.specs.declared.verdict.Why.{Why}
-use Rattle.annex_model.specs.declared.verdict.Why.TheVariants.{Foul, Error as ErrorAt, Version as VersionFault}
-use Rattle.annex_model.specs.declared.verdict.Verdict.{Verdict}
-use Rattle.annex_model.specs.declared.verdict.Verdict.TheVariants.{Ended, Unsent}
-use Rattle.annex_model.specs.declared.verdict.Final.{Final}
+use Rattle.journal_model.specs.declared.verdict.Why.{Why}
+use Rattle.journal_model.specs.declared.verdict.Why.TheVariants.{Foul, Error as ErrorAt, Version as VersionFault}
+use Rattle.journal_model.specs.declared.verdict.Verdict.{Verdict}
+use Rattle.journal_model.specs.declared.verdict.Verdict.TheVariants.{Ended, Unsent}
+use Rattle.annex_model.specs.declared.final_line.Final.{Final}
 use Rattle.annex_model.specs.Messages.{RemoteMessage, remote_reading}
 use Rattle.annex_model.specs.Talks.{is_talk}
 use Rattle.journal_model.specs.declared.entry.What.{What}
@@ -15,7 +15,8 @@ use Rattle.journal_model.specs.declared.entry.Entry.{Entry}
 use Rattle.journal_model.specs.declared.opening.Opening.{Opening}
 use Rattle.journal_model.specs.Journal.{any, each_of, writes, sends, mutes, ends, end_why, why_of, got_lines, has_spoken, open_jobs, is_open, is_live, is_unsent, addressed}
 use Rattle.journal_model.specs.Parts.{part}
-use Rattle.journal_model.specs.Due.{Hearing, Aside, Part, Settles, Strange, hearing, verdict_at, ending, foul, due_by, due_by_got, after_hearing, after_late, after_message, after_line, is_passed, is_error, is_version_one, made_by}
+use Rattle.journal_model.specs.Due.{verdict_at, ending, foul, due_by, due_by_got, after_hearing, after_late, after_message, after_line, is_passed, is_error, is_version_one, made_by}
+use Rattle.annex_model.specs.Hearings.{Hearing, Aside, Part, Settles, Strange, hearing}
 use Rattle.journal_model.proofs.Looks.{both}
 
 -- a line was due to end the child

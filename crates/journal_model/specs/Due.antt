@@ -1,20 +1,21 @@
 -- What an entry makes due: the entries that have to stand directly behind it, made by the same number.
-use Rattle.std.specs.Prelude.{ℕ, ◌==◌, ◌&&◌, ◌||◌, not, Bool, true, false, if◌then◌else◌, List, [], ◌∷◌, ◌++◌, length, Option, Some, None, map, filter}
+use Rattle.std.specs.Prelude.{ℕ, ◌==◌, ◌&&◌, ◌||◌, not, Bool, true, false, if◌then◌else◌, List, [], ◌∷◌, length, Option, Some, None, map, filter}
 use Rattle.std.specs.List.{list_any}
-use Rattle.annex_model.specs.declared.verdict.Why.{Why}
-use Rattle.annex_model.specs.declared.verdict.Why.TheVariants.{Foul, Error as ErrorAt, Version as VersionFault}
-use Rattle.annex_model.specs.declared.verdict.Verdict.{Verdict}
-use Rattle.annex_model.specs.declared.verdict.Verdict.TheVariants.{Done as DoneAt, Failed as FailedAt, Absent as AbsentAt, Unknown as UnknownAt, Unsupported as UnsupportedAt, Ended, Unsent}
-use Rattle.annex_model.specs.declared.verdict.Final.{Final}
-use Rattle.annex_model.specs.declared.verdict.Final.TheVariants.{Done, Failed, Absent, Unknown, Unsupported}
-use Rattle.annex_model.specs.Messages.{RemoteMessage, Version, Error, HostMessage, remote_reading}
-use Rattle.annex_model.specs.Talks.{Item, is_aside, is_talk, final_of, awaits, said}
+use Rattle.journal_model.specs.declared.verdict.Why.{Why}
+use Rattle.journal_model.specs.declared.verdict.Why.TheVariants.{Foul, Error as ErrorAt, Version as VersionFault}
+use Rattle.journal_model.specs.declared.verdict.Verdict.{Verdict}
+use Rattle.journal_model.specs.declared.verdict.Verdict.TheVariants.{Done as DoneAt, Failed as FailedAt, Absent as AbsentAt, Unknown as UnknownAt, Unsupported as UnsupportedAt, Ended, Unsent}
+use Rattle.annex_model.specs.declared.final_line.Final.{Final}
+use Rattle.annex_model.specs.declared.final_line.Final.TheVariants.{Done, Failed, Absent, Unknown, Unsupported}
+use Rattle.annex_model.specs.Messages.{RemoteMessage, Version, Error, remote_reading}
+use Rattle.annex_model.specs.Talks.{is_talk}
 use Rattle.journal_model.specs.declared.entry.What.{What}
 use Rattle.journal_model.specs.declared.entry.What.TheVariants.{Put, Mute, Got, End, Verdict as Settled}
 use Rattle.journal_model.specs.declared.entry.Entry.{Entry}
 use Rattle.journal_model.specs.declared.opening.Opening.{Opening}
 use Rattle.journal_model.specs.Journal.{open_jobs, asked_jobs, is_open, is_live, has_spoken, is_tagged, is_unsent, addressed, on_wire}
-use Rattle.journal_model.specs.Parts.{part, request_in}
+use Rattle.journal_model.specs.Parts.{part}
+use Rattle.annex_model.specs.Hearings.{Hearing, Aside, Part, Settles, Strange, hearing}
 
 -- ---- replies
 
@@ -25,27 +26,6 @@ replies o past m = []
 -- the replies that the line at this place of the journal is owed
 abbrev pub replies_at : Opening → List Entry → ℕ → List (List ℕ)
 replies_at o journal at = []
-
--- ---- what a message is to a conversation
-
-pub data Hearing : Type 0 where
-  Aside : Hearing
-  Part : Hearing
-  Settles : Final → Hearing
-  Strange : Hearing
-
-abbrev pub by_answer : Option Final → Bool → Hearing
-by_answer (Some f) waits = Settles f
-by_answer None true = Part
-by_answer None false = Strange
-
--- behind what the remote said, the message ends the answer, is a part of it, or can't follow
-abbrev pub hearing_of : Option HostMessage → List (Option RemoteMessage) → Hearing
-hearing_of None ms = Strange
-hearing_of (Some q) ms = by_answer (final_of q ms) (awaits q ms)
-
-abbrev pub hearing : List Item → RemoteMessage → Hearing
-hearing part m = if is_aside m then Aside else hearing_of (request_in part) (said part ++ Some m ∷ [])
 
 abbrev pub verdict_at : Final → ℕ → Verdict
 verdict_at Done at = DoneAt at

@@ -1,15 +1,18 @@
 -- Which journals are legal.
-use Rattle.std.specs.Prelude.{ℕ, ◌≡◌, ◌+◌, ◌-◌, ◌^◌, ◌==◌, ◌&&◌, ◌||◌, not, nat_lt, Bool, true, false, if◌then◌else◌, List, [], ◌∷◌, ◌++◌, length, Option, Some, None, filter, find, IsTrue, take, slice_get, bytes_eq, codes}
+use Rattle.std.specs.Prelude.{ℕ, ◌≡◌, ◌+◌, ◌-◌, ◌^◌, ◌==◌, ◌&&◌, ◌||◌, not, nat_lt, Bool, true, false, if◌then◌else◌, List, [], ◌∷◌, ◌++◌, length, Option, Some, None, is_some, filter, find, fold, IsTrue, take, slice_get, bytes_eq, codes}
 use Rattle.std.specs.List.{list_any, range_with_len}
 use Rattle.std.specs.Str.{is_utf8}
 use Rattle.task_text.specs.declared.task.Task.{Task}
 use Rattle.annex_model.specs.Extensions.{names_of}
-use Rattle.annex_model.specs.declared.verdict.Why.{Why}
-use Rattle.annex_model.specs.declared.verdict.Why.TheVariants.{Eof, ReadFault, LongLine, Full, Memory, Closed}
-use Rattle.annex_model.specs.declared.verdict.Verdict.{Verdict}
-use Rattle.annex_model.specs.declared.verdict.Verdict.TheVariants.{Done as DoneAt}
+use Rattle.journal_model.specs.declared.verdict.Why.{Why}
+use Rattle.journal_model.specs.declared.verdict.Why.TheVariants.{Eof, ReadFault, LongLine, Full, Memory, Closed}
+use Rattle.journal_model.specs.declared.verdict.Verdict.{Verdict}
+use Rattle.journal_model.specs.declared.verdict.Verdict.TheVariants.{Done as DoneAt}
 use Rattle.annex_model.specs.Lines.{has_newline}
-use Rattle.annex_model.specs.Messages.{HostMessage, AskExtensions, Prepare, Initremote, Transfer, Checkpresent, Remove, Listconfigs, Getcost, Getavailability, Getinfo, Whereis, Value, Creds, HostError, remote_reading, host_reading, host_line}
+use Rattle.annex_model.specs.Messages.{HostMessage, AskExtensions, Prepare, Transfer, remote_reading, host_reading, host_line}
+use Rattle.annex_model.specs.Tags.{untag, without_tag}
+use Rattle.annex_model.specs.Turns.{turn_of, is_at}
+use Rattle.journal_model.specs.declared.holder.Holder.{Holder}
 use Rattle.journal_model.specs.declared.entry.What.{What}
 use Rattle.journal_model.specs.declared.entry.What.TheVariants.{Claim, Start, NoStart, Ask, Put, Sent, Mute, Got, End, Verdict as Settled, Lost, Answer as Answered}
 use Rattle.journal_model.specs.declared.entry.Entry.{Entry}
@@ -37,9 +40,33 @@ answers t _ = false
 abbrev pub is_claimed : List Entry → ℕ → Bool
 is_claimed past t = any (claims t) past
 
--- a task is busy from its claim to its answer
+-- what the entry makes of the task's holder: a claim gives it one, and an answer takes it
+abbrev pub turned_by : ℕ → Option Holder → ℕ → What → Option Holder
+turned_by t held by (Claim task child) = if task == t then Some (record { by = by; child = child }) else held
+turned_by t held by (Answered task answer) = if task == t then None else held
+turned_by t held by _ = held
+
+abbrev pub turned : ℕ → Option Holder → Entry → Option Holder
+turned t held e = turned_by t held e.by e.what
+
+-- who holds the task: the number and the child of its last claim, where no answer stands behind it
+abbrev pub holder : List Entry → ℕ → Option Holder
+holder past t = fold (turned t) None past
+
+-- a task is busy while it is held
 abbrev pub is_busy : List Entry → ℕ → Bool
-is_busy past t = is_claimed past t && not (any (answers t) past)
+is_busy past t = is_some (holder past t)
+
+abbrev pub is_answered : List Entry → ℕ → Bool
+is_answered past t = any (answers t) past
+
+abbrev pub is_held_by : ℕ → Option Holder → Bool
+is_held_by by None = false
+is_held_by by (Some h) = h.by == by
+
+abbrev pub is_held_for : ℕ → Option Holder → Bool
+is_held_for c None = false
+is_held_for c (Some h) = h.child == c
 
 -- two texts of files clash where they are equal, or one is the other followed by .part; an empty one clashes with none
 abbrev pub clashes : List ℕ → List ℕ → Bool
@@ -75,16 +102,13 @@ is_number n (Some k) = k == n
 abbrev pub least_free : Opening → List Entry → Option ℕ
 least_free o past = find (is_free o past) (numbers_of o)
 
--- the task is claimed by this number, for this child
-abbrev pub claims_with : ℕ → ℕ → ℕ → Entry → Bool
-claims_with by t c e = e.by == by && claims_for t c e.what
-  where
-    claims_for : ℕ → ℕ → What → Bool
-    claims_for t c (Claim task child) = task == t && child == c
-    claims_for t c _ = false
-
+-- the number holds the task
 abbrev pub is_claimed_by : List Entry → ℕ → ℕ → Bool
-is_claimed_by past by t = list_any (λ e. e.by == by && claims t e.what) past
+is_claimed_by past by t = is_held_by by (holder past t)
+
+-- the task is held for the child
+abbrev pub is_busy_with : List Entry → ℕ → ℕ → Bool
+is_busy_with past c t = is_held_for c (holder past t)
 
 abbrev pub job_for : ℕ → What → Option (ℕ × ℕ)
 job_for t (Ask child job task line) = if task == t then Some (child, job) else None
@@ -93,11 +117,12 @@ job_for t _ = None
 abbrev pub has_open_job : List Entry → ℕ → Bool
 has_open_job past t = list_any (λ q. is_open past q.0 q.1) (each_of (job_for t) past)
 
--- a request for task 0 is the main thread's own; any other belongs to a busy task of this number and child, which has no open job
+-- a request for task 0 is the main thread's own; any other belongs to a task that this number holds for this child, which has
+-- no open job
 abbrev pub may_work : List Entry → ℕ → ℕ → ℕ → Bool
 may_work past by t c =
     (t == 0 && by == 0)
-    || (list_any (claims_with by t c) past && is_busy past t && not (has_open_job past t))
+    || (is_claimed_by past by t && is_busy_with past c t && not (has_open_job past t))
 
 -- the task that the entry claims for c
 abbrev pub claimed_for : ℕ → What → Option ℕ
@@ -105,7 +130,7 @@ claimed_for c (Claim task child) = if child == c then Some task else None
 claimed_for c _ = None
 
 abbrev pub has_busy_task : List Entry → ℕ → Bool
-has_busy_task past c = list_any (is_busy past) (each_of (claimed_for c) past)
+has_busy_task past c = list_any (is_busy_with past c) (each_of (claimed_for c) past)
 
 -- ---- the greeting
 
@@ -121,9 +146,22 @@ said_version past c = is_version (first_of (got_lines past c))
     is_version None = false
     is_version (Some line) = is_version_one (remote_reading line)
 
--- its job 1, which is PREPARE, is done
+abbrev pub is_prepare : Option HostMessage → Bool
+is_prepare (Some Prepare) = true
+is_prepare q = false
+
+-- the line asks to get ready, with a tag or without
+abbrev pub asks_prepare : List ℕ → Bool
+asks_prepare line = is_prepare (host_reading (without_tag line (untag line)))
+
+-- job 1 of c is asked, to get ready
+abbrev pub prepares : ℕ → What → Bool
+prepares c (Ask child job task line) = child == c && job == 1 && asks_prepare line
+prepares c _ = false
+
+-- its job 1 was to get ready, and is done
 abbrev pub is_prepared : List Entry → ℕ → Bool
-is_prepared past c = is_done (verdict_of past c 1)
+is_prepared past c = is_done (verdict_of past c 1) && any (prepares c) past
 
 -- some request may be asked as this job of c: job 0 behind the version, job 1 behind job 0, and later jobs of a prepared child
 abbrev pub is_greeted : List Entry → ℕ → ℕ → Bool
@@ -140,23 +178,15 @@ offered_names past c = names_of (any (offers c) past)
 abbrev pub is_text : List ℕ → Bool
 is_text file = is_utf8 file && not (has_newline file)
 
--- The request is the one of its turn: EXTENSIONS is job 0, PREPARE is job 1, any other is later. No child is asked to INITREMOTE
--- yet, and a reply is no request.
+-- the request suits the child: its names are those that c is told, and its file is named by text on one line
+abbrev pub suits_child : List Entry → ℕ → HostMessage → Bool
+suits_child past c (AskExtensions names) = bytes_eq names (offered_names past c)
+suits_child past c (Transfer store key file) = is_text file
+suits_child past c q = true
+
+-- the request may be asked as this job of c
 abbrev pub is_in_turn : List Entry → ℕ → ℕ → HostMessage → Bool
-is_in_turn past c job (AskExtensions names) = job == 0 && bytes_eq names (offered_names past c)
-is_in_turn past c job Prepare = job == 1
-is_in_turn past c job Initremote = false
-is_in_turn past c job (Transfer store key file) = nat_lt 1 job && is_text file
-is_in_turn past c job (Checkpresent key) = nat_lt 1 job
-is_in_turn past c job (Remove key) = nat_lt 1 job
-is_in_turn past c job Listconfigs = nat_lt 1 job
-is_in_turn past c job Getcost = nat_lt 1 job
-is_in_turn past c job Getavailability = nat_lt 1 job
-is_in_turn past c job Getinfo = nat_lt 1 job
-is_in_turn past c job (Whereis key) = nat_lt 1 job
-is_in_turn past c job (Value value) = false
-is_in_turn past c job (Creds user password) = false
-is_in_turn past c job (HostError text) = false
+is_in_turn past c job q = is_at (turn_of q) job && suits_child past c q
 
 -- the line is the canonical one of a request in its turn
 abbrev pub asks_in_turn : List Entry → ℕ → ℕ → List ℕ → Option HostMessage → Bool
@@ -202,7 +232,7 @@ may_come o past by (Got child line) = is_live past child && not (has_newline lin
 may_come o past by (End child why) = is_live past child && may_stop past child why
 may_come o past by (Settled child job verdict) = false
 may_come o past by (Lost child task) = is_started past child && (is_ended past child || is_mute past child) && may_ask past by task child
-may_come o past by (Answered task answer) = is_claimed_by past by task && is_busy past task && not (has_open_job past task)
+may_come o past by (Answered task answer) = is_claimed_by past by task && not (has_open_job past task)
 
 -- ---- legal
 

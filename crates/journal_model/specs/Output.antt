@@ -1,20 +1,15 @@
 -- What is printed of an answer.
 use Rattle.std.specs.Prelude.{ℕ, List, [], ◌∷◌, ◌++◌, Option, Some, None, codes, decimal}
-use Rattle.annex_model.specs.declared.verdict.Why.{Why}
-use Rattle.annex_model.specs.declared.verdict.Why.TheVariants.{Eof, ReadFault, LongLine, Full, Memory, Closed, Foul, Error, Version}
+use Rattle.journal_model.specs.declared.verdict.Why.{Why}
+use Rattle.journal_model.specs.declared.verdict.Why.TheVariants.{Eof, ReadFault, LongLine, Full, Memory, Closed, Foul, Error, Version}
 use Rattle.annex_model.specs.Messages.{RemoteMessage, remote_reading, text_in}
-use Rattle.annex_model.specs.Tags.{untag}
+use Rattle.annex_model.specs.Tags.{untag, without_tag}
 use Rattle.journal_model.specs.declared.answer.Answer.{Answer}
 use Rattle.journal_model.specs.declared.answer.Answer.TheVariants.{Present, Absent, Unsupported, Unsent, StartFault, Memory as NoRoom, Unknown, NotPrepared, Ended}
 use Rattle.journal_model.specs.declared.entry.What.{What}
 use Rattle.journal_model.specs.declared.entry.What.TheVariants.{Answer as Answered}
 use Rattle.journal_model.specs.declared.entry.Entry.{Entry}
 use Rattle.journal_model.specs.Journal.{each_of, line_at}
-
--- a line of a child without its tag
-abbrev pub without_tag : List ℕ → Option (ℕ × List ℕ) → List ℕ
-without_tag line None = line
-without_tag line (Some t) = t.1
 
 abbrev pub text_of_reading : Option RemoteMessage → List ℕ
 text_of_reading None = []

@@ -1,9 +1,8 @@
 -- The part of a journal that is one job's.
 use Rattle.std.specs.Prelude.{ℕ, ◌==◌, ◌&&◌, not, ◌+◌, Bool, false, if◌then◌else◌, List, [], ◌∷◌, ◌++◌, length, Option, Some, None, filter_map, slice_get, take, drop, option_and_then}
 use Rattle.std.specs.List.{cons_option, range_with_len}
-use Rattle.annex_model.specs.declared.verdict.Why.{Why}
-use Rattle.annex_model.specs.declared.verdict.Why.TheVariants.{Foul, Error, Version}
-use Rattle.annex_model.specs.Messages.{HostMessage, host_reading}
+use Rattle.journal_model.specs.declared.verdict.Why.{Why}
+use Rattle.journal_model.specs.declared.verdict.Why.TheVariants.{Foul, Error, Version}
 use Rattle.annex_model.specs.Talks.{Item, Host, Remote}
 use Rattle.journal_model.specs.declared.entry.What.{What}
 use Rattle.journal_model.specs.declared.entry.What.TheVariants.{Ask, Put, Got, End}
@@ -56,8 +55,3 @@ item_at journal c j at = option_and_then (λ e. item_of c j (take at journal) e.
 
 abbrev pub part_by_places : List Entry → ℕ → ℕ → List Item
 part_by_places journal c j = filter_map (item_at journal c j) (range_with_len 0 (length journal))
-
--- the request that a part begins with
-abbrev pub request_in : List Item → Option HostMessage
-request_in [] = None
-request_in (i ∷ rest) = host_reading i.text

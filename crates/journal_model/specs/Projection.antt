@@ -1,15 +1,16 @@
 -- What the part of each job is, by how the job stands.
 use Rattle.std.specs.Prelude.{ℕ, ◌≡◌, ◌↔◌, ◌==◌, false, List, [], Option, Some, None, option_map, option_and_then, IfSome}
 use Rattle.std.specs.List.{last_or, list_any}
-use Rattle.annex_model.specs.declared.verdict.Final.{Final}
-use Rattle.annex_model.specs.declared.verdict.Final.TheVariants.{Done, Failed, Absent, Unknown, Unsupported}
-use Rattle.annex_model.specs.declared.verdict.Verdict.{Verdict}
-use Rattle.annex_model.specs.declared.verdict.Verdict.TheVariants.{Done as DoneAt, Failed as FailedAt, Absent as AbsentAt, Unknown as UnknownAt, Unsupported as UnsupportedAt, Ended, Unsent}
+use Rattle.annex_model.specs.declared.final_line.Final.{Final}
+use Rattle.annex_model.specs.declared.final_line.Final.TheVariants.{Done, Failed, Absent, Unknown, Unsupported}
+use Rattle.journal_model.specs.declared.verdict.Verdict.{Verdict}
+use Rattle.journal_model.specs.declared.verdict.Verdict.TheVariants.{Done as DoneAt, Failed as FailedAt, Absent as AbsentAt, Unknown as UnknownAt, Unsupported as UnsupportedAt, Ended, Unsent}
 use Rattle.annex_model.specs.Messages.{HostMessage, RemoteMessage, IsAskable}
 use Rattle.annex_model.specs.Talks.{Item, Conv, ConvFront, Talking, final_of, said}
 use Rattle.journal_model.specs.declared.entry.Entry.{Entry}
 use Rattle.journal_model.specs.Journal.{verdict_of, asked_jobs}
-use Rattle.journal_model.specs.Parts.{part, request_in}
+use Rattle.journal_model.specs.Parts.{part}
+use Rattle.annex_model.specs.Hearings.{request_in}
 
 -- where the last item of a part stands
 abbrev pub last_place : List Item → Option ℕ

@@ -1,6 +1,6 @@
 -- Worked journals with settings.
 use Rattle.std.specs.Prelude.{ℕ, true, false, List, [], ◌∷◌, ◌++◌, map, codes}
-use Rattle.annex_model.specs.declared.verdict.Why.TheVariants.{Foul}
+use Rattle.journal_model.specs.declared.verdict.Why.TheVariants.{Foul}
 use Rattle.annex_model.specs.Messages.{RemoteMessage}
 use Rattle.reg_file.specs.Registers.{RegisterFile, nothing_set, with_config, with_url}
 use Rattle.journal_model.specs.declared.entry.What.TheVariants.{Start, Ask, Got, End}

@@ -3,9 +3,9 @@
 use Rattle.std.specs.Prelude.{ℕ, true, false, List, [], ◌∷◌, ◌++◌, map, codes}
 use Rattle.task_text.specs.declared.task.Task.{Task}
 use Rattle.task_text.specs.declared.task.Work.TheVariants.{Check}
-use Rattle.annex_model.specs.declared.verdict.Why.{Why}
-use Rattle.annex_model.specs.declared.verdict.Why.TheVariants.{Closed, Foul, Error}
-use Rattle.annex_model.specs.declared.verdict.Verdict.TheVariants.{Done, Failed, Absent, Unknown, Unsupported, Ended}
+use Rattle.journal_model.specs.declared.verdict.Why.{Why}
+use Rattle.journal_model.specs.declared.verdict.Why.TheVariants.{Closed, Foul, Error}
+use Rattle.journal_model.specs.declared.verdict.Verdict.TheVariants.{Done, Failed, Absent, Unknown, Unsupported, Ended}
 use Rattle.journal_model.specs.declared.answer.Answer.TheVariants.{Present, Absent as AbsentAnswer, Unknown as UnknownAnswer, NotPrepared, Ended as EndedAnswer}
 use Rattle.journal_model.specs.declared.entry.What.{What}
 use Rattle.journal_model.specs.declared.entry.What.TheVariants.{Claim, Start, Ask, Sent, Got, End, Verdict as Settled, Answer as Answered}
@@ -218,3 +218,19 @@ listing = greeting ++ by_main ask_configs ∷ by_main (Sent 1) ∷ []
 
 abbrev pub one_listed : List Entry
 one_listed = listing ++ by_main (Got 1 (codes "CONFIG a b")) ∷ []
+
+-- ---- a child that was set up, and not prepared
+
+abbrev pub set_up : List Entry
+set_up =
+    by_main (Start 1 0 false)
+    ∷ by_main (Got 1 (codes "VERSION 1"))
+    ∷ by_main (Ask 1 0 0 (codes "EXTENSIONS INFO GETGITREMOTENAME"))
+    ∷ by_main (Sent 1)
+    ∷ by_main (Got 1 (codes "EXTENSIONS"))
+    ∷ by_main (Settled 1 0 (Done 4))
+    ∷ by_main (Ask 1 1 0 (codes "INITREMOTE"))
+    ∷ by_main (Sent 1)
+    ∷ by_main (Got 1 (codes "INITREMOTE-SUCCESS"))
+    ∷ by_main (Settled 1 1 (Done 8))
+    ∷ []

@@ -1,4 +1,4 @@
-use annex_model::Why;
+use crate::verdict::Why;
 
 /// The answer of a task.
 #[derive(Clone, Copy, PartialEq, Eq, Debug)]

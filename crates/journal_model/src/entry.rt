@@ -1,6 +1,6 @@
 use crate::answer::Answer;
+use crate::verdict::{Verdict, Why};
 use ann_key::Bytes;
-use annex_model::{Verdict, Why};
 
 /// What happened. Children and tasks count from 1, places, slots and jobs from 0. A line is as it stood on the
 /// wire, with its tag and without byte 10.

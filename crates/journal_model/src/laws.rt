@@ -1,7 +1,7 @@
 // Laws over the definitions, each the contract of a function with nothing to do.
-ghost use Rattle.std.specs.Prelude.{ℕ, ◌≡◌, ◌≤◌, ◌+◌, ◌↔◌, ◌++◌, true, false, List, [], ◌∷◌, take, IsTrue, Some, codes, length};
-ghost use Rattle.annex_model.specs.declared.verdict.Why.TheVariants.{Closed, Full, Foul, Error};
-ghost use Rattle.annex_model.specs.declared.verdict.Verdict.TheVariants.{Ended, Done, Failed, Unsupported};
+ghost use Rattle.std.specs.Prelude.{ℕ, ◌&&◌, not, ◌≡◌, ◌≤◌, ◌+◌, ◌↔◌, ◌++◌, true, false, List, [], ◌∷◌, take, IsTrue, Some, codes, length};
+ghost use Rattle.journal_model.specs.declared.verdict.Why.TheVariants.{Closed, Full, Foul, Error};
+ghost use Rattle.journal_model.specs.declared.verdict.Verdict.TheVariants.{Ended, Done, Failed, Unsupported};
 ghost use Rattle.annex_model.specs.Messages.{Checkpresent};
 ghost use Rattle.annex_model.specs.Talks.{Conv, ConvFront, Talking};
 ghost use Rattle.annex_model.specs.Lines.{text};
@@ -12,12 +12,12 @@ ghost use Rattle.journal_model.specs.declared.opening.Opening.{Opening};
 ghost use Rattle.journal_model.specs.Journal.{got_lines, verdict_of, is_tagged, is_full};
 ghost use Rattle.journal_model.specs.Parts.{part, part_by_places};
 ghost use Rattle.journal_model.specs.Due.{due_after, due_by_got, replies_at};
-ghost use Rattle.journal_model.specs.Legality.{Legal, LegalByGroups, LegalByPlaces, FirstWrong, owed_after, may_come};
+ghost use Rattle.journal_model.specs.Legality.{Legal, LegalByGroups, LegalByPlaces, FirstWrong, owed_after, may_come, is_busy, is_claimed, is_answered, is_prepared};
 ghost use Rattle.journal_model.specs.Projection.{JobFits, PartIsAsked};
 ghost use Rattle.journal_model.specs.Wires.{Wired};
 ghost use Rattle.journal_model.specs.Output.{answer_line};
 ghost use Rattle.journal_model.specs.Room.{room_for, room_of};
-ghost use Rattle.journal_model.specs.Rows.{one_check, check_present, not_closed, other_key, not_settled, sample_key, by_main, settled, answered, greeting, two_checks, crossed, unknown_job, tag_left_off, tagged_greeting, end_with, not_extended, no_disk, checking, away, settled_by_aside, out_of_disk, one_left, ask_configs, listing, one_listed};
+ghost use Rattle.journal_model.specs.Rows.{one_check, check_present, not_closed, other_key, not_settled, sample_key, by_main, settled, answered, greeting, two_checks, crossed, unknown_job, tag_left_off, tagged_greeting, end_with, not_extended, no_disk, checking, away, settled_by_aside, out_of_disk, one_left, ask_configs, listing, one_listed, set_up};
 
 /// The journal of one check is legal, and so it is before its child is closed.
 pub fn check_present_is_legal()
@@ -159,4 +159,21 @@ pub fn parts_fit()
 pub fn room_suffices()
     ensures long { (o : Opening) (journal : List Entry) → Legal o journal → length journal ≤ room_of o journal }
     ensures grows { (o : Opening) (past : List Entry) (e : Entry) → room_of o (past ++ e ∷ due_after o past e) ≡ room_of o past + room_for e.what }
+{}
+
+/// In a legal journal a task is held from its claim to its answer.
+pub fn held_until_answered()
+    ensures { (o : Opening) (journal : List Entry) → Legal o journal → (t : ℕ) → is_busy journal t ≡ (is_claimed journal t && not (is_answered journal t)) }
+{}
+
+/// A child may be set up in place of getting ready. Then nothing more is asked of it, and no task is claimed for it.
+pub fn set_up_is_not_prepared()
+    ensures legal { Legal one_check set_up }
+    ensures verdict { verdict_of set_up 1 1 ≡ Some (Done 8) }
+    ensures unprepared { is_prepared set_up 1 ≡ false }
+    ensures prepared { is_prepared greeting 1 ≡ true }
+    ensures tagged { is_prepared tagged_greeting 1 ≡ true }
+    ensures no_claim { may_come one_check set_up 0 (Claim 1 1) ≡ false }
+    ensures no_request { may_come one_check set_up 0 ask_configs ≡ false }
+    ensures late { may_come one_check greeting 0 (Ask 1 2 0 (codes "INITREMOTE")) ≡ false }
 {}

@@ -1,12 +1,11 @@
 ghost use Rattle.std.specs.Prelude.{◌≡◌, ◌++◌, ◌∷◌, [], IfOk};
 ghost use Rattle.journal_model.specs.Journal.{line_at};
 ghost use Rattle.annex_model.specs.Messages.{remote_reading};
-ghost use Rattle.annex_model.specs.Tags.{untag};
-ghost use Rattle.journal_model.specs.Output.{answer_line, answer_words, why_words, without_tag, text_of_reading, text_at};
+ghost use Rattle.annex_model.specs.Tags.{untag, without_tag};
+ghost use Rattle.journal_model.specs.Output.{answer_line, answer_words, why_words, text_of_reading, text_at};
 
 use ann_key::{Bytes, NoMemory};
-use annex_model::Why;
-use journal_model::{Answer, Entry, Journal, What};
+use journal_model::{Answer, Entry, Journal, What, Why};
 use std::alloc::Global;
 use wire_msg::{read_remote, text_of, untag};
 

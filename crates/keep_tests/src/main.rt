@@ -4,8 +4,7 @@
 use ann_key::{Bytes, NoMemory};
 use keep_text::{KeepError, read_keep, write_keep};
 use std::alloc::Global;
-use std::io;
-use std::str;
+use std::{io, str};
 
 // The bytes that the row spells: `\n` and `\r` are a line end and a byte 13.
 fn unescaped(alloc: Global, row: &str) -> Result<Vec<u8>, NoMemory> {

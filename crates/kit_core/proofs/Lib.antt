@@ -1,3 +1,4 @@
 pub mod Answering
 pub mod Behind
+pub mod Endless
 pub mod Following

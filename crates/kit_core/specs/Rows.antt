@@ -70,3 +70,7 @@ request_session = heard Prepare ∷ heard (Checkpresent key) ∷ []
 -- the host gives up while a value is awaited
 abbrev pub error_session : List Heard
 error_session = heard Prepare ∷ heard (HostError (codes "no such setting")) ∷ heard Getcost ∷ []
+
+-- a remote without settings gets ready at once
+abbrev pub bare_session : List Heard
+bare_session = heard_with Prepare (AskPrepare []) Yes ∷ heard_with (Checkpresent key) (AskCheck key) (Failure (codes "no disk")) ∷ []

@@ -1,8 +1,10 @@
 // The lines that answer a request.
-ghost use Rattle.std.specs.Prelude.{◌≡◌, ◌∷◌, [], Some, IfOk};
+ghost use Rattle.std.specs.Prelude.{◌≡◌, ◌∷◌, [], false, Some, IfOk, IsTrue};
+ghost use Rattle.annex_model.specs.Lines.{has_newline};
 ghost use Rattle.annex_model.specs.Messages.{remote_line, IsAskable, IsSayable};
 ghost use Rattle.wire_msg.specs.Shown.{host_shown, remote_shown};
 ghost use Rattle.kit_core.specs.declared.call.Said.TheVariants.{Yes, No, Failure};
+ghost use Rattle.kit_core.specs.Calls.{are_lines};
 ghost use Rattle.kit_core.specs.Kits.{final_line};
 
 use crate::call::Said;
@@ -67,10 +69,12 @@ pub(super) fn final_message<'a>(request: HostMsg<'a>, said: &'a Said) -> RemoteM
     }
 }
 
-// The one line of the message.
+// The one line of the message, in which no line ends.
 pub(super) fn one_line(alloc: Global, message: &RemoteMsg<'_>) -> Result<Lines, NoMemory>
-    requires { IsSayable (remote_shown message.now) }
-    ensures { IfOk result (λ say. say ≡ remote_line (remote_shown message.now) ∷ []) }
+    requires sayable { IsSayable (remote_shown message.now) }
+    requires line { has_newline (remote_line (remote_shown message.now)) ≡ false }
+    ensures line { IfOk result (λ say. say ≡ remote_line (remote_shown message.now) ∷ []) }
+    ensures lines { IfOk result (λ say. IsTrue (are_lines say)) }
 {
     let line = write_remote(alloc, message)?;
     let mut list = Vec::new(alloc);

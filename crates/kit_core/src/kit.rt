@@ -1,4 +1,4 @@
-ghost use Rattle.std.specs.Prelude.{◌≡◌, ◌&&◌, ◌||◌, ◌<◌, ◌^◌, ◌+◌, ◌∷◌, [], not, codes, List, Option, Some, None, length, slice_get, IsTrue, true, ℕ, IfOk, IsOkAnd, OnOk, OnErr};
+ghost use Rattle.std.specs.Prelude.{◌≡◌, ◌&&◌, ◌||◌, ◌<◌, ◌^◌, ◌+◌, ◌∷◌, [], not, codes, List, Option, Some, None, false, length, slice_get, IsTrue, true, ℕ, IfOk, IsOkAnd, OnOk, OnErr};
 ghost use Rattle.annex_model.specs.Lines.{has_newline};
 ghost use Rattle.annex_model.specs.Messages.{Transfer, Checkpresent, Remove, Error, is_sent_key, IsAskable, IsSayable, remote_line};
 ghost use Rattle.ann_key.specs.KeyRefs.{text_of};
@@ -6,7 +6,7 @@ ghost use Rattle.wire_msg.specs.Shown.{host_shown, remote_shown};
 ghost use Rattle.kit_core.specs.declared.call.Said.TheVariants.{Failure};
 ghost use Rattle.kit_core.specs.declared.call.Asked.TheVariants.{Prepare as AskPrepare};
 ghost use Rattle.kit_core.specs.declared.kit.Stage.TheVariants.{Readying};
-ghost use Rattle.kit_core.specs.Calls.{are_lines};
+ghost use Rattle.kit_core.specs.Calls.{are_lines, is_line_said};
 ghost use Rattle.kit_core.specs.Kits.{has_line_fields, readying, work_due, final_line, is_prepare, is_yes, Asks};
 ghost use Rattle.kit_core.specs.Stages.{Answers, Tries, prepare_of, ready_stage, stage_due, stage_after, stage_after_request, stage_after_value, request_after, is_last, Follows, Steps, Stops};
 
@@ -61,7 +61,8 @@ impl<R: Remote> Model for Kit<R> {
 
 // The request for which the settings are asked.
 fn prepare_request(by_prepare: bool) -> HostMsg<'static>
-    ensures { host_shown result ≡ prepare_of by_prepare }
+    ensures message { host_shown result ≡ prepare_of by_prepare }
+    ensures lines { IsTrue (has_line_fields (host_shown result)) }
 {
     if by_prepare {
         HostMsg::Prepare
@@ -80,10 +81,13 @@ fn silence(alloc: Global) -> Lines
 impl<R: Remote> Kit<R> {
     // Says the line that the remote's word makes of the request. A yes to PREPARE leaves the kit prepared.
     fn finish(&mut self, request: HostMsg<'_>, said: &Said) -> Result<Lines, NoMemory>
-        requires { IsAskable (host_shown request) }
+        requires askable { IsAskable (host_shown request) }
+        requires lines { IsTrue (has_line_fields (host_shown request)) }
+        requires text { IsTrue (is_line_said said.now) }
         ensures ok { IfOk result (λ say. say ≡ remote_line (final_line (Some (host_shown request.entry)) said.now) ∷ []) }
         ensures after { OnOk result (self.new ≡ record self.old { prepared = self.old.prepared || (is_prepare (Some (host_shown request.entry)) && is_yes said.now); stage = Stage.Waiting }) }
         ensures err { OnErr result (self.new ≡ self.old) }
+        ensures lines { IfOk result (λ say. IsTrue (are_lines say)) }
     {
         let say = finals::one_line(self.alloc, &finals::final_message(request, said))?;
         if matches!(request, HostMsg::Prepare) && matches!(said, Said::Yes) {
@@ -95,10 +99,12 @@ impl<R: Remote> Kit<R> {
 
     // A line that needs no call of the remote.
     fn say(&mut self, message: RemoteMsg<'_>) -> Result<Lines, NoMemory>
-        requires { IsSayable (remote_shown message) }
+        requires sayable { IsSayable (remote_shown message) }
+        requires line { has_newline (remote_line (remote_shown message)) ≡ false }
         ensures ok { IfOk result (λ say. say ≡ remote_line (remote_shown message.entry) ∷ []) }
         ensures stage { OnOk result (self.new ≡ record self.old { stage = Stage.Waiting }) }
         ensures err { OnErr result (self.new ≡ self.old) }
+        ensures lines { IfOk result (λ say. IsTrue (are_lines say)) }
     {
         let say = finals::one_line(self.alloc, &message)?;
         self.stage = Stage::Waiting;
@@ -107,7 +113,8 @@ impl<R: Remote> Kit<R> {
 
     // The message can't stand here, and nothing more is said.
     fn unexpected(&self) -> Result<Lines, NoMemory>
-        ensures { IfOk result (λ say. say ≡ remote_line (Error (codes "unexpected message")) ∷ []) }
+        ensures line { IfOk result (λ say. say ≡ remote_line (Error (codes "unexpected message")) ∷ []) }
+        ensures lines { IfOk result (λ say. IsTrue (are_lines say)) }
     {
         finals::one_line(self.alloc, &RemoteMsg::Error(b"unexpected message"))
     }
@@ -119,6 +126,7 @@ impl<R: Remote> Kit<R> {
         ensures stage { OnOk result (self.new.stage ≡ Stage.Waiting) }
         ensures err { OnErr result (Tries R.calls self.old self.new (Asks (AskPrepare values.now)) × (self.new.stage ≡ self.old.stage)) }
         ensures settings { R.settings self.new.remote ≡ R.settings self.old.remote }
+        ensures lines { IfOk result (λ say. IsTrue (are_lines say)) }
     {
         let said = self.remote.prepare(values)?;
         self.finish(prepare_request(by_prepare), &said)
@@ -132,6 +140,7 @@ impl<R: Remote> Kit<R> {
         ensures stage { OnOk result (self.new.stage ≡ ready_stage (slice_get (R.settings self.old.remote) (length values)) by_prepare values) }
         ensures err { OnErr result (Tries R.calls self.old self.new (readying (slice_get (R.settings self.old.remote) (length values)) values) × (self.new.stage ≡ self.old.stage)) }
         ensures settings { R.settings self.new.remote ≡ R.settings self.old.remote }
+        ensures lines { IfOk result (λ say. IsTrue (are_lines say)) }
     {
         match self.remote.setting(values.len() as u32) {
             Some(name) => {
@@ -145,21 +154,26 @@ impl<R: Remote> Kit<R> {
 
     // The line of a request that isn't worked on, for this reason.
     fn refuse(&mut self, request: HostMsg<'_>, text: &'static [u8]) -> Result<Lines, NoMemory>
-        requires { IsAskable (host_shown request) }
+        requires askable { IsAskable (host_shown request) }
+        requires lines { IsTrue (has_line_fields (host_shown request)) }
+        requires text { IsTrue (not (has_newline text.now)) }
         ensures ok { IfOk result (λ say. say ≡ remote_line (final_line (Some (host_shown request.entry)) (Failure text.entry.now)) ∷ []) }
         ensures stage { OnOk result (self.new ≡ record self.old { stage = Stage.Waiting }) }
         ensures err { OnErr result (self.new ≡ self.old) }
+        ensures lines { IfOk result (λ say. IsTrue (are_lines say)) }
     {
         self.say(finals::failed(request, text))
     }
 
     fn transfer(&mut self, store: bool, key: KeyRef<'_>, file: &[u8]) -> Result<Lines, NoMemory>
         requires askable { IsTrue (is_sent_key (text_of key)) }
+        requires key { IsTrue (not (has_newline (text_of key))) }
         requires line { IsTrue (not (has_newline file.now)) }
         ensures ok { IfOk result (Answers R.calls self.old self.new (work_due None [] self.old.prepared (Transfer store (text_of key.entry) file.now)) (Some (Transfer store (text_of key.entry) file.now))) }
         ensures stage { OnOk result (self.new.stage ≡ Stage.Waiting) }
         ensures err { OnErr result (Tries R.calls self.old self.new (work_due None [] self.old.prepared (Transfer store (text_of key.entry) file.now)) × (self.new.stage ≡ self.old.stage)) }
         ensures settings { R.settings self.new.remote ≡ R.settings self.old.remote }
+        ensures lines { IfOk result (λ say. IsTrue (are_lines say)) }
     {
         let request = HostMsg::Transfer(store, key, file);
         if !self.prepared {
@@ -178,11 +192,13 @@ impl<R: Remote> Kit<R> {
     }
 
     fn check(&mut self, key: KeyRef<'_>) -> Result<Lines, NoMemory>
-        requires { IsTrue (is_sent_key (text_of key)) }
+        requires askable { IsTrue (is_sent_key (text_of key)) }
+        requires key { IsTrue (not (has_newline (text_of key))) }
         ensures ok { IfOk result (Answers R.calls self.old self.new (work_due None [] self.old.prepared (Checkpresent (text_of key.entry))) (Some (Checkpresent (text_of key.entry)))) }
         ensures stage { OnOk result (self.new.stage ≡ Stage.Waiting) }
         ensures err { OnErr result (Tries R.calls self.old self.new (work_due None [] self.old.prepared (Checkpresent (text_of key.entry))) × (self.new.stage ≡ self.old.stage)) }
         ensures settings { R.settings self.new.remote ≡ R.settings self.old.remote }
+        ensures lines { IfOk result (λ say. IsTrue (are_lines say)) }
     {
         let request = HostMsg::Checkpresent(key);
         if !self.prepared {
@@ -193,11 +209,13 @@ impl<R: Remote> Kit<R> {
     }
 
     fn remove(&mut self, key: KeyRef<'_>) -> Result<Lines, NoMemory>
-        requires { IsTrue (is_sent_key (text_of key)) }
+        requires askable { IsTrue (is_sent_key (text_of key)) }
+        requires key { IsTrue (not (has_newline (text_of key))) }
         ensures ok { IfOk result (Answers R.calls self.old self.new (work_due None [] self.old.prepared (Remove (text_of key.entry))) (Some (Remove (text_of key.entry)))) }
         ensures stage { OnOk result (self.new.stage ≡ Stage.Waiting) }
         ensures err { OnErr result (Tries R.calls self.old self.new (work_due None [] self.old.prepared (Remove (text_of key.entry))) × (self.new.stage ≡ self.old.stage)) }
         ensures settings { R.settings self.new.remote ≡ R.settings self.old.remote }
+        ensures lines { IfOk result (λ say. IsTrue (are_lines say)) }
     {
         let request = HostMsg::Remove(key);
         if !self.prepared {
@@ -218,6 +236,7 @@ impl<R: Remote> Kit<R> {
         ensures stage { OnOk result (self.new.stage ≡ stage_after_request (R.settings self.old.remote) (host_shown message.entry)) }
         ensures err { OnErr result (Tries R.calls self.old self.new (stage_due (R.settings self.old.remote) self.old.prepared Stage.Waiting (host_shown message.entry)) × (self.new.stage ≡ Stage.Over)) }
         ensures settings { R.settings self.new.remote ≡ R.settings self.old.remote }
+        ensures lines { IfOk result (λ say. IsTrue (are_lines say)) }
     {
         match message {
             HostMsg::Extensions(_) => self.say(RemoteMsg::Extensions(b"")),
@@ -250,6 +269,7 @@ impl<R: Remote> Kit<R> {
         ensures stage { OnOk result (self.new.stage ≡ stage_after_value (R.settings self.old.remote) by_prepare values (host_shown message.entry)) }
         ensures err { OnErr result (Tries R.calls self.old self.new (stage_due (R.settings self.old.remote) self.old.prepared (Readying by_prepare values) (host_shown message.entry)) × (self.new.stage ≡ Stage.Over)) }
         ensures settings { R.settings self.new.remote ≡ R.settings self.old.remote }
+        ensures lines { IfOk result (λ say. IsTrue (are_lines say)) }
     {
         match message {
             HostMsg::Value(value) => {
@@ -270,6 +290,7 @@ impl<R: Remote> Kit<R> {
         ensures stage { OnOk result (self.new.stage ≡ stage_after (R.settings self.old.remote) self.old.stage (host_shown message.entry)) }
         ensures err { OnErr result (Tries R.calls self.old self.new (stage_due (R.settings self.old.remote) self.old.prepared self.old.stage (host_shown message.entry)) × (self.new.stage ≡ Stage.Over)) }
         ensures settings { R.settings self.new.remote ≡ R.settings self.old.remote }
+        ensures lines { IfOk result (λ say. IsTrue (are_lines say)) }
     {
         match mem::replace(&mut self.stage, Stage::Over) {
             Stage::Waiting => self.request(message),
@@ -305,6 +326,7 @@ impl<R: Remote> Kit<R> {
         requires askable { IsAskable (host_shown message.now) }
         requires lines { IsTrue (has_line_fields (host_shown message.now)) }
         ensures step { IfOk result (λ s. Steps R.calls (R.settings self.old.remote) self.old self.new (host_shown message.now) s.say s.over) }
+        ensures lines { IfOk result (λ s. IsTrue (are_lines s.say)) }
         ensures over { IfOk result (λ s. s.over ≡ is_last self.new.stage) }
         ensures stopped { OnErr result (Stops R.calls (R.settings self.old.remote) self.old self.new (host_shown message.now)) }
         ensures silent { is_last self.old.stage ≡ true → IsOkAnd result (λ s. (s.say ≡ []) × (s.over ≡ true)) × (self.new ≡ self.old) }

@@ -1,7 +1,7 @@
 // Laws over the definitions, each the contract of a function with nothing to do.
 ghost use Rattle.std.specs.Prelude.{◌≡◌, [], ◌∷◌, codes, true, false};
 ghost use Rattle.kit_core.specs.Kits.{IsServed, lines_said, is_over, messages};
-ghost use Rattle.kit_core.specs.Rows.{settings, check_session, invented_session, early_session, hasty_session, init_session, again_session, transfer_session, value_session, request_session, error_session};
+ghost use Rattle.kit_core.specs.Rows.{settings, check_session, invented_session, early_session, hasty_session, init_session, again_session, transfer_session, value_session, request_session, error_session, bare_session};
 
 /// What a kit with the one setting `directory` says in worked sessions.
 pub fn worked_lines()
@@ -12,6 +12,7 @@ pub fn worked_lines()
     ensures value { lines_said settings value_session ≡ codes "ERROR unexpected message" ∷ [] }
     ensures request { lines_said settings request_session ≡ codes "GETCONFIG directory" ∷ codes "ERROR unexpected message" ∷ [] }
     ensures error { lines_said settings error_session ≡ codes "GETCONFIG directory" ∷ [] }
+    ensures bare { lines_said [] bare_session ≡ codes "PREPARE-SUCCESS" ∷ codes "CHECKPRESENT-UNKNOWN WORM--a no disk" ∷ [] }
 {}
 
 /// Which calls its remote must have had in them, and which it may not.
@@ -24,6 +25,7 @@ pub fn worked_calls()
     ensures again { IsServed settings again_session }
     ensures transfer { IsServed settings transfer_session }
     ensures value { IsServed settings value_session }
+    ensures bare { IsServed [] bare_session }
 {}
 
 /// After which of them the kit is over.

@@ -1,10 +1,12 @@
 // Kits in memory, as the children that a host starts.
 
+ghost use Rattle.std.specs.Prelude.{◌≡◌, true};
+
 use crate::Empty;
 use ann_key::NoMemory;
 use ann_outside::{Programs, Sink, Source, Started, write_all};
 use kit_serve::{KitPrograms, Maker};
-use std::alloc::Global;
+use std::alloc::{AllocError, Global};
 use std::process::Abort;
 use std::test::Fail;
 
@@ -30,7 +32,24 @@ impl Maker for NoRemotes {
     }
 }
 
-// What the child says to these bytes, and then to their end.
+// All that a source gives.
+fn heard<S: Source>(alloc: Global, source: &mut S) -> Result<Vec<u8>, AllocError>
+    requires { S.is_open source.old ≡ true }
+    ensures { S.is_open source.new ≡ true }
+{
+    let mut bytes = Vec::new(alloc);
+    let mut buf = [0u8; 7];
+    for _ in 0..u64::MAX {
+        let n = source.read(&mut buf).unwrap_or(0);
+        if n == 0 {
+            break;
+        }
+        bytes.extend_from_slice(&buf[..n])?;
+    }
+    Ok(bytes)
+}
+
+// What the child says to these bytes, and then to their end; nothing where it can't be started.
 fn said<P: Programs>(
     rt: &impl Abort,
     alloc: Global,
@@ -42,32 +61,24 @@ where
     P::Outlet: Drop,
     P::Stub: Drop,
 {
-    let started = programs.start("any");
-    let mut heard = Vec::new(alloc);
-    if let Ok(
+    let Ok(
         Started {
             mut inlet,
             mut outlet,
             stub,
         },
-    ) = started
-    {
-        let written = write_all(&mut inlet, says);
-        assert!(rt; written.is_ok());
-        inlet.close();
-        let mut buf = [0u8; 7];
-        for _ in 0..u64::MAX {
-            let n = outlet.read(&mut buf).unwrap_or(0);
-            if n == 0 {
-                break;
-            }
-            heard.extend_from_slice(&buf[..n])?;
-        }
-        outlet.close();
-        let finished = programs.finish(stub);
-        assert!(rt; finished.is_ok());
-    }
-    Ok(heard)
+    ) = programs.start("any")
+    else {
+        return Ok(Vec::new(alloc));
+    };
+    let written = write_all(&mut inlet, says);
+    assert!(rt; written.is_ok());
+    inlet.close();
+    let bytes = heard(alloc, &mut outlet)?;
+    outlet.close();
+    let finished = programs.finish(stub);
+    assert!(rt; finished.is_ok());
+    Ok(bytes)
 }
 
 #[test]

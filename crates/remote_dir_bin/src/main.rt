@@ -1,8 +1,8 @@
 // The program `annex-remote-dir`: a directory as a special remote of git-annex. It talks to a host over its standard input and output.
 // https://git-annex.branchable.com/design/external_special_remote_protocol/
 #![tactic(auto)]
-ghost use Rattle.std.specs.Prelude.{◌≡◌, true};
 
+ghost use Rattle.std.specs.Prelude.{◌≡◌, true};
 
 use ann_os::{OsDesks, OsErrors, OsInput, OsOutput};
 use ann_outside::{Desks, Sink, write_all};

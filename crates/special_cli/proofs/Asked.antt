@@ -1,21 +1,22 @@
 -- What a legal journal asks of a child in its greeting.
 use Rattle.std.proofs.Common.{◌≡◌, ℕ, zero, suc, ◌+◌, List, [], ◌∷◌, ◌++◌, length, refl, sym, ap, subst, ◌∙◌, Bool, true, false, not, ◌==◌, Some, None, Option, length-append, append-nil, arith}
-use Rattle.std.specs.Prelude.{◌||◌, nat_lt, take, codes, bytes_eq}
+use Rattle.std.specs.Prelude.{◌&&◌, ◌||◌, take, codes, bytes_eq}
 use Rattle.std.specs.List.{list_all}
 use Rattle.std.proofs.lemmas.Bool.Decides.{nat_tests}
 use Rattle.std.proofs.lemmas.Slice.Eq.{bytes_eq-Decides}
-use Rattle.annex_model.specs.Messages.{HostMessage, AskExtensions, Prepare, host_reading, host_line}
-use Rattle.annex_model.specs.declared.verdict.Verdict.TheVariants.{Ended}
+use Rattle.annex_model.specs.Messages.{HostMessage, AskExtensions, Prepare, Initremote, host_reading, host_line}
+use Rattle.journal_model.specs.declared.verdict.Verdict.TheVariants.{Ended}
 use Rattle.journal_model.specs.declared.entry.What.{What}
 use Rattle.journal_model.specs.declared.entry.What.TheVariants.{Ask, Put, Mute, Got, End, Verdict as Settled}
 use Rattle.journal_model.specs.declared.entry.Entry.{Entry}
 use Rattle.journal_model.specs.declared.opening.Opening.{Opening}
 use Rattle.journal_model.specs.Journal.{any, asks, offers, asked_jobs, open_jobs, addressed, on_wire}
 use Rattle.journal_model.specs.Due.{due_by, due_by_got, due_after, made_by}
-use Rattle.journal_model.specs.Legality.{Legal, may_come, asks_in_turn, is_in_turn, offered_names}
+use Rattle.journal_model.specs.Legality.{Legal, may_come, asks_in_turn, asks_prepare, is_in_turn, offered_names}
 use Rattle.journal_model.proofs.Growing.{Legal-induction}
 use Rattle.journal_model.proofs.Looks.{both, same_number, either_left, each_of-append, any-append}
 use Rattle.journal_model.proofs.Soft.{is_soft, soft_got, soft_mute, soft_verdicts}
+use Rattle.child_start.specs.Greetings.{is_greeting_line}
 use Rattle.info_run.specs.Askings.{line_to, asked_lines}
 
 -- ---- one request of the greeting
@@ -36,9 +37,10 @@ first_turn past c (AskExtensions names) plain h =
     ap (λ (ns : List ℕ). host_line (AskExtensions ns)) ((bytes_eq-Decides names (offered_names past c)).0 h ∙ plain_names past c plain)
 first_turn past c q plain h = absurd cc
 
-second_turn : (past : List Entry) (c : ℕ) (q : HostMessage) → is_in_turn past c 1 q ≡ true → host_line q ≡ codes "PREPARE"
-second_turn past c Prepare h = refl
-second_turn past c q h = absurd cc
+second_turn : (past : List Entry) (c : ℕ) (q : HostMessage) → is_in_turn past c 1 q ≡ true → asks_prepare (host_line q) ≡ true → host_line q ≡ codes "PREPARE"
+second_turn past c Prepare h a = refl
+second_turn past c Initremote h a = absurd cc
+second_turn past c q h a = absurd cc
 
 -- the line of a request in its turn
 turn_line : (past : List Entry) (c job : ℕ) (line : List ℕ) (r : Option HostMessage) → any (offers c) past ≡ false → asks_in_turn past c job line r ≡ true
@@ -49,18 +51,25 @@ turn_line past c job line (Some q) plain h =
     (q, (bytes_eq-Decides line (on_wire past c job (host_line q))).0 t.1 ∙ plain_wire past c job (host_line q) plain, t.0)
 
 -- behind the first lines of the greeting it adds the next
-next_line : (past : List Entry) (c k : ℕ) (line : List ℕ) (r : Option HostMessage) → any (offers c) past ≡ false → nat_lt k 2 ≡ true → asks_in_turn past c k line r ≡ true
+next_line : (past : List Entry) (c k : ℕ) (line : List ℕ) (r : Option HostMessage) → any (offers c) past ≡ false → is_greeting_line k line ≡ true → asks_in_turn past c k line r ≡ true
     → take k greeting_lines ++ line ∷ [] ≡ take (suc k) greeting_lines
 next_line past c zero line r plain early h =
     let t = turn_line past c 0 line r plain h in
     ap (λ (l : List ℕ). l ∷ []) (t.1 ∙ first_turn past c t.0 plain t.2)
 next_line past c (suc zero) line r plain early h =
     let t = turn_line past c 1 line r plain h in
-    ap (λ (l : List ℕ). codes "EXTENSIONS INFO GETGITREMOTENAME" ∷ l ∷ []) (t.1 ∙ second_turn past c t.0 t.2)
-next_line past c (suc (suc k)) line r plain early h = absurd (let bad : true ≡ false = sym early ∙ no_third k in cc)
+    let a : asks_prepare (host_line t.0) ≡ true = subst (λ (l : List ℕ). asks_prepare l ≡ true) t.1 early in
+    ap (λ (l : List ℕ). codes "EXTENSIONS INFO GETGITREMOTENAME" ∷ l ∷ []) (t.1 ∙ second_turn past c t.0 t.2 a)
+next_line past c (suc (suc k)) line r plain early h = absurd (let bad : true ≡ false = sym early ∙ no_third (suc (suc k) == 0) (suc (suc k) == 1) (asks_prepare line) (not_zero k) (not_one k) in cc)
   where
-    no_third : (k : ℕ) → nat_lt (suc (suc k)) 2 ≡ false
-    no_third k = grind (arith, nat_tests)
+    not_zero : (k : ℕ) → (suc (suc k) == 0) ≡ false
+    not_zero k = grind (arith, nat_tests)
+
+    not_one : (k : ℕ) → (suc (suc k) == 1) ≡ false
+    not_one k = grind (arith, nat_tests)
+
+    no_third : (a b p : Bool) → a ≡ false → b ≡ false → (a || (b && p)) ≡ false
+    no_third a b p e f = rw (e, f) refl
 
 -- ---- what a group asks
 
@@ -81,7 +90,7 @@ entry by w = record { by = by; what = w }
 
 -- the request is one of the greeting's
 abbrev pub is_early : ℕ → What → Bool
-is_early c (Ask child job task line) = not (child == c) || nat_lt job 2
+is_early c (Ask child job task line) = not (child == c) || is_greeting_line job line
 is_early c w = true
 
 abbrev are_early : ℕ → List Entry → Bool
@@ -126,7 +135,7 @@ asks_one o c by child job task line past may plain early is = go (child == c) re
         let turned : asks_in_turn past c (length (asked_jobs past c)) line (host_reading (addressed past c line).1) ≡ true =
         subst (λ (x : ℕ). asks_in_turn past c x line (host_reading (addressed past c line).1) ≡ true) number
         (subst (λ (x : ℕ). asks_in_turn past x job line (host_reading (addressed past x line).1) ≡ true) one three.1) in
-        let small : nat_lt (length (asked_jobs past c)) 2 ≡ true = subst (λ (x : ℕ). nat_lt x 2 ≡ true) number (job_early e) in
+        let small : is_greeting_line (length (asked_jobs past c)) line ≡ true = subst (λ (x : ℕ). is_greeting_line x line ≡ true) number (job_early e) in
         let l : asked_lines (past ++ more) c ≡ asked_lines past c ++ line ∷ [] = each_of-append (line_to c) past more ∙ (rw e refl) in
         let j : asked_jobs (past ++ more) c ≡ asked_jobs past c ++ job ∷ [] = each_of-append (asks c) past more ∙ (rw e refl) in
         let n : length (asked_jobs (past ++ more) c) ≡ suc (length (asked_jobs past c)) = ap (λ (js : List ℕ). length js) j ∙ length-append (asked_jobs past c) (job ∷ []) ∙ plus_one (length (asked_jobs past c)) in
@@ -137,8 +146,8 @@ asks_one o c by child job task line past may plain early is = go (child == c) re
         plus_one : (n : ℕ) → n + 1 ≡ suc n
         plus_one n = omega arith
 
-        job_early : (child == c) ≡ true → nat_lt job 2 ≡ true
-        job_early e = by_child (child == c) (nat_lt job 2) e (both (not (child == c) || nat_lt job 2) true early).0
+        job_early : (child == c) ≡ true → is_greeting_line job line ≡ true
+        job_early e = by_child (child == c) (is_greeting_line job line) e (both (not (child == c) || is_greeting_line job line) true early).0
           where
             by_child : (a b : Bool) → a ≡ true → (not a || b) ≡ true → b ≡ true
             by_child true b e h = h

@@ -1,7 +1,7 @@
 -- From a start to a task that is done.
 use Rattle.std.proofs.Common.{◌≡◌, ℕ, List, [], ◌∷◌, ◌++◌, refl, sym, ap, subst, ◌∙◌, Bool, true, false, not, ◌==◌, cond, Some, None, Option, inl, inr}
-use Rattle.std.specs.Prelude.{◌&&◌, ◌||◌, find, nat_lt, filter_map, option_and_then}
-use Rattle.std.specs.List.{list_all, list_any, range_with_len}
+use Rattle.std.specs.Prelude.{◌&&◌, ◌||◌, find, fold, is_some, nat_lt, filter_map, option_and_then}
+use Rattle.std.specs.List.{list_all, list_any, range_with_len, cons_option}
 use Rattle.std.proofs.lemmas.List.Folds.{list_any-append}
 use Rattle.journal_model.specs.declared.answer.Answer.{Answer}
 use Rattle.journal_model.specs.declared.entry.What.{What}
@@ -10,15 +10,17 @@ use Rattle.journal_model.specs.declared.entry.Entry.{Entry}
 use Rattle.journal_model.specs.declared.opening.Opening.{Opening}
 use Rattle.journal_model.specs.Output.{answer_in, answers_in}
 use Rattle.journal_model.specs.Journal.{any, each_of, first_of}
-use Rattle.journal_model.specs.Legality.{claims, answers, is_claimed, is_claimed_by, is_busy, job_for, least_free, is_free, both_conflict, task_of, numbers_of}
+use Rattle.journal_model.specs.declared.holder.Holder.{Holder}
+use Rattle.journal_model.specs.Legality.{claims, answers, is_claimed, asks_prepare, turned, turned_by, holder, is_busy, job_for, least_free, is_free, both_conflict, task_of, numbers_of}
+use Rattle.journal_model.proofs.Holding.{holder_append}
 use Rattle.journal_model.proofs.Looks.{same_number, both}
 use Rattle.task_run.specs.TaskRuns.{child_claimed}
 use Rattle.task_run.proofs.Askings.{asks_for, askings_from-none}
 use Rattle.child_link.specs.Doors.{is_of_link}
-use Rattle.child_start.specs.Greetings.{Greeted, is_of_greeting}
+use Rattle.child_start.specs.Greetings.{Greeted, is_greeting_line, is_of_greeting}
 use Rattle.special_cli.specs.Endings.{start_in, is_for_task}
 use Rattle.special_cli.specs.Runs.{main_entry, claim_in, IsBegun, HasOneTask}
-use Rattle.special_cli.proofs.Looking.{or_true, Vanishes, holds_in, greeting_says_none, through, any_through, all_weaken, any_none, no_task}
+use Rattle.special_cli.proofs.Looking.{Vanishes, holds_in, greeting_says_none, through, any_through, all_weaken, any_none, no_task}
 
 -- ---- what links and greetings don't say
 
@@ -39,8 +41,13 @@ link_for_task (Ask child job task line) h = absurd cc
 link_for_task w h = refl
 
 greeting_for_task : (c : ℕ) (w : What) → is_of_greeting c w ≡ true → is_for_task w ≡ true
-greeting_for_task c (Ask child job task line) h = go (nat_lt job 2) (and_last (child == c) (task == 0) (nat_lt job 2) h)
+greeting_for_task c (Ask child job task line) h = go (nat_lt job 2) (early (job == 0) refl (job == 1) refl (and_last (child == c) (task == 0) (is_greeting_line job line) h))
   where
+    early : (a : Bool) → (job == 0) ≡ a → (b : Bool) → (job == 1) ≡ b → (a || (b && asks_prepare line)) ≡ true → nat_lt job 2 ≡ true
+    early true e b f h = ap (λ (k : ℕ). nat_lt k 2) (same_number job 0 e)
+    early false e true f h = ap (λ (k : ℕ). nat_lt k 2) (same_number job 1 f)
+    early false e false f h = absurd cc
+
     and_last : (a b d : Bool) → (a && (b && d)) ≡ true → d ≡ true
     and_last true true d h = h
     and_last true false d h = absurd cc
@@ -57,7 +64,7 @@ link_asks_none (Lost child task) h = absurd cc
 link_asks_none w h = refl
 
 greeting_asks_none : (c : ℕ) (w : What) → is_of_greeting c w ≡ true → asks_for 1 w ≡ false
-greeting_asks_none c (Ask child job task line) h = ap (λ (t : ℕ). t == 1) (no_task c child task job h)
+greeting_asks_none c (Ask child job task line) h = ap (λ (t : ℕ). t == 1) (no_task c child task (is_greeting_line job line) h)
 greeting_asks_none c (Lost child task) h = ap (λ (t : ℕ). t == 1) (no_lost c child task h)
   where
     no_lost : (c child task : ℕ) → (child == c && task == 0) ≡ true → task ≡ 0
@@ -116,17 +123,49 @@ pub first_claim : (journal : List Entry) (child : ℕ) → each_of claim_in jour
 first_claim journal child h =
     ap first_of (through (child_claimed 1) claim_in child_of child_claimed_is journal) ∙ ap (λ (ps : List (ℕ × ℕ)). first_of (filter_map child_of ps)) h
 
+-- ---- who holds the task
+
+-- what neither claims nor answers leaves it to its holder
+unturned : (h : Option Holder) (xs : List Entry) → each_of claim_in xs ≡ [] → each_of answer_in xs ≡ [] → fold (turned 1) h xs ≡ h
+unturned h [] c a = refl
+unturned h (e ∷ xs) c a = go e.what c a (unturned h xs)
+  where
+    go : (w : What) → cons_option (claim_in w) (each_of claim_in xs) ≡ [] → cons_option (answer_in w) (each_of answer_in xs) ≡ []
+        → (each_of claim_in xs ≡ [] → each_of answer_in xs ≡ [] → fold (turned 1) h xs ≡ h) → fold (turned 1) (turned_by 1 h e.by w) xs ≡ h
+    go (Claim task child) c a r = absurd cc
+    go (Answered task answer) c a r = absurd cc
+    go w c a r = r c a
+
+-- without a claim no one holds it
+unheld : (xs : List Entry) → each_of claim_in xs ≡ [] → holder xs 1 ≡ None
+unheld [] c = refl
+unheld (e ∷ xs) c = go e.what c (unheld xs)
+  where
+    go : (w : What) → cons_option (claim_in w) (each_of claim_in xs) ≡ [] → (each_of claim_in xs ≡ [] → fold (turned 1) None xs ≡ None)
+        → fold (turned 1) (turned_by 1 None e.by w) xs ≡ None
+    go (Claim task child) c r = absurd cc
+    go (Answered task answer) c r = off (task == 1)
+      where
+        off : (b : Bool) → fold (turned 1) (cond {A = Option Holder} b None None) xs ≡ None
+        off true = r c
+        off false = r c
+    go w c r = r c
+
 -- the one task is the least that is free
 pub free_one : (o : Opening) (journal : List Entry) → HasOneTask o → each_of claim_in journal ≡ [] → least_free o journal ≡ Some 1
 free_one o journal one unasked =
     let unclaimed : is_claimed journal 1 ≡ false = claimed_by_list journal ∙ ap (list_any (λ (p : ℕ × ℕ). p.0 == 1)) unasked in
     let numbers : numbers_of o ≡ 1 ∷ [] = ap (range_with_len 1) one in
     let blocks : ℕ → Bool = λ u. is_busy journal u && both_conflict (task_of o u) (task_of o 1) in
-    let none : list_any blocks (numbers_of o) ≡ false = ap (list_any blocks) numbers ∙ (rw unclaimed refl) in
+    let none : list_any blocks (numbers_of o) ≡ false =
+    ap (list_any blocks) numbers ∙ ap (λ (h : Option Holder). (is_some h && both_conflict (task_of o 1) (task_of o 1)) || false) (unheld journal unasked) in
     let free : is_free o journal 1 ≡ true = rw (unclaimed, none) refl in
     ap (find (is_free o journal)) numbers ∙ ap (λ (b : Bool). cond {A = Option ℕ} b (Some 1) None) free
 
--- the claim is the main thread's
-pub own_claim : (past : List Entry) (child : ℕ) (more : List Entry) → is_claimed_by (past ++ main_entry (Claim 1 child) ∷ more) 0 1 ≡ true
-own_claim past child more =
-    list_any-append (λ (e : Entry). e.by == 0 && claims 1 e.what) past (main_entry (Claim 1 child) ∷ more) ∙ or_true (is_claimed_by past 0 1)
+-- the main thread holds it for the child
+pub own_holder : (past : List Entry) (child : ℕ) (more : List Entry) → each_of claim_in more ≡ [] → each_of answer_in more ≡ []
+    → holder ((past ++ main_entry (Claim 1 child) ∷ []) ++ more) 1 ≡ Some (record { by = 0; child = child })
+own_holder past child more c a =
+    holder_append (past ++ main_entry (Claim 1 child) ∷ []) more 1
+    ∙ unturned (holder (past ++ main_entry (Claim 1 child) ∷ []) 1) more c a
+    ∙ holder_append past (main_entry (Claim 1 child) ∷ []) 1

@@ -3,11 +3,11 @@ use Rattle.std.proofs.Common.{◌≡◌, ℕ, List, [], ◌∷◌, ◌++◌, ref
 use Rattle.std.specs.Prelude.{◌||◌, filter_map, is_some, bytes_eq}
 use Rattle.std.specs.List.{list_any, last_or}
 use Rattle.std.specs.Option.{option_or}
-use Rattle.annex_model.specs.declared.verdict.Why.{Why}
-use Rattle.annex_model.specs.declared.verdict.Why.TheVariants.{Closed}
-use Rattle.annex_model.specs.declared.verdict.Verdict.{Verdict}
-use Rattle.annex_model.specs.declared.verdict.Verdict.TheVariants.{Done, Failed, Absent, Unknown, Unsupported, Ended, Unsent}
-use Rattle.annex_model.specs.declared.verdict.Final.TheVariants.{Done as DoneSo, Failed as FailedSo, Absent as AbsentSo, Unknown as UnknownSo, Unsupported as UnsupportedSo}
+use Rattle.journal_model.specs.declared.verdict.Why.{Why}
+use Rattle.journal_model.specs.declared.verdict.Why.TheVariants.{Closed}
+use Rattle.journal_model.specs.declared.verdict.Verdict.{Verdict}
+use Rattle.journal_model.specs.declared.verdict.Verdict.TheVariants.{Done, Failed, Absent, Unknown, Unsupported, Ended, Unsent}
+use Rattle.annex_model.specs.declared.final_line.Final.TheVariants.{Done as DoneSo, Failed as FailedSo, Absent as AbsentSo, Unknown as UnknownSo, Unsupported as UnsupportedSo}
 use Rattle.annex_model.specs.Messages.{RemoteMessage, CheckpresentSuccess, CheckpresentFailure, CheckpresentUnknown, Checkpresent}
 use Rattle.annex_model.specs.Talks.{one_line, said_alone, is_unsupported, final_of}
 use Rattle.journal_model.specs.declared.answer.Answer.{Answer}
@@ -17,7 +17,7 @@ use Rattle.journal_model.specs.declared.entry.What.TheVariants.{Start, NoStart}
 use Rattle.journal_model.specs.declared.entry.Entry.{Entry}
 use Rattle.journal_model.specs.declared.opening.Opening.{Opening}
 use Rattle.journal_model.specs.Journal.{any, each_of, mutes, is_ended, is_mute, verdict_of, why_of}
-use Rattle.journal_model.specs.Legality.{Legal, is_prepared}
+use Rattle.journal_model.specs.Legality.{Legal, is_done}
 use Rattle.journal_model.specs.Projection.{IsNamed}
 use Rattle.journal_model.proofs.Looks.{any-append}
 use Rattle.journal_model.proofs.Linking.{why_is_end, why_of-append}
@@ -101,7 +101,7 @@ cause_of_lost past c answer gone None is says =
 
 -- an answer by a child that was not ready
 cause_unready : (past : List Entry) (c : ℕ) (answer : Answer) → unready_answer past c ≡ Some answer → HasCause past answer
-cause_unready past c answer h = go (is_prepared past c) (refusal_of past c) (is_ended past c) (is_mute past c) refl (why_of past c) refl h
+cause_unready past c answer h = go (is_done (verdict_of past c 1)) (refusal_of past c) (is_ended past c) (is_mute past c) refl (why_of past c) refl h
   where
     go : (p : Bool) (r : Option ℕ) (e m : Bool) → is_mute past c ≡ m → (w : Option Why) → why_of past c ≡ w
         → cond p None (or_refusal (cond e (ended_answer w) (cond m (Some UnsentAnswer) None)) r) ≡ Some answer → HasCause past answer

@@ -2,11 +2,10 @@
 use Rattle.std.proofs.Common.{◌≡◌, ◌⊎◌, ◌<◌, ◌^◌, ℕ, List, [], ◌∷◌, ◌++◌, length, refl, sym, ap, subst, ◌∙◌, append_assoc, arith, Bool, true, false, ◌==◌, cond, Some, None, Option, inl, inr}
 use Rattle.std.specs.Prelude.{◌||◌, nat_lt, filter_map, option_and_then, option_map, is_some}
 use Rattle.std.specs.List.{list_all, list_any, last_or}
-use Rattle.std.proofs.lemmas.List.Folds.{list_any-append}
-use Rattle.annex_model.specs.declared.verdict.Why.{Why}
-use Rattle.annex_model.specs.declared.verdict.Why.TheVariants.{Closed}
-use Rattle.annex_model.specs.declared.verdict.Verdict.{Verdict}
-use Rattle.annex_model.specs.declared.verdict.Verdict.TheVariants.{Failed, Unsupported}
+use Rattle.journal_model.specs.declared.verdict.Why.{Why}
+use Rattle.journal_model.specs.declared.verdict.Why.TheVariants.{Closed}
+use Rattle.journal_model.specs.declared.verdict.Verdict.{Verdict}
+use Rattle.journal_model.specs.declared.verdict.Verdict.TheVariants.{Failed, Unsupported}
 use Rattle.annex_model.specs.Messages.{HostMessage, Checkpresent, host_line, host_reading, is_sent_key}
 use Rattle.annex_model.proofs.Readings.{canonical_read}
 use Rattle.journal_model.specs.declared.answer.Answer.{Answer}
@@ -17,8 +16,9 @@ use Rattle.journal_model.specs.declared.entry.Entry.{Entry}
 use Rattle.journal_model.specs.declared.opening.Opening.{Opening}
 use Rattle.journal_model.specs.Output.{answer_in}
 use Rattle.journal_model.specs.Journal.{any, each_of, addressed, asks, starts, is_ended, is_open, is_started, is_tagged, on_wire, open_jobs, asked_jobs, verdict_of, why_of}
-use Rattle.journal_model.specs.Legality.{claims, answers, claims_with, is_claimed, is_claimed_by, is_busy, has_open_job, job_for, is_greeted, may_work, may_ask, is_prepared, is_done, is_empty}
-use Rattle.journal_model.proofs.Looks.{same, each_of-append, any-append, verdict_of-append}
+use Rattle.journal_model.specs.Legality.{prepares, holder, is_held_by, is_held_for, is_busy_with, is_claimed_by, has_open_job, job_for, is_greeted, may_work, may_ask, is_prepared, is_done, is_empty}
+use Rattle.journal_model.proofs.Holding.{holder_append}
+use Rattle.journal_model.proofs.Looks.{both, same, each_of-append, any-append, verdict_of-append}
 use Rattle.journal_model.proofs.Linking.{why_is_end}
 use Rattle.host_core.specs.Steps.{next_job, may_request}
 use Rattle.host_core.proofs.Wiring.{wired_text}
@@ -36,7 +36,7 @@ use Rattle.special_cli.proofs.Causing.{cause_grows, cause_of_verdict, cause_of_l
 use Rattle.special_cli.specs.Endings.{start_in, starts_in, is_for_task}
 use Rattle.special_cli.specs.Runs.{main_entry, claim_in, AsksFor, IsBegun, IsDone}
 use Rattle.special_cli.proofs.Looking.{or_true, link_says_none, through, all_both, all_weaken, any_none}
-use Rattle.special_cli.proofs.Beginning.{no_starts, no_claims, no_answers, no_jobs, link_for_task, link_asks_none, answered_by_list, first_claim, own_claim}
+use Rattle.special_cli.proofs.Beginning.{no_starts, no_claims, no_answers, no_jobs, link_for_task, link_asks_none, answered_by_list, first_claim, own_holder}
 
 -- ---- claimed without a child
 
@@ -69,7 +69,7 @@ module _ (key : List ℕ) (first : What) (past journal : List Entry) (answer : A
         starts = each_of-append start_in past (claim ∷ []) ∙ ap (λ (xs : List What). xs ++ []) begun.starts;
         child = 0;
         claims = claimed;
-        own = own_claim past 0 [];
+        own = ap (is_held_by 0) (holder_append past (claim ∷ []) 1);
         silent = each_of-append answer_in past (claim ∷ []) ∙ ap (λ (xs : List (ℕ × Answer)). xs ++ []) begun.silent;
         idle = ap (list_any (λ (q : ℕ × ℕ). is_open all q.0 q.1)) jobs;
         run = subst (CheckOver key all 1 answer) (sym (first_claim all 0 claimed)) (unasked, zero_run);
@@ -103,7 +103,7 @@ pub refused_start : (past : List Entry) (c : ℕ) (v : Verdict) (answer : Answer
 refused_start past c v answer starts one h is =
     let place : refused_at v ≡ Some h.place = refused_place v h.place h.refusal in
     let refusal : refusal_of past c ≡ Some h.place = ap (option_and_then refused_at) h.settled ∙ place in
-    let said : unready_answer past c ≡ Some (NotPrepared h.place) = rw h.unprepared (ap (or_refusal (gone_answer past c)) refusal) in
+    let said : unready_answer past c ≡ Some (NotPrepared h.place) = rw h.undone (ap (or_refusal (gone_answer past c)) refusal) in
     ap (failed_start past) (last_came (Start 1 0 false) past starts) ∙ ap (unready_answer past) (sym one) ∙ said ∙ sym (is ∙ ap (option_map NotPrepared) place)
 
 unrefused : (v : Option Verdict) → is_refusal v ≡ false → option_and_then refused_at v ≡ None
@@ -119,7 +119,7 @@ ended_start past c why starts one h =
     let ended : is_ended past c ≡ true = sym (why_is_end past c) ∙ ap is_some h.ended in
     let none : refusal_of past c ≡ None = unrefused (verdict_of past c 1) h.unrefused in
     let gone : gone_answer past c ≡ Some (EndedAnswer why) = rw (ended, h.ended) (kept_answer why h.kept) in
-    let said : unready_answer past c ≡ Some (EndedAnswer why) = rw h.unprepared (ap (or_refusal (gone_answer past c)) none ∙ gone) in
+    let said : unready_answer past c ≡ Some (EndedAnswer why) = rw h.undone (ap (or_refusal (gone_answer past c)) none ∙ gone) in
     ap (failed_start past) (last_came (Start 1 0 false) past starts) ∙ ap (unready_answer past) (sym one) ∙ said
 
 -- it was mute before it was prepared
@@ -128,7 +128,7 @@ pub unsent_start : (past : List Entry) (c : ℕ) → starts_in past ≡ Start 1 
 unsent_start past c starts one h =
     let none : refusal_of past c ≡ None = unrefused (verdict_of past c 1) h.unrefused in
     let gone : gone_answer past c ≡ Some UnsentAnswer = rw (h.live, h.mute) refl in
-    let said : unready_answer past c ≡ Some UnsentAnswer = rw h.unprepared (ap (or_refusal (gone_answer past c)) none ∙ gone) in
+    let said : unready_answer past c ≡ Some UnsentAnswer = rw h.undone (ap (or_refusal (gone_answer past c)) none ∙ gone) in
     ap (failed_start past) (last_came (Start 1 0 false) past starts) ∙ ap (unready_answer past) (sym one) ∙ said
 
 -- it wasn't started
@@ -150,20 +150,24 @@ module _ (o : Opening) (first : What) (past : List Entry) (c : ℕ) (begun : IsB
   pub idle_now : has_open_job claimed 1 ≡ false
   idle_now = ap (list_any (λ (q : ℕ × ℕ). is_open claimed q.0 q.1)) task_jobs
 
-  busy : is_busy claimed 1 ≡ true
-  busy =
-      let here : is_claimed claimed 1 ≡ true = any-append (claims 1) past (main_entry (Claim 1 c) ∷ []) ∙ or_true (is_claimed past 1) in
-      let unanswered : any (answers 1) claimed ≡ false = any-append (answers 1) past (main_entry (Claim 1 c) ∷ []) ∙ ap (λ (b : Bool). b || false) (answered_by_list past ∙ ap (list_any (λ (p : ℕ × Answer). p.0 == 1)) begun.silent) in
-      rw (here, unanswered) refl
+  held : holder claimed 1 ≡ Some (record { by = 0; child = c })
+  held = holder_append past (main_entry (Claim 1 c) ∷ []) 1
 
-  mine : list_any (claims_with 0 1 c) claimed ≡ true
-  mine = list_any-append (claims_with 0 1 c) past (main_entry (Claim 1 c) ∷ []) ∙ ap (λ (b : Bool). list_any (claims_with 0 1 c) past || (b || false)) (same c) ∙ or_true (list_any (claims_with 0 1 c) past)
+  mine : is_claimed_by claimed 0 1 ≡ true
+  mine = ap (is_held_by 0) held
+
+  busy : is_busy_with claimed c 1 ≡ true
+  busy = ap (is_held_for c) held ∙ same c
 
   pub idle_child : open_jobs past c ≡ [] → open_jobs claimed c ≡ []
   idle_child idle = idle_on past (main_entry (Claim 1 c) ∷ []) c refl idle
 
   prepared : is_prepared claimed c ≡ true
-  prepared = ap is_done (verdict_of-append c 1 past (main_entry (Claim 1 c) ∷ [])) ∙ go (verdict_of past c 1) ready.prepared
+  prepared =
+      let t = both (is_done (verdict_of past c 1)) (any (prepares c) past) ready.prepared in
+      let done : is_done (verdict_of claimed c 1) ≡ true = ap is_done (verdict_of-append c 1 past (main_entry (Claim 1 c) ∷ [])) ∙ go (verdict_of past c 1) t.0 in
+      let asked : any (prepares c) claimed ≡ true = any-append (prepares c) past (main_entry (Claim 1 c) ∷ []) ∙ ap (λ (b : Bool). b || false) t.1 in
+      rw (done, asked) refl
     where
       go : (v : Option Verdict) → is_done v ≡ true → is_done (option_or v None) ≡ true
       go None h = absurd cc
@@ -209,7 +213,7 @@ module _ (o : Opening) (first : What) (past : List Entry) (c : ℕ) (begun : IsB
           starts = each_of-append start_in claimed more ∙ ap (λ (xs : List What). xs ++ each_of start_in more) (each_of-append start_in past (main_entry (Claim 1 c) ∷ [])) ∙ (rw (begun.starts, h.0) refl);
           child = c;
           claims = all;
-          own = ap (λ (j : List Entry). is_claimed_by j 0 1) whole ∙ own_claim past c more;
+          own = ap (is_held_by 0) (own_holder past c more h.1 h.2);
           silent = each_of-append answer_in claimed more ∙ ap (λ (xs : List (ℕ × Answer)). xs ++ each_of answer_in more) (each_of-append answer_in past (main_entry (Claim 1 c) ∷ [])) ∙ (rw (begun.silent, h.2) refl);
           idle = h.3;
           run = subst (CheckOver key (claimed ++ more) 1 answer) (sym (first_claim (claimed ++ more) c all)) (subst (λ (k : ℕ). CheckOver key (claimed ++ more) 1 answer (Some k)) (sym one) h.5);

@@ -1,8 +1,8 @@
 -- From a task that is done to the end of the run.
-use Rattle.std.proofs.Common.{◌≡◌, ◌⊎◌, ℕ, zero, suc, List, [], ◌∷◌, ◌++◌, refl, sym, ap, subst, ◌∙◌, append_assoc, Bool, true, false, not, ◌==◌, cond, Some, None, Option, inl, inr}
-use Rattle.std.specs.Prelude.{◌&&◌, ◌||◌, filter_map, option_and_then}
+use Rattle.std.proofs.Common.{◌≡◌, ◌⊎◌, ℕ, zero, suc, List, [], ◌∷◌, ◌++◌, refl, sym, ap, subst, ◌∙◌, append_assoc, Bool, true, false, ◌==◌, cond, Some, None, Option, inl, inr}
+use Rattle.std.specs.Prelude.{◌||◌, filter_map, option_and_then}
 use Rattle.std.specs.List.{list_all, list_any, cons_option}
-use Rattle.annex_model.specs.declared.verdict.Why.TheVariants.{Closed}
+use Rattle.journal_model.specs.declared.verdict.Why.TheVariants.{Closed}
 use Rattle.journal_model.specs.declared.answer.Answer.{Answer}
 use Rattle.journal_model.specs.declared.answer.Answer.TheVariants.{Memory}
 use Rattle.journal_model.specs.declared.entry.What.{What}
@@ -10,7 +10,9 @@ use Rattle.journal_model.specs.declared.entry.What.TheVariants.{Claim, End, Answ
 use Rattle.journal_model.specs.declared.entry.Entry.{Entry}
 use Rattle.journal_model.specs.Output.{answer_in}
 use Rattle.journal_model.specs.Journal.{any, each_of, starts, ends, is_started, is_ended, is_live, open_jobs}
-use Rattle.journal_model.specs.Legality.{answers, claimed_for, is_claimed, is_busy, has_busy_task, has_open_job, may_stop}
+use Rattle.journal_model.specs.declared.holder.Holder.{Holder}
+use Rattle.journal_model.specs.Legality.{holder, is_held_for, claimed_for, is_busy_with, has_busy_task, has_open_job, may_stop}
+use Rattle.journal_model.proofs.Holding.{holder_append}
 use Rattle.journal_model.proofs.Looks.{same, each_of-append, any-append}
 use Rattle.journal_model.proofs.Linking.{linked_apart}
 use Rattle.journal_model.proofs.Heard.{heard_on}
@@ -25,14 +27,11 @@ use Rattle.special_cli.specs.Endings.{start_in, is_for_task, closing}
 use Rattle.special_cli.specs.Runs.{main_entry, claim_in, IsDone, IsRun}
 use Rattle.special_cli.proofs.Causing.{cause_grows}
 use Rattle.special_cli.proofs.Looking.{or_true, through, all_both}
-use Rattle.special_cli.proofs.Beginning.{claimed_by_list, answered_by_list, first_claim}
+use Rattle.special_cli.proofs.Beginning.{first_claim}
 
 -- the answer may be given
 pub may_give : (key : List ℕ) (first : What) (journal : List Entry) (answer : Answer) → IsDone key first journal answer → may_answer journal 0 1 ≡ true
-may_give key first journal answer d =
-    let claimed : is_claimed journal 1 ≡ true = claimed_by_list journal ∙ ap (list_any (λ (p : ℕ × ℕ). p.0 == 1)) d.claims in
-    let open_still : any (answers 1) journal ≡ false = answered_by_list journal ∙ ap (list_any (λ (p : ℕ × Answer). p.0 == 1)) d.silent in
-    rw (d.own, claimed, open_still, d.idle) refl
+may_give key first journal answer d = rw (d.own, d.idle) refl
 
 -- ---- the child is to be closed
 
@@ -47,22 +46,16 @@ module _ (key : List ℕ) (first : What) (past journal : List Entry) (answer : A
   abbrev all : List Entry
   all = past ++ main_entry (Answered 1 answer) ∷ []
 
-  over : is_busy all 1 ≡ false
-  over =
-      let done : any (answers 1) all ≡ true = any-append (answers 1) past (main_entry (Answered 1 answer) ∷ []) ∙ or_true (any (answers 1) past) in
-      go (is_claimed all 1) done
-    where
-      go : (b : Bool) → any (answers 1) all ≡ true → (b && not (any (answers 1) all)) ≡ false
-      go true e = rw e refl
-      go false e = refl
+  over : holder all 1 ≡ None
+  over = holder_append past (main_entry (Answered 1 answer) ∷ []) 1
 
   none_busy : (c : ℕ) → has_busy_task all c ≡ false
   none_busy c =
       let claims : each_of claim_in all ≡ (1, d.child) ∷ [] = each_of-append claim_in past (main_entry (Answered 1 answer) ∷ []) ∙ ap (λ (xs : List (ℕ × ℕ)). xs ++ []) d.claims in
-      ap (list_any (is_busy all)) (through (claimed_for c) claim_in (task_for c) (claimed_for_is c) all ∙ ap (filter_map (task_for c)) claims) ∙ go (d.child == c)
+      ap (list_any (is_busy_with all c)) (through (claimed_for c) claim_in (task_for c) (claimed_for_is c) all ∙ ap (filter_map (task_for c)) claims) ∙ go (d.child == c)
     where
-      go : (b : Bool) → list_any (is_busy all) (cons_option (cond {A = Option ℕ} b (Some 1) None) []) ≡ false
-      go true = rw over refl
+      go : (b : Bool) → list_any (is_busy_with all c) (cons_option (cond {A = Option ℕ} b (Some 1) None) []) ≡ false
+      go true = ap (λ (h : Option Holder). is_held_for c h || false) over
       go false = refl
 
   pub may_close : (c : ℕ) → open_jobs past c ≡ [] → may_stop journal c Closed ≡ true

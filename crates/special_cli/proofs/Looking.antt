@@ -1,16 +1,16 @@
 -- What a list of entries says through one small function of an entry.
 use Rattle.std.proofs.Common.{◌≡◌, ℕ, List, [], ◌∷◌, ◌++◌, refl, ap, ◌∙◌, Bool, true, false, ◌==◌, Some, None, Option}
-use Rattle.std.specs.Prelude.{◌&&◌, ◌||◌, nat_lt, filter_map, option_and_then}
+use Rattle.std.specs.Prelude.{◌&&◌, ◌||◌, filter_map, option_and_then}
 use Rattle.std.specs.List.{list_all, list_any, cons_option}
-use Rattle.annex_model.specs.declared.verdict.Why.{Why}
-use Rattle.annex_model.specs.declared.verdict.Verdict.{Verdict}
+use Rattle.journal_model.specs.declared.verdict.Why.{Why}
+use Rattle.journal_model.specs.declared.verdict.Verdict.{Verdict}
 use Rattle.journal_model.specs.declared.entry.What.{What}
 use Rattle.journal_model.specs.declared.entry.What.TheVariants.{Claim, Start, NoStart, Ask, Put, Sent, Mute, Got, End, Verdict as Settled, Lost, Answer as Answered}
 use Rattle.journal_model.specs.declared.entry.Entry.{Entry}
 use Rattle.journal_model.specs.Journal.{any, each_of}
 use Rattle.journal_model.proofs.Looks.{both, same_number}
 use Rattle.child_link.specs.Doors.{is_of_link}
-use Rattle.child_start.specs.Greetings.{is_of_greeting}
+use Rattle.child_start.specs.Greetings.{is_greeting_line, is_of_greeting}
 
 -- ---- what links and greetings don't say
 
@@ -39,13 +39,13 @@ of_link f v (Ask child job task line) h = absurd cc
 of_link f v (Lost child task) h = absurd cc
 of_link f v (Answered task answer) h = absurd cc
 
-pub no_task : (c child task job : ℕ) → (child == c && (task == 0 && nat_lt job 2)) ≡ true → task ≡ 0
-no_task c child task job h =
-    let t = both (child == c) (task == 0 && nat_lt job 2) h in
-    same_number task 0 (both (task == 0) (nat_lt job 2) t.1).0
+pub no_task : (c child task : ℕ) (b : Bool) → (child == c && (task == 0 && b)) ≡ true → task ≡ 0
+no_task c child task b h =
+    let t = both (child == c) (task == 0 && b) h in
+    same_number task 0 (both (task == 0) b t.1).0
 
 of_greeting : {X : Type 0} (f : What → Option X) → Vanishes f → (c : ℕ) (w : What) → is_of_greeting c w ≡ true → f w ≡ None
-of_greeting f v c (Ask child job task line) h = ap (λ (t : ℕ). f (Ask child job t line)) (no_task c child task job h) ∙ v.ask child job line
+of_greeting f v c (Ask child job task line) h = ap (λ (t : ℕ). f (Ask child job t line)) (no_task c child task (is_greeting_line job line) h) ∙ v.ask child job line
 of_greeting f v c (Lost child task) h = ap (λ (t : ℕ). f (Lost child t)) (same_number task 0 (both (child == c) (task == 0) h).1) ∙ v.lost child
 of_greeting f v c (Put c' j line) h = v.put c' j line
 of_greeting f v c (Sent c') h = v.sent c'

@@ -3,22 +3,22 @@ use Rattle.std.proofs.Common.{◌≡◌, ◌⊎◌, ℕ, zero, suc, List, [], �
 use Rattle.std.specs.Prelude.{◌&&◌, ◌||◌, nat_lt, take, map, codes, option_and_then, IsSome, IfOk, Result, Ok, Err}
 use Rattle.std.specs.Option.{option_or}
 use Rattle.std.specs.List.{list_all, list_any, cons_option}
-use Rattle.annex_model.specs.declared.verdict.Why.{Why}
-use Rattle.annex_model.specs.declared.verdict.Why.TheVariants.{Closed}
-use Rattle.annex_model.specs.declared.verdict.Verdict.{Verdict}
-use Rattle.annex_model.specs.declared.verdict.Verdict.TheVariants.{Failed as FailedAt, Unsupported as UnsupportedAt}
+use Rattle.journal_model.specs.declared.verdict.Why.{Why}
+use Rattle.journal_model.specs.declared.verdict.Why.TheVariants.{Closed}
+use Rattle.journal_model.specs.declared.verdict.Verdict.{Verdict}
+use Rattle.journal_model.specs.declared.verdict.Verdict.TheVariants.{Failed as FailedAt, Unsupported as UnsupportedAt}
 use Rattle.annex_model.specs.Messages.{host_line}
 use Rattle.journal_model.specs.declared.entry.What.{What}
 use Rattle.journal_model.specs.declared.entry.What.TheVariants.{Claim, Start, NoStart, Ask, End, Answer as Answered}
 use Rattle.journal_model.specs.declared.entry.Entry.{Entry}
 use Rattle.journal_model.specs.declared.opening.Opening.{Opening}
 use Rattle.journal_model.specs.Journal.{any, each_of, starts, ends, mutes, offers, is_started, is_ended, is_mute, asked_jobs, open_jobs, verdict_of, why_of}
-use Rattle.journal_model.specs.Legality.{Legal, claimed_for, is_busy, has_busy_task, may_stop}
+use Rattle.journal_model.specs.Legality.{Legal, claimed_for, is_busy_with, has_busy_task, may_stop}
 use Rattle.journal_model.proofs.Looks.{both, any-append, each_of-append, verdict_of-append}
 use Rattle.journal_model.proofs.Linking.{why_of-append}
 use Rattle.task_run.specs.TaskRuns.{refused_at}
 use Rattle.child_link.specs.Doors.{Closes}
-use Rattle.child_start.specs.Greetings.{Greeted, IsReady, IsRefused, HasEnded, IsUnsent, is_of_greeting}
+use Rattle.child_start.specs.Greetings.{Greeted, IsReady, IsRefused, HasEnded, IsUnsent, is_greeting_line, is_of_greeting}
 use Rattle.child_start.proofs.Jobs.{idle_on}
 use Rattle.info_run.specs.Infos.{questions}
 use Rattle.info_run.specs.Askings.{line_to, asked_lines, is_of_asking, AsksFront, IsAnswered, HasFailed}
@@ -36,8 +36,8 @@ use Rattle.special_cli.proofs.Looking.{or_true, all_weaken, any_none}
 
 early_greeting : (c : ℕ) (w : What) → is_of_greeting c w ≡ true → is_early c w ≡ true
 early_greeting c (Ask child job task line) h =
-    let t = both (child == c) (task == 0 && nat_lt job 2) h in
-    rw (both (task == 0) (nat_lt job 2) t.1).1 (or_true (not (child == c)))
+    let t = both (child == c) (task == 0 && is_greeting_line job line) h in
+    rw (both (task == 0) (is_greeting_line job line) t.1).1 (or_true (not (child == c)))
 early_greeting c w h = refl
 
 plain_greeting : (c d : ℕ) (w : What) → is_of_greeting c w ≡ true → offers d w ≡ false
@@ -185,7 +185,7 @@ no_claims c (e ∷ journal) h = go e.what h (no_claims c journal)
 
 pub may_close : (key : Option (List ℕ)) (journal : List Entry) (c : ℕ) → IsInterviewed key journal c → may_stop journal c Closed ≡ true
 may_close key journal c t =
-    let idle : has_busy_task journal c ≡ false = ap (list_any (is_busy journal)) (no_claims c journal t.taskless) in
+    let idle : has_busy_task journal c ≡ false = ap (list_any (is_busy_with journal c)) (no_claims c journal t.taskless) in
     rw (t.settled, idle) refl
 
 -- the entry that closes it, or none

@@ -1,7 +1,7 @@
 // The one task of a check, event by event through the core, over a child that was greeted or over none.
 ghost use Rattle.std.specs.Prelude.{◌≡◌, ◌++◌, ℕ, List, [], ◌∷◌, Some, true, false, if◌then◌else◌, MatchResult, IfOk};
 ghost use Rattle.annex_model.specs.Messages.{Checkpresent, is_sent_key};
-ghost use Rattle.annex_model.specs.declared.verdict.Why.TheVariants.{Closed};
+ghost use Rattle.journal_model.specs.declared.verdict.Why.TheVariants.{Closed};
 ghost use Rattle.journal_model.specs.declared.entry.What.TheVariants.{Claim, Start, NoStart, Answer as Answered};
 ghost use Rattle.journal_model.specs.declared.entry.What.{What};
 ghost use Rattle.journal_model.specs.Journal.{is_started, open_jobs};

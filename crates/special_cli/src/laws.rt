@@ -1,6 +1,6 @@
 // Laws over the definitions, each the contract of a function with nothing to do.
 ghost use Rattle.std.specs.Prelude.{ℕ, ◌≡◌, ◌++◌, List, [], ◌∷◌, Option, Some, None, codes, true, false};
-ghost use Rattle.annex_model.specs.declared.verdict.Why.TheVariants.{Error};
+ghost use Rattle.journal_model.specs.declared.verdict.Why.TheVariants.{Error};
 ghost use Rattle.journal_model.specs.declared.answer.Answer.{Answer};
 ghost use Rattle.journal_model.specs.declared.answer.Answer.TheVariants.{Present, Absent, Unknown, NotPrepared, Ended};
 ghost use Rattle.journal_model.specs.declared.entry.What.TheVariants.{Got};

@@ -2,11 +2,11 @@
 use Rattle.std.proofs.Common.{◌≡◌, ℕ, List, [], ◌∷◌, ◌++◌, refl, sym, ap, ◌∙◌, Bool, true, false, Option, Some, None, if◌then◌else◌, append_assoc, append-nil, subst}
 use mathlib.Core.Logic.{inl, inr}
 use Rattle.std.specs.Prelude.{IsSome, IsTrue, ◌⊎◌, map}
-use Rattle.annex_model.specs.declared.verdict.Final.{Final}
+use Rattle.annex_model.specs.declared.final_line.Final.{Final}
 use Rattle.annex_model.specs.Messages.{RemoteMessage, HostMessage, remote_reading}
 use Rattle.annex_model.specs.Talks.{Item, Conv, Talking, is_aside, spells_aside, final_of, awaits, said}
 use Rattle.annex_model.proofs.TalksGrow.{said-push, replied-push, Conv-push, Talking-aside}
-use Rattle.journal_model.specs.Due.{by_answer}
+use Rattle.annex_model.specs.Hearings.{by_answer}
 use Rattle.talk_serial.specs.declared.talk.Heard.{Heard}
 use Rattle.talk_serial.specs.declared.talk.Heard.TheVariants.{Aside, Part, Settled, Foul}
 use Rattle.talk_serial.specs.Hearings.{heard_as, heard, is_taken, are_taken, from_remote, from_host}

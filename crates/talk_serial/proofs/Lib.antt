@@ -1,3 +1,4 @@
 pub mod Hearing
 pub mod Lists
+pub mod Reading
 pub mod Staging

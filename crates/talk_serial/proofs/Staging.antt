@@ -1,10 +1,10 @@
 -- How far a talk has come is how far the answer has.
 use Rattle.std.proofs.Common.{◌≡◌, List, [], ◌∷◌, ◌++◌, refl, sym, ap, subst, ◌∙◌, Bool, true, false, ◌&&◌, Option, Some, if◌then◌else◌}
-use Rattle.annex_model.specs.declared.verdict.Final.{Final}
-use Rattle.annex_model.specs.declared.verdict.Final.TheVariants.{Unsupported}
+use Rattle.annex_model.specs.declared.final_line.Final.{Final}
+use Rattle.annex_model.specs.declared.final_line.Final.TheVariants.{Unsupported}
 use Rattle.annex_model.specs.Messages.{RemoteMessage, HostMessage}
 use Rattle.annex_model.specs.Talks.{Shape, OneLine, Configs, Infos, shape_of, is_aside, is_configend, is_infofield, is_infovalue, is_infoend, is_unsupported, is_nothing, may_go_on, done_if, by_shape, final_of, awaits}
-use Rattle.journal_model.specs.Due.{by_answer}
+use Rattle.annex_model.specs.Hearings.{by_answer}
 use Rattle.talk_serial.specs.declared.request.Request.{Request}
 use Rattle.talk_serial.specs.declared.talk.Heard.{Heard}
 use Rattle.talk_serial.specs.declared.talk.Heard.TheVariants.{Aside, Part, Settled, Foul}

@@ -1,9 +1,9 @@
 -- What a message is to a talk.
 use Rattle.std.specs.Prelude.{ℕ, ◌≡◌, ◌↔◌, ◌⊎◌, ◌&&◌, Bool, true, false, if◌then◌else◌, List, [], ◌∷◌, ◌++◌, Option, Some, IsSome, IsTrue, map}
-use Rattle.annex_model.specs.declared.verdict.Final.{Final}
+use Rattle.annex_model.specs.declared.final_line.Final.{Final}
 use Rattle.annex_model.specs.Messages.{RemoteMessage, HostMessage, remote_reading}
 use Rattle.annex_model.specs.Talks.{Item, Host, Remote, Conv, Talking, is_aside, is_infofield, is_nothing, final_of, awaits, said}
-use Rattle.journal_model.specs.Due.{Hearing, Aside, Part, Settles, Strange, hearing_of}
+use Rattle.annex_model.specs.Hearings.{Hearing, Aside, Part, Settles, Strange, hearing_of}
 use Rattle.talk_serial.specs.declared.talk.Heard.{Heard}
 use Rattle.talk_serial.specs.declared.talk.Heard.TheVariants.{Aside as HeardAside, Part as HeardPart, Settled, Foul}
 use Rattle.talk_serial.specs.Talked.{Talked, is_over, is_waiting, is_half}

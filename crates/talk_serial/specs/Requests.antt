@@ -1,7 +1,8 @@
--- The message that asks a request.
-use Rattle.std.specs.Prelude.{ℕ, Bool, true, false, List, codes}
+-- Requests, and the messages that ask them.
+use Rattle.std.specs.Prelude.{◌||◌, Bool, true, false, bytes_eq}
+use Rattle.std.specs.Str.{is_utf8}
 use Rattle.annex_model.specs.Extensions.{names_of}
-use Rattle.annex_model.specs.Messages.{HostMessage, AskExtensions, Prepare, Initremote, Transfer, Checkpresent, Remove, Listconfigs, Getcost, Getavailability, Getinfo, Whereis}
+use Rattle.annex_model.specs.Messages.{HostMessage, AskExtensions, Prepare, Initremote, Transfer, Checkpresent, Remove, Listconfigs, Getcost, Getavailability, Getinfo, Whereis, Value, Creds, HostError}
 use Rattle.talk_serial.specs.declared.request.Request.{Request}
 use Rattle.talk_serial.specs.declared.request.Request.TheVariants.{Extensions as ExtensionsRequest, Prepare as PrepareRequest, InitRemote as InitRemoteRequest, ListConfigs as ListConfigsRequest, GetCost as GetCostRequest, GetAvailability as GetAvailabilityRequest, GetInfo as GetInfoRequest, Transfer as TransferRequest, CheckPresent as CheckPresentRequest, Remove as RemoveRequest, WhereIs as WhereIsRequest}
 
@@ -17,3 +18,12 @@ message_of (TransferRequest store key file) = Transfer store key file
 message_of (CheckPresentRequest key) = Checkpresent key
 message_of (RemoveRequest key) = Remove key
 message_of (WhereIsRequest key) = Whereis key
+
+-- some request asks the message: it is no reply, its names are those that a host tells, and its file is named by text
+abbrev pub is_request : HostMessage → Bool
+is_request (AskExtensions names) = bytes_eq names (names_of true) || bytes_eq names (names_of false)
+is_request (Transfer store key file) = is_utf8 file
+is_request (Value value) = false
+is_request (Creds user password) = false
+is_request (HostError text) = false
+is_request q = true

@@ -1,9 +1,9 @@
 -- What one more message is to a talk, by how far it has come.
 use Rattle.std.specs.Prelude.{◌&&◌, Bool, true, false, if◌then◌else◌, [], ◌∷◌, Some, None}
-use Rattle.annex_model.specs.declared.verdict.Final.TheVariants.{Unsupported}
+use Rattle.annex_model.specs.declared.final_line.Final.TheVariants.{Unsupported}
 use Rattle.annex_model.specs.Messages.{RemoteMessage, HostMessage}
 use Rattle.annex_model.specs.Talks.{Shape, OneLine, Configs, Infos, shape_of, one_line, done_if, is_aside, is_unsupported, is_config, is_configend, is_infofield, is_infovalue, is_infoend}
-use Rattle.journal_model.specs.Due.{by_answer}
+use Rattle.annex_model.specs.Hearings.{by_answer}
 use Rattle.talk_serial.specs.declared.talk.Heard.{Heard}
 use Rattle.talk_serial.specs.declared.talk.Heard.TheVariants.{Aside, Part, Settled, Foul}
 use Rattle.talk_serial.specs.declared.talk.Stage.{Stage}

@@ -1,10 +1,16 @@
-ghost use Rattle.std.specs.Prelude.{◌≡◌, IfOk};
+ghost use Rattle.std.specs.Prelude.{◌≡◌, true, false, IfOk, IfSome, IsNone, bytes_eq};
+ghost use Rattle.std.specs.Str.{is_utf8};
+ghost use Rattle.ann_key.specs.KeyRefs.{text_of};
+ghost use Rattle.annex_model.specs.Messages.{Transfer};
 ghost use Rattle.wire_msg.specs.Shown.{host_shown};
 ghost use Rattle.annex_model.specs.Extensions.{names_of};
-ghost use Rattle.talk_serial.specs.Requests.{message_of};
+ghost use Rattle.annex_model.specs.Turns.{turn_of};
+ghost use Rattle.talk_serial.specs.Requests.{message_of, is_request};
 
-use ann_key::{Key, NoMemory, Text};
+use ann_key::{Key, KeyRef, NoMemory, Text};
+use annex_model::Turn;
 use std::alloc::Global;
+use std::str;
 use wire_msg::HostMsg;
 
 /// What a host asks of a remote.
@@ -45,7 +51,101 @@ pub fn extension_names(offer: bool) -> &'static [u8]
     }
 }
 
+fn are_told(names: &[u8], offer: bool) -> bool
+    ensures { result ≡ bytes_eq names.now (names_of offer) }
+{
+    names == extension_names(offer)
+}
+
+/// Whether names that a host tells offer ASYNC; None where no host tells them.
+#[tactic(auto, using(crate::proofs::Reading::told_names))]
+fn offer_of(names: &[u8]) -> Option<bool>
+    ensures told { IfSome result (λ offer. names_of offer ≡ names.now) }
+    ensures none { IsNone result → (bytes_eq names.now (names_of true) ≡ false) × (bytes_eq names.now (names_of false) ≡ false) }
+{
+    if are_told(names, true) {
+        Some(true)
+    } else if are_told(names, false) {
+        Some(false)
+    } else {
+        None
+    }
+}
+
+/// The request that transfers, where the file's name is text.
+#[tactic(auto, using(crate::proofs::Reading::no_text))]
+fn transfer(
+    alloc: Global,
+    store: bool,
+    key: KeyRef<'_>,
+    file: &[u8],
+) -> Result<Option<Request>, NoMemory>
+    ensures asks { IfOk result (λ r. IfSome r (λ r. message_of r ≡ Transfer store (text_of key.entry) file.now)) }
+    ensures none { IfOk result (λ r. IsNone r → is_utf8 file.now ≡ false) }
+{
+    match str::from_utf8(file) {
+        Ok(file) => {
+            let key = Key::copy(alloc, key)?;
+            let file = Text::copy(alloc, file)?;
+            Ok(Some(Request::Transfer { store, key, file }))
+        }
+        Err(_) => Ok(None),
+    }
+}
+
 impl Request {
+    /// The request that the message asks; None exactly where no request does.
+    #[tactic(auto, using(crate::proofs::Reading::same_offer, crate::proofs::Reading::unoffered))]
+    pub fn read(alloc: Global, message: &HostMsg<'_>) -> Result<Option<Request>, NoMemory>
+        ensures asks { IfOk result (λ r. IfSome r (λ r. message_of r ≡ host_shown message.now)) }
+        ensures none { IfOk result (λ r. IsNone r → is_request (host_shown message.now) ≡ false) }
+    {
+        match message {
+            HostMsg::Extensions(names) => match offer_of(names) {
+                Some(offer) => Ok(Some(Request::Extensions { offer })),
+                None => Ok(None),
+            },
+            HostMsg::Prepare => Ok(Some(Request::Prepare)),
+            HostMsg::Initremote => Ok(Some(Request::InitRemote)),
+            HostMsg::Transfer(store, key, file) => transfer(alloc, *store, *key, file),
+            HostMsg::Checkpresent(key) => {
+                let key = Key::copy(alloc, *key)?;
+                Ok(Some(Request::CheckPresent { key }))
+            }
+            HostMsg::Remove(key) => {
+                let key = Key::copy(alloc, *key)?;
+                Ok(Some(Request::Remove { key }))
+            }
+            HostMsg::Listconfigs => Ok(Some(Request::ListConfigs)),
+            HostMsg::Getcost => Ok(Some(Request::GetCost)),
+            HostMsg::Getavailability => Ok(Some(Request::GetAvailability)),
+            HostMsg::Getinfo => Ok(Some(Request::GetInfo)),
+            HostMsg::Whereis(key) => {
+                let key = Key::copy(alloc, *key)?;
+                Ok(Some(Request::WhereIs { key }))
+            }
+            HostMsg::Value(_) | HostMsg::Creds(_, _) | HostMsg::Error(_) => Ok(None),
+        }
+    }
+
+    /// Which of a child's jobs may ask it.
+    pub fn turn(&self) -> Turn
+        ensures { result ≡ turn_of (message_of self.now) }
+    {
+        match self {
+            Request::Extensions { .. } => Turn::First,
+            Request::Prepare | Request::InitRemote => Turn::Second,
+            Request::ListConfigs
+            | Request::GetCost
+            | Request::GetAvailability
+            | Request::GetInfo
+            | Request::Transfer { .. }
+            | Request::CheckPresent { .. }
+            | Request::Remove { .. }
+            | Request::WhereIs { .. } => Turn::Later,
+        }
+    }
+
     /// The message that asks it. It takes no memory.
     pub fn message(&self) -> HostMsg<'_>
         ensures { host_shown result ≡ message_of self.now }

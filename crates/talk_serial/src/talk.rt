@@ -1,7 +1,7 @@
 ghost use Rattle.std.specs.Prelude.{◌≡◌, ◌||◌, ◌++◌, ◌∷◌, [], List, Option, Some, None, true, false};
 ghost use Rattle.annex_model.specs.Messages.{RemoteMessage};
 ghost use Rattle.annex_model.specs.Talks.{shape_of};
-ghost use Rattle.journal_model.specs.Due.{by_answer};
+ghost use Rattle.annex_model.specs.Hearings.{by_answer};
 ghost use Rattle.wire_msg.specs.Shown.{remote_shown};
 ghost use Rattle.talk_serial.specs.Requests.{message_of};
 ghost use Rattle.talk_serial.specs.Talked.{is_over, is_last, is_waiting, is_half};

@@ -1,10 +1,10 @@
 -- What a task asked, and how it is answered.
 use Rattle.std.specs.Prelude.{ℕ, zero, suc, ◌≡◌, ◌==◌, ◌⊎◌, if◌then◌else◌, List, [], ◌∷◌, ◌++◌, Option, Some, None, option_map, option_and_then}
 use Rattle.std.specs.List.{cons_option, last_or}
-use Rattle.annex_model.specs.declared.verdict.Why.{Why}
-use Rattle.annex_model.specs.declared.verdict.Why.TheVariants.{Closed}
-use Rattle.annex_model.specs.declared.verdict.Verdict.{Verdict}
-use Rattle.annex_model.specs.declared.verdict.Verdict.TheVariants.{Done as DoneAt, Failed as FailedAt, Absent as AbsentAt, Unknown as UnknownAt, Unsupported as UnsupportedAt, Ended, Unsent}
+use Rattle.journal_model.specs.declared.verdict.Why.{Why}
+use Rattle.journal_model.specs.declared.verdict.Why.TheVariants.{Closed}
+use Rattle.journal_model.specs.declared.verdict.Verdict.{Verdict}
+use Rattle.journal_model.specs.declared.verdict.Verdict.TheVariants.{Done as DoneAt, Failed as FailedAt, Absent as AbsentAt, Unknown as UnknownAt, Unsupported as UnsupportedAt, Ended, Unsent}
 use Rattle.annex_model.specs.Messages.{HostMessage, Checkpresent, host_reading}
 use Rattle.journal_model.specs.declared.answer.Answer.{Answer}
 use Rattle.journal_model.specs.declared.answer.Answer.TheVariants.{Present, Absent, Unsupported, Unsent as UnsentAnswer, StartFault, Memory, Unknown, NotPrepared, Ended as EndedAnswer}
@@ -12,7 +12,7 @@ use Rattle.journal_model.specs.declared.entry.What.{What}
 use Rattle.journal_model.specs.declared.entry.What.TheVariants.{Claim, Start, NoStart, Ask, Lost}
 use Rattle.journal_model.specs.declared.entry.Entry.{Entry}
 use Rattle.journal_model.specs.Journal.{each_of, first_of, is_ended, is_mute, verdict_of, why_of, addressed}
-use Rattle.journal_model.specs.Legality.{is_prepared}
+use Rattle.journal_model.specs.Legality.{is_done}
 
 -- ---- what a task asked
 
@@ -113,10 +113,10 @@ gone_answer past c =
     else if is_mute past c then Some UnsentAnswer
     else None
 
--- what a child that is not prepared stands for: its refusal to get ready, or else its end or its mute
+-- what a child whose job 1 is not done stands for: its refusal, or else its end or its mute
 abbrev pub unready_answer : List Entry → ℕ → Option Answer
 unready_answer past c =
-    if is_prepared past c then None
+    if is_done (verdict_of past c 1) then None
     else or_refusal (gone_answer past c) (refusal_of past c)
 
 -- what the last start stands for where it gave no child that is prepared

@@ -1,8 +1,7 @@
 ghost use Rattle.std.specs.Prelude.{◌≡◌, Some, true, is_some};
 ghost use Rattle.task_run.specs.TaskRuns.{check_answer};
 
-use annex_model::Verdict;
-use journal_model::Answer;
+use journal_model::{Answer, Verdict};
 
 /// The answer of a check whose request was settled so. No line says of a check that it failed.
 pub fn check_answer(verdict: Verdict) -> Answer

@@ -1,7 +1,7 @@
 // Laws over the definitions, each the contract of a function with nothing to do.
 ghost use Rattle.std.specs.Prelude.{◌≡◌, ◌++◌, [], ◌∷◌, false, Some, None, codes};
-ghost use Rattle.annex_model.specs.declared.verdict.Why.TheVariants.{Eof, Closed, Foul};
-ghost use Rattle.annex_model.specs.declared.verdict.Verdict.TheVariants.{Done, Failed, Absent, Unsupported, Unknown, Ended, Unsent};
+ghost use Rattle.journal_model.specs.declared.verdict.Why.TheVariants.{Eof, Closed, Foul};
+ghost use Rattle.journal_model.specs.declared.verdict.Verdict.TheVariants.{Done, Failed, Absent, Unsupported, Unknown, Ended, Unsent};
 ghost use Rattle.annex_model.specs.Messages.{Checkpresent};
 ghost use Rattle.journal_model.specs.declared.answer.Answer.{Answer};
 ghost use Rattle.journal_model.specs.declared.answer.Answer.TheVariants.{Present, Absent as AbsentAnswer, Unsupported as UnsupportedAnswer, StartFault, Memory, Unknown as UnknownAnswer, NotPrepared, Ended as EndedAnswer};

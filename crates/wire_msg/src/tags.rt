@@ -42,12 +42,21 @@ fn numbered<'a>(word: &'a [u8], rest: Option<&'a [u8]>) -> Option<(u64, &'a [u8]
     }
 }
 
-/// The line of the message for that job: `J`, the number without leading zeros, and the message, each behind a space.
-pub fn tag(alloc: Global, job: u64, message: &[u8]) -> Result<Bytes, NoMemory>
+fn tagged(alloc: Global, job: u64, message: &[u8]) -> Result<Bytes, NoMemory>
     ensures { IfOk result (λ b. b ≡ tagged_line job message.now) }
 {
     let text = format!(in alloc; "J {job} ")?;
     let mut line = Vec::from_slice(alloc, text.as_bytes())?;
     line.extend_from_slice(message)?;
     Ok(Bytes::from_vec(line))
+}
+
+/// The line of the message for that job: `J`, the number without leading zeros, and the message, each behind a space.
+/// Untagged, it gives number and message back.
+pub fn tag(alloc: Global, job: u64, message: &[u8]) -> Result<Bytes, NoMemory>
+    ensures line { IfOk result (λ b. b ≡ tagged_line job message.now) }
+    ensures untagged { IfOk result (λ b. untag b ≡ Some (job, message.now)) }
+{
+    let line = tagged(alloc, job, message)?;
+    Ok(line)
 }

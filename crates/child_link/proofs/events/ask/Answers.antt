@@ -9,7 +9,7 @@ returns-in-None-clause-asked g c =
     let o = g.D.Door.opening c.args.door.now in
     let seen = g.D.Door.seen c.args.door.now in
     let by = g.D.Door.number c.args.door.now in
-    let reply = c.in_ok-reply.ensures.stepped.0 in
+    let reply = c.in_ok-reply.ensures.stepped.0.1 in
     let none = sym (ap job_of reply) ∙ sym c.job_of.ensures ∙ c.in-None.is in
     let r = ask_lost o seen by c.args.child c.args.task c.args.request c.requires.may none in
     (c.gone_why.ensures ∙ ap gone_why reply ∙ r.why, r.gone, c.in_ok-reply.ensures.stepped.1 ∙ ap (λ (group : List Entry). seen ++ group) r.group)

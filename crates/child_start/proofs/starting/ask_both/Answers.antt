@@ -35,4 +35,5 @@ returns-clause-prepares g c =
     let mid = g.D.Door.seen c.ask_one.new.door in
     let new = g.D.Door.seen c.ask_one-2.new.door in
     prepared_second (g.D.Door.seen c.args.door.now) mid c.args.link.now.child c.requires.asks.jobs c.ask_one.result c.in_default.not-Gone c.ask_one.ensures.asks new c.ask_one-2.result
+    (greets_as mid new c.args.link.now.child c.ask_one.new.link.child c.ask_one.ensures.child c.ask_one-2.ensures.on)
     (subst (λ (k : ℕ). AsksNext mid new k c.ask_one-2.result) c.ask_one.ensures.child c.ask_one-2.ensures.asks)

@@ -1,5 +1,5 @@
 use Rattle.std.proofs.Common.{◌≡◌, ◌∙◌, ◌++◌, ℕ, List, length, map, sym, ap, take, arith, false}
-use Rattle.annex_model.specs.declared.verdict.Verdict.TheVariants.{Ended}
+use Rattle.journal_model.specs.declared.verdict.Verdict.TheVariants.{Ended}
 use Rattle.journal_model.specs.declared.entry.What.TheVariants.{Verdict as Settled}
 use Rattle.journal_model.specs.Journal.{open_jobs}
 use Rattle.journal_model.specs.Due.{made_by, ended_jobs}

@@ -1,6 +1,6 @@
 use Rattle.std.proofs.Common.{◌≡◌, ◌∙◌, ◌++◌, ℕ, List, length, map, sym, ap, take, arith, true}
 use Rattle.std.specs.Prelude.{filter}
-use Rattle.annex_model.specs.declared.verdict.Verdict.TheVariants.{Unsent}
+use Rattle.journal_model.specs.declared.verdict.Verdict.TheVariants.{Unsent}
 use Rattle.journal_model.specs.declared.entry.What.TheVariants.{Verdict as Settled}
 use Rattle.journal_model.specs.Journal.{open_jobs, is_unsent}
 use Rattle.journal_model.specs.Due.{made_by}

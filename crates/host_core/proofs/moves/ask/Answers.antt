@@ -4,7 +4,8 @@ use Rattle.journal_model.specs.Journal.{is_started}
 use Rattle.journal_model.specs.Legality.{may_ask, is_in_turn}
 use Rattle.journal_model.proofs.PartsGrow.{and_right}
 use Rattle.talk_serial.specs.Requests.{message_of}
-use Rattle.host_core.specs.Steps.{is_askable, next_job}
+use Rattle.host_core.specs.Steps.{next_job}
+use Rattle.annex_model.specs.Messages.{is_askable}
 use Rattle.host_core.proofs.moves.ask.Goals as goal
 
 pub ask_line-requires : goal.ask_line-requires

@@ -5,7 +5,7 @@ use Rattle.talk_serial.specs.declared.request.Request.{Request}
 use Rattle.talk_serial.specs.Requests.{message_of}
 use Rattle.talk_serial.specs.Hearings.{Follows}
 use Rattle.journal_model.specs.Parts.{part}
-use Rattle.host_core.proofs.Opened.{job_asked, no_text, no_message, asked_alike, alike_waits}
+use Rattle.host_core.proofs.Opened.{job_asked, no_text, no_message, asked_same, asked_waits}
 use Rattle.host_core.proofs.Replaying.{nothing_begun}
 use Rattle.host_core.proofs.talks.talk_of.Goals as goal
 
@@ -17,28 +17,28 @@ pub unreachable-requires-in_default-read_host : goal.unreachable-requires-in_def
 unreachable-requires-in_default-read_host c =
     no_message c.args.opening.now c.args.entries.now c.args.child c.args.job c.in-Some.text.now c.requires.legal c.requires.open c.in-Some.ensures c.in_default-read_host.ensures.reading
 
-pub request_like-requires : goal.request_like-requires
-request_like-requires c =
+pub request_of-requires : goal.request_of-requires
+request_of-requires c =
     (job_asked c.args.opening.now c.args.entries.now c.args.child c.args.job c.in-Some.text.now (host_shown c.in-Some-read_host.asked) c.requires.legal c.requires.open c.in-Some.ensures c.in-Some-read_host.ensures.reading).asks
 
 pub replayed-requires : goal.replayed-requires
 replayed-requires c =
     let q = host_shown c.in-Some-read_host.asked in
     let asked = job_asked c.args.opening.now c.args.entries.now c.args.child c.args.job c.in-Some.text.now q c.requires.legal c.requires.open c.in-Some.ensures c.in-Some-read_host.ensures.reading in
-    alike_waits (part c.args.entries.now c.args.child c.args.job) q (message_of c.in_ok-request.request) asked c.in_ok-request.ensures
+    asked_waits (part c.args.entries.now c.args.child c.args.job) q (message_of c.in_ok-request.request) asked c.in_ok-request.ensures
 
-pub returns-then-takes_lines-clause-alike : goal.returns-then-takes_lines-clause-alike
-returns-then-takes_lines-clause-alike c =
+pub returns-then-takes_lines-clause-request : goal.returns-then-takes_lines-clause-request
+returns-then-takes_lines-clause-request c =
     let q = host_shown c.in-Some-read_host.asked in
     let asked = job_asked c.args.opening.now c.args.entries.now c.args.child c.args.job c.in-Some.text.now q c.requires.legal c.requires.open c.in-Some.ensures c.in-Some-read_host.ensures.reading in
-    asked_alike (part c.args.entries.now c.args.child c.args.job) q (message_of c.in_ok-request.request) (message_of c.replayed.result.request) asked c.in_ok-request.ensures
+    asked_same (part c.args.entries.now c.args.child c.args.job) q (message_of c.in_ok-request.request) (message_of c.replayed.result.request) asked c.in_ok-request.ensures
     (ap (λ (r : Request). message_of r) c.replayed.ensures.request)
 
-pub returns-else-takes_lines-clause-alike : goal.returns-else-takes_lines-clause-alike
-returns-else-takes_lines-clause-alike c =
+pub returns-else-takes_lines-clause-request : goal.returns-else-takes_lines-clause-request
+returns-else-takes_lines-clause-request c =
     let q = host_shown c.in-Some-read_host.asked in
     let asked = job_asked c.args.opening.now c.args.entries.now c.args.child c.args.job c.in-Some.text.now q c.requires.legal c.requires.open c.in-Some.ensures c.in-Some-read_host.ensures.reading in
-    asked_alike (part c.args.entries.now c.args.child c.args.job) q (message_of c.in_ok-request.request) (message_of c.ask.result.request) asked c.in_ok-request.ensures
+    asked_same (part c.args.entries.now c.args.child c.args.job) q (message_of c.in_ok-request.request) (message_of c.ask.result.request) asked c.in_ok-request.ensures
     (ap (λ (r : Request). message_of r) c.ask.ensures.request)
 
 pub returns-else-takes_lines-clause-follows : goal.returns-else-takes_lines-clause-follows

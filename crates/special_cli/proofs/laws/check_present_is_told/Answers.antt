@@ -1,6 +1,6 @@
 use Rattle.std.proofs.Common.{◌≡◌, ◌++◌, List, [], ◌∷◌, Bool, true, false, cond, Some, take, refl, sym, ap, ◌∙◌, inl, inr}
 use Rattle.std.specs.Prelude.{◌||◌, codes}
-use Rattle.annex_model.specs.declared.verdict.Why.TheVariants.{Closed}
+use Rattle.journal_model.specs.declared.verdict.Why.TheVariants.{Closed}
 use Rattle.journal_model.specs.declared.answer.Answer.{Answer}
 use Rattle.journal_model.specs.declared.entry.What.TheVariants.{End, Answer as Answered}
 use Rattle.journal_model.specs.declared.entry.Entry.{Entry}

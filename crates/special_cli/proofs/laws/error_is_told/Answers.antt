@@ -1,8 +1,8 @@
 use Rattle.std.proofs.Common.{◌≡◌, ◌++◌, List, [], ◌∷◌, refl, sym, inl, inr}
 use Rattle.std.specs.Prelude.{codes}
 use Rattle.std.specs.Fmt.{digits}
-use Rattle.annex_model.specs.declared.verdict.Verdict.TheVariants.{Ended as EndedSo}
-use Rattle.annex_model.specs.declared.verdict.Why.TheVariants.{Error}
+use Rattle.journal_model.specs.declared.verdict.Verdict.TheVariants.{Ended as EndedSo}
+use Rattle.journal_model.specs.declared.verdict.Why.TheVariants.{Error}
 use Rattle.journal_model.specs.declared.answer.Answer.TheVariants.{Ended}
 use Rattle.journal_model.specs.declared.entry.Entry.{Entry}
 use Rattle.journal_model.specs.declared.entry.What.TheVariants.{Got, End, Verdict as Settled}

@@ -1,7 +1,7 @@
 use Rattle.std.proofs.Common.{◌≡◌, ◌++◌, List, [], ◌∷◌, refl, sym, inl, inr}
 use Rattle.std.specs.Prelude.{codes}
 use Rattle.std.specs.Fmt.{digits}
-use Rattle.annex_model.specs.declared.verdict.Verdict.TheVariants.{Failed}
+use Rattle.journal_model.specs.declared.verdict.Verdict.TheVariants.{Failed}
 use Rattle.journal_model.specs.declared.answer.Answer.TheVariants.{NotPrepared}
 use Rattle.journal_model.specs.declared.entry.Entry.{Entry}
 use Rattle.journal_model.specs.declared.entry.What.TheVariants.{Claim, Got, Verdict as Settled, Answer as Answered}

@@ -1,7 +1,7 @@
 use Rattle.std.proofs.Common.{◌≡◌, ◌++◌, List, [], ◌∷◌, refl, sym, inl, inr}
 use Rattle.std.specs.Prelude.{codes}
 use Rattle.std.specs.Fmt.{digits}
-use Rattle.annex_model.specs.declared.verdict.Verdict.TheVariants.{Unknown as UnknownAt}
+use Rattle.journal_model.specs.declared.verdict.Verdict.TheVariants.{Unknown as UnknownAt}
 use Rattle.journal_model.specs.declared.answer.Answer.TheVariants.{Unknown}
 use Rattle.journal_model.specs.declared.entry.Entry.{Entry}
 use Rattle.journal_model.specs.declared.entry.What.TheVariants.{Got, Verdict as Settled}

@@ -2,10 +2,10 @@ use Rattle.std.proofs.Common.{◌≡◌, ◌⊎◌, List, [], ◌∷◌, ◌++�
 use Rattle.journal_model.specs.declared.answer.Answer.{Answer}
 use Rattle.journal_model.specs.declared.answer.Answer.TheVariants.{Present, StartFault, Memory, NotPrepared, Ended as EndedAnswer}
 use Rattle.journal_model.specs.declared.entry.What.TheVariants.{Claim, NoStart, Start, Got, End, Verdict as Settled, Answer as Answered}
-use Rattle.annex_model.specs.declared.verdict.Why.TheVariants.{Eof, Closed}
+use Rattle.journal_model.specs.declared.verdict.Why.TheVariants.{Eof, Closed}
 use Rattle.journal_model.specs.declared.entry.Entry.{Entry}
 use Rattle.journal_model.specs.Journal.{each_of}
-use Rattle.annex_model.specs.declared.verdict.Verdict.TheVariants.{Failed, Unsupported}
+use Rattle.journal_model.specs.declared.verdict.Verdict.TheVariants.{Failed, Unsupported}
 use Rattle.std.specs.Prelude.{codes}
 use Rattle.journal_model.specs.Rows.{by_main, introduced}
 use Rattle.std.specs.List.{last_or}

@@ -1,5 +1,5 @@
 use Rattle.std.proofs.Common.{◌∙◌, ap, List}
-use Rattle.annex_model.specs.declared.verdict.Why.TheVariants.{Memory}
+use Rattle.journal_model.specs.declared.verdict.Why.TheVariants.{Memory}
 use Rattle.journal_model.specs.declared.entry.Entry.{Entry}
 use Rattle.journal_model.specs.Journal.{is_ended}
 use Rattle.child_link.proofs.Turning.{stopped_so, ended_live}

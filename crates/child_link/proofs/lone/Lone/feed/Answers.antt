@@ -1,6 +1,6 @@
 use Rattle.std.proofs.Common.{ap, ◌∙◌, sym, subst, ℕ, List, refl}
 use Rattle.annex_model.specs.Lines.{has_newline}
-use Rattle.annex_model.specs.declared.verdict.Why.TheVariants.{Full, Memory}
+use Rattle.journal_model.specs.declared.verdict.Why.TheVariants.{Full, Memory}
 use Rattle.journal_model.specs.declared.entry.What.TheVariants.{End}
 use Rattle.journal_model.specs.Journal.{is_ended}
 use Rattle.journal_model.specs.declared.entry.Entry.{Entry}

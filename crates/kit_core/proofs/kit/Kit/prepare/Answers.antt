@@ -9,7 +9,7 @@ use Rattle.kit_core.proofs.kit.Kit.prepare.Goals as goal
 
 pub returns-clause-ok : goal.returns-clause-ok
 returns-clause-ok g c =
-    subst (λ (q : HostMessage). IfOk c.finish.result (Answers g.R.Remote.calls c.args.self.now c.finish.new.self (Asks (Prepare c.args.values.now)) (Some q))) c.prepare_request.ensures
+    subst (λ (q : HostMessage). IfOk c.finish.result (Answers g.R.Remote.calls c.args.self.now c.finish.new.self (Asks (Prepare c.args.values.now)) (Some q))) c.prepare_request.ensures.message
     (answers_asked g.R.Remote.calls c.self.inside.remote c.prepare.new.self c.self.inside.prepared c.self.inside.stage Waiting c.args.self.now c.finish.new.self
     _ (Prepare c.args.values.now) _ c.in_ok-said.said c.finish.result c.self.view_is refl c.in_ok-said.ensures.calls c.finish.ensures.after c.finish.ensures.ok)
 

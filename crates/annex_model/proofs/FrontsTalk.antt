@@ -1,0 +1,97 @@
+-- A front talks so far, or is whole.
+use Rattle.std.proofs.Common.{◌≡◌, ℕ, List, [], ◌∷◌, ◌++◌, refl, sym, ap, subst, ◌∙◌, append-nil, Bool, true, false, not, cond, Some, None, Option, ◌⊎◌, inl, inr}
+use Rattle.std.specs.Prelude.{IsSome, ◌&&◌, map, filter}
+use Rattle.std.specs.List.{flat_map, last_or}
+use Rattle.std.proofs.lemmas.List.Elements.{filter-append}
+use Rattle.annex_model.specs.Messages.{RemoteMessage, HostMessage, remote_reading, host_line}
+use Rattle.annex_model.specs.Talks.{Item, Host, Conv, ConvFront, Talking, IsReplied, shown, is_remote, remote_items, said, with_replies, final_of, awaits, item_is_aside, is_final_item, begins_with_remote}
+use Rattle.annex_model.proofs.Awaiting.{before_awaits}
+use Rattle.annex_model.proofs.Cutting.{Shown, blocks, cut, begins}
+use Rattle.annex_model.proofs.TalksGrow.{map-append, flat_map-append}
+
+remote_items-append : (xs ys : List Item) → remote_items (xs ++ ys) ≡ remote_items xs ++ remote_items ys
+remote_items-append xs ys = filter-append (λ (x : Item). is_remote x.side) xs ys
+
+pub said-append : (xs ys : List Item) → said (xs ++ ys) ≡ said xs ++ said ys
+said-append xs ys =
+    ap (λ (zs : List Item). map (λ (x : Item). remote_reading x.text) (filter (λ (x : Item). not (item_is_aside x)) zs)) (remote_items-append xs ys)
+    ∙ ap (map (λ (x : Item). remote_reading x.text)) (filter-append (λ (x : Item). not (item_is_aside x)) (remote_items xs) (remote_items ys))
+    ∙ map-append (λ (x : Item). remote_reading x.text) (filter (λ (x : Item). not (item_is_aside x)) (remote_items xs)) (filter (λ (x : Item). not (item_is_aside x)) (remote_items ys))
+
+-- what ends with a final item says something
+final_said : (o : Option Item) (x : Item) (xs : List Item) → is_final_item (last_or o (x ∷ xs)) ≡ true → said (x ∷ xs) ≡ [] → ⊥
+final_said o x [] h none = not_empty (remote_reading x.text) (sym (one (parts (is_remote x.side) (item_is_aside x) h)) ∙ none)
+  where
+    parts : (r a : Bool) → (r && not a) ≡ true → (r ≡ true) × (a ≡ false)
+    parts true false h = (refl, refl)
+    parts true true h = absurd cc
+    parts false a h = absurd cc
+
+    one : (is_remote x.side ≡ true) × (item_is_aside x ≡ false) → said (x ∷ []) ≡ remote_reading x.text ∷ []
+    one e = rw (e.0) (rw (e.1) refl)
+
+    not_empty : {X : Type 0} (v : X) → v ∷ [] ≡ [] → ⊥
+    not_empty v e = cc
+final_said o x (y ∷ ys) h none = final_said (Some x) y ys h (later (said-append (x ∷ []) (y ∷ ys)) none)
+  where
+    no_tail : {X : Type 0} (xs bs : List X) → xs ++ bs ≡ [] → bs ≡ []
+    no_tail [] bs e = e
+    no_tail (a ∷ more) bs e = absurd cc
+
+    later : said (x ∷ y ∷ ys) ≡ said (x ∷ []) ++ said (y ∷ ys) → said (x ∷ y ∷ ys) ≡ [] → said (y ∷ ys) ≡ []
+    later e none = no_tail (said (x ∷ [])) (said (y ∷ ys)) (sym e ∙ none)
+
+last_or-append : (o : Option Item) (xs : List Item) (y : Item) (ys : List Item) → last_or o (xs ++ y ∷ ys) ≡ last_or None (y ∷ ys)
+last_or-append o [] y ys = refl
+last_or-append o (x ∷ xs) y ys = last_or-append (Some x) xs y ys
+
+module _ (replies : ℕ → List (List ℕ)) (q : HostMessage) where
+  waits_before : (part : List Item) (i : Item) (rest : List Item) → Conv replies q (part ++ i ∷ rest) → awaits q (said part) ≡ true
+  waits_before part i rest c = go (said (i ∷ rest)) refl
+    where
+      last : is_final_item (last_or None (i ∷ rest)) ≡ true
+      last = ap is_final_item (sym (last_or-append None part i rest)) ∙ c.last
+
+      go : (ms : List (Option RemoteMessage)) → said (i ∷ rest) ≡ ms → awaits q (said part) ≡ true
+      go [] none = absurd (final_said None i rest last none)
+      go (m ∷ ms) says =
+          before_awaits q (said part) m ms
+          (subst (λ (xs : List (Option RemoteMessage)). IsSome (final_of q xs)) (said-append part (i ∷ rest) ∙ ap (λ (xs : List (Option RemoteMessage)). said part ++ xs) says) c.answer)
+
+  replied_before : (p : Item) (ps : List Item) (i : Item) (rest : List Item) → is_remote i.side ≡ true
+      → IsReplied replies q (p ∷ ps ++ i ∷ rest) → IsReplied replies q (p ∷ ps)
+  replied_before p ps i rest remote h =
+      let z : List Shown = shown i ∷ map shown rest in
+      let w : List Shown = blocks replies (i ∷ rest) in
+      let first : shown p ≡ (Host, host_line q) = head h in
+      let host : is_remote p.side ≡ false = ap (λ (s : Shown). is_remote s.0) first in
+      let whole : map shown (ps ++ i ∷ rest) ≡ blocks replies (p ∷ ps ++ i ∷ rest) = tail h in
+      let skipped : blocks replies (p ∷ ps ++ i ∷ rest) ≡ blocks replies (ps ++ i ∷ rest) = skip host (ps ++ i ∷ rest) in
+      let parted : map shown ps ++ z ≡ [] ++ (blocks replies ps ++ w) =
+      sym (map-append shown ps (i ∷ rest)) ∙ whole ∙ skipped
+      ∙ ap (flat_map (with_replies replies)) (remote_items-append ps (i ∷ rest)) ∙ flat_map-append (with_replies replies) (remote_items ps) (remote_items (i ∷ rest)) in
+      let begun : begins w ≡ true = begin remote in
+      let tailed : map shown ps ≡ blocks replies ps = cut replies ps [] z w tt remote begun parted in
+      ap (λ (s : Shown). s ∷ map shown ps) first ∙ ap (λ (ss : List Shown). (Host, host_line q) ∷ ss) (tailed ∙ sym (skip host ps))
+    where
+      head : map shown (p ∷ ps ++ i ∷ rest) ≡ (Host, host_line q) ∷ blocks replies (p ∷ ps ++ i ∷ rest) → shown p ≡ (Host, host_line q)
+      head e = cc
+
+      tail : map shown (p ∷ ps ++ i ∷ rest) ≡ (Host, host_line q) ∷ blocks replies (p ∷ ps ++ i ∷ rest) → map shown (ps ++ i ∷ rest) ≡ blocks replies (p ∷ ps ++ i ∷ rest)
+      tail e = cc
+
+      skip : is_remote p.side ≡ false → (xs : List Item) → blocks replies (p ∷ xs) ≡ blocks replies xs
+      skip e xs = ap (λ (b : Bool). flat_map (with_replies replies) (cond b (p ∷ remote_items xs) (remote_items xs))) e
+
+      begin : is_remote i.side ≡ true → begins (blocks replies (i ∷ rest)) ≡ true
+      begin e = ap (λ (b : Bool). begins (flat_map (with_replies replies) (cond b (i ∷ remote_items rest) (remote_items rest)))) e ∙ e
+
+  pub front_talks : (part : List Item) → ConvFront replies q part → Talking replies q part ⊎ Conv replies q part
+  front_talks part f = by_more part f.begun f.more f.goes_on f.replied
+    where
+      by_more : (part : List Item) → (part ≡ [] → ⊥) → (more : List Item) → Conv replies q (part ++ more) → begins_with_remote more ≡ true
+          → Talking replies q part ⊎ Conv replies q part
+      by_more part begun [] c r = inr (subst (Conv replies q) (append-nil part) c)
+      by_more [] begun (i ∷ rest) c r = absurd (begun refl)
+      by_more (p ∷ ps) begun (i ∷ rest) c r =
+          inl record { replied = replied_before p ps i rest r c.replied; waits = waits_before (p ∷ ps) i rest c }

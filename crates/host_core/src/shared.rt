@@ -1,0 +1,38 @@
+// A core as the value of a hall, which many threads enter.
+ghost use Rattle.std.specs.Prelude.{◌≡◌};
+
+use crate::event::{Event, Reply};
+use crate::machine::Core;
+use ann_key::NoMemory;
+use hall::Held;
+use journal_model::{Entry, Opening};
+
+impl Held for Core {
+    ghost use Rattle.host_core.specs.Mays.{MayStep, IsMadeBy, IsFree};
+
+    type Op = Event;
+
+    type Reply = Reply;
+
+    type Entry = Entry;
+
+    type Fixed = Opening;
+
+    ghost history = { λ c. c.journal };
+
+    ghost fixed = { λ c. c.opening };
+
+    ghost may = { MayStep };
+
+    ghost made_by = { IsMadeBy };
+
+    ghost is_free = { IsFree };
+
+    fn act(&mut self, by: u32, op: Event) -> Result<Reply, NoMemory> {
+        self.step(by, op)
+    }
+
+    fn len(&self) -> u64 {
+        self.journal().len() as u64
+    }
+}

@@ -1,3 +1,0 @@
-pub mod Awaiting
-pub mod Cutting
-pub mod Fronts

@@ -1,0 +1,25 @@
+-- What a message is read as.
+use Rattle.std.proofs.Common.{◌≡◌, ℕ, List, refl, sym, ap, Bool, true, false}
+use Rattle.std.specs.Prelude.{bytes_eq}
+use Rattle.std.specs.Str.{IsUtf8, is_utf8}
+use Rattle.std.proofs.lemmas.Slice.Eq.{bytes_eq-Decides}
+use Rattle.std.proofs.lemmas.Str.{IsUtf8-from_is_utf8}
+use Rattle.annex_model.specs.Extensions.{names_of}
+use Rattle.annex_model.specs.Messages.{AskExtensions}
+use Rattle.talk_serial.specs.Requests.{is_request}
+
+pub told_names : (names : List ℕ) (offer : Bool) → bytes_eq names (names_of offer) ≡ true → names_of offer ≡ names
+told_names names offer h = sym ((bytes_eq-Decides names (names_of offer)).0 h)
+
+pub no_text : (file : List ℕ) → (IsUtf8 file → ⊥) → is_utf8 file ≡ false
+no_text file bad = go (is_utf8 file) refl
+  where
+    go : (b : Bool) → is_utf8 file ≡ b → b ≡ false
+    go true e = absurd (bad (IsUtf8-from_is_utf8 file e))
+    go false e = refl
+
+pub same_offer : (names : List ℕ) (offer : Bool) → names_of offer ≡ names → AskExtensions (names_of offer) ≡ AskExtensions names
+same_offer names offer h = ap AskExtensions h
+
+pub unoffered : (names : List ℕ) → bytes_eq names (names_of true) ≡ false → bytes_eq names (names_of false) ≡ false → is_request (AskExtensions names) ≡ false
+unoffered names h k = rw (h, k) refl
