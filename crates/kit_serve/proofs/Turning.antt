@@ -18,6 +18,7 @@ use Rattle.kit_core.specs.Kits.{Heard, messages, calls_of, lines_said, lines_to,
 use Rattle.kit_core.specs.Stages.{KitValue, Follows, Steps, is_last}
 use Rattle.kit_core.proofs.Behind.{lines_behind-push, calls_of-push, IsServedBehind-push}
 use Rattle.kit_core.proofs.Following.{last_over}
+use Rattle.kit_serve.specs.Limits.{longest_line}
 use Rattle.kit_serve.specs.declared.end.End.{End}
 use Rattle.kit_serve.specs.declared.end.End.TheVariants.{Eof, Bad, ReadFault, WriteFault, Memory}
 use Rattle.kit_serve.specs.Sessions.{Told, Gains, IsHeard, is_short, said_to, Going, Ended, EndsKit, IsLive, as_list, MayBeLast, IsEnd, IsWritten, AreMade, next_line}
@@ -90,14 +91,14 @@ said_push settings h e say is =
     ∙ sym (text-append (codes "VERSION 1" ∷ lines_said settings h) (lines_to settings h e))
     ∙ ap (λ l. text (codes "VERSION 1" ∷ l)) (sym (lines_behind-push settings [] h e))
 
-short_push : (lines : List (List ℕ)) (line : List ℕ) → IsTrue (list_all is_short lines) → length line ≤ 131072 → IsTrue (list_all is_short (lines ++ line ∷ []))
+short_push : (lines : List (List ℕ)) (line : List ℕ) → IsTrue (list_all is_short lines) → length line ≤ longest_line → IsTrue (list_all is_short (lines ++ line ∷ []))
 short_push lines line all fits =
     let this : is_short line ≡ true = grind (arith, nat_tests) in
     list_all-append is_short lines (line ∷ []) ∙ ap (λ b. b && (is_short line && true)) all ∙ ap (λ b. b && true) this
 
 -- what was heard with one line more
 heard_push : (settings : List (List ℕ)) (bytes : List ℕ) (lines : List (List ℕ)) (rest after : List ℕ) (h : List Heard) (line : List ℕ) (m : HostMessage) (call : Option Call)
-    → IsHeard settings bytes lines rest h → TakesLine rest line after → length line ≤ 131072 → host_reading line ≡ Some m
+    → IsHeard settings bytes lines rest h → TakesLine rest line after → length line ≤ longest_line → host_reading line ≡ Some m
     → IsAskedBy (due_of settings h m) call
     → IsHeard settings bytes (lines ++ line ∷ []) after (h ++ record { message = m; call = call } ∷ [])
 heard_push settings bytes lines rest after h line m call heard takes fits reads asked = record {
@@ -125,7 +126,7 @@ gains_push calls begun given taken taken' r r' bytes said out h m call g took si
 
 pub going_speaks : {R : Type 0} (settings_of : R → List (List ℕ)) (calls : R → Option (List Call)) (settings : List (List ℕ)) (begun : Told)
     (given taken taken' : Option (List ℕ)) (kit kit' : KitValue R) (held held' line : List ℕ) (over : Bool)
-    → Speaks calls settings kit kit' taken taken' line over → TakesLine held line held' → length line ≤ 131072 → settings_of kit'.remote ≡ settings_of kit.remote
+    → Speaks calls settings kit kit' taken taken' line over → TakesLine held line held' → length line ≤ longest_line → settings_of kit'.remote ≡ settings_of kit.remote
     → Going settings_of calls settings begun given taken kit held
     → Going settings_of calls settings begun given taken' kit' held'
 going_speaks settings_of calls settings begun given taken taken' kit kit' held held' line over s takes fits kept g =
@@ -186,22 +187,22 @@ line_whole (b ∷ bs) = go (b == 10) refl (line_whole bs)
     go false e r = let k : 1 + n ≡ suc n = omega arith in rw (k, e) r
 
 -- no line ends in what is held, where none stands first and it isn't long
-pub no_line : (held : List ℕ) → IsTrue (not (has_line 131072 held)) → length held ≤ 131072 → has_newline held ≡ false
+pub no_line : (held : List ℕ) → IsTrue (not (has_line longest_line held)) → length held ≤ longest_line → has_newline held ≡ false
 no_line held none few =
-    let long : length held ≤ 131072 + 1 = omega arith in
-    not_false (has_newline held) (ap (λ (x : List ℕ). not (has_newline x)) (sym (take_all (131072 + 1) held long)) ∙ none)
+    let long : length held ≤ longest_line + 1 = omega arith in
+    not_false (has_newline held) (ap (λ (x : List ℕ). not (has_newline x)) (sym (take_all (longest_line + 1) held long)) ∙ none)
 
 -- where the first line is longer than the limit
-pub long_line : (held : List ℕ) → IsTrue (not (has_line 131072 held)) → 131072 < length held → 131072 < length (next_line held)
+pub long_line : (held : List ℕ) → IsTrue (not (has_line longest_line held)) → longest_line < length held → longest_line < length (next_line held)
 long_line held none many =
     let fits : end_of held ≤ length held = end_of-le-length held in
     let long : length (next_line held) ≡ end_of held = length-take (end_of held) held ∙ omega arith in
-    ⊎_elim (λ (late : 131072 < end_of held). omega arith)
-    (λ (soon : end_of held ≤ 131072). absurd (true_not (has_line 131072 held) (has_line_at 131072 held soon (omega arith)) none)) (cases_lt 131072 (end_of held))
+    ⊎_elim (λ (late : longest_line < end_of held). omega arith)
+    (λ (soon : end_of held ≤ longest_line). absurd (true_not (has_line longest_line held) (has_line_at longest_line held soon (omega arith)) none)) (cases_lt longest_line (end_of held))
 
-pub short_line : (held : List ℕ) → IsTrue (has_line 131072 held) → length (first_line held) ≤ 131072
+pub short_line : (held : List ℕ) → IsTrue (has_line longest_line held) → length (first_line held) ≤ longest_line
 short_line held has =
-    let within = ends_within 131072 held has in
+    let within = ends_within longest_line held has in
     let long : length (first_line held) ≡ end_of held = length-take (end_of held) held ∙ omega arith in
     omega arith
 
@@ -226,7 +227,7 @@ ends_kit calls settings kit kit' m say h s f live = record {
 
 speaks_end : {R : Type 0} (settings_of : R → List (List ℕ)) (calls : R → Option (List Call)) (settings : List (List ℕ)) (begun : Told)
     (given taken taken' : Option (List ℕ)) (kit kit' : KitValue R) (held held' line : List ℕ)
-    → Speaks calls settings kit kit' taken taken' line true → TakesLine held line held' → length line ≤ 131072
+    → Speaks calls settings kit kit' taken taken' line true → TakesLine held line held' → length line ≤ longest_line
     → is_last kit.stage ≡ false → Going settings_of calls settings begun given taken kit held
     → Ended settings begun (record { given = given; taken = taken'; calls = calls kit'.remote }) Bad
 speaks_end settings_of calls settings begun given taken taken' kit kit' held held' line s takes fits live g =
@@ -256,7 +257,7 @@ live_or_over calls settings kit kit' m say false h s f live = inl (sym (s.step h
 
 falters_end : {R : Type 0} (settings_of : R → List (List ℕ)) (calls : R → Option (List Call)) (settings : List (List ℕ)) (begun : Told)
     (given taken taken' : Option (List ℕ)) (kit kit' : KitValue R) (held held' line : List ℕ)
-    → Falters calls settings kit kit' taken taken' line → TakesLine held line held' → length line ≤ 131072
+    → Falters calls settings kit kit' taken taken' line → TakesLine held line held' → length line ≤ longest_line
     → is_last kit.stage ≡ false → Going settings_of calls settings begun given taken kit held
     → Ended settings begun (record { given = given; taken = taken'; calls = calls kit'.remote }) WriteFault
 falters_end settings_of calls settings begun given taken taken' kit kit' held held' line s takes fits live g =
@@ -321,7 +322,7 @@ lacks_end settings_of calls settings begun given taken taken' kit kit' held l ha
 
 pub heard_goes : {R T : Type 0} (settings_of : R → List (List ℕ)) (calls : R → Option (List Call)) (given taken taken' : Option (List ℕ)) (kit kit' : KitValue R) (held held' : List ℕ) (result : Result T End)
     → Hears calls (settings_of kit.remote) kit kit' taken taken' (first_line held) result
-    → TakesLine held (first_line held) held' → IsTrue (has_line 131072 held) → settings_of kit'.remote ≡ settings_of kit.remote
+    → TakesLine held (first_line held) held' → IsTrue (has_line longest_line held) → settings_of kit'.remote ≡ settings_of kit.remote
     → OnOk result ((settings : List (List ℕ)) (begun : Told) → Going settings_of calls settings begun given taken kit held → Going settings_of calls settings begun given taken' kit' held')
 heard_goes settings_of calls given taken taken' kit kit' held held' (Ok x) heard takes has kept = λ settings begun g.
     going_speaks settings_of calls settings begun given taken taken' kit kit' held held' (first_line held) false
@@ -330,7 +331,7 @@ heard_goes settings_of calls given taken taken' kit kit' held held' (Err e) hear
 
 pub heard_ends : {R T : Type 0} (settings_of : R → List (List ℕ)) (calls : R → Option (List Call)) (given taken taken' : Option (List ℕ)) (kit kit' : KitValue R) (held held' : List ℕ) (result : Result T End)
     → Hears calls (settings_of kit.remote) kit kit' taken taken' (first_line held) result
-    → TakesLine held (first_line held) held' → held ≡ first_line held ++ 10 ∷ held' → IsTrue (has_line 131072 held) → is_last kit.stage ≡ false
+    → TakesLine held (first_line held) held' → held ≡ first_line held ++ 10 ∷ held' → IsTrue (has_line longest_line held) → is_last kit.stage ≡ false
     → IfErr result (λ end. (settings : List (List ℕ)) (begun : Told) → Going settings_of calls settings begun given taken kit held
     → Ended settings begun (record { given = given; taken = taken'; calls = calls kit'.remote }) end)
 heard_ends settings_of calls given taken taken' kit kit' held held' (Ok x) heard takes whole has live = tt
@@ -350,7 +351,7 @@ heard_ends settings_of calls given taken taken' kit kit' held held' (Err Eof) he
 heard_ends settings_of calls given taken taken' kit kit' held held' (Err ReadFault) heard takes whole has live = absurd heard
 
 pub long_ends : {R : Type 0} (settings_of : R → List (List ℕ)) (calls : R → Option (List Call)) (given taken : Option (List ℕ)) (kit : KitValue R) (held : List ℕ)
-    → 131072 < length (next_line held) → is_last kit.stage ≡ false
+    → longest_line < length (next_line held) → is_last kit.stage ≡ false
     → (settings : List (List ℕ)) (begun : Told) → Going settings_of calls settings begun given taken kit held
     → Ended settings begun (record { given = given; taken = taken; calls = calls kit.remote }) Bad
 long_ends settings_of calls given taken kit held long live settings begun g =

@@ -8,6 +8,7 @@ use Rattle.annex_model.specs.Messages.{HostMessage, host_reading}
 use Rattle.kit_core.specs.declared.call.Call.{Call}
 use Rattle.kit_core.specs.Kits.{Heard, messages, calls_of, lines_said, is_over, due_of, IsServed, IsAskedBy}
 use Rattle.kit_core.specs.Stages.{KitValue, Follows}
+use Rattle.kit_serve.specs.Limits.{longest_line}
 use Rattle.kit_serve.specs.Ends.{status_of}
 use Rattle.kit_serve.specs.declared.end.End.{End}
 use Rattle.kit_serve.specs.declared.end.End.TheVariants.{Eof, Bad, ReadFault, WriteFault, Memory}
@@ -15,7 +16,7 @@ use Rattle.kit_serve.specs.declared.end.End.TheVariants.{Eof, Bad, ReadFault, Wr
 -- ---- what was heard and said
 
 abbrev pub is_short : List ℕ → Bool
-is_short line = nat_le (length line) 131072
+is_short line = nat_le (length line) longest_line
 
 -- The bytes are cut into these lines and a rest. Each line is short and spells its message, and for each message exactly the call
 -- was made that is due.
@@ -37,7 +38,7 @@ next_line rest = before_first (λ b. b == 10) rest
 
 -- a line that is too long, or a whole line that spells no message
 abbrev pub IsBadNext : List ℕ → Type 0
-IsBadNext rest = (131072 < length (next_line rest)) ⊎ ((has_newline rest ≡ true) × (host_reading (next_line rest) ≡ None))
+IsBadNext rest = (longest_line < length (next_line rest)) ⊎ ((has_newline rest ≡ true) × (host_reading (next_line rest) ≡ None))
 
 -- the last message ended the kit, and none before it
 pub record EndsKit (settings : List (List ℕ)) (h : List Heard) : Type 0 where

@@ -3,6 +3,7 @@ ghost use Rattle.std.specs.Io.KnownBytes.{Appends};
 ghost use Rattle.annex_model.specs.Lines.{has_newline};
 ghost use Rattle.ann_outside.specs.Causes.{Rose};
 ghost use Rattle.kit_core.specs.Stages.{is_last, Follows};
+ghost use Rattle.kit_serve.specs.Limits.{longest_line};
 ghost use Rattle.kit_serve.specs.declared.end.End.TheVariants.{Eof, Bad, ReadFault, WriteFault};
 ghost use Rattle.kit_serve.specs.Sessions.{Told, Going, Ended, Serves};
 ghost use Rattle.kit_serve.specs.Turns.{Hears, ReadsOn};
@@ -97,7 +98,7 @@ fn turn<R: Remote, S: Source, W: Sink>(
 ) -> Result<(), End>
     requires source { S.is_open source.old ≡ true }
     requires sink { W.is_open sink.old ≡ true }
-    requires limit { splitter.old.limit ≡ 131072 }
+    requires limit { splitter.old.limit ≡ longest_line }
     requires live { is_last kit.old.stage ≡ false }
     ensures goes { OnOk result ((settings : List (List ℕ)) (begun : Told) → Going R.settings R.calls settings begun (S.given source.old) (W.taken sink.old) kit.old splitter.old.bytes → Going R.settings R.calls settings begun (S.given source.new) (W.taken sink.new) kit.new splitter.new.bytes) }
     ensures live { OnOk result (is_last kit.new.stage ≡ false) }
@@ -106,7 +107,7 @@ fn turn<R: Remote, S: Source, W: Sink>(
     ensures read_fault { result ≡ Err ReadFault → Rose (S.faults source.old) (S.faults source.new) }
     ensures write_fault { result ≡ Err WriteFault → Rose (W.faults sink.old) (W.faults sink.new) }
     ensures later { (S.faults source.old ≤ S.faults source.new) × (W.faults sink.old ≤ W.faults sink.new) }
-    ensures limit { splitter.new.limit ≡ 131072 }
+    ensures limit { splitter.new.limit ≡ longest_line }
     ensures open { (S.is_open source.new ≡ true) × (W.is_open sink.new ≡ true) }
     ensures numbers { (S.number source.new ≡ S.number source.old) × (W.number sink.new ≡ W.number sink.old) }
     ensures settings { R.settings kit.new.remote ≡ R.settings kit.old.remote }
@@ -131,7 +132,7 @@ fn converse<R: Remote, S: Source, W: Sink>(
 ) -> End
     requires source { S.is_open source.old ≡ true }
     requires sink { W.is_open sink.old ≡ true }
-    requires limit { splitter.old.limit ≡ 131072 }
+    requires limit { splitter.old.limit ≡ longest_line }
     requires live { is_last kit.old.stage ≡ false }
     ensures ended { (settings : List (List ℕ)) (begun : Told) → Going R.settings R.calls settings begun (S.given source.old) (W.taken sink.old) kit.old splitter.old.bytes → Ended settings begun (record { given = S.given source.new; taken = W.taken sink.new; calls = R.calls kit.new.remote }) result }
     ensures end { result ≡ Eof → IfSome (S.left source.new) (λ bytes. bytes ≡ []) }
