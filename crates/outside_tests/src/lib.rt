@@ -1,4 +1,4 @@
-// What lies outside, call by call: in memory, and over this machine.
+// Desks, call by call: in memory, shared, and over the files of this machine.
 #![tactic(auto)]
 
 #[cfg(test)]
@@ -7,9 +7,5 @@ mod calls;
 mod desks;
 #[cfg(test)]
 mod disk;
-#[cfg(test)]
-mod machine;
-#[cfg(test)]
-mod memory;
 #[cfg(test)]
 mod shared;

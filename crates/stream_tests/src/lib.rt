@@ -1,0 +1,7 @@
+// Sources, sinks, programs and clocks, call by call: in memory, and over this machine.
+#![tactic(auto)]
+
+#[cfg(test)]
+mod machine;
+#[cfg(test)]
+mod memory;
