@@ -20,7 +20,7 @@ use std::alloc::Global;
 /// `out` or why there is nothing to `err`, and leaves the status to end with.
 ///
 /// 0: all is well. 1: the answer isn't `present`, or not all was answered. 2: the words aren't in the grammar. 3: the key is refused. 5: a write to
-/// `out` or `err` failed, and nothing more is written. 7: no memory was found.
+/// `out` or `err` failed. 7: no memory was found.
 pub fn special<P: Programs, I: Source, O: Sink, E: Sink, C: Clock>(
     alloc: Global,
     words: &[String],
