@@ -2,7 +2,7 @@
 use Rattle.std.proofs.Common.{◌≡◌, ℕ, List, [], ◌∷◌, ◌++◌, refl, sym, ap, ◌∙◌, append_assoc, Bool, true, false, cond}
 use Rattle.std.specs.Prelude.{map}
 use Rattle.std.specs.List.{flat_map}
-use Rattle.annex_model.specs.Talks.{Item, Side, Host, shown, is_remote, remote_items, with_replies, item_is_aside}
+use Rattle.annex_model.specs.Talks.{Item, Side, shown, of_host, is_remote, remote_items, with_replies, item_is_aside}
 
 abbrev pub Shown : Type 0
 Shown = Side × List ℕ
@@ -16,7 +16,7 @@ begins [] = false
 begins (s ∷ ss) = of_remote s
 
 -- all are the host's
-abbrev AreHosts : List Shown → Type 0
+abbrev pub AreHosts : List Shown → Type 0
 AreHosts [] = Unit {0}
 AreHosts (s ∷ ss) = (of_remote s ≡ false) × AreHosts ss
 
@@ -29,18 +29,18 @@ same_head x y xs ys e = cc
 same_tail : (x y : Shown) (xs ys : List Shown) → x ∷ xs ≡ y ∷ ys → xs ≡ ys
 same_tail x y xs ys e = cc
 
-hosts_of : (lines : List (List ℕ)) → AreHosts (map (λ line. (Host, line)) lines)
+pub hosts_of : (lines : List (List ℕ)) → AreHosts (of_host lines)
 hosts_of [] = tt
 hosts_of (l ∷ ls) = (refl, hosts_of ls)
 
 module _ (replies : ℕ → List (List ℕ)) where
   abbrev owed : Item → List Shown
-  owed i = cond (item_is_aside i) (map (λ line. (Host, line)) (replies i.at)) []
+  owed i = cond (item_is_aside i) (of_host (replies i.at)) []
 
   owed_hosts : (i : Item) → AreHosts (owed i)
   owed_hosts i = go (item_is_aside i)
     where
-      go : (b : Bool) → AreHosts (cond b (map (λ line. (Host, line)) (replies i.at)) [])
+      go : (b : Bool) → AreHosts (cond b (of_host (replies i.at)) [])
       go true = hosts_of (replies i.at)
       go false = tt
 

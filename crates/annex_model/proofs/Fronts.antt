@@ -1,16 +1,20 @@
 -- A part that talks goes on to a conversation.
-use Rattle.std.proofs.Common.{◌≡◌, ℕ, List, [], ◌∷◌, ◌++◌, refl, sym, ap, subst, append_assoc, Bool, true, false, Some, Option, cond, ◌⊎◌, inl, inr}
+use Rattle.std.proofs.Common.{◌≡◌, ℕ, List, [], ◌∷◌, ◌++◌, refl, sym, ap, subst, ◌∙◌, append_assoc, Bool, true, false, Some, Option, cond, ◌⊎◌, inl, inr}
 use Rattle.std.specs.Prelude.{IsSome, codes, map, ◌&&◌}
-use Rattle.std.specs.List.{list_all}
+use Rattle.std.specs.List.{list_all, flat_map}
 use Rattle.annex_model.specs.declared.final_line.Final.{Final}
 use Rattle.annex_model.specs.declared.final_line.Final.TheVariants.{Unsupported}
 use Rattle.annex_model.specs.Messages.{RemoteMessage, UnsupportedRequest, Configend, Infovalue, Infoend, HostMessage, remote_reading}
-use Rattle.annex_model.specs.Talks.{Item, Conv, ConvFront, Talking, Shape, OneLine, Configs, Infos, said, final_of, by_shape, shape_of, may_go_on, is_nothing, is_config, is_infofield, is_infovalue, are_configs, are_infos, are_pairs, is_unsupported, item_is_aside, IsReplied, shown}
+use Rattle.annex_model.specs.Talks.{Item, Side, of_host, request_lines, with_replies, remote_items, Conv, ConvFront, Talking, Shape, OneLine, Configs, Infos, said, final_of, by_shape, shape_of, may_go_on, is_nothing, is_config, is_infofield, is_infovalue, are_configs, are_infos, are_pairs, is_unsupported, item_is_aside, IsReplied, shown}
 use Rattle.annex_model.proofs.Parts.{both}
 use Rattle.annex_model.proofs.TalksGrow.{Conv-push, said-push, replied-push, from_remote}
 
+-- a request has a line
+asks_some : (q : HostMessage) (more : List (Side × List ℕ)) → [] ≡ of_host (request_lines q) ++ more → ⊥
+asks_some q more h = cc
+
 not_empty : (replies : ℕ → List (List ℕ)) (q : HostMessage) (part : List Item) → IsReplied replies q part → part ≡ [] → ⊥
-not_empty replies q part h e = let f = ap (map shown) e in cc (h, f)
+not_empty replies q part h e = asks_some q (flat_map (with_replies replies) (remote_items part)) (sym (ap (map shown) e) ∙ h)
 
 -- ---- what ends an answer of each shape
 

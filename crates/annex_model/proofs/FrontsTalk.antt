@@ -3,10 +3,10 @@ use Rattle.std.proofs.Common.{◌≡◌, ℕ, List, [], ◌∷◌, ◌++◌, ref
 use Rattle.std.specs.Prelude.{IsSome, ◌&&◌, map, filter}
 use Rattle.std.specs.List.{flat_map, last_or}
 use Rattle.std.proofs.lemmas.List.Elements.{filter-append}
-use Rattle.annex_model.specs.Messages.{RemoteMessage, HostMessage, remote_reading, host_line}
-use Rattle.annex_model.specs.Talks.{Item, Host, Conv, ConvFront, Talking, IsReplied, shown, is_remote, remote_items, said, with_replies, final_of, awaits, item_is_aside, is_final_item, begins_with_remote}
+use Rattle.annex_model.specs.Messages.{RemoteMessage, HostMessage, remote_reading}
+use Rattle.annex_model.specs.Talks.{Item, Conv, ConvFront, Talking, IsReplied, shown, of_host, request_lines, is_remote, remote_items, said, with_replies, final_of, awaits, item_is_aside, is_final_item, begins_with_remote}
 use Rattle.annex_model.proofs.Awaiting.{before_awaits}
-use Rattle.annex_model.proofs.Cutting.{Shown, blocks, cut, begins}
+use Rattle.annex_model.proofs.Cutting.{Shown, hosts_of, blocks, cut, begins}
 use Rattle.annex_model.proofs.TalksGrow.{map-append, flat_map-append}
 
 remote_items-append : (xs ys : List Item) → remote_items (xs ++ ys) ≡ remote_items xs ++ remote_items ys
@@ -58,31 +58,18 @@ module _ (replies : ℕ → List (List ℕ)) (q : HostMessage) where
           before_awaits q (said part) m ms
           (subst (λ (xs : List (Option RemoteMessage)). IsSome (final_of q xs)) (said-append part (i ∷ rest) ∙ ap (λ (xs : List (Option RemoteMessage)). said part ++ xs) says) c.answer)
 
-  replied_before : (p : Item) (ps : List Item) (i : Item) (rest : List Item) → is_remote i.side ≡ true
-      → IsReplied replies q (p ∷ ps ++ i ∷ rest) → IsReplied replies q (p ∷ ps)
-  replied_before p ps i rest remote h =
+  replied_before : (part : List Item) (i : Item) (rest : List Item) → is_remote i.side ≡ true
+      → IsReplied replies q (part ++ i ∷ rest) → IsReplied replies q part
+  replied_before part i rest remote h =
+      let lines : List Shown = of_host (request_lines q) in
       let z : List Shown = shown i ∷ map shown rest in
       let w : List Shown = blocks replies (i ∷ rest) in
-      let first : shown p ≡ (Host, host_line q) = head h in
-      let host : is_remote p.side ≡ false = ap (λ (s : Shown). is_remote s.0) first in
-      let whole : map shown (ps ++ i ∷ rest) ≡ blocks replies (p ∷ ps ++ i ∷ rest) = tail h in
-      let skipped : blocks replies (p ∷ ps ++ i ∷ rest) ≡ blocks replies (ps ++ i ∷ rest) = skip host (ps ++ i ∷ rest) in
-      let parted : map shown ps ++ z ≡ [] ++ (blocks replies ps ++ w) =
-      sym (map-append shown ps (i ∷ rest)) ∙ whole ∙ skipped
-      ∙ ap (flat_map (with_replies replies)) (remote_items-append ps (i ∷ rest)) ∙ flat_map-append (with_replies replies) (remote_items ps) (remote_items (i ∷ rest)) in
-      let begun : begins w ≡ true = begin remote in
-      let tailed : map shown ps ≡ blocks replies ps = cut replies ps [] z w tt remote begun parted in
-      ap (λ (s : Shown). s ∷ map shown ps) first ∙ ap (λ (ss : List Shown). (Host, host_line q) ∷ ss) (tailed ∙ sym (skip host ps))
+      let parted : map shown part ++ z ≡ lines ++ (blocks replies part ++ w) =
+      sym (map-append shown part (i ∷ rest)) ∙ h
+      ∙ ap (λ (ss : List Shown). lines ++ ss)
+      (ap (flat_map (with_replies replies)) (remote_items-append part (i ∷ rest)) ∙ flat_map-append (with_replies replies) (remote_items part) (remote_items (i ∷ rest))) in
+      cut replies part lines z w (hosts_of (request_lines q)) remote (begin remote) parted
     where
-      head : map shown (p ∷ ps ++ i ∷ rest) ≡ (Host, host_line q) ∷ blocks replies (p ∷ ps ++ i ∷ rest) → shown p ≡ (Host, host_line q)
-      head e = cc
-
-      tail : map shown (p ∷ ps ++ i ∷ rest) ≡ (Host, host_line q) ∷ blocks replies (p ∷ ps ++ i ∷ rest) → map shown (ps ++ i ∷ rest) ≡ blocks replies (p ∷ ps ++ i ∷ rest)
-      tail e = cc
-
-      skip : is_remote p.side ≡ false → (xs : List Item) → blocks replies (p ∷ xs) ≡ blocks replies xs
-      skip e xs = ap (λ (b : Bool). flat_map (with_replies replies) (cond b (p ∷ remote_items xs) (remote_items xs))) e
-
       begin : is_remote i.side ≡ true → begins (blocks replies (i ∷ rest)) ≡ true
       begin e = ap (λ (b : Bool). begins (flat_map (with_replies replies) (cond b (i ∷ remote_items rest) (remote_items rest)))) e ∙ e
 
@@ -92,6 +79,5 @@ module _ (replies : ℕ → List (List ℕ)) (q : HostMessage) where
       by_more : (part : List Item) → (part ≡ [] → ⊥) → (more : List Item) → Conv replies q (part ++ more) → begins_with_remote more ≡ true
           → Talking replies q part ⊎ Conv replies q part
       by_more part begun [] c r = inr (subst (Conv replies q) (append-nil part) c)
-      by_more [] begun (i ∷ rest) c r = absurd (begun refl)
-      by_more (p ∷ ps) begun (i ∷ rest) c r =
-          inl record { replied = replied_before p ps i rest r c.replied; waits = waits_before (p ∷ ps) i rest c }
+      by_more part begun (i ∷ rest) c r =
+          inl record { replied = replied_before part i rest r c.replied; waits = waits_before part i rest c }

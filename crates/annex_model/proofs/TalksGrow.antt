@@ -3,8 +3,8 @@ use Rattle.std.proofs.Common.{subst, true, append-nil, ◌≡◌, ℕ, List, [],
 use Rattle.std.specs.Prelude.{IsSome, map, filter}
 use Rattle.std.specs.List.{flat_map, last_or}
 use Rattle.std.proofs.lemmas.List.Elements.{filter-append}
-use Rattle.annex_model.specs.Messages.{RemoteMessage, HostMessage, remote_reading, host_line}
-use Rattle.annex_model.specs.Talks.{Item, Host, Remote, awaits, Conv, Talking, IsReplied, shown, remote_items, said, with_replies, final_of, item_is_aside, is_remote}
+use Rattle.annex_model.specs.Messages.{RemoteMessage, HostMessage, remote_reading}
+use Rattle.annex_model.specs.Talks.{Item, Host, Remote, awaits, Conv, Talking, IsReplied, shown, of_host, request_lines, remote_items, said, with_replies, final_of, item_is_aside, is_remote}
 
 pub map-append : {X Y : Type 0} (f : X → Y) (xs ys : List X) → map f (xs ++ ys) ≡ map f xs ++ map f ys
 map-append f [] ys = refl
@@ -40,7 +40,8 @@ replied-push replies q part at text plain h =
     let one : flat_map (with_replies replies) (i ∷ []) ≡ shown i ∷ [] = rw plain refl in
     map-append shown part (i ∷ [])
     ∙ ap (λ xs. xs ++ shown i ∷ []) h
-    ∙ ap (λ xs. (Host, host_line q) ∷ xs)
+    ∙ append_assoc (of_host (request_lines q)) (flat_map (with_replies replies) (remote_items part)) (shown i ∷ [])
+    ∙ ap (λ xs. of_host (request_lines q) ++ xs)
     (ap (λ xs. flat_map (with_replies replies) (remote_items part) ++ xs) (sym one)
     ∙ sym (flat_map-append (with_replies replies) (remote_items part) (i ∷ []))
     ∙ ap (flat_map (with_replies replies)) (sym items))
@@ -91,7 +92,8 @@ Talking-aside replies q part at text rs aside replied h =
       replied =
           map-append shown part (i ∷ map from_host rs)
           ∙ ap (λ xs. xs ++ (shown i ∷ map shown (map from_host rs))) h.replied
-          ∙ ap (λ xs. (Host, host_line q) ∷ xs)
+          ∙ append_assoc (of_host (request_lines q)) (flat_map (with_replies replies) (remote_items part)) (shown i ∷ map shown (map from_host rs))
+          ∙ ap (λ xs. of_host (request_lines q) ++ xs)
           (ap (λ xs. flat_map (with_replies replies) (remote_items part) ++ xs) one
           ∙ sym (flat_map-append (with_replies replies) (remote_items part) (i ∷ []))
           ∙ ap (flat_map (with_replies replies)) (sym items));

@@ -184,13 +184,21 @@ said part = map (λ i. remote_reading i.text) (filter (λ i. not (item_is_aside 
 abbrev pub shown : Item → Side × List ℕ
 shown i = (i.side, i.text)
 
+-- lines of the host, as items without their places
+abbrev pub of_host : List (List ℕ) → List (Side × List ℕ)
+of_host lines = map (λ line. (Host, line)) lines
+
+-- the lines that the host says for a request
+abbrev pub request_lines : HostMessage → List (List ℕ)
+request_lines q = host_line q ∷ []
+
 -- an item of the remote, and the replies that it is owed
 abbrev pub with_replies : (ℕ → List (List ℕ)) → Item → List (Side × List ℕ)
-with_replies replies i = shown i ∷ (if item_is_aside i then map (λ line. (Host, line)) (replies i.at) else [])
+with_replies replies i = shown i ∷ (if item_is_aside i then of_host (replies i.at) else [])
 
--- the part, places aside, is the request and then what the remote says, each aside with exactly its replies behind it
+-- the part, places aside, is the request's lines and then what the remote says, each aside with exactly its replies behind it
 abbrev pub IsReplied : (ℕ → List (List ℕ)) → HostMessage → List Item → Type 0
-IsReplied replies q part = map shown part ≡ (Host, host_line q) ∷ flat_map (with_replies replies) (remote_items part)
+IsReplied replies q part = map shown part ≡ of_host (request_lines q) ++ flat_map (with_replies replies) (remote_items part)
 
 -- the last item is the remote's, and no aside
 abbrev pub is_final_item : Option Item → Bool

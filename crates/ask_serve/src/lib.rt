@@ -8,4 +8,4 @@ mod serving;
 mod setting;
 
 pub use replies::Replies;
-pub use serving::serve;
+pub use serving::{replies_to, serve, set};

@@ -31,12 +31,37 @@ pub fn serve(
     ensures set { OnOk result (registers.new ≡ set_by registers.old (remote_shown message.now)) }
     ensures err { OnErr result (registers.new ≡ registers.old) }
 {
-    let replies = replies(alloc, registers, identity, *message)?;
-    setting::set(registers, *message)?;
-    Ok(Replies::new(replies))
+    let replies = replies_to(alloc, registers, identity, message)?;
+    set(registers, message)?;
+    Ok(replies)
 }
 
-fn replies(
+/// The lines that the message is owed, as `serve` gives them, where nothing is set.
+pub fn replies_to(
+    alloc: Global,
+    registers: &Registers,
+    identity: &Identity,
+    message: &RemoteMsg<'_>,
+) -> Result<Replies, NoMemory>
+    requires { IsLineIdentity identity.now }
+    ensures replies { IfOk result (λ r. r ≡ replies_by (values_of registers.now identity.now) (remote_shown message.now)) }
+    ensures lines { IfOk result (λ r. IsTrue (are_lines r)) }
+{
+    let lines = lines_for(alloc, registers, identity, *message)?;
+    Ok(Replies::new(lines))
+}
+
+/// What the message sets, as by `serve`.
+pub fn set(registers: &mut Registers, message: &RemoteMsg<'_>) -> Result<(), NoMemory>
+    requires class { IsSayable (remote_shown message.now) }
+    requires lines { IsTrue (are_line_fields (remote_shown message.now)) }
+    ensures set { OnOk result (registers.new ≡ set_by registers.old (remote_shown message.now)) }
+    ensures err { OnErr result (registers.new ≡ registers.old) }
+{
+    setting::set(registers, *message)
+}
+
+fn lines_for(
     alloc: Global,
     registers: &Registers,
     identity: &Identity,

@@ -9,7 +9,7 @@ use Rattle.journal_model.specs.declared.verdict.Why.{Why}
 use Rattle.journal_model.specs.declared.verdict.Why.TheVariants.{Eof, ReadFault, Full, Closed}
 use Rattle.journal_model.specs.declared.verdict.Verdict.TheVariants.{Ended}
 use Rattle.journal_model.specs.declared.entry.What.{What}
-use Rattle.journal_model.specs.declared.entry.What.TheVariants.{Ask, Sent, Mute, Got, End, Verdict as Settled}
+use Rattle.journal_model.specs.declared.entry.What.TheVariants.{Ask, Put, Sent, Mute, Got, End, Verdict as Settled}
 use Rattle.journal_model.specs.declared.entry.Entry.{Entry}
 use Rattle.journal_model.specs.declared.opening.Opening.{Opening}
 use Rattle.journal_model.specs.Legality.{Legal}
@@ -39,6 +39,7 @@ soft_open why h = refl
 soft_quiet : (by : ℕ) (ws : List What) → list_all is_soft ws ≡ true → list_all (λ (e : Entry). is_of_link e.what) (made_by by ws) ≡ true
 soft_quiet by [] h = refl
 soft_quiet by (Settled child job verdict ∷ ws) h = soft_quiet by ws h
+soft_quiet by (Put child job line ∷ ws) h = soft_quiet by ws h
 soft_quiet by (End child why ∷ ws) h =
     let t = both (is_soft_why why) (list_all is_soft ws) h in
     rw (soft_open why t.0, soft_quiet by ws t.1) refl

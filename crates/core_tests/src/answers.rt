@@ -2,7 +2,8 @@
 use crate::{ends, entries, words};
 use ann_key::NoMemory;
 use entry_text::said;
-use journal_model::{Journal, Verdict};
+use journal_look::Journal;
+use journal_model::Verdict;
 use journal_text::print_answer;
 use std::alloc::Global;
 use task_run::check_answer;
@@ -18,7 +19,7 @@ pub(crate) fn printed(alloc: Global, text: &str) -> Result<String, NoMemory> {
     };
     let journal = spoken(alloc, line)?;
     let printed = print_answer(alloc, words::task(task), &answer, &journal)?;
-    words::quoted(alloc, "", said(&printed))
+    words::quoted(alloc, "", said(printed.view()))
 }
 
 fn spoken(alloc: Global, line: &str) -> Result<Journal, NoMemory> {

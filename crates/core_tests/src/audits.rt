@@ -2,7 +2,8 @@
 use crate::{cores, entries, words};
 use ann_key::NoMemory;
 use journal_audit::audit;
-use journal_model::{Entry, Journal};
+use journal_look::Journal;
+use journal_model::Entry;
 use std::alloc::Global;
 
 /// Keeps the entry's row behind the head; `new` begins another head.

@@ -48,15 +48,6 @@ pub(crate) fn verdict(text: &str) -> Option<Verdict> {
     }
 }
 
-const ANSWERS: &[(&str, Answer)] = &[
-    ("present", Answer::Present),
-    ("absent", Answer::Absent),
-    ("unsupported", Answer::Unsupported),
-    ("unsent", Answer::Unsent),
-    ("startfault", Answer::StartFault),
-    ("memory", Answer::Memory),
-];
-
 /// The answer of a task.
 pub(crate) fn answer(text: &str) -> Option<Answer> {
     let (word, rest) = words::cut(text);
@@ -70,10 +61,19 @@ pub(crate) fn answer(text: &str) -> Option<Answer> {
 }
 
 fn plain_answer(word: &str) -> Option<Answer> {
-    for (name, answer) in ANSWERS {
-        if *name == word {
-            return Some(*answer);
-        }
+    match word {
+        "stored" => Some(Answer::Stored),
+        "got" => Some(Answer::Got),
+        "present" => Some(Answer::Present),
+        "dropped" => Some(Answer::Dropped),
+        "absent" => Some(Answer::Absent),
+        "unsupported" => Some(Answer::Unsupported),
+        "unsent" => Some(Answer::Unsent),
+        "startfault" => Some(Answer::StartFault),
+        "nochild" => Some(Answer::NoChild),
+        "filefault" => Some(Answer::FileFault),
+        "nofile" => Some(Answer::NoFile),
+        "memory" => Some(Answer::Memory),
+        _ => None,
     }
-    None
 }

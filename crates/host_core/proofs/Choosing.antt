@@ -8,7 +8,7 @@ use Rattle.journal_model.specs.declared.verdict.Why.TheVariants.{Full}
 use Rattle.annex_model.specs.Lines.{has_newline}
 use Rattle.annex_model.specs.Messages.{HostMessage, AskExtensions, Prepare, Initremote, Transfer, Checkpresent, Remove, Listconfigs, Getcost, Getavailability, Getinfo, Whereis, Value, Creds, HostError, host_line, host_reading, is_askable}
 use Rattle.journal_model.specs.declared.entry.What.{What}
-use Rattle.journal_model.specs.declared.entry.What.TheVariants.{Claim, Start, NoStart, Ask, Put, Sent, Mute, Got, End, Verdict as Settled, Lost, Answer as Answered}
+use Rattle.journal_model.specs.declared.entry.What.TheVariants.{Claim, Start, NoStart, Ask, Put, Sent, Mute, Got, End, Verdict as Settled, Lost, Answer as Answered, Note as Noted}
 use Rattle.journal_model.specs.declared.entry.Entry.{Entry}
 use Rattle.journal_model.specs.declared.opening.Opening.{Opening}
 use Rattle.journal_model.specs.Journal.{any, offers, is_started, is_ended, is_mute, is_live, unsent, addressed, on_wire, is_full}
@@ -20,7 +20,7 @@ use Rattle.talk_serial.specs.declared.request.Request.{Request}
 use Rattle.talk_serial.specs.declared.request.Request.TheVariants.{Extensions, Prepare as PrepareRequest, InitRemote as InitRemoteRequest, ListConfigs, GetCost, GetAvailability, GetInfo, Transfer as TransferRequest, CheckPresent, Remove as RemoveRequest, WhereIs}
 use Rattle.annex_model.specs.Extensions.{names_of}
 use Rattle.talk_serial.specs.Requests.{message_of}
-use Rattle.host_core.specs.declared.event.Event.TheVariants.{Claim as ClaimEvent, Start as StartEvent, NoStart as NoStartEvent, Ask as AskEvent, Got as GotEvent, Stop, Sent as SentEvent, Mute as MuteEvent, Answer as AnswerEvent}
+use Rattle.host_core.specs.declared.event.Event.TheVariants.{Claim as ClaimEvent, Start as StartEvent, NoStart as NoStartEvent, Ask as AskEvent, Got as GotEvent, Stop, Sent as SentEvent, Mute as MuteEvent, Answer as AnswerEvent, Note as NoteEvent}
 use Rattle.host_core.specs.declared.event.Reply.TheVariants.{Job}
 use Rattle.host_core.specs.Steps.{Step, step_of, group_of, append, odd, gone, claim, next_job, may_request, may_end, Comes, Appends}
 use Rattle.host_core.proofs.Stepping.{step_comes}
@@ -173,6 +173,7 @@ chosen o past by (Lost child task) h =
     let u = both (is_started past child) (is_ended past child || is_mute past child) t.0 in
     lost_chosen o past by child task u.0 u.1 t.1
 chosen o past by (Answered task answer) h = (AnswerEvent task answer, rw h refl)
+chosen o past by (Noted task chunk count) h = (NoteEvent task chunk count, rw h refl)
 
 -- what an event appends first may come
 pub appended : (o : Opening) (past : List Entry) (by : ℕ) (w : What) → length past < 2 ^ 64 → Appends o past by w → may_come o past by w ≡ true

@@ -1,7 +1,3 @@
-pub mod Firsts
-pub mod Parted
-pub mod Written
-pub mod FirstItem
 pub mod Replaying
 pub mod Opened
 pub mod Wiring
@@ -9,3 +5,6 @@ pub mod Stepping
 pub mod Choosing
 pub mod Pushing
 pub mod Sharing
+pub mod Setting
+pub mod Sparing
+pub mod Answered

@@ -1,11 +1,11 @@
 -- What a legal journal says of an open job: it has a request, and more of its answer must come.
-use Rattle.std.proofs.Common.{◌≡◌, ◌∙◌, ℕ, List, [], ◌∷◌, ◌++◌, refl, sym, ap, subst, Bool, true, false, not, cond, Option, Some, None, length}
-use Rattle.std.specs.Prelude.{◌&&◌, ◌==◌, nat_lt, option_and_then, bytes_eq}
+use Rattle.std.proofs.Common.{◌≡◌, ◌∙◌, ℕ, List, [], ◌∷◌, ◌++◌, refl, sym, ap, subst, Bool, true, false, not, cond, Option, Some, None, length, map}
+use Rattle.std.specs.Prelude.{◌&&◌, ◌==◌, nat_lt, option_and_then, bytes_eq, filter}
 use Rattle.std.specs.Str.{is_utf8}
 use Rattle.std.proofs.lemmas.Slice.Eq.{bytes_eq-Decides}
 use Rattle.std.specs.List.{list_all, cons_option}
 use Rattle.journal_model.specs.declared.verdict.Verdict.{Verdict}
-use Rattle.journal_model.specs.declared.verdict.Verdict.TheVariants.{Ended}
+use Rattle.journal_model.specs.declared.verdict.Verdict.TheVariants.{Ended, Unsent}
 use Rattle.annex_model.specs.Extensions.{names_of}
 use Rattle.annex_model.specs.Lines.{has_newline}
 use Rattle.annex_model.specs.Messages.{RemoteMessage, HostMessage, AskExtensions, Transfer, Value, Creds, HostError, host_reading, host_line}
@@ -14,21 +14,21 @@ use Rattle.journal_model.specs.declared.opening.Opening.{Opening}
 use Rattle.journal_model.specs.declared.entry.What.{What}
 use Rattle.journal_model.specs.declared.entry.What.TheVariants.{Ask, Put, Mute, Got, End, Verdict as Settled}
 use Rattle.journal_model.specs.declared.entry.Entry.{Entry}
-use Rattle.journal_model.specs.Journal.{any, offers, is_open, addressed, verdict_of, open_jobs, asked_jobs, on_wire, is_live, is_mute}
+use Rattle.journal_model.specs.Journal.{any, offers, is_open, addressed, verdict_of, open_jobs, asked_jobs, on_wire, is_live, is_mute, is_unsent}
 use Rattle.journal_model.specs.Parts.{item_of, part_from, part}
 use Rattle.annex_model.specs.Hearings.{request_in, Aside, hearing, hearing_of}
-use Rattle.journal_model.specs.Due.{replies_at, due_by, due_after, made_by}
+use Rattle.journal_model.specs.Due.{replies_at, replying, ending, due_by, due_after, made_by}
 use Rattle.journal_model.specs.Legality.{Legal, may_come, may_ask, asks_in_turn, is_in_turn, is_text, offered_names}
 use Rattle.journal_model.specs.Projection.{Fits}
 use Rattle.journal_model.proofs.Growing.{Legal-induction}
 use Rattle.journal_model.proofs.Looks.{is_asked, both, same_number, unasked_closed, open_unsettled, settled_none}
 use Rattle.journal_model.proofs.PartsGrow.{part-group, and_right}
 use Rattle.journal_model.proofs.Projecting.{parts_fit, asked_parts}
-use Rattle.journal_model.proofs.Soft.{is_soft, is_soft_why, soft_got, soft_mute, soft_verdicts}
+use Rattle.journal_model.proofs.Soft.{got_cases}
 use Rattle.talk_serial.specs.declared.talk.Heard.TheVariants.{Aside as HeardAside}
 use Rattle.talk_serial.specs.Hearings.{heard, heard_as}
-use Rattle.host_core.proofs.FirstItem.{adds_none}
-use Rattle.host_core.specs.Moves.{first_text}
+use Rattle.journal_look.proofs.FirstItem.{adds_none}
+use Rattle.journal_look.specs.Looks.{first_text}
 use Rattle.talk_serial.specs.Requests.{is_request}
 
 -- ---- it has a request, to which nothing but the beginning of an answer was said
@@ -75,19 +75,58 @@ line_asks : (past : List Entry) (c job : ℕ) (line : List ℕ) (r : Option Host
 line_asks past c job line None h = refl
 line_asks past c job line (Some q) h = turn_asks past c job q (both (is_in_turn past c job q) (bytes_eq line (on_wire past c job (host_line q))) h).0
 
--- what an entry makes due adds nothing to a part
-soft_part : (c j by : ℕ) (past : List Entry) (ws : List What) → list_all is_soft ws ≡ true → part_from c j past (made_by by ws) ≡ []
-soft_part c j by past [] h = refl
-soft_part c j by past (Settled child job verdict ∷ ws) h = soft_part c j by (past ++ record { by = by; what = Settled child job verdict } ∷ []) ws h
-soft_part c j by past (End child why ∷ ws) h =
-    soft_part c j by (past ++ record { by = by; what = End child why } ∷ []) ws (and_right (is_soft_why why) (list_all is_soft ws) h)
-soft_part c j by past (w ∷ ws) h = absurd cc
+-- an end and verdicts add nothing to a part
+abbrev is_still : What → Bool
+is_still (Settled child job verdict) = true
+is_still (End child why) = true
+is_still w = false
 
-due_adds : (o : Opening) (c j by : ℕ) (past before : List Entry) (w : What) → part_from c j before (made_by by (due_by o past w)) ≡ []
-due_adds o c j by past before (Got child line) = soft_part c j by before (due_by o past (Got child line)) (soft_got o past child line)
-due_adds o c j by past before (End child why) = soft_part c j by before (due_by o past (End child why)) (soft_verdicts child (Ended why) (open_jobs past child))
-due_adds o c j by past before (Mute child) = soft_part c j by before (due_by o past (Mute child)) (soft_mute o past child)
-due_adds o c j by past before w = refl
+still_part : (c j by : ℕ) (past : List Entry) (ws : List What) → list_all is_still ws ≡ true → part_from c j past (made_by by ws) ≡ []
+still_part c j by past [] h = refl
+still_part c j by past (Settled child job verdict ∷ ws) h = still_part c j by (past ++ record { by = by; what = Settled child job verdict } ∷ []) ws h
+still_part c j by past (End child why ∷ ws) h = still_part c j by (past ++ record { by = by; what = End child why } ∷ []) ws h
+still_part c j by past (w ∷ ws) h = absurd cc
+
+still_verdicts : (c : ℕ) (v : Verdict) (js : List ℕ) → list_all is_still (map (λ j. Settled c j v) js) ≡ true
+still_verdicts c v [] = refl
+still_verdicts c v (j ∷ js) = still_verdicts c v js
+
+still_mute : (o : Opening) (past : List Entry) (c : ℕ) → list_all is_still (due_by o past (Mute c)) ≡ true
+still_mute o past c = go (is_live past c)
+  where
+    go : (b : Bool) → list_all is_still (cond b (map (λ j. Settled c j Unsent) (filter (is_unsent past c) (open_jobs past c))) []) ≡ true
+    go true = still_verdicts c Unsent (filter (is_unsent past c) (open_jobs past c))
+    go false = refl
+
+-- nor do replies in another job
+other_replies : (c j by child k : ℕ) (past before : List Entry) (lines : List (List ℕ)) → (child == c && k == j) ≡ false
+    → part_from c j before (made_by by (replying past child k lines)) ≡ []
+other_replies c j by child k past before [] h = refl
+other_replies c j by child k past before (l ∷ ls) h =
+    rw h (other_replies c j by child k past (before ++ record { by = by; what = Put child k (on_wire past child k l) } ∷ []) ls h)
+
+not_that_job : (past : List Entry) (c j child k : ℕ) → is_open past child k ≡ true → is_asked past c j ≡ false → (child == c && k == j) ≡ false
+not_that_job past c j child k opened un = go (child == c && k == j) refl
+  where
+    go : (b : Bool) → (child == c && k == j) ≡ b → b ≡ false
+    go false e = refl
+    go true e =
+        let t = both (child == c) (k == j) e in
+        let a : child ≡ c = same_number child c t.0 in
+        let b : k ≡ j = same_number k j t.1 in
+        let here : is_open past c j ≡ true = subst (λ (x : ℕ). is_open past x j ≡ true) a (subst (λ (y : ℕ). is_open past child y ≡ true) b opened) in
+        sym here ∙ unasked_closed c j past un
+
+-- what an entry makes due adds nothing to the part of a job that was not asked
+due_adds : (o : Opening) (c j by : ℕ) (past before : List Entry) (w : What) → is_asked past c j ≡ false → part_from c j before (made_by by (due_by o past w)) ≡ []
+due_adds o c j by past before (Got child line) un =
+    got_cases (λ ws. part_from c j before (made_by by ws) ≡ []) o past child line refl
+    (λ why soft. still_part c j by before (ending past child why) (still_verdicts child (Ended why) (open_jobs past child)))
+    (λ k f opened. refl)
+    (λ k ls opened for owed. other_replies c j by child k past before ls (not_that_job past c j child k opened un))
+due_adds o c j by past before (End child why) un = still_part c j by before (due_by o past (End child why)) (still_verdicts child (Ended why) (open_jobs past child))
+due_adds o c j by past before (Mute child) un = still_part c j by before (due_by o past (Mute child)) (still_mute o past child)
+due_adds o c j by past before w un = refl
 
 first_asks : (o : Opening) (c j : ℕ) (past : List Entry) (by : ℕ) (w : What) (rest : List Entry) → may_come o past by w ≡ true → is_asked past c j ≡ false
     → asks_request (request_in (cons_option (item_of c j past w rest) [])) ≡ true
@@ -120,14 +159,16 @@ part_asks o past legal =
         → (c j : ℕ) → asks_request (request_in (part (p ++ e ∷ due_after o p e) c j)) ≡ true
     step p e l known may c j =
         let due = due_after o p e in
-        let item = item_of c j p e.what due in
-        let grown : part (p ++ e ∷ due) c j ≡ part p c j ++ cons_option item [] =
-        part-group o c j p e due may ∙ ap (λ (more : List Item). part p c j ++ cons_option item more) (due_adds o c j e.by p (p ++ e ∷ []) e.what) in
+        let grown : part (p ++ e ∷ due) c j ≡ part p c j ++ part_from c j p (e ∷ due) = part-group o c j p e due may in
         subst (λ (is : List Item). asks_request (request_in is) ≡ true) (sym grown) (joined (part p c j) refl (known c j))
       where
         joined : (is : List Item) → part p c j ≡ is → asks_request (request_in is) ≡ true
-            → asks_request (request_in (is ++ cons_option (item_of c j p e.what (due_after o p e)) [])) ≡ true
-        joined [] none k = first_asks o c j p e.by e.what (due_after o p e) may ((asked_parts o p l c j).0 none)
+            → asks_request (request_in (is ++ cons_option (item_of c j p e.what (due_after o p e)) (part_from c j (p ++ e ∷ []) (due_after o p e)))) ≡ true
+        joined [] none k =
+            let un : is_asked p c j ≡ false = (asked_parts o p l c j).0 none in
+            subst (λ (more : List Item). asks_request (request_in (cons_option (item_of c j p e.what (due_after o p e)) more)) ≡ true)
+            (sym (due_adds o c j e.by p (p ++ e ∷ []) e.what un))
+            (first_asks o c j p e.by e.what (due_after o p e) may un)
         joined (i ∷ is) some k = k
 
 -- ---- what the code reads of it

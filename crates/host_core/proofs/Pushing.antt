@@ -1,24 +1,30 @@
 -- A group is pushed entry by entry, into room that is kept.
-use Rattle.std.proofs.Common.{◌≡◌, ◌∙◌, ℕ, zero, suc, ◌+◌, ◌<◌, ◌≤◌, ◌^◌, List, [], ◌∷◌, ◌++◌, refl, sym, ap, Bool, true, false, not, cond, Option, Some, None, length, length-append, take, drop, map, append-nil, append_assoc, arith, inl, inr}
-use Rattle.std.specs.Prelude.{◌&&◌, filter, slice_get, option_and_then}
+use Rattle.std.proofs.Common.{◌≡◌, ◌∙◌, ℕ, zero, suc, ◌+◌, ◌*◌, ◌<◌, ◌≤◌, ◌^◌, List, [], ◌∷◌, ◌++◌, refl, sym, ap, Bool, true, false, not, cond, Option, Some, None, length, length-append, get_or, take, drop, map, append-nil, append_assoc, arith, inl, inr}
+use Rattle.std.specs.Prelude.{◌&&◌, ◌||◌, ◌==◌, nat_lt, nat_le, filter, remove, slice_get, option_and_then}
+use Rattle.std.specs.List.{list_any}
+use Rattle.std.proofs.lemmas.Bool.Decides.{nat_tests}
+use Rattle.std.proofs.lemmas.List.Sums.{sum_by-cons}
 use Rattle.std.specs.List.{cons_option}
 use Rattle.std.proofs.lemmas.List.{take-append-drop, take-append-le}
 use Rattle.journal_model.specs.declared.verdict.Verdict.{Verdict}
+use Rattle.journal_model.specs.declared.verdict.Verdict.TheVariants.{Ended, Unsent}
 use Rattle.journal_model.specs.declared.opening.Opening.{Opening}
 use Rattle.journal_model.specs.declared.entry.What.{What}
-use Rattle.journal_model.specs.declared.entry.What.TheVariants.{Verdict as Settled}
+use Rattle.journal_model.specs.declared.entry.What.TheVariants.{Put, Verdict as Settled}
 use Rattle.journal_model.specs.declared.entry.Entry.{Entry}
 use Rattle.journal_model.specs.Journal.{asks, asked_jobs, each_of, is_settled, is_unsent, open_jobs}
-use Rattle.journal_model.specs.Due.{made_by, due_after}
+use Rattle.journal_model.specs.Due.{made_by}
 use Rattle.journal_model.specs.Legality.{Legal}
-use Rattle.journal_model.specs.Room.{room_for, room_of}
-use Rattle.journal_model.proofs.Looks.{each_of-append}
+use Rattle.journal_model.specs.Room.{room_for, room_for_all, room_of}
+use Rattle.journal_model.proofs.Looks.{each_of-append, either_left, either_right, both}
 use Rattle.journal_model.proofs.Rooms.{room_suffices, room_grows}
 use Rattle.host_core.specs.declared.due.Due.{Due}
+use Rattle.host_core.specs.declared.due.Due.TheVariants.{Nothing, Settle, Replies, EndOf, EndedJobs, UnsentJobs}
 use Rattle.host_core.specs.declared.event.Event.{Event}
-use Rattle.host_core.specs.Steps.{Step, step_of, group_of, Comes}
-use Rattle.host_core.specs.Moves.{dues, group_made, first_room, due_asked, due_job, due_jobs, job_at}
-use Rattle.host_core.proofs.Stepping.{step_comes, Legal-step}
+use Rattle.host_core.specs.Steps.{step_of, needs_room, is_line, is_free}
+use Rattle.journal_look.specs.Looks.{due_asked, due_job, due_jobs, job_at}
+use Rattle.host_core.specs.Moves.{dues, group_made, first_room, due_room, group_room}
+use Rattle.host_core.proofs.Stepping.{Legal-step}
 
 -- ---- the due jobs are those of the definitions
 
@@ -152,35 +158,94 @@ room_next init by c n verdict u at cap long h room =
     let w : length (each_of (due_job past c u) (take (at + 1) past)) ≤ length (due_jobs past c u) = each_of-within (due_job past c u) (at + 1) past in
     omega (arith, here, a, b, d, w, room)
 
+-- ---- replies
+
+pub reply_pushed : (by c j : ℕ) (es more : List Entry) (xs : List (List ℕ)) (x : List ℕ) → 0 < length xs → x ≡ get_or xs 0 x
+    → more ≡ es ++ made_by by (Put c j x ∷ [])
+    → more ++ made_by by (map (λ line. Put c j line) (remove xs 0)) ≡ es ++ made_by by (map (λ line. Put c j line) xs)
+reply_pushed by c j es more [] x some is grown = absurd (let no : ⊥ = omega (arith, some) in no)
+reply_pushed by c j es more (y ∷ ys) x some is grown =
+    ap (λ (zs : List Entry). zs ++ made_by by (map (λ line. Put c j line) ys)) grown
+    ∙ append_assoc es (made_by by (Put c j x ∷ [])) (made_by by (map (λ line. Put c j line) ys))
+    ∙ ap (λ (z : List ℕ). es ++ record { by = by; what = Put c j z } ∷ made_by by (map (λ line. Put c j line) ys)) is
+
+pub nonzero : (n : ℕ) → false ≡ (n == 0) → 0 < n
+nonzero zero h = absurd cc
+nonzero (suc n) h = omega arith
+
+pub one_fewer : (xs : List (List ℕ)) → 0 < length xs → length (remove xs 0) + 1 ≡ length xs
+one_fewer [] some = absurd (let no : ⊥ = omega (arith, some) in no)
+one_fewer (y ∷ ys) some = omega arith
+
 -- ---- the group within the room
 
-first_is : (v w : What) (by : ℕ) (vs ws : List Entry) → record { by = by; what = v } ∷ vs ≡ record { by = by; what = w } ∷ ws → v ≡ w
-first_is v w by vs ws h = ap first_what h
-  where
-    first_what : List Entry → What
-    first_what [] = v
-    first_what (e ∷ es) = e.what
+room_cons : (e : Entry) (es : List Entry) → room_for_all (e ∷ es) ≡ room_for e.what + room_for_all es
+room_cons e es = sum_by-cons (λ (d : Entry). room_for d.what) e es
 
-grows : (o : Opening) (past : List Entry) (by : ℕ) (what : Option What) (due : Due) (s : Step) → Comes o past by s
-    → group_made past by what due ≡ s.group → room_of o (past ++ s.group) ≡ room_of o past + first_room what
-grows o past by None due s (inl none) e =
-    ap (λ (g : List Entry). room_of o (past ++ g)) none ∙ ap (room_of o) (append-nil past) ∙ (let z : room_of o past ≡ room_of o past + 0 = omega arith in z)
-grows o past by (Some w) due s (inl none) e = absurd (let no : record { by = by; what = w } ∷ made_by by (dues past due) ≡ [] = e ∙ none in cc)
-grows o past by None due s (inr some) e = absurd (let no : [] ≡ group_of o past by some.0 = e ∙ some.2 in cc)
-grows o past by (Some w) due s (inr some) e =
-    let same : w ≡ some.0 = first_is w some.0 by (made_by by (dues past due)) (due_after o past (record { by = by; what = some.0 })) (e ∙ some.2) in
-    ap (λ (g : List Entry). room_of o (past ++ g)) some.2
-    ∙ room_grows o past (record { by = by; what = some.0 })
-    ∙ ap (λ (v : What). room_of o past + room_for v) (sym same)
+puts_room : (by c j : ℕ) (lines : List (List ℕ)) → room_for_all (made_by by (map (λ line. Put c j line) lines)) ≡ 2 * length lines
+puts_room by c j [] = refl
+puts_room by c j (l ∷ ls) =
+    room_cons (record { by = by; what = Put c j l }) (made_by by (map (λ line. Put c j line) ls))
+    ∙ ap (λ (n : ℕ). 2 + n) (puts_room by c j ls) ∙ (let z : 2 + 2 * length ls ≡ 2 * length (l ∷ ls) = omega arith in z)
 
-pub group_room : (o : Opening) (past : List Entry) (by : ℕ) (event : Event) (what : Option What) (due : Due) (room cap : ℕ) → length past < 2 ^ 64 → Legal o past
-    → group_made past by what due ≡ (step_of o past by event).group → room_of o past ≤ room → room + first_room what ≤ cap
-    → (length past + length (group_made past by what due) ≤ cap) × (room_of o (past ++ group_made past by what due) ≤ room + first_room what)
-group_room o past by event what due room cap few legal e kept fits =
+verdicts_room : (by c : ℕ) (v : Verdict) (js : List ℕ) → room_for_all (made_by by (map (λ j. Settled c j v) js)) ≡ 0
+verdicts_room by c v [] = refl
+verdicts_room by c v (j ∷ js) = verdicts_room by c v js
+
+dues_room : (past : List Entry) (by : ℕ) (due : Due) → room_for_all (made_by by (dues past due)) ≡ due_room due
+dues_room past by Nothing = refl
+dues_room past by (Settle child job verdict) = refl
+dues_room past by (Replies child job lines) = puts_room by child job lines.items
+dues_room past by (EndOf child why) = verdicts_room by child (Ended why) (open_jobs past child)
+dues_room past by (EndedJobs child why) = verdicts_room by child (Ended why) (open_jobs past child)
+dues_room past by (UnsentJobs child) = verdicts_room by child Unsent (filter (is_unsent past child) (open_jobs past child))
+
+made_room : (past : List Entry) (by : ℕ) (what : Option What) (due : Due) → room_for_all (group_made past by what due) ≡ group_room what due
+made_room past by None due = refl
+made_room past by (Some w) due = room_cons (record { by = by; what = w }) (made_by by (dues past due)) ∙ ap (λ (n : ℕ). room_for w + n) (dues_room past by due)
+
+-- a legal journal within its room is short
+pub few_entries : (o : Opening) (past : List Entry) (room : ℕ) → Legal o past → room_of o past ≤ room → room < 2 ^ 64 → length past < 2 ^ 64
+few_entries o past room legal kept small = omega (arith, room_suffices o past legal, kept, small)
+
+pub group_fits : (o : Opening) (past : List Entry) (by : ℕ) (event : Event) (what : Option What) (due : Due) (room : ℕ) → length past < 2 ^ 64 → Legal o past
+    → group_made past by what due ≡ (step_of o past by event).group → room_of o past ≤ room
+    → (length past + length (group_made past by what due) ≤ room + group_room what due) × (room_of o (past ++ group_made past by what due) ≤ room + group_room what due)
+group_fits o past by event what due room few legal e kept =
     let g = group_made past by what due in
     let s = step_of o past by event in
     let long : length (past ++ s.group) ≤ room_of o (past ++ s.group) = room_suffices o (past ++ s.group) (Legal-step o past by event few legal) in
-    let adds : room_of o (past ++ s.group) ≡ room_of o past + first_room what = grows o past by what due s (step_comes o past by event few) e in
     let both : length (past ++ s.group) ≡ length past + length g = length-append past s.group ∙ ap (λ (k : List Entry). length past + length k) (sym e) in
     let same : room_of o (past ++ g) ≡ room_of o (past ++ s.group) = ap (λ (k : List Entry). room_of o (past ++ k)) e in
-    (omega (arith, long, adds, both, kept, fits), omega (arith, adds, same, kept))
+    let adds : room_of o (past ++ g) ≡ room_of o past + room_for_all g = room_grows o past g in
+    let needs : room_for_all g ≡ group_room what due = made_room past by what due in
+    (omega (arith, long, adds, both, same, kept, needs), omega (arith, adds, kept, needs))
+
+-- a step that takes no memory needs no room
+no_room_in : (es : List Entry) → list_any needs_room es ≡ false → room_for_all es ≡ 0
+no_room_in [] h = refl
+no_room_in (e ∷ es) h =
+    let none : room_for e.what ≡ 0 = zero_room (room_for e.what) (either_left (needs_room e) (list_any needs_room es) h) in
+    let rest : room_for_all es ≡ 0 = no_room_in es (either_right (needs_room e) (list_any needs_room es) h) in
+    let whole : room_for_all (e ∷ es) ≡ room_for e.what + room_for_all es = room_cons e es in
+    omega (arith, whole, none, rest)
+  where
+    zero_room : (n : ℕ) → nat_lt 0 n ≡ false → n ≡ 0
+    zero_room n h = grind (arith, nat_tests)
+
+none_needed : (o : Opening) (past : List Entry) (by : ℕ) (event : Event) → is_free (step_of o past by event) ≡ true → list_any needs_room (step_of o past by event).group ≡ false
+none_needed o past by event h =
+    not_true (list_any needs_room (step_of o past by event).group) (both (not (list_any needs_room (step_of o past by event).group)) (not (is_line (step_of o past by event).reply)) h).0
+  where
+    not_true : (b : Bool) → not b ≡ true → b ≡ false
+    not_true true h = absurd cc
+    not_true false h = refl
+
+pub free_room : (o : Opening) (past : List Entry) (by : ℕ) (event : Event) (what : Option What) (due : Due) → is_free (step_of o past by event) ≡ true
+    → group_made past by what due ≡ (step_of o past by event).group → group_room what due ≡ 0
+free_room o past by event what due free e =
+    sym (made_room past by what due) ∙ ap room_for_all e ∙ no_room_in (step_of o past by event).group (none_needed o past by event free)
+
+pub free_first : (what : Option What) (due : Due) → group_room what due ≡ 0 → first_room what ≡ 0
+free_first None due h = refl
+free_first (Some w) due h = omega (arith, h)

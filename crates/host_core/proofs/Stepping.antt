@@ -8,7 +8,7 @@ use Rattle.annex_model.specs.Lines.{has_newline}
 use Rattle.annex_model.specs.Messages.{HostMessage, host_line, host_reading, is_askable}
 use Rattle.journal_model.specs.declared.answer.Answer.{Answer}
 use Rattle.journal_model.specs.declared.entry.What.{What}
-use Rattle.journal_model.specs.declared.entry.What.TheVariants.{Claim, Start, NoStart, Ask, Sent, Mute, Got, End, Lost, Answer as Answered}
+use Rattle.journal_model.specs.declared.entry.What.TheVariants.{Claim, Start, NoStart, Ask, Sent, Mute, Got, End, Lost, Answer as Answered, Note as Noted}
 use Rattle.journal_model.specs.declared.entry.Entry.{Entry}
 use Rattle.journal_model.specs.declared.opening.Opening.{Opening}
 use Rattle.journal_model.specs.Journal.{is_started, is_ended, is_mute, is_live, unsent, addressed, on_wire, verdict_of, is_full}
@@ -16,9 +16,9 @@ use Rattle.journal_model.specs.Legality.{Legal, is_empty, count, is_start, least
 use Rattle.journal_model.proofs.Growing.{Legal-group}
 use Rattle.journal_model.proofs.Looks.{same, both}
 use Rattle.host_core.specs.declared.event.Event.{Event}
-use Rattle.host_core.specs.declared.event.Event.TheVariants.{Claim as ClaimEvent, Start as StartEvent, NoStart as NoStartEvent, Ask as AskEvent, Lookup, Look, Listen, Fetch, Got as GotEvent, Stop, Sent as SentEvent, Mute as MuteEvent, Answer as AnswerEvent, Shut}
+use Rattle.host_core.specs.declared.event.Event.TheVariants.{Claim as ClaimEvent, Start as StartEvent, NoStart as NoStartEvent, Ask as AskEvent, Lookup, Look, Listen, Fetch, Got as GotEvent, Stop, Sent as SentEvent, Mute as MuteEvent, Answer as AnswerEvent, Note as NoteEvent, Shut}
 use Rattle.host_core.specs.declared.event.Reply.TheVariants.{Child, Job, Over, Done, Gone}
-use Rattle.host_core.specs.Steps.{Step, step_of, group_of, append, odd, only, gone, is_gone, claim, next_job, may_request, may_answer, may_end, is_full_why, is_asked, settled_so, next_line, listening, resting, Comes}
+use Rattle.host_core.specs.Steps.{Step, step_of, group_of, append, odd, only, gone, is_gone, claim, next_job, may_request, may_answer, may_add_note, may_end, is_full_why, is_asked, settled_so, next_line, listening, resting, Comes}
 use Rattle.talk_serial.specs.Requests.{message_of}
 use Rattle.host_core.proofs.Wiring.{wired_turn, few_jobs}
 
@@ -144,6 +144,11 @@ answers_keep : (o : Opening) (past : List Entry) (by task : ℕ) (answer : Answe
 answers_keep o past by task answer true e = inr (Answered task answer, e, refl)
 answers_keep o past by task answer false e = inl refl
 
+notes_keep : (o : Opening) (past : List Entry) (by task chunk count : ℕ) (b : Bool) → may_add_note o past by task chunk ≡ b
+    → Comes o past by (cond b (append o past by (Noted task chunk count) Done) odd)
+notes_keep o past by task chunk count true e = inr (Noted task chunk count, e, refl)
+notes_keep o past by task chunk count false e = inl refl
+
 pub step_comes : (o : Opening) (past : List Entry) (by : ℕ) (event : Event) → length past < 2 ^ 64 → Comes o past by (step_of o past by event)
 step_comes o past by (ClaimEvent child) few =
     claims_keep o past by child (child == 0 && by == 0) (is_started past child) (is_prepared past child) (is_ended past child) (is_mute past child) refl refl refl refl refl
@@ -161,6 +166,7 @@ step_comes o past by (Stop child why) few = stops_keep o past by child why (is_s
 step_comes o past by (SentEvent child) few = sents_keep o past by child (is_empty (unsent past child)) refl
 step_comes o past by (MuteEvent child) few = mutes_keep o past by child (is_started past child && not (is_mute past child)) refl
 step_comes o past by (AnswerEvent task answer) few = answers_keep o past by task answer (may_answer past by task) refl
+step_comes o past by (NoteEvent task chunk count) few = notes_keep o past by task chunk count (may_add_note o past by task chunk) refl
 
 -- each step keeps a journal legal
 pub Legal-step : (o : Opening) (past : List Entry) (by : ℕ) (event : Event) → length past < 2 ^ 64 → Legal o past → Legal o (past ++ (step_of o past by event).group)

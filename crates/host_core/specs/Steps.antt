@@ -1,5 +1,5 @@
 -- What one event appends to the journal, and what is answered.
-use Rattle.std.specs.Prelude.{ℕ, ◌⊎◌, ◌≡◌, ◌+◌, ◌==◌, ◌&&◌, ◌||◌, not, nat_lt, nat_le, Bool, true, false, if◌then◌else◌, List, [], ◌∷◌, ◌++◌, length, Option, Some, None, filter, option_map}
+use Rattle.std.specs.Prelude.{ℕ, ◌⊎◌, ◌≡◌, ◌+◌, ◌==◌, ◌&&◌, ◌||◌, not, nat_lt, nat_le, Bool, true, false, if◌then◌else◌, List, [], ◌∷◌, ◌++◌, length, Option, Some, None, filter}
 use Rattle.std.specs.List.{list_any, list_all}
 use Rattle.journal_model.specs.declared.verdict.Why.{Why}
 use Rattle.journal_model.specs.declared.verdict.Why.TheVariants.{Full}
@@ -7,15 +7,16 @@ use Rattle.journal_model.specs.declared.verdict.Verdict.{Verdict}
 use Rattle.annex_model.specs.Lines.{has_newline}
 use Rattle.annex_model.specs.Messages.{HostMessage, host_line, is_askable}
 use Rattle.journal_model.specs.declared.entry.What.{What}
-use Rattle.journal_model.specs.declared.entry.What.TheVariants.{Claim, Start, NoStart, Ask, Sent, Mute, Got, End, Lost, Answer as Answered}
+use Rattle.journal_model.specs.declared.entry.What.TheVariants.{Claim, Start, NoStart, Ask, Sent, Mute, Got, End, Lost, Answer as Answered, Note as Noted}
 use Rattle.journal_model.specs.declared.entry.Entry.{Entry}
 use Rattle.journal_model.specs.declared.opening.Opening.{Opening}
-use Rattle.journal_model.specs.Journal.{is_started, is_ended, is_mute, asked_jobs, open_jobs, has_spoken, verdict_of, unsent, is_full, on_wire, why_of, writes}
+use Rattle.journal_model.specs.Journal.{is_started, is_ended, is_mute, asked_jobs, open_jobs, has_spoken, verdict_of, unsent, is_full, on_wire, why_of}
+use Rattle.journal_model.specs.Room.{room_for}
 use Rattle.journal_model.specs.Due.{due_after}
-use Rattle.journal_model.specs.Legality.{may_come, is_empty, count, is_start, is_claimed, numbers_of, least_free, is_prepared, is_in_turn, may_ask, may_stop, is_claimed_by, has_open_job, has_busy_task}
+use Rattle.journal_model.specs.Legality.{may_come, is_empty, count, is_start, is_claimed, numbers_of, least_free, is_prepared, is_in_turn, may_ask, may_stop, is_claimed_by, has_open_job, has_busy_task, task_of, may_note}
 use Rattle.talk_serial.specs.Requests.{message_of}
 use Rattle.host_core.specs.declared.event.Event.{Event}
-use Rattle.host_core.specs.declared.event.Event.TheVariants.{Claim as ClaimEvent, Start as StartEvent, NoStart as NoStartEvent, Ask as AskEvent, Lookup, Look, Listen, Fetch, Got as GotEvent, Stop, Sent as SentEvent, Mute as MuteEvent, Answer as AnswerEvent, Shut}
+use Rattle.host_core.specs.declared.event.Event.TheVariants.{Claim as ClaimEvent, Start as StartEvent, NoStart as NoStartEvent, Ask as AskEvent, Lookup, Look, Listen, Fetch, Got as GotEvent, Stop, Sent as SentEvent, Mute as MuteEvent, Answer as AnswerEvent, Note as NoteEvent, Shut}
 use Rattle.host_core.specs.declared.event.Reply.{Reply}
 use Rattle.host_core.specs.declared.event.Reply.TheVariants.{Task, Child, Job, Verdict as Settled, Line, Read, Wait, NoTask, Gone, Over, Done, Odd}
 
@@ -71,26 +72,33 @@ may_end past child why = not (is_full_why why) && may_stop past child why
 abbrev pub may_answer : List Entry → ℕ → ℕ → Bool
 may_answer past by task = is_claimed_by past by task && not (has_open_job past task)
 
+abbrev pub may_add_note : Opening → List Entry → ℕ → ℕ → ℕ → Bool
+may_add_note o past by task chunk =
+    is_claimed_by past by task && may_note (task_of o task) && not (has_open_job past task) && nat_lt 0 chunk
+
 -- ---- memory
 
--- the room for what the event appends was kept before
+-- no room for the entry was kept before
+abbrev pub needs_room : Entry → Bool
+needs_room e = nat_lt 0 (room_for e.what)
+
+abbrev pub is_line : Reply → Bool
+is_line (Line line) = true
+is_line reply = false
+
+-- A step takes memory only for an entry whose room was not kept before, or for a line that it answers.
+abbrev pub is_free : Step → Bool
+is_free s = not (list_any needs_room s.group) && not (is_line s.reply)
+
+-- such are all steps by this event
 abbrev pub takes_no_memory : Event → Bool
 takes_no_memory (StartEvent slot offer) = false
 takes_no_memory (NoStartEvent slot) = false
 takes_no_memory (AskEvent child task request) = false
 takes_no_memory (Fetch child) = false
 takes_no_memory (GotEvent child line) = false
+takes_no_memory (NoteEvent task chunk count) = false
 takes_no_memory _ = true
-
--- ---- words for the code
-
--- the job that a line written to the child asks, if it asks one
-abbrev pub written_to : ℕ → What → Option (Option ℕ)
-written_to c w = option_map (λ l. l.0) (writes c w)
-
-abbrev pub got_line : What → List ℕ
-got_line (Got child line) = line
-got_line _ = []
 
 -- ---- steps that have more than one outcome
 
@@ -181,6 +189,7 @@ step_of o past by (SentEvent child) = if is_empty (unsent past child) then odd e
 step_of o past by (MuteEvent child) =
     if is_started past child && not (is_mute past child) then append o past by (Mute child) Done else odd
 step_of o past by (AnswerEvent task answer) = if may_answer past by task then append o past by (Answered task answer) Done else odd
+step_of o past by (NoteEvent task chunk count) = if may_add_note o past by task chunk then append o past by (Noted task chunk count) Done else odd
 step_of o past by (Shut on) = if nat_le by 1 then only Done else odd
 
 -- ---- a core that was shut: those that would wait for a child are told that it is over

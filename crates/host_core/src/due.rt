@@ -1,5 +1,5 @@
 // What a line that was got makes due.
-ghost use Rattle.std.specs.Prelude.{◌≡◌, length, Some, IfOk};
+ghost use Rattle.std.specs.Prelude.{◌≡◌, length, true, false, Some, IfOk};
 ghost use Rattle.annex_model.specs.Messages.{remote_reading};
 ghost use Rattle.annex_model.specs.Talks.{is_talk};
 ghost use Rattle.wire_msg.specs.Shown.{remote_shown};
@@ -9,20 +9,29 @@ ghost use Rattle.journal_model.specs.Parts.{part};
 ghost use Rattle.journal_model.specs.Due.{due_by_got, after_line, after_message, after_late, after_hearing, was_open, is_passed, foul, verdict_at};
 ghost use Rattle.annex_model.specs.Hearings.{Hearing, hearing};
 ghost use Rattle.journal_model.specs.Legality.{Legal};
+ghost use Rattle.host_core.specs.Settings.{IsServed, is_aside_heard, serves_message, serves_line, serves, is_reply};
 ghost use Rattle.host_core.specs.Moves.{dues, first_due, error_due, due_from};
 
+use crate::serving::Past;
 use crate::talks::hear;
-use crate::{children, lines};
-use ann_key::NoMemory;
-use journal_model::{Entry, Final, Opening, Verdict, Why};
+use crate::{lines, serving};
+use ann_key::{Bytes, NoMemory};
+use journal_look::{Journal, addressed, has_spoken, is_asked, is_open, is_tagged, is_version_one};
+use journal_model::{Final, Verdict, Why};
 use std::alloc::Global;
 use talk_serial::Heard;
 use wire_msg::{RemoteMsg, read_remote};
 
 /// What is due behind an entry, in few words.
-#[derive(Clone, Copy)]
+#[derive(Drop)]
 pub enum Due {
     Nothing,
+    /// These replies in this job, as they stand on the wire.
+    Replies {
+        child: u32,
+        job: u64,
+        lines: Vec<Bytes>,
+    },
     /// The verdict of this job.
     Settle {
         child: u32,
@@ -45,10 +54,11 @@ pub enum Due {
     },
 }
 
-fn foul(entries: &[Entry], child: u32) -> Due
-    ensures { dues entries.now result ≡ foul entries.now child }
+fn foul(journal: &Journal, child: u32) -> Due
+    ensures due { dues journal.now.entries result ≡ foul journal.now.entries child }
+    ensures ends { is_reply result ≡ false }
 {
-    let at = entries.len() as u64;
+    let at = journal.len();
     Due::EndOf {
         child,
         why: Why::Foul { at },
@@ -78,117 +88,118 @@ fn is_talk(message: &RemoteMsg<'_>) -> bool
 }
 
 /// Whether the job was open earlier. No tag names job 0.
-fn was_open(entries: &[Entry], child: u32, job: Option<u64>) -> bool
-    ensures { result ≡ was_open entries.now child job }
+fn was_open(journal: &Journal, child: u32, job: Option<u64>) -> bool
+    ensures { result ≡ was_open journal.now.entries child job }
 {
     match job {
-        Some(job) => job != 0 && children::is_asked(entries, child, job),
+        Some(job) => job != 0 && is_asked(journal, child, job),
         None => false,
     }
 }
 
 /// Whether the message, which is for no open job, is passed over.
-fn is_passed(entries: &[Entry], child: u32, job: Option<u64>, message: &RemoteMsg<'_>) -> bool
-    ensures { result ≡ is_passed entries.now child job (remote_shown message.now) }
+fn is_passed(journal: &Journal, child: u32, job: Option<u64>, message: &RemoteMsg<'_>) -> bool
+    ensures { result ≡ is_passed journal.now.entries child job (remote_shown message.now) }
 {
-    is_talk(message) && (!lines::is_tagged(entries, child) || was_open(entries, child, job))
+    is_talk(message) && (!is_tagged(journal, child) || was_open(journal, child, job))
 }
 
 /// What is due behind a message that is for no open job.
-fn after_late(entries: &[Entry], child: u32, job: Option<u64>, message: &RemoteMsg<'_>) -> Due
-    ensures { dues entries.now result ≡ after_late entries.now child job (remote_shown message.now) }
+fn after_late(journal: &Journal, child: u32, job: Option<u64>, message: &RemoteMsg<'_>) -> Due
+    ensures due { dues journal.now.entries result ≡ after_late journal.now.entries child job (remote_shown message.now) }
+    ensures late { is_reply result ≡ false }
 {
-    if is_passed(entries, child, job, message) {
+    if is_passed(journal, child, job, message) {
         Due::Nothing
     } else {
-        foul(entries, child)
+        foul(journal, child)
     }
 }
 
-/// What is due behind a message that is so to an open job. An aside that asks or sets something can't be served.
+/// What is due behind a message that is so to an open job. An aside is answered.
 fn after_hearing(
-    opening: &Opening,
-    entries: &[Entry],
+    alloc: Global,
+    past: Past<'_>,
     child: u32,
     job: u64,
     message: &RemoteMsg<'_>,
     heard: Heard,
-) -> Due
-    ensures { (h : Hearing) → heard ≡ heard_as h → dues entries.now result ≡ after_hearing opening.now entries.now child job (remote_shown message.now) h }
+) -> Result<Due, NoMemory>
+    requires { IsServed past.opening.now past.journal.now.entries past.registers.now }
+    ensures due { IfOk result (λ due. (h : Hearing) → heard ≡ heard_as h → dues past.entry.journal.now.entries due ≡ after_hearing past.entry.opening.now past.entry.journal.now.entries child job (remote_shown message.now) h) }
+    ensures reply { IfOk result (λ due. (h : Hearing) → heard ≡ heard_as h → is_reply due ≡ is_aside_heard h) }
 {
     match heard {
-        Heard::Settled(last) => Due::Settle {
+        Heard::Settled(last) => Ok(Due::Settle {
             child,
             job,
-            verdict: verdict_at(last, entries.len() as u64),
-        },
-        Heard::Part => Due::Nothing,
-        Heard::Aside => {
-            if is_talk(message) {
-                Due::Nothing
-            } else {
-                foul(entries, child)
-            }
-        }
-        Heard::Foul => foul(entries, child),
+            verdict: verdict_at(last, past.journal.len()),
+        }),
+        Heard::Part => Ok(Due::Nothing),
+        Heard::Aside => serving::replies(alloc, past, child, job, message),
+        Heard::Foul => Ok(foul(past.journal, child)),
     }
 }
 
 fn after_message(
     alloc: Global,
-    opening: &Opening,
-    entries: &[Entry],
+    past: Past<'_>,
     child: u32,
     job: u64,
     message: &RemoteMsg<'_>,
 ) -> Result<Due, NoMemory>
-    requires { Legal opening.now entries.now }
-    ensures { IfOk result (λ due. dues entries.now due ≡ after_message opening.now entries.now child (Some job) (remote_shown message.now)) }
+    requires legal { Legal past.opening.now past.journal.now.entries }
+    requires served { IsServed past.opening.now past.journal.now.entries past.registers.now }
+    ensures due { IfOk result (λ due. dues past.entry.journal.now.entries due ≡ after_message past.entry.opening.now past.entry.journal.now.entries child (Some job) (remote_shown message.now)) }
+    ensures reply { IfOk result (λ due. is_reply due ≡ serves_message past.entry.journal.now.entries child (Some job) (remote_shown message.now)) }
 {
-    if !children::is_open(entries, child, job) {
-        return Ok(after_late(entries, child, Some(job), message));
+    if !is_open(past.journal, child, job) {
+        return Ok(after_late(past.journal, child, Some(job), message));
     }
-    let heard = hear(alloc, opening, entries, child, job, message)?;
-    Ok(after_hearing(opening, entries, child, job, message, heard))
+    let heard = hear(alloc, past.opening, past.journal, child, job, message)?;
+    after_hearing(alloc, past, child, job, message, heard)
 }
 
 fn after_line(
     alloc: Global,
-    opening: &Opening,
-    entries: &[Entry],
+    past: Past<'_>,
     child: u32,
     job: Option<u64>,
     text: &[u8],
 ) -> Result<Due, NoMemory>
-    requires { Legal opening.now entries.now }
-    ensures { IfOk result (λ due. dues entries.now due ≡ after_line opening.now entries.now child job (remote_reading text.now)) }
+    requires legal { Legal past.opening.now past.journal.now.entries }
+    requires served { IsServed past.opening.now past.journal.now.entries past.registers.now }
+    ensures due { IfOk result (λ due. dues past.entry.journal.now.entries due ≡ after_line past.entry.opening.now past.entry.journal.now.entries child job (remote_reading text.now)) }
+    ensures reply { IfOk result (λ due. is_reply due ≡ serves_line past.entry.journal.now.entries child job (remote_reading text.now)) }
 {
     let Some(message) = read_remote(text) else {
-        return Ok(foul(entries, child));
+        return Ok(foul(past.journal, child));
     };
     let Some(job) = job else {
-        return Ok(after_late(entries, child, None, &message));
+        return Ok(after_late(past.journal, child, None, &message));
     };
-    after_message(alloc, opening, entries, child, job, &message)
+    after_message(alloc, past, child, job, &message)
 }
 
-fn first_line(entries: &[Entry], child: u32, line: &[u8]) -> Due
-    ensures { dues entries.now result ≡ first_due entries.now child line.now }
+fn first_line(journal: &Journal, child: u32, line: &[u8]) -> Due
+    ensures due { dues journal.now.entries result ≡ first_due journal.now.entries child line.now }
+    ensures first { is_reply result ≡ false }
 {
-    if lines::is_version_one(line) {
+    if is_version_one(line) {
         return Due::Nothing;
     }
-    let at = entries.len() as u64;
+    let at = journal.len();
     Due::EndOf {
         child,
         why: Why::Version { at },
     }
 }
 
-fn error_line(entries: &[Entry], child: u32) -> Due
-    ensures { dues entries.now result ≡ error_due entries.now child }
+fn error_line(journal: &Journal, child: u32) -> Due
+    ensures due { dues journal.now.entries result ≡ error_due journal.now.entries child }
+    ensures ends { is_reply result ≡ false }
 {
-    let at = entries.len() as u64;
+    let at = journal.len();
     Due::EndOf {
         child,
         why: Why::Error { at },
@@ -198,36 +209,38 @@ fn error_line(entries: &[Entry], child: u32) -> Due
 /// What the line makes due, which is for that job and has that text.
 fn due_from(
     alloc: Global,
-    opening: &Opening,
-    entries: &[Entry],
+    past: Past<'_>,
     child: u32,
     line: &[u8],
     job: Option<u64>,
     text: &[u8],
 ) -> Result<Due, NoMemory>
-    requires { Legal opening.now entries.now }
-    ensures { IfOk result (λ due. dues entries.now due ≡ due_from opening.now entries.now child line.now (job, text.now)) }
+    requires legal { Legal past.opening.now past.journal.now.entries }
+    requires served { IsServed past.opening.now past.journal.now.entries past.registers.now }
+    ensures due { IfOk result (λ due. dues past.entry.journal.now.entries due ≡ due_from past.entry.opening.now past.entry.journal.now.entries child line.now (job, text.now)) }
+    ensures reply { IfOk result (λ due. is_reply due ≡ serves past.entry.journal.now.entries child (job, text.now)) }
 {
     if lines::is_error(text) {
-        return Ok(error_line(entries, child));
+        return Ok(error_line(past.journal, child));
     }
-    if !children::has_spoken(entries, child) {
-        return Ok(first_line(entries, child, line));
+    if !has_spoken(past.journal, child) {
+        return Ok(first_line(past.journal, child, line));
     }
-    after_line(alloc, opening, entries, child, job, text)
+    after_line(alloc, past, child, job, text)
 }
 
 /// What the line makes due.
 pub(super) fn due_by_got(
     alloc: Global,
-    opening: &Opening,
-    entries: &[Entry],
+    past: Past<'_>,
     child: u32,
     line: &[u8],
 ) -> Result<Due, NoMemory>
-    requires { Legal opening.now entries.now }
-    ensures { IfOk result (λ due. dues entries.now due ≡ due_by_got opening.now entries.now child line.now) }
+    requires legal { Legal past.opening.now past.journal.now.entries }
+    requires served { IsServed past.opening.now past.journal.now.entries past.registers.now }
+    ensures due { IfOk result (λ due. dues past.entry.journal.now.entries due ≡ due_by_got past.entry.opening.now past.entry.journal.now.entries child line.now) }
+    ensures reply { IfOk result (λ due. is_reply due ≡ serves past.entry.journal.now.entries child (addressed past.entry.journal.now.entries child line.now)) }
 {
-    let (job, text) = lines::addressed(entries, child, line);
-    due_from(alloc, opening, entries, child, line, job, text)
+    let (job, text) = addressed(past.journal, child, line);
+    due_from(alloc, past, child, line, job, text)
 }

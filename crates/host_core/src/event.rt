@@ -64,6 +64,12 @@ pub enum Event {
         task: u32,
         answer: Answer,
     },
+    /// From now on the remote has so many chunks of that size of the task's content.
+    Note {
+        task: u32,
+        chunk: u64,
+        count: u64,
+    },
     /// Those that wait for a child are to stop, or to go on. The main thread may tell it.
     Shut {
         on: bool,

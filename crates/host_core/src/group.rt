@@ -1,110 +1,82 @@
 // Appends a group within room that is kept for it.
-ghost use Rattle.std.specs.Prelude.{◌≡◌, ◌≤◌, ◌<◌, ◌+◌, ◌++◌, ◌∷◌, [], length, map, take, IfOk, IsOk, vec_capacity, Some, None};
+ghost use Rattle.std.specs.Prelude.{◌≡◌, ◌≤◌, ◌<◌, ◌+◌, ◌^◌, ◌++◌, ◌∷◌, [], length, map, take, MatchResult};
 ghost use Rattle.std.specs.List.{cons_option};
+ghost use Rattle.std.specs.Option.{SomeIff};
 ghost use Rattle.journal_model.specs.declared.verdict.Verdict.TheVariants.{Ended, Unsent};
-ghost use Rattle.journal_model.specs.declared.entry.What.TheVariants.{Verdict as Settled};
+ghost use Rattle.journal_model.specs.declared.entry.What.TheVariants.{Put, Verdict as Settled};
+ghost use Rattle.journal_model.specs.Room.{room_for};
 ghost use Rattle.journal_model.specs.Due.{made_by, ended_jobs, ending};
-ghost use Rattle.host_core.specs.Moves.{dues, group_made, first_room, due_job, due_jobs, job_at, verdicts_of, unsent_verdicts};
+ghost use Rattle.journal_look.specs.Looks.{due_jobs, job_at};
+ghost use Rattle.host_core.specs.Moves.{dues, group_made, due_room, group_room, verdicts_of, unsent_verdicts};
 
 use crate::due::Due;
-use crate::talks::entry_at;
-use crate::{children, lines};
-use ann_key::NoMemory;
+use ann_key::{Bytes, NoMemory};
+use journal_look::{Journal, due_at};
 use journal_model::{Entry, Verdict, What, Why};
 
-/// How much room a group needs, now and for what can come of it, by its first entry.
-pub(super) fn first_room(what: &Option<What>) -> usize
-    ensures { result ≡ first_room what.now }
+/// How much room the entry needs, now and for what can come of it.
+fn room_for(what: &What) -> usize
+    ensures { result ≡ room_for what.now }
 {
     match what {
-        Some(What::Start { .. } | What::Ask { .. }) => 3,
-        Some(What::Put { .. }) => 2,
-        Some(What::Got { .. } | What::NoStart { .. } | What::Lost { .. }) => 1,
+        What::Start { .. } | What::Ask { .. } => 3,
+        What::Put { .. } => 2,
+        What::Got { .. } | What::NoStart { .. } | What::Lost { .. } | What::Note { .. } => 1,
         _ => 0,
     }
 }
 
-/// Keeps so much more room, and answers how much is kept.
-pub(super) fn keep_room(
-    entries: &mut Vec<Entry>,
-    room: usize,
-    more: usize,
-) -> Result<usize, NoMemory>
-    requires { room ≤ vec_capacity entries.old }
-    ensures items { entries.new.items ≡ entries.old.items }
-    ensures capacity { vec_capacity entries.old ≤ vec_capacity entries.new }
-    ensures room { IfOk result (λ kept. kept ≡ room + more) }
-    ensures kept { IfOk result (λ kept. kept ≤ vec_capacity entries.new) }
-    ensures free { more ≡ 0 → IsOk result }
+/// How much room the entries need that are due behind it, if that can be told.
+fn due_room(due: &Due) -> Option<usize>
+    ensures { SomeIff result (due_room due.now < 2 ^ 64) (due_room due.now) }
 {
-    if more == 0 {
-        return Ok(room);
+    match due {
+        Due::Replies { lines, .. } => lines.len().checked_mul(2),
+        _ => Some(0),
     }
-    let Some(wanted) = room.checked_add(more) else {
+}
+
+/// How much room the group needs.
+pub(super) fn group_room(what: &Option<What>, due: &Due) -> Result<usize, NoMemory>
+    ensures { MatchResult result (λ n. n ≡ group_room what.now due.now) (λ _. 2 ^ 64 ≤ group_room what.now due.now) }
+{
+    let Some(what) = what else {
+        return Ok(0);
+    };
+    let Some(more) = due_room(due) else {
         return Err(NoMemory);
     };
-    let spare = wanted.saturating_sub(entries.len());
-    entries.reserve(spare)?;
-    Ok(wanted)
-}
-
-fn push(entries: &mut Vec<Entry>, by: u32, what: What)
-    requires { length entries.old.items < vec_capacity entries.old }
-    ensures items { entries.new.items ≡ entries.old.items ++ made_by by (what ∷ []) }
-    ensures capacity { vec_capacity entries.old ≤ vec_capacity entries.new }
-{
-    match entries.push(Entry { by, what }) {
-        Ok(()) => {}
-        Err(_) => unreachable!(),
+    match more.checked_add(room_for(what)) {
+        Some(room) => Ok(room),
+        None => Err(NoMemory),
     }
 }
 
-/// The job that the entry asks, where the child's end settles it, or where its mute does.
-fn due_job(past: &[Entry], what: &What, child: u32, unsent: bool) -> Option<u64>
-    ensures { result ≡ due_job past.now child unsent what.now }
+fn push(journal: &mut Journal, by: u32, what: What)
+    requires { length journal.old.entries < journal.old.room }
+    ensures entries { journal.new.entries ≡ journal.old.entries ++ made_by by (what ∷ []) }
+    ensures room { journal.new.room ≡ journal.old.room }
 {
-    match children::asks(what, child) {
-        Some(job) => {
-            if !children::is_settled(past, child, job)
-                && (!unsent || lines::is_unsent(past, child, job))
-            {
-                Some(job)
-            } else {
-                None
-            }
-        }
-        None => None,
-    }
-}
-
-/// The same for the entry at a place of the first n entries.
-fn job_at(entries: &[Entry], n: usize, at: usize, child: u32, unsent: bool) -> Option<u64>
-    requires { n ≤ length entries.now }
-    ensures { result ≡ job_at entries.now n at child unsent }
-{
-    match entry_at(entries, at) {
-        Some(e) => due_job(&entries[..n], &e.what, child, unsent),
-        None => None,
-    }
+    journal.push(Entry { by, what });
 }
 
 fn push_at(
-    entries: &mut Vec<Entry>,
-    n: usize,
-    at: usize,
+    journal: &mut Journal,
+    n: u64,
+    at: u64,
     by: u32,
     child: u32,
     verdict: Verdict,
     unsent: bool,
 )
-    requires long { n ≤ length entries.old.items }
-    requires room { length entries.old.items + length (cons_option (job_at entries.old.items n at child unsent) []) ≤ vec_capacity entries.old }
-    ensures items { entries.new.items ≡ entries.old.items ++ made_by by (map (λ j. Settled child j verdict) (cons_option (job_at entries.old.items n at child unsent) [])) }
-    ensures capacity { vec_capacity entries.old ≤ vec_capacity entries.new }
+    requires long { n ≤ length journal.old.entries }
+    requires room { length journal.old.entries + length (cons_option (job_at journal.old.entries n at child unsent) []) ≤ journal.old.room }
+    ensures entries { journal.new.entries ≡ journal.old.entries ++ made_by by (map (λ j. Settled child j verdict) (cons_option (job_at journal.old.entries n at child unsent) [])) }
+    ensures room { journal.new.room ≡ journal.old.room }
 {
-    match job_at(entries, n, at, child, unsent) {
+    match due_at(journal, n, at, child, unsent) {
         Some(job) => push(
-            entries,
+            journal,
             by,
             What::Verdict {
                 child,
@@ -117,58 +89,63 @@ fn push_at(
 }
 
 /// The verdicts of the open jobs that the first n entries asked on the child.
-fn push_verdicts(
-    entries: &mut Vec<Entry>,
-    n: usize,
-    by: u32,
-    child: u32,
-    verdict: Verdict,
-    unsent: bool,
-)
-    requires long { n ≤ length entries.old.items }
-    requires room { length entries.old.items + length (due_jobs (take n entries.old.items) child unsent) ≤ vec_capacity entries.old }
-    ensures items { entries.new.items ≡ entries.old.items ++ made_by by (verdicts_of (take n entries.old.items) child verdict unsent) }
-    ensures capacity { vec_capacity entries.old ≤ vec_capacity entries.new }
+fn push_verdicts(journal: &mut Journal, n: u64, by: u32, child: u32, verdict: Verdict, unsent: bool)
+    requires long { n ≤ length journal.old.entries }
+    requires room { length journal.old.entries + length (due_jobs (take n journal.old.entries) child unsent) ≤ journal.old.room }
+    ensures entries { journal.new.entries ≡ journal.old.entries ++ made_by by (verdicts_of (take n journal.old.entries) child verdict unsent) }
+    ensures room { journal.new.room ≡ journal.old.room }
 {
     for at in 0..n {
-        push_at(entries, n, at, by, child, verdict, unsent);
+        push_at(journal, n, at, by, child, verdict, unsent);
     }
 }
 
-fn push_ended(entries: &mut Vec<Entry>, n: usize, by: u32, child: u32, why: Why)
-    requires long { n ≤ length entries.old.items }
-    requires room { length entries.old.items + length (ended_jobs (take n entries.old.items) child why) ≤ vec_capacity entries.old }
-    ensures items { entries.new.items ≡ entries.old.items ++ made_by by (ended_jobs (take n entries.old.items) child why) }
-    ensures capacity { vec_capacity entries.old ≤ vec_capacity entries.new }
+fn push_ended(journal: &mut Journal, n: u64, by: u32, child: u32, why: Why)
+    requires long { n ≤ length journal.old.entries }
+    requires room { length journal.old.entries + length (ended_jobs (take n journal.old.entries) child why) ≤ journal.old.room }
+    ensures entries { journal.new.entries ≡ journal.old.entries ++ made_by by (ended_jobs (take n journal.old.entries) child why) }
+    ensures room { journal.new.room ≡ journal.old.room }
 {
-    push_verdicts(entries, n, by, child, Verdict::Ended { why }, false);
+    push_verdicts(journal, n, by, child, Verdict::Ended { why }, false);
 }
 
-fn push_unsent(entries: &mut Vec<Entry>, n: usize, by: u32, child: u32)
-    requires long { n ≤ length entries.old.items }
-    requires room { length entries.old.items + length (unsent_verdicts (take n entries.old.items) child) ≤ vec_capacity entries.old }
-    ensures items { entries.new.items ≡ entries.old.items ++ made_by by (unsent_verdicts (take n entries.old.items) child) }
-    ensures capacity { vec_capacity entries.old ≤ vec_capacity entries.new }
+fn push_unsent(journal: &mut Journal, n: u64, by: u32, child: u32)
+    requires long { n ≤ length journal.old.entries }
+    requires room { length journal.old.entries + length (unsent_verdicts (take n journal.old.entries) child) ≤ journal.old.room }
+    ensures entries { journal.new.entries ≡ journal.old.entries ++ made_by by (unsent_verdicts (take n journal.old.entries) child) }
+    ensures room { journal.new.room ≡ journal.old.room }
 {
-    push_verdicts(entries, n, by, child, Verdict::Unsent, true);
+    push_verdicts(journal, n, by, child, Verdict::Unsent, true);
 }
 
-fn push_ending(entries: &mut Vec<Entry>, n: usize, by: u32, child: u32, why: Why)
-    requires long { n ≤ length entries.old.items }
-    requires room { length entries.old.items + length (ending (take n entries.old.items) child why) ≤ vec_capacity entries.old }
-    ensures items { entries.new.items ≡ entries.old.items ++ made_by by (ending (take n entries.old.items) child why) }
-    ensures capacity { vec_capacity entries.old ≤ vec_capacity entries.new }
+fn push_ending(journal: &mut Journal, n: u64, by: u32, child: u32, why: Why)
+    requires long { n ≤ length journal.old.entries }
+    requires room { length journal.old.entries + length (ending (take n journal.old.entries) child why) ≤ journal.old.room }
+    ensures entries { journal.new.entries ≡ journal.old.entries ++ made_by by (ending (take n journal.old.entries) child why) }
+    ensures room { journal.new.room ≡ journal.old.room }
 {
-    push(entries, by, What::End { child, why });
-    push_ended(entries, n, by, child, why);
+    push(journal, by, What::End { child, why });
+    push_ended(journal, n, by, child, why);
+}
+
+fn push_replies(journal: &mut Journal, by: u32, child: u32, job: u64, lines: Vec<Bytes>)
+    requires { length journal.old.entries + length lines.items ≤ journal.old.room }
+    ensures entries { journal.new.entries ≡ journal.old.entries ++ made_by by (map (λ line. Put child job line) lines.items) }
+    ensures room { journal.new.room ≡ journal.old.room }
+{
+    let mut lines = lines;
+    while !lines.is_empty() {
+        let line = lines.remove(0);
+        push(journal, by, What::Put { child, job, line });
+    }
 }
 
 /// What is due behind the first n entries and one more.
-fn push_dues(entries: &mut Vec<Entry>, n: usize, by: u32, due: Due)
-    requires long { n ≤ length entries.old.items }
-    requires room { length entries.old.items + length (dues (take n entries.old.items) due) ≤ vec_capacity entries.old }
-    ensures items { entries.new.items ≡ entries.old.items ++ made_by by (dues (take n entries.old.items) due) }
-    ensures capacity { vec_capacity entries.old ≤ vec_capacity entries.new }
+fn push_dues(journal: &mut Journal, n: u64, by: u32, due: Due)
+    requires long { n ≤ length journal.old.entries }
+    requires room { length journal.old.entries + length (dues (take n journal.old.entries) due) ≤ journal.old.room }
+    ensures entries { journal.new.entries ≡ journal.old.entries ++ made_by by (dues (take n journal.old.entries) due) }
+    ensures room { journal.new.room ≡ journal.old.room }
 {
     match due {
         Due::Nothing => {}
@@ -177,7 +154,7 @@ fn push_dues(entries: &mut Vec<Entry>, n: usize, by: u32, due: Due)
             job,
             verdict,
         } => push(
-            entries,
+            journal,
             by,
             What::Verdict {
                 child,
@@ -185,23 +162,24 @@ fn push_dues(entries: &mut Vec<Entry>, n: usize, by: u32, due: Due)
                 verdict,
             },
         ),
-        Due::EndOf { child, why } => push_ending(entries, n, by, child, why),
-        Due::EndedJobs { child, why } => push_ended(entries, n, by, child, why),
-        Due::UnsentJobs { child } => push_unsent(entries, n, by, child),
+        Due::Replies { child, job, lines } => push_replies(journal, by, child, job, lines),
+        Due::EndOf { child, why } => push_ending(journal, n, by, child, why),
+        Due::EndedJobs { child, why } => push_ended(journal, n, by, child, why),
+        Due::UnsentJobs { child } => push_unsent(journal, n, by, child),
     }
 }
 
 /// The first entry with what is due behind it. It takes no memory.
-pub(super) fn push_group(entries: &mut Vec<Entry>, by: u32, what: Option<What>, due: Due)
-    requires { length entries.old.items + length (group_made entries.old.items by what due) ≤ vec_capacity entries.old }
-    ensures items { entries.new.items ≡ entries.old.items ++ group_made entries.old.items by what due }
-    ensures capacity { vec_capacity entries.old ≤ vec_capacity entries.new }
+pub(super) fn push_group(journal: &mut Journal, by: u32, what: Option<What>, due: Due)
+    requires { length journal.old.entries + length (group_made journal.old.entries by what due) ≤ journal.old.room }
+    ensures entries { journal.new.entries ≡ journal.old.entries ++ group_made journal.old.entries by what due }
+    ensures room { journal.new.room ≡ journal.old.room }
 {
     match what {
         Some(what) => {
-            let n = entries.len();
-            push(entries, by, what);
-            push_dues(entries, n, by, due);
+            let n = journal.len();
+            push(journal, by, what);
+            push_dues(journal, n, by, due);
         }
         None => {}
     }

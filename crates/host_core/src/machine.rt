@@ -2,61 +2,72 @@ ghost use Rattle.std.specs.Prelude.{◌≡◌, ◌≤◌, ◌<◌, ◌^◌, ◌+
 ghost use Rattle.journal_model.specs.Limits.{most_tasks};
 ghost use Rattle.journal_model.specs.Journal.{is_tagged};
 ghost use Rattle.journal_model.specs.Legality.{Legal};
+ghost use Rattle.journal_model.specs.Replies.{IsLineIdentity};
 ghost use Rattle.host_core.specs.Mays.{IsMadeBy};
-ghost use Rattle.host_core.specs.Steps.{step_of, takes_no_memory, unclaimed, told, shut_by};
+ghost use Rattle.host_core.specs.Steps.{step_of, takes_no_memory, is_free, unclaimed, told, shut_by};
+ghost use Rattle.host_core.specs.Settings.{registers_after};
 
 use crate::event::{Event, Reply};
-use crate::{group, lines, moves, tasks};
+use crate::serving::Past;
+use crate::{group, moves, serving};
 use ann_key::NoMemory;
-use journal_model::{Entry, Journal, Opening};
+use journal_look::{Journal, is_tagged, unclaimed};
+use journal_model::Opening;
+use reg_file::Registers;
 use std::alloc::Global;
 use std::marker::Model;
 
-/// The core of a run: what it began with, and the journal so far, which is legal; and whether it is shut. It keeps room
-/// for all that can come of the entries so far.
+/// The core of a run: what it began with, the journal so far, which is legal, and the registers behind it; and whether it is
+/// shut. It keeps room for all that can come of the entries so far.
 #[derive(Drop)]
 pub struct Core {
     alloc: Global,
     opening: Opening,
-    entries: Vec<Entry>,
-    room: usize,
+    journal: Journal,
+    registers: Registers,
     shut: bool,
 }
 
 impl Model for Core {
-    ghost use Rattle.std.specs.Prelude.{◌≤◌, length, vec_capacity};
+    ghost use Rattle.std.specs.Prelude.{◌≤◌, ◌<◌, ◌^◌, length};
     ghost use Rattle.journal_model.specs.Room.{room_of};
     ghost use Rattle.journal_model.specs.Legality.{Legal};
     ghost use Rattle.journal_model.specs.Limits.{most_tasks};
     ghost use Rattle.host_core.specs.CoreValue.{CoreValue};
+    ghost use Rattle.host_core.specs.Settings.{IsServed};
 
     ghost Value = { CoreValue };
 
-    ghost view = { λ c. record { opening = c.opening; journal = c.entries.items; shut = c.shut } };
+    ghost view = { λ c. record { opening = c.opening; journal = c.journal.entries; registers = c.registers; shut = c.shut } };
 
-    ghost invariant = { λ c. Legal c.opening c.entries.items × (length c.opening.tasks ≤ most_tasks) × (room_of c.opening c.entries.items ≤ c.room) × (c.room ≤ vec_capacity c.entries) };
+    ghost invariant = { λ c. Legal c.opening c.journal.entries × (length c.opening.tasks ≤ most_tasks) × (room_of c.opening c.journal.entries ≤ c.journal.room) × (c.journal.room < 2 ^ 64) × IsServed c.opening c.journal.entries c.registers };
 }
 
 impl Core {
     /// A core with an empty journal. It has at most 65,536 tasks.
     pub fn new(alloc: Global, opening: Opening) -> Result<Core, NoMemory>
         requires few { length opening.tasks ≤ most_tasks }
+        requires lines { IsLineIdentity opening.identity }
         ensures opening { IfOk result (λ c. c.opening ≡ opening) }
         ensures empty { IfOk result (λ c. c.journal ≡ []) }
         ensures shut { IfOk result (λ c. c.shut ≡ false) }
     {
         let room = 2 * opening.tasks.view().len();
-        let entries = Vec::with_capacity(alloc, room)?;
+        let mut journal = Journal::new(alloc);
+        journal.take_room(room)?;
+        let registers = opening.registers.copy()?;
+        let _kept = opening.registers.wanted();
         Ok(Core {
             alloc,
             opening,
-            entries,
-            room,
+            journal,
+            registers,
             shut: false,
         })
     }
 
-    /// One event, told by that number. After want of memory the core is as before.
+    /// One event, told by that number. What takes memory is taken in an order such that nothing has to be undone: the replies, then
+    /// room, then what is set. So after want of memory the core is as before.
     pub fn step(&mut self, by: u32, event: Event) -> Result<Reply, NoMemory>
         ensures reply { IfOk result (λ reply. reply ≡ told self.old.shut event (step_of self.old.opening self.old.journal by event).reply) }
         ensures journal { OnOk result (self.new.journal ≡ self.old.journal ++ (step_of self.old.opening self.old.journal by event).group) }
@@ -64,26 +75,42 @@ impl Core {
         ensures shut { OnOk result (self.new.shut ≡ shut_by by event self.old.shut) }
         ensures opening { self.new.opening ≡ self.old.opening }
         ensures legal { Legal self.new.opening self.new.journal }
+        ensures registers { self.new.registers ≡ registers_after self.new.opening self.new.journal }
         ensures few { length self.new.journal < 2 ^ 64 }
-        ensures free { takes_no_memory event ≡ true → IsOk result }
+        ensures free { is_free (step_of self.old.opening self.old.journal by event) ≡ true → IsOk result }
+        ensures free_event { takes_no_memory event ≡ true → IsOk result }
         ensures err { OnErr result (self.new ≡ self.old) }
     {
         let waits = moves::is_waiting(&event);
         let shut = moves::shut_by(by, &event, self.shut);
-        let step = moves::move_of(self.alloc, &self.opening, &self.entries, by, event)?;
-        let more = group::first_room(&step.what);
-        self.room = group::keep_room(&mut self.entries, self.room, more)?;
-        group::push_group(&mut self.entries, by, step.what, step.due);
+        let past = Past {
+            opening: &self.opening,
+            journal: &self.journal,
+            registers: &self.registers,
+        };
+        let step = moves::move_of(self.alloc, past, by, event)?;
+        let more = group::group_room(&step.what, &step.due)?;
+        self.journal.take_room(more)?;
+        serving::set_by_group(&mut self.registers, &self.journal, &step.what, &step.due)?;
+        group::push_group(&mut self.journal, by, step.what, step.due);
         let reply = moves::told(waits, self.shut, step.reply);
         self.shut = shut;
         Ok(reply)
     }
 
-    /// The entries of the journal so far. It takes no memory.
-    pub fn journal(&self) -> &[Entry]
-        ensures { result.now ≡ self.now.journal }
+    /// The journal so far. It takes no memory.
+    pub fn journal(&self) -> &Journal
+        ensures { result.now.entries ≡ self.now.journal }
     {
-        self.entries.as_slice()
+        &self.journal
+    }
+
+    /// The registers behind the journal. It takes no memory.
+    pub fn registers(&self) -> &Registers
+        ensures value { result.now ≡ self.now.registers }
+        ensures given { self.now.registers ≡ registers_after self.now.opening self.now.journal }
+    {
+        &self.registers
     }
 
     /// What the run began with.
@@ -97,20 +124,21 @@ impl Core {
     pub fn tagged(&self, child: u32) -> bool
         ensures { result ≡ is_tagged self.now.journal child }
     {
-        lines::is_tagged(&self.entries, child)
+        is_tagged(&self.journal, child)
     }
 
     /// How many tasks are not claimed. It takes no memory.
     pub fn unclaimed(&self) -> u32
         ensures { result ≡ length (unclaimed self.now.opening self.now.journal) }
     {
-        tasks::unclaimed(&self.opening, &self.entries)
+        unclaimed(&self.opening, &self.journal)
     }
 
-    /// The journal, when the run is over. It takes no memory.
-    pub fn close(self) -> Journal
-        ensures { result ≡ self.journal }
+    /// The journal and the registers, when the run is over. It takes no memory.
+    pub fn close(self) -> (Journal, Registers)
+        ensures journal { result.0.entries ≡ self.journal }
+        ensures registers { result.1 ≡ self.registers }
     {
-        Journal::from_entries(self.entries)
+        (self.journal, self.registers)
     }
 }

@@ -5,8 +5,9 @@ ghost use Rattle.journal_model.specs.Limits.{most_tasks};
 ghost use Rattle.journal_model.specs.Journal.{on_wire};
 ghost use Rattle.journal_model.specs.Legality.{Legal, least_free};
 ghost use Rattle.talk_serial.specs.Requests.{message_of};
-ghost use Rattle.host_core.specs.Steps.{takes_no_memory, step_of, claim, is_gone, gone, may_end, may_answer, told, unless_shut, shut_by, is_awaited, is_idle, listening, resting, next_line};
-ghost use Rattle.host_core.specs.Moves.{IsStep, first_room};
+ghost use Rattle.host_core.specs.Steps.{is_free, step_of, claim, is_gone, gone, may_end, may_answer, may_add_note, told, unless_shut, shut_by, is_awaited, is_idle, listening, resting, next_line};
+ghost use Rattle.host_core.specs.Moves.{IsStep};
+ghost use Rattle.host_core.specs.Settings.{IsServed, IsDueReply};
 ghost use Rattle.journal_model.specs.declared.verdict.Why.TheVariants.{Full};
 ghost use Rattle.journal_model.specs.declared.entry.What.TheVariants.{End};
 ghost use Rattle.host_core.specs.declared.event.Reply.{Reply};
@@ -15,9 +16,15 @@ ghost use Rattle.host_core.specs.declared.due.Due.TheVariants.{Nothing, EndedJob
 
 use crate::due::{Due, due_by_got};
 use crate::event::{Event, Reply};
-use crate::{children, lines, tasks};
+use crate::serving::Past;
+use crate::{lines, requests};
 use ann_key::{Bytes, NoMemory};
-use journal_model::{Answer, Entry, Opening, What, Why};
+use journal_look::{
+    Journal, are_all_claimed, has_busy_task, has_no_open_job, has_open_job, has_spoken,
+    is_all_sent, is_asked, is_claimed_by, is_ended, is_full, is_live, is_mute, is_prepared,
+    is_started, least_free, may_note, next_job, on_wire, starts_so_far, verdict_of, why_of,
+};
+use journal_model::{Answer, Opening, What, Why};
 use std::alloc::Global;
 use talk_serial::Request;
 use wire_msg::write_host;
@@ -51,30 +58,30 @@ fn append(what: What, reply: Reply) -> Move
     }
 }
 
-fn is_gone(entries: &[Entry], child: u32) -> bool
-    ensures { result ≡ is_gone entries.now child }
+fn is_gone(journal: &Journal, child: u32) -> bool
+    ensures { result ≡ is_gone journal.now.entries child }
 {
-    children::is_ended(entries, child) || children::is_mute(entries, child)
+    is_ended(journal, child) || is_mute(journal, child)
 }
 
-fn gone(entries: &[Entry], child: u32) -> Reply
-    ensures { result ≡ gone entries.now child }
+fn gone(journal: &Journal, child: u32) -> Reply
+    ensures { result ≡ gone journal.now.entries child }
 {
     Reply::Gone {
-        why: children::why_of(entries, child),
+        why: why_of(journal, child),
     }
 }
 
 /// The least free task, claimed for the child.
-fn least(opening: &Opening, entries: &[Entry], by: u32, child: u32) -> Move
+fn least(opening: &Opening, journal: &Journal, by: u32, child: u32) -> Move
     requires { length opening.now.tasks ≤ most_tasks }
-    ensures step { IsStep entries.now by (claim opening.now entries.now by child (least_free opening.now entries.now)) result }
-    ensures room { first_room result.what ≡ 0 }
+    ensures step { IsStep journal.now.entries by (claim opening.now journal.now.entries by child (least_free opening.now journal.now.entries)) result }
+    ensures reply { IsDueReply journal.now.entries result.what result.due }
 {
-    match tasks::least_free(opening, entries) {
+    match least_free(opening, journal) {
         Some(task) => append(What::Claim { task, child }, Reply::Task(task)),
         None => {
-            if tasks::are_all_claimed(opening, entries) {
+            if are_all_claimed(opening, journal) {
                 only(Reply::NoTask)
             } else {
                 only(Reply::Wait)
@@ -83,27 +90,28 @@ fn least(opening: &Opening, entries: &[Entry], by: u32, child: u32) -> Move
     }
 }
 
-fn claim(opening: &Opening, entries: &[Entry], by: u32, child: u32) -> Move
+fn claim(opening: &Opening, journal: &Journal, by: u32, child: u32) -> Move
     requires { length opening.now.tasks ≤ most_tasks }
-    ensures step { IsStep entries.now by (step_of opening.now entries.now by (Event.Claim child)) result }
-    ensures room { first_room result.what ≡ 0 }
+    ensures step { IsStep journal.now.entries by (step_of opening.now journal.now.entries by (Event.Claim child)) result }
+    ensures reply { IsDueReply journal.now.entries result.what result.due }
 {
     if child == 0 && by == 0 {
-        return least(opening, entries, by, child);
+        return least(opening, journal, by, child);
     }
-    if !children::is_started(entries, child) || !lines::is_prepared(entries, child) {
+    if !is_started(journal, child) || !is_prepared(journal, child) {
         return only(Reply::Odd);
     }
-    if is_gone(entries, child) {
-        return only(gone(entries, child));
+    if is_gone(journal, child) {
+        return only(gone(journal, child));
     }
-    least(opening, entries, by, child)
+    least(opening, journal, by, child)
 }
 
-fn start(opening: &Opening, entries: &[Entry], by: u32, slot: u32, offer: bool) -> Move
-    ensures { IsStep entries.now by (step_of opening.now entries.now by (Event.Start slot offer)) result }
+fn start(opening: &Opening, journal: &Journal, by: u32, slot: u32, offer: bool) -> Move
+    ensures step { IsStep journal.now.entries by (step_of opening.now journal.now.entries by (Event.Start slot offer)) result }
+    ensures reply { IsDueReply journal.now.entries result.what result.due }
 {
-    let started = children::starts_so_far(entries);
+    let started = starts_so_far(journal);
     if by != 0 || started >= 4_294_967_295 {
         return only(Reply::Odd);
     }
@@ -111,8 +119,9 @@ fn start(opening: &Opening, entries: &[Entry], by: u32, slot: u32, offer: bool) 
     append(What::Start { child, slot, offer }, Reply::Child(child))
 }
 
-fn no_start(opening: &Opening, entries: &[Entry], by: u32, slot: u32) -> Move
-    ensures { IsStep entries.now by (step_of opening.now entries.now by (Event.NoStart slot)) result }
+fn no_start(opening: &Opening, journal: &Journal, by: u32, slot: u32) -> Move
+    ensures step { IsStep journal.now.entries by (step_of opening.now journal.now.entries by (Event.NoStart slot)) result }
+    ensures reply { IsDueReply journal.now.entries result.what result.due }
 {
     if by == 0 {
         append(What::NoStart { slot }, Reply::Done)
@@ -124,38 +133,40 @@ fn no_start(opening: &Opening, entries: &[Entry], by: u32, slot: u32) -> Move
 /// The line that asks the request as this job.
 fn ask_line(
     alloc: Global,
-    entries: &[Entry],
+    journal: &Journal,
     child: u32,
     job: u64,
     request: &Request,
 ) -> Result<Bytes, NoMemory>
     requires { is_askable (message_of request.now) ≡ true }
-    ensures { IfOk result (λ b. b ≡ on_wire entries.now child job (host_line (message_of request.now))) }
+    ensures { IfOk result (λ b. b ≡ on_wire journal.now.entries child job (host_line (message_of request.now))) }
 {
     let message = request.message();
     let line = write_host(alloc, &message)?;
-    lines::on_wire(alloc, entries, child, job, line)
+    on_wire(alloc, journal, child, job, line)
 }
 
 fn ask(
     alloc: Global,
     opening: &Opening,
-    entries: &[Entry],
+    journal: &Journal,
     by: u32,
     child: u32,
     task: u32,
     request: &Request,
 ) -> Result<Move, NoMemory>
-    ensures { IfOk result (IsStep entries.now by (step_of opening.now entries.now by (Event.Ask child task request.now))) }
+    ensures step { IfOk result (IsStep journal.now.entries by (step_of opening.now journal.now.entries by (Event.Ask child task request.now))) }
+    ensures reply { IfOk result (λ m. IsDueReply journal.now.entries m.what m.due) }
+    ensures free { is_free (step_of opening.now journal.now.entries by (Event.Ask child task request.now)) ≡ true → IsOk result }
 {
-    if !lines::may_request(entries, by, task, child, request) {
+    if !requests::may_request(journal, by, task, child, request) {
         return Ok(only(Reply::Odd));
     }
-    if is_gone(entries, child) {
-        return Ok(append(What::Lost { child, task }, gone(entries, child)));
+    if is_gone(journal, child) {
+        return Ok(append(What::Lost { child, task }, gone(journal, child)));
     }
-    let job = children::next_job(entries, child) as u64;
-    let line = ask_line(alloc, entries, child, job, request)?;
+    let job = next_job(journal, child);
+    let line = ask_line(alloc, journal, child, job, request)?;
     Ok(append(
         What::Ask {
             child,
@@ -167,102 +178,104 @@ fn ask(
     ))
 }
 
-fn lookup(opening: &Opening, entries: &[Entry], by: u32, child: u32, job: u64) -> Move
-    ensures step { IsStep entries.now by (step_of opening.now entries.now by (Event.Lookup child job)) result }
-    ensures room { first_room result.what ≡ 0 }
+fn lookup(opening: &Opening, journal: &Journal, by: u32, child: u32, job: u64) -> Move
+    ensures step { IsStep journal.now.entries by (step_of opening.now journal.now.entries by (Event.Lookup child job)) result }
+    ensures reply { IsDueReply journal.now.entries result.what result.due }
 {
-    if !children::is_asked(entries, child, job) {
+    if !is_asked(journal, child, job) {
         return only(Reply::Odd);
     }
-    match children::verdict_of(entries, child, job) {
+    match verdict_of(journal, child, job) {
         Some(verdict) => only(Reply::Verdict(verdict)),
         None => only(Reply::Wait),
     }
 }
 
-fn look(opening: &Opening, entries: &[Entry], by: u32, child: u32) -> Move
-    ensures step { IsStep entries.now by (step_of opening.now entries.now by (Event.Look child)) result }
-    ensures room { first_room result.what ≡ 0 }
+fn look(opening: &Opening, journal: &Journal, by: u32, child: u32) -> Move
+    ensures step { IsStep journal.now.entries by (step_of opening.now journal.now.entries by (Event.Look child)) result }
+    ensures reply { IsDueReply journal.now.entries result.what result.due }
 {
-    if !children::is_started(entries, child) {
+    if !is_started(journal, child) {
         return only(Reply::Odd);
     }
-    if is_gone(entries, child) {
-        only(gone(entries, child))
+    if is_gone(journal, child) {
+        only(gone(journal, child))
     } else {
         only(Reply::Done)
     }
 }
 
-fn is_awaited(entries: &[Entry], child: u32) -> bool
-    ensures { result ≡ is_awaited entries.now child }
+fn is_awaited(journal: &Journal, child: u32) -> bool
+    ensures { result ≡ is_awaited journal.now.entries child }
 {
-    !children::has_no_open_job(entries, child) || !children::has_spoken(entries, child)
+    !has_no_open_job(journal, child) || !has_spoken(journal, child)
 }
 
-fn is_idle(opening: &Opening, entries: &[Entry], child: u32) -> bool
+fn is_idle(opening: &Opening, journal: &Journal, child: u32) -> bool
     requires { length opening.now.tasks ≤ most_tasks }
-    ensures { result ≡ is_idle opening.now entries.now child }
+    ensures { result ≡ is_idle opening.now journal.now.entries child }
 {
-    tasks::are_all_claimed(opening, entries) && !tasks::has_busy_task(entries, child)
+    are_all_claimed(opening, journal) && !has_busy_task(journal, child)
 }
 
-fn listening(opening: &Opening, entries: &[Entry], child: u32) -> Reply
+fn listening(opening: &Opening, journal: &Journal, child: u32) -> Reply
     requires { length opening.now.tasks ≤ most_tasks }
-    ensures { result ≡ listening opening.now entries.now child }
+    ensures { result ≡ listening opening.now journal.now.entries child }
 {
-    if is_awaited(entries, child) {
+    if is_awaited(journal, child) {
         Reply::Read
-    } else if children::is_mute(entries, child) || is_idle(opening, entries, child) {
+    } else if is_mute(journal, child) || is_idle(opening, journal, child) {
         Reply::Over
     } else {
         Reply::Wait
     }
 }
 
-fn resting(opening: &Opening, entries: &[Entry], child: u32) -> Reply
+fn resting(opening: &Opening, journal: &Journal, child: u32) -> Reply
     requires { length opening.now.tasks ≤ most_tasks }
-    ensures { result ≡ resting opening.now entries.now child }
+    ensures { result ≡ resting opening.now journal.now.entries child }
 {
-    if !is_awaited(entries, child) && is_idle(opening, entries, child) {
+    if !is_awaited(journal, child) && is_idle(opening, journal, child) {
         Reply::Over
     } else {
         Reply::Wait
     }
 }
 
-fn listen(opening: &Opening, entries: &[Entry], by: u32, child: u32) -> Move
+fn listen(opening: &Opening, journal: &Journal, by: u32, child: u32) -> Move
     requires { length opening.now.tasks ≤ most_tasks }
-    ensures step { IsStep entries.now by (step_of opening.now entries.now by (Event.Listen child)) result }
-    ensures room { first_room result.what ≡ 0 }
+    ensures step { IsStep journal.now.entries by (step_of opening.now journal.now.entries by (Event.Listen child)) result }
+    ensures reply { IsDueReply journal.now.entries result.what result.due }
 {
-    if !children::is_started(entries, child) {
+    if !is_started(journal, child) {
         return only(Reply::Odd);
     }
-    if children::is_ended(entries, child) {
+    if is_ended(journal, child) {
         return only(Reply::Over);
     }
-    only(listening(opening, entries, child))
+    only(listening(opening, journal, child))
 }
 
 fn fetch(
     alloc: Global,
     opening: &Opening,
-    entries: &[Entry],
+    journal: &Journal,
     by: u32,
     child: u32,
 ) -> Result<Move, NoMemory>
     requires { length opening.now.tasks ≤ most_tasks }
-    ensures { IfOk result (IsStep entries.now by (step_of opening.now entries.now by (Event.Fetch child))) }
+    ensures step { IfOk result (IsStep journal.now.entries by (step_of opening.now journal.now.entries by (Event.Fetch child))) }
+    ensures reply { IfOk result (λ m. IsDueReply journal.now.entries m.what m.due) }
+    ensures free { is_free (step_of opening.now journal.now.entries by (Event.Fetch child)) ≡ true → IsOk result }
 {
-    if !children::is_started(entries, child) {
+    if !is_started(journal, child) {
         return Ok(only(Reply::Odd));
     }
-    if is_gone(entries, child) {
+    if is_gone(journal, child) {
         return Ok(only(Reply::Over));
     }
-    let rest = resting(opening, entries, child);
-    let reply = lines::next_line(alloc, entries, child, rest)?;
+    let rest = resting(opening, journal, child);
+    let reply = lines::next_line(alloc, journal, child, rest)?;
     Ok(only(reply))
 }
 
@@ -285,27 +298,24 @@ fn end_full(child: u32) -> Move
     }
 }
 
-fn got(
-    alloc: Global,
-    opening: &Opening,
-    entries: &[Entry],
-    by: u32,
-    child: u32,
-    line: Bytes,
-) -> Result<Move, NoMemory>
-    requires { Legal opening.now entries.now }
-    ensures { IfOk result (IsStep entries.now by (step_of opening.now entries.now by (Event.Got child line))) }
+fn got(alloc: Global, past: Past<'_>, by: u32, child: u32, line: Bytes) -> Result<Move, NoMemory>
+    requires legal { Legal past.opening.now past.journal.now.entries }
+    requires served { IsServed past.opening.now past.journal.now.entries past.registers.now }
+    ensures step { IfOk result (IsStep past.entry.journal.now.entries by (step_of past.entry.opening.now past.entry.journal.now.entries by (Event.Got child line))) }
+    ensures reply { IfOk result (λ m. IsDueReply past.entry.journal.now.entries m.what m.due) }
+    ensures free { is_free (step_of past.entry.opening.now past.entry.journal.now.entries by (Event.Got child line)) ≡ true → IsOk result }
 {
-    if !children::is_started(entries, child) || lines::has_newline(line.view()) {
+    let journal = past.journal;
+    if !is_started(journal, child) || lines::has_newline(line.view()) {
         return Ok(only(Reply::Odd));
     }
-    if children::is_ended(entries, child) {
-        return Ok(only(gone(entries, child)));
+    if is_ended(journal, child) {
+        return Ok(only(gone(journal, child)));
     }
-    if lines::is_full(entries) {
+    if is_full(journal) {
         return Ok(end_full(child));
     }
-    let due = due_by_got(alloc, opening, entries, child, line.view())?;
+    let due = due_by_got(alloc, past, child, line.view())?;
     Ok(Move {
         reply: Reply::Done,
         what: Some(What::Got { child, line }),
@@ -314,26 +324,25 @@ fn got(
 }
 
 /// Whether an event may end the child so. Nothing but a line ends one at a full journal.
-fn may_end(entries: &[Entry], child: u32, why: Why) -> bool
-    ensures { result ≡ may_end entries.now child why }
+fn may_end(journal: &Journal, child: u32, why: Why) -> bool
+    ensures { result ≡ may_end journal.now.entries child why }
 {
     match why {
         Why::Eof | Why::ReadFault | Why::LongLine | Why::Memory => true,
-        Why::Closed => children::has_no_open_job(entries, child)
-            && !tasks::has_busy_task(entries, child),
+        Why::Closed => has_no_open_job(journal, child) && !has_busy_task(journal, child),
         Why::Full | Why::Foul { .. } | Why::Error { .. } | Why::Version { .. } => false,
     }
 }
 
-fn stop(opening: &Opening, entries: &[Entry], by: u32, child: u32, why: Why) -> Move
-    ensures step { IsStep entries.now by (step_of opening.now entries.now by (Event.Stop child why)) result }
-    ensures room { first_room result.what ≡ 0 }
+fn stop(opening: &Opening, journal: &Journal, by: u32, child: u32, why: Why) -> Move
+    ensures step { IsStep journal.now.entries by (step_of opening.now journal.now.entries by (Event.Stop child why)) result }
+    ensures reply { IsDueReply journal.now.entries result.what result.due }
 {
-    if !children::is_started(entries, child) || !may_end(entries, child, why) {
+    if !is_started(journal, child) || !may_end(journal, child, why) {
         return only(Reply::Odd);
     }
-    if children::is_ended(entries, child) {
-        return only(gone(entries, child));
+    if is_ended(journal, child) {
+        return only(gone(journal, child));
     }
     Move {
         reply: Reply::Done,
@@ -342,25 +351,25 @@ fn stop(opening: &Opening, entries: &[Entry], by: u32, child: u32, why: Why) -> 
     }
 }
 
-fn sent(opening: &Opening, entries: &[Entry], by: u32, child: u32) -> Move
-    ensures step { IsStep entries.now by (step_of opening.now entries.now by (Event.Sent child)) result }
-    ensures room { first_room result.what ≡ 0 }
+fn sent(opening: &Opening, journal: &Journal, by: u32, child: u32) -> Move
+    ensures step { IsStep journal.now.entries by (step_of opening.now journal.now.entries by (Event.Sent child)) result }
+    ensures reply { IsDueReply journal.now.entries result.what result.due }
 {
-    if lines::is_all_sent(entries, child) {
+    if is_all_sent(journal, child) {
         only(Reply::Odd)
     } else {
         append(What::Sent { child }, Reply::Done)
     }
 }
 
-fn mute(opening: &Opening, entries: &[Entry], by: u32, child: u32) -> Move
-    ensures step { IsStep entries.now by (step_of opening.now entries.now by (Event.Mute child)) result }
-    ensures room { first_room result.what ≡ 0 }
+fn mute(opening: &Opening, journal: &Journal, by: u32, child: u32) -> Move
+    ensures step { IsStep journal.now.entries by (step_of opening.now journal.now.entries by (Event.Mute child)) result }
+    ensures reply { IsDueReply journal.now.entries result.what result.due }
 {
-    if !children::is_started(entries, child) || children::is_mute(entries, child) {
+    if !is_started(journal, child) || is_mute(journal, child) {
         return only(Reply::Odd);
     }
-    let due = if children::is_live(entries, child) {
+    let due = if is_live(journal, child) {
         Due::UnsentJobs { child }
     } else {
         Due::Nothing
@@ -372,26 +381,46 @@ fn mute(opening: &Opening, entries: &[Entry], by: u32, child: u32) -> Move
     }
 }
 
-fn may_answer(entries: &[Entry], by: u32, task: u32) -> bool
-    ensures { result ≡ may_answer entries.now by task }
+fn may_answer(journal: &Journal, by: u32, task: u32) -> bool
+    ensures { result ≡ may_answer journal.now.entries by task }
 {
-    tasks::is_claimed_by(entries, by, task) && !tasks::has_open_job(entries, task)
+    is_claimed_by(journal, by, task) && !has_open_job(journal, task)
 }
 
-fn answer_task(opening: &Opening, entries: &[Entry], by: u32, task: u32, answer: Answer) -> Move
-    ensures step { IsStep entries.now by (step_of opening.now entries.now by (Event.Answer task answer)) result }
-    ensures room { first_room result.what ≡ 0 }
+fn answer_task(opening: &Opening, journal: &Journal, by: u32, task: u32, answer: Answer) -> Move
+    ensures step { IsStep journal.now.entries by (step_of opening.now journal.now.entries by (Event.Answer task answer)) result }
+    ensures reply { IsDueReply journal.now.entries result.what result.due }
 {
-    if may_answer(entries, by, task) {
+    if may_answer(journal, by, task) {
         append(What::Answer { task, answer }, Reply::Done)
     } else {
         only(Reply::Odd)
     }
 }
 
-fn shut(opening: &Opening, entries: &[Entry], by: u32, on: bool) -> Move
-    ensures step { IsStep entries.now by (step_of opening.now entries.now by (Event.Shut on)) result }
-    ensures room { first_room result.what ≡ 0 }
+fn may_add_note(opening: &Opening, journal: &Journal, by: u32, task: u32, chunk: u64) -> bool
+    ensures { result ≡ may_add_note opening.now journal.now.entries by task chunk }
+{
+    is_claimed_by(journal, by, task)
+        && may_note(opening, task)
+        && !has_open_job(journal, task)
+        && chunk > 0
+}
+
+fn note(opening: &Opening, journal: &Journal, by: u32, task: u32, chunk: u64, count: u64) -> Move
+    ensures step { IsStep journal.now.entries by (step_of opening.now journal.now.entries by (Event.Note task chunk count)) result }
+    ensures reply { IsDueReply journal.now.entries result.what result.due }
+{
+    if may_add_note(opening, journal, by, task, chunk) {
+        append(What::Note { task, chunk, count }, Reply::Done)
+    } else {
+        only(Reply::Odd)
+    }
+}
+
+fn shut(opening: &Opening, journal: &Journal, by: u32, on: bool) -> Move
+    ensures step { IsStep journal.now.entries by (step_of opening.now journal.now.entries by (Event.Shut on)) result }
+    ensures reply { IsDueReply journal.now.entries result.what result.due }
 {
     if by <= 1 {
         only(Reply::Done)
@@ -430,36 +459,39 @@ pub(super) fn told(waits: bool, shut: bool, reply: Reply) -> Reply
 /// What the event appends, and what is answered.
 pub(super) fn move_of(
     alloc: Global,
-    opening: &Opening,
-    entries: &[Entry],
+    past: Past<'_>,
     by: u32,
     event: Event,
 ) -> Result<Move, NoMemory>
-    requires few { length opening.now.tasks ≤ most_tasks }
-    requires legal { Legal opening.now entries.now }
-    ensures step { IfOk result (IsStep entries.now by (step_of opening.now entries.now by event)) }
-    ensures room { takes_no_memory event ≡ true → IfOk result (λ m. first_room m.what ≡ 0) }
-    ensures free { takes_no_memory event ≡ true → IsOk result }
+    requires few { length past.opening.now.tasks ≤ most_tasks }
+    requires legal { Legal past.opening.now past.journal.now.entries }
+    requires served { IsServed past.opening.now past.journal.now.entries past.registers.now }
+    ensures step { IfOk result (IsStep past.entry.journal.now.entries by (step_of past.entry.opening.now past.entry.journal.now.entries by event)) }
+    ensures reply { IfOk result (λ m. IsDueReply past.entry.journal.now.entries m.what m.due) }
+    ensures free { is_free (step_of past.entry.opening.now past.entry.journal.now.entries by event) ≡ true → IsOk result }
 {
+    let opening = past.opening;
+    let journal = past.journal;
     let step = match event {
-        Event::Claim { child } => claim(opening, entries, by, child),
-        Event::Start { slot, offer } => start(opening, entries, by, slot, offer),
-        Event::NoStart { slot } => no_start(opening, entries, by, slot),
+        Event::Claim { child } => claim(opening, journal, by, child),
+        Event::Start { slot, offer } => start(opening, journal, by, slot, offer),
+        Event::NoStart { slot } => no_start(opening, journal, by, slot),
         Event::Ask {
             child,
             task,
             request,
-        } => ask(alloc, opening, entries, by, child, task, &request)?,
-        Event::Lookup { child, job } => lookup(opening, entries, by, child, job),
-        Event::Look { child } => look(opening, entries, by, child),
-        Event::Listen { child } => listen(opening, entries, by, child),
-        Event::Fetch { child } => fetch(alloc, opening, entries, by, child)?,
-        Event::Got { child, line } => got(alloc, opening, entries, by, child, line)?,
-        Event::Stop { child, why } => stop(opening, entries, by, child, why),
-        Event::Sent { child } => sent(opening, entries, by, child),
-        Event::Mute { child } => mute(opening, entries, by, child),
-        Event::Answer { task, answer } => answer_task(opening, entries, by, task, answer),
-        Event::Shut { on } => shut(opening, entries, by, on),
+        } => ask(alloc, opening, journal, by, child, task, &request)?,
+        Event::Lookup { child, job } => lookup(opening, journal, by, child, job),
+        Event::Look { child } => look(opening, journal, by, child),
+        Event::Listen { child } => listen(opening, journal, by, child),
+        Event::Fetch { child } => fetch(alloc, opening, journal, by, child)?,
+        Event::Got { child, line } => got(alloc, past, by, child, line)?,
+        Event::Stop { child, why } => stop(opening, journal, by, child, why),
+        Event::Sent { child } => sent(opening, journal, by, child),
+        Event::Mute { child } => mute(opening, journal, by, child),
+        Event::Answer { task, answer } => answer_task(opening, journal, by, task, answer),
+        Event::Note { task, chunk, count } => note(opening, journal, by, task, chunk, count),
+        Event::Shut { on } => shut(opening, journal, by, on),
     };
     Ok(step)
 }

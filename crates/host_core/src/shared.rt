@@ -33,6 +33,6 @@ impl Held for Core {
     }
 
     fn len(&self) -> u64 {
-        self.journal().len() as u64
+        self.journal().len()
     }
 }

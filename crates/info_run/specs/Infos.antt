@@ -10,13 +10,14 @@ use Rattle.annex_model.specs.declared.final_line.Final.{Final}
 use Rattle.annex_model.specs.Messages.{RemoteMessage, UnsupportedRequest, Config, Cost, Availability, Infofield, Infovalue, WhereisSuccess, WhereisFailure, HostMessage, Listconfigs, Getcost, Getavailability, Getinfo, Whereis}
 use Rattle.annex_model.specs.Talks.{said}
 use Rattle.journal_model.specs.declared.entry.What.{What}
-use Rattle.journal_model.specs.declared.entry.What.TheVariants.{NoStart, Lost}
+use Rattle.journal_model.specs.declared.entry.What.TheVariants.{Lost}
 use Rattle.journal_model.specs.declared.entry.Entry.{Entry}
 use Rattle.journal_model.specs.Journal.{any, verdict_of, why_of, is_mute, is_started}
 use Rattle.journal_model.specs.Parts.{part}
 use Rattle.journal_model.specs.Legality.{is_prepared}
 use Rattle.journal_model.specs.Projection.{final_in}
 use Rattle.journal_model.specs.Output.{why_words, text_at}
+use Rattle.journal_look.specs.Looks.{is_no_start}
 use Rattle.task_run.specs.TaskRuns.{lost_verdict, refusal_of}
 
 -- ---- what is asked, as jobs 2, 3 and so on
@@ -154,10 +155,6 @@ abbrev pub is_informed : List Entry → ℕ → Option (List ℕ) → Bool
 is_informed journal c key = is_prepared journal c && are_answered journal c (questions key) 2
 
 -- ---- what is printed of a run
-
-abbrev pub is_no_start : What → Bool
-is_no_start (NoStart slot) = true
-is_no_start _ = false
 
 -- a start that failed, or what is printed of the one child; nothing where none was started
 abbrev pub info_lines : List Entry → Option (List ℕ) → List (List ℕ)

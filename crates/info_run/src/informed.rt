@@ -5,8 +5,8 @@ ghost use Rattle.journal_model.specs.Projection.{final_in};
 ghost use Rattle.info_run.specs.Infos.{is_informed, is_answered};
 
 use ann_key::KeyRef;
-use host_core::{is_prepared, verdict_of};
-use journal_model::{Entry, Verdict};
+use journal_look::{Journal, is_prepared, verdict_of};
+use journal_model::Verdict;
 
 /// Whether a line of the child gave the verdict.
 pub(super) fn is_final(verdict: Verdict) -> bool
@@ -18,23 +18,23 @@ pub(super) fn is_final(verdict: Verdict) -> bool
     }
 }
 
-fn is_answered(entries: &[Entry], child: u32, job: u64) -> bool
-    ensures { result ≡ is_answered entries.now child job }
+fn is_answered(journal: &Journal, child: u32, job: u64) -> bool
+    ensures { result ≡ is_answered journal.now.entries child job }
 {
-    match verdict_of(entries, child, job) {
+    match verdict_of(journal, child, job) {
         Some(verdict) => is_final(verdict),
         None => false,
     }
 }
 
 /// Whether the child got ready, and answered all that it was asked about itself, the key among it where one was given.
-pub fn is_informed(entries: &[Entry], key: Option<KeyRef<'_>>) -> bool
-    ensures { result ≡ is_informed entries.now 1 (option_map text_of key.entry) }
+pub fn is_informed(journal: &Journal, key: Option<KeyRef<'_>>) -> bool
+    ensures { result ≡ is_informed journal.now.entries 1 (option_map text_of key.entry) }
 {
-    is_prepared(entries, 1)
-        && is_answered(entries, 1, 2)
-        && is_answered(entries, 1, 3)
-        && is_answered(entries, 1, 4)
-        && is_answered(entries, 1, 5)
-        && (key.is_none() || is_answered(entries, 1, 6))
+    is_prepared(journal, 1)
+        && is_answered(journal, 1, 2)
+        && is_answered(journal, 1, 3)
+        && is_answered(journal, 1, 4)
+        && is_answered(journal, 1, 5)
+        && (key.is_none() || is_answered(journal, 1, 6))
 }

@@ -6,11 +6,10 @@ ghost use Rattle.annex_model.specs.Lines.{text};
 ghost use Rattle.annex_model.specs.Messages.{HostMessage};
 ghost use Rattle.annex_model.specs.Talks.{said};
 ghost use Rattle.wire_msg.specs.Shown.{host_shown};
-ghost use Rattle.journal_model.specs.Journal.{any};
 ghost use Rattle.journal_model.specs.Parts.{part, item_at};
 ghost use Rattle.journal_model.specs.Output.{why_words};
 ghost use Rattle.task_run.specs.TaskRuns.{refusal_of, lost_verdict};
-ghost use Rattle.info_run.specs.Infos.{questions, lines_of, job_lines, questions_from, failed_words, lost_lines, unready_lines, child_lines, info_lines, is_no_start};
+ghost use Rattle.info_run.specs.Infos.{questions, lines_of, job_lines, questions_from, failed_words, lost_lines, unready_lines, child_lines, info_lines};
 ghost use Rattle.info_run.specs.Tellings.{HasTold, HasPrinted, HasAnswered, lost_at, mute_lines};
 
 use crate::informed::is_final;
@@ -18,8 +17,11 @@ use crate::questions::questions;
 use crate::telling::InfoText;
 use crate::words::{text_at, why_words};
 use ann_key::{Bytes, KeyRef, NoMemory};
-use host_core::{is_mute, is_prepared, is_started, said_at, verdict_of, why_of};
-use journal_model::{Entry, Verdict, What, Why};
+use journal_look::{
+    Journal, WhatRef, has_no_start, is_mute, is_prepared, is_started, said_at, verdict_of,
+    why_before, why_of,
+};
+use journal_model::{Verdict, Why};
 use std::alloc::Global;
 use wire_msg::HostMsg;
 
@@ -27,15 +29,15 @@ use wire_msg::HostMsg;
 
 fn push_place(
     told: &mut InfoText,
-    entries: &[Entry],
+    journal: &Journal,
     child: u32,
     job: u64,
     question: &HostMsg<'_>,
-    at: usize,
+    at: u64,
 ) -> Result<(), NoMemory>
-    ensures { IfOk result (λ _. HasTold (host_shown question.now) (said (cons_option (item_at entries.now child job at) [])) told.old told.new) }
+    ensures { IfOk result (λ _. HasTold (host_shown question.now) (said (cons_option (item_at journal.now.entries child job at) [])) told.old told.new) }
 {
-    match said_at(entries, child, job, at) {
+    match said_at(journal, child, job, at) {
         Some(line) => told.hear(question, line),
         None => Ok(()),
     }
@@ -44,26 +46,26 @@ fn push_place(
 // What the remote said in the job.
 fn push_answer(
     told: &mut InfoText,
-    entries: &[Entry],
+    journal: &Journal,
     child: u32,
     job: u64,
     question: &HostMsg<'_>,
 ) -> Result<(), NoMemory>
-    ensures { IfOk result (λ _. HasPrinted (lines_of (host_shown question.now) (said (part entries.now child job))) told.old told.new) }
+    ensures { IfOk result (λ _. HasPrinted (lines_of (host_shown question.now) (said (part journal.now.entries child job))) told.old told.new) }
 {
     told.begin();
-    for at in 0..entries.len() {
-        push_place(told, entries, child, job, question, at)?;
+    for at in 0..journal.len() {
+        push_place(told, journal, child, job, question, at)?;
     }
     Ok(())
 }
 
 // ---- a child that failed
 
-fn push_why(told: &mut InfoText, entries: &[Entry], why: Why) -> Result<(), NoMemory>
-    ensures { IfOk result (λ _. HasPrinted (why_words entries.now why ∷ []) told.old told.new) }
+fn push_why(told: &mut InfoText, journal: &Journal, why: Why) -> Result<(), NoMemory>
+    ensures { IfOk result (λ _. HasPrinted (why_words journal.now.entries why ∷ []) told.old told.new) }
 {
-    let words = why_words(entries, why);
+    let words = why_words(journal, why);
     told.push_line(words.fixed, words.told)
 }
 
@@ -74,11 +76,11 @@ fn push_unsent(told: &mut InfoText) -> Result<(), NoMemory>
 }
 
 // Why a request has no answer.
-fn push_failed(told: &mut InfoText, entries: &[Entry], verdict: Verdict) -> Result<(), NoMemory>
-    ensures { IfOk result (λ _. HasPrinted (failed_words entries.now verdict ∷ []) told.old told.new) }
+fn push_failed(told: &mut InfoText, journal: &Journal, verdict: Verdict) -> Result<(), NoMemory>
+    ensures { IfOk result (λ _. HasPrinted (failed_words journal.now.entries verdict ∷ []) told.old told.new) }
 {
     match verdict {
-        Verdict::Ended { why } => push_why(told, entries, why),
+        Verdict::Ended { why } => push_why(told, journal, why),
         _ => push_unsent(told),
     }
 }
@@ -93,41 +95,41 @@ fn lost_verdict(why: Option<Why>) -> Verdict
 }
 
 // What the request stands for that was lost at the place, if one was.
-fn lost_at(entries: &[Entry], c: u32, at: usize) -> Option<Verdict>
-    ensures { result ≡ lost_at c entries.now at }
+fn lost_at(journal: &Journal, c: u32, at: u64) -> Option<Verdict>
+    ensures { result ≡ lost_at c journal.now.entries at }
 {
-    let entry = entries.get(at)?;
+    let entry = journal.entry(at)?;
     match entry.what {
-        What::Lost { child, .. } if child == c => Some(lost_verdict(why_of(&entries[..at], c))),
+        WhatRef::Lost { child, .. } if child == c => Some(lost_verdict(why_before(journal, at, c))),
         _ => None,
     }
 }
 
 // The requests of the child that were lost.
-fn push_losts(told: &mut InfoText, entries: &[Entry], child: u32) -> Result<(), NoMemory>
-    ensures { IfOk result (λ _. HasPrinted (lost_lines entries.now child) told.old told.new) }
+fn push_losts(told: &mut InfoText, journal: &Journal, child: u32) -> Result<(), NoMemory>
+    ensures { IfOk result (λ _. HasPrinted (lost_lines journal.now.entries child) told.old told.new) }
 {
-    for at in 0..entries.len() {
-        if let Some(verdict) = lost_at(entries, child, at) {
-            push_failed(told, entries, verdict)?;
+    for at in 0..journal.len() {
+        if let Some(verdict) = lost_at(journal, child, at) {
+            push_failed(told, journal, verdict)?;
         }
     }
     Ok(())
 }
 
-fn refusal_of(entries: &[Entry], child: u32) -> Option<u64>
-    ensures { result ≡ refusal_of entries.now child }
+fn refusal_of(journal: &Journal, child: u32) -> Option<u64>
+    ensures { result ≡ refusal_of journal.now.entries child }
 {
-    match verdict_of(entries, child, 1) {
+    match verdict_of(journal, child, 1) {
         Some(Verdict::Failed { at } | Verdict::Unsupported { at }) => Some(at),
         _ => None,
     }
 }
 
-fn push_mute(told: &mut InfoText, entries: &[Entry], child: u32) -> Result<(), NoMemory>
-    ensures { IfOk result (λ _. HasPrinted (mute_lines entries.now child) told.old told.new) }
+fn push_mute(told: &mut InfoText, journal: &Journal, child: u32) -> Result<(), NoMemory>
+    ensures { IfOk result (λ _. HasPrinted (mute_lines journal.now.entries child) told.old told.new) }
 {
-    if is_mute(entries, child) {
+    if is_mute(journal, child) {
         push_unsent(told)
     } else {
         Ok(())
@@ -135,15 +137,15 @@ fn push_mute(told: &mut InfoText, entries: &[Entry], child: u32) -> Result<(), N
 }
 
 // A child that isn't ready.
-fn push_unready(told: &mut InfoText, entries: &[Entry], child: u32) -> Result<(), NoMemory>
-    ensures { IfOk result (λ _. HasPrinted (unready_lines entries.now child) told.old told.new) }
+fn push_unready(told: &mut InfoText, journal: &Journal, child: u32) -> Result<(), NoMemory>
+    ensures { IfOk result (λ _. HasPrinted (unready_lines journal.now.entries child) told.old told.new) }
 {
-    if let Some(at) = refusal_of(entries, child) {
-        return told.push_line(b"notprepared ", text_at(entries, at));
+    if let Some(at) = refusal_of(journal, child) {
+        return told.push_line(b"notprepared ", text_at(journal, at));
     }
-    match why_of(entries, child) {
-        Some(Why::Closed) | None => push_mute(told, entries, child),
-        Some(why) => push_why(told, entries, why),
+    match why_of(journal, child) {
+        Some(Why::Closed) | None => push_mute(told, journal, child),
+        Some(why) => push_why(told, journal, why),
     }
 }
 
@@ -152,24 +154,24 @@ fn push_unready(told: &mut InfoText, entries: &[Entry], child: u32) -> Result<()
 // What the job's verdict tells, and whether the next job is told too.
 fn push_job(
     told: &mut InfoText,
-    entries: &[Entry],
+    journal: &Journal,
     child: u32,
     job: u64,
     question: &HostMsg<'_>,
 ) -> Result<bool, NoMemory>
-    ensures { IfOk result (λ more. HasAnswered entries.now child (host_shown question.now) job more told.old told.new) }
+    ensures { IfOk result (λ more. HasAnswered journal.now.entries child (host_shown question.now) job more told.old told.new) }
 {
-    match verdict_of(entries, child, job) {
+    match verdict_of(journal, child, job) {
         Some(verdict) if is_final(verdict) => {
-            push_answer(told, entries, child, job, question)?;
+            push_answer(told, journal, child, job, question)?;
             Ok(true)
         }
         Some(verdict) => {
-            push_failed(told, entries, verdict)?;
+            push_failed(told, journal, verdict)?;
             Ok(false)
         }
         None => {
-            push_losts(told, entries, child)?;
+            push_losts(told, journal, child)?;
             Ok(false)
         }
     }
@@ -178,15 +180,15 @@ fn push_job(
 // The jobs from 2 on. One without an answer is the last that is told.
 fn push_questions(
     told: &mut InfoText,
-    entries: &[Entry],
+    journal: &Journal,
     child: u32,
     questions: &[HostMsg<'_>],
 ) -> Result<(), NoMemory>
     requires { length questions.now ≤ 5 }
-    ensures { IfOk result (λ _. HasPrinted (questions_from entries.now child (map host_shown questions.now) 2) told.old told.new) }
+    ensures { IfOk result (λ _. HasPrinted (questions_from journal.now.entries child (map host_shown questions.now) 2) told.old told.new) }
 {
     for (n, question) in questions.iter().enumerate() {
-        if !push_job(told, entries, child, n as u64 + 2, question)? {
+        if !push_job(told, journal, child, n as u64 + 2, question)? {
             return Ok(());
         }
     }
@@ -196,45 +198,33 @@ fn push_questions(
 fn push_child(
     alloc: Global,
     told: &mut InfoText,
-    entries: &[Entry],
+    journal: &Journal,
     child: u32,
     key: Option<KeyRef<'_>>,
 ) -> Result<(), NoMemory>
-    ensures { IfOk result (λ _. HasPrinted (child_lines entries.now child (option_map text_of key.entry)) told.old told.new) }
+    ensures { IfOk result (λ _. HasPrinted (child_lines journal.now.entries child (option_map text_of key.entry)) told.old told.new) }
 {
-    if is_prepared(entries, child) {
+    if is_prepared(journal, child) {
         let questions = questions(alloc, key)?;
-        push_questions(told, entries, child, &questions)
+        push_questions(told, journal, child, &questions)
     } else {
-        push_unready(told, entries, child)
+        push_unready(told, journal, child)
     }
-}
-
-fn is_no_start(what: &What) -> bool
-    ensures { result ≡ is_no_start what.now }
-{
-    matches!(what, What::NoStart { .. })
-}
-
-fn has_no_start(entries: &[Entry]) -> bool
-    ensures { result ≡ any is_no_start entries.now }
-{
-    entries.iter().any(|e| is_no_start(&e.what))
 }
 
 /// What is printed of a run over one child, which was asked about itself, and for the key where one is given.
 pub fn print_info(
     alloc: Global,
-    entries: &[Entry],
+    journal: &Journal,
     key: Option<KeyRef<'_>>,
 ) -> Result<Bytes, NoMemory>
-    ensures { IfOk result (λ b. b ≡ text (info_lines entries.now (option_map text_of key.entry))) }
+    ensures { IfOk result (λ b. b ≡ text (info_lines journal.now.entries (option_map text_of key.entry))) }
 {
     let mut told = InfoText::new(alloc);
-    if has_no_start(entries) {
+    if has_no_start(journal) {
         told.push_line(b"startfault", b"")?;
-    } else if is_started(entries, 1) {
-        push_child(alloc, &mut told, entries, 1, key)?;
+    } else if is_started(journal, 1) {
+        push_child(alloc, &mut told, journal, 1, key)?;
     }
     Ok(told.into_bytes())
 }

@@ -4,8 +4,8 @@ ghost use Rattle.annex_model.specs.Messages.{remote_reading};
 ghost use Rattle.annex_model.specs.Tags.{untag, without_tag};
 ghost use Rattle.journal_model.specs.Output.{text_of_reading, text_at, why_words};
 
-use host_core::line_at;
-use journal_model::{Entry, Why};
+use journal_look::{Journal, line_at};
+use journal_model::Why;
 use wire_msg::{read_remote, text_of, untag};
 
 /// Words that are always the same, and those of the child behind them.
@@ -34,10 +34,10 @@ fn text_of_line(line: &[u8]) -> &[u8]
 }
 
 /// The text that the line at a place ends with.
-pub(super) fn text_at(entries: &[Entry], at: u64) -> &[u8]
-    ensures { result.now ≡ text_at entries.now at }
+pub(super) fn text_at(journal: &Journal, at: u64) -> &[u8]
+    ensures { result.now ≡ text_at journal.now.entries at }
 {
-    text_of_line(without_tag(line_at(entries, at)))
+    text_of_line(without_tag(line_at(journal, at)))
 }
 
 fn fixed(words: &'static [u8]) -> Words<'static>
@@ -50,8 +50,8 @@ fn fixed(words: &'static [u8]) -> Words<'static>
 }
 
 /// Why a child ended.
-pub(super) fn why_words(entries: &[Entry], why: Why) -> Words<'_>
-    ensures { result.fixed.now ++ result.told.now ≡ why_words entries.now why }
+pub(super) fn why_words(journal: &Journal, why: Why) -> Words<'_>
+    ensures { result.fixed.now ++ result.told.now ≡ why_words journal.now.entries why }
 {
     match why {
         Why::Eof => fixed(b"ended eof"),
@@ -62,11 +62,11 @@ pub(super) fn why_words(entries: &[Entry], why: Why) -> Words<'_>
         Why::Closed => fixed(b"ended closed"),
         Why::Foul { at } => Words {
             fixed: b"foul ",
-            told: line_at(entries, at),
+            told: line_at(journal, at),
         },
         Why::Error { at } => Words {
             fixed: b"ended error ",
-            told: text_at(entries, at),
+            told: text_at(journal, at),
         },
         Why::Version { .. } => fixed(b"ended version"),
     }

@@ -1,5 +1,5 @@
 -- What an audit finds.
-use Rattle.std.proofs.Common.{◌≡◌, Bool, true, false, ℕ, zero, suc, List, [], ◌∷◌, ◌++◌, ◌+◌, ◌<◌, refl, sym, ap, subst, ◌∙◌, Some, arith, inl, inr, length, take, drop, slice_get, get_or, add-one}
+use Rattle.std.proofs.Common.{◌≡◌, Bool, true, false, ℕ, zero, suc, List, [], ◌∷◌, ◌++◌, ◌+◌, ◌<◌, refl, sym, ap, subst, ◌∙◌, Some, arith, inl, inr, length, take, drop, slice_get, get_or, add-one, None}
 use Rattle.std.proofs.Math.Nat.{lt_of_not-le}
 use Rattle.std.proofs.Math.Seq.{take-suc}
 use Rattle.std.proofs.lemmas.List.{length-take-le}
@@ -102,3 +102,14 @@ pub replayed_more : (o : Opening) (items made : List Entry) (at : ℕ) (e : Entr
 replayed_more o items made at e less is r =
     let grown : take (at + 1) items ≡ take at items ++ e ∷ [] = rw (add-one, take-suc items at e less, ← is) refl in
     subst (λ (p : List Entry). IsReplayed o p made) (sym grown) r
+
+-- an entry that is looked up at its place
+pub read_there : (xs : List Entry) (at : ℕ) (e : Entry) → Some e ≡ slice_get xs at → e ≡ get_or xs at e
+read_there [] at e h = absurd cc
+read_there (x ∷ xs) zero e h = cc
+read_there (x ∷ xs) (suc at) e h = read_there xs at e h
+
+pub some_there : (xs : List Entry) (at : ℕ) → at < length xs → None ≡ slice_get xs at → ⊥
+some_there [] at less h = let no : ⊥ = omega (arith, less) in no
+some_there (x ∷ xs) zero less h = cc
+some_there (x ∷ xs) (suc at) less h = some_there xs at (omega (arith, less)) h

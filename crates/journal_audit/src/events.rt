@@ -1,11 +1,14 @@
 // The event that appends an entry, where one does.
 ghost use Rattle.std.specs.Prelude.{ℕ, IfOk, Some};
+ghost use Rattle.journal_model.specs.declared.entry.What.TheVariants.{Ask, Got, End, Lost};
+ghost use Rattle.journal_look.specs.Shown.{what_shown};
 ghost use Rattle.journal_audit.specs.Replays.{Suits};
 
 use crate::requests;
 use ann_key::{Bytes, NoMemory};
 use host_core::{Core, Event};
-use journal_model::{What, Why};
+use journal_look::WhatRef;
+use journal_model::Why;
 use std::alloc::Global;
 use talk_serial::Request;
 use wire_msg::read_host;
@@ -17,7 +20,7 @@ fn ask_event(
     task: u32,
     line: &[u8],
 ) -> Result<Option<Event>, NoMemory>
-    ensures { IfOk result (λ event. (job : ℕ) → Suits core.now.opening core.now.journal (What.Ask child job task line.now) event) }
+    ensures { IfOk result (λ event. (job : ℕ) → Suits core.now.opening core.now.journal (Ask child job task line.now) event) }
 {
     let Some(message) = read_host(requests::text_of(core, child, line)) else {
         return Ok(None);
@@ -34,7 +37,7 @@ fn ask_event(
 }
 
 fn lost_event(alloc: Global, core: &Core, child: u32, task: u32) -> Result<Option<Event>, NoMemory>
-    ensures { IfOk result (Suits core.now.opening core.now.journal (What.Lost child task)) }
+    ensures { IfOk result (Suits core.now.opening core.now.journal (Lost child task)) }
 {
     let request = requests::some_request(alloc, core.journal(), child)?;
     Ok(Some(Event::Ask {
@@ -45,7 +48,7 @@ fn lost_event(alloc: Global, core: &Core, child: u32, task: u32) -> Result<Optio
 }
 
 fn got_event(alloc: Global, core: &Core, child: u32, line: &[u8]) -> Result<Option<Event>, NoMemory>
-    ensures { IfOk result (Suits core.now.opening core.now.journal (What.Got child line.now)) }
+    ensures { IfOk result (Suits core.now.opening core.now.journal (Got child line.now)) }
 {
     let line = Bytes::copy(alloc, line)?;
     Ok(Some(Event::Got { child, line }))
@@ -53,7 +56,7 @@ fn got_event(alloc: Global, core: &Core, child: u32, line: &[u8]) -> Result<Opti
 
 // A full journal ends a child in place of any line that it says.
 fn end_event(alloc: Global, core: &Core, child: u32, why: Why) -> Result<Option<Event>, NoMemory>
-    ensures { IfOk result (Suits core.now.opening core.now.journal (What.End child why)) }
+    ensures { IfOk result (Suits core.now.opening core.now.journal (End child why)) }
 {
     match why {
         Why::Full => {
@@ -65,31 +68,40 @@ fn end_event(alloc: Global, core: &Core, child: u32, why: Why) -> Result<Option<
 }
 
 /// The event that appends the entry, if it may come; and else any, or none.
-pub(super) fn event_of(alloc: Global, core: &Core, what: &What) -> Result<Option<Event>, NoMemory>
-    ensures { IfOk result (Suits core.now.opening core.now.journal what.now) }
+pub(super) fn event_of(
+    alloc: Global,
+    core: &Core,
+    what: WhatRef<'_>,
+) -> Result<Option<Event>, NoMemory>
+    ensures { IfOk result (Suits core.now.opening core.now.journal (what_shown what.entry)) }
 {
     match what {
-        What::Claim { child, .. } => Ok(Some(Event::Claim { child: *child })),
-        What::Start { slot, offer, .. } => Ok(Some(Event::Start {
-            slot: *slot,
-            offer: *offer,
+        WhatRef::Claim { child, .. } => Ok(Some(Event::Claim { child: child })),
+        WhatRef::Start { slot, offer, .. } => Ok(Some(Event::Start {
+            slot: slot,
+            offer: offer,
         })),
-        What::NoStart { slot } => Ok(Some(Event::NoStart { slot: *slot })),
-        What::Ask {
+        WhatRef::NoStart { slot } => Ok(Some(Event::NoStart { slot: slot })),
+        WhatRef::Ask {
             child,
             task,
             line,
             ..
-        } => ask_event(alloc, core, *child, *task, line.view()),
-        What::Sent { child } => Ok(Some(Event::Sent { child: *child })),
-        What::Mute { child } => Ok(Some(Event::Mute { child: *child })),
-        What::Got { child, line } => got_event(alloc, core, *child, line.view()),
-        What::End { child, why } => end_event(alloc, core, *child, *why),
-        What::Lost { child, task } => lost_event(alloc, core, *child, *task),
-        What::Answer { task, answer } => Ok(Some(Event::Answer {
-            task: *task,
-            answer: *answer,
+        } => ask_event(alloc, core, child, task, line),
+        WhatRef::Sent { child } => Ok(Some(Event::Sent { child: child })),
+        WhatRef::Mute { child } => Ok(Some(Event::Mute { child: child })),
+        WhatRef::Got { child, line } => got_event(alloc, core, child, line),
+        WhatRef::End { child, why } => end_event(alloc, core, child, why),
+        WhatRef::Lost { child, task } => lost_event(alloc, core, child, task),
+        WhatRef::Answer { task, answer } => Ok(Some(Event::Answer {
+            task: task,
+            answer: answer,
         })),
-        What::Put { .. } | What::Verdict { .. } => Ok(None),
+        WhatRef::Note { task, chunk, count } => Ok(Some(Event::Note {
+            task: task,
+            chunk: chunk,
+            count: count,
+        })),
+        WhatRef::Put { .. } | WhatRef::Verdict { .. } => Ok(None),
     }
 }

@@ -1,24 +1,26 @@
 ghost use Rattle.std.specs.Prelude.{◌≡◌};
 ghost use Rattle.journal_model.specs.Legality.{kind_of};
+ghost use Rattle.journal_look.specs.Shown.{what_shown};
 
-use journal_model::What;
+use journal_look::WhatRef;
 
 /// The number of an entry's kind, from 1.
-pub(super) fn kind_of(what: &What) -> u8
-    ensures { result ≡ kind_of what.now }
+pub(super) fn kind_of(what: WhatRef<'_>) -> u8
+    ensures { result ≡ kind_of (what_shown what.entry) }
 {
     match what {
-        What::Claim { .. } => 1,
-        What::Start { .. } => 2,
-        What::NoStart { .. } => 3,
-        What::Ask { .. } => 4,
-        What::Put { .. } => 5,
-        What::Sent { .. } => 6,
-        What::Mute { .. } => 7,
-        What::Got { .. } => 8,
-        What::End { .. } => 9,
-        What::Verdict { .. } => 10,
-        What::Lost { .. } => 11,
-        What::Answer { .. } => 12,
+        WhatRef::Claim { .. } => 1,
+        WhatRef::Start { .. } => 2,
+        WhatRef::NoStart { .. } => 3,
+        WhatRef::Ask { .. } => 4,
+        WhatRef::Put { .. } => 5,
+        WhatRef::Sent { .. } => 6,
+        WhatRef::Mute { .. } => 7,
+        WhatRef::Got { .. } => 8,
+        WhatRef::End { .. } => 9,
+        WhatRef::Verdict { .. } => 10,
+        WhatRef::Lost { .. } => 11,
+        WhatRef::Answer { .. } => 12,
+        WhatRef::Note { .. } => 13,
     }
 }

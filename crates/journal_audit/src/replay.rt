@@ -1,7 +1,9 @@
 // Makes the journal again, by a core of its own.
 ghost use Rattle.std.specs.Prelude.{ℕ, ◌≡◌, ◌↔◌, ◌≤◌, ◌<◌, ◌^◌, List, Some, length, slice_get, IfOk, OnOk, IsTrue};
 ghost use Rattle.journal_model.specs.Limits.{most_tasks};
+ghost use Rattle.journal_model.specs.Replies.{IsLineIdentity};
 ghost use Rattle.journal_model.specs.declared.entry.Entry.{Entry};
+ghost use Rattle.journal_look.specs.Shown.{entry_shown};
 ghost use Rattle.journal_audit.specs.Audits.{IsAudit};
 ghost use Rattle.journal_audit.specs.Replays.{IsTold, IsReplayed, IsNext};
 
@@ -9,16 +11,17 @@ use crate::found::Audit;
 use crate::{equal, events, kind};
 use ann_key::NoMemory;
 use host_core::Core;
-use journal_model::{Entry, Journal, Opening};
+use journal_look::{EntryRef, Journal};
+use journal_model::Opening;
 use std::alloc::Global;
 
 /// Tells the core the event that appends the entry, where one does.
-fn tell(alloc: Global, core: &mut Core, entry: &Entry) -> Result<(), NoMemory>
+fn tell(alloc: Global, core: &mut Core, entry: EntryRef<'_>) -> Result<(), NoMemory>
     requires { length core.old.journal < 2 ^ 64 }
-    ensures told { OnOk result (IsTold core.old.opening core.old.journal entry.now core.new.journal) }
+    ensures told { OnOk result (IsTold core.old.opening core.old.journal (entry_shown entry.entry) core.new.journal) }
     ensures opening { core.new.opening ≡ core.old.opening }
 {
-    match events::event_of(alloc, core, &entry.what)? {
+    match events::event_of(alloc, core, entry.what)? {
         Some(event) => {
             let _reply = core.step(entry.by, event)?;
             Ok(())
@@ -28,10 +31,10 @@ fn tell(alloc: Global, core: &mut Core, entry: &Entry) -> Result<(), NoMemory>
 }
 
 /// Whether the entry stands at this place.
-fn is_at(entries: &[Entry], at: usize, entry: &Entry) -> bool
-    ensures { IsTrue result ↔ (slice_get entries.now at ≡ Some entry.now) }
+fn is_at(journal: &Journal, at: u64, entry: EntryRef<'_>) -> bool
+    ensures { IsTrue result ↔ (slice_get journal.now.entries at ≡ Some (entry_shown entry.entry)) }
 {
-    match entries.get(at) {
+    match journal.entry(at) {
         Some(there) => equal::is_entry(there, entry),
         None => false,
     }
@@ -39,8 +42,8 @@ fn is_at(entries: &[Entry], at: usize, entry: &Entry) -> bool
 
 /// Whether the entry may stand at this place, behind entries that the core has made again, with what is due behind them.
 /// The entry is then made again too.
-fn may_stand(alloc: Global, core: &mut Core, at: usize, entry: &Entry) -> Result<bool, NoMemory>
-    ensures next { IfOk result (λ stands. (past : List Entry) → length past ≡ at → IsReplayed core.old.opening past core.old.journal → IsNext core.old.opening past entry.now core.new.journal stands) }
+fn may_stand(alloc: Global, core: &mut Core, at: u64, entry: EntryRef<'_>) -> Result<bool, NoMemory>
+    ensures next { IfOk result (λ stands. (past : List Entry) → length past ≡ at → IsReplayed core.old.opening past core.old.journal → IsNext core.old.opening past (entry_shown entry.entry) core.new.journal stands) }
     ensures opening { core.new.opening ≡ core.old.opening }
 {
     if core.journal().len() == at {
@@ -53,18 +56,22 @@ fn may_stand(alloc: Global, core: &mut Core, at: usize, entry: &Entry) -> Result
 /// before it, more than once. It takes memory for a copy of the opening and of the journal.
 pub fn audit(alloc: Global, opening: &Opening, journal: &Journal) -> Result<Audit, NoMemory>
     requires few { length opening.now.tasks ≤ most_tasks }
-    ensures audit { IfOk result (IsAudit opening.now journal.now) }
+    requires lines { IsLineIdentity opening.now.identity }
+    ensures audit { IfOk result (IsAudit opening.now journal.now.entries) }
 {
     let mut core = Core::new(alloc, opening.copy(alloc)?)?;
-    for (at, entry) in journal.entries().iter().enumerate() {
+    for at in 0..journal.len() {
+        let Some(entry) = journal.entry(at) else {
+            unreachable!()
+        };
         if !may_stand(alloc, &mut core, at, entry)? {
             return Ok(Audit::Wrong {
-                entry: at as u64,
-                kind: kind::kind_of(&entry.what),
+                entry: at,
+                kind: kind::kind_of(entry.what),
             });
         }
     }
-    if core.journal().len() == journal.entries().len() {
+    if core.journal().len() == journal.len() {
         Ok(Audit::Legal)
     } else {
         Ok(Audit::Wrong {

@@ -100,7 +100,7 @@ asked_text past c job line (Some q) e h =
 
 -- ---- fields
 
-number_below : (field : List ℕ) → is_number field ≡ true → value_of field < 2 ^ 64
+pub number_below : (field : List ℕ) → is_number field ≡ true → value_of field < 2 ^ 64
 number_below field h = below (value_of field) (and_right (nat_le 1 (length field) && nat_le (length field) 20 && list_all is_digit field) _ h)
   where
     below : (n : ℕ) → nat_lt n (2 ^ 64) ≡ true → n < 2 ^ 64

@@ -6,12 +6,12 @@ use Rattle.journal_model.specs.declared.verdict.Why.{Why}
 use Rattle.journal_model.specs.declared.verdict.Verdict.{Verdict}
 use Rattle.journal_model.specs.declared.verdict.Verdict.TheVariants.{Ended}
 use Rattle.journal_model.specs.declared.entry.What.{What}
-use Rattle.journal_model.specs.declared.entry.What.TheVariants.{Claim, Start, NoStart, Ask, Put, Sent, Mute, Got, End, Verdict as Settled, Lost, Answer as Answered}
+use Rattle.journal_model.specs.declared.entry.What.TheVariants.{Claim, Start, NoStart, Ask, Put, Sent, Mute, Got, End, Verdict as Settled, Lost, Answer as Answered, Note as Noted}
 use Rattle.journal_model.specs.declared.entry.Entry.{Entry}
 use Rattle.journal_model.specs.declared.opening.Opening.{Opening}
 use Rattle.annex_model.specs.Messages.{host_reading}
 use Rattle.journal_model.specs.Journal.{asks, settles, ends, is_ended, is_mute, is_started, is_live, is_settled, asked_jobs, open_jobs, addressed}
-use Rattle.journal_model.specs.Due.{due_by, due_by_got, due_after, made_by}
+use Rattle.journal_model.specs.Due.{due_by, due_by_got, due_after, made_by, replying}
 use Rattle.journal_model.specs.Legality.{Legal, may_come, may_ask, asks_in_turn}
 use Rattle.journal_model.proofs.Growing.{Legal-induction}
 use Rattle.journal_model.proofs.Looks.{entry, is_asked, settled_all, both, same, same_number, each_of-append, any-append}
@@ -67,6 +67,10 @@ verdicts_end_none : (c by child : ℕ) (v : Verdict) (ks : List ℕ) → is_ende
 verdicts_end_none c by child v [] = refl
 verdicts_end_none c by child v (k ∷ ks) = verdicts_end_none c by child v ks
 
+replies_end_none : (past : List Entry) (c by child j : ℕ) (lines : List (List ℕ)) → is_ended (made_by by (replying past child j lines)) c ≡ false
+replies_end_none past c by child j [] = refl
+replies_end_none past c by child j (l ∷ ls) = replies_end_none past c by child j ls
+
 -- an end settles each job of its child
 end_group : (past : List Entry) (c j by child : ℕ) (why : Why) → is_ended (entry by (End child why) ∷ settled_all by child (Ended why) (open_jobs past child)) c ≡ true
     → Settles past (entry by (End child why) ∷ settled_all by child (Ended why) (open_jobs past child)) c j
@@ -88,7 +92,9 @@ group_settles o past c j by (Got child line) e = by_due (due_by_got o past child
     by_due due (inr (inl is)) e =
         subst (λ (ws : List What). is_ended (made_by by ws) c ≡ true → Settles past (made_by by ws) c j) (sym is.1)
         (end_group past c j by child is.0) e
-    by_due due (inr (inr is)) e = clash (is_ended (made_by by due) c) e (ap (λ (ws : List What). is_ended (made_by by ws) c) is.3)
+    by_due due (inr (inr (inl is))) e = clash (is_ended (made_by by due) c) e (ap (λ (ws : List What). is_ended (made_by by ws) c) is.3)
+    by_due due (inr (inr (inr is))) e =
+        clash (is_ended (made_by by due) c) e (ap (λ (ws : List What). is_ended (made_by by ws) c) is.3 ∙ replies_end_none past c by child is.0 is.1)
 group_settles o past c j by (Mute child) e = clash (is_ended (made_by by (due_by o past (Mute child))) c) e (mute_ends_none o past child c by)
 group_settles o past c j by (Claim task child) e = absurd cc
 group_settles o past c j by (Start child slot offer) e = absurd cc
@@ -99,12 +105,14 @@ group_settles o past c j by (Sent child) e = absurd cc
 group_settles o past c j by (Settled child job verdict) e = absurd cc
 group_settles o past c j by (Lost child task) e = absurd cc
 group_settles o past c j by (Answered task answer) e = absurd cc
+group_settles o past c j by (Noted task chunk count) e = absurd cc
 
 -- ---- nothing is asked of a child that has ended
 
 soft_asks : (c by : ℕ) (ws : List What) → list_all is_soft ws ≡ true → asked_jobs (made_by by ws) c ≡ []
 soft_asks c by [] h = refl
 soft_asks c by (Settled child job verdict ∷ ws) h = soft_asks c by ws h
+soft_asks c by (Put child job line ∷ ws) h = soft_asks c by ws h
 soft_asks c by (End child why ∷ ws) h = soft_asks c by ws (both (is_soft (End child why)) (list_all is_soft ws) h).1
 soft_asks c by (w ∷ ws) h = absurd cc
 
@@ -138,6 +146,7 @@ group_asks o past c by (Sent child) may e = refl
 group_asks o past c by (Settled child job verdict) may e = refl
 group_asks o past c by (Lost child task) may e = refl
 group_asks o past c by (Answered task answer) may e = refl
+group_asks o past c by (Noted task chunk count) may e = refl
 
 -- nor by the group that ends it
 ending_asks : (o : Opening) (past : List Entry) (c by : ℕ) (w : What) → is_ended (entry by w ∷ due_after o past (entry by w)) c ≡ true
@@ -154,6 +163,7 @@ ending_asks o past c by (Sent child) e = refl
 ending_asks o past c by (Settled child job verdict) e = refl
 ending_asks o past c by (Lost child task) e = refl
 ending_asks o past c by (Answered task answer) e = refl
+ending_asks o past c by (Noted task chunk count) e = refl
 
 -- each job of a child that has ended is settled
 pub ended_settled : (o : Opening) (journal : List Entry) → Legal o journal → (c j : ℕ) → is_ended journal c ≡ true → is_asked journal c j ≡ true → is_settled journal c j ≡ true

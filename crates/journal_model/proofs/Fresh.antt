@@ -9,20 +9,21 @@ use Rattle.journal_model.specs.declared.verdict.Verdict.TheVariants.{Ended, Unse
 use Rattle.annex_model.specs.Lines.{has_newline}
 use Rattle.annex_model.specs.Messages.{host_reading}
 use Rattle.journal_model.specs.declared.entry.What.{What}
-use Rattle.journal_model.specs.declared.entry.What.TheVariants.{Claim, Start, NoStart, Ask, Put, Sent, Mute, Got, End, Verdict as Settled, Lost, Answer as Answered}
+use Rattle.journal_model.specs.declared.entry.What.TheVariants.{Claim, Start, NoStart, Ask, Put, Sent, Mute, Got, End, Verdict as Settled, Lost, Answer as Answered, Note as Noted}
 use Rattle.journal_model.specs.declared.entry.Entry.{Entry}
 use Rattle.journal_model.specs.declared.opening.Opening.{Opening}
-use Rattle.journal_model.specs.Journal.{sends, starts, why_of, is_started, is_live, is_ended, is_mute, open_jobs, is_unsent, addressed, unsent, asked_jobs, is_full}
-use Rattle.journal_model.specs.Due.{ending, due_by, due_by_got, due_after, made_by}
+use Rattle.journal_model.specs.Journal.{each_of, writes, sends, starts, why_of, is_started, is_live, is_ended, is_mute, open_jobs, is_unsent, addressed, unsent, asked_jobs, is_full}
+use Rattle.journal_model.specs.Due.{ending, replying, due_by, due_by_got, due_after, made_by}
 use Rattle.journal_model.specs.Legality.{Legal, may_come, may_ask, may_stop, asks_in_turn, is_empty}
 use Rattle.journal_model.proofs.Growing.{Legal-induction}
 use Rattle.journal_model.proofs.Looks.{both, same, same_number, any-append, either_left}
-use Rattle.journal_model.proofs.Soft.{IsSoft, got_cases, soft_stretch, soft_got, soft_mute, soft_verdicts}
+use Rattle.journal_model.proofs.Soft.{is_soft, got_cases, soft_stretch, soft_got, soft_mute, soft_verdicts}
 use Rattle.journal_model.proofs.Linking.{Adds, nothing_both}
 
--- an end in the stretch is of that child
+-- an end and a reply in the stretch are of that child
 abbrev pub is_of : ℕ → What → Bool
 is_of d (End child why) = child == d
+is_of d (Put child job line) = child == d
 is_of d _ = true
 
 of_verdicts : (d c : ℕ) (v : Verdict) (jobs : List ℕ) → list_all (is_of d) (map (λ j. Settled c j v) jobs) ≡ true
@@ -32,8 +33,12 @@ of_verdicts d c v (j ∷ jobs) = of_verdicts d c v jobs
 of_ending : (past : List Entry) (c : ℕ) (why : Why) → list_all (is_of c) (ending past c why) ≡ true
 of_ending past c why = rw (same c, of_verdicts c c (Ended why) (open_jobs past c)) refl
 
+of_replies : (past : List Entry) (c j : ℕ) (lines : List (List ℕ)) → list_all (is_of c) (replying past c j lines) ≡ true
+of_replies past c j [] = refl
+of_replies past c j (l ∷ ls) = rw (same c, of_replies past c j ls) refl
+
 of_got : (o : Opening) (past : List Entry) (c : ℕ) (line : List ℕ) → list_all (is_of c) (due_by_got o past c line) ≡ true
-of_got o past c line = got_cases (λ ws. list_all (is_of c) ws ≡ true) o past c refl (λ why soft. of_ending past c why) (λ j f opened. refl) line
+of_got o past c line = got_cases (λ ws. list_all (is_of c) ws ≡ true) o past c line refl (λ why soft. of_ending past c why) (λ j f opened. refl) (λ j ls opened for owed. of_replies past c j ls)
 
 of_mute : (o : Opening) (past : List Entry) (c : ℕ) → list_all (is_of c) (due_by o past (Mute c)) ≡ true
 of_mute o past c = go (is_live past c)
@@ -53,19 +58,34 @@ apart_why c d by (Claim task child ∷ ws) n h = apart_why c d by ws n h
 apart_why c d by (Start child slot offer ∷ ws) n h = apart_why c d by ws n h
 apart_why c d by (NoStart slot ∷ ws) n h = apart_why c d by ws n h
 apart_why c d by (Ask child job task line ∷ ws) n h = apart_why c d by ws n h
-apart_why c d by (Put child job line ∷ ws) n h = apart_why c d by ws n h
+apart_why c d by (Put child job line ∷ ws) n h = apart_why c d by ws n (both (child == d) (list_all (is_of d) ws) h).1
 apart_why c d by (Sent child ∷ ws) n h = apart_why c d by ws n h
 apart_why c d by (Mute child ∷ ws) n h = apart_why c d by ws n h
 apart_why c d by (Got child line ∷ ws) n h = apart_why c d by ws n h
 apart_why c d by (Settled child job verdict ∷ ws) n h = apart_why c d by ws n h
 apart_why c d by (Lost child task ∷ ws) n h = apart_why c d by ws n h
 apart_why c d by (Answered task answer ∷ ws) n h = apart_why c d by ws n h
+apart_why c d by (Noted task chunk count ∷ ws) n h = apart_why c d by ws n h
+
+-- and no line to it
+apart_writes : (c d by : ℕ) (ws : List What) → (d == c) ≡ false → list_all (is_of d) ws ≡ true → list_all is_soft ws ≡ true → each_of (writes c) (made_by by ws) ≡ []
+apart_writes c d by [] n h s = refl
+apart_writes c d by (Put child job line ∷ ws) n h s =
+    let t : ((child == d) ≡ true) × (list_all (is_of d) ws ≡ true) = both (child == d) (list_all (is_of d) ws) h in
+    let e : (child == c) ≡ false = subst (λ (x : ℕ). (x == c) ≡ false) (sym (same_number child d t.0)) n in
+    rw e (apart_writes c d by ws n t.1 s)
+apart_writes c d by (Settled child job verdict ∷ ws) n h s = apart_writes c d by ws n h s
+apart_writes c d by (End child why ∷ ws) n h s =
+    apart_writes c d by ws n (both (child == d) (list_all (is_of d) ws) h).1 (both (is_soft (End child why)) (list_all is_soft ws) s).1
+apart_writes c d by (w ∷ ws) n h s = absurd cc
 
 abbrev pub Nothing : ℕ → List Entry → Type 0
 Nothing c more = Adds c more [] [] 0 false None
 
-soft_nothing : (c d by : ℕ) (ws : List What) → (d == c) ≡ false → list_all (is_of d) ws ≡ true → IsSoft c (made_by by ws) → Nothing c (made_by by ws)
-soft_nothing c d by ws n h s = record { got = s.got; written = s.written; covers = ap (λ (l : List Entry). length l) s.sent; mutes = s.muted; ends = apart_why c d by ws n h }
+soft_nothing : (c d by : ℕ) (ws : List What) → (d == c) ≡ false → list_all (is_of d) ws ≡ true → list_all is_soft ws ≡ true → Nothing c (made_by by ws)
+soft_nothing c d by ws n h soft =
+    let s = soft_stretch c by ws soft in
+    record { got = s.got; written = apart_writes c d by ws n h soft; covers = ap (λ (l : List Entry). length l) s.sent; mutes = s.muted; ends = apart_why c d by ws n h }
 
 -- the entry writes to the child, covers a line of it, hears it or ends it
 abbrev pub concerns : ℕ → What → Bool
@@ -87,18 +107,19 @@ other_child o past c by (Ask child job task line) n = record { got = refl; writt
 other_child o past c by (Put child job line) n = record { got = refl; written = rw n refl; covers = refl; mutes = refl; ends = refl }
 other_child o past c by (Sent child) n = record { got = refl; written = refl; covers = rw n refl; mutes = refl; ends = refl }
 other_child o past c by (Mute child) n =
-    let r = soft_nothing c child by (due_by o past (Mute child)) n (of_mute o past child) (soft_stretch c by (due_by o past (Mute child)) (soft_mute o past child)) in
+    let r = soft_nothing c child by (due_by o past (Mute child)) n (of_mute o past child) (soft_mute o past child) in
     record { got = r.got; written = r.written; covers = r.covers; mutes = rw n r.mutes; ends = r.ends }
 other_child o past c by (Got child line) n =
-    let r = soft_nothing c child by (due_by_got o past child line) n (of_got o past child line) (soft_stretch c by (due_by_got o past child line) (soft_got o past child line)) in
+    let r = soft_nothing c child by (due_by_got o past child line) n (of_got o past child line) (soft_got o past child line) in
     record { got = rw n r.got; written = r.written; covers = r.covers; mutes = r.mutes; ends = r.ends }
 other_child o past c by (End child why) n =
     let ws = due_by o past (End child why) in
-    let r = soft_nothing c child by ws n (of_verdicts child child (Ended why) (open_jobs past child)) (soft_stretch c by ws (soft_verdicts child (Ended why) (open_jobs past child))) in
+    let r = soft_nothing c child by ws n (of_verdicts child child (Ended why) (open_jobs past child)) (soft_verdicts child (Ended why) (open_jobs past child)) in
     record { got = r.got; written = r.written; covers = r.covers; mutes = r.mutes; ends = rw n r.ends }
 other_child o past c by (Settled child job verdict) n = record { got = refl; written = refl; covers = refl; mutes = refl; ends = refl }
 other_child o past c by (Lost child task) n = record { got = refl; written = refl; covers = refl; mutes = refl; ends = refl }
 other_child o past c by (Answered task answer) n = record { got = refl; written = refl; covers = refl; mutes = refl; ends = refl }
+other_child o past c by (Noted task chunk count) n = record { got = refl; written = refl; covers = refl; mutes = refl; ends = refl }
 
 -- ---- a child that wasn't started
 
@@ -139,6 +160,7 @@ unstarted o past c by w may off n = go (concerns c w) refl
     by_kind (Settled child job verdict) may e = absurd cc
     by_kind (Lost child task) may e = absurd cc
     by_kind (Answered task answer) may e = absurd cc
+    by_kind (Noted task chunk count) may e = absurd cc
 
     go : (b : Bool) → concerns c w ≡ b → concerns c w ≡ false
     go false e = e

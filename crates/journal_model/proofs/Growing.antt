@@ -1,11 +1,11 @@
 -- A legal journal grows by groups.
 use Rattle.journal_model.specs.declared.opening.Opening.{Opening}
-use Rattle.std.proofs.Common.{◌≡◌, List, [], ◌∷◌, ◌++◌, refl, sym, ap, subst, ◌∙◌, append_assoc}
+use Rattle.std.proofs.Common.{◌≡◌, List, [], ◌∷◌, ◌++◌, refl, sym, ap, subst, ◌∙◌, append_assoc, ◌⊎◌, inl, inr}
 use Rattle.std.specs.Prelude.{IsTrue}
 use Rattle.std.proofs.lemmas.List.{append-nil}
 use Rattle.journal_model.specs.declared.entry.Entry.{Entry}
 use Rattle.journal_model.specs.Due.{due_after}
-use Rattle.journal_model.specs.Legality.{StandsFrom, Legal, may_come, owed_from, owed_after, still_owed, MayStand, LegalByGroups, IsGroups, LegalByPlaces}
+use Rattle.journal_model.specs.Legality.{StandsFrom, Legal, may_come, owed_from, owed_after, still_owed, MayStand, LegalByGroups, IsGroup, IsGroups, LegalByPlaces}
 
 -- ---- two stretches, one behind the other
 
@@ -79,23 +79,82 @@ Legal-induction o P base step journal l =
     (λ p e b may. (Legal-group o p e b.0 may, step p e b.0 b.1 may)) (empty, base) l.stands l.nothing_due in
     r.1
 
+-- ---- whole groups
+
+-- a group keeps the journal legal
+pub group_keeps : (o : Opening) (past group : List Entry) → Legal o past → IsGroup o past group → Legal o (past ++ group)
+group_keeps o past group l g = record {
+  stands = StandsFrom-append o [] [] past group l.stands (subst (λ (ds : List Entry). StandsFrom o past ds group) (sym l.nothing_due) g.stands);
+  nothing_due = owed_from-append o [] [] past group ∙ ap (λ (ds : List Entry). owed_from o past ds group) l.nothing_due ∙ g.whole;
+}
+
+-- where a front of what is owed stands, the rest is still owed
+owed_front : (o : Opening) (past front rest : List Entry) → owed_from o past (front ++ rest) front ≡ rest
+owed_front o past [] rest = refl
+owed_front o past (d ∷ ds) rest = owed_front o (past ++ d ∷ []) ds rest
+
+-- an entry that may come, with what it makes due, is one
+pub due_group : (o : Opening) (past : List Entry) (e : Entry) → IsTrue (may_come o past e.by e.what) → IsGroup o past (e ∷ due_after o past e)
+due_group o past e may = record {
+  some = λ h. cc;
+  stands = (may, StandsFrom-owed o (past ++ e ∷ []) (due_after o past e));
+  whole = owed_from-owed o (past ++ e ∷ []) (due_after o past e);
+  one = one;
+}
+  where
+    one : (front rest : List Entry) → e ∷ due_after o past e ≡ front ++ rest → owed_from o past [] front ≡ [] → (front ≡ []) ⊎ (rest ≡ [])
+    one [] rest is nothing = inl refl
+    one (x ∷ xs) rest is nothing =
+        let first : e ≡ x = cc is in
+        let more : due_after o past e ≡ xs ++ rest = cc is in
+        inr (sym (owed_front o (past ++ e ∷ []) xs rest)
+        ∙ ap (λ (ds : List Entry). owed_from o (past ++ e ∷ []) ds xs) (sym more)
+        ∙ ap (λ (y : Entry). owed_from o (past ++ y ∷ []) (due_after o past y) xs) first
+        ∙ nothing)
+
+-- entries that stand where something is owed are what is owed, or begin with it, or are a front of it
+owed_or_more : (o : Opening) (past owed xs : List Entry) → StandsFrom o past owed xs → owed_from o past owed xs ≡ []
+    → (more : List Entry) × (xs ≡ owed ++ more)
+owed_or_more o past [] xs s w = (xs, refl)
+owed_or_more o past (d ∷ ds) [] s w = absurd (let bad : d ∷ ds ≡ [] = w in cc)
+owed_or_more o past (d ∷ ds) (x ∷ xs) s w =
+    let r = owed_or_more o (past ++ x ∷ []) ds xs s.1 w in
+    (r.0, ap (λ (y : Entry). y ∷ xs) s.0 ∙ ap (λ (ys : List Entry). d ∷ ys) r.1)
+
+-- and each group is so
+pub group_due : (o : Opening) (past : List Entry) (e : Entry) (rest : List Entry) → IsGroup o past (e ∷ rest)
+    → IsTrue (may_come o past e.by e.what) × (rest ≡ due_after o past e)
+group_due o past e rest g =
+    let due : List Entry = due_after o past e in
+    let r = owed_or_more o (past ++ e ∷ []) due rest g.stands.1 g.whole in
+    let alone = g.one (e ∷ due) r.0 (ap (λ (xs : List Entry). e ∷ xs) r.1) (owed_from-owed o (past ++ e ∷ []) due) in
+    (g.stands.0, r.1 ∙ none alone r.0 refl)
+  where
+    none : {front rest : List Entry} → (e ∷ front ≡ []) ⊎ (rest ≡ []) → (more : List Entry) → more ≡ rest → front ++ more ≡ front
+    none (inl bad) more is = absurd cc
+    none {front = front} (inr h) more is = ap (λ (xs : List Entry). front ++ xs) (is ∙ h) ∙ append-nil front
+
+-- the same induction, by whole groups
+pub groups_induction : (o : Opening) (P : List Entry → Type 0) → P []
+    → ((p group : List Entry) → Legal o p → P p → IsGroup o p group → P (p ++ group))
+    → (journal : List Entry) → Legal o journal → P journal
+groups_induction o P base step journal l = Legal-induction o P base (λ p e legal h may. step p (e ∷ due_after o p e) legal h (due_group o p e may)) journal l
+
 -- ---- the other forms
 
-IsGroups-push : (o : Opening) (past firsts journal : List Entry) (e : Entry) → IsGroups o past firsts journal
-    → IsTrue (may_come o journal e.by e.what) → IsGroups o past (firsts ++ e ∷ []) (journal ++ e ∷ due_after o journal e)
-IsGroups-push o past [] journal e h may =
-    subst (λ (p : List Entry). IsTrue (may_come o p e.by e.what) × (journal ++ e ∷ due_after o journal e ≡ p ++ e ∷ due_after o p e)) h (may, refl)
-IsGroups-push o past (f ∷ firsts) journal e h may = (h.0, IsGroups-push o (past ++ f ∷ due_after o past f) firsts journal e h.1 may)
+IsGroups-push : (o : Opening) (past : List Entry) (groups : List (List Entry)) (journal group : List Entry) → IsGroups o past groups journal
+    → IsGroup o journal group → IsGroups o past (groups ++ group ∷ []) (journal ++ group)
+IsGroups-push o past [] journal group h g = subst (λ (p : List Entry). IsGroup o p group × (journal ++ group ≡ p ++ group)) h (g, refl)
+IsGroups-push o past (f ∷ groups) journal group h g = (h.0, IsGroups-push o (past ++ f) groups journal group h.1 g)
 
 pub Legal-groups : (o : Opening) (journal : List Entry) → Legal o journal → LegalByGroups o journal
 Legal-groups o journal l =
-    Legal-induction o (LegalByGroups o) ([], refl)
-    (λ p e legal groups may. (groups.0 ++ e ∷ [], IsGroups-push o [] groups.0 p e groups.1 may)) journal l
+    groups_induction o (LegalByGroups o) ([], refl)
+    (λ p group legal before g. (before.0 ++ group ∷ [], IsGroups-push o [] before.0 p group before.1 g)) journal l
 
-IsGroups-legal : (o : Opening) (past firsts journal : List Entry) → Legal o past → IsGroups o past firsts journal → Legal o journal
+IsGroups-legal : (o : Opening) (past : List Entry) (groups : List (List Entry)) (journal : List Entry) → Legal o past → IsGroups o past groups journal → Legal o journal
 IsGroups-legal o past [] journal l h = subst (Legal o) (sym h) l
-IsGroups-legal o past (e ∷ firsts) journal l h =
-    IsGroups-legal o (past ++ e ∷ due_after o past e) firsts journal (Legal-group o past e l h.0) h.1
+IsGroups-legal o past (group ∷ groups) journal l h = IsGroups-legal o (past ++ group) groups journal (group_keeps o past group l h.0) h.1
 
 pub groups-Legal : (o : Opening) (journal : List Entry) → LegalByGroups o journal → Legal o journal
 groups-Legal o journal h = IsGroups-legal o [] h.0 journal (record { stands = tt; nothing_due = refl }) h.1

@@ -8,10 +8,10 @@ use Rattle.journal_model.specs.declared.verdict.Verdict.TheVariants.{Ended, Unse
 use Rattle.journal_model.specs.declared.holder.Holder.{Holder}
 use Rattle.journal_model.specs.declared.opening.Opening.{Opening}
 use Rattle.journal_model.specs.declared.entry.What.{What}
-use Rattle.journal_model.specs.declared.entry.What.TheVariants.{Claim, Mute, Got, End, Verdict as Settled, Answer as Answered}
+use Rattle.journal_model.specs.declared.entry.What.TheVariants.{Claim, Put, Mute, Got, End, Verdict as Settled, Answer as Answered}
 use Rattle.journal_model.specs.declared.entry.Entry.{Entry}
-use Rattle.journal_model.specs.Journal.{any, each_of, is_live, is_open, is_unsent, open_jobs}
-use Rattle.journal_model.specs.Due.{due_after, due_by_got, made_by, ending, verdict_at}
+use Rattle.journal_model.specs.Journal.{any, each_of, on_wire, is_live, is_open, is_unsent, open_jobs}
+use Rattle.journal_model.specs.Due.{due_after, due_by_got, made_by, ending, verdict_at, replying}
 use Rattle.journal_model.specs.Legality.{Legal, may_come, is_number, is_free, least_free, numbers_of, claims, answers, is_claimed, is_answered, is_busy, is_claimed_by, is_held_by, holder, turned, turned_by, has_open_job}
 use Rattle.journal_model.proofs.Growing.{Legal-induction}
 use Rattle.journal_model.proofs.Looks.{entry, same_number, both, any-append, settled_all}
@@ -29,38 +29,46 @@ answered _ = None
 
 -- ---- what a line makes due
 
--- nothing, the child's end, or the verdict of an open job
+-- nothing, the child's end, the verdict of an open job, or replies in one
 abbrev pub GotDue : List Entry → ℕ → List What → Type 0
 GotDue past child due =
     (due ≡ []) ⊎ ((why : Why) × (due ≡ ending past child why)) ⊎ ((j : ℕ) × (v : Verdict) × (is_open past child j ≡ true) × (due ≡ Settled child j v ∷ []))
+    ⊎ ((j : ℕ) × (lines : List (List ℕ)) × (is_open past child j ≡ true) × (due ≡ replying past child j lines))
 
 pub got_due : (o : Opening) (past : List Entry) (child : ℕ) (line : List ℕ) → GotDue past child (due_by_got o past child line)
 got_due o past child line =
-    got_cases (GotDue past child) o past child (inl refl) (λ why soft. inr (inl (why, refl)))
-    (λ j f opened. inr (inr (j, verdict_at f (length past), opened, refl))) line
+    got_cases (GotDue past child) o past child line (inl refl) (λ why soft. inr (inl (why, refl)))
+    (λ j f opened. inr (inr (inl (j, verdict_at f (length past), opened, refl)))) (λ j ls opened for owed. inr (inr (inr (j, ls, opened, refl))))
 
--- ---- what is due names nobody but by an end or a verdict
+-- ---- what is due names nobody but by an end, a verdict or a reply
 
 pub verdicts_name : {X : Type 0} (f : What → Option X) → ((c j : ℕ) (v : Verdict) → f (Settled c j v) ≡ None)
     → (by child : ℕ) (v : Verdict) (ks : List ℕ) → each_of f (settled_all by child v ks) ≡ []
 verdicts_name f none by child v [] = refl
 verdicts_name f none by child v (k ∷ ks) = rw (none child k v) (verdicts_name f none by child v ks)
 
+pub replies_name : {X : Type 0} (f : What → Option X) → ((c j : ℕ) (line : List ℕ) → f (Put c j line) ≡ None)
+    → (past : List Entry) (by child j : ℕ) (lines : List (List ℕ)) → each_of f (made_by by (replying past child j lines)) ≡ []
+replies_name f none past by child j [] = refl
+replies_name f none past by child j (l ∷ ls) = rw (none child j (on_wire past child j l)) (replies_name f none past by child j ls)
+
 pub due_names : {X : Type 0} (f : What → Option X) → ((c j : ℕ) (v : Verdict) → f (Settled c j v) ≡ None) → ((c : ℕ) (why : Why) → f (End c why) ≡ None)
+    → ((c j : ℕ) (line : List ℕ) → f (Put c j line) ≡ None)
     → (o : Opening) (past : List Entry) (by : ℕ) (w : What) → each_of f (due_after o past (entry by w)) ≡ []
-due_names f verdict end o past by (End child why) = verdicts_name f verdict by child (Ended why) (open_jobs past child)
-due_names f verdict end o past by (Mute child) = by_life (is_live past child)
+due_names f verdict end put o past by (End child why) = verdicts_name f verdict by child (Ended why) (open_jobs past child)
+due_names f verdict end put o past by (Mute child) = by_life (is_live past child)
   where
     by_life : (b : Bool) → each_of f (made_by by (cond b (map (λ (k : ℕ). Settled child k Unsent) (filter (is_unsent past child) (open_jobs past child))) [])) ≡ []
     by_life true = verdicts_name f verdict by child Unsent (filter (is_unsent past child) (open_jobs past child))
     by_life false = refl
-due_names f verdict end o past by (Got child line) = by_due (due_by_got o past child line) (got_due o past child line)
+due_names f verdict end put o past by (Got child line) = by_due (due_by_got o past child line) (got_due o past child line)
   where
     by_due : (due : List What) → GotDue past child due → each_of f (made_by by due) ≡ []
     by_due due (inl e) = rw e refl
     by_due due (inr (inl e)) = rw (e.1, end child e.0) (verdicts_name f verdict by child (Ended e.0) (open_jobs past child))
-    by_due due (inr (inr e)) = rw (e.3, verdict child e.0 e.1) refl
-due_names f verdict end o past by w = refl
+    by_due due (inr (inr (inl e))) = rw (e.3, verdict child e.0 e.1) refl
+    by_due due (inr (inr (inr e))) = rw e.3 (replies_name f put past by child e.0 e.1)
+due_names f verdict end put o past by w = refl
 
 -- ---- a task's holder
 
@@ -154,8 +162,8 @@ held_step : (o : Opening) (past : List Entry) (by : ℕ) (w : What) (t : ℕ) �
     → Fits (holder (past ++ entry by w ∷ due_after o past (entry by w)) t) (is_claimed (past ++ entry by w ∷ due_after o past (entry by w)) t) (is_answered (past ++ entry by w ∷ due_after o past (entry by w)) t)
 held_step o past by w t f may =
     let due = due_after o past (entry by w) in
-    let c : each_of claimed due ≡ [] = due_names claimed (λ c j v. refl) (λ c why. refl) o past by w in
-    let a : each_of answered due ≡ [] = due_names answered (λ c j v. refl) (λ c why. refl) o past by w in
+    let c : each_of claimed due ≡ [] = due_names claimed (λ c j v. refl) (λ c why. refl) (λ c j l. refl) o past by w in
+    let a : each_of answered due ≡ [] = due_names answered (λ c j v. refl) (λ c why. refl) (λ c j l. refl) o past by w in
     let held : holder (past ++ entry by w ∷ due) t ≡ turned_by t (holder past t) by w =
     holder_append past (entry by w ∷ due) t ∙ unturned t (turned_by t (holder past t) by w) due c a in
     let claim : is_claimed (past ++ entry by w ∷ due) t ≡ (is_claimed past t || claims t w) =

@@ -1,5 +1,5 @@
 -- Groups that add to no part, and a request, keep what holds of each job's part in a legal journal.
-use Rattle.std.proofs.Common.{◌≡◌, ℕ, List, [], ◌∷◌, ◌++◌, ◌+◌, ◌≤◌, refl, sym, ap, subst, ◌∙◌, Bool, true, false, length, not, ◌==◌, cond, Some, None, Option, arith, length-append, ◌⊎◌, inl, inr}
+use Rattle.std.proofs.Common.{◌≡◌, ℕ, append_assoc, List, [], ◌∷◌, ◌++◌, ◌+◌, ◌≤◌, refl, sym, ap, subst, ◌∙◌, Bool, true, false, length, not, ◌==◌, cond, Some, None, Option, arith, length-append, ◌⊎◌, inl, inr}
 use Rattle.std.specs.Prelude.{◌&&◌, ◌||◌, ◌↔◌, map, filter}
 use Rattle.std.specs.List.{list_any, cons_option}
 use Rattle.std.specs.Option.{option_or}
@@ -7,7 +7,7 @@ use Rattle.std.proofs.lemmas.List.{append-nil}
 use Rattle.std.proofs.lemmas.List.Folds.{list_any-append}
 use Rattle.journal_model.specs.declared.verdict.Why.{Why}
 use Rattle.journal_model.specs.declared.verdict.Verdict.{Verdict}
-use Rattle.journal_model.specs.declared.verdict.Verdict.TheVariants.{Ended, Unsent}
+use Rattle.journal_model.specs.declared.verdict.Verdict.TheVariants.{Done as DoneAt, Ended, Unsent}
 use Rattle.annex_model.specs.Messages.{HostMessage, host_line, host_reading}
 use Rattle.annex_model.specs.Talks.{Item, Host, Talking, Shape, OneLine, Configs, Infos, shape_of, may_go_on}
 use Rattle.annex_model.proofs.Fronts.{front_of}
@@ -17,54 +17,70 @@ use Rattle.journal_model.specs.declared.entry.What.TheVariants.{Ask, Mute, Got, 
 use Rattle.journal_model.specs.declared.entry.Entry.{Entry}
 use Rattle.journal_model.specs.Journal.{asks, asked_jobs, first_of, verdict_in, verdict_of, has_spoken, got_from, got_lines, open_jobs, is_open, is_unsent, addressed}
 use Rattle.journal_model.specs.Parts.{part, part_from, is_place, is_for}
-use Rattle.journal_model.specs.Due.{due_after, made_by, ending}
+use Rattle.journal_model.specs.Due.{due_after, made_by, ending, replies_at}
 use Rattle.journal_model.specs.Legality.{may_come, asks_in_turn, is_greeted}
 use Rattle.journal_model.specs.Projection.{Fits, JobFits, PartIsAsked}
 use Rattle.journal_model.proofs.PartsGrow.{part-group, and_false}
 use Rattle.journal_model.proofs.Asking.{asked_text, read_askable}
+use Rattle.journal_model.proofs.Replying.{IsPlaced, longer}
 use Rattle.journal_model.proofs.Looks.{entry, is_asked, same_number, differ, both, either_left, true_not_false, each_of-append, any-append, verdict_of-append, or_none, filter_none, unasked_closed, silent_lines, settled_all, verdicts_part, verdicts_job, verdicts_one, none_unasked}
 
-abbrev pub none : ℕ → List (List ℕ)
-none at = []
-
-pub record Inv (past : List Entry) : Type 0 where
-  pub jobs : (c j : ℕ) → JobFits none past c j
+-- Replies are said of the journal that may come of this one, so that nothing has to be said again of an old part.
+pub record Inv (o : Opening) (past : List Entry) : Type 0 where
+  pub jobs : (rest : List Entry) (c j : ℕ) → JobFits (replies_at o (past ++ rest)) past c j
+  pub placed : (c : ℕ) → IsPlaced past c
   pub asked : (c j : ℕ) → PartIsAsked past c j
   pub silent : (c : ℕ) → has_spoken past c ≡ false → asked_jobs past c ≡ []
   pub fresh : (c j : ℕ) → length (asked_jobs past c) ≤ j → is_asked past c j ≡ false
+
+-- what held of the jobs, seen from behind a group
+pub earlier : (o : Opening) (past group rest : List Entry) (c j : ℕ) → Inv o past → Fits (replies_at o ((past ++ group) ++ rest)) (part past c j) (verdict_of past c j)
+earlier o past group rest c j inv =
+    subst (λ (journal : List Entry). Fits (replies_at o journal) (part past c j) (verdict_of past c j)) (sym (append_assoc past group rest)) (inv.jobs (group ++ rest) c j)
 
 -- ---- a group that asks nothing and adds to no part, and settles jobs by an end or a fault of writing alone
 
 abbrev IsEnding : Option Verdict → Type 0
 IsEnding v = (v ≡ None) ⊎ ((why : Why) × (v ≡ Some (Ended why))) ⊎ (v ≡ Some Unsent)
 
-ended_fits : (p : List Item) (v w : Option Verdict) → IsEnding w → (p ≡ [] → w ≡ None) → Fits none p v → Fits none p (option_or v w)
-ended_fits [] v w h z f = or_none v w (z refl) ∙ f
-ended_fits (i ∷ is) (Some v) w h z f = f
-ended_fits (i ∷ is) None w h z f = go h
+ended_fits : (replies : ℕ → List (List ℕ)) (p : List Item) (v w : Option Verdict) → IsEnding w → (p ≡ [] → w ≡ None) → Fits replies p v → Fits replies p (option_or v w)
+ended_fits replies [] v w h z f = or_none v w (z refl) ∙ f
+ended_fits replies (i ∷ is) (Some v) w h z f = f
+ended_fits replies (i ∷ is) None w h z f = go h
   where
-    go : IsEnding w → Fits none (i ∷ is) w
-    go (inl e) = subst (λ (x : Option Verdict). Fits none (i ∷ is) x) (sym e) f
-    go (inr (inl e)) = subst (λ (x : Option Verdict). Fits none (i ∷ is) x) (sym e.1) f
-    go (inr (inr e)) = subst (λ (x : Option Verdict). Fits none (i ∷ is) x) (sym e) f
+    go : IsEnding w → Fits replies (i ∷ is) w
+    go (inl e) = subst (λ (x : Option Verdict). Fits replies (i ∷ is) x) (sym e) f
+    go (inr (inl e)) = subst (λ (x : Option Verdict). Fits replies (i ∷ is) x) (sym e.1) f
+    go (inr (inr e)) = subst (λ (x : Option Verdict). Fits replies (i ∷ is) x) (sym e) f
 
-quiet : (o : Opening) (past : List Entry) (e : Entry) (due : List Entry) → Inv past → may_come o past e.by e.what ≡ true
+-- such a verdict names no line
+ending_done : (v w : Option Verdict) (at : ℕ) → IsEnding w → option_or v w ≡ Some (DoneAt at) → v ≡ Some (DoneAt at)
+ending_done (Some v) w at h e = e
+ending_done None w at (inl n) e = absurd (let bad : None ≡ Some (DoneAt at) = sym n ∙ e in cc)
+ending_done None w at (inr (inl n)) e = absurd (let bad : Some (Ended n.0) ≡ Some (DoneAt at) = sym n.1 ∙ e in cc)
+ending_done None w at (inr (inr n)) e = absurd (let bad : Some Unsent ≡ Some (DoneAt at) = sym n ∙ e in cc)
+
+quiet : (o : Opening) (past : List Entry) (e : Entry) (due : List Entry) → Inv o past → may_come o past e.by e.what ≡ true
     → ((c : ℕ) → asked_jobs (e ∷ due) c ≡ [])
     → ((c j : ℕ) → part_from c j past (e ∷ due) ≡ [])
     → ((c j : ℕ) → IsEnding (verdict_of (e ∷ due) c j))
     → ((c j : ℕ) → is_asked past c j ≡ false → verdict_of (e ∷ due) c j ≡ None)
-    → Inv (past ++ e ∷ due)
+    → Inv o (past ++ e ∷ due)
 quiet o past e due inv may no_job no_part ending unasked =
     let grown : (c j : ℕ) → part (past ++ e ∷ due) c j ≡ part past c j =
     λ c j. part-group o c j past e due may ∙ ap (λ (is : List Item). part past c j ++ is) (no_part c j) ∙ append-nil (part past c j) in
     let jobs : (c : ℕ) → asked_jobs (past ++ e ∷ due) c ≡ asked_jobs past c =
     λ c. each_of-append (asks c) past (e ∷ due) ∙ ap (λ (ks : List ℕ). asked_jobs past c ++ ks) (no_job c) ∙ append-nil (asked_jobs past c) in
     record {
-      jobs = λ c j. (
-          let kept : Fits none (part past c j) (option_or (verdict_of past c j) (verdict_of (e ∷ due) c j)) =
-          ended_fits (part past c j) (verdict_of past c j) (verdict_of (e ∷ due) c j) (ending c j) (λ empty. unasked c j ((inv.asked c j).0 empty)) (inv.jobs c j) in
-          let a = subst (λ (p : List Item). Fits none p (option_or (verdict_of past c j) (verdict_of (e ∷ due) c j))) (sym (grown c j)) kept in
-          subst (λ (v : Option Verdict). Fits none (part (past ++ e ∷ due) c j) v) (sym (verdict_of-append c j past (e ∷ due))) a);
+      jobs = λ rest c j. (
+          let replies : ℕ → List (List ℕ) = replies_at o ((past ++ e ∷ due) ++ rest) in
+          let kept : Fits replies (part past c j) (option_or (verdict_of past c j) (verdict_of (e ∷ due) c j)) =
+          ended_fits replies (part past c j) (verdict_of past c j) (verdict_of (e ∷ due) c j) (ending c j) (λ empty. unasked c j ((inv.asked c j).0 empty)) (earlier o past (e ∷ due) rest c j inv) in
+          let a = subst (λ (p : List Item). Fits replies p (option_or (verdict_of past c j) (verdict_of (e ∷ due) c j))) (sym (grown c j)) kept in
+          subst (λ (v : Option Verdict). Fits replies (part (past ++ e ∷ due) c j) v) (sym (verdict_of-append c j past (e ∷ due))) a);
+      placed = λ c j at h. (
+          let before = ending_done (verdict_of past c j) (verdict_of (e ∷ due) c j) at (ending c j) (sym (verdict_of-append c j past (e ∷ due)) ∙ h) in
+          longer at past (e ∷ due) (inv.placed c j at before));
       asked = λ c j. (
           let a = subst (λ (p : List Item). (p ≡ []) ↔ (is_asked past c j ≡ false)) (sym (grown c j)) (inv.asked c j) in
           subst (λ (ks : List ℕ). (part (past ++ e ∷ due) c j ≡ []) ↔ (list_any (λ k. k == j) ks ≡ false)) (sym (jobs c)) a);
@@ -86,8 +102,8 @@ ending_of_unsent : (v : Option Verdict) → (v ≡ None) ⊎ (v ≡ Some Unsent)
 ending_of_unsent v (inl e) = inl e
 ending_of_unsent v (inr e) = inr (inr e)
 
-pub end_inv : (o : Opening) (past : List Entry) (by child : ℕ) (why : Why) → Inv past → may_come o past by (End child why) ≡ true
-    → Inv (past ++ entry by (End child why) ∷ due_after o past (entry by (End child why)))
+pub end_inv : (o : Opening) (past : List Entry) (by child : ℕ) (why : Why) → Inv o past → may_come o past by (End child why) ≡ true
+    → Inv o (past ++ entry by (End child why) ∷ due_after o past (entry by (End child why)))
 end_inv o past by child why inv may =
     quiet o past (entry by (End child why)) (settled_all by child (Ended why) (open_jobs past child)) inv may
     (λ c. verdicts_job c by child (Ended why) (open_jobs past child))
@@ -95,8 +111,8 @@ end_inv o past by child why inv may =
     (λ c j. ending_of_end (verdict_of (settled_all by child (Ended why) (open_jobs past child)) c j) why (verdicts_one c j by child (Ended why) (open_jobs past child)))
     (λ c j h. none_unasked c j by child (Ended why) past (open_jobs past child) h (λ k closed. closed))
 
-pub mute_inv : (o : Opening) (past : List Entry) (by child : ℕ) (live : Bool) → Inv past → may_come o past by (Mute child) ≡ true
-    → Inv (past ++ entry by (Mute child) ∷ made_by by (cond live (map (λ (k : ℕ). Settled child k Unsent) (filter (is_unsent past child) (open_jobs past child))) []))
+pub mute_inv : (o : Opening) (past : List Entry) (by child : ℕ) (live : Bool) → Inv o past → may_come o past by (Mute child) ≡ true
+    → Inv o (past ++ entry by (Mute child) ∷ made_by by (cond live (map (λ (k : ℕ). Settled child k Unsent) (filter (is_unsent past child) (open_jobs past child))) []))
 mute_inv o past by child false inv may =
     quiet o past (entry by (Mute child)) [] inv may (λ c. refl) (λ c j. refl) (λ c j. inl refl) (λ c j h. refl)
 mute_inv o past by child true inv may =
@@ -107,9 +123,9 @@ mute_inv o past by child true inv may =
     (λ c j. ending_of_unsent (verdict_of (settled_all by child Unsent ks) c j) (verdicts_one c j by child Unsent ks))
     (λ c j h. none_unasked c j by child Unsent past ks h (λ k closed. filter_none (λ x. x == k) (is_unsent past child) (open_jobs past child) closed))
 
-pub plain_inv : (o : Opening) (past : List Entry) (by : ℕ) (w : What) → Inv past → may_come o past by w ≡ true
+pub plain_inv : (o : Opening) (past : List Entry) (by : ℕ) (w : What) → Inv o past → may_come o past by w ≡ true
     → ((c : ℕ) → asks c w ≡ None) → ((c j : ℕ) → part_from c j past (entry by w ∷ []) ≡ []) → ((c j : ℕ) → verdict_in c j w ≡ None)
-    → Inv (past ++ entry by w ∷ [])
+    → Inv o (past ++ entry by w ∷ [])
 plain_inv o past by w inv may n p v =
     quiet o past (entry by w) [] inv may
     (λ c. ap (λ (x : Option ℕ). cons_option x []) (n c))
@@ -120,8 +136,8 @@ plain_inv o past by w inv may n p v =
 -- ---- a request
 
 -- a child is asked behind its first line alone
-greeted : (past : List Entry) (c : ℕ) → Inv past → is_greeted past c (length (asked_jobs past c)) ≡ true → has_spoken past c ≡ true
-greeted past c inv allows = go (has_spoken past c) refl
+greeted : (o : Opening) (past : List Entry) (c : ℕ) → Inv o past → is_greeted past c (length (asked_jobs past c)) ≡ true → has_spoken past c ≡ true
+greeted o past c inv allows = go (has_spoken past c) refl
   where
     go : (b : Bool) → has_spoken past c ≡ b → has_spoken past c ≡ true
     go true e = e
@@ -182,17 +198,17 @@ ask_asked p ks i true true job j e f =
     let more : list_any (λ k. k == j) (ks ++ job ∷ []) ≡ (list_any (λ k. k == j) ks || (true || false)) = list_any-append (λ k. k == j) ks (job ∷ []) ∙ rw e refl in
     (λ h. absurd (no_push p i h), λ h. absurd (not_both (list_any (λ k. k == j) ks) (sym more ∙ h)))
 
-ask_fits : (p : List Item) (v : Option Verdict) (i : Item) (b : Bool) → Fits none p v
-    → (b ≡ true → (p ≡ []) × Fits none (i ∷ []) None)
-    → Fits none (with_item p b i) (option_or v None)
-ask_fits p v i false f new =
-    let a = subst (λ (x : List Item). Fits none x v) (sym (append-nil p)) f in
-    subst (λ (x : Option Verdict). Fits none (p ++ []) x) (sym (or_none v None refl)) a
-ask_fits p v i true f new =
+ask_fits : (replies : ℕ → List (List ℕ)) (p : List Item) (v : Option Verdict) (i : Item) (b : Bool) → Fits replies p v
+    → (b ≡ true → (p ≡ []) × Fits replies (i ∷ []) None)
+    → Fits replies (with_item p b i) (option_or v None)
+ask_fits replies p v i false f new =
+    let a = subst (λ (x : List Item). Fits replies x v) (sym (append-nil p)) f in
+    subst (λ (x : Option Verdict). Fits replies (p ++ []) x) (sym (or_none v None refl)) a
+ask_fits replies p v i true f new =
     let facts = new refl in
-    let unsettled : v ≡ None = subst (λ (x : List Item). Fits none x v) facts.0 f in
-    let a = subst (λ (x : List Item). Fits none (x ++ i ∷ []) None) (sym facts.0) facts.1 in
-    subst (λ (x : Option Verdict). Fits none (p ++ i ∷ []) (option_or x None)) (sym unsettled) a
+    let unsettled : v ≡ None = subst (λ (x : List Item). Fits replies x v) facts.0 f in
+    let a = subst (λ (x : List Item). Fits replies (x ++ i ∷ []) None) (sym facts.0) facts.1 in
+    subst (λ (x : Option Verdict). Fits replies (p ++ i ∷ []) (option_or x None)) (sym unsettled) a
 
 waits_first : (s : Shape) → may_go_on s [] ≡ true
 waits_first OneLine = refl
@@ -200,39 +216,43 @@ waits_first Configs = refl
 waits_first Infos = refl
 
 -- a request alone talks
-alone_fits : (at : ℕ) (text : List ℕ) (q : HostMessage) → host_reading text ≡ Some q → text ≡ host_line q
-    → Fits none (record { side = Host; at = at; text = text } ∷ []) None
-alone_fits at text q reads written =
+alone_fits : (replies : ℕ → List (List ℕ)) (at : ℕ) (text : List ℕ) (q : HostMessage) → host_reading text ≡ Some q → text ≡ host_line q
+    → Fits replies (record { side = Host; at = at; text = text } ∷ []) None
+alone_fits replies at text q reads written =
     let part : List Item = record { side = Host; at = at; text = text } ∷ [] in
     let askable = read_askable q text reads in
-    let talking : Talking none q part = record { replied = ap (λ (x : List ℕ). (Host, x) ∷ []) written; waits = waits_first (shape_of q) } in
-    (q, reads, askable, record { talking = talking; front = front_of none q part talking })
+    let talking : Talking replies q part = record { replied = ap (λ (x : List ℕ). (Host, x) ∷ []) written; waits = waits_first (shape_of q) } in
+    (q, reads, askable, record { talking = talking; front = front_of replies q part talking })
 
-pub ask_inv : (o : Opening) (past : List Entry) (by child job task : ℕ) (line : List ℕ) → Inv past → may_come o past by (Ask child job task line) ≡ true
+pub ask_inv : (o : Opening) (past : List Entry) (by child job task : ℕ) (line : List ℕ) → Inv o past → may_come o past by (Ask child job task line) ≡ true
     → (job == length (asked_jobs past child)) ≡ true → asks_in_turn past child job line (host_reading (addressed past child line).1) ≡ true
     → is_greeted past child (length (asked_jobs past child)) ≡ true
-    → Inv (past ++ entry by (Ask child job task line) ∷ [])
+    → Inv o (past ++ entry by (Ask child job task line) ∷ [])
 ask_inv o past by child job task line inv may next in_turn allows =
     let e : Entry = entry by (Ask child job task line) in
     let item : ℕ → Item = λ (c : ℕ). record { side = Host; at = length past; text = (addressed past c line).1 } in
     let number : job ≡ length (asked_jobs past child) = same_number job (length (asked_jobs past child)) next in
     let new : is_asked past child job ≡ false = inv.fresh child job (omega (arith, number)) in
     let q = asked_text past child job line (host_reading (addressed past child line).1) refl in_turn in
-    let spoken : has_spoken past child ≡ true = greeted past child inv allows in
-    let talks : Fits none (item child ∷ []) None = alone_fits (length past) (addressed past child line).1 q.0 q.1 q.2 in
+    let spoken : has_spoken past child ≡ true = greeted o past child inv allows in
+    let talks : (replies : ℕ → List (List ℕ)) → Fits replies (item child ∷ []) None = λ replies. alone_fits replies (length past) (addressed past child line).1 q.0 q.1 q.2 in
     let grown : (c j : ℕ) → part (past ++ e ∷ []) c j ≡ with_item (part past c j) (child == c && job == j) (item c) = λ c j. part-group o c j past e [] may in
     let jobs : (c : ℕ) → asked_jobs (past ++ e ∷ []) c ≡ with_job (asked_jobs past c) (child == c) job = λ c. each_of-append (asks c) past (e ∷ []) in
     record {
-      jobs = λ c j. (
-          let base = ask_fits (part past c j) (verdict_of past c j) (item c) (child == c && job == j) (inv.jobs c j)
+      jobs = λ rest c j. (
+          let replies : ℕ → List (List ℕ) = replies_at o ((past ++ e ∷ []) ++ rest) in
+          let base = ask_fits replies (part past c j) (verdict_of past c j) (item c) (child == c && job == j) (earlier o past (e ∷ []) rest c j inv)
           (λ one.
           let here = both (child == c) (job == j) one in
           let C : child ≡ c = same_number child c here.0 in
           let J : job ≡ j = same_number job j here.1 in
-          let at_c = subst (λ (x : ℕ). (part past x job ≡ []) × Fits none (item x ∷ []) None) C ((inv.asked child job).1 new, talks) in
-          subst (λ (x : ℕ). (part past c x ≡ []) × Fits none (item c ∷ []) None) J at_c) in
-          let a = subst (λ (x : List Item). Fits none x (option_or (verdict_of past c j) None)) (sym (grown c j)) base in
-          subst (λ (x : Option Verdict). Fits none (part (past ++ e ∷ []) c j) x) (sym (verdict_of-append c j past (e ∷ []))) a);
+          let at_c = subst (λ (x : ℕ). (part past x job ≡ []) × Fits replies (item x ∷ []) None) C ((inv.asked child job).1 new, talks replies) in
+          subst (λ (x : ℕ). (part past c x ≡ []) × Fits replies (item c ∷ []) None) J at_c) in
+          let a = subst (λ (x : List Item). Fits replies x (option_or (verdict_of past c j) None)) (sym (grown c j)) base in
+          subst (λ (x : Option Verdict). Fits replies (part (past ++ e ∷ []) c j) x) (sym (verdict_of-append c j past (e ∷ []))) a);
+      placed = λ c j at h. (
+          let before : verdict_of past c j ≡ Some (DoneAt at) = sym (verdict_of-append c j past (e ∷ []) ∙ or_none (verdict_of past c j) None refl) ∙ h in
+          longer at past (e ∷ []) (inv.placed c j at before));
       asked = λ c j. (
           let base = ask_asked (part past c j) (asked_jobs past c) (item c) (child == c) (job == j) job j refl (inv.asked c j) in
           let a = subst (λ (x : List Item). (x ≡ []) ↔ (list_any (λ k. k == j) (with_job (asked_jobs past c) (child == c) job) ≡ false)) (sym (grown c j)) base in
@@ -253,9 +273,9 @@ shut : (a x y p : Bool) → p ≡ true → (a && x && y && not (a && p)) ≡ fal
 shut true x y p h = rw h (and_false (x && y) false refl)
 shut false x y p h = refl
 
-pub foul_inv : (o : Opening) (past : List Entry) (by child : ℕ) (line : List ℕ) (why : Why) → Inv past → may_come o past by (Got child line) ≡ true
+pub foul_inv : (o : Opening) (past : List Entry) (by child : ℕ) (line : List ℕ) (why : Why) → Inv o past → may_come o past by (Got child line) ≡ true
     → is_place (length past) why ≡ true
-    → Inv (past ++ entry by (Got child line) ∷ made_by by (ending past child why))
+    → Inv o (past ++ entry by (Got child line) ∷ made_by by (ending past child why))
 foul_inv o past by child line why inv may named =
     let ks = open_jobs past child in
     quiet o past (entry by (Got child line)) (entry by (End child why) ∷ settled_all by child (Ended why) ks) inv may
@@ -268,8 +288,8 @@ foul_inv o past by child line why inv may named =
     closed_item c j = shut (child == c) (is_for j (addressed past c line).0) (is_open past c j) (is_place (length past) why) named
 
 -- a line that is for no open job, and makes nothing due
-pub passed_inv : (o : Opening) (past : List Entry) (by child : ℕ) (line : List ℕ) → Inv past → may_come o past by (Got child line) ≡ true
-    → ((j : ℕ) → (is_for j (addressed past child line).0 && is_open past child j) ≡ false) → Inv (past ++ entry by (Got child line) ∷ [])
+pub passed_inv : (o : Opening) (past : List Entry) (by child : ℕ) (line : List ℕ) → Inv o past → may_come o past by (Got child line) ≡ true
+    → ((j : ℕ) → (is_for j (addressed past child line).0 && is_open past child j) ≡ false) → Inv o (past ++ entry by (Got child line) ∷ [])
 passed_inv o past by child line inv may closed =
     plain_inv o past by (Got child line) inv may (λ c. refl) (λ c j. rw (closed_item c j (child == c) refl) refl) (λ c j. refl)
   where
@@ -280,8 +300,8 @@ passed_inv o past by child line inv may closed =
         subst (λ (x : ℕ). (is_for j (addressed past x line).0 && is_open past x j) ≡ false) (same_number child c e) (closed j) in
         ap (λ (b : Bool). b && true) here
 
-pub greet_inv : (o : Opening) (past : List Entry) (by child : ℕ) (line : List ℕ) → Inv past → may_come o past by (Got child line) ≡ true
-    → has_spoken past child ≡ false → Inv (past ++ entry by (Got child line) ∷ [])
+pub greet_inv : (o : Opening) (past : List Entry) (by child : ℕ) (line : List ℕ) → Inv o past → may_come o past by (Got child line) ≡ true
+    → has_spoken past child ≡ false → Inv o (past ++ entry by (Got child line) ∷ [])
 greet_inv o past by child line inv may silent =
     passed_inv o past by child line inv may
     (λ j.

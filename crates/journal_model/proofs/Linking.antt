@@ -1,10 +1,10 @@
 -- Each event of a link keeps it wired to the journal.
-use Rattle.std.proofs.Common.{zero, suc, ◌≡◌, ℕ, ◌+◌, ◌≤◌, ◌<◌, List, [], ◌∷◌, ◌++◌, refl, sym, ap, subst, ◌∙◌, Bool, true, false, not, cond, Some, None, Option, length, take, drop, append_assoc, append-nil, arith, length-append, length-drop}
+use Rattle.std.proofs.Common.{◌≡◌, ℕ, ◌+◌, ◌≤◌, ◌<◌, List, [], ◌∷◌, ◌++◌, refl, sym, ap, subst, ◌∙◌, Bool, true, false, not, cond, Some, None, Option, length, take, drop, append_assoc, append-nil, arith, length-append, length-drop}
 use Rattle.std.specs.Prelude.{◌||◌, IfSome, map, filter, option_and_then, find, is_some}
 use Rattle.std.specs.Option.{option_or}
 use Rattle.std.specs.Io.KnownBytes.{Appends}
-use Rattle.std.proofs.lemmas.List.{take-append-le}
-use Rattle.std.proofs.Math.Seq.{take-add}
+use Rattle.std.proofs.lemmas.List.{take-append-le, drop-append-le}
+use Rattle.std.proofs.Math.Seq.{take-add, take-nil}
 use Rattle.std.proofs.lemmas.List.Elements.{filter-append}
 use Rattle.annex_model.specs.Lines.{text, Cut}
 use Rattle.journal_model.specs.declared.verdict.Why.{Why}
@@ -80,10 +80,6 @@ pub record Adds (c : ℕ) (more : List Entry) (gots : List (List ℕ)) (ws : Wri
   pub mutes : is_mute more c ≡ muted
   pub ends : why_of more c ≡ why
 
--- a soft stretch adds no lines and no writings
-soft_adds : (c : ℕ) (more : List Entry) → IsSoft c more → Adds c more [] [] 0 false (why_of more c)
-soft_adds c more s = record { got = s.got; written = s.written; covers = ap (λ (l : List Entry). length l) s.sent; mutes = s.muted; ends = refl }
-
 -- ---- halves that tell
 
 -- what is told grows, and so does what is known of it
@@ -112,40 +108,53 @@ calm false true true y h = absurd cc
 calm false true false y h = absurd cc
 calm false false x y h = refl
 
--- a stretch that writes and covers nothing changes nothing of it
-took_same : (past more : List Entry) (c : ℕ) (gots : List (List ℕ)) (muted : Bool) (why : Option Why) (t : List ℕ)
-    → Adds c more gots [] 0 muted why → Took past c t → Took (past ++ more) c t
-took_same past more c gots muted why t a k =
-    let W = each_of (writes c) past in
-    let w : each_of (writes c) (past ++ more) ≡ W = each_of-append (writes c) past more ∙ ap (λ (ws : Written). W ++ ws) a.written ∙ append-nil W in
-    let n : sent_count (past ++ more) c ≡ sent_count past c = omega (arith, sent_count-append past more c, a.covers) in
-    record {
+-- a stretch that covers nothing changes nothing of it, though it may write
+took_more : (past more : List Entry) (c : ℕ) (gots : List (List ℕ)) (ws : Written) (muted : Bool) (why : Option Why) (t : List ℕ)
+    → Adds c more gots ws 0 muted why → sent_count past c ≤ length (each_of (writes c) past) → Took past c t → Took (past ++ more) c t
+took_more past more c gots ws muted why t a covered k = go (unsent past c) refl
+  where
+    W : Written
+    W = each_of (writes c) past
+
+    w : each_of (writes c) (past ++ more) ≡ W ++ ws
+    w = each_of-append (writes c) past more ∙ ap (λ (x : Written). W ++ x) a.written
+
+    n : sent_count (past ++ more) c ≡ sent_count past c
+    n = omega (arith, sent_count-append past more c, a.covers)
+
+    lines : sent_lines (past ++ more) c ≡ sent_lines past c
+    lines =
+        ap (λ (m : ℕ). map (λ (x : Option ℕ × List ℕ). x.1) (take m (each_of (writes c) (past ++ more)))) n
+        ∙ ap (λ (x : Written). map (λ (y : Option ℕ × List ℕ). y.1) (take (sent_count past c) x)) w
+        ∙ ap (map (λ (y : Option ℕ × List ℕ). y.1)) (take-append-le (sent_count past c) W ws covered)
+
+    rest : unsent (past ++ more) c ≡ unsent past c ++ ws
+    rest =
+        ap (λ (m : ℕ). drop m (each_of (writes c) (past ++ more))) n
+        ∙ ap (drop (sent_count past c)) w
+        ∙ drop-append-le (sent_count past c) W ws covered
+
+    go : (us : Written) → unsent past c ≡ us → Took (past ++ more) c t
+    go [] e = record {
+      begun = 0;
+      bytes =
+          k.bytes
+          ∙ ap (λ (us : Written). text (sent_lines past c) ++ take k.begun (next_text us)) e
+          ∙ ap (λ (x : List ℕ). text (sent_lines past c) ++ x) (take-nil k.begun)
+          ∙ ap (λ (ls : List (List ℕ)). text ls ++ []) (sym lines);
+      whole = λ h. refl;
+    }
+    go (u ∷ us) e = record {
       begun = k.begun;
       bytes =
           k.bytes
-          ∙ ap (λ (ws : Written). text (map (λ (x : Option ℕ × List ℕ). x.1) (take (sent_count past c) ws)) ++ take k.begun (next_text (drop (sent_count past c) ws))) (sym w)
-          ∙ ap (λ (m : ℕ). text (map (λ (x : Option ℕ × List ℕ). x.1) (take m (each_of (writes c) (past ++ more)))) ++ take k.begun (next_text (drop m (each_of (writes c) (past ++ more))))) (sym n);
+          ∙ ap (λ (us : Written). text (sent_lines past c) ++ take k.begun (next_text us)) e
+          ∙ ap (λ (ls : List (List ℕ)). text ls ++ take k.begun (next_text (u ∷ []))) (sym lines)
+          ∙ ap (λ (us : Written). text (sent_lines (past ++ more) c) ++ take k.begun (next_text us)) (sym (rest ∙ ap (λ (us : Written). us ++ ws) e));
       whole = λ h.
           k.whole (calm (is_mute past c) (is_ended past c) (is_mute more c) (is_ended more c)
           (ap (λ (b : Bool). not (b || (is_ended past c || is_ended more c))) (sym (any-append (mutes c) past more))
           ∙ ap (λ (b : Bool). not (is_mute (past ++ more) c || b)) (sym (any-append (ends c) past more)) ∙ h));
-    }
-
--- a new line to write
-took_ask : (past more : List Entry) (c : ℕ) (ws : Written) (t : List ℕ) → Adds c more [] ws 0 false None
-    → sent_count past c ≤ length (each_of (writes c) past) → is_mute past c ≡ false → is_ended past c ≡ false → Took past c t → Took (past ++ more) c t
-took_ask past more c ws t a covered m e k =
-    let W = each_of (writes c) past in
-    let w : each_of (writes c) (past ++ more) ≡ W ++ ws = each_of-append (writes c) past more ∙ ap (λ (x : Written). W ++ x) a.written in
-    let n : sent_count (past ++ more) c ≡ sent_count past c = omega (arith, sent_count-append past more c, a.covers) in
-    let lines : sent_lines (past ++ more) c ≡ sent_lines past c =
-    ap (λ (m : ℕ). map (λ (x : Option ℕ × List ℕ). x.1) (take m (each_of (writes c) (past ++ more)))) n
-    ∙ ap (λ (x : Written). map (λ (y : Option ℕ × List ℕ). y.1) (take (sent_count past c) x)) w
-    ∙ ap (map (λ (y : Option ℕ × List ℕ). y.1)) (take-append-le (sent_count past c) W ws covered) in
-    record {
-      begun = 0;
-      bytes = took_rest past c t k m e ∙ ap text (sym lines) ∙ sym (append-nil (text (sent_lines (past ++ more) c)));
-      whole = λ h. refl;
     }
 
 -- the next line was written whole
@@ -173,18 +182,19 @@ took_sent past more c w ws t a next m e k =
     }
 
 -- writing stopped in the next line
-took_mute : (past more : List Entry) (c : ℕ) (w : Option ℕ × List ℕ) (ws : Written) (n : ℕ) (why : Option Why) (t : List ℕ) → Adds c more [] [] 0 true why
-    → unsent past c ≡ w ∷ ws → is_mute past c ≡ false → is_ended past c ≡ false → Took past c t → Took (past ++ more) c (t ++ take n (w.1 ++ 10 ∷ []))
-took_mute past more c w ws n why t a next m e k =
+took_mute : (past more : List Entry) (c : ℕ) (w : Option ℕ × List ℕ) (ws : Written) (n : ℕ) (added : Written) (why : Option Why) (t : List ℕ) → Adds c more [] added 0 true why
+    → sent_count past c ≤ length (each_of (writes c) past) → unsent past c ≡ w ∷ ws → is_mute past c ≡ false → is_ended past c ≡ false → Took past c t → Took (past ++ more) c (t ++ take n (w.1 ++ 10 ∷ []))
+took_mute past more c w ws n added why t a covered next m e k =
     let W = each_of (writes c) past in
     let S = sent_count past c in
-    let w' : each_of (writes c) (past ++ more) ≡ W = each_of-append (writes c) past more ∙ ap (λ (x : Written). W ++ x) a.written ∙ append-nil W in
+    let w' : each_of (writes c) (past ++ more) ≡ W ++ added = each_of-append (writes c) past more ∙ ap (λ (x : Written). W ++ x) a.written in
     let s : sent_count (past ++ more) c ≡ S = omega (arith, sent_count-append past more c, a.covers) in
     let lines : sent_lines (past ++ more) c ≡ sent_lines past c =
     ap (λ (m : ℕ). map (λ (x : Option ℕ × List ℕ). x.1) (take m (each_of (writes c) (past ++ more)))) s
-    ∙ ap (λ (x : Written). map (λ (y : Option ℕ × List ℕ). y.1) (take S x)) w' in
-    let rest : unsent (past ++ more) c ≡ w ∷ ws =
-    ap (λ (m : ℕ). drop m (each_of (writes c) (past ++ more))) s ∙ ap (drop S) w' ∙ next in
+    ∙ ap (λ (x : Written). map (λ (y : Option ℕ × List ℕ). y.1) (take S x)) w'
+    ∙ ap (map (λ (y : Option ℕ × List ℕ). y.1)) (take-append-le S W added covered) in
+    let rest : unsent (past ++ more) c ≡ w ∷ (ws ++ added) =
+    ap (λ (m : ℕ). drop m (each_of (writes c) (past ++ more))) s ∙ ap (drop S) w' ∙ drop-append-le S W added covered ∙ ap (λ (x : Written). x ++ added) next in
     record {
       begun = n;
       bytes =
@@ -243,12 +253,12 @@ pub linked_got : (past due : List Entry) (c by : ℕ) (line : List ℕ) (given l
     → Linked (past ++ record { by = by; what = Got c line } ∷ due) c given left taken rf wf held'
 linked_got past due c by line given left taken rf wf held held' soft live cut h = record {
   started = started_more past more c h.started;
-  covered = covered_more past more c [] 0 adds.covers adds.written (omega (arith, h.covered));
+  covered = covered_more past more c (each_of (writes c) due) 0 adds.covers adds.written (omega (arith, h.covered));
   wired = record {
     heard = told_maps (λ read. Cut read (got_lines past c) held) (λ read. Cut read (got_lines (past ++ more) c) held') given
         (λ read x. subst (λ (ls : List (List ℕ)). Cut read ls held') (sym (got_more past more c (line ∷ []) adds.got)) (cut read (got_lines past c) x)) h.wired.heard;
     ended = subst (λ (o : Option Why). IfSome o (λ why. RestFits why held')) (sym ended) (soft_fits (why_of due c) held' soft.why);
-    took = told_maps (Took past c) (Took (past ++ more) c) taken (λ t. took_same past more c (line ∷ []) false (why_of due c) t adds) h.wired.took;
+    took = told_maps (Took past c) (Took (past ++ more) c) taken (λ t. took_more past more c (line ∷ []) (each_of (writes c) due) false (why_of due c) t adds h.covered) h.wired.took;
   };
   caused = record {
     eof = λ e. absurd (not_soft Eof refl (soft.why Eof (sym ended ∙ e)));
@@ -260,10 +270,10 @@ linked_got past due c by line given left taken rf wf held held' soft live cut h 
     more : List Entry
     more = record { by = by; what = Got c line } ∷ due
 
-    adds : Adds c more (line ∷ []) [] 0 false (why_of due c)
+    adds : Adds c more (line ∷ []) (each_of (writes c) due) 0 false (why_of due c)
     adds = record {
       got = rw (same c) (ap (λ (x : List (List ℕ)). line ∷ x) soft.got);
-      written = soft.written;
+      written = refl;
       covers = ap (λ (l : List Entry). length l) soft.sent;
       mutes = soft.muted;
       ends = refl;
@@ -283,12 +293,12 @@ pub linked_stop : (past due : List Entry) (c by : ℕ) (why : Why) (given left t
     → Linked (past ++ record { by = by; what = End c why } ∷ due) c given left taken rf wf held
 linked_stop past due c by why given left taken rf wf held soft live fits eof fault h = record {
   started = started_more past more c h.started;
-  covered = covered_more past more c [] 0 adds.covers adds.written (omega (arith, h.covered));
+  covered = covered_more past more c (each_of (writes c) due) 0 adds.covers adds.written (omega (arith, h.covered));
   wired = record {
     heard = told_maps (λ read. Cut read (got_lines past c) held) (λ read. Cut read (got_lines (past ++ more) c) held) given
         (λ read x. subst (λ (ls : List (List ℕ)). Cut read ls held) (sym (got_more past more c [] adds.got ∙ append-nil (got_lines past c))) x) h.wired.heard;
     ended = subst (λ (o : Option Why). IfSome o (λ y. RestFits y held)) (sym ended) fits;
-    took = told_maps (Took past c) (Took (past ++ more) c) taken (λ t. took_same past more c [] false (Some why) t adds) h.wired.took;
+    took = told_maps (Took past c) (Took (past ++ more) c) taken (λ t. took_more past more c [] (each_of (writes c) due) false (Some why) t adds h.covered) h.wired.took;
   };
   caused = record {
     eof = λ e. eof (some_same why Eof (sym ended ∙ e));
@@ -300,10 +310,10 @@ linked_stop past due c by why given left taken rf wf held soft live fits eof fau
     more : List Entry
     more = record { by = by; what = End c why } ∷ due
 
-    adds : Adds c more [] [] 0 false (Some why)
+    adds : Adds c more [] (each_of (writes c) due) 0 false (Some why)
     adds = record {
       got = soft.got;
-      written = soft.written;
+      written = refl;
       covers = ap (λ (l : List Entry). length l) soft.sent;
       mutes = soft.muted;
       ends = rw (same c, same c) refl;
@@ -327,7 +337,7 @@ linked_ask past c by job task line given left taken rf wf held live loud h = rec
     heard = told_maps (λ read. Cut read (got_lines past c) held) (λ read. Cut read (got_lines (past ++ more) c) held) given
         (λ read x. subst (λ (ls : List (List ℕ)). Cut read ls held) (sym (got_more past more c [] adds.got ∙ append-nil (got_lines past c))) x) h.wired.heard;
     ended = subst (λ (o : Option Why). IfSome o (λ y. RestFits y held)) (sym ended) tt;
-    took = told_maps (Took past c) (Took (past ++ more) c) taken (λ t. took_ask past more c ((Some job, line) ∷ []) t adds h.covered loud live) h.wired.took;
+    took = told_maps (Took past c) (Took (past ++ more) c) taken (λ t. took_more past more c [] ((Some job, line) ∷ []) false None t adds h.covered) h.wired.took;
   };
   caused = record {
     eof = λ e. absurd (none_some Eof (sym ended ∙ e));
@@ -394,12 +404,12 @@ pub linked_mute : (past due : List Entry) (c by n : ℕ) (w : Option ℕ × List
     → Linked (past ++ record { by = by; what = Mute c } ∷ due) c given left taken' rf wf' held
 linked_mute past due c by n w ws given left taken taken' rf wf wf' held soft still live loud next grows silent fault h = record {
   started = started_more past more c h.started;
-  covered = covered_more past more c [] 0 adds.covers adds.written (omega (arith, h.covered));
+  covered = covered_more past more c (each_of (writes c) due) 0 adds.covers adds.written (omega (arith, h.covered));
   wired = record {
     heard = told_maps (λ read. Cut read (got_lines past c) held) (λ read. Cut read (got_lines (past ++ more) c) held) given
         (λ read x. subst (λ (ls : List (List ℕ)). Cut read ls held) (sym (got_more past more c [] adds.got ∙ append-nil (got_lines past c))) x) h.wired.heard;
     ended = subst (λ (o : Option Why). IfSome o (λ y. RestFits y held)) (sym ended) tt;
-    took = told_grows (Took past c) (Took (past ++ more) c) taken taken' (take n (w.1 ++ 10 ∷ [])) grows silent (λ t. took_mute past more c w ws n None t adds next loud live) h.wired.took;
+    took = told_grows (Took past c) (Took (past ++ more) c) taken taken' (take n (w.1 ++ 10 ∷ [])) grows silent (λ t. took_mute past more c w ws n (each_of (writes c) due) None t adds h.covered next loud live) h.wired.took;
   };
   caused = record {
     eof = λ e. absurd (none_some Eof (sym ended ∙ e));
@@ -411,10 +421,10 @@ linked_mute past due c by n w ws given left taken taken' rf wf wf' held soft sti
     more : List Entry
     more = record { by = by; what = Mute c } ∷ due
 
-    adds : Adds c more [] [] 0 true None
+    adds : Adds c more [] (each_of (writes c) due) 0 true None
     adds = record {
       got = soft.got;
-      written = soft.written;
+      written = refl;
       covers = ap (λ (l : List Entry). length l) soft.sent;
       mutes = rw (same c) refl;
       ends = unended due c still;
@@ -462,7 +472,7 @@ linked_apart past more c given left taken rf wf held adds h = record {
     heard = told_maps (λ read. Cut read (got_lines past c) held) (λ read. Cut read (got_lines (past ++ more) c) held) given
         (λ read x. subst (λ (ls : List (List ℕ)). Cut read ls held) (sym (got_more past more c [] adds.got ∙ append-nil (got_lines past c))) x) h.wired.heard;
     ended = subst (λ (o : Option Why). IfSome o (λ y. RestFits y held)) (sym ended) h.wired.ended;
-    took = told_maps (Took past c) (Took (past ++ more) c) taken (λ t. took_same past more c [] false None t adds) h.wired.took;
+    took = told_maps (Took past c) (Took (past ++ more) c) taken (λ t. took_more past more c [] [] false None t adds h.covered) h.wired.took;
   };
   caused = record {
     eof = λ e. h.caused.eof (sym ended ∙ e);
@@ -528,7 +538,3 @@ linked_start past c by slot offer given left taken rf wf nothing g t = record {
 
     not_mute : false ≡ true → ⊥
     not_mute e = cc
-
-    take-nil : (n : ℕ) → take n (let e : Written = [] in e) ≡ []
-    take-nil zero = refl
-    take-nil (suc n) = refl

@@ -9,15 +9,16 @@ use Rattle.journal_model.specs.declared.verdict.Verdict.{Verdict}
 use Rattle.journal_model.specs.declared.verdict.Verdict.TheVariants.{Ended, Unsent}
 use Rattle.journal_model.specs.declared.opening.Opening.{Opening}
 use Rattle.journal_model.specs.declared.entry.What.{What}
-use Rattle.journal_model.specs.declared.entry.What.TheVariants.{Claim, Start, NoStart, Ask, Put, Sent, Mute, Got, End, Verdict as Settled, Lost, Answer as Answered}
+use Rattle.journal_model.specs.declared.entry.What.TheVariants.{Claim, Start, NoStart, Ask, Put, Sent, Mute, Got, End, Verdict as Settled, Lost, Answer as Answered, Note as Noted}
 use Rattle.journal_model.specs.declared.entry.Entry.{Entry}
-use Rattle.journal_model.specs.Journal.{each_of, asks, asked_jobs, writes, sends, unsent, settles, starts, ends, mutes, is_settled, is_started, is_ended, is_mute, is_live, is_open, is_unsent, open_jobs}
-use Rattle.journal_model.specs.Due.{due_after, due_by_got, made_by}
-use Rattle.journal_model.specs.Legality.{Legal, may_come, may_stop, is_number, is_free, numbers_of, claims, answers, is_claimed, is_answered, holder, is_empty}
-use Rattle.journal_model.specs.Room.{room_for, room_of}
+use Rattle.journal_model.specs.Journal.{each_of, on_wire, asks, asked_jobs, writes, sends, unsent, settles, starts, ends, mutes, is_settled, is_started, is_ended, is_mute, is_live, is_open, is_unsent, open_jobs}
+use Rattle.journal_model.specs.Due.{due_after, due_by_got, made_by, replying}
+use Rattle.journal_model.specs.Legality.{Legal, may_come, may_stop, is_number, is_free, numbers_of, claims, answers, is_claimed, is_answered, holder, is_empty, count}
+use Rattle.journal_model.specs.Registers.{is_got}
+use Rattle.journal_model.specs.Room.{room_for, room_for_all, room_of, is_put}
 use Rattle.journal_model.proofs.Growing.{Legal-induction}
 use Rattle.journal_model.proofs.Looks.{entry, same_number, both, each_of-append, settled_all}
-use Rattle.journal_model.proofs.Holding.{claimed, answered, GotDue, got_due, verdicts_name, due_names, not_true, held_busy, held_unanswered}
+use Rattle.journal_model.proofs.Holding.{claimed, answered, GotDue, got_due, verdicts_name, replies_name, due_names, not_true, held_busy, held_unanswered}
 use Rattle.journal_model.proofs.Counting.{IsSame, same_nat, nat_is_same, same_pair, pair_is_same, Pair, one, many, many-cons, many-append, AtMost, AtMost-length, more_none, more_one, holds, named_none, named_some, named_count, named_length, is_there, filter_at_most, filter_drops}
 
 -- ---- whom an entry names
@@ -113,7 +114,7 @@ claims_step o past by (Claim task child) h may =
     subst (λ (xs : List ℕ). AtMost same_nat (each_of claimed past ++ task ∷ []) xs) (append-nil (numbers_of o)) a in
     rw (each_of-append claimed past group) b
 claims_step o past by w h may =
-    claims_kept o past (entry by w ∷ due_after o past (entry by w)) (due_names claimed (λ c j v. refl) (λ c why. refl) o past by w) h
+    claims_kept o past (entry by w ∷ due_after o past (entry by w)) (due_names claimed (λ c j v. refl) (λ c why. refl) (λ c j l. refl) o past by w) h
 
 answers_step : (o : Opening) (past : List Entry) (by : ℕ) (w : What) → Legal o past → AtMost same_nat (each_of answered past) (each_of claimed past) → may_come o past by w ≡ true
     → AtMost same_nat (each_of answered (past ++ entry by w ∷ due_after o past (entry by w))) (each_of claimed (past ++ entry by w ∷ due_after o past (entry by w)))
@@ -124,7 +125,7 @@ answers_step o past by (Answered task answer) legal h may =
     let some = named_some same_nat claimed (claims task) task (claims_is task) past busy.0 in
     grow_one same_nat nat_is_same answered claimed past (entry by (Answered task answer) ∷ []) task refl none some h
 answers_step o past by w legal h may =
-    grow_none same_nat answered claimed past (entry by w ∷ due_after o past (entry by w)) (due_names answered (λ c j v. refl) (λ c why. refl) o past by w) h
+    grow_none same_nat answered claimed past (entry by w ∷ due_after o past (entry by w)) (due_names answered (λ c j v. refl) (λ c why. refl) (λ c j l. refl) o past by w) h
 
 -- ---- starts, mutes and ends
 
@@ -146,10 +147,10 @@ mutes_step o past by (Mute child) h may =
     let t = both (is_started past child) (not (is_mute past child)) may in
     let none = named_none same_nat muted (mutes child) child (mutes_is child) past (not_true _ t.1) in
     let some = named_some same_nat started (starts child) child (starts_is child) past t.0 in
-    let due = due_names muted (λ c j v. refl) (λ c why. refl) o past by (Mute child) in
+    let due = due_names muted (λ c j v. refl) (λ c why. refl) (λ c j l. refl) o past by (Mute child) in
     grow_one same_nat nat_is_same muted started past (entry by (Mute child) ∷ due_after o past (entry by (Mute child))) child (ap (λ (xs : List ℕ). child ∷ xs) due) none some h
 mutes_step o past by w h may =
-    grow_none same_nat muted started past (entry by w ∷ due_after o past (entry by w)) (due_names muted (λ c j v. refl) (λ c why. refl) o past by w) h
+    grow_none same_nat muted started past (entry by w ∷ due_after o past (entry by w)) (due_names muted (λ c j v. refl) (λ c why. refl) (λ c j l. refl) o past by w) h
 
 abbrev Ends : List Entry → Type 0
 Ends past = AtMost same_nat (each_of ended past) (each_of started past)
@@ -186,9 +187,12 @@ ends_step o past by (Got child line) h may = by_due (due_by_got o past child lin
         subst (λ (ws : List What). Ends (past ++ entry by (Got child line) ∷ made_by by ws)) (sym e.1)
         (end_grow past (entry by (Got child line) ∷ entry by (End child e.0) ∷ settled_all by child (Ended e.0) (open_jobs past child)) child
         (ap (λ (xs : List ℕ). child ∷ xs) (verdicts_end by child (Ended e.0) (open_jobs past child))) (both (is_live past child) _ (both _ _ may).0).0 h)
-    by_due due (inr (inr e)) =
+    by_due due (inr (inr (inl e))) =
         subst (λ (ws : List What). Ends (past ++ entry by (Got child line) ∷ made_by by ws)) (sym e.3)
         (grow_none same_nat ended started past (entry by (Got child line) ∷ entry by (Settled child e.0 e.1) ∷ []) refl h)
+    by_due due (inr (inr (inr e))) =
+        subst (λ (ws : List What). Ends (past ++ entry by (Got child line) ∷ made_by by ws)) (sym e.3)
+        (grow_none same_nat ended started past (entry by (Got child line) ∷ made_by by (replying past child e.0 e.1)) (replies_name ended (λ c j l. refl) past by child e.0 e.1) h)
 ends_step o past by w h may = grow_none same_nat ended started past (entry by w ∷ []) refl h
 
 -- ---- what is written and sent
@@ -226,7 +230,7 @@ sents_step o past by (Sent child) h may =
     rw (each_of-append sent past (entry by (Sent child) ∷ []), each_of-append written past (entry by (Sent child) ∷ []))
     (more_one same_nat nat_is_same (each_of sent past) (each_of written past) [] child h room)
 sents_step o past by w h may =
-    grow_none same_nat sent written past (entry by w ∷ due_after o past (entry by w)) (due_names sent (λ c j v. refl) (λ c why. refl) o past by w) h
+    grow_none same_nat sent written past (entry by w ∷ due_after o past (entry by w)) (due_names sent (λ c j v. refl) (λ c why. refl) (λ c j l. refl) o past by w) h
 
 -- ---- verdicts
 
@@ -366,9 +370,12 @@ verdicts_step o past by (Got child line) h may = by_due (due_by_got o past child
         subst (λ (ws : List What). Verdicts (past ++ entry by (Got child line) ∷ made_by by ws)) (sym e.1)
         (verdicts_grow past (entry by (Got child line) ∷ entry by (End child e.0) ∷ settled_all by child (Ended e.0) (open_jobs past child)) child (open_jobs past child)
         (verdicts_settle by child (Ended e.0) (open_jobs past child)) (λ k. omega arith) h)
-    by_due due (inr (inr e)) =
+    by_due due (inr (inr (inl e))) =
         subst (λ (ws : List What). Verdicts (past ++ entry by (Got child line) ∷ made_by by ws)) (sym e.3)
         (verdicts_grow past (entry by (Got child line) ∷ entry by (Settled child e.0 e.1) ∷ []) child (e.0 ∷ []) refl (one_open past child e.0 e.2) h)
+    by_due due (inr (inr (inr e))) =
+        subst (λ (ws : List What). Verdicts (past ++ entry by (Got child line) ∷ made_by by ws)) (sym e.3)
+        (grow_none same_pair settled asked past (entry by (Got child line) ∷ made_by by (replying past child e.0 e.1)) (replies_name settled (λ c j l. refl) past by child e.0 e.1) h)
 verdicts_step o past by (Settled child job verdict) h may = absurd cc
 verdicts_step o past by w h may = grow_none same_pair settled asked past (entry by w ∷ []) refl h
 
@@ -404,6 +411,7 @@ balance (e ∷ past) = step e.what (sum_by-cons (λ (d : Entry). room_for d.what
     step (Settled child job verdict) s r = omega (arith, s, r)
     step (Lost child task) s r = omega (arith, s, r)
     step (Answered task answer) s r = omega (arith, s, r)
+    step (Noted task chunk count) s r = omega (arith, s, r)
 
 record Inv (o : Opening) (past : List Entry) : Type 0 where
   claims : Claims o past
@@ -441,41 +449,73 @@ room_suffices o journal legal =
 
 -- ---- what a group adds to the room
 
-abbrev rooms : List Entry → ℕ
-rooms past = sum_by (λ e. room_for e.what) past
-
-rooms-cons : (e : Entry) (past : List Entry) → rooms (e ∷ past) ≡ room_for e.what + rooms past
+rooms-cons : (e : Entry) (past : List Entry) → room_for_all (e ∷ past) ≡ room_for e.what + room_for_all past
 rooms-cons e past = sum_by-cons (λ (d : Entry). room_for d.what) e past
 
-verdicts_room : (by child : ℕ) (v : Verdict) (ks : List ℕ) → rooms (settled_all by child v ks) ≡ 0
+-- entries add to the room what they take
+pub room_grows : (o : Opening) (past more : List Entry) → room_of o (past ++ more) ≡ room_of o past + room_for_all more
+room_grows o past more =
+    let all = sum_by-append (λ (d : Entry). room_for d.what) past more in
+    omega (arith, all)
+
+verdicts_room : (by child : ℕ) (v : Verdict) (ks : List ℕ) → room_for_all (settled_all by child v ks) ≡ 0
 verdicts_room by child v [] = refl
 verdicts_room by child v (k ∷ ks) =
     let first = rooms-cons (entry by (Settled child k v)) (settled_all by child v ks) in
     let rest = verdicts_room by child v ks in
     omega (arith, first, rest)
 
-due_room : (o : Opening) (past : List Entry) (by : ℕ) (w : What) → rooms (due_after o past (entry by w)) ≡ 0
-due_room o past by (End child why) = verdicts_room by child (Ended why) (open_jobs past child)
-due_room o past by (Mute child) = by_life (is_live past child)
+replies_room : (past : List Entry) (by child j : ℕ) (lines : List (List ℕ)) → room_for_all (made_by by (replying past child j lines)) ≡ 2 * count is_put (made_by by (replying past child j lines))
+replies_room past by child j [] = refl
+replies_room past by child j (l ∷ ls) =
+    let first = rooms-cons (entry by (Put child j (on_wire past child j l))) (made_by by (replying past child j ls)) in
+    let rest = replies_room past by child j ls in
+    omega (arith, first, rest)
+
+verdicts_put : (by child : ℕ) (v : Verdict) (ks : List ℕ) → count is_put (settled_all by child v ks) ≡ 0
+verdicts_put by child v [] = refl
+verdicts_put by child v (k ∷ ks) = verdicts_put by child v ks
+
+verdicts_take : (by child : ℕ) (v : Verdict) (ks : List ℕ) → room_for_all (settled_all by child v ks) ≡ 2 * count is_put (settled_all by child v ks)
+verdicts_take by child v ks =
+    let a = verdicts_room by child v ks in
+    let b = verdicts_put by child v ks in
+    omega (arith, a, b)
+
+due_takes : (o : Opening) (past : List Entry) (by : ℕ) (w : What) → room_for_all (due_after o past (entry by w)) ≡ 2 * count is_put (due_after o past (entry by w))
+due_takes o past by (End child why) = verdicts_take by child (Ended why) (open_jobs past child)
+due_takes o past by (Mute child) = by_life (is_live past child)
   where
-    by_life : (b : Bool) → rooms (made_by by (cond b (map (λ (k : ℕ). Settled child k Unsent) (filter (is_unsent past child) (open_jobs past child))) [])) ≡ 0
-    by_life true = verdicts_room by child Unsent (filter (is_unsent past child) (open_jobs past child))
+    by_life : (b : Bool) → room_for_all (made_by by (cond b (map (λ (k : ℕ). Settled child k Unsent) (filter (is_unsent past child) (open_jobs past child))) []))
+        ≡ 2 * count is_put (made_by by (cond b (map (λ (k : ℕ). Settled child k Unsent) (filter (is_unsent past child) (open_jobs past child))) []))
+    by_life true = verdicts_take by child Unsent (filter (is_unsent past child) (open_jobs past child))
     by_life false = refl
-due_room o past by (Got child line) = by_due (due_by_got o past child line) (got_due o past child line)
+due_takes o past by (Got child line) = by_due (due_by_got o past child line) (got_due o past child line)
   where
-    by_due : (due : List What) → GotDue past child due → rooms (made_by by due) ≡ 0
+    by_due : (due : List What) → GotDue past child due → room_for_all (made_by by due) ≡ 2 * count is_put (made_by by due)
     by_due due (inl e) = rw e refl
     by_due due (inr (inl e)) =
         let first = rooms-cons (entry by (End child e.0)) (settled_all by child (Ended e.0) (open_jobs past child)) in
-        let rest = verdicts_room by child (Ended e.0) (open_jobs past child) in
+        let rest = verdicts_take by child (Ended e.0) (open_jobs past child) in
         rw e.1 (omega (arith, first, rest))
-    by_due due (inr (inr e)) = rw e.3 refl
-due_room o past by w = refl
+    by_due due (inr (inr (inl e))) = rw e.3 refl
+    by_due due (inr (inr (inr e))) = rw e.3 (replies_room past by child e.0 e.1)
+due_takes o past by w = refl
 
--- a group adds what its first entry takes
-pub room_grows : (o : Opening) (past : List Entry) (e : Entry) → room_of o (past ++ e ∷ due_after o past e) ≡ room_of o past + room_for e.what
-room_grows o past e =
-    let both_rooms = sum_by-append (λ (d : Entry). room_for d.what) past (e ∷ due_after o past e) in
+-- a group takes what its first entry does, and its replies
+pub group_takes : (o : Opening) (past : List Entry) (e : Entry) → room_for_all (e ∷ due_after o past e) ≡ room_for e.what + 2 * count is_put (due_after o past e)
+group_takes o past e =
     let first = rooms-cons e (due_after o past e) in
-    let due = due_room o past e.by e.what in
-    omega (arith, both_rooms, first, due)
+    let due = due_takes o past e.by e.what in
+    omega (arith, first, due)
+
+-- only behind a line stands a reply
+pub no_reply : (o : Opening) (past : List Entry) (by : ℕ) (w : What) → is_got w ≡ false → count is_put (due_after o past (entry by w)) ≡ 0
+no_reply o past by (End child why) h = verdicts_put by child (Ended why) (open_jobs past child)
+no_reply o past by (Mute child) h = by_life (is_live past child)
+  where
+    by_life : (b : Bool) → count is_put (made_by by (cond b (map (λ (k : ℕ). Settled child k Unsent) (filter (is_unsent past child) (open_jobs past child))) [])) ≡ 0
+    by_life true = verdicts_put by child Unsent (filter (is_unsent past child) (open_jobs past child))
+    by_life false = refl
+no_reply o past by (Got child line) h = absurd cc
+no_reply o past by w h = refl

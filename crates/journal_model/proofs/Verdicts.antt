@@ -10,12 +10,12 @@ use Rattle.annex_model.specs.declared.final_line.Final.{Final}
 use Rattle.annex_model.specs.declared.final_line.Final.TheVariants.{Done}
 use Rattle.annex_model.specs.Talks.{Item}
 use Rattle.journal_model.specs.declared.entry.What.{What}
-use Rattle.journal_model.specs.declared.entry.What.TheVariants.{Claim, Start, NoStart, Ask, Put, Sent, Mute, Got, End, Verdict as Settled, Lost, Answer as Answered}
+use Rattle.journal_model.specs.declared.entry.What.TheVariants.{Claim, Start, NoStart, Ask, Put, Sent, Mute, Got, End, Verdict as Settled, Lost, Answer as Answered, Note as Noted}
 use Rattle.journal_model.specs.declared.entry.Entry.{Entry}
 use Rattle.journal_model.specs.declared.opening.Opening.{Opening}
-use Rattle.journal_model.specs.Journal.{first_of, verdict_of, ends, mutes, is_ended, is_mute, is_live, is_unsent, open_jobs}
+use Rattle.journal_model.specs.Journal.{first_of, on_wire, verdict_of, ends, mutes, is_ended, is_mute, is_live, is_unsent, open_jobs}
 use Rattle.journal_model.specs.Parts.{part}
-use Rattle.journal_model.specs.Due.{verdict_at, ending, due_by_got, due_after, made_by, replies_at}
+use Rattle.journal_model.specs.Due.{verdict_at, ending, due_by_got, due_after, made_by, replying, replies_at}
 use Rattle.journal_model.specs.Legality.{Legal, may_come}
 use Rattle.journal_model.specs.Projection.{Fits}
 use Rattle.journal_model.proofs.Growing.{Legal-induction}
@@ -111,10 +111,22 @@ caused_final by child j at f c k v is = go (child == c && j == k) is
 caused_ending : (past : List Entry) (by c : ℕ) (why : Why) → AreCaused (made_by by (ending past c why))
 caused_ending past by c why = caused_end by c why (open_jobs past c)
 
+caused_replies : (past : List Entry) (by c j : ℕ) (lines : List (List ℕ)) → AreCaused (made_by by (replying past c j lines))
+caused_replies past by c j [] d k v h = caused_nothing d k v h
+caused_replies past by c j (l ∷ ls) d k v h = go v (caused_replies past by c j ls d k v h)
+  where
+    rest : List Entry
+    rest = made_by by (replying past c j ls)
+
+    go : (v : Verdict) → is_caused v rest d ≡ true → is_caused v (entry by (Put c j (on_wire past c j l)) ∷ rest) d ≡ true
+    go (Ended why) h = h
+    go Unsent h = h
+    go v h = refl
+
 caused_got : (o : Opening) (past : List Entry) (by c : ℕ) (line : List ℕ) → AreCaused (made_by by (due_by_got o past c line))
 caused_got o past by c line =
-    got_cases (λ ws. AreCaused (made_by by ws)) o past c caused_nothing (λ why soft. caused_ending past by c why)
-    (λ j f opened. caused_final by c j (length past) f) line
+    got_cases (λ ws. AreCaused (made_by by ws)) o past c line caused_nothing (λ why soft. caused_ending past by c why)
+    (λ j f opened. caused_final by c j (length past) f) (λ j ls opened for owed. caused_replies past by c j ls)
 
 caused_group : (o : Opening) (past : List Entry) (by : ℕ) (w : What) → may_come o past by w ≡ true → AreCaused (entry by w ∷ due_after o past (entry by w))
 caused_group o past by (Got child line) may = caused_line by child line (made_by by (due_by_got o past child line)) (caused_got o past by child line)
@@ -133,6 +145,7 @@ caused_group o past by (Put child job line) may = λ c k v h. absurd cc
 caused_group o past by (Sent child) may = λ c k v h. absurd cc
 caused_group o past by (Lost child task) may = λ c k v h. absurd cc
 caused_group o past by (Answered task answer) may = λ c k v h. absurd cc
+caused_group o past by (Noted task chunk count) may = λ c k v h. absurd cc
 
 -- ---- the journal
 

@@ -1,5 +1,5 @@
 -- What an entry makes due: the entries that have to stand directly behind it, made by the same number.
-use Rattle.std.specs.Prelude.{ℕ, ◌==◌, ◌&&◌, ◌||◌, not, Bool, true, false, if◌then◌else◌, List, [], ◌∷◌, length, Option, Some, None, map, filter}
+use Rattle.std.specs.Prelude.{ℕ, ◌==◌, ◌&&◌, ◌||◌, not, Bool, true, false, if◌then◌else◌, List, [], ◌∷◌, length, Option, Some, None, map, filter, take, slice_get}
 use Rattle.std.specs.List.{list_any}
 use Rattle.journal_model.specs.declared.verdict.Why.{Why}
 use Rattle.journal_model.specs.declared.verdict.Why.TheVariants.{Foul, Error as ErrorAt, Version as VersionFault}
@@ -15,17 +15,35 @@ use Rattle.journal_model.specs.declared.entry.Entry.{Entry}
 use Rattle.journal_model.specs.declared.opening.Opening.{Opening}
 use Rattle.journal_model.specs.Journal.{open_jobs, asked_jobs, is_open, is_live, has_spoken, is_tagged, is_unsent, addressed, on_wire}
 use Rattle.journal_model.specs.Parts.{part}
+use Rattle.journal_model.specs.Replies.{replies_by}
+use Rattle.journal_model.specs.Registers.{values_at}
 use Rattle.annex_model.specs.Hearings.{Hearing, Aside, Part, Settles, Strange, hearing}
 
 -- ---- replies
 
--- The lines that the message is owed. An aside that asks for something, or that sets something, isn't served yet: it can't follow.
+-- the lines that the message is owed behind the entries so far, by what the run began with and what was set since
 abbrev pub replies : Opening → List Entry → RemoteMessage → List (List ℕ)
-replies o past m = []
+replies o past m = replies_by (values_at o.registers o.identity past) m
 
--- the replies that the line at this place of the journal is owed
+abbrev pub replies_said : Opening → List Entry → Option RemoteMessage → List (List ℕ)
+replies_said o past None = []
+replies_said o past (Some m) = replies o past m
+
+abbrev pub replies_to : Opening → List Entry → Option Entry → List (List ℕ)
+replies_to o past None = []
+replies_to o past (Some e) = replies_to_line o past e.what
+  where
+    replies_to_line : Opening → List Entry → What → List (List ℕ)
+    replies_to_line o past (Got c line) = replies_said o past (remote_reading (addressed past c line).1)
+    replies_to_line o past _ = []
+
+-- what the message that the line at this place spells is owed, over what stands before it
 abbrev pub replies_at : Opening → List Entry → ℕ → List (List ℕ)
-replies_at o journal at = []
+replies_at o journal at = replies_to o (take at journal) (slice_get journal at)
+
+-- the entries of these replies in job j of c
+abbrev pub replying : List Entry → ℕ → ℕ → List (List ℕ) → List What
+replying past c j lines = map (λ line. Put c j (on_wire past c j line)) lines
 
 abbrev pub verdict_at : Final → ℕ → Verdict
 verdict_at Done at = DoneAt at
@@ -55,10 +73,9 @@ abbrev pub is_error : Option RemoteMessage → Bool
 is_error (Some (Error text)) = true
 is_error m = false
 
--- an aside is owed its replies, where it can be served
+-- an aside is owed its replies
 abbrev pub after_hearing : Opening → List Entry → ℕ → ℕ → RemoteMessage → Hearing → List What
-after_hearing o past c j m Aside =
-    if is_talk m then map (λ line. Put c j (on_wire past c j line)) (replies o past m) else foul past c
+after_hearing o past c j m Aside = replying past c j (replies o past m)
 after_hearing o past c j m Part = []
 after_hearing o past c j m (Settles f) = Settled c j (verdict_at f (length past)) ∷ []
 after_hearing o past c j m Strange = foul past c

@@ -146,17 +146,17 @@ bytes_in past = sum_by (λ e. line_bytes e.what) past
 abbrev pub is_full : List Entry → Bool
 is_full past = nat_le most_entries (length past) || nat_le most_line_bytes (bytes_in past)
 
+abbrev pub got_line : Option Entry → List ℕ
+got_line None = []
+got_line (Some e) = line_got e.what
+  where
+    line_got : What → List ℕ
+    line_got (Got child line) = line
+    line_got _ = []
+
 -- the line got at a place, if one was
 abbrev pub line_at : List Entry → ℕ → List ℕ
-line_at past at = line_in (slice_get past at)
-  where
-    line_in : Option Entry → List ℕ
-    line_in None = []
-    line_in (Some e) = got_line e.what
-      where
-        got_line : What → List ℕ
-        got_line (Got child line) = line
-        got_line _ = []
+line_at past at = got_line (slice_get past at)
 
 -- ---- tagged children
 

@@ -1,8 +1,10 @@
 -- Which journals are legal.
-use Rattle.std.specs.Prelude.{ℕ, ◌≡◌, ◌+◌, ◌-◌, ◌^◌, ◌==◌, ◌&&◌, ◌||◌, not, nat_lt, Bool, true, false, if◌then◌else◌, List, [], ◌∷◌, ◌++◌, length, Option, Some, None, is_some, filter, find, fold, IsTrue, take, slice_get, bytes_eq, codes}
+use Rattle.std.specs.Prelude.{ℕ, ◌≡◌, ◌⊎◌, ◌+◌, ◌-◌, ◌^◌, ◌==◌, ◌&&◌, ◌||◌, not, nat_lt, Bool, true, false, if◌then◌else◌, List, [], ◌∷◌, ◌++◌, length, Option, Some, None, is_some, filter, find, fold, IsTrue, take, slice_get, bytes_eq, codes}
 use Rattle.std.specs.List.{list_any, range_with_len}
 use Rattle.std.specs.Str.{is_utf8}
 use Rattle.task_text.specs.declared.task.Task.{Task}
+use Rattle.task_text.specs.declared.task.Work.{Work}
+use Rattle.task_text.specs.declared.task.Work.TheVariants.{Store, Drop}
 use Rattle.annex_model.specs.Extensions.{names_of}
 use Rattle.journal_model.specs.declared.verdict.Why.{Why}
 use Rattle.journal_model.specs.declared.verdict.Why.TheVariants.{Eof, ReadFault, LongLine, Full, Memory, Closed}
@@ -14,7 +16,7 @@ use Rattle.annex_model.specs.Tags.{untag, without_tag}
 use Rattle.annex_model.specs.Turns.{turn_of, is_at}
 use Rattle.journal_model.specs.declared.holder.Holder.{Holder}
 use Rattle.journal_model.specs.declared.entry.What.{What}
-use Rattle.journal_model.specs.declared.entry.What.TheVariants.{Claim, Start, NoStart, Ask, Put, Sent, Mute, Got, End, Verdict as Settled, Lost, Answer as Answered}
+use Rattle.journal_model.specs.declared.entry.What.TheVariants.{Claim, Start, NoStart, Ask, Put, Sent, Mute, Got, End, Verdict as Settled, Lost, Answer as Answered, Note as Noted}
 use Rattle.journal_model.specs.declared.entry.Entry.{Entry}
 use Rattle.journal_model.specs.declared.opening.Opening.{Opening}
 use Rattle.journal_model.specs.Journal.{any, each_of, first_of, offers, got_lines, open_jobs, is_open, is_started, is_ended, is_mute, is_live, is_settled, asked_jobs, verdict_of, unsent, is_full, is_tagged, on_wire, addressed}
@@ -132,6 +134,17 @@ claimed_for c _ = None
 abbrev pub has_busy_task : List Entry → ℕ → Bool
 has_busy_task past c = list_any (is_busy_with past c) (each_of (claimed_for c) past)
 
+-- storing and dropping change what the remote has
+abbrev pub changes_content : Work → Bool
+changes_content Store = true
+changes_content Drop = true
+changes_content work = false
+
+-- a task that does so may note which chunks of its key the remote has
+abbrev pub may_note : Option Task → Bool
+may_note None = false
+may_note (Some task) = changes_content task.work
+
 -- ---- the greeting
 
 abbrev pub is_done : Option Verdict → Bool
@@ -233,6 +246,8 @@ may_come o past by (End child why) = is_live past child && may_stop past child w
 may_come o past by (Settled child job verdict) = false
 may_come o past by (Lost child task) = is_started past child && (is_ended past child || is_mute past child) && may_ask past by task child
 may_come o past by (Answered task answer) = is_claimed_by past by task && not (has_open_job past task)
+may_come o past by (Noted task chunk count) =
+    is_claimed_by past by task && may_note (task_of o task) && not (has_open_job past task) && nat_lt 0 chunk
 
 -- ---- legal
 
@@ -289,6 +304,7 @@ kind_of (End child why) = 9
 kind_of (Settled child job verdict) = 10
 kind_of (Lost child task) = 11
 kind_of (Answered task answer) = 12
+kind_of (Noted task chunk count) = 13
 
 -- ---- the same by places
 
@@ -298,11 +314,19 @@ pub record LegalByPlaces (o : Opening) (journal : List Entry) : Type 0 where
 
 -- ---- the same by groups
 
--- the journal is past followed by the groups that these entries begin, each of which may come
-abbrev pub IsGroups : Opening → List Entry → List Entry → List Entry → Type 0
-IsGroups o past [] journal = journal ≡ past
-IsGroups o past (e ∷ firsts) journal = IsTrue (may_come o past e.by e.what) × IsGroups o (past ++ e ∷ due_after o past e) firsts journal
+-- A whole group behind past: where nothing is due its entries may stand one behind the other, nothing is due behind the last, and
+-- something behind each before.
+pub record IsGroup (o : Opening) (past group : List Entry) : Type 0 where
+  pub some : group ≡ [] → ⊥
+  pub stands : StandsFrom o past [] group
+  pub whole : owed_from o past [] group ≡ []
+  pub one : (front rest : List Entry) → group ≡ front ++ rest → owed_from o past [] front ≡ [] → (front ≡ []) ⊎ (rest ≡ [])
 
--- the journal is made of groups, each an entry that an event may append and what it makes due
+-- the journal is past followed by these groups
+abbrev pub IsGroups : Opening → List Entry → List (List Entry) → List Entry → Type 0
+IsGroups o past [] journal = journal ≡ past
+IsGroups o past (group ∷ groups) journal = IsGroup o past group × IsGroups o (past ++ group) groups journal
+
+-- the journal is made of groups
 abbrev pub LegalByGroups : Opening → List Entry → Type 0
-LegalByGroups o journal = (firsts : List Entry) × IsGroups o [] firsts journal
+LegalByGroups o journal = (groups : List (List Entry)) × IsGroups o [] groups journal

@@ -2,10 +2,11 @@
 use Rattle.std.specs.Prelude.{ℕ, List, [], ◌∷◌, ◌++◌, Option, Some, None, codes, decimal}
 use Rattle.journal_model.specs.declared.verdict.Why.{Why}
 use Rattle.journal_model.specs.declared.verdict.Why.TheVariants.{Eof, ReadFault, LongLine, Full, Memory, Closed, Foul, Error, Version}
+use Rattle.ann_digest.specs.Digests.{digest_text}
 use Rattle.annex_model.specs.Messages.{RemoteMessage, remote_reading, text_in}
 use Rattle.annex_model.specs.Tags.{untag, without_tag}
 use Rattle.journal_model.specs.declared.answer.Answer.{Answer}
-use Rattle.journal_model.specs.declared.answer.Answer.TheVariants.{Present, Absent, Unsupported, Unsent, StartFault, Memory as NoRoom, Unknown, NotPrepared, Ended}
+use Rattle.journal_model.specs.declared.answer.Answer.TheVariants.{Stored, Got, Present, Dropped, Absent, Unsupported, Unsent, StartFault, NoChild, FileFault, NoFile, Memory as NoRoom, Failed, Unknown, NotPrepared, Ended, Size, Hash}
 use Rattle.journal_model.specs.declared.entry.What.{What}
 use Rattle.journal_model.specs.declared.entry.What.TheVariants.{Answer as Answered}
 use Rattle.journal_model.specs.declared.entry.Entry.{Entry}
@@ -32,15 +33,24 @@ why_words journal (Error at) = codes "ended error " ++ text_at journal at
 why_words journal (Version at) = codes "ended version"
 
 abbrev pub answer_words : List Entry → Answer → List ℕ
+answer_words journal Stored = codes "stored"
+answer_words journal Got = codes "got"
 answer_words journal Present = codes "present"
+answer_words journal Dropped = codes "dropped"
 answer_words journal Absent = codes "absent"
 answer_words journal Unsupported = codes "unsupported"
 answer_words journal Unsent = codes "unsent"
 answer_words journal StartFault = codes "startfault"
+answer_words journal NoChild = codes "nochild"
+answer_words journal FileFault = codes "filefault"
+answer_words journal NoFile = codes "nofile"
 answer_words journal NoRoom = codes "memory"
+answer_words journal (Failed at) = codes "failed " ++ text_at journal at
 answer_words journal (Unknown at) = codes "unknown " ++ text_at journal at
 answer_words journal (NotPrepared at) = codes "notprepared " ++ text_at journal at
 answer_words journal (Ended why) = why_words journal why
+answer_words journal (Size bytes) = codes "size " ++ decimal bytes
+answer_words journal (Hash digest) = codes "hash " ++ digest_text digest
 
 -- the line of a task: its number, a space, the words, byte 10
 abbrev pub answer_line : List Entry → ℕ → Answer → List ℕ

@@ -1,5 +1,5 @@
 -- What the part of each job is, by how the job stands.
-use Rattle.std.specs.Prelude.{ℕ, ◌≡◌, ◌↔◌, ◌==◌, false, List, [], Option, Some, None, option_map, option_and_then, IfSome}
+use Rattle.std.specs.Prelude.{ℕ, ◌≡◌, ◌↔◌, ◌==◌, ◌+◌, true, false, List, [], Option, Some, None, take, slice_get, option_map, option_and_then, IfSome}
 use Rattle.std.specs.List.{last_or, list_any}
 use Rattle.annex_model.specs.declared.final_line.Final.{Final}
 use Rattle.annex_model.specs.declared.final_line.Final.TheVariants.{Done, Failed, Absent, Unknown, Unsupported}
@@ -7,8 +7,11 @@ use Rattle.journal_model.specs.declared.verdict.Verdict.{Verdict}
 use Rattle.journal_model.specs.declared.verdict.Verdict.TheVariants.{Done as DoneAt, Failed as FailedAt, Absent as AbsentAt, Unknown as UnknownAt, Unsupported as UnsupportedAt, Ended, Unsent}
 use Rattle.annex_model.specs.Messages.{HostMessage, RemoteMessage, IsAskable}
 use Rattle.annex_model.specs.Talks.{Item, Conv, ConvFront, Talking, final_of, said}
+use Rattle.journal_model.specs.declared.opening.Opening.{Opening}
+use Rattle.journal_model.specs.declared.entry.What.TheVariants.{Put, Got}
 use Rattle.journal_model.specs.declared.entry.Entry.{Entry}
-use Rattle.journal_model.specs.Journal.{verdict_of, asked_jobs}
+use Rattle.journal_model.specs.Due.{replies_at}
+use Rattle.journal_model.specs.Journal.{verdict_of, asked_jobs, is_open, addressed, on_wire}
 use Rattle.journal_model.specs.Parts.{part}
 use Rattle.annex_model.specs.Hearings.{request_in}
 
@@ -61,3 +64,21 @@ PartIsAsked journal c j = (part journal c j ≡ []) ↔ (list_any (λ k. k == j)
 -- The verdict is one that some answer to the request ends with, or there was no answer.
 abbrev pub IsNamed : HostMessage → Verdict → Type 0
 IsNamed q v = IfSome (final_in v) (λ f. (ms : List (Option RemoteMessage)) × (final_of q ms ≡ Some f.0))
+
+-- The Put at this place, by this number in job j of c, is one of the replies that a line is owed, and stands behind that line at
+-- its place among them. The line was got under the same number, and is for that job while it is open.
+pub record IsReply (o : Opening) (journal : List Entry) (at by c j : ℕ) (line : List ℕ) : Type 0 where
+  pub from : ℕ
+  pub nth : ℕ
+  pub said : List ℕ
+  pub reply : List ℕ
+  pub place : at ≡ from + 1 + nth
+  pub got : slice_get journal from ≡ Some (record { by = by; what = Got c said })
+  pub job : (addressed (take from journal) c said).0 ≡ Some j
+  pub opened : is_open (take from journal) c j ≡ true
+  pub owed : slice_get (replies_at o journal from) nth ≡ Some reply
+  pub wired : line ≡ on_wire (take from journal) c j reply
+
+-- so it is of each Put
+abbrev pub PutsReply : Opening → List Entry → Type 0
+PutsReply o journal = (at by c j : ℕ) (line : List ℕ) → slice_get journal at ≡ Some (record { by = by; what = Put c j line }) → IsReply o journal at by c j line

@@ -1,8 +1,8 @@
--- How long a journal may grow without another Start, NoStart, Ask, Put, Got or Lost.
-use Rattle.std.specs.Prelude.{ℕ, ◌+◌, ◌*◌, List, length}
+-- How long a journal may grow without another Start, NoStart, Ask, Put, Got, Lost or Note.
+use Rattle.std.specs.Prelude.{ℕ, ◌+◌, ◌*◌, Bool, true, false, List, length}
 use Rattle.std.specs.List.{sum_by}
 use Rattle.journal_model.specs.declared.entry.What.{What}
-use Rattle.journal_model.specs.declared.entry.What.TheVariants.{Start, NoStart, Ask, Put, Got, Lost}
+use Rattle.journal_model.specs.declared.entry.What.TheVariants.{Start, NoStart, Ask, Put, Got, Lost, Note}
 use Rattle.journal_model.specs.declared.entry.Entry.{Entry}
 use Rattle.journal_model.specs.declared.opening.Opening.{Opening}
 
@@ -15,8 +15,16 @@ room_for (Put child job line) = 2
 room_for (Got child line) = 1
 room_for (NoStart slot) = 1
 room_for (Lost child task) = 1
+room_for (Note task chunk count) = 1
 room_for _ = 0
+
+abbrev pub room_for_all : List Entry → ℕ
+room_for_all entries = sum_by (λ e. room_for e.what) entries
 
 -- a claim and an answer for each task, and what the entries so far take
 abbrev pub room_of : Opening → List Entry → ℕ
-room_of o journal = 2 * length o.tasks + sum_by (λ e. room_for e.what) journal
+room_of o journal = 2 * length o.tasks + room_for_all journal
+
+abbrev pub is_put : What → Bool
+is_put (Put child job line) = true
+is_put w = false

@@ -2,7 +2,8 @@
 -- an answer, or in place of one.
 use Rattle.std.specs.Prelude.{ℕ, true, false, List, [], ◌∷◌, ◌++◌, map, codes}
 use Rattle.task_text.specs.declared.task.Task.{Task}
-use Rattle.task_text.specs.declared.task.Work.TheVariants.{Check}
+use Rattle.task_text.specs.declared.task.Work.TheVariants.{Check, Store}
+use Rattle.reg_file.specs.Registers.{nothing_set}
 use Rattle.journal_model.specs.declared.verdict.Why.{Why}
 use Rattle.journal_model.specs.declared.verdict.Why.TheVariants.{Closed, Foul, Error}
 use Rattle.journal_model.specs.declared.verdict.Verdict.TheVariants.{Done, Failed, Absent, Unknown, Unsupported, Ended}
@@ -19,7 +20,7 @@ abbrev pub check_of : List ℕ → Task
 check_of key = record { work = Check; key = key; file = [] }
 
 abbrev pub opening_of : List Task → Opening
-opening_of tasks = record { tasks = tasks; identity = record { uuid = codes "00000000-0000-0000-0000-000000000000"; name = codes "remote"; gitdir = codes ".git" }; stamp = 1700000000000000 }
+opening_of tasks = record { tasks = tasks; registers = nothing_set; notes = []; identity = record { uuid = codes "00000000-0000-0000-0000-000000000000"; name = codes "remote"; gitdir = codes ".git" }; stamp = 1700000000000000 }
 
 abbrev pub one_check : Opening
 one_check = opening_of (check_of sample_key ∷ [])
@@ -234,3 +235,14 @@ set_up =
     ∷ by_main (Got 1 (codes "INITREMOTE-SUCCESS"))
     ∷ by_main (Settled 1 1 (Done 8))
     ∷ []
+
+-- ---- two stores, the first of which is claimed
+
+abbrev pub store_of : List ℕ → List ℕ → Task
+store_of key file = record { work = Store; key = key; file = file }
+
+abbrev pub two_stores : List ℕ → List ℕ → Opening
+two_stores key file = opening_of (store_of (codes "WORM--a") (codes "f") ∷ store_of key file ∷ [])
+
+abbrev pub first_claimed : List Entry
+first_claimed = greeting ++ by_main (Claim 1 1) ∷ []

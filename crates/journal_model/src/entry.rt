@@ -68,6 +68,12 @@ pub enum What {
         task: u32,
         answer: Answer,
     },
+    /// From now on the remote has so many chunks of that size of the task's content, or none where the count is 0.
+    Note {
+        task: u32,
+        chunk: u64,
+        count: u64,
+    },
 }
 
 /// An entry of the journal, and the number of the pass that made it; 0 is the main thread between rounds.

@@ -1,23 +1,24 @@
 // Laws over the definitions, each the contract of a function with nothing to do.
-ghost use Rattle.std.specs.Prelude.{ℕ, ◌&&◌, not, ◌≡◌, ◌≤◌, ◌+◌, ◌↔◌, ◌++◌, true, false, List, [], ◌∷◌, take, IsTrue, Some, codes, length};
+ghost use Rattle.std.specs.Prelude.{ℕ, ◌&&◌, not, ◌≡◌, ◌≤◌, ◌+◌, ◌*◌, ◌↔◌, ◌++◌, true, false, List, [], ◌∷◌, take, IsTrue, Some, codes, length};
 ghost use Rattle.journal_model.specs.declared.verdict.Why.TheVariants.{Closed, Full, Foul, Error};
 ghost use Rattle.journal_model.specs.declared.verdict.Verdict.TheVariants.{Ended, Done, Failed, Unsupported};
 ghost use Rattle.annex_model.specs.Messages.{Checkpresent};
 ghost use Rattle.annex_model.specs.Talks.{Conv, ConvFront, Talking};
 ghost use Rattle.annex_model.specs.Lines.{text};
-ghost use Rattle.journal_model.specs.declared.answer.Answer.TheVariants.{Present, Unknown as UnknownAnswer, NotPrepared, Ended as EndedAnswer};
+ghost use Rattle.journal_model.specs.declared.answer.Answer.TheVariants.{Present, Stored, Unknown as UnknownAnswer, NotPrepared, Ended as EndedAnswer};
 ghost use Rattle.journal_model.specs.declared.entry.What.TheVariants.{Claim, Ask, Sent, Got, End, Verdict as Settled, Answer as Answered};
 ghost use Rattle.journal_model.specs.declared.entry.Entry.{Entry};
 ghost use Rattle.journal_model.specs.declared.opening.Opening.{Opening};
 ghost use Rattle.journal_model.specs.Journal.{got_lines, verdict_of, is_tagged, is_full};
 ghost use Rattle.journal_model.specs.Parts.{part, part_by_places};
 ghost use Rattle.journal_model.specs.Due.{due_after, due_by_got, replies_at};
-ghost use Rattle.journal_model.specs.Legality.{Legal, LegalByGroups, LegalByPlaces, FirstWrong, owed_after, may_come, is_busy, is_claimed, is_answered, is_prepared};
+ghost use Rattle.journal_model.specs.Legality.{Legal, IsGroup, LegalByGroups, LegalByPlaces, FirstWrong, owed_after, may_come, is_busy, is_claimed, is_answered, is_prepared, count};
+ghost use Rattle.journal_model.specs.Registers.{is_got};
 ghost use Rattle.journal_model.specs.Projection.{JobFits, PartIsAsked};
 ghost use Rattle.journal_model.specs.Wires.{Wired};
 ghost use Rattle.journal_model.specs.Output.{answer_line};
-ghost use Rattle.journal_model.specs.Room.{room_for, room_of};
-ghost use Rattle.journal_model.specs.Rows.{one_check, check_present, not_closed, other_key, not_settled, sample_key, by_main, settled, answered, greeting, two_checks, crossed, unknown_job, tag_left_off, tagged_greeting, end_with, not_extended, no_disk, checking, away, settled_by_aside, out_of_disk, one_left, ask_configs, listing, one_listed, set_up};
+ghost use Rattle.journal_model.specs.Room.{room_for, room_for_all, room_of, is_put};
+ghost use Rattle.journal_model.specs.Rows.{one_check, check_present, not_closed, other_key, not_settled, sample_key, by_main, settled, answered, greeting, two_checks, crossed, unknown_job, tag_left_off, tagged_greeting, end_with, not_extended, no_disk, checking, away, settled_by_aside, out_of_disk, one_left, ask_configs, listing, one_listed, set_up, two_stores, first_claimed};
 
 /// The journal of one check is legal, and so it is before its child is closed.
 pub fn check_present_is_legal()
@@ -113,10 +114,9 @@ pub fn error_ends()
     ensures any_tag { due_by_got two_checks tagged_greeting 1 (codes "J 9 ERROR x") ≡ end_with (Error 14) (2 ∷ 3 ∷ []) }
 {}
 
-/// What a child asks of its host is not served yet, and ends it. What it says late is passed over, where it is talk about a job
-/// that was open; where lines have no tags, any talk is.
+/// What a child says late is passed over, where it is talk about a job that was open; where lines have no tags, any talk is. What
+/// it asks late isn't answered.
 pub fn strange_lines()
-    ensures asks { due_by_got one_check checking 1 (codes "GETCONFIG x") ≡ end_with (Foul 13) (2 ∷ []) }
     ensures late { due_by_got two_checks one_left 1 (codes "J 2 PROGRESS 3") ≡ [] }
     ensures asks_late { due_by_got two_checks one_left 1 (codes "J 2 GETUUID") ≡ end_with (Foul 16) (3 ∷ []) }
     ensures job_0 { due_by_got two_checks one_left 1 (codes "J 0 DEBUG x") ≡ end_with (Foul 16) (3 ∷ []) }
@@ -137,9 +137,10 @@ pub fn room_and_lists()
     ensures unsupported { due_by_got one_check one_listed 1 (codes "UNSUPPORTED-REQUEST") ≡ end_with (Foul 13) (2 ∷ []) }
 {}
 
-/// An entry that may come, with what it makes due, keeps a journal legal.
+/// A whole group keeps a journal legal. It is an entry that may come, and then what that makes due.
 pub fn group_keeps_legal()
-    ensures { (o : Opening) (past : List Entry) (e : Entry) → Legal o past → IsTrue (may_come o past e.by e.what) → Legal o (past ++ e ∷ due_after o past e) }
+    ensures legal { (o : Opening) (past group : List Entry) → Legal o past → IsGroup o past group → Legal o (past ++ group) }
+    ensures first { (o : Opening) (past : List Entry) (e : Entry) (rest : List Entry) → IsGroup o past (e ∷ rest) ↔ (IsTrue (may_come o past e.by e.what) × (rest ≡ due_after o past e)) }
 {}
 
 /// Three ways to say which journals are legal: along the list, place by place, and group by group.
@@ -154,11 +155,13 @@ pub fn parts_fit()
     ensures asked { (o : Opening) (journal : List Entry) → Legal o journal → (c j : ℕ) → PartIsAsked journal c j }
 {}
 
-/// A legal journal is no longer than its room, to which an entry with what it makes due adds what it takes: none for a
-/// Claim, a Sent, a Mute, an End or an Answer.
+/// A legal journal is no longer than its room, to which entries add what each of them takes. A group takes what its first entry
+/// does, none for a Claim, a Sent, a Mute, an End or an Answer, and two for each reply; only behind a line of a child stand replies.
 pub fn room_suffices()
     ensures long { (o : Opening) (journal : List Entry) → Legal o journal → length journal ≤ room_of o journal }
-    ensures grows { (o : Opening) (past : List Entry) (e : Entry) → room_of o (past ++ e ∷ due_after o past e) ≡ room_of o past + room_for e.what }
+    ensures grows { (o : Opening) (past more : List Entry) → room_of o (past ++ more) ≡ room_of o past + room_for_all more }
+    ensures group { (o : Opening) (past : List Entry) (e : Entry) (rest : List Entry) → IsGroup o past (e ∷ rest) → room_for_all (e ∷ rest) ≡ room_for e.what + 2 * count is_put rest }
+    ensures no_reply { (o : Opening) (past : List Entry) (e : Entry) (rest : List Entry) → IsGroup o past (e ∷ rest) → is_got e.what ≡ false → count is_put rest ≡ 0 }
 {}
 
 /// In a legal journal a task is held from its claim to its answer.
@@ -176,4 +179,15 @@ pub fn set_up_is_not_prepared()
     ensures no_claim { may_come one_check set_up 0 (Claim 1 1) ≡ false }
     ensures no_request { may_come one_check set_up 0 ask_configs ≡ false }
     ensures late { may_come one_check greeting 0 (Ask 1 2 0 (codes "INITREMOTE")) ≡ false }
+{}
+
+/// A task waits while another is busy whose key is its own, or whose file is its own or differs by an ending .part; until the
+/// other is answered.
+pub fn clashing_claims()
+    ensures part_file { may_come (two_stores (codes "WORM--b") (codes "f.part")) first_claimed 0 (Claim 2 1) ≡ false }
+    ensures same_file { may_come (two_stores (codes "WORM--b") (codes "f")) first_claimed 3 (Claim 2 1) ≡ false }
+    ensures same_key { may_come (two_stores (codes "WORM--a") (codes "g")) first_claimed 0 (Claim 2 1) ≡ false }
+    ensures apart { may_come (two_stores (codes "WORM--b") (codes "g")) first_claimed 0 (Claim 2 1) ≡ true }
+    ensures later { may_come (two_stores (codes "WORM--b") (codes "f.part")) (first_claimed ++ by_main (Answered 1 Stored) ∷ []) 0 (Claim 2 1) ≡ true }
+    ensures other_ending { may_come (two_stores (codes "WORM--b") (codes "f.parts")) first_claimed 0 (Claim 2 1) ≡ true }
 {}

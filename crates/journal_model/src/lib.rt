@@ -3,17 +3,19 @@
 
 mod answer;
 mod entry;
+pub mod half_laws;
 mod holder;
-mod journal;
 pub mod laws;
+pub mod note_laws;
 mod opening;
 pub mod register_laws;
+pub mod reply_laws;
+pub mod task_laws;
 mod verdict;
 
 pub use annex_model::Final;
 pub use answer::Answer;
 pub use entry::{Entry, What};
 pub use holder::Holder;
-pub use journal::Journal;
 pub use opening::{Identity, Opening};
 pub use verdict::{Verdict, Why};

@@ -1,6 +1,8 @@
 ghost use Rattle.std.specs.Prelude.{◌≡◌, IfOk};
 
 use ann_key::{NoMemory, Text};
+use chunk_log::NoteBook;
+use reg_file::Registers;
 use std::alloc::Global;
 use task_text::Tasks;
 
@@ -12,10 +14,13 @@ pub struct Identity {
     pub gitdir: Text,
 }
 
-/// What a run begins with. The stamp is the clock's answer, in microseconds since 1970.
+/// What a run begins with: its tasks, what is set, the chunks that remotes are known to have, who the remote is, and the
+/// clock's answer in microseconds since 1970.
 #[derive(Drop)]
 pub struct Opening {
     pub tasks: Tasks,
+    pub registers: Registers,
+    pub notes: NoteBook,
     pub identity: Identity,
     pub stamp: u64,
 }
@@ -39,9 +44,13 @@ impl Opening {
         ensures { IfOk result (λ o. o ≡ self.now) }
     {
         let tasks = self.tasks.copy(alloc)?;
+        let registers = self.registers.copy()?;
+        let notes = self.notes.copy(alloc)?;
         let identity = self.identity.copy(alloc)?;
         Ok(Opening {
             tasks,
+            registers,
+            notes,
             identity,
             stamp: self.stamp,
         })

@@ -1,3 +1,4 @@
 pub mod KeptFiles
 pub mod KeptLines
+pub mod Orders
 pub mod Shown

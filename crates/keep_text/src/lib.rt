@@ -6,9 +6,11 @@ mod fields;
 mod kept;
 pub mod laws;
 mod lines;
+mod order;
 mod reading;
 mod writing;
 
 pub use error::KeepError;
+pub use order::{comes_before, is_written_line};
 pub use reading::read_keep;
-pub use writing::write_keep;
+pub use writing::{note_line, register_line, write_keep};

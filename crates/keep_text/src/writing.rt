@@ -127,7 +127,8 @@ fn note_lines(alloc: Global, notes: &NoteBook) -> Result<Vec<Bytes>, NoMemory>
     Ok(lines)
 }
 
-fn note_line(alloc: Global, key: KeyRef<'_>, line: &ChunkLine) -> Result<Bytes, NoMemory>
+/// The line of a key's note, without its end.
+pub fn note_line(alloc: Global, key: KeyRef<'_>, line: &ChunkLine) -> Result<Bytes, NoMemory>
     requires { IsWritable line.now }
     ensures { IfOk result (λ bytes. bytes ≡ kept_line (Chunks (text_of key.entry) (line_text line.now))) }
 {
@@ -147,4 +148,39 @@ fn push_lines(text: &mut Vec<u8>, lines: &[Bytes]) -> Result<(), NoMemory>
         text.push(b'\n')?;
     }
     Ok(())
+}
+
+/// The line of a register, without its end.
+pub fn register_line(alloc: Global, line: RegLine<'_>) -> Result<Bytes, NoMemory>
+    ensures { IfOk result (λ bytes. bytes ≡ written_line (register_line line.entry)) }
+{
+    match line {
+        RegLine::Config { name, value } => written_two(alloc, b"config", name, value),
+        RegLine::Wanted { value } => written_one(alloc, b"wanted", value),
+        RegLine::State { key, value } => written_two(alloc, b"state", key, value),
+        RegLine::Url { key, url } => written_two(alloc, b"url", key, url),
+    }
+}
+
+// A word and a field behind a space.
+pub(crate) fn written_one(alloc: Global, word: &[u8], field: &[u8]) -> Result<Bytes, NoMemory>
+    ensures { IfOk result (λ bytes. bytes ≡ word.now ++ 32 ∷ field.now) }
+{
+    let mut line = Vec::from_slice(alloc, word)?;
+    line.push(b' ')?;
+    line.extend_from_slice(field)?;
+    Ok(Bytes::from_vec(line))
+}
+
+// A word and two fields, each behind a space.
+pub(crate) fn written_two(
+    alloc: Global,
+    word: &[u8],
+    first: &[u8],
+    second: &[u8],
+) -> Result<Bytes, NoMemory>
+    ensures { IfOk result (λ bytes. bytes ≡ word.now ++ 32 ∷ (first.now ++ 32 ∷ second.now)) }
+{
+    let behind = written_one(alloc, first, second)?;
+    written_one(alloc, word, behind.view())
 }

@@ -1,7 +1,7 @@
 // The program `special`: it makes the real objects, calls the top call, and ends with its status.
 #![tactic(auto)]
 
-use ann_os::{OsClock, OsErrors, OsInput, OsOutput, OsPrograms};
+use ann_os::{OsClock, OsDesks, OsErrors, OsInput, OsOutput, OsPrograms};
 use special_cli::special;
 use std::env;
 use std::process::ExitCode;
@@ -34,6 +34,7 @@ fn main(rt: HostRuntime) -> ExitCode {
         rt.alloc(),
         words.as_slice(),
         OsPrograms::new(&rt),
+        OsDesks::new(&rt),
         &mut input,
         &mut out,
         &mut err,

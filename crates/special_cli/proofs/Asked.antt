@@ -76,12 +76,14 @@ next_line past c (suc (suc k)) line r plain early h = absurd (let bad : true ≡
 soft_jobs : (c by : ℕ) (ws : List What) → list_all is_soft ws ≡ true → asked_jobs (made_by by ws) c ≡ []
 soft_jobs c by [] h = refl
 soft_jobs c by (Settled child job verdict ∷ ws) h = soft_jobs c by ws h
+soft_jobs c by (Put child job line ∷ ws) h = soft_jobs c by ws h
 soft_jobs c by (End child why ∷ ws) h = soft_jobs c by ws (both (is_soft (End child why)) (list_all is_soft ws) h).1
 soft_jobs c by (w ∷ ws) h = absurd cc
 
 soft_lines : (c by : ℕ) (ws : List What) → list_all is_soft ws ≡ true → asked_lines (made_by by ws) c ≡ []
 soft_lines c by [] h = refl
 soft_lines c by (Settled child job verdict ∷ ws) h = soft_lines c by ws h
+soft_lines c by (Put child job line ∷ ws) h = soft_lines c by ws h
 soft_lines c by (End child why ∷ ws) h = soft_lines c by ws (both (is_soft (End child why)) (list_all is_soft ws) h).1
 soft_lines c by (w ∷ ws) h = absurd cc
 

@@ -2,7 +2,6 @@
 use Rattle.std.proofs.Common.{◌≡◌, ℕ, List, [], ◌∷◌, ◌++◌, refl, sym, ap, subst, ◌∙◌, Bool, true, false, not, ◌==◌, cond, Some, None, Option, inl, inr}
 use Rattle.std.specs.Prelude.{◌&&◌, ◌||◌, find, fold, is_some, nat_lt, filter_map, option_and_then}
 use Rattle.std.specs.List.{list_all, list_any, range_with_len, cons_option}
-use Rattle.std.proofs.lemmas.List.Folds.{list_any-append}
 use Rattle.journal_model.specs.declared.answer.Answer.{Answer}
 use Rattle.journal_model.specs.declared.entry.What.{What}
 use Rattle.journal_model.specs.declared.entry.What.TheVariants.{Claim, Start, NoStart, Ask, Lost, Answer as Answered}
@@ -136,6 +135,10 @@ unturned h (e ∷ xs) c a = go e.what c a (unturned h xs)
     go (Answered task answer) c a r = absurd cc
     go w c a r = r c a
 
+off : (xs : List Entry) (b : Bool) → fold (turned 1) None xs ≡ None → fold (turned 1) (cond {A = Option Holder} b None None) xs ≡ None
+off xs true h = h
+off xs false h = h
+
 -- without a claim no one holds it
 unheld : (xs : List Entry) → each_of claim_in xs ≡ [] → holder xs 1 ≡ None
 unheld [] c = refl
@@ -144,11 +147,7 @@ unheld (e ∷ xs) c = go e.what c (unheld xs)
     go : (w : What) → cons_option (claim_in w) (each_of claim_in xs) ≡ [] → (each_of claim_in xs ≡ [] → fold (turned 1) None xs ≡ None)
         → fold (turned 1) (turned_by 1 None e.by w) xs ≡ None
     go (Claim task child) c r = absurd cc
-    go (Answered task answer) c r = off (task == 1)
-      where
-        off : (b : Bool) → fold (turned 1) (cond {A = Option Holder} b None None) xs ≡ None
-        off true = r c
-        off false = r c
+    go (Answered task answer) c r = off xs (task == 1) (r c)
     go w c r = r c
 
 -- the one task is the least that is free

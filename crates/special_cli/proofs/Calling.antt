@@ -1,45 +1,244 @@
--- What is told of a call, from what is told of the way that it went.
-use Rattle.std.proofs.Common.{◌≡◌, ◌⊎◌, ◌∙◌, ℕ, List, [], ◌∷◌, Bool, true, false, Option, Some, None, refl, sym, ap, subst, inl, inr}
-use Rattle.std.specs.Prelude.{IfSome, IsSome, option_map, Result, Ok, Err, MatchResult}
-use Rattle.ann_outside.specs.Causes.{Rose, Stays, AddsOne}
-use Rattle.ann_outside.specs.Starts.{Starts}
+-- What is told of a call, from what came of its command and how that was told.
+use Rattle.std.proofs.Common.{◌≡◌, ◌⊎◌, ◌∙◌, ◌==◌, ◌≤◌, ℕ, List, [], ◌∷◌, length, Bool, true, false, cond, Option, Some, None, refl, sym, ap, subst, inl, inr, arith}
+use Rattle.std.specs.Prelude.{◌||◌, IfSome, IsSome}
+use Rattle.std.specs.Io.KnownBytes.{Appends}
+use Rattle.std.specs.List.{list_all, list_any}
+use Rattle.std.proofs.lemmas.List.{append-nil}
+use Rattle.ann_outside.specs.Causes.{Rose, Stays}
+use Rattle.ann_outside.specs.Desks.{Made}
+use Rattle.annex_model.specs.Lines.{text}
 use Rattle.journal_model.specs.declared.answer.Answer.{Answer}
 use Rattle.journal_model.specs.declared.entry.Entry.{Entry}
-use Rattle.journal_model.specs.declared.entry.What.TheVariants.{Start, NoStart}
 use Rattle.journal_model.specs.Journal.{any}
-use Rattle.child_link.specs.declared.wire.Wire.{Wire}
-use Rattle.child_link.specs.Links.{LinkValue, IsLinked}
-use Rattle.child_start.specs.Greetings.{AreNumbered}
-use Rattle.special_cli.specs.declared.refusals.Reason.{Reason}
-use Rattle.special_cli.specs.declared.words.Command.{Command}
-use Rattle.special_cli.specs.Words.{Wish, Check, Info, command_shown}
-use Rattle.special_cli.specs.Refusals.{reason_refused, refusal_if, unless}
-use Rattle.special_cli.specs.Endings.{refused_in, check_in, info_in, run_in, starts_in, IsChecked, IsTold}
-use Rattle.special_cli.specs.Informs.{IsInformed, IsInfoTold}
-use Rattle.special_cli.specs.Objects.{AreWires, OneIsLeft, HaveStarted, came, is_failed_start}
-use Rattle.special_cli.specs.Calls.{IsRefused, Leaves, CheckEnds, InfoEnds, IsCalled}
-use Rattle.special_cli.proofs.Checked.{status_only, started_none, started_once, none_failed}
-use Rattle.special_cli.proofs.Leaving.{none_failed as child_started, child_told, fault_told, one_wire, no_wire, empty_wires}
+use Rattle.journal_model.proofs.Looks.{same_number}
+use Rattle.journal_model.specs.Output.{answer_line}
+use Rattle.info_run.specs.Infos.{info_lines, is_informed}
+use Rattle.special_cli.specs.declared.end.End.{End}
+use Rattle.special_cli.specs.declared.end.End.TheVariants.{Usage, Shown, Refused, Memory, Answered, Informed}
+use Rattle.cli_words.specs.declared.refusals.Reason.{Reason}
+use Rattle.cli_words.specs.declared.command.Page.{Page}
+use Rattle.special_cli.specs.Calls.{IsCalled}
+use Rattle.special_cli.specs.Commands.{ComesToNothing, EndsCheck, HasChecked, EndsInfo, HasInformed, UnlessRefused, Runs}
+use Rattle.special_cli.specs.Endings.{is_well, status_of, IsChecked, IsPrinted, IsTold, LacksMemory}
+use Rattle.special_cli.specs.Informs.{IsInformed, IsInfoTold, info_status}
+use Rattle.special_cli.specs.Left.{Left, OutsideValue, RanValue, TableValue, IsIdle}
+use Rattle.special_cli.specs.Objects.{AreWires, HaveMade, HaveStarted, came, is_failed_start}
+use Rattle.cli_words.specs.Refusals.{reason_refused, refusal_if, unless}
+use Rattle.special_cli.specs.Wishes.{taken_up}
+use Rattle.special_cli.proofs.Checked.{unstarted}
+use Rattle.special_cli.proofs.Informed.{nothing_informed}
+use Rattle.special_cli.proofs.Leaving.{leaves_nothing}
+use Rattle.special_cli.specs.Tells.{Flow, IsSilent, IsWritten, IsPrintedOr, IsToldOf, answer_lines, answers_status}
+use Rattle.cli_words.specs.declared.command.Command.{Command}
+use Rattle.cli_words.specs.declared.command.Command.TheVariants.{Check, Info, Init, Run, Show}
 
--- ---- the status of a call that ran nothing
-
-two_three : {A : Type 0} (status : ℕ) → status ≡ 2 → status ≡ 3 → A
-two_three status a b = absurd (let bad : 2 ≡ 3 = sym a ∙ b in cc)
-
-five_two : {A : Type 0} (status : ℕ) → status ≡ 5 → status ≡ 2 → A
-five_two status a b = absurd (let bad : 5 ≡ 2 = sym a ∙ b in cc)
-
-five_three : {A : Type 0} (status : ℕ) → status ≡ 5 → status ≡ 3 → A
-five_three status a b = absurd (let bad : 5 ≡ 3 = sym a ∙ b in cc)
-
-seven_two : {A : Type 0} (status : ℕ) → status ≡ 7 → status ≡ 2 → A
-seven_two status a b = absurd (let bad : 7 ≡ 2 = sym a ∙ b in cc)
-
-seven_three : {A : Type 0} (status : ℕ) → status ≡ 7 → status ≡ 3 → A
-seven_three status a b = absurd (let bad : 7 ≡ 3 = sym a ∙ b in cc)
+-- ---- the statuses
 
 never : {A : Type 0} → false ≡ true → A
 never e = absurd cc
+
+-- the statuses that go with an end whose text was written
+wanted_of : End → List ℕ
+wanted_of Usage = 2 ∷ []
+wanted_of (Shown page) = 0 ∷ []
+wanted_of (Refused reason) = 3 ∷ 7 ∷ []
+wanted_of Memory = 7 ∷ []
+wanted_of Answered = 0 ∷ 1 ∷ 7 ∷ []
+wanted_of (Informed key) = 0 ∷ 1 ∷ 7 ∷ []
+
+-- it is one of these, or 5 behind a write that failed
+EndsWith : List ℕ → ℕ → Flow → Flow → Type 0
+EndsWith ws status out err = ((status ≡ 5) × (Rose out.faults out.faults' ⊎ Rose err.faults err.faults')) ⊎ (list_any (λ w. w == status) ws ≡ true)
+
+at : (ws : List ℕ) (status w : ℕ) → status ≡ w → list_any (λ v. v == w) ws ≡ true → list_any (λ v. v == status) ws ≡ true
+at ws status w e h = subst (λ (s : ℕ). list_any (λ v. v == s) ws ≡ true) (sym e) h
+
+on_out : (ws : List ℕ) (w : ℕ) (written : List ℕ) (status : ℕ) (out err : Flow) → list_any (λ v. v == w) ws ≡ true → IsWritten w written status out → EndsWith ws status out err
+unfolding EndsWith
+on_out ws w written status out err h (inl whole) = inr (at ws status w whole.status_is h)
+on_out ws w written status out err h (inr cut) = inl (cut.status_is, inl cut.rose)
+
+on_err : (ws : List ℕ) (w : ℕ) (written : List ℕ) (status : ℕ) (out err : Flow) → list_any (λ v. v == w) ws ≡ true → IsWritten w written status err → EndsWith ws status out err
+unfolding EndsWith
+on_err ws w written status out err h (inl whole) = inr (at ws status w whole.status_is h)
+on_err ws w written status out err h (inr cut) = inl (cut.status_is, inr cut.rose)
+
+low : (b : Bool) → list_any (λ v. v == cond {A = ℕ} b 0 1) (0 ∷ 1 ∷ 7 ∷ []) ≡ true
+low true = refl
+low false = refl
+
+ends_with : (left : Left) (status : ℕ) (out err : Flow) (end : End) → IsToldOf left status out err end → EndsWith (wanted_of end) status out err
+unfolding wanted_of
+ends_with left status out err Usage told = on_err (2 ∷ []) 2 _ status out err refl told.0
+ends_with left status out err (Shown page) told = on_out (0 ∷ []) 0 told.0 status out err refl told.1.0
+ends_with left status out err (Refused reason) (inl w, silent) = on_err (3 ∷ 7 ∷ []) 3 _ status out err refl w
+ends_with left status out err (Refused reason) (inr w, silent) = on_err (3 ∷ 7 ∷ []) 7 _ status out err refl w
+ends_with left status out err Memory told = on_err (7 ∷ []) 7 _ status out err refl told.0
+ends_with left status out err Answered (inl said) = on_out (0 ∷ 1 ∷ 7 ∷ []) (answers_status left.answers) _ status out err (low (list_all is_well left.answers)) said.0
+ends_with left status out err Answered (inr said) = on_err (0 ∷ 1 ∷ 7 ∷ []) 7 _ status out err refl said.0
+ends_with left status out err (Informed key) (inl said) = on_out (0 ∷ 1 ∷ 7 ∷ []) (info_status left.journal key) _ status out err (low (is_informed left.journal 1 key)) said.0
+ends_with left status out err (Informed key) (inr said) = on_err (0 ∷ 1 ∷ 7 ∷ []) 7 _ status out err refl said.0
+
+-- another status isn't met
+apart : {A : Type 0} (ws : List ℕ) (status k : ℕ) (out err : Flow) → EndsWith ws status out err → (5 == k) ≡ false → list_any (λ w. w == k) ws ≡ false → status ≡ k → A
+unfolding EndsWith
+apart ws status k out err (inl (five, rose)) other none is = absurd (let bad : true ≡ false = ap (λ (s : ℕ). 5 == s) (sym five ∙ is) ∙ other in cc)
+apart ws status k out err (inr is_of) other none is =
+    absurd (let bad : true ≡ false = sym is_of ∙ ap (λ (s : ℕ). list_any (λ w. w == s) ws) is ∙ none in cc)
+
+output_of : (ws : List ℕ) (status : ℕ) (out err : Flow) → EndsWith ws status out err → list_any (λ w. w == 5) ws ≡ false → status ≡ 5 → Rose out.faults out.faults' ⊎ Rose err.faults err.faults'
+unfolding EndsWith
+output_of ws status out err (inl (five, rose)) none is = rose
+output_of ws status out err (inr is_of) none is =
+    absurd (let bad : true ≡ false = sym is_of ∙ ap (λ (s : ℕ). list_any (λ w. w == s) ws) is ∙ none in cc)
+
+none_five : (end : End) → list_any (λ w. w == 5) (wanted_of end) ≡ false
+unfolding wanted_of
+none_five Usage = refl
+none_five (Shown page) = refl
+none_five (Refused reason) = refl
+none_five Memory = refl
+none_five Answered = refl
+none_five (Informed key) = refl
+
+or_seven : (ws : List ℕ) (status : ℕ) (out err : Flow) → EndsWith ws status out err → EndsWith (7 ∷ ws) status out err
+unfolding EndsWith
+or_seven ws status out err (inl h) = inl h
+or_seven ws status out err (inr h) = inr (go (7 == status))
+  where
+    go : (b : Bool) → (b || list_any (λ w. w == status) ws) ≡ true
+    go true = refl
+    go false = h
+
+seven_or : (ws : List ℕ) (status : ℕ) (out err : Flow) → EndsWith (7 ∷ []) status out err → EndsWith (7 ∷ ws) status out err
+unfolding EndsWith
+seven_or ws status out err (inl h) = inl h
+seven_or ws status out err (inr h) = inr (go (7 == status) h)
+  where
+    go : (b : Bool) → (b || false) ≡ true → (b || list_any (λ w. w == status) ws) ≡ true
+    go true e = refl
+    go false e = never e
+
+-- ---- what was written
+
+stays : (t : Option (List ℕ)) → Stays t t
+stays None = tt
+stays (Some x) = refl
+
+appends : (t : Option (List ℕ)) → Appends t t []
+appends None = tt
+appends (Some x) = sym (append-nil x)
+
+silent_appends : (f : Flow) → IsSilent f → Appends f.taken f.taken' []
+silent_appends f h = subst (λ (t : Option (List ℕ)). Appends f.taken t []) (sym h.taken) (appends f.taken)
+
+lacks : (status : ℕ) (written : List ℕ) (err : Flow) → IsWritten 7 written status err → LacksMemory status (Rose err.faults err.faults')
+lacks status written err (inl whole) = inl whole.status_is
+lacks status written err (inr cut) = inr (cut.status_is, cut.rose)
+
+late : (status : ℕ) (R : Type 0) → LacksMemory status R → (status ≡ 5) ⊎ (status ≡ 7)
+late status R (inl e) = inr e
+late status R (inr e) = inl e.0
+
+printed : (wanted : ℕ) (written : List ℕ) (status : ℕ) (out err : Flow) → IsPrintedOr wanted written status out err → IsPrinted status out.taken out.taken' written wanted
+printed wanted written status out err (inl (inl whole, silent)) = inl (whole.status_is, whole.appended)
+printed wanted written status out err (inl (inr cut, silent)) = inr (inl cut.status_is, (cut.size, cut.appended))
+printed wanted written status out err (inr (memory, silent)) = inr (late status _ (lacks status _ err memory), (0, silent_appends out silent))
+
+-- ---- check
+
+one_line : (journal : List Entry) (answers : List Answer) (answer : Answer) → answers ≡ answer ∷ [] → answer_lines journal 1 answers ≡ answer_line journal 1 answer
+one_line journal answers answer e = ap (answer_lines journal 1) e ∙ append-nil (answer_line journal 1 answer)
+
+one_status : (answers : List Answer) (answer : Answer) → answers ≡ answer ∷ [] → answers_status answers ≡ status_of answer
+one_status answers answer e = ap answers_status e ∙ go (is_well answer) refl
+  where
+    go : (b : Bool) → is_well answer ≡ b → answers_status (answer ∷ []) ≡ status_of answer
+    go true h = rw h refl
+    go false h = rw h refl
+
+check_told : (key : List ℕ) (left : Left) (status : ℕ) (out err : Flow) (end : End) → EndsCheck key left end → IsToldOf left status out err end
+    → IsTold status (Rose err.faults err.faults') out.taken out.taken' key left.journal left.answers
+check_told key left status out err Answered (answer, is) told =
+    inl (
+      answer,
+      is,
+      subst (λ (l : List ℕ). IsPrinted status out.taken out.taken' l (status_of answer)) (one_line left.journal left.answers answer is.one)
+          (subst (λ (w : ℕ). IsPrinted status out.taken out.taken' (answer_lines left.journal 1 left.answers) w) (one_status left.answers answer is.one)
+          (printed (answers_status left.answers) (answer_lines left.journal 1 left.answers) status out err told)),
+    )
+check_told key left status out err Memory none (written, silent) =
+    inr record { none = none; silent = subst (λ (t : Option (List ℕ)). Stays out.taken t) (sym silent.taken) (stays out.taken); status_is = lacks status _ err written }
+check_told key left status out err Usage ends told = absurd ends
+check_told key left status out err (Shown page) ends told = absurd ends
+check_told key left status out err (Refused reason) ends told = absurd ends
+check_told key left status out err (Informed k) ends told = absurd ends
+
+-- neither status 2 nor 3
+NeitherIn : List ℕ → Type 0
+NeitherIn ws = (list_any (λ w. w == 2) ws ≡ false) × (list_any (λ w. w == 3) ws ≡ false)
+
+check_wanted : (key : List ℕ) (left : Left) (end : End) → EndsCheck key left end → NeitherIn (wanted_of end)
+unfolding wanted_of NeitherIn
+check_wanted key left Answered ends = (refl, refl)
+check_wanted key left Memory ends = (refl, refl)
+check_wanted key left Usage ends = absurd ends
+check_wanted key left (Shown page) ends = absurd ends
+check_wanted key left (Refused reason) ends = absurd ends
+check_wanted key left (Informed k) ends = absurd ends
+
+-- ---- info
+
+info_told : (key : Option (List ℕ)) (left : Left) (status : ℕ) (out err : Flow) (end : End) → EndsInfo key left end → IsToldOf left status out err end
+    → IsInfoTold status out.taken out.taken' key left.journal
+info_told key left status out err (Informed k) (same, complete) told = record {
+  printed = subst (λ (x : Option (List ℕ)). IsPrinted status out.taken out.taken' (text (info_lines left.journal x)) (info_status left.journal x)) same
+      (printed (info_status left.journal k) (text (info_lines left.journal k)) status out err told);
+  complete = λ small. complete;
+}
+info_told key left status out err Memory ends (written, silent) = record {
+  printed = inr (late status _ (lacks status _ err written), (0, silent_appends out silent));
+  complete = λ small. too_late status (late status _ (lacks status _ err written)) small;
+}
+  where
+    too_late : {A : Type 0} (s : ℕ) → (s ≡ 5) ⊎ (s ≡ 7) → (s ≡ 0) ⊎ (s ≡ 1) → A
+    too_late s (inl a) (inl b) = absurd (let bad : 5 ≡ 0 = sym a ∙ b in cc)
+    too_late s (inl a) (inr b) = absurd (let bad : 5 ≡ 1 = sym a ∙ b in cc)
+    too_late s (inr a) (inl b) = absurd (let bad : 7 ≡ 0 = sym a ∙ b in cc)
+    too_late s (inr a) (inr b) = absurd (let bad : 7 ≡ 1 = sym a ∙ b in cc)
+info_told key left status out err Usage ends told = absurd ends
+info_told key left status out err (Shown page) ends told = absurd ends
+info_told key left status out err (Refused reason) ends told = absurd ends
+info_told key left status out err Answered ends told = absurd ends
+
+info_wanted : (key : Option (List ℕ)) (left : Left) (end : End) → EndsInfo key left end → NeitherIn (wanted_of end)
+unfolding wanted_of NeitherIn
+info_wanted key left (Informed k) ends = (refl, refl)
+info_wanted key left Memory ends = (refl, refl)
+info_wanted key left Usage ends = absurd ends
+info_wanted key left (Shown page) ends = absurd ends
+info_wanted key left (Refused reason) ends = absurd ends
+info_wanted key left Answered ends = absurd ends
+
+-- ---- the objects
+
+made_none : (xs : Option (List Made)) → HaveMade xs xs []
+made_none None = tt
+made_none (Some xs) = ([], sym (append-nil xs), refl)
+
+made_still : (old new : Option (List Made)) (tables : List TableValue) → new ≡ old → tables ≡ [] → HaveMade old new tables
+made_still old new tables e t = subst (λ (x : Option (List Made)). HaveMade old x tables) (sym e) (subst (λ (x : List TableValue). HaveMade old old x) (sym t) (made_none old))
+
+wanting : (left : Left) (status : ℕ) (out err : Flow) (end : End) → IsToldOf left status out err end → end ≡ Memory → LacksMemory status (Rose err.faults err.faults')
+wanting left status out err end told e = lacks status _ err (subst (λ (x : End). IsToldOf left status out err x) e told).0
+
+started : (left : Left) (status : ℕ) (out err : Flow) (end : End) (program : List ℕ) (before : OutsideValue) → IsToldOf left status out err end
+    → HaveStarted (end ≡ Memory) program left.journal before.programs.starts left.outside.programs.starts
+    → HaveStarted (LacksMemory status (Rose err.faults err.faults')) program left.journal before.programs.starts left.outside.programs.starts
+started left status out err end program before told (inl all) = inl all
+started left status out err end program before told (inr more) = inr (wanting left status out err end told more.0, more.1)
+
+-- ---- the call
 
 no_reason : {A : Type 0} (o : Option Reason) → o ≡ None → IsSome o → A
 no_reason o e some = never (subst (λ (x : Option Reason). IsSome x) e some)
@@ -48,266 +247,256 @@ run_at_all : {A : Type 0} (o : Option Reason) (program : List ℕ) → o ≡ Non
 run_at_all None program e none = absurd cc
 run_at_all (Some reason) program e none = absurd cc
 
-asked_for : {A : Type 0} (wish : Wish) → Some wish ≡ None → A
+asked_for : {A : Type 0} (wish : Command) → Some wish ≡ None → A
 asked_for wish e = absurd cc
 
--- no memory was found, and that was told, or wasn't
-pub stopped_other : (status : ℕ) (R : Type 0) → (status ≡ 7) ⊎ ((status ≡ 5) × R) → (status ≡ 2 → ⊥) × (status ≡ 3 → ⊥)
-stopped_other status R (inl e) = (seven_two status e, seven_three status e)
-stopped_other status R (inr e) = (five_two status e.0, five_three status e.0)
+two_five_seven : (status : ℕ) (out err : Flow) → EndsWith (7 ∷ 2 ∷ []) status out err → (status ≡ 2) ⊎ (status ≡ 5) ⊎ (status ≡ 7)
+unfolding EndsWith
+two_five_seven status out err (inl x) = inr (inl x.0)
+two_five_seven status out err (inr x) = go (7 == status) (2 == status) refl refl x
+  where
+    go : (a b : Bool) → (7 == status) ≡ a → (2 == status) ≡ b → (a || (b || false)) ≡ true → (status ≡ 2) ⊎ (status ≡ 5) ⊎ (status ≡ 7)
+    go true b e f y = inr (inr (sym (same_number 7 status e)))
+    go false true e f y = inl (sym (same_number 2 status f))
+    go false false e f y = never y
 
-pub stopped_output : (status : ℕ) (A R : Type 0) → (status ≡ 7) ⊎ ((status ≡ 5) × R) → status ≡ 5 → A ⊎ R
-stopped_output status A R (inl e) five = absurd (let bad : 7 ≡ 5 = sym e ∙ five in cc)
-stopped_output status A R (inr e) five = inr e.1
+three_five_seven : (status : ℕ) (out err : Flow) → EndsWith (7 ∷ 3 ∷ 7 ∷ []) status out err → (status ≡ 3) ⊎ (status ≡ 5) ⊎ (status ≡ 7)
+unfolding EndsWith
+three_five_seven status out err (inl h) = inr (inl h.0)
+three_five_seven status out err (inr h) = go (7 == status) (3 == status) refl refl h
+  where
+    go : (a b : Bool) → (7 == status) ≡ a → (3 == status) ≡ b → (a || (b || (a || false))) ≡ true → (status ≡ 3) ⊎ (status ≡ 5) ⊎ (status ≡ 7)
+    go true b e f h = inr (inr (sym (same_number 7 status e)))
+    go false true e f h = inl (sym (same_number 3 status f))
+    go false false e f h = never h
 
--- ---- the objects that a run leaves
+module _ (clock : Option ℕ) (before : OutsideValue) (left : Left) (end : End) (status : ℕ) (out err : Flow) (told : IsToldOf left status out err end) where
+  abbrev whole : RanValue
+  whole = record { left = left; end = end }
 
-module _ {I O : Type 0} {taken : I → Option (List ℕ)} {write_faults : I → ℕ} {inlet_number : I → Option ℕ}
-    {given left : O → Option (List ℕ)} {read_faults : O → ℕ} {outlet_number : O → Option ℕ} {starts : Option Starts} {faults : ℕ} where
-  -- they are named otherwise
-  pub leaves_same : (starts' starts'' : Option Starts) (faults' faults'' status : ℕ) (program : List ℕ) (journal journal' : List Entry) (wires wires' : List (Wire I O))
-      → starts'' ≡ starts' → faults'' ≡ faults' → journal' ≡ journal → wires' ≡ wires
-      → Leaves taken write_faults inlet_number given left read_faults outlet_number starts starts' faults faults' status program journal wires → Leaves taken write_faults inlet_number given left read_faults outlet_number starts starts'' faults faults'' status program journal' wires'
-  leaves_same starts' starts'' faults' faults'' status program journal journal' wires wires' s f j w h =
-      subst (λ (x : Option Starts). Leaves taken write_faults inlet_number given left read_faults outlet_number starts x faults faults'' status program journal' wires') (sym s)
-      (subst (λ (x : ℕ). Leaves taken write_faults inlet_number given left read_faults outlet_number starts starts' faults x status program journal' wires') (sym f)
-      (subst (λ (x : List Entry). Leaves taken write_faults inlet_number given left read_faults outlet_number starts starts' faults faults' status program x wires') (sym j)
-      (subst (λ (x : List (Wire I O)). Leaves taken write_faults inlet_number given left read_faults outlet_number starts starts' faults faults' status program journal x) (sym w) h)))
+  ends : EndsWith (wanted_of end) status out err
+  ends = ends_with left status out err end told
 
-  -- the status of want of memory may be that of a failed write
-  pub leaves_late : (starts' : Option Starts) (faults' status : ℕ) (R : Type 0) (program : List ℕ) (journal : List Entry) (wires : List (Wire I O)) → (status ≡ 7) ⊎ ((status ≡ 5) × R)
-      → Leaves taken write_faults inlet_number given left read_faults outlet_number starts starts' faults faults' 7 program journal wires → Leaves taken write_faults inlet_number given left read_faults outlet_number starts starts' faults faults' status program journal wires
-  leaves_late starts' faults' status R program journal wires s h = record { wired = h.wired; started = go h.started; fault = h.fault }
-    where
-      go : HaveStarted 7 program journal starts starts' → HaveStarted status program journal starts starts'
-      go (inl all) = inl all
-      go (inr more) = inr (status_only status R s, more.1)
+  output : status ≡ 5 → Rose out.faults out.faults' ⊎ Rose err.faults err.faults'
+  output = output_of (wanted_of end) status out err ends (none_five end)
 
-  -- nothing was started
-  pub leaves_nothing : (starts' : Option Starts) (faults' status : ℕ) (program : List ℕ) (journal : List Entry) (wires : List (Wire I O)) → starts' ≡ starts → journal ≡ [] → wires ≡ []
-      → Leaves taken write_faults inlet_number given left read_faults outlet_number starts starts' faults faults' status program journal wires
-  leaves_nothing starts' faults' status program journal wires s j w = record {
-    wired = empty_wires taken write_faults inlet_number given left read_faults outlet_number starts journal wires j w;
-    started = subst (λ (x : Option Starts). HaveStarted status program journal starts x) (sym s) (started_none status program journal starts j);
-    fault = λ failed. none_failed journal j failed;
-  }
+  -- nothing was done, or no memory was found for it
+  ends_as : (e : End) → (end ≡ e) ⊎ (end ≡ Memory) → EndsWith (7 ∷ wanted_of e) status out err
+  unfolding wanted_of
+  ends_as e (inl same) = or_seven (wanted_of e) status out err (subst (λ (x : End). EndsWith (wanted_of x) status out err) same ends)
+  ends_as e (inr same) = seven_or (wanted_of e) status out err (subst (λ (x : End). EndsWith (wanted_of x) status out err) same ends)
 
-  -- no memory was found, after one start at most
-  pub leaves_unstarted : (starts' : Option Starts) (faults' : ℕ) (program : List ℕ) (journal : List Entry) (wires : List (Wire I O)) → journal ≡ [] → wires ≡ []
-      → Stays starts starts' ⊎ ((b : Bool) × AddsOne starts starts' (program, b)) → Leaves taken write_faults inlet_number given left read_faults outlet_number starts starts' faults faults' 7 program journal wires
-  leaves_unstarted starts' faults' program journal wires j w h = record {
-    wired = empty_wires taken write_faults inlet_number given left read_faults outlet_number starts journal wires j w;
-    started = started_once 7 ⊥ program journal starts starts' j (inl refl) h;
-    fault = λ failed. none_failed journal j failed;
-  }
+  idle_desks : IsIdle before left → HaveMade before.made left.outside.made left.tables
+  idle_desks idle = made_still before.made left.outside.made left.tables (ap (λ (o : OutsideValue). o.made) idle.outside) idle.tables
 
-  -- the start failed
-  pub leaves_failed : (starts' : Option Starts) (faults' status : ℕ) (program : List ℕ) (journal : List Entry) (wires : List (Wire I O)) → starts_in journal ≡ NoStart 0 ∷ [] → wires ≡ []
-      → AddsOne starts starts' (program, false) → Rose faults faults' → Leaves taken write_faults inlet_number given left read_faults outlet_number starts starts' faults faults' status program journal wires
-  leaves_failed starts' faults' status program journal wires j w adds rose = record {
-    wired = no_wire taken write_faults inlet_number given left read_faults outlet_number starts journal wires j w;
-    started = inl (fault_told program journal starts starts' j adds);
-    fault = λ failed. rose;
-  }
-
-  -- one child was started, and its link is closed
-  pub leaves_child : (mid starts' : Option Starts) (faults' status : ℕ) (program : List ℕ) (journal : List Entry) (begun link : LinkValue I O) (wires : List (Wire I O))
-      → starts_in journal ≡ Start 1 0 false ∷ [] → AddsOne starts mid (program, true) → Stays mid starts' → AreNumbered inlet_number outlet_number mid begun
-      → (inlet_number link.inlet ≡ inlet_number begun.inlet) × (outlet_number link.outlet ≡ outlet_number begun.outlet) → link.child ≡ 1
-      → IsLinked taken write_faults given left read_faults journal link → OneIsLeft taken write_faults inlet_number given left read_faults outlet_number link wires
-      → Leaves taken write_faults inlet_number given left read_faults outlet_number starts starts' faults faults' status program journal wires
-  leaves_child mid starts' faults' status program journal begun link wires j adds stays numbered same one linked only = record {
-    wired = one_wire taken write_faults inlet_number given left read_faults outlet_number starts journal mid (program, true) begun link wires j adds numbered same one linked only;
-    started = inl (child_told program journal starts mid starts' j adds stays);
-    fault = λ failed. child_started journal 1 0 false j failed;
-  }
-
-  -- so it is, whether all was asked or not
-  pub leaves_either : {T E : Type 0} (r : Result T E) (starts' : Option Starts) (faults' : ℕ) (program : List ℕ) (journal : List Entry) (wires : List (Wire I O))
-      → ((status : ℕ) → Leaves taken write_faults inlet_number given left read_faults outlet_number starts starts' faults faults' status program journal wires)
-      → MatchResult r (λ _. (status : ℕ) → Leaves taken write_faults inlet_number given left read_faults outlet_number starts starts' faults faults' status program journal wires) (λ _. Leaves taken write_faults inlet_number given left read_faults outlet_number starts starts' faults faults' 7 program journal wires)
-  leaves_either (Ok x) starts' faults' program journal wires h = h
-  leaves_either (Err e) starts' faults' program journal wires h = h 7
-
--- ---- the call
-
--- a command that was read is what it asks for
-pub shown_some : (o : Option Command) (x y : Command) → o ≡ Some x → x ≡ y → Some (command_shown y) ≡ option_map command_shown o
-shown_some o x y is same = sym (ap (option_map command_shown) is ∙ ap (λ (z : Command). Some (command_shown z)) same)
-
--- the key of a check is named otherwise
-module _ {I O : Type 0} {taken : I → Option (List ℕ)} {write_faults : I → ℕ} {inlet_number : I → Option ℕ}
-    {given left : O → Option (List ℕ)} {read_faults : O → ℕ} {outlet_number : O → Option ℕ} {starts starts' : Option Starts} {faults faults' : ℕ}
-    {out_faults out_faults' err_faults err_faults' : ℕ} {out out' : Option (List ℕ)} {status : ℕ} {journal : List Entry} {answers : List Answer} {wires : List (Wire I O)} where
-  pub ends_check_as : (program key key' : List ℕ) → key' ≡ key → CheckEnds taken write_faults inlet_number given left read_faults outlet_number starts starts' faults faults' out_faults out_faults' err_faults err_faults' out out' status program key' journal answers wires → CheckEnds taken write_faults inlet_number given left read_faults outlet_number starts starts' faults faults' out_faults out_faults' err_faults err_faults' out out' status program key journal answers wires
-  ends_check_as program key key' e h = subst (λ (k : List ℕ). CheckEnds taken write_faults inlet_number given left read_faults outlet_number starts starts' faults faults' out_faults out_faults' err_faults err_faults' out out' status program k journal answers wires) e h
-
-module _ {I O : Type 0} {taken : I → Option (List ℕ)} {write_faults : I → ℕ} {inlet_number : I → Option ℕ}
-    {given left : O → Option (List ℕ)} {read_faults : O → ℕ} {outlet_number : O → Option ℕ} {starts starts' : Option Starts} {faults faults' : ℕ}
-    {out_faults out_faults' err_faults err_faults' : ℕ} {out out' : Option (List ℕ)} {clock : Option ℕ} {status : ℕ} {journal : List Entry} {answers : List Answer} {wires : List (Wire I O)} where
-  pub called_as : (wish wish' : Option Wish) → wish ≡ wish' → IsCalled taken write_faults inlet_number given left read_faults outlet_number starts starts' faults faults' out_faults out_faults' err_faults err_faults' out out' clock wish status journal answers wires → IsCalled taken write_faults inlet_number given left read_faults outlet_number starts starts' faults faults' out_faults out_faults' err_faults err_faults' out out' clock wish' status journal answers wires
-  called_as wish wish' e h = subst (λ (w : Option Wish). IsCalled taken write_faults inlet_number given left read_faults outlet_number starts starts' faults faults' out_faults out_faults' err_faults err_faults' out out' clock w status journal answers wires) e h
-
-  -- the words were none of the grammar's
-  pub called_unknown : (status ≡ 2) ⊎ ((status ≡ 5) × Rose err_faults err_faults') → (starts' ≡ starts) × (journal ≡ []) × (answers ≡ []) × (wires ≡ []) → IsCalled taken write_faults inlet_number given left read_faults outlet_number starts starts' faults faults' out_faults out_faults' err_faults err_faults' out out' clock None status journal answers wires
-  called_unknown ends nothing = record {
+  pub called_unknown : ComesToNothing before whole Usage → IsCalled clock before None out err status left
+  unfolding wanted_of
+  called_unknown h = record {
     usage = λ s. refl;
-    words = λ none. two_or_five ends;
-    refused = λ s. not_three ends s;
+    words = λ none. two_five_seven status out err (ends_as Usage h.end_is);
+    refused = λ s. apart (7 ∷ 2 ∷ []) status 3 out err (ends_as Usage h.end_is) refl refl s;
     key = λ some. never some;
-    early = λ none. nothing;
-    output = λ s. by_err ends s;
+    early = λ none. h.idle;
+    output = output;
     checked = tt;
     told = tt;
     informed = tt;
     info_told = tt;
-    leaves = tt;
+    wires = tt;
+    starts = tt;
+    fault = tt;
+    desks = idle_desks h.idle;
   }
-    where
-      two_or_five : (status ≡ 2) ⊎ ((status ≡ 5) × Rose err_faults err_faults') → (status ≡ 2) ⊎ (status ≡ 5)
-      two_or_five (inl e) = inl e
-      two_or_five (inr e) = inr e.0
 
-      not_three : {A : Type 0} → (status ≡ 2) ⊎ ((status ≡ 5) × Rose err_faults err_faults') → status ≡ 3 → A
-      not_three (inl e) s = two_three status e s
-      not_three (inr e) s = five_three status e.0 s
-
-      by_err : (status ≡ 2) ⊎ ((status ≡ 5) × Rose err_faults err_faults') → status ≡ 5 → Rose out_faults out_faults' ⊎ Rose err_faults err_faults'
-      by_err (inl e) s = five_two status s e
-      by_err (inr e) s = inr e.1
-
-  -- a text was asked for
-  pub called_text : (wish : Wish) → refused_in (Some wish) ≡ None → check_in (Some wish) ≡ None → info_in (Some wish) ≡ None → run_in (Some wish) ≡ None
-      → (status ≡ 0) ⊎ ((status ≡ 5) × Rose out_faults out_faults') → (starts' ≡ starts) × (journal ≡ []) × (answers ≡ []) × (wires ≡ []) → IsCalled taken write_faults inlet_number given left read_faults outlet_number starts starts' faults faults' out_faults out_faults' err_faults err_faults' out out' clock (Some wish) status journal answers wires
-  called_text wish no_key no_check no_info no_run ends nothing = record {
-    usage = λ s. not_two ends s;
-    words = λ none. asked_for wish none;
-    refused = λ s. not_three ends s;
-    key = λ some. no_reason (refused_in (Some wish)) no_key some;
-    early = λ none. nothing;
-    output = λ s. by_out ends s;
-    checked = subst (λ (o : Option (List ℕ × List ℕ)). IfSome o (λ c. IsChecked clock c.1 journal)) (sym no_check) tt;
-    told = subst (λ (o : Option (List ℕ × List ℕ)). IfSome o (λ c. IsTold status (Rose err_faults err_faults') out out' c.1 journal answers)) (sym no_check) tt;
-    informed = subst (λ (o : Option (List ℕ × Option (List ℕ))). IfSome o (λ c. IsInformed c.1 journal)) (sym no_info) tt;
-    info_told = subst (λ (o : Option (List ℕ × Option (List ℕ))). IfSome o (λ c. IsInfoTold status out out' c.1 journal × (answers ≡ []))) (sym no_info) tt;
-    leaves = subst (λ (o : Option (List ℕ)). IfSome o (λ program. Leaves taken write_faults inlet_number given left read_faults outlet_number starts starts' faults faults' status program journal wires)) (sym no_run) tt;
+  pub called_text : (page : Page) → ComesToNothing before whole (Shown page) → IsCalled clock before (Some (Show page)) out err status left
+  unfolding wanted_of
+  called_text page h = record {
+    usage = λ s. apart (7 ∷ 0 ∷ []) status 2 out err (ends_as (Shown page) h.end_is) refl refl s;
+    words = λ none. asked_for (Show page) none;
+    refused = λ s. apart (7 ∷ 0 ∷ []) status 3 out err (ends_as (Shown page) h.end_is) refl refl s;
+    key = λ some. never some;
+    early = λ none. h.idle;
+    output = output;
+    checked = tt;
+    told = tt;
+    informed = tt;
+    info_told = tt;
+    wires = tt;
+    starts = tt;
+    fault = tt;
+    desks = idle_desks h.idle;
   }
+
+  pub called_check : (program key : List ℕ) → Runs clock before (Some (Check program key)) whole → IsCalled clock before (Some (Check program key)) out err status left
+  unfolding wanted_of NeitherIn
+  called_check program key h = go (reason_refused key) refl h
     where
-      not_two : {A : Type 0} → (status ≡ 0) ⊎ ((status ≡ 5) × Rose out_faults out_faults') → status ≡ 2 → A
-      not_two (inl e) s = absurd (let bad : 0 ≡ 2 = sym e ∙ s in cc)
-      not_two (inr e) s = five_two status e.0 s
-
-      not_three : {A : Type 0} → (status ≡ 0) ⊎ ((status ≡ 5) × Rose out_faults out_faults') → status ≡ 3 → A
-      not_three (inl e) s = absurd (let bad : 0 ≡ 3 = sym e ∙ s in cc)
-      not_three (inr e) s = five_three status e.0 s
-
-      by_out : (status ≡ 0) ⊎ ((status ≡ 5) × Rose out_faults out_faults') → status ≡ 5 → Rose out_faults out_faults' ⊎ Rose err_faults err_faults'
-      by_out (inl e) s = absurd (let bad : 0 ≡ 5 = sym e ∙ s in cc)
-      by_out (inr e) s = inl e.1
-
-  pub called_wires : (wish : Option Wish) → IsCalled taken write_faults inlet_number given left read_faults outlet_number starts starts' faults faults' out_faults out_faults' err_faults err_faults' out out' clock wish status journal answers wires → IfSome (run_in wish) (λ program. AreWires taken write_faults inlet_number given left read_faults outlet_number starts journal 0 (came journal) wires)
-  called_wires wish h = go (run_in wish) h.leaves
-    where
-      go : (o : Option (List ℕ)) → IfSome o (λ program. Leaves taken write_faults inlet_number given left read_faults outlet_number starts starts' faults faults' status program journal wires) → IfSome o (λ program. AreWires taken write_faults inlet_number given left read_faults outlet_number starts journal 0 (came journal) wires)
-      go None h = tt
-      go (Some program) h = h.wired
-
-  pub called_starts : (wish : Option Wish) → IsCalled taken write_faults inlet_number given left read_faults outlet_number starts starts' faults faults' out_faults out_faults' err_faults err_faults' out out' clock wish status journal answers wires → IfSome (run_in wish) (λ program. HaveStarted status program journal starts starts')
-  called_starts wish h = go (run_in wish) h.leaves
-    where
-      go : (o : Option (List ℕ)) → IfSome o (λ program. Leaves taken write_faults inlet_number given left read_faults outlet_number starts starts' faults faults' status program journal wires) → IfSome o (λ program. HaveStarted status program journal starts starts')
-      go None h = tt
-      go (Some program) h = h.started
-
-  pub called_fault : (wish : Option Wish) → IsCalled taken write_faults inlet_number given left read_faults outlet_number starts starts' faults faults' out_faults out_faults' err_faults err_faults' out out' clock wish status journal answers wires → IfSome (run_in wish) (λ program. any is_failed_start journal ≡ true → Rose faults faults')
-  called_fault wish h = go (run_in wish) h.leaves
-    where
-      go : (o : Option (List ℕ)) → IfSome o (λ program. Leaves taken write_faults inlet_number given left read_faults outlet_number starts starts' faults faults' status program journal wires) → IfSome o (λ program. any is_failed_start journal ≡ true → Rose faults faults')
-      go None h = tt
-      go (Some program) h = h.fault
-
-  -- the words were a check
-  pub called_check : (program key : List ℕ) → (IsSome (reason_refused key) → IsRefused starts starts' err_faults err_faults' status journal answers wires) → (reason_refused key ≡ None → IsChecked clock key journal × CheckEnds taken write_faults inlet_number given left read_faults outlet_number starts starts' faults faults' out_faults out_faults' err_faults err_faults' out out' status program key journal answers wires)
-      → IsCalled taken write_faults inlet_number given left read_faults outlet_number starts starts' faults faults' out_faults out_faults' err_faults err_faults' out out' clock (Some (Check program key)) status journal answers wires
-  called_check program key if_refused if_fit = go (reason_refused key) refl
-    where
-      go : (r : Option Reason) → reason_refused key ≡ r → IsCalled taken write_faults inlet_number given left read_faults outlet_number starts starts' faults faults' out_faults out_faults' err_faults err_faults' out out' clock (Some (Check program key)) status journal answers wires
-      go None e =
-          let h = if_fit e in
+      go : (r : Option Reason) → reason_refused key ≡ r → UnlessRefused r before whole (HasChecked clock program key before whole) → IsCalled clock before (Some (Check program key)) out err status left
+      go None e h =
+          let none = check_wanted key left end h.ends in
           record {
-            usage = λ s. absurd (h.1.other.0 s);
-            words = λ none. asked_for (Check program key) none;
-            refused = λ s. absurd (h.1.other.1 s);
+            usage = λ s. apart (wanted_of end) status 2 out err ends refl none.0 s;
+            words = λ no. asked_for (Check program key) no;
+            refused = λ s. apart (wanted_of end) status 3 out err ends refl none.1 s;
             key = λ some. no_reason (reason_refused key) e some;
-            early = λ none. run_at_all (reason_refused key) program e none;
-            output = h.1.output;
-            checked = subst (λ (o : Option Reason). IfSome {T = List ℕ × List ℕ} (unless o (program, key)) (λ c. IsChecked clock c.1 journal)) (sym e) h.0;
-            told = subst (λ (o : Option Reason). IfSome {T = List ℕ × List ℕ} (unless o (program, key)) (λ c. IsTold status (Rose err_faults err_faults') out out' c.1 journal answers)) (sym e) h.1.told;
+            early = λ no. run_at_all (reason_refused key) program e no;
+            output = output;
+            checked = subst (λ (o : Option Reason). IfSome {T = List ℕ × List ℕ} (unless o (program, key)) (λ c. IsChecked clock c.1 left.journal)) (sym e) h.checked;
+            told = subst (λ (o : Option Reason). IfSome {T = List ℕ × List ℕ} (unless o (program, key)) (λ c. IsTold status (Rose err.faults err.faults') out.taken out.taken' c.1 left.journal left.answers)) (sym e) (check_told key left status out err end h.ends told);
             informed = tt;
             info_told = tt;
-            leaves = subst (λ (o : Option Reason). IfSome (unless o program) (λ p. Leaves taken write_faults inlet_number given left read_faults outlet_number starts starts' faults faults' status p journal wires)) (sym e) h.1.leaves;
+            wires = subst (λ (o : Option Reason). IfSome (unless o program) (λ p. AreWires before.programs.starts left.journal 0 (came left.journal) left.wires)) (sym e) h.objects.wired;
+            starts = subst (λ (o : Option Reason). IfSome (unless o program) (λ p. HaveStarted (LacksMemory status (Rose err.faults err.faults')) p left.journal before.programs.starts left.outside.programs.starts)) (sym e) (started left status out err end program before told h.objects.started);
+            fault = subst (λ (o : Option Reason). IfSome (unless o program) (λ p. any is_failed_start left.journal ≡ true → Rose before.programs.faults left.outside.programs.faults)) (sym e) h.objects.fault;
+            desks = made_still before.made left.outside.made left.tables h.desks.made h.desks.tables;
           }
-      go (Some reason) e =
-          let some : IsSome (reason_refused key) = subst (λ (o : Option Reason). IsSome o) (sym e) refl in
-          let h = if_refused some in
+      go (Some reason) e h =
+          let refused_so = ends_as (Refused reason) h.end_is in
           record {
-            usage = λ s. refused_two s h.status_is;
-            words = λ none. asked_for (Check program key) none;
-            refused = λ s. some;
-            key = λ k. h.status_is;
-            early = λ none. h.nothing;
-            output = λ s. inr (h.output s);
-            checked = subst (λ (o : Option Reason). IfSome {T = List ℕ × List ℕ} (unless o (program, key)) (λ c. IsChecked clock c.1 journal)) (sym e) tt;
-            told = subst (λ (o : Option Reason). IfSome {T = List ℕ × List ℕ} (unless o (program, key)) (λ c. IsTold status (Rose err_faults err_faults') out out' c.1 journal answers)) (sym e) tt;
+            usage = λ s. apart (7 ∷ 3 ∷ 7 ∷ []) status 2 out err refused_so refl refl s;
+            words = λ no. asked_for (Check program key) no;
+            refused = λ s. subst (λ (o : Option Reason). IsSome o) (sym e) refl;
+            key = λ some. three_five_seven status out err refused_so;
+            early = λ none. h.idle;
+            output = output;
+            checked = subst (λ (o : Option Reason). IfSome {T = List ℕ × List ℕ} (unless o (program, key)) (λ c. IsChecked clock c.1 left.journal)) (sym e) tt;
+            told = subst (λ (o : Option Reason). IfSome {T = List ℕ × List ℕ} (unless o (program, key)) (λ c. IsTold status (Rose err.faults err.faults') out.taken out.taken' c.1 left.journal left.answers)) (sym e) tt;
             informed = tt;
             info_told = tt;
-            leaves = subst (λ (o : Option Reason). IfSome (unless o program) (λ p. Leaves taken write_faults inlet_number given left read_faults outlet_number starts starts' faults faults' status p journal wires)) (sym e) tt;
+            wires = subst (λ (o : Option Reason). IfSome (unless o program) (λ p. AreWires before.programs.starts left.journal 0 (came left.journal) left.wires)) (sym e) tt;
+            starts = subst (λ (o : Option Reason). IfSome (unless o program) (λ p. HaveStarted (LacksMemory status (Rose err.faults err.faults')) p left.journal before.programs.starts left.outside.programs.starts)) (sym e) tt;
+            fault = subst (λ (o : Option Reason). IfSome (unless o program) (λ p. any is_failed_start left.journal ≡ true → Rose before.programs.faults left.outside.programs.faults)) (sym e) tt;
+            desks = idle_desks h.idle;
           }
-        where
-          refused_two : {A : Type 0} → status ≡ 2 → (status ≡ 3) ⊎ (status ≡ 5) ⊎ (status ≡ 7) → A
-          refused_two two (inl s) = two_three status two s
-          refused_two two (inr (inl s)) = five_two status s two
-          refused_two two (inr (inr s)) = seven_two status s two
 
-  -- the words were an info
-  pub called_info : (program : List ℕ) (key : Option (List ℕ)) → (IsSome (refusal_if key) → IsRefused starts starts' err_faults err_faults' status journal answers wires) → (refusal_if key ≡ None → IsInformed key journal × InfoEnds taken write_faults inlet_number given left read_faults outlet_number starts starts' faults faults' out_faults out_faults' err_faults err_faults' out out' status program key journal answers wires)
-      → IsCalled taken write_faults inlet_number given left read_faults outlet_number starts starts' faults faults' out_faults out_faults' err_faults err_faults' out out' clock (Some (Info program key)) status journal answers wires
-  called_info program key if_refused if_fit = go (refusal_if key) refl
+  pub called_info : (program : List ℕ) (key : Option (List ℕ)) → Runs clock before (Some (Info program key)) whole → IsCalled clock before (Some (Info program key)) out err status left
+  unfolding wanted_of NeitherIn
+  called_info program key h = go (refusal_if key) refl h
     where
-      go : (r : Option Reason) → refusal_if key ≡ r → IsCalled taken write_faults inlet_number given left read_faults outlet_number starts starts' faults faults' out_faults out_faults' err_faults err_faults' out out' clock (Some (Info program key)) status journal answers wires
-      go None e =
-          let h = if_fit e in
+      go : (r : Option Reason) → refusal_if key ≡ r → UnlessRefused r before whole (HasInformed program key before whole) → IsCalled clock before (Some (Info program key)) out err status left
+      go None e h =
+          let none = info_wanted key left end h.ends in
           record {
-            usage = λ s. absurd (h.1.other.0 s);
-            words = λ none. asked_for (Info program key) none;
-            refused = λ s. absurd (h.1.other.1 s);
+            usage = λ s. apart (wanted_of end) status 2 out err ends refl none.0 s;
+            words = λ no. asked_for (Info program key) no;
+            refused = λ s. apart (wanted_of end) status 3 out err ends refl none.1 s;
             key = λ some. no_reason (refusal_if key) e some;
-            early = λ none. run_at_all (refusal_if key) program e none;
-            output = h.1.output;
+            early = λ no. run_at_all (refusal_if key) program e no;
+            output = output;
             checked = tt;
             told = tt;
-            informed = subst (λ (o : Option Reason). IfSome {T = List ℕ × Option (List ℕ)} (unless o (program, key)) (λ c. IsInformed c.1 journal)) (sym e) h.0;
-            info_told = subst (λ (o : Option Reason). IfSome {T = List ℕ × Option (List ℕ)} (unless o (program, key)) (λ c. IsInfoTold status out out' c.1 journal × (answers ≡ []))) (sym e) h.1.told;
-            leaves = subst (λ (o : Option Reason). IfSome (unless o program) (λ p. Leaves taken write_faults inlet_number given left read_faults outlet_number starts starts' faults faults' status p journal wires)) (sym e) h.1.leaves;
+            informed = subst (λ (o : Option Reason). IfSome {T = List ℕ × Option (List ℕ)} (unless o (program, key)) (λ c. IsInformed c.1 left.journal)) (sym e) h.informed;
+            info_told = subst (λ (o : Option Reason). IfSome {T = List ℕ × Option (List ℕ)} (unless o (program, key)) (λ c. IsInfoTold status out.taken out.taken' c.1 left.journal × (left.answers ≡ []))) (sym e) (info_told key left status out err end h.ends told, h.none);
+            wires = subst (λ (o : Option Reason). IfSome (unless o program) (λ p. AreWires before.programs.starts left.journal 0 (came left.journal) left.wires)) (sym e) h.objects.wired;
+            starts = subst (λ (o : Option Reason). IfSome (unless o program) (λ p. HaveStarted (LacksMemory status (Rose err.faults err.faults')) p left.journal before.programs.starts left.outside.programs.starts)) (sym e) (started left status out err end program before told h.objects.started);
+            fault = subst (λ (o : Option Reason). IfSome (unless o program) (λ p. any is_failed_start left.journal ≡ true → Rose before.programs.faults left.outside.programs.faults)) (sym e) h.objects.fault;
+            desks = made_still before.made left.outside.made left.tables h.desks.made h.desks.tables;
           }
-      go (Some reason) e =
-          let some : IsSome (refusal_if key) = subst (λ (o : Option Reason). IsSome o) (sym e) refl in
-          let h = if_refused some in
+      go (Some reason) e h =
+          let refused_so = ends_as (Refused reason) h.end_is in
           record {
-            usage = λ s. refused_two s h.status_is;
-            words = λ none. asked_for (Info program key) none;
-            refused = λ s. some;
-            key = λ k. h.status_is;
-            early = λ none. h.nothing;
-            output = λ s. inr (h.output s);
+            usage = λ s. apart (7 ∷ 3 ∷ 7 ∷ []) status 2 out err refused_so refl refl s;
+            words = λ no. asked_for (Info program key) no;
+            refused = λ s. subst (λ (o : Option Reason). IsSome o) (sym e) refl;
+            key = λ some. three_five_seven status out err refused_so;
+            early = λ none. h.idle;
+            output = output;
             checked = tt;
             told = tt;
-            informed = subst (λ (o : Option Reason). IfSome {T = List ℕ × Option (List ℕ)} (unless o (program, key)) (λ c. IsInformed c.1 journal)) (sym e) tt;
-            info_told = subst (λ (o : Option Reason). IfSome {T = List ℕ × Option (List ℕ)} (unless o (program, key)) (λ c. IsInfoTold status out out' c.1 journal × (answers ≡ []))) (sym e) tt;
-            leaves = subst (λ (o : Option Reason). IfSome (unless o program) (λ p. Leaves taken write_faults inlet_number given left read_faults outlet_number starts starts' faults faults' status p journal wires)) (sym e) tt;
+            informed = subst (λ (o : Option Reason). IfSome {T = List ℕ × Option (List ℕ)} (unless o (program, key)) (λ c. IsInformed c.1 left.journal)) (sym e) tt;
+            info_told = subst (λ (o : Option Reason). IfSome {T = List ℕ × Option (List ℕ)} (unless o (program, key)) (λ c. IsInfoTold status out.taken out.taken' c.1 left.journal × (left.answers ≡ []))) (sym e) tt;
+            wires = subst (λ (o : Option Reason). IfSome (unless o program) (λ p. AreWires before.programs.starts left.journal 0 (came left.journal) left.wires)) (sym e) tt;
+            starts = subst (λ (o : Option Reason). IfSome (unless o program) (λ p. HaveStarted (LacksMemory status (Rose err.faults err.faults')) p left.journal before.programs.starts left.outside.programs.starts)) (sym e) tt;
+            fault = subst (λ (o : Option Reason). IfSome (unless o program) (λ p. any is_failed_start left.journal ≡ true → Rose before.programs.faults left.outside.programs.faults)) (sym e) tt;
+            desks = idle_desks h.idle;
           }
-        where
-          refused_two : {A : Type 0} → status ≡ 2 → (status ≡ 3) ⊎ (status ≡ 5) ⊎ (status ≡ 7) → A
-          refused_two two (inl s) = two_three status two s
-          refused_two two (inr (inl s)) = five_two status s two
-          refused_two two (inr (inr s)) = seven_two status s two
+
+  called_left : (wish : Option Command) → Runs clock before wish whole → IsCalled clock before wish out err status left
+  called_left None h = called_unknown h
+  called_left (Some (Show page)) h = called_text page h
+  called_left (Some (Check program key)) h = called_check program key h
+  called_left (Some (Info program key)) h = called_info program key h
+  called_left (Some (Init words)) h = absurd h
+  called_left (Some (Run words)) h = absurd h
+
+pub called : (clock : Option ℕ) (before : OutsideValue) (wish : Option Command) (ran : RanValue) (left : Left) (status : ℕ) (out err : Flow) → left ≡ ran.left → Runs clock before wish ran
+    → IsToldOf ran.left status out err ran.end → IsCalled clock before wish out err status left
+called clock before wish ran left status out err e runs told =
+    (subst (λ (l : Left). IsCalled clock before wish out err status l) (sym e) (called_left clock before ran.left ran.end status out err told wish runs))
+
+-- ---- the answers are few
+
+none_few : (left : Left) → left.answers ≡ [] → length left.answers ≤ 65536
+none_few left e = let z : length left.answers ≡ 0 = ap (λ (xs : List Answer). length xs) e in omega arith
+
+answered_few : (key : List ℕ) (left : Left) (end : End) → EndsCheck key left end → length left.answers ≤ 65536
+answered_few key left Answered (answer, is) = let e : length left.answers ≡ 1 = ap (λ (xs : List Answer). length xs) is.one in omega arith
+answered_few key left Memory none = none_few left none
+answered_few key left Usage ends = absurd ends
+answered_few key left (Shown page) ends = absurd ends
+answered_few key left (Refused reason) ends = absurd ends
+answered_few key left (Informed k) ends = absurd ends
+
+pub few : (clock : Option ℕ) (before : OutsideValue) (wish : Option Command) (ran : RanValue) → Runs clock before wish ran → length ran.left.answers ≤ 65536
+few clock before None ran h = none_few ran.left h.idle.answers
+few clock before (Some (Show page)) ran h = none_few ran.left h.idle.answers
+few clock before (Some (Check program key)) ran h = go (reason_refused key) h
+  where
+    go : (r : Option Reason) → UnlessRefused r before ran (HasChecked clock program key before ran) → length ran.left.answers ≤ 65536
+    go None h = answered_few key ran.left ran.end h.ends
+    go (Some reason) h = none_few ran.left h.idle.answers
+few clock before (Some (Init words)) ran h = absurd h
+few clock before (Some (Run words)) ran h = absurd h
+few clock before (Some (Info program key)) ran h = go (refusal_if key) h
+  where
+    go : (r : Option Reason) → UnlessRefused r before ran (HasInformed program key before ran) → length ran.left.answers ≤ 65536
+    go None h = none_few ran.left h.none
+    go (Some reason) h = none_few ran.left h.idle.answers
+
+-- ---- no memory was found for the words
+
+pub nothing_checked : (clock : Option ℕ) (program key : List ℕ) (before : OutsideValue) (ran : RanValue) → ran.end ≡ Memory → IsIdle before ran.left → HasChecked clock program key before ran
+nothing_checked clock program key before ran e idle = record {
+  checked = checked_at clock;
+  ends = subst (λ (x : End). EndsCheck key ran.left x) (sym e) idle.answers;
+  objects = leaves_nothing _ before.programs ran.left.outside.programs program ran.left.journal ran.left.wires (ap (λ (o : OutsideValue). o.programs) idle.outside) idle.journal idle.wires;
+  desks = record { made = ap (λ (o : OutsideValue). o.made) idle.outside; tables = idle.tables };
+}
+  where
+    checked_at : (told : Option ℕ) → IsChecked told key ran.left.journal
+    checked_at None = unstarted None key 0 ran.left.journal tt idle.journal
+    checked_at (Some stamp) = unstarted (Some stamp) key stamp ran.left.journal refl idle.journal
+
+pub nothing_informed_of : (program : List ℕ) (key : Option (List ℕ)) (before : OutsideValue) (ran : RanValue) → ran.end ≡ Memory → IsIdle before ran.left → HasInformed program key before ran
+nothing_informed_of program key before ran e idle = record {
+  informed = nothing_informed key ran.left.journal idle.journal;
+  ends = subst (λ (x : End). EndsInfo key ran.left x) (sym e) tt;
+  none = idle.answers;
+  objects = leaves_nothing _ before.programs ran.left.outside.programs program ran.left.journal ran.left.wires (ap (λ (o : OutsideValue). o.programs) idle.outside) idle.journal idle.wires;
+  desks = record { made = ap (λ (o : OutsideValue). o.made) idle.outside; tables = idle.tables };
+}
+
+pub runs_nothing : (clock : Option ℕ) (before : OutsideValue) (command : Option Command) (ran : RanValue) → ran.end ≡ Memory → IsIdle before ran.left → Runs clock before (taken_up command) ran
+runs_nothing clock before None ran e idle = record { end_is = inr e; idle = idle }
+runs_nothing clock before (Some (Show page)) ran e idle = record { end_is = inr e; idle = idle }
+runs_nothing clock before (Some (Check program key)) ran e idle = go (reason_refused key)
+  where
+    go : (r : Option Reason) → UnlessRefused r before ran (HasChecked clock program key before ran)
+    go None = nothing_checked clock program key before ran e idle
+    go (Some reason) = record { end_is = inr e; idle = idle }
+runs_nothing clock before (Some (Info program key)) ran e idle = go (refusal_if key)
+  where
+    go : (r : Option Reason) → UnlessRefused r before ran (HasInformed program key before ran)
+    go None = nothing_informed_of program key before ran e idle
+    go (Some reason) = record { end_is = inr e; idle = idle }
+runs_nothing clock before (Some (Init words)) ran e idle = record { end_is = inr e; idle = idle }
+runs_nothing clock before (Some (Run words)) ran e idle = record { end_is = inr e; idle = idle }
+
+-- ---- an info is told
+
+pub told_informed : (ran : RanValue) (end : End) (journal : List Entry) (key k : Option (List ℕ)) (status : ℕ) (out err : Flow) → end ≡ ran.end → journal ≡ ran.left.journal → end ≡ Informed key → k ≡ key
+    → IsPrintedOr (info_status journal k) (text (info_lines journal k)) status out err → IsToldOf ran.left status out err ran.end
+told_informed ran end journal key k status out err e j is same told =
+    subst (λ (x : End). IsToldOf ran.left status out err x) (sym is ∙ e)
+    (subst (λ (x : List Entry). IsPrintedOr (info_status x key) (text (info_lines x key)) status out err) j
+    (subst (λ (x : Option (List ℕ)). IsPrintedOr (info_status journal x) (text (info_lines journal x)) status out err) same told))

@@ -36,7 +36,7 @@ use Rattle.special_cli.proofs.Causing.{cause_grows, cause_of_verdict, cause_of_l
 use Rattle.special_cli.specs.Endings.{start_in, starts_in, is_for_task}
 use Rattle.special_cli.specs.Runs.{main_entry, claim_in, AsksFor, IsBegun, IsDone}
 use Rattle.special_cli.proofs.Looking.{or_true, link_says_none, through, all_both, all_weaken, any_none}
-use Rattle.special_cli.proofs.Beginning.{no_starts, no_claims, no_answers, no_jobs, link_for_task, link_asks_none, answered_by_list, first_claim, own_holder}
+use Rattle.special_cli.proofs.Beginning.{no_starts, no_claims, no_answers, no_jobs, link_for_task, link_asks_none, first_claim, own_holder}
 
 -- ---- claimed without a child
 

@@ -10,11 +10,11 @@ use Rattle.journal_model.specs.declared.verdict.Verdict.TheVariants.{Ended, Unse
 use Rattle.annex_model.specs.declared.final_line.Final.{Final}
 use Rattle.annex_model.specs.declared.final_line.Final.TheVariants.{Done}
 use Rattle.journal_model.specs.declared.entry.What.{What}
-use Rattle.journal_model.specs.declared.entry.What.TheVariants.{Claim, Start, NoStart, Ask, Put, Sent, Mute, Got, End, Verdict as Settled, Lost, Answer as Answered}
+use Rattle.journal_model.specs.declared.entry.What.TheVariants.{Claim, Start, NoStart, Ask, Put, Sent, Mute, Got, End, Verdict as Settled, Lost, Answer as Answered, Note as Noted}
 use Rattle.journal_model.specs.declared.entry.Entry.{Entry}
 use Rattle.journal_model.specs.declared.opening.Opening.{Opening}
 use Rattle.journal_model.specs.Journal.{first_of, verdict_of, why_of, is_started, is_ended, is_live, is_unsent, is_full, open_jobs}
-use Rattle.journal_model.specs.Due.{verdict_at, ending, due_by_got, due_after, made_by}
+use Rattle.journal_model.specs.Due.{verdict_at, ending, due_by_got, due_after, made_by, replying}
 use Rattle.journal_model.specs.Legality.{Legal, may_come, may_stop}
 use Rattle.journal_model.proofs.Growing.{Legal-induction}
 use Rattle.journal_model.proofs.Linking.{unended, why_of-append}
@@ -75,6 +75,14 @@ none_final by child j at f c k w is = go (child == c && j == k) f is
     go true g e = cc
     go false g e = cc
 
+-- replies settle nothing
+replies_settle : (past : List Entry) (by child j : ℕ) (lines : List (List ℕ)) (c k : ℕ) → verdict_of (made_by by (replying past child j lines)) c k ≡ None
+replies_settle past by child j [] c k = refl
+replies_settle past by child j (l ∷ ls) c k = replies_settle past by child j ls c k
+
+none_replies : (past : List Entry) (by child j : ℕ) (lines : List (List ℕ)) → EndsNone (made_by by (replying past child j lines))
+none_replies past by child j lines c k w is = none_some (Ended w) (verdict_of (made_by by (replying past child j lines)) c k) (replies_settle past by child j lines c k) is
+
 so_ending : (past : List Entry) (by c : ℕ) (why : Why) → EndsSo c (made_by by (ending past c why))
 so_ending past by c why = so_end by c why (open_jobs past c)
 
@@ -83,8 +91,9 @@ so_nothing child c k w is = absurd cc
 
 so_got : (o : Opening) (past : List Entry) (by c : ℕ) (line : List ℕ) → EndsSo c (made_by by (due_by_got o past c line))
 so_got o past by c line =
-    got_cases (λ ws. EndsSo c (made_by by ws)) o past c (so_nothing c) (λ why soft. so_ending past by c why)
-    (λ j f opened. so_none c (made_by by (Settled c j (verdict_at f (length past)) ∷ [])) (none_final by c j (length past) f)) line
+    got_cases (λ ws. EndsSo c (made_by by ws)) o past c line (so_nothing c) (λ why soft. so_ending past by c why)
+    (λ j f opened. so_none c (made_by by (Settled c j (verdict_at f (length past)) ∷ [])) (none_final by c j (length past) f))
+    (λ j lines opened for are. so_none c (made_by by (replying past c j lines)) (none_replies past by c j lines))
 
 live_unended : (past : List Entry) (child : ℕ) → is_live past child ≡ true → is_ended past child ≡ false
 live_unended past child h = go (is_ended past child) (both (is_started past child) (not (is_ended past child)) h).1
@@ -116,6 +125,7 @@ so_group o past by (Put child job line) may c k v is = absurd cc
 so_group o past by (Sent child) may c k v is = absurd cc
 so_group o past by (Lost child task) may c k v is = absurd cc
 so_group o past by (Answered task answer) may c k v is = absurd cc
+so_group o past by (Noted task chunk count) may c k v is = absurd cc
 
 -- ---- the journal
 

@@ -26,7 +26,7 @@ use Rattle.child_start.proofs.Jobs.{idle_on}
 use Rattle.special_cli.specs.Endings.{start_in, is_for_task, closing}
 use Rattle.special_cli.specs.Runs.{main_entry, claim_in, IsDone, IsRun}
 use Rattle.special_cli.proofs.Causing.{cause_grows}
-use Rattle.special_cli.proofs.Looking.{or_true, through, all_both}
+use Rattle.special_cli.proofs.Looking.{through, all_both}
 use Rattle.special_cli.proofs.Beginning.{first_claim}
 
 -- the answer may be given

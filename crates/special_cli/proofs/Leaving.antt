@@ -1,9 +1,10 @@
 -- What a run leaves of its programs and its child.
-use Rattle.std.proofs.Common.{◌≡◌, ℕ, List, [], ◌∷◌, length, refl, sym, ap, subst, ◌∙◌, Bool, true, false, Some, None, Option, length-append}
+use Rattle.std.proofs.Common.{◌≡◌, ◌⊎◌, inl, inr, ℕ, List, [], ◌∷◌, length, refl, sym, ap, subst, ◌∙◌, Bool, true, false, Some, None, Option, length-append}
 use Rattle.std.specs.Prelude.{IsTrue, filter_map, option_and_then, option_map}
 use Rattle.std.specs.List.{list_any}
+use Rattle.std.proofs.lemmas.List.{append-nil}
 use Rattle.ann_outside.specs.Starts.{Starts, IsNumbered}
-use Rattle.ann_outside.specs.Causes.{AddsOne, Stays}
+use Rattle.ann_outside.specs.Causes.{AddsOne, Rose, Stays}
 use Rattle.journal_model.specs.declared.verdict.Why.{Why}
 use Rattle.journal_model.specs.declared.verdict.Verdict.{Verdict}
 use Rattle.journal_model.specs.declared.answer.Answer.{Answer}
@@ -14,11 +15,11 @@ use Rattle.journal_model.specs.declared.entry.Entry.{Entry}
 use Rattle.journal_model.specs.Journal.{any}
 use Rattle.journal_model.specs.Wires.{Wired, Caused, is_heard_in_turn}
 use Rattle.task_run.specs.TaskRuns.{refused_at}
-use Rattle.child_link.specs.declared.wire.Wire.{Wire}
 use Rattle.child_link.specs.Links.{LinkValue, IsLinked}
 use Rattle.child_start.specs.Greetings.{Greeted, IsRefused, HasEnded, IsUnsent, AreNumbered}
 use Rattle.special_cli.specs.Endings.{start_in, starts_in}
-use Rattle.special_cli.specs.Objects.{came_in, came, IsOfStart, IsWire, AreWires, OneIsLeft, told_in, told, AddsAll, is_failed_start}
+use Rattle.special_cli.specs.Objects.{came_in, came, IsOfStart, IsWire, AreWires, OneIsLeft, told_in, told, AddsAll, HaveStarted, Leaves, is_failed_start}
+use Rattle.special_cli.specs.Left.{ProgramsValue, WireValue}
 use Rattle.special_cli.specs.Runs.{IsUnready}
 use Rattle.special_cli.proofs.Looking.{through, any_through}
 use Rattle.special_cli.proofs.Beginning.{begun_child}
@@ -53,7 +54,7 @@ came_is (Start child slot offer) = refl
 came_is (NoStart slot) = refl
 came_is w = refl
 
-pub came_of_starts : (journal : List Entry) (first : What) → starts_in journal ≡ first ∷ [] → came journal ≡ filter_map came_in (first ∷ [])
+came_of_starts : (journal : List Entry) (first : What) → starts_in journal ≡ first ∷ [] → came journal ≡ filter_map came_in (first ∷ [])
 came_of_starts journal first h = through came_in start_in came_in came_is journal ∙ ap (filter_map came_in) h
 
 told_is : (program : List ℕ) (w : What) → told_in program w ≡ option_and_then (told_in program) (start_in w)
@@ -61,11 +62,11 @@ told_is program (Start child slot offer) = refl
 told_is program (NoStart slot) = refl
 told_is program w = refl
 
-pub told_of_starts : (program : List ℕ) (journal : List Entry) (first : What) → starts_in journal ≡ first ∷ [] → told program journal ≡ filter_map (told_in program) (first ∷ [])
+told_of_starts : (program : List ℕ) (journal : List Entry) (first : What) → starts_in journal ≡ first ∷ [] → told program journal ≡ filter_map (told_in program) (first ∷ [])
 told_of_starts program journal first h = through (told_in program) start_in (told_in program) (told_is program) journal ∙ ap (filter_map (told_in program)) h
 
 -- a start that gave a child is none that failed
-pub none_failed : {A : Type 0} (journal : List Entry) (c slot : ℕ) (offer : Bool) → starts_in journal ≡ Start c slot offer ∷ [] → any is_failed_start journal ≡ true → A
+none_failed : {A : Type 0} (journal : List Entry) (c slot : ℕ) (offer : Bool) → starts_in journal ≡ Start c slot offer ∷ [] → any is_failed_start journal ≡ true → A
 none_failed journal c slot offer h failed =
     let none : any is_failed_start journal ≡ false = any_through is_failed_start start_in is_failed_start failed_is journal ∙ ap (list_any is_failed_start) h in
     absurd (let bad : true ≡ false = sym failed ∙ none in cc)
@@ -78,17 +79,17 @@ adds_stays (Some xs) None new x a s = absurd a
 adds_stays (Some xs) (Some ys) None x a s = absurd s
 adds_stays (Some xs) (Some ys) (Some zs) x a s = s ∙ a
 
-pub adds_all : (old new : Option Starts) (x : List ℕ × Bool) → AddsOne old new x → AddsAll old new (x ∷ [])
+adds_all : (old new : Option Starts) (x : List ℕ × Bool) → AddsOne old new x → AddsAll old new (x ∷ [])
 adds_all None None x a = tt
 adds_all None (Some ys) x a = absurd a
 adds_all (Some xs) None x a = absurd a
 adds_all (Some xs) (Some ys) x a = a
 
-pub child_told : (program : List ℕ) (journal : List Entry) (old mid new : Option Starts) → starts_in journal ≡ Start 1 0 false ∷ [] → AddsOne old mid (program, true) → Stays mid new
+child_told : (program : List ℕ) (journal : List Entry) (old mid new : Option Starts) → starts_in journal ≡ Start 1 0 false ∷ [] → AddsOne old mid (program, true) → Stays mid new
     → AddsAll old new (told program journal)
 child_told program journal old mid new h a s = subst (AddsAll old new) (sym (told_of_starts program journal (Start 1 0 false) h)) (adds_stays old mid new (program, true) a s)
 
-pub fault_told : (program : List ℕ) (journal : List Entry) (old new : Option Starts) → starts_in journal ≡ NoStart 0 ∷ [] → AddsOne old new (program, false) → AddsAll old new (told program journal)
+fault_told : (program : List ℕ) (journal : List Entry) (old new : Option Starts) → starts_in journal ≡ NoStart 0 ∷ [] → AddsOne old new (program, false) → AddsAll old new (told program journal)
 fault_told program journal old new h a = subst (AddsAll old new) (sym (told_of_starts program journal (NoStart 0) h)) (adds_all old new (program, false) a)
 
 -- ---- the wire
@@ -99,33 +100,103 @@ of_start None new x (Some n) a h = tt
 of_start (Some xs) None x (Some n) a h = absurd a
 of_start (Some xs) (Some ys) x (Some n) a h = h ∙ ap (λ (zs : Starts). length zs) a ∙ length-append xs (x ∷ [])
 
-module _ {I O : Type 0} (taken : I → Option (List ℕ)) (wf : I → ℕ) (inlet_number : I → Option ℕ)
-    (given left : O → Option (List ℕ)) (rf : O → ℕ) (outlet_number : O → Option ℕ) (old : Option Starts) (journal : List Entry) where
-  -- the one child's wire
-  pub one_wire : (new : Option Starts) (x : List ℕ × Bool) (begun link : LinkValue I O) (wires : List (Wire I O)) → starts_in journal ≡ Start 1 0 false ∷ []
-      → AddsOne old new x → AreNumbered inlet_number outlet_number new begun
-      → (inlet_number link.inlet ≡ inlet_number begun.inlet) × (outlet_number link.outlet ≡ outlet_number begun.outlet) → link.child ≡ 1
-      → IsLinked taken wf given left rf journal link → OneIsLeft taken wf inlet_number given left rf outlet_number link wires
-      → AreWires taken wf inlet_number given left rf outlet_number old journal 0 (came journal) wires
-  one_wire new x begun link wires starts adds numbered same_numbers one linked (wire, only, is) =
-      let first : came journal ≡ Some 1 ∷ [] = came_of_starts journal (Start 1 0 false) starts in
-      let wired : Wired journal wire.child (given wire.outlet) (taken wire.inlet) wire.rest = rw (is.child, is.given_is, is.taken_is, is.rest) linked.0.wired in
-      let caused : Caused journal wire.child (left wire.outlet) (rf wire.outlet) (wf wire.inlet) = rw (is.child, is.left_is, is.faults.0, is.faults.1) linked.0.caused in
-      let heard : IsTrue (is_heard_in_turn journal wire.child) = rw is.child linked.1 in
-      let inlet : IsOfStart old 1 (inlet_number wire.inlet) = subst (IsOfStart old 1) (sym (is.numbers.0 ∙ same_numbers.0)) (of_start old new x (inlet_number begun.inlet) adds numbered.0) in
-      let outlet : IsOfStart old 1 (outlet_number wire.outlet) = subst (IsOfStart old 1) (sym (is.numbers.1 ∙ same_numbers.1)) (of_start old new x (outlet_number begun.outlet) adds numbered.1) in
-      let own : IsWire taken wf inlet_number given left rf outlet_number old journal 1 wire = record { wired = wired; caused = caused; heard = heard; inlet = inlet; outlet = outlet } in
-      subst (λ (cs : List (Option ℕ)). AreWires taken wf inlet_number given left rf outlet_number old journal 0 cs wires) (sym first)
-      (subst (λ (ws : List (Wire I O)). AreWires taken wf inlet_number given left rf outlet_number old journal 0 (Some 1 ∷ []) ws) (sym only) (is.child ∙ one, own, tt))
+-- the one child's wire
+one_wire : {I O : Type 0} (taken : I → Option (List ℕ)) (wf : I → ℕ) (inlet_number : I → Option ℕ) (given left : O → Option (List ℕ)) (rf : O → ℕ) (outlet_number : O → Option ℕ)
+    (old new : Option Starts) (journal : List Entry) (x : List ℕ × Bool) (begun link : LinkValue I O) (wires : List WireValue) → starts_in journal ≡ Start 1 0 false ∷ []
+    → AddsOne old new x → AreNumbered inlet_number outlet_number new begun
+    → (inlet_number link.inlet ≡ inlet_number begun.inlet) × (outlet_number link.outlet ≡ outlet_number begun.outlet) → link.child ≡ 1
+    → IsLinked taken wf given left rf journal link → OneIsLeft taken wf inlet_number given left rf outlet_number link wires
+    → AreWires old journal 0 (came journal) wires
+one_wire taken wf inlet_number given left rf outlet_number old new journal x begun link wires starts adds numbered same_numbers one linked (wire, only, is) =
+    let first : came journal ≡ Some 1 ∷ [] = came_of_starts journal (Start 1 0 false) starts in
+    let wired : Wired journal wire.child wire.given wire.taken wire.rest = rw (is.child, is.given_is, is.taken_is, is.rest) linked.0.wired in
+    let caused : Caused journal wire.child wire.left wire.read_faults wire.write_faults = rw (is.child, is.left_is, is.faults.0, is.faults.1) linked.0.caused in
+    let heard : IsTrue (is_heard_in_turn journal wire.child) = rw is.child linked.1 in
+    let inlet : IsOfStart old 1 wire.inlet_number = subst (IsOfStart old 1) (sym (is.numbers.0 ∙ same_numbers.0)) (of_start old new x (inlet_number begun.inlet) adds numbered.0) in
+    let outlet : IsOfStart old 1 wire.outlet_number = subst (IsOfStart old 1) (sym (is.numbers.1 ∙ same_numbers.1)) (of_start old new x (outlet_number begun.outlet) adds numbered.1) in
+    let own : IsWire old journal 1 wire = record { wired = wired; caused = caused; heard = heard; inlet = inlet; outlet = outlet; closed = is.closed } in
+    subst (λ (cs : List (Option ℕ)). AreWires old journal 0 cs wires) (sym first)
+    (subst (λ (ws : List WireValue). AreWires old journal 0 (Some 1 ∷ []) ws) (sym only) (is.child ∙ one, own, tt))
 
-  -- no child was started
-  pub no_wire : (wires : List (Wire I O)) → starts_in journal ≡ NoStart 0 ∷ [] → wires ≡ [] → AreWires taken wf inlet_number given left rf outlet_number old journal 0 (came journal) wires
-  no_wire wires starts none =
-      subst (λ (cs : List (Option ℕ)). AreWires taken wf inlet_number given left rf outlet_number old journal 0 cs wires) (sym (came_of_starts journal (NoStart 0) starts))
-      (subst (λ (ws : List (Wire I O)). AreWires taken wf inlet_number given left rf outlet_number old journal 0 (None ∷ []) ws) (sym none) tt)
+-- no child was started
+no_wire : (old : Option Starts) (journal : List Entry) (wires : List WireValue) → starts_in journal ≡ NoStart 0 ∷ [] → wires ≡ [] → AreWires old journal 0 (came journal) wires
+no_wire old journal wires starts none =
+    subst (λ (cs : List (Option ℕ)). AreWires old journal 0 cs wires) (sym (came_of_starts journal (NoStart 0) starts))
+    (subst (λ (ws : List WireValue). AreWires old journal 0 (None ∷ []) ws) (sym none) tt)
 
-  -- nothing was started
-  pub empty_wires : (wires : List (Wire I O)) → journal ≡ [] → wires ≡ [] → AreWires taken wf inlet_number given left rf outlet_number old journal 0 (came journal) wires
-  empty_wires wires nothing none =
-      subst (λ (j : List Entry). AreWires taken wf inlet_number given left rf outlet_number old journal 0 (came j) wires) (sym nothing)
-      (subst (λ (ws : List (Wire I O)). AreWires taken wf inlet_number given left rf outlet_number old journal 0 [] ws) (sym none) tt)
+-- nothing was started
+empty_wires : (old : Option Starts) (journal : List Entry) (wires : List WireValue) → journal ≡ [] → wires ≡ [] → AreWires old journal 0 (came journal) wires
+empty_wires old journal wires nothing none =
+    subst (λ (j : List Entry). AreWires old journal 0 (came j) wires) (sym nothing)
+    (subst (λ (ws : List WireValue). AreWires old journal 0 [] ws) (sym none) tt)
+
+-- ---- what is left
+
+none_started : {A : Type 0} (journal : List Entry) → journal ≡ [] → any is_failed_start journal ≡ true → A
+none_started journal none h = absurd (let bad : true ≡ false = sym h ∙ ap (any is_failed_start) none in cc)
+
+stays_none : (old new : Option Starts) → Stays old new → AddsAll old new []
+stays_none None None s = tt
+stays_none None (Some ys) s = absurd s
+stays_none (Some xs) None s = absurd s
+stays_none (Some xs) (Some ys) s = s ∙ sym (append-nil xs)
+
+adds_none : (t : Option Starts) → AddsAll t t []
+adds_none None = tt
+adds_none (Some xs) = sym (append-nil xs)
+
+-- nothing was started
+pub leaves_nothing : (W : Type 0) (before after : ProgramsValue) (program : List ℕ) (journal : List Entry) (wires : List WireValue) → after ≡ before → journal ≡ [] → wires ≡ []
+    → Leaves W program journal before after wires
+leaves_nothing W before after program journal wires same j w = record {
+  wired = empty_wires before.starts journal wires j w;
+  started = inl (subst (λ (x : List Entry). AddsAll before.starts after.starts (told program x)) (sym j) (subst (λ (v : ProgramsValue). AddsAll before.starts v.starts []) (sym same) (adds_none before.starts)));
+  fault = λ failed. none_started journal j failed;
+}
+
+-- no memory was found, after one start at most
+pub leaves_unstarted : (W : Type 0) (before after : ProgramsValue) (program : List ℕ) (journal : List Entry) (wires : List WireValue) → W → journal ≡ [] → wires ≡ []
+    → Stays before.starts after.starts ⊎ ((b : Bool) × AddsOne before.starts after.starts (program, b)) → Leaves W program journal before after wires
+leaves_unstarted W before after program journal wires wanted j w h = record {
+  wired = empty_wires before.starts journal wires j w;
+  started = subst (λ (x : List Entry). HaveStarted W program x before.starts after.starts) (sym j) (go h);
+  fault = λ failed. none_started journal j failed;
+}
+  where
+    go : Stays before.starts after.starts ⊎ ((b : Bool) × AddsOne before.starts after.starts (program, b)) → HaveStarted W program [] before.starts after.starts
+    go (inl x) = inl (stays_none before.starts after.starts x)
+    go (inr (b, a)) = inr (wanted, (b, adds_all before.starts after.starts (program, b) a))
+
+-- the start failed
+pub leaves_failed : (W : Type 0) (before after : ProgramsValue) (program : List ℕ) (journal : List Entry) (wires : List WireValue) → starts_in journal ≡ NoStart 0 ∷ [] → wires ≡ []
+    → AddsOne before.starts after.starts (program, false) → Rose before.faults after.faults → Leaves W program journal before after wires
+leaves_failed W before after program journal wires j w adds rose = record {
+  wired = no_wire before.starts journal wires j w;
+  started = inl (fault_told program journal before.starts after.starts j adds);
+  fault = λ failed. rose;
+}
+
+-- one child was started, and its link is closed
+pub leaves_child : {I O : Type 0} {taken : I → Option (List ℕ)} {wf : I → ℕ} {inlet_number : I → Option ℕ} {given left : O → Option (List ℕ)} {rf : O → ℕ} {outlet_number : O → Option ℕ}
+    (W : Type 0) (mid : Option Starts) (before after : ProgramsValue) (program : List ℕ) (journal : List Entry) (begun link : LinkValue I O) (wires : List WireValue)
+    → starts_in journal ≡ Start 1 0 false ∷ [] → AddsOne before.starts mid (program, true) → Stays mid after.starts → AreNumbered inlet_number outlet_number mid begun
+    → (inlet_number link.inlet ≡ inlet_number begun.inlet) × (outlet_number link.outlet ≡ outlet_number begun.outlet) → link.child ≡ 1
+    → IsLinked taken wf given left rf journal link → OneIsLeft taken wf inlet_number given left rf outlet_number link wires
+    → Leaves W program journal before after wires
+leaves_child {taken = taken} {wf = wf} {inlet_number = inlet_number} {given = given} {left = left} {rf = rf} {outlet_number = outlet_number} W mid before after program journal begun link wires j adds stays numbered same one linked only = record {
+  wired = one_wire taken wf inlet_number given left rf outlet_number before.starts mid journal (program, true) begun link wires j adds numbered same one linked only;
+  started = inl (child_told program journal before.starts mid after.starts j adds stays);
+  fault = λ failed. none_failed journal 1 0 false j failed;
+}
+
+-- the want of memory, the journal and the objects are named otherwise
+pub leaves_as : {V W : Type 0} {program : List ℕ} {journal journal' : List Entry} {before before' after : ProgramsValue} {wires : List WireValue} → (V → W) → journal' ≡ journal → before' ≡ before
+    → Leaves V program journal before after wires → Leaves W program journal' before' after wires
+leaves_as {V} {W} {program} {journal} {journal'} {before} {before'} {after} {wires} f j o h =
+    subst (λ (x : List Entry). Leaves W program x before' after wires) (sym j)
+    (subst (λ (x : ProgramsValue). Leaves W program journal x after wires) (sym o)
+    (record { wired = h.wired; started = go h.started; fault = h.fault }))
+  where
+    go : HaveStarted V program journal before.starts after.starts → HaveStarted W program journal before.starts after.starts
+    go (inl all) = inl all
+    go (inr more) = inr (f more.0, more.1)

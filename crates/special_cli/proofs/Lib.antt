@@ -9,6 +9,5 @@ pub mod Finishing
 pub mod Informed
 pub mod Leaving
 pub mod Looking
-pub mod Refusing
 pub mod Talking
-pub mod Telling
+pub mod Alone

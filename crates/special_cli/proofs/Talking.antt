@@ -1,6 +1,6 @@
 -- From a greeting to a child that was asked about itself, and its closing.
 use Rattle.std.proofs.Common.{◌≡◌, ◌⊎◌, ℕ, zero, suc, List, [], ◌∷◌, ◌++◌, length, refl, sym, ap, subst, ◌∙◌, Bool, true, false, not, ◌==◌, cond, Some, None, Option, inl, inr, append-nil}
-use Rattle.std.specs.Prelude.{◌&&◌, ◌||◌, nat_lt, take, map, codes, option_and_then, IsSome, IfOk, Result, Ok, Err}
+use Rattle.std.specs.Prelude.{◌&&◌, ◌||◌, take, map, codes, option_and_then, IsSome, IfOk, Result, Ok, Err}
 use Rattle.std.specs.Option.{option_or}
 use Rattle.std.specs.List.{list_all, list_any, cons_option}
 use Rattle.journal_model.specs.declared.verdict.Why.{Why}
@@ -9,7 +9,7 @@ use Rattle.journal_model.specs.declared.verdict.Verdict.{Verdict}
 use Rattle.journal_model.specs.declared.verdict.Verdict.TheVariants.{Failed as FailedAt, Unsupported as UnsupportedAt}
 use Rattle.annex_model.specs.Messages.{host_line}
 use Rattle.journal_model.specs.declared.entry.What.{What}
-use Rattle.journal_model.specs.declared.entry.What.TheVariants.{Claim, Start, NoStart, Ask, End, Answer as Answered}
+use Rattle.journal_model.specs.declared.entry.What.TheVariants.{Claim, Start, NoStart, Ask, End, Answer as Answered, Note as Noted}
 use Rattle.journal_model.specs.declared.entry.Entry.{Entry}
 use Rattle.journal_model.specs.declared.opening.Opening.{Opening}
 use Rattle.journal_model.specs.Journal.{any, each_of, starts, ends, mutes, offers, is_started, is_ended, is_mute, asked_jobs, open_jobs, verdict_of, why_of}
@@ -47,6 +47,7 @@ plain_greeting c d w h = refl
 taskless_greeting : (c : ℕ) (w : What) → is_of_greeting c w ≡ true → is_of_task w ≡ false
 taskless_greeting c (Claim task child) h = absurd cc
 taskless_greeting c (Answered task answer) h = absurd cc
+taskless_greeting c (Noted task chunk count) h = absurd cc
 taskless_greeting c w h = refl
 
 off : (b : Bool) → (b && false) ≡ false
@@ -125,6 +126,7 @@ map_take {Y = Y} f (suc n) (x ∷ xs) = ap (λ (ys : List Y). f x ∷ ys) (map_t
 taskless_asking : (c : ℕ) (w : What) → is_of_asking c w ≡ true → is_of_task w ≡ false
 taskless_asking c (Claim task child) h = absurd cc
 taskless_asking c (Answered task answer) h = absurd cc
+taskless_asking c (Noted task chunk count) h = absurd cc
 taskless_asking c w h = refl
 
 startless_asking : (c : ℕ) (w : What) → is_of_asking c w ≡ true → start_in w ≡ None
@@ -181,6 +183,7 @@ no_claims c (e ∷ journal) h = go e.what h (no_claims c journal)
         → cons_option (claimed_for c w) (each_of (claimed_for c) journal) ≡ []
     go (Claim task child) h r = absurd cc
     go (Answered task answer) h r = absurd cc
+    go (Noted task chunk count) h r = absurd cc
     go w h r = r h
 
 pub may_close : (key : Option (List ℕ)) (journal : List Entry) (c : ℕ) → IsInterviewed key journal c → may_stop journal c Closed ≡ true

@@ -5,7 +5,7 @@ use Rattle.std.specs.Io.KnownBytes.{Appends}
 use Rattle.ann_outside.specs.Causes.{Stays}
 use Rattle.journal_model.specs.declared.verdict.Why.TheVariants.{Closed}
 use Rattle.journal_model.specs.declared.answer.Answer.{Answer}
-use Rattle.journal_model.specs.declared.answer.Answer.TheVariants.{Present}
+use Rattle.journal_model.specs.declared.answer.Answer.TheVariants.{Stored, Got, Present, Dropped}
 use Rattle.journal_model.specs.Output.{answer_line, answers_in}
 use Rattle.journal_model.specs.declared.entry.What.{What}
 use Rattle.journal_model.specs.declared.entry.What.TheVariants.{Start, NoStart, Ask, End, Answer as Answered}
@@ -16,29 +16,30 @@ use Rattle.journal_model.specs.Legality.{Legal}
 use Rattle.journal_model.specs.Projection.{JobFits}
 use Rattle.task_run.specs.TaskRuns.{CheckTask}
 use Rattle.special_cli.specs.Causes.{HasCause}
-use Rattle.special_cli.specs.Words.{Wish, Check, Info}
-use Rattle.special_cli.specs.Refusals.{reason_refused, refusal_if, unless}
+use Rattle.cli_words.specs.declared.command.Command.{Command}
+use Rattle.cli_words.specs.declared.command.Command.TheVariants.{Check, Info}
+use Rattle.cli_words.specs.Refusals.{reason_refused, refusal_if, unless}
 use Rattle.special_cli.specs.Openings.{check_opening}
-use Rattle.special_cli.specs.declared.refusals.Reason.{Reason}
+use Rattle.cli_words.specs.declared.refusals.Reason.{Reason}
 
 -- the key of a check or an info is refused so
-abbrev pub refused_in : Option Wish → Option Reason
+abbrev pub refused_in : Option Command → Option Reason
 refused_in (Some (Check program key)) = reason_refused key
 refused_in (Some (Info program key)) = refusal_if key
 refused_in wish = None
 
 -- the program and the key of a check whose key is not refused
-abbrev pub check_in : Option Wish → Option (List ℕ × List ℕ)
+abbrev pub check_in : Option Command → Option (List ℕ × List ℕ)
 check_in (Some (Check program key)) = unless (reason_refused key) (program, key)
 check_in wish = None
 
 -- the program of an info, and its key where it has one, which is not refused
-abbrev pub info_in : Option Wish → Option (List ℕ × Option (List ℕ))
+abbrev pub info_in : Option Command → Option (List ℕ × Option (List ℕ))
 info_in (Some (Info program key)) = unless (refusal_if key) (program, key)
 info_in wish = None
 
 -- the program of such a check or info
-abbrev pub run_in : Option Wish → Option (List ℕ)
+abbrev pub run_in : Option Command → Option (List ℕ)
 run_in (Some (Check program key)) = unless (reason_refused key) program
 run_in (Some (Info program key)) = unless (refusal_if key) program
 run_in wish = None
@@ -71,10 +72,17 @@ pub record IsChecked (told : Option ℕ) (key : List ℕ) (journal : List Entry)
 
 -- ---- the answer
 
+-- the task did what it was to do
+abbrev pub is_well : Answer → Bool
+is_well Stored = true
+is_well Got = true
+is_well Present = true
+is_well Dropped = true
+is_well answer = false
+
 -- the status of an answer that was printed
 abbrev pub status_of : Answer → ℕ
-status_of Present = 0
-status_of answer = 1
+status_of answer = if is_well answer then 0 else 1
 
 -- the closing of the child, where one was started and has not ended
 abbrev pub closing : List Entry → List Entry
@@ -100,11 +108,15 @@ IsPrinted status taken taken' text wanted =
     ((status ≡ wanted) × Appends taken taken' text)
     ⊎ (((status ≡ 5) ⊎ (status ≡ 7)) × ((n : ℕ) × Appends taken taken' (take n text)))
 
+-- no memory was found, or the line that says so could not be written
+abbrev pub LacksMemory : ℕ → Type 0 → Type 0
+LacksMemory status err_rose = (status ≡ 7) ⊎ ((status ≡ 5) × err_rose)
+
 -- no memory was found for an answer, and nothing was printed to out
 pub record IsUnanswered (status : ℕ) (err_rose : Type 0) (taken taken' : Option (List ℕ)) (answers : List Answer) : Type 0 where
   pub none : answers ≡ []
   pub silent : Stays taken taken'
-  pub status_is : (status ≡ 7) ⊎ ((status ≡ 5) × err_rose)
+  pub status_is : LacksMemory status err_rose
 
 abbrev pub IsTold : ℕ → Type 0 → Option (List ℕ) → Option (List ℕ) → List ℕ → List Entry → List Answer → Type 0
 IsTold status err_rose taken taken' key journal answers =

@@ -4,7 +4,7 @@ use Rattle.journal_model.specs.declared.verdict.Why.{Why}
 use Rattle.annex_model.specs.Lines.{text}
 use Rattle.annex_model.specs.Messages.{host_line}
 use Rattle.journal_model.specs.declared.entry.What.{What}
-use Rattle.journal_model.specs.declared.entry.What.TheVariants.{Claim, Start, NoStart, Answer as Answered}
+use Rattle.journal_model.specs.declared.entry.What.TheVariants.{Claim, Start, NoStart, Answer as Answered, Note as Noted}
 use Rattle.journal_model.specs.declared.entry.Entry.{Entry}
 use Rattle.journal_model.specs.Journal.{any, is_live, is_mute, open_jobs, why_of}
 use Rattle.journal_model.specs.Due.{replies_at}
@@ -27,6 +27,7 @@ info_requests key = codes "EXTENSIONS INFO GETGITREMOTENAME" ∷ codes "PREPARE"
 abbrev pub is_of_task : What → Bool
 is_of_task (Claim task child) = true
 is_of_task (Answered task answer) = true
+is_of_task (Noted task chunk count) = true
 is_of_task _ = false
 
 -- There is one start at most, in slot 0, and ASYNC is not offered. The child was asked the first of the requests, in order, and

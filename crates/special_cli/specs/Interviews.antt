@@ -7,8 +7,8 @@ use Rattle.journal_model.specs.declared.entry.Entry.{Entry}
 use Rattle.journal_model.specs.Journal.{any, is_started, open_jobs}
 use Rattle.child_link.specs.Links.{LinkValue}
 use Rattle.info_run.specs.Askings.{asked_lines}
-use Rattle.special_cli.specs.declared.informing.Interview.{Interview}
-use Rattle.special_cli.specs.declared.informing.Interview.TheVariants.{Over, StartFault, NoMemory}
+use Rattle.special_cli.specs.declared.info.interview.Interview.{Interview}
+use Rattle.special_cli.specs.declared.info.interview.Interview.TheVariants.{Over, StartFault, NoMemory}
 use Rattle.special_cli.specs.Endings.{starts_in}
 use Rattle.special_cli.specs.Informs.{info_requests, is_of_task, IsComplete}
 use Rattle.special_cli.specs.Runs.{main_entry}

@@ -1,12 +1,13 @@
 pub mod Calls
 pub mod Causes
+pub mod Commands
 pub mod Endings
 pub mod Informs
+pub mod Left
 pub mod Objects
 pub mod Openings
-pub mod Refusals
 pub mod Rows
 pub mod Runs
 pub mod Interviews
-pub mod Texts
-pub mod Words
+pub mod Tells
+pub mod Wishes

@@ -1,13 +1,16 @@
 -- What a run leaves of the objects that it was handed: the wires of its children, and the starts of its programs.
-use Rattle.std.specs.Prelude.{ℕ, ◌≡◌, ◌⊎◌, ◌+◌, Bool, true, false, List, [], ◌∷◌, ◌++◌, length, Option, Some, None, IsTrue}
+use Rattle.std.specs.Prelude.{ℕ, ◌≡◌, ◌⊎◌, ◌+◌, Bool, true, false, List, [], ◌∷◌, ◌++◌, length, map, Option, Some, None, IsTrue}
+use Rattle.std.specs.List.{range_with_len}
+use Rattle.ann_outside.specs.Causes.{Rose}
+use Rattle.ann_outside.specs.Desks.{Made}
 use Rattle.ann_outside.specs.Starts.{Starts}
 use Rattle.journal_model.specs.declared.entry.What.{What}
 use Rattle.journal_model.specs.declared.entry.What.TheVariants.{Start, NoStart}
 use Rattle.journal_model.specs.declared.entry.Entry.{Entry}
-use Rattle.journal_model.specs.Journal.{each_of}
+use Rattle.journal_model.specs.Journal.{any, each_of}
 use Rattle.journal_model.specs.Wires.{Wired, Caused, is_heard_in_turn}
-use Rattle.child_link.specs.declared.wire.Wire.{Wire}
 use Rattle.child_link.specs.Links.{LinkValue}
+use Rattle.special_cli.specs.Left.{ProgramsValue, WireValue, TableValue}
 
 -- ---- wires
 
@@ -27,40 +30,40 @@ IsOfStart starts n None = Unit {0}
 IsOfStart None n (Some number) = Unit {0}
 IsOfStart (Some xs) n (Some number) = number ≡ length xs + n
 
-module _ {I O : Type 0} (taken : I → Option (List ℕ)) (write_faults : I → ℕ) (inlet_number : I → Option ℕ)
-    (given left : O → Option (List ℕ)) (read_faults : O → ℕ) (outlet_number : O → Option ℕ) (starts : Option Starts) (journal : List Entry) where
-  -- The wire's bytes are the journal's lines, its child's end and mute have their causes, each line was fed in its turn, and its
-  -- halves are those that the nth start gave.
-  pub record IsWire (n : ℕ) (wire : Wire I O) : Type 0 where
-    pub wired : Wired journal wire.child (given wire.outlet) (taken wire.inlet) wire.rest
-    pub caused : Caused journal wire.child (left wire.outlet) (read_faults wire.outlet) (write_faults wire.inlet)
-    pub heard : IsTrue (is_heard_in_turn journal wire.child)
-    pub inlet : IsOfStart starts n (inlet_number wire.inlet)
-    pub outlet : IsOfStart starts n (outlet_number wire.outlet)
+-- The wire's bytes are the journal's lines, its child's end and mute have their causes, each line was fed in its turn, its
+-- halves are those that the nth start gave, and both are closed.
+pub record IsWire (starts : Option Starts) (journal : List Entry) (n : ℕ) (wire : WireValue) : Type 0 where
+  pub wired : Wired journal wire.child wire.given wire.taken wire.rest
+  pub caused : Caused journal wire.child wire.left wire.read_faults wire.write_faults
+  pub heard : IsTrue (is_heard_in_turn journal wire.child)
+  pub inlet : IsOfStart starts n wire.inlet_number
+  pub outlet : IsOfStart starts n wire.outlet_number
+  pub closed : (wire.is_inlet_open ≡ false) × (wire.is_outlet_open ≡ false)
 
-  -- a wire for each child that a start gave, in order, where n starts stand before these
-  abbrev pub AreWires : ℕ → List (Option ℕ) → List (Wire I O) → Type 0
-  AreWires n [] [] = Unit {0}
-  AreWires n (None ∷ cs) wires = AreWires (n + 1) cs wires
-  AreWires n (Some c ∷ cs) (wire ∷ wires) = (wire.child ≡ c) × IsWire (n + 1) wire × AreWires (n + 1) cs wires
-  AreWires n _ _ = ⊥
+-- a wire for each child that a start gave, in order, where n starts stand before these
+abbrev pub AreWires : Option Starts → List Entry → ℕ → List (Option ℕ) → List WireValue → Type 0
+AreWires starts journal n [] [] = Unit {0}
+AreWires starts journal n (None ∷ cs) wires = AreWires starts journal (n + 1) cs wires
+AreWires starts journal n (Some c ∷ cs) (wire ∷ wires) = (wire.child ≡ c) × IsWire starts journal (n + 1) wire × AreWires starts journal (n + 1) cs wires
+AreWires starts journal n _ _ = ⊥
 
 -- the wire that a link leaves
 pub record IsLeft {I O : Type 0} (taken : I → Option (List ℕ)) (write_faults : I → ℕ) (inlet_number : I → Option ℕ)
-    (given left : O → Option (List ℕ)) (read_faults : O → ℕ) (outlet_number : O → Option ℕ) (link : LinkValue I O) (wire : Wire I O) : Type 0 where
+    (given left : O → Option (List ℕ)) (read_faults : O → ℕ) (outlet_number : O → Option ℕ) (link : LinkValue I O) (wire : WireValue) : Type 0 where
   pub child : wire.child ≡ link.child
-  pub taken_is : taken wire.inlet ≡ taken link.inlet
-  pub given_is : given wire.outlet ≡ given link.outlet
-  pub left_is : left wire.outlet ≡ left link.outlet
-  pub faults : (write_faults wire.inlet ≡ write_faults link.inlet) × (read_faults wire.outlet ≡ read_faults link.outlet)
-  pub numbers : (inlet_number wire.inlet ≡ inlet_number link.inlet) × (outlet_number wire.outlet ≡ outlet_number link.outlet)
+  pub taken_is : wire.taken ≡ taken link.inlet
+  pub given_is : wire.given ≡ given link.outlet
+  pub left_is : wire.left ≡ left link.outlet
+  pub faults : (wire.write_faults ≡ write_faults link.inlet) × (wire.read_faults ≡ read_faults link.outlet)
+  pub numbers : (wire.inlet_number ≡ inlet_number link.inlet) × (wire.outlet_number ≡ outlet_number link.outlet)
+  pub closed : (wire.is_inlet_open ≡ false) × (wire.is_outlet_open ≡ false)
   pub rest : wire.rest ≡ link.held
 
 -- it is the only one
 abbrev pub OneIsLeft : {I O : Type 0} → (I → Option (List ℕ)) → (I → ℕ) → (I → Option ℕ) → (O → Option (List ℕ)) → (O → Option (List ℕ)) → (O → ℕ) → (O → Option ℕ)
-    → LinkValue I O → List (Wire I O) → Type 0
+    → LinkValue I O → List WireValue → Type 0
 OneIsLeft {I} {O} taken write_faults inlet_number given left read_faults outlet_number link wires =
-    (wire : Wire I O) × (wires ≡ wire ∷ []) × IsLeft taken write_faults inlet_number given left read_faults outlet_number link wire
+    (wire : WireValue) × (wires ≡ wire ∷ []) × IsLeft taken write_faults inlet_number given left read_faults outlet_number link wire
 
 -- ---- starts
 
@@ -81,13 +84,29 @@ AddsAll None (Some ys) more = ⊥
 AddsAll (Some xs) None more = ⊥
 AddsAll (Some xs) (Some ys) more = ys ≡ xs ++ more
 
--- Where programs tell, their starts are the journal's, each of this program. At status 7, or 5 in its place, one more may
--- follow them.
-abbrev pub HaveStarted : ℕ → List ℕ → List Entry → Option Starts → Option Starts → Type 0
-HaveStarted status program journal old new =
+-- Where programs tell, their starts are the journal's, each of this program. Where memory was wanted, one more may follow
+-- them.
+abbrev pub HaveStarted : Type 0 → List ℕ → List Entry → Option Starts → Option Starts → Type 0
+HaveStarted wanted program journal old new =
     AddsAll old new (told program journal)
-    ⊎ (((status ≡ 7) ⊎ (status ≡ 5)) × ((b : Bool) × AddsAll old new (told program journal ++ (program, b) ∷ [])))
+    ⊎ (wanted × ((b : Bool) × AddsAll old new (told program journal ++ (program, b) ∷ [])))
 
 abbrev pub is_failed_start : What → Bool
 is_failed_start (NoStart slot) = true
 is_failed_start _ = false
+
+-- Of the objects of a run there are left the wires of its children, the starts that its journal has, and a fault where one
+-- failed.
+pub record Leaves (wanted : Type 0) (program : List ℕ) (journal : List Entry) (before after : ProgramsValue) (wires : List WireValue) : Type 0 where
+  pub wired : AreWires before.starts journal 0 (came journal) wires
+  pub started : HaveStarted wanted program journal before.starts after.starts
+  pub fault : any is_failed_start journal ≡ true → Rose before.faults after.faults
+
+-- ---- desks
+
+-- where desks tell, they were asked for 0, 1, 2 and so on, each once, and these are the desks
+abbrev pub HaveMade : Option (List Made) → Option (List Made) → List TableValue → Type 0
+HaveMade None None tables = Unit {0}
+HaveMade None (Some ys) tables = ⊥
+HaveMade (Some xs) None tables = ⊥
+HaveMade (Some xs) (Some ys) tables = (more : List Made) × (ys ≡ xs ++ more) × (map (λ m. m.number) more ≡ range_with_len 0 (length tables))

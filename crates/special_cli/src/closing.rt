@@ -1,14 +1,27 @@
-use ann_outside::Programs;
+use ann_outside::{Desks, Programs};
 use child_link::Wire;
-use journal_model::{Answer, Journal};
+use journal_look::Journal;
+use journal_model::Answer;
+use std::marker::Model;
 
-/// What a run leaves: its status, the programs that were handed in, the journal that it kept, the answers in the order of
-/// the tasks, and a wire for each child that was started.
+/// What a call leaves: its status, the programs and the desks that were handed in, the journal that it kept, the answers in
+/// the order of the tasks, a wire for each child that was started, and the desks that were asked for, in order.
 #[derive(Drop)]
-pub struct Closing<P: Programs> {
+pub struct Closing<P: Programs, K: Desks> {
     pub status: u8,
     pub programs: P,
+    pub desks: K,
     pub journal: Journal,
     pub answers: Vec<Answer>,
     pub wires: Vec<Wire<P::Inlet, P::Outlet>>,
+    pub tables: Vec<K::Desk>,
+}
+
+impl<P: Programs, K: Desks> Model for Closing<P, K> {
+    ghost use Rattle.std.specs.Prelude.{map};
+    ghost use Rattle.special_cli.specs.Left.{ClosingValue, wire_value, table_value};
+
+    ghost Value = { ClosingValue };
+
+    ghost view = { λ c. record { status = c.status; left = record { outside = record { programs = record { starts = P.starts c.programs; faults = P.faults c.programs }; made = K.made c.desks }; journal = c.journal.entries; answers = c.answers.items; wires = map (wire_value P.Inlet.taken P.Inlet.faults P.Inlet.number P.Inlet.is_open P.Outlet.given P.Outlet.left P.Outlet.faults P.Outlet.number P.Outlet.is_open) c.wires.items; tables = map (table_value K.Desk.counts K.Desk.files K.Desk.log) c.tables.items } } };
 }

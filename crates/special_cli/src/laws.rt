@@ -6,7 +6,7 @@ ghost use Rattle.journal_model.specs.declared.answer.Answer.TheVariants.{Present
 ghost use Rattle.journal_model.specs.declared.entry.What.TheVariants.{Got};
 ghost use Rattle.journal_model.specs.Wires.{is_heard_in_turn};
 ghost use Rattle.journal_model.specs.Rows.{sample_key, by_main, greeting, check_present, not_closed, no_disk, away, out_of_disk};
-ghost use Rattle.special_cli.specs.Endings.{IsTold};
+ghost use Rattle.special_cli.specs.Endings.{IsTold, LacksMemory};
 ghost use Rattle.special_cli.specs.Objects.{HaveStarted};
 ghost use Rattle.special_cli.specs.Rows.{present_wire, HasWires};
 
@@ -42,19 +42,21 @@ pub fn error_is_told()
 
 /// The wire of that first check has what the child said and what it was asked. There is one, with the halves of the first start.
 pub fn check_present_has_its_wire()
-    ensures one { HasWires (Some 1) (present_wire ∷ []) }
-    ensures none { HasWires (Some 1) [] → ⊥ }
-    ensures cut { HasWires (Some 1) ((record present_wire { inlet = Some (codes "PREPARE") }) ∷ []) → ⊥ }
-    ensures another { HasWires (Some 2) (present_wire ∷ []) → ⊥ }
+    ensures one { HasWires (present_wire ∷ []) }
+    ensures none { HasWires [] → ⊥ }
+    ensures cut { HasWires ((record present_wire { taken = Some (codes "PREPARE") }) ∷ []) → ⊥ }
+    ensures another { HasWires ((record present_wire { inlet_number = Some 2 }) ∷ []) → ⊥ }
+    ensures left_open { HasWires ((record present_wire { is_inlet_open = true }) ∷ []) → ⊥ }
 {}
 
 /// The programs of a check saw one start, of the program that was named.
 pub fn check_present_is_started()
-    ensures once { HaveStarted 0 (codes "p") check_present (Some []) (Some ((codes "p", true) ∷ [])) }
-    ensures never { HaveStarted 0 (codes "p") check_present (Some []) (Some []) → ⊥ }
-    ensures another { HaveStarted 0 (codes "p") check_present (Some []) (Some ((codes "q", true) ∷ [])) → ⊥ }
-    ensures twice { HaveStarted 0 (codes "p") check_present (Some []) (Some ((codes "p", true) ∷ (codes "p", true) ∷ [])) → ⊥ }
-    ensures untold { HaveStarted 0 (codes "p") check_present None None }
+    ensures once { HaveStarted (LacksMemory 0 ⊥) (codes "p") check_present (Some []) (Some ((codes "p", true) ∷ [])) }
+    ensures never { HaveStarted (LacksMemory 0 ⊥) (codes "p") check_present (Some []) (Some []) → ⊥ }
+    ensures another { HaveStarted (LacksMemory 0 ⊥) (codes "p") check_present (Some []) (Some ((codes "q", true) ∷ [])) → ⊥ }
+    ensures twice { HaveStarted (LacksMemory 0 ⊥) (codes "p") check_present (Some []) (Some ((codes "p", true) ∷ (codes "p", true) ∷ [])) → ⊥ }
+    ensures wanting { HaveStarted (LacksMemory 5 ⊥) (codes "p") check_present (Some []) (Some ((codes "p", true) ∷ (codes "p", true) ∷ [])) → ⊥ }
+    ensures untold { HaveStarted (LacksMemory 0 ⊥) (codes "p") check_present None None }
 {}
 
 /// A line that a child says before it is asked is not heard until then.

@@ -1,19 +1,24 @@
-ghost use Rattle.std.specs.Prelude.{◌≡◌, ◌⊎◌, [], None, IfSome, IsSome, option_map, true};
+ghost use Rattle.std.specs.Prelude.{◌≡◌, ◌⊎◌, [], None, IfSome, IsSome, true};
 ghost use Rattle.journal_model.specs.Journal.{any};
 ghost use Rattle.ann_outside.specs.Causes.{Rose};
-ghost use Rattle.special_cli.specs.Calls.{IsCalled};
-ghost use Rattle.special_cli.specs.Words.{command_of, command_shown};
-ghost use Rattle.special_cli.specs.Endings.{refused_in, check_in, info_in, run_in, IsChecked, IsTold};
+ghost use Rattle.special_cli.specs.Commands.{Runs};
+ghost use Rattle.special_cli.specs.Wishes.{wish_of, taken_up};
+ghost use Rattle.cli_words.specs.Values.{texts_of};
+ghost use Rattle.special_cli.specs.Endings.{refused_in, check_in, info_in, run_in, IsChecked, IsTold, LacksMemory};
 ghost use Rattle.special_cli.specs.Informs.{IsInformed, IsInfoTold};
-ghost use Rattle.special_cli.specs.Objects.{AreWires, HaveStarted, came, is_failed_start};
+ghost use Rattle.special_cli.specs.Left.{IsIdle, programs_value};
+ghost use Rattle.special_cli.specs.Objects.{AreWires, HaveStarted, HaveMade, came, is_failed_start};
 
+use crate::check::check;
 use crate::closing::Closing;
-use crate::stopping::end;
-use crate::texts::{CHECK_HELP, HELP, INFO_HELP, usage_line, version_line};
-use crate::top_check::check_words;
-use crate::top_info::info_words;
-use crate::words::{Command, command_of};
-use ann_outside::{Clock, Programs, Sink, Source};
+use crate::end::End;
+use crate::info::info;
+use crate::outside::Outside;
+use crate::ran::Ran;
+use crate::telling::tell;
+use ann_key::NoMemory;
+use ann_outside::{Clock, Desks, Programs, Sink, Source};
+use cli_words::{Command, command_of};
 use std::alloc::Global;
 
 /// Does all that the program does: reads the words behind its name, starts what they ask for, prints what comes of it to
@@ -21,64 +26,82 @@ use std::alloc::Global;
 ///
 /// 0: all is well. 1: the answer isn't `present`, or not all was answered. 2: the words aren't in the grammar. 3: the key is refused. 5: a write to
 /// `out` or `err` failed. 7: no memory was found.
-pub fn special<P: Programs, I: Source, O: Sink, E: Sink, C: Clock>(
+pub fn special<P: Programs, K: Desks, I: Source, O: Sink, E: Sink, C: Clock>(
     alloc: Global,
     words: &[String],
     programs: P,
+    desks: K,
     _input: &mut I,
     out: &mut O,
     err: &mut E,
     clock: &mut C,
-) -> Closing<P>
+) -> Closing<P, K>
 where
     P::Inlet: Drop,
     P::Outlet: Drop,
+    K::Desk: Drop,
     requires out { O.is_open out.old ≡ true }
     requires err { E.is_open err.old ≡ true }
-    ensures usage { result.status ≡ 2 → command_of words.entry.now ≡ None }
-    ensures words { command_of words.entry.now ≡ None → (result.status ≡ 2) ⊎ (result.status ≡ 5) }
-    ensures refused { result.status ≡ 3 → IsSome (refused_in (command_of words.entry.now)) }
-    ensures key { IsSome (refused_in (command_of words.entry.now)) → (result.status ≡ 3) ⊎ (result.status ≡ 5) ⊎ (result.status ≡ 7) }
-    ensures early { run_in (command_of words.entry.now) ≡ None → (P.starts result.programs ≡ P.starts programs) × (result.journal ≡ []) × (result.answers.items ≡ []) × (result.wires.items ≡ []) }
+    ensures usage { result.status ≡ 2 → wish_of (texts_of words.now) ≡ None }
+    ensures words { wish_of (texts_of words.now) ≡ None → (result.status ≡ 2) ⊎ (result.status ≡ 5) ⊎ (result.status ≡ 7) }
+    ensures refused { result.status ≡ 3 → IsSome (refused_in (wish_of (texts_of words.now))) }
+    ensures key { IsSome (refused_in (wish_of (texts_of words.now))) → (result.status ≡ 3) ⊎ (result.status ≡ 5) ⊎ (result.status ≡ 7) }
+    ensures early { run_in (wish_of (texts_of words.now)) ≡ None → IsIdle (record { programs = programs_value (P.starts programs) (P.faults programs); made = K.made desks }) result.left }
     ensures output { result.status ≡ 5 → Rose (O.faults out.old) (O.faults out.new) ⊎ Rose (E.faults err.old) (E.faults err.new) }
-    ensures checked { IfSome (check_in (command_of words.entry.now)) (λ c. IsChecked (C.answer clock.old) c.1 result.journal) }
-    ensures told { IfSome (check_in (command_of words.entry.now)) (λ c. IsTold result.status (Rose (E.faults err.old) (E.faults err.new)) (O.taken out.old) (O.taken out.new) c.1 result.journal result.answers.items) }
-    ensures informed { IfSome (info_in (command_of words.entry.now)) (λ c. IsInformed c.1 result.journal) }
-    ensures info_told { IfSome (info_in (command_of words.entry.now)) (λ c. IsInfoTold result.status (O.taken out.old) (O.taken out.new) c.1 result.journal × (result.answers.items ≡ [])) }
-    ensures wires { IfSome (run_in (command_of words.entry.now)) (λ program. AreWires P.Inlet.taken P.Inlet.faults P.Inlet.number P.Outlet.given P.Outlet.left P.Outlet.faults P.Outlet.number (P.starts programs) result.journal 0 (came result.journal) result.wires.items) }
-    ensures starts { IfSome (run_in (command_of words.entry.now)) (λ program. HaveStarted result.status program result.journal (P.starts programs) (P.starts result.programs)) }
-    ensures fault { IfSome (run_in (command_of words.entry.now)) (λ program. any is_failed_start result.journal ≡ true → Rose (P.faults programs) (P.faults result.programs)) }
+    ensures checked { IfSome (check_in (wish_of (texts_of words.now))) (λ c. IsChecked (C.answer clock.old) c.1 result.left.journal) }
+    ensures told { IfSome (check_in (wish_of (texts_of words.now))) (λ c. IsTold result.status (Rose (E.faults err.old) (E.faults err.new)) (O.taken out.old) (O.taken out.new) c.1 result.left.journal result.left.answers) }
+    ensures informed { IfSome (info_in (wish_of (texts_of words.now))) (λ c. IsInformed c.1 result.left.journal) }
+    ensures info_told { IfSome (info_in (wish_of (texts_of words.now))) (λ c. IsInfoTold result.status (O.taken out.old) (O.taken out.new) c.1 result.left.journal × (result.left.answers ≡ [])) }
+    ensures wires { IfSome (run_in (wish_of (texts_of words.now))) (λ program. AreWires (P.starts programs) result.left.journal 0 (came result.left.journal) result.left.wires) }
+    ensures starts { IfSome (run_in (wish_of (texts_of words.now))) (λ program. HaveStarted (LacksMemory result.status (Rose (E.faults err.old) (E.faults err.new))) program result.left.journal (P.starts programs) result.left.outside.programs.starts) }
+    ensures fault { IfSome (run_in (wish_of (texts_of words.now))) (λ program. any is_failed_start result.left.journal ≡ true → Rose (P.faults programs) result.left.outside.programs.faults) }
+    ensures desks { HaveMade (K.made desks) result.left.outside.made result.left.tables }
 {
-    obey(alloc, command_of(words), programs, out, err, clock)
+    let outside = Outside { programs, desks };
+    let ran = run_words(alloc, words, outside, clock);
+    tell(alloc, ran, out, err)
+}
+
+// Reads the words, and does what they ask for.
+fn run_words<P: Programs, K: Desks, C: Clock>(
+    alloc: Global,
+    words: &[String],
+    outside: Outside<P, K>,
+    clock: &mut C,
+) -> Ran<P, K>
+where
+    P::Inlet: Drop,
+    P::Outlet: Drop,
+    K::Desk: Drop,
+    ensures { Runs (C.answer clock.old) outside (wish_of (texts_of words.now)) result }
+{
+    match command_of(alloc, words) {
+        Ok(command) => run(alloc, command, outside, clock),
+        Err(NoMemory) => Ran::nothing(alloc, outside, End::Memory),
+    }
 }
 
 // Does what was asked for.
-fn obey<P: Programs, O: Sink, E: Sink, C: Clock>(
+fn run<P: Programs, K: Desks, C: Clock>(
     alloc: Global,
-    command: Option<Command<'_>>,
-    programs: P,
-    out: &mut O,
-    err: &mut E,
+    command: Option<Command>,
+    outside: Outside<P, K>,
     clock: &mut C,
-) -> Closing<P>
+) -> Ran<P, K>
 where
     P::Inlet: Drop,
     P::Outlet: Drop,
-    requires out { O.is_open out.old ≡ true }
-    requires err { E.is_open err.old ≡ true }
-    ensures { IsCalled P.Inlet.taken P.Inlet.faults P.Inlet.number P.Outlet.given P.Outlet.left P.Outlet.faults P.Outlet.number (P.starts programs) (P.starts result.programs) (P.faults programs) (P.faults result.programs) (O.faults out.old) (O.faults out.new) (E.faults err.old) (E.faults err.new) (O.taken out.old) (O.taken out.new) (C.answer clock.old) (option_map command_shown command.entry) result.status result.journal result.answers.items result.wires.items }
+    K::Desk: Drop,
+    ensures { Runs (C.answer clock.old) outside (taken_up command) result }
 {
     match command {
-        None => end(alloc, programs, 2, err, usage_line()),
-        Some(Command::Help) => end(alloc, programs, 0, out, HELP.as_bytes()),
-        Some(Command::CheckHelp) => end(alloc, programs, 0, out, CHECK_HELP.as_bytes()),
-        Some(Command::InfoHelp) => end(alloc, programs, 0, out, INFO_HELP.as_bytes()),
-        Some(Command::Version) => end(alloc, programs, 0, out, version_line()),
+        Some(Command::Show(page)) => Ran::nothing(alloc, outside, End::Shown(page)),
         Some(Command::Check { program, key }) => {
-            check_words(alloc, program, key, programs, out, err, clock)
+            check(alloc, program.view(), key.view(), outside, clock)
         }
-        Some(Command::Info { program, key }) => {
-            info_words(alloc, program, key, programs, out, err)
+        Some(Command::Info { program, key }) => info(alloc, program.view(), key, outside),
+        Some(Command::Init(_) | Command::Run(_)) | None => {
+            Ran::nothing(alloc, outside, End::Usage)
         }
     }
 }

@@ -1,18 +1,40 @@
 // Command lines, keys that are refused, and the texts that are printed.
 use crate::memory::{shown, words_of};
 use crate::words;
-use ann_key::NoMemory;
-use special_cli::{
-    CHECK_HELP, HELP, INFO_HELP, command_of, memory_line, refusal, refused_line, usage_line,
-    version_line,
-};
+use ann_key::{NoMemory, Text};
+use cli_words::{Command, Page, command_of, memory_line, refusal, refused_line, usage_line};
 use std::alloc::Global;
 
 /// What the words between bars ask for.
 pub(crate) fn command(alloc: Global, line: &str) -> Result<String, NoMemory> {
     let list = words_of(alloc, line)?;
-    let command = command_of(list.as_slice());
-    words::told(alloc, words::named(alloc, &command)?.as_str())
+    match command_of(alloc, list.as_slice())? {
+        Some(command) => asked(alloc, &command),
+        None => words::told(alloc, "nothing"),
+    }
+}
+
+fn asked(alloc: Global, command: &Command) -> Result<String, NoMemory> {
+    match command {
+        Command::Check { program, key } => named(alloc, "check", &[program, key]),
+        Command::Info { program, key } => match key {
+            Some(key) => named(alloc, "info", &[program, key]),
+            None => named(alloc, "info", &[program]),
+        },
+        Command::Init(init) => named(alloc, "init", &[&init.program, &init.uuid, &init.keep]),
+        Command::Run(run) => named(alloc, "run", &[&run.program, &run.uuid]),
+        Command::Show(page) => words::joined(alloc, &["show", words::named(alloc, page)?.as_str()]),
+    }
+}
+
+// The command, and its values in quotes.
+fn named(alloc: Global, name: &str, values: &[&Text]) -> Result<String, NoMemory> {
+    let mut said = words::told(alloc, name)?;
+    for value in values {
+        said.push_str(" ")?;
+        said.push_str(words::quoted(alloc, value.view())?.as_str())?;
+    }
+    Ok(said)
 }
 
 /// The line that refuses the key, as that of the task of that number, before a bar.
@@ -30,21 +52,22 @@ pub(crate) fn refused(alloc: Global, text: &str) -> Result<String, NoMemory> {
 
 /// The lines that are always the same.
 pub(crate) fn texts(alloc: Global) -> Result<String, NoMemory> {
-    let version = words::quoted(alloc, shown(version_line()))?;
+    let version = words::quoted(alloc, Page::Version.text())?;
     let usage = words::quoted(alloc, shown(usage_line()))?;
     let memory = words::quoted(alloc, shown(memory_line()))?;
     words::joined(alloc, &[version.as_str(), usage.as_str(), memory.as_str()])
 }
 
-/// Which of the help, that of `check` and that of `info` holds the words, and ends with its line.
+/// Which of the overview, the page of `check` and that of `info` holds the words, and ends with its line.
 pub(crate) fn helps(alloc: Global, text: &str) -> Result<String, NoMemory> {
-    let whole = is_help(HELP, text);
-    let check = is_help(CHECK_HELP, text);
-    let info = is_help(INFO_HELP, text);
+    let whole = is_help(Page::Overview, text);
+    let check = is_help(Page::Check, text);
+    let info = is_help(Page::Info, text);
     words::joined(alloc, &[whole, check, info])
 }
 
-fn is_help(help: &str, text: &str) -> &'static str {
+fn is_help(page: Page, text: &str) -> &'static str {
+    let help = page.text();
     if help.contains(text) && help.ends_with("\n") {
         "true"
     } else {

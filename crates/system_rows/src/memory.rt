@@ -2,7 +2,7 @@
 ghost use Rattle.std.specs.Prelude.{◌<◌};
 
 use ann_key::{Bytes, NoMemory};
-use ann_outside::{MemChild, MemClock, MemPrograms, MemSink, MemSource};
+use ann_outside::{MemChild, MemClock, MemDesks, MemPrograms, MemSink, MemSource};
 use entry_text::text_of;
 use special_cli::special;
 use std::alloc::Global;
@@ -79,6 +79,7 @@ pub(crate) fn run(
         alloc,
         words.as_slice(),
         programs,
+        MemDesks::new(alloc, Vec::new(alloc)),
         &mut input,
         &mut out,
         &mut err,
@@ -88,7 +89,7 @@ pub(crate) fn run(
         status: closing.status,
         out: String::from_str(alloc, shown(out.taken()))?,
         err: String::from_str(alloc, shown(err.taken()))?,
-        journal: text_of(alloc, closing.journal.entries())?,
+        journal: text_of(alloc, &closing.journal)?,
         children: Vec::new(alloc),
         written: String::new(alloc),
         rest: String::new(alloc),

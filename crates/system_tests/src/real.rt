@@ -1,6 +1,6 @@
 // `special check` over real programs.
 use ann_os::OsPrograms;
-use ann_outside::{MemClock, MemSink, MemSource};
+use ann_outside::{MemClock, MemDesks, MemSink, MemSource};
 use special_cli::special;
 use std::alloc::AllocError;
 use std::fs::Permissions;
@@ -55,6 +55,7 @@ fn check(rt: &HostRuntime, program: &str, key: &str) -> Result<(u8, Vec<u8>), Al
         alloc,
         words.as_slice(),
         OsPrograms::new(rt),
+        MemDesks::new(alloc, Vec::new(alloc)),
         &mut input,
         &mut out,
         &mut err,

@@ -1,50 +1,20 @@
--- What a task asked, and how it is answered.
-use Rattle.std.specs.Prelude.{ℕ, zero, suc, ◌≡◌, ◌==◌, ◌⊎◌, if◌then◌else◌, List, [], ◌∷◌, ◌++◌, Option, Some, None, option_map, option_and_then}
-use Rattle.std.specs.List.{cons_option, last_or}
+-- How a check is answered, over a child and without one.
+use Rattle.std.specs.Prelude.{ℕ, zero, suc, ◌≡◌, ◌==◌, ◌⊎◌, if◌then◌else◌, List, [], ◌∷◌, ◌++◌, Option, Some, None, option_and_then}
+use Rattle.std.specs.List.{last_or}
 use Rattle.journal_model.specs.declared.verdict.Why.{Why}
 use Rattle.journal_model.specs.declared.verdict.Why.TheVariants.{Closed}
 use Rattle.journal_model.specs.declared.verdict.Verdict.{Verdict}
 use Rattle.journal_model.specs.declared.verdict.Verdict.TheVariants.{Done as DoneAt, Failed as FailedAt, Absent as AbsentAt, Unknown as UnknownAt, Unsupported as UnsupportedAt, Ended, Unsent}
-use Rattle.annex_model.specs.Messages.{HostMessage, Checkpresent, host_reading}
+use Rattle.annex_model.specs.Messages.{HostMessage, Checkpresent}
 use Rattle.journal_model.specs.declared.answer.Answer.{Answer}
 use Rattle.journal_model.specs.declared.answer.Answer.TheVariants.{Present, Absent, Unsupported, Unsent as UnsentAnswer, StartFault, Memory, Unknown, NotPrepared, Ended as EndedAnswer}
 use Rattle.journal_model.specs.declared.entry.What.{What}
-use Rattle.journal_model.specs.declared.entry.What.TheVariants.{Claim, Start, NoStart, Ask, Lost}
+use Rattle.journal_model.specs.declared.entry.What.TheVariants.{Claim, Start, NoStart}
 use Rattle.journal_model.specs.declared.entry.Entry.{Entry}
-use Rattle.journal_model.specs.Journal.{each_of, first_of, is_ended, is_mute, verdict_of, why_of, addressed}
+use Rattle.journal_model.specs.Journal.{each_of, first_of, is_ended, is_mute, verdict_of, why_of}
 use Rattle.journal_model.specs.Legality.{is_done}
-
--- ---- what a task asked
-
--- a request, where the journal keeps it, and its verdict
-pub record Asking : Type 0 where
-  pub request : Option HostMessage
-  pub verdict : Verdict
-
--- what a Lost stands for: the end of its child, or else its mute
-abbrev pub lost_verdict : Option Why → Verdict
-lost_verdict None = Unsent
-lost_verdict (Some why) = Ended why
-
--- What the entry asks for task t, where it stands behind past: the request that an Ask spells with its tag taken off, if
--- its job was settled; or a request that found its child ended or mute.
-abbrev pub asking_of : List Entry → ℕ → List Entry → What → Option Asking
-asking_of journal t past (Ask child job task line) =
-    if task == t
-    then option_map (λ v. record { request = host_reading (addressed past child line).1; verdict = v }) (verdict_of journal child job)
-    else None
-asking_of journal t past (Lost child task) =
-    if task == t then Some (record { request = None; verdict = lost_verdict (why_of past child) }) else None
-asking_of journal t past _ = None
-
--- the askings of the entries in order, by recursion with what stands before
-abbrev pub askings_from : List Entry → ℕ → List Entry → List Entry → List Asking
-askings_from journal t past [] = []
-askings_from journal t past (e ∷ rest) = cons_option (asking_of journal t past e.what) (askings_from journal t (past ++ e ∷ []) rest)
-
--- the settled requests of task t
-abbrev pub askings : List Entry → ℕ → List Asking
-askings journal t = askings_from journal t [] journal
+pub use Rattle.task_asker.specs.Askings.{Asking}
+pub use Rattle.task_run.specs.Askings.{lost_verdict, asking_of, askings_from, askings}
 
 -- the asking is of that request; the request is left out only where its child had ended or was mute
 abbrev pub IsAskedOr : HostMessage → Asking → Type 0

@@ -1,12 +1,11 @@
-use Rattle.std.proofs.Common.{◌∙◌, ap, ◌++◌, ◌∷◌, [], List, ℕ, Some, None}
-use Rattle.host_core.specs.declared.event.Reply.TheVariants.{Line}
-use Rattle.host_core.proofs.Written.{next_found}
+use Rattle.std.proofs.Common.{◌≡◌, ◌∙◌, sym, true, false}
+use Rattle.journal_model.specs.Journal.{unsent}
+use Rattle.journal_model.proofs.Looks.{true_not_false}
+use Rattle.host_core.specs.Steps.{is_line, next_line}
+use Rattle.host_core.proofs.Sparing.{line_first}
 use Rattle.host_core.proofs.lines.next_line.Goals as goal
 
-pub returns-in_ok-with_newline-in-Some : goal.returns-in_ok-with_newline-in-Some
-returns-in_ok-with_newline-in-Some c =
-    ap Line (c.in_ok-with_newline-in-Some.ensures ∙ ap (λ (l : List ℕ). l ++ 10 ∷ []) c.hosts_line.ensures)
-    ∙ next_found c.args.rest c.args.entries.now c.args.child c.sents.result (Some c.in-Some.e.now) c.sents.ensures c.in-Some.ensures
-
-pub returns-in-None : goal.returns-in-None
-returns-in-None c = next_found c.args.rest c.args.entries.now c.args.child c.sents.result None c.sents.ensures c.in-None.ensures
+pub returns-in_err-with_newline-in-Some-clause-free : goal.returns-in_err-with_newline-in-Some-clause-free
+returns-in_err-with_newline-in-Some-clause-free c = λ none.
+    true_not_false (is_line (next_line c.args.rest (unsent c.args.journal.now.entries c.args.child)))
+    (line_first c.args.rest (unsent c.args.journal.now.entries c.args.child) c.in-Some.line.now c.in-Some.ensures) none

@@ -10,7 +10,7 @@ use Rattle.host_core.proofs.moves.ask.Goals as goal
 
 pub ask_line-requires : goal.ask_line-requires
 ask_line-requires c =
-    let past = c.args.entries.now in
+    let past = c.args.journal.now.entries in
     let child = c.args.child in
     let q = message_of c.args.request.now in
     and_right (is_started past child && may_ask past c.args.by c.args.task child && is_in_turn past child (next_job past child) q) (is_askable q)

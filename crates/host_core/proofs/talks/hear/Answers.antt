@@ -8,6 +8,6 @@ use Rattle.host_core.proofs.talks.hear.Goals as goal
 
 pub returns : goal.returns
 returns c =
-    let p = part c.args.entries.now c.args.child c.args.job in
+    let p = part c.args.journal.now.entries c.args.child c.args.job in
     c.hear-heard.ensures.answer (said p) c.in_ok-talk.ensures.follows c.in_ok-talk.ensures.open
     ∙ heard_in p (remote_shown c.args.message.now) (message_of c.in_ok-talk.talk.request) c.in_ok-talk.ensures.request

@@ -12,10 +12,10 @@ returns-in-Some-clause-follows c =
     let old = c.args.talk.now in
     let new = c.hear_line.new.talk in
     let P : List (Option RemoteMessage) → Type 0 = λ more. (ms : List (Option RemoteMessage)) → Follows old ms → awaits (message_of old.request) (ms ++ more) ≡ true → Follows new (ms ++ more) in
-    subst P (sym (said_item (item_at c.args.entries.now c.args.child c.args.job c.args.at) c.in-Some.text.now c.in-Some.ensures)) c.hear_line.ensures.follows
+    subst P (sym (said_item (item_at c.args.journal.now.entries c.args.child c.args.job c.args.at) c.in-Some.text.now c.in-Some.ensures)) c.hear_line.ensures.follows
 
 pub returns-in-None-clause-follows : goal.returns-in-None-clause-follows
 returns-in-None-clause-follows c =
     let old = c.args.talk.now in
     let P : List (Option RemoteMessage) → Type 0 = λ more. (ms : List (Option RemoteMessage)) → Follows old ms → awaits (message_of old.request) (ms ++ more) ≡ true → Follows old (ms ++ more) in
-    subst P (sym (said_none (item_at c.args.entries.now c.args.child c.args.job c.args.at) c.in-None.ensures)) (λ ms f waits. subst (Follows old) (sym (append-nil ms)) f)
+    subst P (sym (said_none (item_at c.args.journal.now.entries c.args.child c.args.job c.args.at) c.in-None.ensures)) (λ ms f waits. subst (Follows old) (sym (append-nil ms)) f)

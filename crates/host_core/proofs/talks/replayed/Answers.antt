@@ -12,7 +12,7 @@ use Rattle.host_core.proofs.talks.replayed.Goals as goal
 
 pub loop-at-preserved : goal.loop-at-preserved
 loop-at-preserved c =
-    let past = c.args.entries.now in
+    let past = c.args.journal.now.entries in
     let child = c.args.child in
     let job = c.args.job in
     let n = c.loop-at.at in
@@ -27,7 +27,7 @@ loop-at-preserved c =
 
 pub returns-clause-open : goal.returns-clause-open
 returns-clause-open c =
-    let past = c.args.entries.now in
+    let past = c.args.journal.now.entries in
     let n = c.loop-at.at in
     let within : n ≤ length past = omega (arith, c.loop-at.auto.at-end) in
     let waits = waits_at (message_of c.args.request) past c.args.child c.args.job n within c.requires in
@@ -36,6 +36,6 @@ returns-clause-open c =
 
 pub returns-clause-follows : goal.returns-clause-follows
 returns-clause-follows c =
-    let past = c.args.entries.now in
+    let past = c.args.journal.now.entries in
     let whole : c.loop-at.at ≡ length past = omega (arith, c.loop-at.auto.at-end, c.loop-at-test.false) in
     subst (Follows c.loop-at.talk) (ap (λ (n : ℕ). said_before past c.args.child c.args.job n) whole ∙ sym (said_whole past c.args.child c.args.job)) c.loop-at.invariant.1

@@ -10,5 +10,5 @@ use Rattle.info_run.proofs.printing.push_answer.Given as goal
 abbrev pub invariant-loop-at : goal.invariant-loop-at
 invariant-loop-at l =
     let q = host_shown l.question in
-    l.fn.told.printed.items ++ text (lines_from q None (said (part l.entries l.child l.job)))
-    ≡ l.told.printed.items ++ text (lines_from q l.told.field (said_from l.entries l.child l.job l.at))
+    l.fn.told.printed.items ++ text (lines_from q None (said (part l.journal.entries l.child l.job)))
+    ≡ l.told.printed.items ++ text (lines_from q l.told.field (said_from l.journal.entries l.child l.job l.at))

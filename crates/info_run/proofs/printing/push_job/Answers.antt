@@ -8,5 +8,5 @@ use Rattle.info_run.proofs.printing.push_job.Goals as goal
 pub returns-in_ok-push_answer-in-Some : goal.returns-in_ok-push_answer-in-Some
 returns-in_ok-push_answer-in-Some c =
     let final : is_some (final_in c.in-Some.verdict) ≡ true = cc in
-    answer_told c.args.entries.now c.args.child (host_shown c.args.question.now) c.args.job c.in-Some.verdict c.args.told.now.printed.items c.push_answer.new.told.printed.items
+    answer_told c.args.journal.now.entries c.args.child (host_shown c.args.question.now) c.args.job c.in-Some.verdict c.args.told.now.printed.items c.push_answer.new.told.printed.items
     (sym c.in-Some.ensures) final c.in_ok-push_answer-in-Some.ensures

@@ -8,8 +8,8 @@ loop-at-preserved c =
     elim c.match-lost_at.branch [
       | in-Some+in_ok-push_failed w ↦
           rw w.told-is
-          (loss_told c.args.entries.now c.args.child c.loop-at.at w.in-Some.verdict _ c.loop-at.told.printed.items w.push_failed.new.told.printed.items
+          (loss_told c.args.journal.now.entries c.args.child c.loop-at.at w.in-Some.verdict _ c.loop-at.told.printed.items w.push_failed.new.told.printed.items
           (omega arith) w.in-Some.ensures c.loop-at.invariant w.in_ok-push_failed.ensures)
       | in_default w ↦
-          rw w.told-is (nothing_lost c.args.entries.now c.args.child c.loop-at.at _ c.loop-at.told.printed.items (omega arith) (cc) c.loop-at.invariant)
+          rw w.told-is (nothing_lost c.args.journal.now.entries c.args.child c.loop-at.at _ c.loop-at.told.printed.items (omega arith) (cc) c.loop-at.invariant)
     ]

@@ -4,4 +4,4 @@ use Rattle.info_run.proofs.printing.push_place.Goals as goal
 
 pub returns-in-Some : goal.returns-in-Some
 returns-in-Some c =
-    rw (said_item (item_at c.args.entries.now c.args.child c.args.job c.args.at) c.in-Some.line.now c.in-Some.ensures) c.hear.ensures
+    rw (said_item (item_at c.args.journal.now.entries c.args.child c.args.job c.args.at) c.in-Some.line.now c.in-Some.ensures) c.hear.ensures

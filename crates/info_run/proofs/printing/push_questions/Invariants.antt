@@ -6,5 +6,5 @@ use Rattle.info_run.proofs.printing.push_questions.Given as goal
 
 abbrev pub invariant-loop-n : goal.invariant-loop-n
 invariant-loop-n l =
-    l.fn.told.printed.items ++ text (questions_from l.entries l.child (map host_shown l.questions) 2)
-    ≡ l.told.printed.items ++ text (questions_from l.entries l.child (map host_shown (drop l.n l.questions)) (l.n + 2))
+    l.fn.told.printed.items ++ text (questions_from l.journal.entries l.child (map host_shown l.questions) 2)
+    ≡ l.told.printed.items ++ text (questions_from l.journal.entries l.child (map host_shown (drop l.n l.questions)) (l.n + 2))

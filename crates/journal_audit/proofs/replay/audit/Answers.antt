@@ -1,25 +1,36 @@
-use Rattle.std.proofs.Common.{◌∙◌, true, false}
-use Rattle.journal_audit.proofs.Auditing.{next_here, wrong_here, replayed_more}
+use Rattle.std.proofs.Common.{◌∙◌, ◌<◌, List, length, refl, true, false, arith}
+use Rattle.journal_model.specs.declared.entry.Entry.{Entry}
+use Rattle.journal_look.specs.Shown.{entry_shown}
+use Rattle.journal_audit.proofs.Auditing.{next_here, wrong_here, replayed_more, read_there, some_there}
 use Rattle.journal_audit.proofs.replay.audit.Goals as goal
+
+pub unreachable-requires : goal.unreachable-requires
+unreachable-requires c =
+    some_there c.args.journal.now.entries c.loop-at.at (omega (arith, c.loop-at-test.true, c.len-at-end.ensures)) c.in_default.ensures
 
 pub returns-then-not-branch : goal.returns-then-not-branch
 returns-then-not-branch c =
-    let items = c.entries-entry-items.result.now in
+    let items : List Entry = c.args.journal.now.entries in
+    let less : c.loop-at.at < length items = omega (arith, c.loop-at-test.true, c.len-at-end.ensures) in
     let made = c.may_stand.new.core.journal in
-    let next = next_here c.args.opening.now c.loop-at.core.opening items c.loop-at.core.journal made c.loop-at.at c.entry-item.result c.in_ok-may_stand.field-0 false
-    c.loop-at.invariant.opening c.loop-at-test.true c.loop-at.invariant.replayed c.in_ok-may_stand.ensures.next c.if-not-branch.true in
+    let e : Entry = entry_shown c.in-Some.entry in
+    let is = read_there items c.loop-at.at e c.in-Some.ensures in
+    let next = next_here c.args.opening.now c.loop-at.core.opening items c.loop-at.core.journal made c.loop-at.at e c.in_ok-may_stand.field-0 false
+    c.loop-at.invariant.opening less c.loop-at.invariant.replayed c.in_ok-may_stand.ensures.next c.if-not-branch.true in
     record {
-      audit = wrong_here c.args.opening.now c.args.journal.now items made c.loop-at.at c.kind_of.result c.entry-item.result
-          c.entries-entry-items.ensures c.loop-at-test.true c.entry-item.is c.loop-at.invariant.replayed.stands next c.kind_of.ensures;
+      audit = wrong_here c.args.opening.now items items made c.loop-at.at c.kind_of.result e refl less is c.loop-at.invariant.replayed.stands next c.kind_of.ensures;
     }
 
 pub loop-at-preserved : goal.loop-at-preserved
 loop-at-preserved c =
-    let items = c.entries-entry-items.result.now in
+    let items : List Entry = c.args.journal.now.entries in
+    let less : c.loop-at.at < length items = omega (arith, c.loop-at-test.true, c.len-at-end.ensures) in
     let made = c.may_stand.new.core.journal in
-    let next = next_here c.args.opening.now c.loop-at.core.opening items c.loop-at.core.journal made c.loop-at.at c.entry-item.result c.in_ok-may_stand.field-0 true
-    c.loop-at.invariant.opening c.loop-at-test.true c.loop-at.invariant.replayed c.in_ok-may_stand.ensures.next c.if-not-branch.false in
+    let e : Entry = entry_shown c.in-Some.entry in
+    let is = read_there items c.loop-at.at e c.in-Some.ensures in
+    let next = next_here c.args.opening.now c.loop-at.core.opening items c.loop-at.core.journal made c.loop-at.at e c.in_ok-may_stand.field-0 true
+    c.loop-at.invariant.opening less c.loop-at.invariant.replayed c.in_ok-may_stand.ensures.next c.if-not-branch.false in
     record {
       opening = c.may_stand.ensures.opening ∙ c.loop-at.invariant.opening;
-      replayed = replayed_more c.args.opening.now items made c.loop-at.at c.entry-item.result c.loop-at-test.true c.entry-item.is next;
+      replayed = replayed_more c.args.opening.now items made c.loop-at.at e less is next;
     }

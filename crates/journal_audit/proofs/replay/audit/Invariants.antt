@@ -5,5 +5,5 @@ use Rattle.journal_audit.proofs.replay.audit.Given as goal
 abbrev pub invariant-loop-at : goal.invariant-loop-at
 invariant-loop-at l = record {
   opening : l.core.opening ≡ l.opening;
-  replayed : IsReplayed l.opening (take l.at l.entry-items) l.core.journal;
+  replayed : IsReplayed l.opening (take l.at l.journal.entries) l.core.journal;
 }

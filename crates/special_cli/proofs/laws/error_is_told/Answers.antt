@@ -8,7 +8,7 @@ use Rattle.journal_model.specs.declared.entry.Entry.{Entry}
 use Rattle.journal_model.specs.declared.entry.What.TheVariants.{Got, End, Verdict as Settled}
 use Rattle.journal_model.specs.Output.{answer_line}
 use Rattle.journal_model.specs.Rows.{sample_key, by_main, checking, out_of_disk}
-use Rattle.special_cli.proofs.Telling.{told_alone}
+use Rattle.special_cli.proofs.Alone.{told_alone}
 use Rattle.special_cli.proofs.laws.error_is_told.Goals as goal
 
 printed : answer_line out_of_disk 1 (Ended (Error 13)) ≡ codes "1 ended error out of disk" ++ 10 ∷ []

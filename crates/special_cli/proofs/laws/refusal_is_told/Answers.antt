@@ -7,7 +7,7 @@ use Rattle.journal_model.specs.declared.entry.Entry.{Entry}
 use Rattle.journal_model.specs.declared.entry.What.TheVariants.{Claim, Got, Verdict as Settled, Answer as Answered}
 use Rattle.journal_model.specs.Output.{answer_line}
 use Rattle.journal_model.specs.Rows.{sample_key, by_main, introduced, closed, no_disk}
-use Rattle.special_cli.proofs.Telling.{told_alone}
+use Rattle.special_cli.proofs.Alone.{told_alone}
 use Rattle.special_cli.proofs.laws.refusal_is_told.Goals as goal
 
 printed : answer_line no_disk 1 (NotPrepared 8) ≡ codes "1 notprepared no disk" ++ 10 ∷ []

@@ -7,7 +7,7 @@ use Rattle.journal_model.specs.declared.entry.Entry.{Entry}
 use Rattle.journal_model.specs.declared.entry.What.TheVariants.{Got, Verdict as Settled}
 use Rattle.journal_model.specs.Output.{answer_line}
 use Rattle.journal_model.specs.Rows.{sample_key, by_main, checking, away}
-use Rattle.special_cli.proofs.Telling.{told_alone}
+use Rattle.special_cli.proofs.Alone.{told_alone}
 use Rattle.special_cli.proofs.laws.unknown_is_told.Goals as goal
 
 printed : answer_line away 1 (Unknown 15) ≡ codes "1 unknown away" ++ 10 ∷ []

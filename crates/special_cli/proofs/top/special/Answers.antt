@@ -1,11 +1,17 @@
-use Rattle.special_cli.proofs.Calling.{called_as, called_wires, called_starts, called_fault}
-use Rattle.special_cli.specs.Words.{command_of}
+use Rattle.cli_words.specs.Values.{texts_of}
+use Rattle.special_cli.specs.Left.{OutsideValue, programs_value}
+use Rattle.special_cli.specs.Wishes.{wish_of}
+use Rattle.special_cli.proofs.Calling.{called, few}
 use Rattle.special_cli.proofs.top.special.Goals as goal
+
+pub tell-requires-clause-few : goal.tell-requires-clause-few
+tell-requires-clause-few g c = λ κs lives.
+    let before : OutsideValue = record { programs = programs_value (g.P.Programs.starts c.args.programs) (g.P.Programs.faults c.args.programs); made = g.K.Desks.made c.args.desks } in
+    few (g.C.Clock.answer c.args.clock.now) before (wish_of (texts_of c.args.words.now)) c.run_words-ran.result c.run_words-ran.ensures
 
 pub returns : goal.returns
 returns g c =
-    let all = called_as _ _ c.command_of.ensures c.obey.ensures in
-    let wish = command_of c.args.words.now in
+    let all = called _ _ _ _ _ _ _ _ c.tell.ensures.left c.run_words-ran.ensures c.tell.ensures.told in
     record {
       usage = all.usage;
       words = all.words;
@@ -17,7 +23,8 @@ returns g c =
       told = all.told;
       informed = all.informed;
       info_told = all.info_told;
-      wires = called_wires wish all;
-      starts = called_starts wish all;
-      fault = called_fault wish all;
+      wires = all.wires;
+      starts = all.starts;
+      fault = all.fault;
+      desks = all.desks;
     }

@@ -1,93 +1,184 @@
-use Rattle.std.proofs.Common.{◌≡◌, ◌++◌, ◌+◌, ◌∙◌, ◌<◌, ◌≤◌, ◌^◌, ℕ, Option, sym, ap, subst, List, length, arith}
-use Rattle.std.specs.Prelude.{vec_capacity, All}
+use Rattle.std.proofs.Common.{◌≡◌, ◌++◌, ◌+◌, ◌∙◌, ◌<◌, ◌≤◌, ◌^◌, ℕ, [], true, false, Option, sym, ap, subst, List, length, arith}
+use Rattle.std.specs.Prelude.{All}
+use Rattle.std.specs.List.{cons_option}
+use Rattle.reg_file.specs.Registers.{RegisterFile}
+use Rattle.annex_model.specs.Messages.{RemoteMessage}
 use Rattle.journal_model.specs.declared.entry.What.{What}
 use Rattle.journal_model.specs.declared.entry.Entry.{Entry}
 use Rattle.journal_model.specs.declared.opening.Opening.{Opening}
 use Rattle.journal_model.specs.Legality.{Legal}
 use Rattle.journal_model.specs.Room.{room_of}
+use Rattle.journal_model.specs.Replies.{set_by_all}
+use Rattle.journal_model.specs.Registers.{settings}
 use Rattle.host_core.specs.declared.due.Due.{Due}
-use Rattle.host_core.specs.Steps.{step_of, told}
+use Rattle.host_core.specs.Steps.{step_of, told, is_free}
 use Rattle.host_core.specs.CoreValue.{CoreValue}
 use Rattle.host_core.specs.Mays.{IsMadeBy}
+use Rattle.host_core.specs.Moves.{group_made, group_room}
+use Rattle.host_core.specs.Settings.{set_in, registers_after, IsServed}
 use Rattle.host_core.proofs.Sharing.{step_made}
-use Rattle.host_core.specs.Moves.{group_made, first_room}
 use Rattle.host_core.proofs.Stepping.{Legal-step}
-use Rattle.host_core.proofs.Pushing.{group_room}
+use Rattle.host_core.proofs.Pushing.{group_fits, few_entries, free_room, free_first}
+use Rattle.host_core.proofs.Sparing.{event_free}
+use Rattle.host_core.proofs.Setting.{settings_group, line_fits, registers_grow}
 use Rattle.host_core.proofs.machine.Core.step.Goals as goal
+
+pub set_by_group-requires : goal.set_by_group-requires
+set_by_group-requires c =
+    let o : Opening = c.self.inside.opening in
+    let past : List Entry = c.self.inside.journal.entries in
+    let what : Option What = c.in_ok-step.step.what in
+    let due : Due = c.in_ok-step.step.due in
+    let few = few_entries o past c.self.inside.journal.room c.self.invariant.0 c.self.invariant.2 c.self.invariant.3 in
+    let e : group_made past c.args.by what due ≡ (step_of o past c.args.by c.args.event).group = c.in_ok-step.ensures.step.group_is in
+    line_fits o past c.args.by c.args.event what due few e
 
 pub push_group-requires : goal.push_group-requires
 push_group-requires c =
     let o : Opening = c.self.inside.opening in
-    let past : List Entry = c.self.inside.entries.items in
+    let past : List Entry = c.self.inside.journal.entries in
     let what : Option What = c.in_ok-step.step.what in
     let due : Due = c.in_ok-step.step.due in
-    let few : length past < 2 ^ 64 = omega (arith, c.self.inside.entries.ok.0, c.self.inside.entries.ok.1, c.self.inside.entries.small) in
-    let e : group_made past c.args.by what due ≡ (step_of o past c.args.by c.args.event).group =
-    sym (ap (λ (p : List Entry). group_made p c.args.by what due) c.deref.ensures.value)
-    ∙ c.in_ok-step.ensures.step.group_is
-    ∙ ap (λ (p : List Entry). (step_of o p c.args.by c.args.event).group) c.deref.ensures.value in
-    let room = c.self.inside.room in
-    let cap = vec_capacity c.keep_room.new.entries in
-    let more : c.in_ok-self-inside.field-0 ≡ room + first_room what = c.in_ok-self-inside.ensures.room ∙ ap (λ (n : ℕ). room + n) c.first_room-more.ensures in
-    let fits : room + first_room what ≤ cap = omega (arith, more, c.in_ok-self-inside.ensures.kept) in
-    let both = group_room o past c.args.by c.args.event what due room cap few c.self.invariant.0 e c.self.invariant.2 fits in
-    let P : List Entry → Type 0 = λ es. length es + length (group_made es c.args.by what due) ≤ cap in
-    subst P (sym c.keep_room.ensures.items) both.0
+    let few = few_entries o past c.self.inside.journal.room c.self.invariant.0 c.self.invariant.2 c.self.invariant.3 in
+    let e : group_made past c.args.by what due ≡ (step_of o past c.args.by c.args.event).group = c.in_ok-step.ensures.step.group_is in
+    let room : ℕ = c.self.inside.journal.room in
+    let kept : c.take_room.new.self.room ≡ room + group_room what due = c.in_ok-take_room.ensures.room ∙ ap (λ (n : ℕ). room + n) c.in_ok-more.ensures in
+    let both = group_fits o past c.args.by c.args.event what due room few c.self.invariant.0 e c.self.invariant.2 in
+    let P : List Entry → Type 0 = λ es. length es + length (group_made es c.args.by what due) ≤ c.take_room.new.self.room in
+    subst P (sym c.take_room.ensures.entries) (omega (arith, both.0, kept))
 
 pub returns-clause-legal : goal.returns-clause-legal
 returns-clause-legal c =
     let o : Opening = c.self.inside.opening in
-    let past : List Entry = c.self.inside.entries.items in
+    let past : List Entry = c.self.inside.journal.entries in
     let what : Option What = c.in_ok-step.step.what in
     let due : Due = c.in_ok-step.step.due in
-    let few : length past < 2 ^ 64 = omega (arith, c.self.inside.entries.ok.0, c.self.inside.entries.ok.1, c.self.inside.entries.small) in
-    let e : group_made past c.args.by what due ≡ (step_of o past c.args.by c.args.event).group =
-    sym (ap (λ (p : List Entry). group_made p c.args.by what due) c.deref.ensures.value)
-    ∙ c.in_ok-step.ensures.step.group_is
-    ∙ ap (λ (p : List Entry). (step_of o p c.args.by c.args.event).group) c.deref.ensures.value in
-    let room = c.self.inside.room in
-    let cap = vec_capacity c.keep_room.new.entries in
-    let more : c.in_ok-self-inside.field-0 ≡ room + first_room what = c.in_ok-self-inside.ensures.room ∙ ap (λ (n : ℕ). room + n) c.first_room-more.ensures in
-    let fits : room + first_room what ≤ cap = omega (arith, more, c.in_ok-self-inside.ensures.kept) in
-    let both = group_room o past c.args.by c.args.event what due room cap few c.self.invariant.0 e c.self.invariant.2 fits in
-    let grown : c.push_group.new.entries.items ≡ past ++ group_made past c.args.by what due =
-    c.push_group.ensures.items ∙ ap (λ (es : List Entry). es ++ group_made es c.args.by what due) c.keep_room.ensures.items in
+    let few = few_entries o past c.self.inside.journal.room c.self.invariant.0 c.self.invariant.2 c.self.invariant.3 in
+    let e : group_made past c.args.by what due ≡ (step_of o past c.args.by c.args.event).group = c.in_ok-step.ensures.step.group_is in
+    let grown : c.push_group.new.journal.entries ≡ past ++ group_made past c.args.by what due =
+    c.push_group.ensures.entries ∙ ap (λ (es : List Entry). es ++ group_made es c.args.by what due) c.take_room.ensures.entries in
     subst (Legal o) (sym (grown ∙ ap (λ (g : List Entry). past ++ g) e)) (Legal-step o past c.args.by c.args.event few c.self.invariant.0)
+
+pub returns-clause-registers : goal.returns-clause-registers
+returns-clause-registers c =
+    let o : Opening = c.self.inside.opening in
+    let past : List Entry = c.self.inside.journal.entries in
+    let what : Option What = c.in_ok-step.step.what in
+    let due : Due = c.in_ok-step.step.due in
+    let few = few_entries o past c.self.inside.journal.room c.self.invariant.0 c.self.invariant.2 c.self.invariant.3 in
+    let e : group_made past c.args.by what due ≡ (step_of o past c.args.by c.args.event).group = c.in_ok-step.ensures.step.group_is in
+    let grown : c.push_group.new.journal.entries ≡ past ++ group_made past c.args.by what due =
+    c.push_group.ensures.entries ∙ ap (λ (es : List Entry). es ++ group_made es c.args.by what due) c.take_room.ensures.entries in
+    let x : Option RemoteMessage = set_in past what due in
+    let sets : c.set_by_group.new.registers ≡ set_by_all c.self.inside.registers (cons_option x []) =
+    c.in_ok-set_by_group.ensures.set ∙ ap (λ (es : List Entry). set_by_all c.self.inside.registers (cons_option (set_in es what due) [])) c.take_room.ensures.entries in
+    registers_grow o past c.push_group.new.journal.entries c.self.inside.registers c.set_by_group.new.registers x c.self.invariant.4.given sets
+    (ap settings grown ∙ settings_group o past c.args.by c.args.event what due few c.self.invariant.0 c.in_ok-step.ensures.reply e)
 
 pub invariant_of-self-2 : goal.invariant_of-self-2
 invariant_of-self-2 c =
     let o : Opening = c.self.inside.opening in
-    let past : List Entry = c.self.inside.entries.items in
+    let past : List Entry = c.self.inside.journal.entries in
     let what : Option What = c.in_ok-step.step.what in
     let due : Due = c.in_ok-step.step.due in
-    let few : length past < 2 ^ 64 = omega (arith, c.self.inside.entries.ok.0, c.self.inside.entries.ok.1, c.self.inside.entries.small) in
-    let e : group_made past c.args.by what due ≡ (step_of o past c.args.by c.args.event).group =
-    sym (ap (λ (p : List Entry). group_made p c.args.by what due) c.deref.ensures.value)
-    ∙ c.in_ok-step.ensures.step.group_is
-    ∙ ap (λ (p : List Entry). (step_of o p c.args.by c.args.event).group) c.deref.ensures.value in
-    let room = c.self.inside.room in
-    let cap = vec_capacity c.keep_room.new.entries in
-    let more : c.in_ok-self-inside.field-0 ≡ room + first_room what = c.in_ok-self-inside.ensures.room ∙ ap (λ (n : ℕ). room + n) c.first_room-more.ensures in
-    let fits : room + first_room what ≤ cap = omega (arith, more, c.in_ok-self-inside.ensures.kept) in
-    let both = group_room o past c.args.by c.args.event what due room cap few c.self.invariant.0 e c.self.invariant.2 fits in
-    let grown : c.push_group.new.entries.items ≡ past ++ group_made past c.args.by what due =
-    c.push_group.ensures.items ∙ ap (λ (es : List Entry). es ++ group_made es c.args.by what due) c.keep_room.ensures.items in
-    let roomy : room_of o c.push_group.new.entries.items ≡ room_of o (past ++ group_made past c.args.by what due) = ap (room_of o) grown in
-    (returns-clause-legal c, c.self.invariant.1, omega (arith, roomy, both.1, more), omega (arith, c.in_ok-self-inside.ensures.kept, c.push_group.ensures.capacity))
+    let few = few_entries o past c.self.inside.journal.room c.self.invariant.0 c.self.invariant.2 c.self.invariant.3 in
+    let e : group_made past c.args.by what due ≡ (step_of o past c.args.by c.args.event).group = c.in_ok-step.ensures.step.group_is in
+    let room : ℕ = c.self.inside.journal.room in
+    let kept : c.take_room.new.self.room ≡ room + group_room what due = c.in_ok-take_room.ensures.room ∙ ap (λ (n : ℕ). room + n) c.in_ok-more.ensures in
+    let both = group_fits o past c.args.by c.args.event what due room few c.self.invariant.0 e c.self.invariant.2 in
+    let grown : c.push_group.new.journal.entries ≡ past ++ group_made past c.args.by what due =
+    c.push_group.ensures.entries ∙ ap (λ (es : List Entry). es ++ group_made es c.args.by what due) c.take_room.ensures.entries in
+    let roomy : room_of o c.push_group.new.journal.entries ≡ room_of o (past ++ group_made past c.args.by what due) = ap (room_of o) grown in (
+      returns-clause-legal c,
+      c.self.invariant.1,
+      omega (arith, roomy, both.1, kept, c.push_group.ensures.room),
+      omega (arith, c.take_room.ensures.small, c.push_group.ensures.room),
+      record { given = returns-clause-registers c; kept = c.self.invariant.4.kept; identity = c.self.invariant.4.identity },
+    )
 
 pub returns-clause-reply : goal.returns-clause-reply
 returns-clause-reply c =
     let shut = c.self.inside.shut in
     c.told-reply.ensures
     ∙ sym (c.is_waiting-waits.ensures shut c.in_ok-step.step.reply)
-    ∙ ap (told shut c.args.event)
-    (c.in_ok-step.ensures.step.reply_is ∙ ap (λ (p : List Entry). (step_of c.self.inside.opening p c.args.by c.args.event).reply) c.deref.ensures.value)
+    ∙ ap (told shut c.args.event) c.in_ok-step.ensures.step.reply_is
     ∙ ap (λ (v : CoreValue). told v.shut c.args.event (step_of v.opening v.journal c.args.by c.args.event).reply) c.self.view_is
 
 pub returns-clause-made : goal.returns-clause-made
 returns-clause-made c =
+    let few = few_entries c.self.inside.opening c.self.inside.journal.entries c.self.inside.journal.room c.self.invariant.0 c.self.invariant.2 c.self.invariant.3 in
     subst (λ (v : CoreValue). All (IsMadeBy c.args.by) (step_of v.opening v.journal c.args.by c.args.event).group) c.self.view_is
-    (step_made c.self.inside.opening c.self.inside.entries.items c.args.by c.args.event (omega (arith, c.self.inside.entries.ok.0, c.self.inside.entries.ok.1, c.self.inside.entries.small)))
+    (step_made c.self.inside.opening c.self.inside.journal.entries c.args.by c.args.event few)
 
 pub returns-clause-few : goal.returns-clause-few
-returns-clause-few c = omega (arith, c.push_group.new.entries.ok.0, c.push_group.new.entries.ok.1, c.push_group.new.entries.small)
+returns-clause-few c =
+    few_entries c.self.inside.opening c.push_group.new.journal.entries c.push_group.new.journal.room (returns-clause-legal c) (invariant_of-self-2 c).2 (invariant_of-self-2 c).3
+
+pub returns-in_err-step-clause-few : goal.returns-in_err-step-clause-few
+returns-in_err-step-clause-few c =
+    subst (λ (v : CoreValue). length v.journal < 2 ^ 64) c.self.view_is
+    (few_entries c.self.inside.opening c.self.inside.journal.entries c.self.inside.journal.room c.self.invariant.0 c.self.invariant.2 c.self.invariant.3)
+
+pub returns-in_err-take_room-clause-few : goal.returns-in_err-take_room-clause-few
+returns-in_err-take_room-clause-few c =
+    subst (λ (es : List Entry). length es < 2 ^ 64) (sym c.take_room.ensures.entries)
+    (few_entries c.self.inside.opening c.self.inside.journal.entries c.self.inside.journal.room c.self.invariant.0 c.self.invariant.2 c.self.invariant.3)
+
+pub returns-in_err-step-clause-free_event : goal.returns-in_err-step-clause-free_event
+returns-in_err-step-clause-free_event c = λ free. (
+    let no : false ≡ true = c.in_err-step.ensures.free (event_free c.self.inside.opening c.self.inside.journal.entries c.args.by c.args.event free) in
+    (cc)
+    )
+
+pub returns-in_err-take_room-clause-free : goal.returns-in_err-take_room-clause-free
+returns-in_err-take_room-clause-free c = λ free. (
+    let o : Opening = c.self.inside.opening in
+    let past : List Entry = c.self.inside.journal.entries in
+    let what : Option What = c.in_ok-step.step.what in
+    let due : Due = c.in_ok-step.step.due in
+    let e : group_made past c.args.by what due ≡ (step_of o past c.args.by c.args.event).group = c.in_ok-step.ensures.step.group_is in
+    let f : is_free (step_of o past c.args.by c.args.event) ≡ true = subst (λ (v : CoreValue). is_free (step_of v.opening v.journal c.args.by c.args.event) ≡ true) (sym c.self.view_is) free in
+    let no : false ≡ true = c.in_err-take_room.ensures.free (c.in_ok-more.ensures ∙ free_room o past c.args.by c.args.event what due f e) in
+    (cc)
+    )
+
+pub returns-in_err-take_room-clause-free_event : goal.returns-in_err-take_room-clause-free_event
+returns-in_err-take_room-clause-free_event c = λ free. (
+    let o : Opening = c.self.inside.opening in
+    let past : List Entry = c.self.inside.journal.entries in
+    let what : Option What = c.in_ok-step.step.what in
+    let due : Due = c.in_ok-step.step.due in
+    let e : group_made past c.args.by what due ≡ (step_of o past c.args.by c.args.event).group = c.in_ok-step.ensures.step.group_is in
+    let f : is_free (step_of o past c.args.by c.args.event) ≡ true = event_free o past c.args.by c.args.event free in
+    let no : false ≡ true = c.in_err-take_room.ensures.free (c.in_ok-more.ensures ∙ free_room o past c.args.by c.args.event what due f e) in
+    (cc)
+    )
+
+pub returns-in_err-set_by_group-clause-free : goal.returns-in_err-set_by_group-clause-free
+returns-in_err-set_by_group-clause-free c = λ free. (
+    let o : Opening = c.self.inside.opening in
+    let past : List Entry = c.self.inside.journal.entries in
+    let what : Option What = c.in_ok-step.step.what in
+    let due : Due = c.in_ok-step.step.due in
+    let e : group_made past c.args.by what due ≡ (step_of o past c.args.by c.args.event).group = c.in_ok-step.ensures.step.group_is in
+    let f : is_free (step_of o past c.args.by c.args.event) ≡ true = subst (λ (v : CoreValue). is_free (step_of v.opening v.journal c.args.by c.args.event) ≡ true) (sym c.self.view_is) free in
+    let no : false ≡ true = c.in_err-set_by_group.ensures.free (free_first what due (free_room o past c.args.by c.args.event what due f e)) in
+    (cc)
+    )
+
+pub returns-in_err-set_by_group-clause-free_event : goal.returns-in_err-set_by_group-clause-free_event
+returns-in_err-set_by_group-clause-free_event c = λ free. (
+    let o : Opening = c.self.inside.opening in
+    let past : List Entry = c.self.inside.journal.entries in
+    let what : Option What = c.in_ok-step.step.what in
+    let due : Due = c.in_ok-step.step.due in
+    let e : group_made past c.args.by what due ≡ (step_of o past c.args.by c.args.event).group = c.in_ok-step.ensures.step.group_is in
+    let f : is_free (step_of o past c.args.by c.args.event) ≡ true = event_free o past c.args.by c.args.event free in
+    let no : false ≡ true = c.in_err-set_by_group.ensures.free (free_first what due (free_room o past c.args.by c.args.event what due f e)) in
+    (cc)
+    )
+
+pub returns-in_err-set_by_group-clause-few : goal.returns-in_err-set_by_group-clause-few
+returns-in_err-set_by_group-clause-few c =
+    subst (λ (es : List Entry). length es < 2 ^ 64) (sym c.take_room.ensures.entries)
+    (few_entries c.self.inside.opening c.self.inside.journal.entries c.self.inside.journal.room c.self.invariant.0 c.self.invariant.2 c.self.invariant.3)

@@ -1,0 +1,5 @@
+pub mod Parsing
+pub mod Refusing
+pub mod Spelt
+pub mod Fits
+pub mod Numerals

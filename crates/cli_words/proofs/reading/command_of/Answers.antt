@@ -1,0 +1,11 @@
+use Rattle.std.proofs.Common.{sym, subst}
+use Rattle.std.specs.Prelude.{IfSome}
+use Rattle.std.proofs.lemmas.Result.{IfOk-weaker}
+use Rattle.cli_words.specs.Identities.{IsFit}
+use Rattle.cli_words.specs.Values.{texts_of}
+use Rattle.cli_words.proofs.Fits.{command_fits}
+use Rattle.cli_words.proofs.reading.command_of.Goals as goal
+
+pub returns-clause-fit : goal.returns-clause-fit
+returns-clause-fit c =
+    IfOk-weaker c.command_in.result _ _ (λ command same. subst (λ o. IfSome o IsFit) (sym same) (command_fits (texts_of c.args.words.now))) c.command_in.ensures

@@ -1,0 +1,9 @@
+pub mod Values
+pub mod Settings
+pub mod Grammar
+pub mod Words
+pub mod Identities
+pub mod Pages
+pub mod Refusals
+pub mod Texts
+pub mod Rows

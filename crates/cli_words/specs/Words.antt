@@ -1,0 +1,110 @@
+-- What the words of a command line ask for.
+use Rattle.std.specs.Prelude.{ℕ, ◌&&◌, Bool, true, false, if◌then◌else◌, List, [], ◌∷◌, Option, Some, None, option_map, codes, bytes_eq}
+use Rattle.std.specs.List.{list_all}
+use Rattle.std.specs.Option.{option_map_or}
+use Rattle.clap.specs.Walk.{Row, first_of}
+use Rattle.clap.specs.Simple.{matches_of}
+use Rattle.clap.specs.Faults.{fault_of}
+use Rattle.cli_words.specs.Values.{is_text, is_word_of_command, number_in, uuid_in}
+use Rattle.cli_words.specs.Settings.{settings_in}
+use Rattle.cli_words.specs.Grammar.{is_without, run_grammar, value_at}
+use Rattle.cli_words.specs.declared.command.Command.{Command}
+use Rattle.cli_words.specs.declared.command.Command.TheVariants.{Check, Info, Init, Run, Show}
+use Rattle.cli_words.specs.declared.command.Page.{Page}
+use Rattle.cli_words.specs.declared.command.Page.TheVariants.{Overview, Check as CheckPage, Info as InfoPage, Init as InitPage, Run as RunPage, Version}
+use Rattle.cli_words.specs.declared.command.RunWords.{RunWords}
+use Rattle.cli_words.specs.declared.settings.Setting.{Setting}
+
+-- ---- requests for texts
+
+abbrev pub page_alone : List ℕ → Option Page
+page_alone word =
+    if bytes_eq word (codes "--help") then Some Overview
+    else if bytes_eq word (codes "--version") then Some Version
+    else None
+
+abbrev pub page_of : List ℕ → Option Page
+page_of word =
+    if bytes_eq word (codes "check") then Some CheckPage
+    else if bytes_eq word (codes "info") then Some InfoPage
+    else if bytes_eq word (codes "init") then Some InitPage
+    else if bytes_eq word (codes "run") then Some RunPage
+    else None
+
+abbrev pub is_help : List (List ℕ) → Bool
+is_help (word ∷ []) = bytes_eq word (codes "--help")
+is_help words = false
+
+-- ---- the words behind a command's name
+
+abbrev pub check_of : List (List ℕ) → Option Command
+check_of (program ∷ key ∷ []) = Some (Check program key)
+check_of words = None
+
+abbrev pub info_of : List (List ℕ) → Option Command
+info_of (program ∷ []) = Some (Info program None)
+info_of (program ∷ key ∷ []) = Some (Info program (Some key))
+info_of words = None
+
+abbrev pub init_with : List ℕ → List ℕ → Option (List ℕ) → Option (List Setting) → Option Command
+init_with program keep (Some uuid) (Some settings) =
+    Some (Init (record { program = program; uuid = uuid; keep = keep; settings = settings }))
+init_with program keep uuid settings = None
+
+abbrev pub init_of : List (List ℕ) → Option Command
+init_of (program ∷ uuid ∷ keep ∷ words) = init_with program keep (uuid_in uuid) (settings_in words)
+init_of words = None
+
+-- each value is a text, where there is one
+abbrev pub are_texts : List Row → Bool
+are_texts rows =
+    is_text (value_at rows (codes "program")) && (is_text (value_at rows (codes "name")) && (is_text (value_at rows (codes "gitdir"))
+    && (is_text (value_at rows (codes "work")) && option_map_or is_text (first_of (codes "keep") rows) true)))
+
+abbrev pub run_with : List Row → Option (List ℕ) → Option ℕ → Option ℕ → Option ℕ → Option RunWords
+run_with rows (Some uuid) (Some jobs) (Some chunk) (Some starts) = Some (record {
+  program = value_at rows (codes "program");
+  uuid = uuid;
+  jobs = jobs;
+  chunk = chunk;
+  name = value_at rows (codes "name");
+  gitdir = value_at rows (codes "gitdir");
+  keep = first_of (codes "keep") rows;
+  work = value_at rows (codes "work");
+  starts = starts;
+})
+run_with rows uuid jobs chunk starts = None
+
+-- what a parse found: 1 to 64 jobs, no chunks, 1 to 16 starts
+abbrev pub run_from : List Row → Option RunWords
+run_from rows =
+    if are_texts rows then run_with rows
+    (uuid_in (value_at rows (codes "uuid"))) (number_in 1 64 (value_at rows (codes "jobs")))
+    (number_in 0 0 (value_at rows (codes "chunk"))) (number_in 1 16 (value_at rows (codes "starts")))
+    else None
+
+-- the words, `run` among them, where a parse takes them
+unfoldable pub run_of : List (List ℕ) → Option RunWords
+run_of words = if is_without (fault_of run_grammar words) then run_from (matches_of run_grammar words) else None
+
+-- ---- all words
+
+abbrev pub of_command : List ℕ → List (List ℕ) → Option Command
+of_command word rest =
+    if bytes_eq word (codes "check") then check_of rest
+    else if bytes_eq word (codes "info") then info_of rest
+    else if bytes_eq word (codes "init") then init_of rest
+    else if bytes_eq word (codes "run") then option_map Run (run_of (word ∷ rest))
+    else None
+
+abbrev pub behind : List ℕ → List (List ℕ) → Option Command
+behind word rest =
+    if is_help rest then option_map Show (page_of word)
+    else if list_all is_word_of_command rest then of_command word rest
+    else None
+
+-- what the words behind the program's name ask for, if they are in the grammar
+abbrev pub command_of : List (List ℕ) → Option Command
+command_of [] = None
+command_of (word ∷ []) = option_map Show (page_alone word)
+command_of (word ∷ rest) = behind word rest

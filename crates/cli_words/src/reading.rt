@@ -1,0 +1,162 @@
+// Reads the words.
+ghost use Rattle.std.specs.Prelude.{◌≡◌, ◌<◌, IfOk, IfSome, length, option_map};
+ghost use Rattle.cli_words.specs.Identities.{IsFit};
+ghost use Rattle.cli_words.specs.Values.{texts_of};
+ghost use Rattle.cli_words.specs.Words.{behind, check_of, command_of, info_of, init_of, is_help, of_command, page_alone, page_of, run_of};
+ghost use Rattle.cli_words.specs.declared.command.Command.TheVariants.{Run, Show};
+
+use crate::command::{Command, InitWords, Page};
+use crate::run::run_of;
+use crate::settings::settings_in;
+use crate::uuids::uuid_in;
+use crate::values::are_words_of_command;
+use ann_key::{NoMemory, Text};
+use std::alloc::Global;
+
+/// Reads the words behind the program's name; None exactly where they aren't in the grammar. Whether a key is one is not
+/// asked here.
+pub fn command_of(alloc: Global, words: &[String]) -> Result<Option<Command>, NoMemory>
+    ensures command { IfOk result (λ command. command ≡ command_of (texts_of words.now)) }
+    ensures fit { IfOk result (λ command. IfSome command IsFit) }
+{
+    command_in(alloc, words)
+}
+
+fn command_in(alloc: Global, words: &[String]) -> Result<Option<Command>, NoMemory>
+    ensures { IfOk result (λ command. command ≡ command_of (texts_of words.now)) }
+{
+    match words {
+        [] => Ok(None),
+        [word] => Ok(show(page_alone(word.as_str()))),
+        [_, _, ..] => behind(alloc, words),
+    }
+}
+
+fn show(page: Option<Page>) -> Option<Command>
+    ensures { result ≡ option_map Show page }
+{
+    match page {
+        Some(page) => Some(Command::Show(page)),
+        None => None,
+    }
+}
+
+fn page_alone(word: &str) -> Option<Page>
+    ensures { result ≡ page_alone word.now }
+{
+    if word == "--help" {
+        Some(Page::Overview)
+    } else if word == "--version" {
+        Some(Page::Version)
+    } else {
+        None
+    }
+}
+
+fn page_of(word: &str) -> Option<Page>
+    ensures { result ≡ page_of word.now }
+{
+    if word == "check" {
+        Some(Page::Check)
+    } else if word == "info" {
+        Some(Page::Info)
+    } else if word == "init" {
+        Some(Page::Init)
+    } else if word == "run" {
+        Some(Page::Run)
+    } else {
+        None
+    }
+}
+
+fn is_help(words: &[String]) -> bool
+    ensures { result ≡ is_help (texts_of words.now) }
+{
+    match words {
+        [word] => word.as_str() == "--help",
+        _ => false,
+    }
+}
+
+// The first word, with words behind it.
+fn behind(alloc: Global, words: &[String]) -> Result<Option<Command>, NoMemory>
+    requires { 1 < length words.now }
+    ensures { IfOk result (λ command. command ≡ command_of (texts_of words.now)) }
+{
+    let word = words[0].as_str();
+    let rest = &words[1..];
+    if is_help(rest) {
+        return Ok(show(page_of(word)));
+    }
+    if !are_words_of_command(rest) {
+        return Ok(None);
+    }
+    if word == "check" {
+        check_of(alloc, rest)
+    } else if word == "info" {
+        info_of(alloc, rest)
+    } else if word == "init" {
+        init_of(alloc, rest)
+    } else if word == "run" {
+        run_command(alloc, words)
+    } else {
+        Ok(None)
+    }
+}
+
+fn check_of(alloc: Global, words: &[String]) -> Result<Option<Command>, NoMemory>
+    ensures { IfOk result (λ command. command ≡ check_of (texts_of words.now)) }
+{
+    match words {
+        [program, key] => Ok(Some(Command::Check {
+            program: Text::copy(alloc, program.as_str())?,
+            key: Text::copy(alloc, key.as_str())?,
+        })),
+        _ => Ok(None),
+    }
+}
+
+fn info_of(alloc: Global, words: &[String]) -> Result<Option<Command>, NoMemory>
+    ensures { IfOk result (λ command. command ≡ info_of (texts_of words.now)) }
+{
+    match words {
+        [program] => Ok(Some(Command::Info {
+            program: Text::copy(alloc, program.as_str())?,
+            key: None,
+        })),
+        [program, key] => Ok(Some(Command::Info {
+            program: Text::copy(alloc, program.as_str())?,
+            key: Some(Text::copy(alloc, key.as_str())?),
+        })),
+        _ => Ok(None),
+    }
+}
+
+fn init_of(alloc: Global, words: &[String]) -> Result<Option<Command>, NoMemory>
+    ensures { IfOk result (λ command. command ≡ init_of (texts_of words.now)) }
+{
+    let [program, uuid, keep, ..] = words else {
+        return Ok(None);
+    };
+    let Some(uuid) = uuid_in(alloc, uuid.as_str())? else {
+        return Ok(None);
+    };
+    let Some(settings) = settings_in(alloc, &words[3..])? else {
+        return Ok(None);
+    };
+    Ok(Some(Command::Init(InitWords {
+        program: Text::copy(alloc, program.as_str())?,
+        uuid,
+        keep: Text::copy(alloc, keep.as_str())?,
+        settings,
+    })))
+}
+
+fn run_command(alloc: Global, words: &[String]) -> Result<Option<Command>, NoMemory>
+    ensures { IfOk result (λ command. command ≡ option_map Run (run_of (texts_of words.now))) }
+{
+    match run_of(alloc, words)? {
+        Some(run) => Ok(Some(Command::Run(run))),
+        None => Ok(None),
+    }
+}

@@ -1,0 +1,111 @@
+// The words of `run`.
+ghost use Rattle.std.specs.Prelude.{◌≡◌, IfOk, option_map, true};
+ghost use Rattle.std.specs.Option.{option_map_or};
+ghost use Rattle.clap.specs.Words.{found_of, first_of, rows_of};
+ghost use Rattle.cli_words.specs.Grammar.{value_at};
+ghost use Rattle.cli_words.specs.Values.{is_text, texts_of};
+ghost use Rattle.cli_words.specs.Words.{are_texts, run_from, run_of};
+
+use crate::command::RunWords;
+use crate::grammar::run_grammar;
+use crate::numbers::number_in;
+use crate::uuids::uuid_in;
+use crate::values::is_text;
+use ann_key::{NoMemory, Text};
+use clap::ArgMatches;
+use clap::error::ErrorKind;
+use std::alloc::Global;
+
+/// What the words of a run say, `run` among them; None where they aren't in the grammar.
+pub(super) fn run_of(alloc: Global, words: &[String]) -> Result<Option<RunWords>, NoMemory>
+    ensures { IfOk result (λ run. run ≡ run_of (texts_of words.now)) }
+{
+    let grammar = run_grammar(alloc)?;
+    match grammar.try_get_matches_from(words) {
+        Ok(matches) => run_from(alloc, &matches),
+        Err(error) => match error.kind() {
+            ErrorKind::OutOfMemory => Err(NoMemory),
+            _ => Ok(None),
+        },
+    }
+}
+
+fn given<'a>(matches: &ArgMatches<'a>, name: &str) -> Option<&'a str>
+    ensures { option_map (λ text. text.now) result ≡ first_of name.now (rows_of (found_of matches.now)) }
+{
+    matches.get_str(name)
+}
+
+fn value_at<'a>(matches: &ArgMatches<'a>, name: &str) -> &'a str
+    ensures { result.now ≡ value_at (rows_of (found_of matches.now)) name.now }
+{
+    match given(matches, name) {
+        Some(value) => value,
+        None => "",
+    }
+}
+
+fn are_texts(matches: &ArgMatches<'_>) -> bool
+    ensures { result ≡ are_texts (rows_of (found_of matches.now)) }
+{
+    is_text(value_at(matches, "program"))
+        && is_text(value_at(matches, "name"))
+        && is_text(value_at(matches, "gitdir"))
+        && is_text(value_at(matches, "work"))
+        && is_text_or_none(given(matches, "keep"))
+}
+
+fn is_text_or_none(value: Option<&str>) -> bool
+    ensures { result ≡ option_map_or is_text (option_map (λ text. text.now) value.entry) true }
+{
+    match value {
+        Some(value) => is_text(value),
+        None => true,
+    }
+}
+
+fn copy_at(alloc: Global, matches: &ArgMatches<'_>, name: &str) -> Result<Text, NoMemory>
+    ensures { IfOk result (λ text. text ≡ value_at (rows_of (found_of matches.now)) name.now) }
+{
+    Text::copy(alloc, value_at(matches, name))
+}
+
+fn copy_given(alloc: Global, matches: &ArgMatches<'_>, name: &str) -> Result<Option<Text>, NoMemory>
+    ensures { IfOk result (λ text. text ≡ first_of name.now (rows_of (found_of matches.now))) }
+{
+    match given(matches, name) {
+        Some(value) => Ok(Some(Text::copy(alloc, value)?)),
+        None => Ok(None),
+    }
+}
+
+fn run_from(alloc: Global, matches: &ArgMatches<'_>) -> Result<Option<RunWords>, NoMemory>
+    ensures { IfOk result (λ run. run ≡ run_from (rows_of (found_of matches.now))) }
+{
+    if !are_texts(matches) {
+        return Ok(None);
+    }
+    let Some(uuid) = uuid_in(alloc, value_at(matches, "uuid"))? else {
+        return Ok(None);
+    };
+    let Some(jobs) = number_in(value_at(matches, "jobs"), 1, 64) else {
+        return Ok(None);
+    };
+    let Some(chunk) = number_in(value_at(matches, "chunk"), 0, 0) else {
+        return Ok(None);
+    };
+    let Some(starts) = number_in(value_at(matches, "starts"), 1, 16) else {
+        return Ok(None);
+    };
+    Ok(Some(RunWords {
+        program: copy_at(alloc, matches, "program")?,
+        uuid,
+        jobs: jobs as u32,
+        chunk,
+        name: copy_at(alloc, matches, "name")?,
+        gitdir: copy_at(alloc, matches, "gitdir")?,
+        keep: copy_given(alloc, matches, "keep")?,
+        work: copy_at(alloc, matches, "work")?,
+        starts: starts as u32,
+    }))
+}

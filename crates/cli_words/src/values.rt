@@ -1,0 +1,41 @@
+// What a word may be a value of.
+ghost use Rattle.std.specs.Prelude.{◌≡◌};
+ghost use Rattle.std.specs.List.{list_all};
+ghost use Rattle.cli_words.specs.Values.{has_end, is_request, is_text, is_word_of_command, texts_of};
+
+fn has_end(text: &str) -> bool
+    ensures { result ≡ has_end text.now }
+{
+    text.as_bytes().iter().any(|b| *b == b'\n')
+}
+
+/// Whether it isn't empty and holds no line's end.
+pub(super) fn is_text(text: &str) -> bool
+    ensures { result ≡ is_text text.now }
+{
+    !text.is_empty() && !has_end(text)
+}
+
+fn is_request(word: &str) -> bool
+    ensures { result ≡ is_request word.now }
+{
+    word == "--help" || word == "--version"
+}
+
+fn is_word_of_command(word: &str) -> bool
+    ensures { result ≡ is_word_of_command word.now }
+{
+    is_text(word) && !is_request(word)
+}
+
+/// Whether each of them may stand behind a command's name.
+pub(super) fn are_words_of_command(words: &[String]) -> bool
+    ensures { result ≡ list_all is_word_of_command (texts_of words.now) }
+{
+    for word in words {
+        if !is_word_of_command(word.as_str()) {
+            return false;
+        }
+    }
+    true
+}

@@ -1,0 +1,140 @@
+// One round of an ear, a mouth and workers.
+ghost use Rattle.std.specs.Prelude.{◌≡◌, All, ◌^◌, ◌+◌, ◌<◌, ◌≤◌, [], IfOk, IfErr, IfSome, vec_len, vec_capacity};
+ghost use Rattle.crew_round.specs.Back.{CameBack};
+ghost use Rattle.crew_round.specs.Slots.{AllCameBack};
+
+use super::back::Back;
+use super::gate::Gate;
+use super::role::Role;
+use super::slot::{Slot, begin, begin_all, end, end_all};
+use std::alloc::Global;
+use std::marker::{Send, Sync};
+use std::sync::Wait;
+use std::thread;
+use std::thread::{Scope, Threads};
+
+/// The roles of a round over a child that several workers share.
+#[derive(Drop)]
+pub struct Crew<A, B, C> {
+    pub ear: A,
+    pub mouth: B,
+    pub workers: Vec<C>,
+}
+
+pub(crate) type Room<C> = (Vec<Slot<C>>, Vec<Back<C>>);
+
+/// Room for as many slots and for what comes back.
+pub(crate) fn room<C: Role>(alloc: Global, n: usize) -> Option<Room<C>>
+    ensures { IfSome result (λ r. (r.0.items ≡ []) × (n ≤ vec_capacity r.0) × (r.1.items ≡ []) × (n ≤ vec_capacity r.1)) }
+{
+    let Ok(slots) = Vec::with_capacity(alloc, n) else {
+        return None;
+    };
+    match Vec::with_capacity(alloc, n) {
+        Ok(backs) => Some((slots, backs)),
+        Err(_) => {
+            slots.destroy_empty();
+            None
+        }
+    }
+}
+
+fn within<
+    's,
+    M: 's,
+    A: Role + Send + Drop + 's,
+    B: Role + Send + Drop + 's,
+    C: Role + Send + Drop + 's,
+    R: Threads + Wait + Sync,
+>(
+    scope: &Scope<'s, M>,
+    rt: &'s R,
+    gate: &'s Gate,
+    most: usize,
+    crew: Crew<A, B, C>,
+    room: Room<C>,
+) -> Crew<Back<A>, Back<B>, Back<C>>
+    requires few { vec_len crew.workers < 1000 }
+    requires can { A.can_run crew.ear × B.can_run crew.mouth × All C.can_run crew.workers.items }
+    requires slots { (room.0.items ≡ []) × (vec_len crew.workers ≤ vec_capacity room.0) }
+    requires backs { (room.1.items ≡ []) × (vec_len crew.workers ≤ vec_capacity room.1) }
+    ensures ear { CameBack A.ran crew.ear result.ear }
+    ensures mouth { CameBack B.ran crew.mouth result.mouth }
+    ensures workers { AllCameBack C.ran crew.workers.items result.workers.items }
+{
+    let Crew {
+        ear,
+        mouth,
+        workers,
+    } = crew;
+    let (slots, backs) = room;
+    let ear = begin(scope, rt, gate, 0, most, ear);
+    let mouth = begin(scope, rt, gate, 1, most, mouth);
+    let workers = begin_all(scope, rt, gate, 2, most, workers, slots);
+    let begins = ear.is_started()
+        && mouth.is_started()
+        && workers.iter().any(|slot| slot.is_started());
+    gate.open(rt, begins);
+    Crew {
+        workers: end_all(rt, workers, backs),
+        mouth: end(rt, mouth),
+        ear: end(rt, ear),
+    }
+}
+
+/// Runs the roles, each in a thread of its own, of which it tries to start `most`. None of them takes its first step before it
+/// is known which threads were started; without an ear, a mouth or any worker none takes one. Where memory keeps the round from
+/// beginning, all is handed back.
+pub fn run_some<
+    A: Role + Send + Drop,
+    B: Role + Send + Drop,
+    C: Role + Send + Drop,
+    R: Threads + Wait + Sync,
+>(
+    rt: &R,
+    alloc: Global,
+    most: usize,
+    crew: Crew<A, B, C>,
+) -> Result<Crew<Back<A>, Back<B>, Back<C>>, Crew<A, B, C>>
+    requires few { vec_len crew.workers < 1000 }
+    requires can { A.can_run crew.ear × B.can_run crew.mouth × All C.can_run crew.workers.items }
+    ensures ear { IfOk result (λ r. CameBack A.ran crew.ear r.ear) }
+    ensures mouth { IfOk result (λ r. CameBack B.ran crew.mouth r.mouth) }
+    ensures workers { IfOk result (λ r. AllCameBack C.ran crew.workers.items r.workers.items) }
+    ensures short { IfErr result (λ r. r ≡ crew) }
+{
+    let Some(room) = room(alloc, crew.workers.len()) else {
+        return Err(crew);
+    };
+    let gate = Gate::new();
+    let gate = &gate;
+    Ok(thread::scope(
+        thread::scope_env(),
+        rt,
+        move |scope| -> Crew<Back<A>, Back<B>, Back<C>>
+            requires { A.can_run crew.ear × B.can_run crew.mouth × All C.can_run crew.workers.items × (vec_len crew.workers < 1000) × (room.0.items ≡ []) × (vec_len crew.workers ≤ vec_capacity room.0) × (room.1.items ≡ []) × (vec_len crew.workers ≤ vec_capacity room.1) }
+            ensures { CameBack A.ran crew.ear result.ear × CameBack B.ran crew.mouth result.mouth × AllCameBack C.ran crew.workers.items result.workers.items }
+        { within(scope, rt, gate, most, crew, room) },
+    ))
+}
+
+/// The same with as many threads as there are roles.
+pub fn run_round<
+    A: Role + Send + Drop,
+    B: Role + Send + Drop,
+    C: Role + Send + Drop,
+    R: Threads + Wait + Sync,
+>(
+    rt: &R,
+    alloc: Global,
+    crew: Crew<A, B, C>,
+) -> Result<Crew<Back<A>, Back<B>, Back<C>>, Crew<A, B, C>>
+    requires few { vec_len crew.workers < 1000 }
+    requires can { A.can_run crew.ear × B.can_run crew.mouth × All C.can_run crew.workers.items }
+    ensures ear { IfOk result (λ r. CameBack A.ran crew.ear r.ear) }
+    ensures mouth { IfOk result (λ r. CameBack B.ran crew.mouth r.mouth) }
+    ensures workers { IfOk result (λ r. AllCameBack C.ran crew.workers.items r.workers.items) }
+    ensures short { IfErr result (λ r. r ≡ crew) }
+{
+    run_some(rt, alloc, usize::MAX, crew)
+}

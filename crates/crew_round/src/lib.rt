@@ -1,0 +1,15 @@
+// A round of threads: each role is started in a thread where one can be made, none takes its first step before it is known which
+// were, and each comes back as its run left it.
+#![tactic(auto)]
+
+mod back;
+mod crew;
+mod gate;
+mod pool;
+mod role;
+mod slot;
+
+pub use back::Back;
+pub use crew::{Crew, run_round, run_some};
+pub use pool::{run_pool, run_pool_some};
+pub use role::{RanFrom, Role};

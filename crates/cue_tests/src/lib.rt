@@ -1,0 +1,5 @@
+//! Tests of children that wait for their cues.
+#![tactic(auto)]
+
+#[cfg(test)]
+mod tests;

@@ -1,0 +1,2 @@
+pub mod AtTasks
+pub mod Noting

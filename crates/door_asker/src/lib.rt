@@ -1,0 +1,8 @@
+// How one task asks its child, and notes what it has, through a door of the core.
+#![tactic(auto)]
+
+mod links;
+mod notes;
+
+pub use links::ask_by_link;
+pub use notes::note;

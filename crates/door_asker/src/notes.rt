@@ -1,0 +1,43 @@
+// Noting what chunks the remote has.
+ghost use Rattle.std.specs.Prelude.{◌≡◌, ◌<◌, true, IfOk, OnErr};
+ghost use Rattle.host_core.specs.declared.event.Event.TheVariants.{Note};
+ghost use Rattle.journal_model.specs.Legality.{may_note, task_of};
+ghost use Rattle.link_roles.specs.Doors.{IsSameDoor, Passed};
+ghost use Rattle.link_roles.specs.Asks.{Grows};
+ghost use Rattle.door_asker.specs.AtTasks.{AtTask, NotesNow, NotedFor};
+ghost use Rattle.door_asker.specs.Noting.{is_done, by_noting};
+
+use ann_key::NoMemory;
+use host_core::{Event, Reply};
+use link_roles::Door;
+
+fn is_done(reply: Reply) -> bool
+    ensures { result ≡ is_done reply }
+{
+    match reply {
+        Reply::Done => true,
+        _ => false,
+    }
+}
+
+/// Notes that the remote has so many chunks of that size of the task's content. The door's number holds the task, which stores
+/// or drops.
+pub fn note<D: Door>(door: &mut D, task: u32, chunk: u64, count: u64) -> Result<(), NoMemory>
+    requires at { AtTask (D.opening door.old) (D.number door.old) task (D.seen door.old) }
+    requires may { may_note (task_of (D.opening door.old) task) ≡ true }
+    requires chunk { 0 < chunk }
+    ensures noted { NotedFor (D.opening door.old) (D.number door.old) task (D.seen door.old) (D.seen door.new) chunk count result }
+    ensures grows { Grows (D.number door.old) (D.alone door.old) (by_noting task) (D.seen door.old) (D.seen door.new) }
+    ensures door { IsSameDoor D.opening D.number D.seen D.alone D.loans D.home door.old door.new }
+{
+    match door.step(Event::Note { task, chunk, count }) {
+        Ok(reply) => {
+            if is_done(reply) {
+                Ok(())
+            } else {
+                unreachable!()
+            }
+        }
+        Err(NoMemory) => Err(NoMemory),
+    }
+}

@@ -1,0 +1,6 @@
+pub mod Answers
+pub mod Digits
+pub mod Entries
+pub mod Fields
+pub mod Verdicts
+pub mod Whys

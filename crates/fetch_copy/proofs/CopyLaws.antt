@@ -1,0 +1,225 @@
+-- How a copy grows by one piece, and how it ends.
+use Rattle.std.proofs.Common.{◌≡◌, ◌∙◌, ℕ, zero, suc, ◌+◌, ◌-◌, ◌≤◌, List, [], ◌∷◌, ◌++◌, length, refl, sym, ap, subst, arith, append_assoc, append-nil, take, length-append, length-take-le, add-zero}
+use Rattle.std.specs.Prelude.{true, false, Option, Some, None, option_map, Result, Ok, Err}
+use Rattle.std.specs.List.{concat}
+use Rattle.ann_key.specs.declared.bytes.NoMemory.{NoMemory}
+use Rattle.ann_digest.specs.declared.checker.Checker.{Checker}
+use Rattle.ann_digest.specs.Checkers.{Holds, taken_of}
+use Rattle.ann_outside.specs.Calls.{Gained, logged, lacks_memory}
+use Rattle.ann_outside.specs.DeskCauses.{Counts, HasCauses}
+use Rattle.ann_outside.specs.declared.file_desk.DeskError.{DeskError}
+use Rattle.ann_outside.specs.declared.file_desk.DeskError.TheVariants as E
+use Rattle.ann_outside.specs.declared.file_desk.Call.{Call}
+use Rattle.ann_outside.specs.declared.file_desk.Call.TheVariants.{ReadAt, Append}
+use Rattle.fetch_copy.specs.declared.copied.Copied.{Copied}
+use Rattle.fetch_copy.specs.declared.copied.Copied.TheVariants.{Done, Fault, Missing}
+use Rattle.fetch_copy.specs.Copies.{copy_calls, Checks, Moves, Refuses, StepDoes, Moving, Copies, CopyCauses, is_refused, refusal_of, EndsCopy, EndsRefused, CountIs}
+
+-- ---- logs
+
+pub gained_nothing : (log : Option (List Call)) → Gained log log []
+gained_nothing None = refl
+gained_nothing (Some calls) = ap Some (sym (append-nil calls))
+
+gained_twice : (a : Option (List Call)) (xs ys : List Call)
+    → option_map (λ l. l ++ ys) (option_map (λ l. l ++ xs) a) ≡ option_map (λ l. l ++ (xs ++ ys)) a
+gained_twice None xs ys = refl
+gained_twice (Some l) xs ys = ap Some (append_assoc l xs ys)
+
+pub gained_more : (a b c : Option (List Call)) (xs ys : List Call) → Gained a b xs → Gained b c ys → Gained a c (xs ++ ys)
+gained_more a b c xs ys e f = f ∙ ap (option_map (λ l. l ++ ys)) e ∙ gained_twice a xs ys
+
+pub gained_call : (log : Option (List Call)) (call : Call) → lacks_memory call ≡ false → Gained log (logged log call) (call ∷ [])
+gained_call None call e = refl
+gained_call (Some calls) call e = rw e refl
+
+-- a call for which no memory was found isn't in the log
+pub gained_without : (log : Option (List Call)) (call : Call) → lacks_memory call ≡ true → Gained log (logged log call) []
+gained_without None call e = refl
+gained_without (Some calls) call e = rw e (ap Some (sym (append-nil calls)))
+
+-- ---- pieces
+
+pub concat-snoc : (pieces : List (List ℕ)) (piece : List ℕ) → concat (pieces ++ piece ∷ []) ≡ concat pieces ++ piece
+concat-snoc [] piece = append-nil piece
+concat-snoc (first ∷ more) piece = ap (λ l. first ++ l) (concat-snoc more piece) ∙ sym (append_assoc first (concat more) piece)
+
+pub copy_calls-snoc : (from to : List ℕ) (at : ℕ) (pieces : List (List ℕ)) (piece : List ℕ)
+    → copy_calls from to at (pieces ++ piece ∷ [])
+    ≡ copy_calls from to at pieces ++ ReadAt from (at + length (concat pieces)) (Ok piece) ∷ Append to piece (Ok tt) ∷ []
+copy_calls-snoc from to at [] piece = ap (λ n. ReadAt from n (Ok piece) ∷ Append to piece (Ok tt) ∷ []) (sym (add-zero at))
+copy_calls-snoc from to at (first ∷ more) piece =
+    let place : (at + length first) + length (concat more) ≡ at + length (first ++ concat more) = omega (arith, length-append first (concat more)) in
+    ap (λ l. ReadAt from at (Ok first) ∷ Append to first (Ok tt) ∷ l)
+    (copy_calls-snoc from to (at + length first) more piece
+    ∙ ap (λ n. copy_calls from to (at + length first) more ++ ReadAt from n (Ok piece) ∷ Append to piece (Ok tt) ∷ []) place)
+
+-- ---- checks
+
+pub checks_nothing : (checker : Checker) → Checks checker checker []
+checks_nothing checker = record {
+  taken = sym (add-zero (taken_of checker));
+  holds = λ key held h. let P : List ℕ → Type 0 = λ l. Holds checker key l in subst P (sym (append-nil held)) h;
+}
+
+pub checks_more : (a b c : Checker) (xs ys : List ℕ) → Checks a b xs → Checks b c ys → Checks a c (xs ++ ys)
+checks_more a b c xs ys e f = record {
+  taken = omega (arith, length-append xs ys, e.taken, f.taken);
+  holds = λ key held h. let P : List ℕ → Type 0 = λ l. Holds c key l in subst P (append_assoc held xs ys) (f.holds key (held ++ xs) (e.holds key held h));
+}
+
+-- ---- the loop
+
+pub moving_nothing : (log : Option (List Call)) (from to : List ℕ) (checker : Checker) → Moving log log from to checker checker 0
+moving_nothing log from to checker = record { pieces = []; length_is = refl; calls = gained_nothing log; checked = checks_nothing checker }
+
+pub moving_more : (a b c : Option (List Call)) (from to : List ℕ) (before between after : Checker) (at n : ℕ)
+    → Moving a b from to before between at → Moves b c from to at between after n → Moving a c from to before after (at + n)
+moving_more a b c from to before between after at n m s = record {
+  pieces = m.pieces ++ s.piece ∷ [];
+  length_is = ap length (concat-snoc m.pieces s.piece) ∙ length-append (concat m.pieces) s.piece ∙ sum;
+  calls = rw calls_are (gained_more a b c (copy_calls from to 0 m.pieces) (ReadAt from at (Ok s.piece) ∷ Append to s.piece (Ok tt) ∷ []) m.calls s.calls);
+  checked = rw (concat-snoc m.pieces s.piece) (checks_more before between after (concat m.pieces) s.piece m.checked s.checked);
+}
+  where
+    sum : length (concat m.pieces) + length s.piece ≡ at + n
+    sum = omega (arith, m.length_is, s.size)
+
+    place : 0 + length (concat m.pieces) ≡ at
+    place = omega (arith, m.length_is)
+
+    calls_are : copy_calls from to 0 (m.pieces ++ s.piece ∷ []) ≡ copy_calls from to 0 m.pieces ++ ReadAt from at (Ok s.piece) ∷ Append to s.piece (Ok tt) ∷ []
+    calls_are =
+        copy_calls-snoc from to 0 m.pieces s.piece
+        ∙ ap (λ k. copy_calls from to 0 m.pieces ++ ReadAt from k (Ok s.piece) ∷ Append to s.piece (Ok tt) ∷ []) place
+
+-- ---- its ends
+
+pub copies_whole : (a b : Option (List Call)) (from to : List ℕ) (before after : Checker) (at n : ℕ)
+    → Moving a b from to before after at → n ≤ at → at ≤ n → Copies a b from to n before after (Ok (Done at))
+copies_whole a b from to before after at n m low high = record {
+  pieces = m.pieces;
+  ending = [];
+  calls = rw append-nil m.calls;
+  ends = omega (arith, m.length_is);
+  count = sym m.length_is;
+  most = omega (arith, m.length_is);
+  checked = m.checked;
+}
+
+pub copies_short : (a b c : Option (List Call)) (from to : List ℕ) (before between after : Checker) (at n : ℕ)
+    → Moving a b from to before between at → StepDoes b c from to at between after (Ok 0) → at ≤ n → Copies a c from to n before after (Ok (Done at))
+copies_short a b c from to before between after at n m s high = record {
+  pieces = m.pieces;
+  ending = ReadAt from at (Ok []) ∷ [];
+  calls = gained_more a b c (copy_calls from to 0 m.pieces) (ReadAt from at (Ok []) ∷ []) m.calls s.0;
+  ends = ap (λ k. ReadAt from k (Ok [])) (sym m.length_is);
+  count = sym m.length_is;
+  most = omega (arith, m.length_is);
+  checked = let P : Checker → Type 0 = λ k. Checks before k (concat m.pieces) in subst P (sym s.1) m.checked;
+}
+
+ends_refused : (e : DeskError) (from to : List ℕ) (at left : ℕ) (calls : List Call) → EndsRefused e from to at calls → EndsCopy from to at left (refusal_of e) calls
+ends_refused E.NoMemory from to at left calls h = h
+ends_refused E.Failed from to at left calls h = h
+ends_refused E.Missing from to at left calls h = h
+
+pub copies_refused : (a b c : Option (List Call)) (from to : List ℕ) (before between after : Checker) (at n : ℕ) (e : DeskError)
+    → Moving a b from to before between at → Refuses b c from to at between after e → at ≤ n → Copies a c from to n before after (refusal_of e)
+copies_refused a b c from to before between after at n e m s high = record {
+  pieces = m.pieces;
+  ending = s.ending;
+  calls = gained_more a b c (copy_calls from to 0 m.pieces) s.ending m.calls s.calls;
+  ends = rw m.length_is (ends_refused e from to at (n - at) s.ending s.ends);
+  count = count e;
+  most = omega (arith, m.length_is);
+  checked = let P : Checker → Type 0 = λ k. Checks before k (concat m.pieces) in subst P (sym s.same) m.checked;
+}
+  where
+    count : (e : DeskError) → CountIs (refusal_of e) (length (concat m.pieces))
+    count E.NoMemory = tt
+    count E.Failed = tt
+    count E.Missing = tt
+
+pub copies_nothing : (log : Option (List Call)) (from to : List ℕ) (checker : Checker) (n : ℕ) (e : NoMemory) → Copies log log from to n checker checker (Err e)
+copies_nothing log from to checker n e = record {
+  pieces = [];
+  ending = [];
+  calls = gained_nothing log;
+  ends = tt;
+  count = tt;
+  most = omega arith;
+  checked = checks_nothing checker;
+}
+
+-- ---- counts
+
+pub causes_nothing : (counts : Counts) (result : Result Copied NoMemory) → is_refused result ≡ false → CopyCauses counts counts result
+causes_nothing counts (Ok (Done n)) q = record { faults_later = omega arith; missing_later = omega arith; fault = λ e. cc; missing = λ e. cc; quiet = λ q. refl }
+causes_nothing counts (Ok Fault) q = absurd cc
+causes_nothing counts (Ok Missing) q = absurd cc
+causes_nothing counts (Err e) q = record { faults_later = omega arith; missing_later = omega arith; fault = λ e. cc; missing = λ e. cc; quiet = λ q. refl }
+
+pub causes_refused : (old new : Counts) {T : Type 0} (r : Result T DeskError) (e : DeskError) → r ≡ Err e → HasCauses old new r → CopyCauses old new (refusal_of e)
+causes_refused old new r E.NoMemory is h = record { faults_later = h.faults_later; missing_later = h.missing_later; fault = λ e. cc; missing = λ e. cc; quiet = λ q. h.no_memory is }
+causes_refused old new r E.Failed is h = record { faults_later = h.faults_later; missing_later = h.missing_later; fault = λ e. h.failed is; missing = λ e. cc; quiet = λ q. absurd cc }
+causes_refused old new r E.Missing is h = record { faults_later = h.faults_later; missing_later = h.missing_later; fault = λ e. cc; missing = λ e. h.missing is; quiet = λ q. absurd cc }
+
+pub causes_from : (old between new : Counts) (result : Result Copied NoMemory) → between ≡ old → CopyCauses between new result → CopyCauses old new result
+causes_from old between new result e h = let P : Counts → Type 0 = λ k. CopyCauses k new result in subst P e h
+
+pub step_moves : (a b : Option (List Call)) (from to : List ℕ) (at : ℕ) (before after : Checker) (n : ℕ)
+    → (n ≡ 0 → ⊥) → StepDoes a b from to at before after (Ok n) → Moves a b from to at before after n
+step_moves a b from to at before after zero ne s = absurd (ne refl)
+step_moves a b from to at before after (suc n) ne s = s
+
+pub step_ends : (a b : Option (List Call)) (from to : List ℕ) (at : ℕ) (before after : Checker) (n : ℕ)
+    → n ≡ 0 → StepDoes a b from to at before after (Ok n) → StepDoes a b from to at before after (Ok 0)
+step_ends a b from to at before after zero e s = s
+step_ends a b from to at before after (suc n) e s = absurd (omega (arith, e))
+
+step_of_moves : (a b : Option (List Call)) (from to : List ℕ) (at : ℕ) (before after : Checker) (n : ℕ)
+    → (n ≡ 0 → ⊥) → Moves a b from to at before after n → StepDoes a b from to at before after (Ok n)
+step_of_moves a b from to at before after zero ne s = absurd (ne refl)
+step_of_moves a b from to at before after (suc n) ne s = s
+
+gained_two : (a b c : Option (List Call)) (x y : Call) → b ≡ logged a x → c ≡ logged b y → lacks_memory x ≡ false → lacks_memory y ≡ false → Gained a c (x ∷ y ∷ [])
+gained_two a b c x y e f p q = gained_more a b c (x ∷ []) (y ∷ []) (e ∙ gained_call a x p) (f ∙ gained_call b y q)
+
+pub moves_piece : (a b c : Option (List Call)) (from to : List ℕ) (at n : ℕ) (buffer : List ℕ) (before after : Checker)
+    → b ≡ logged a (ReadAt from at (Ok (take n buffer))) → c ≡ logged b (Append to (take n buffer) (Ok tt)) → n ≤ length buffer → (n ≡ 0 → ⊥)
+    → Checks before after (take n buffer) → StepDoes a c from to at before after (Ok n)
+moves_piece a b c from to at n buffer before after e f most ne k =
+    step_of_moves a c from to at before after n ne record {
+      piece = take n buffer;
+      size = length-take-le n buffer most;
+      calls = gained_two a b c (ReadAt from at (Ok (take n buffer))) (Append to (take n buffer) (Ok tt)) e f refl refl;
+      checked = k;
+    }
+
+pub refuses_read : (a b : Option (List Call)) (from to : List ℕ) (at : ℕ) (k : Checker) (e : DeskError)
+    → b ≡ logged a (ReadAt from at (Err e)) → Refuses a b from to at k k e
+refuses_read a b from to at k E.NoMemory e = record { ending = []; calls = e ∙ gained_without a (ReadAt from at (Err E.NoMemory)) refl; ends = tt; same = refl }
+refuses_read a b from to at k E.Failed e = record { ending = ReadAt from at (Err E.Failed) ∷ []; calls = e ∙ gained_call a (ReadAt from at (Err E.Failed)) refl; ends = refl; same = refl }
+refuses_read a b from to at k E.Missing e = record { ending = ReadAt from at (Err E.Missing) ∷ []; calls = e ∙ gained_call a (ReadAt from at (Err E.Missing)) refl; ends = refl; same = refl }
+
+pub refuses_append : (a b c : Option (List Call)) (from to : List ℕ) (at : ℕ) (piece : List ℕ) (k : Checker) (e : DeskError)
+    → b ≡ logged a (ReadAt from at (Ok piece)) → c ≡ logged b (Append to piece (Err e)) → Refuses a c from to at k k e
+refuses_append a b c from to at piece k E.NoMemory e f = record {
+  ending = ReadAt from at (Ok piece) ∷ [];
+  calls = gained_more a b c (ReadAt from at (Ok piece) ∷ []) [] (e ∙ gained_call a (ReadAt from at (Ok piece)) refl) (f ∙ gained_without b (Append to piece (Err E.NoMemory)) refl);
+  ends = (piece, refl);
+  same = refl;
+}
+refuses_append a b c from to at piece k E.Failed e f = record {
+  ending = ReadAt from at (Ok piece) ∷ Append to piece (Err E.Failed) ∷ [];
+  calls = gained_two a b c (ReadAt from at (Ok piece)) (Append to piece (Err E.Failed)) e f refl refl;
+  ends = (piece, refl, refl);
+  same = refl;
+}
+refuses_append a b c from to at piece k E.Missing e f = record {
+  ending = ReadAt from at (Ok piece) ∷ Append to piece (Err E.Missing) ∷ [];
+  calls = gained_two a b c (ReadAt from at (Ok piece)) (Append to piece (Err E.Missing)) e f refl refl;
+  ends = (piece, refl, refl);
+  same = refl;
+}

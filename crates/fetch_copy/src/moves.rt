@@ -1,0 +1,81 @@
+ghost use Rattle.std.specs.Prelude.{◌≡◌, ◌≢◌, ℕ, ◌+◌, ◌-◌, ◌^◌, ◌<◌, ◌≤◌, List, ◌++◌, length, Ok, Err, IfOk, take};
+ghost use Rattle.ann_digest.specs.Checkers.{taken_of};
+ghost use Rattle.ann_outside.specs.DeskCauses.{HasCauses};
+ghost use Rattle.fetch_copy.specs.Copies.{Copies, CopyCauses, StepDoes, refusal_of};
+
+use crate::copied::Copied;
+use ann_digest::Checker;
+use ann_key::NoMemory;
+use ann_outside::{Desk, DeskError};
+use std::alloc::Global;
+
+const STEP: usize = 65536;
+
+// Reads bytes of a file from a place on, and appends and checks them. There are none at the file's end.
+fn move_piece<D: Desk>(
+    desk: &mut D,
+    from: &str,
+    part: &str,
+    at: u64,
+    buffer: &mut [u8],
+    checker: &mut Checker<'_>,
+) -> Result<u64, DeskError>
+    requires { taken_of checker.old + length buffer.old < 2 ^ 64 }
+    ensures moved { StepDoes (D.log desk.old) (D.log desk.new) from.now part.now at checker.old checker.new result }
+    ensures most { IfOk result (λ n. n ≤ length buffer.old) }
+    ensures causes { HasCauses (D.counts desk.old) (D.counts desk.new) result }
+{
+    match desk.read_at(from, at, buffer) {
+        Ok(0) => Ok(0),
+        Ok(n) => {
+            let piece = &buffer[..n];
+            match desk.append(part, piece) {
+                Ok(()) => {
+                    checker.update(piece);
+                    Ok(n as u64)
+                }
+                Err(error) => Err(error),
+            }
+        }
+        Err(error) => Err(error),
+    }
+}
+
+fn refused(error: DeskError) -> Result<Copied, NoMemory>
+    ensures { result ≡ refusal_of error }
+{
+    match error {
+        DeskError::Failed => Ok(Copied::Fault),
+        DeskError::Missing => Ok(Copied::Missing),
+        DeskError::NoMemory => Err(NoMemory),
+    }
+}
+
+/// Appends the first n bytes of the file `from` to `part`, fewer where that file ends before, and checks the same bytes.
+pub fn copy_in<D: Desk>(
+    alloc: Global,
+    desk: &mut D,
+    from: &str,
+    part: &str,
+    n: u64,
+    checker: &mut Checker<'_>,
+) -> Result<Copied, NoMemory>
+    requires names { from.now ≢ part.now }
+    requires room { taken_of checker.old + n < 2 ^ 64 }
+    ensures moved { Copies (D.log desk.old) (D.log desk.new) from.now part.now n checker.old checker.new result }
+    ensures causes { CopyCauses (D.counts desk.old) (D.counts desk.new) result }
+{
+    let Ok(mut buffer) = vec![in alloc; 0; STEP] else {
+        return Err(NoMemory);
+    };
+    let mut at = 0;
+    while at < n {
+        let room = (n - at).min(STEP as u64) as usize;
+        match move_piece(desk, from, part, at, &mut buffer[..room], checker) {
+            Ok(0) => return Ok(Copied::Done(at)),
+            Ok(moved) => at += moved,
+            Err(error) => return refused(error),
+        }
+    }
+    Ok(Copied::Done(at))
+}

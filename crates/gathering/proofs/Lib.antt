@@ -1,0 +1,9 @@
+pub mod Owning
+pub mod Halls
+pub mod Crews
+pub mod Gathering
+pub mod Rounding
+pub mod Laboring
+pub mod Entering
+pub mod Ending
+pub mod WholeRounds

@@ -1,0 +1,10 @@
+use Rattle.gathering.proofs.Ending.{ear_ends, mouth_ends, stayed_keeps, stayed_ear, stayed_mouth, stayed_worker, stayed_lone}
+use Rattle.gathering.proofs.laws.roles_end.Goals as goal
+
+pub returns : goal.returns
+returns g c = record {
+  ears = ear_ends;
+  mouths = mouth_ends;
+  stayed = λ m crew p pos none.
+      (stayed_keeps crew p pos none, stayed_worker crew p pos none (g.M.Meaning.ran m), stayed_ear crew p pos none, stayed_mouth crew p pos none, stayed_lone crew p pos none (g.M.Meaning.ran m));
+}

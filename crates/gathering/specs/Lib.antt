@@ -1,0 +1,6 @@
+pub mod Laws
+pub mod Pairs
+pub mod Posts
+pub mod Rounds
+pub mod Tasks
+pub mod Workers

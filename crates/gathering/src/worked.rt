@@ -1,0 +1,42 @@
+// Worked rows of the definitions, each the contract of a function with nothing to do.
+ghost use Rattle.std.specs.Prelude.{◌≡◌, true, false, [], ◌∷◌, take, codes};
+ghost use Rattle.journal_model.specs.declared.verdict.Why.TheVariants.{Closed, Eof, Memory};
+ghost use Rattle.journal_model.specs.declared.entry.What.TheVariants.{Claim, Got, End, Start};
+ghost use Rattle.journal_model.specs.Legality.{Legal};
+ghost use Rattle.journal_model.specs.Rows.{two_checks, tagged_greeting};
+ghost use Rattle.gathering.specs.Posts.{makes, tagged_crew, pool_crew, alone_crew, is_mains};
+ghost use Rattle.gathering.specs.Rounds.{IsAtRest};
+ghost use Rattle.gathering.specs.Laws.{MayBeginTagged};
+
+/// Behind the greeting of a tagged child a round may begin, and not while a task is busy.
+pub fn greeted_may_begin()
+    ensures legal { Legal two_checks (take 10 tagged_greeting) }
+    ensures begins { MayBeginTagged (take 10 tagged_greeting) 1 }
+    ensures at_rest { IsAtRest (take 10 tagged_greeting) }
+    ensures busy { IsAtRest tagged_greeting → ⊥ }
+{}
+
+/// What each post makes over a tagged child, and what it doesn't.
+pub fn tagged_posts()
+    ensures ear_hears { makes (tagged_crew 1 2) (Got 1 (codes "x")) ≡ true }
+    ensures ear_ends { makes (tagged_crew 1 2) (End 1 Eof) ≡ true }
+    ensures ear_closes { makes (tagged_crew 1 2) (End 1 Closed) ≡ false }
+    ensures ear_claims { makes (tagged_crew 1 2) (Claim 3 1) ≡ false }
+    ensures mouth_ends { makes (tagged_crew 1 3) (End 1 Eof) ≡ false }
+    ensures worker_claims { makes (tagged_crew 1 4) (Claim 3 1) ≡ true }
+    ensures other_child { makes (tagged_crew 1 4) (Claim 3 2) ≡ false }
+    ensures worker_hears { makes (tagged_crew 1 4) (Got 1 (codes "x")) ≡ false }
+    ensures main_gives_up { makes (tagged_crew 1 1) (End 1 Memory) ≡ true }
+    ensures main_claims { makes (tagged_crew 1 1) (Claim 3 1) ≡ false }
+{}
+
+/// The same in a pool of the children 5 and 6, and alone.
+pub fn lone_posts()
+    ensures second { makes (pool_crew (5 ∷ 6 ∷ []) 3) (Got 6 (codes "x")) ≡ true }
+    ensures second_of_first { makes (pool_crew (5 ∷ 6 ∷ []) 3) (Got 5 (codes "x")) ≡ false }
+    ensures past_the_last { makes (pool_crew (5 ∷ 6 ∷ []) 4) (Got 6 (codes "x")) ≡ false }
+    ensures main_of_pool { makes (pool_crew (5 ∷ 6 ∷ []) 1) (Claim 3 5) ≡ false }
+    ensures alone { makes (alone_crew 5 1) (Got 5 (codes "x")) ≡ true }
+    ensures others_alone { makes (alone_crew 5 2) (Got 5 (codes "x")) ≡ false }
+    ensures starts { is_mains (Start 1 0 true) ≡ true }
+{}

@@ -1,0 +1,4 @@
+pub mod Firsts
+pub mod Parted
+pub mod Written
+pub mod FirstItem

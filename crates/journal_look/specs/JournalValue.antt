@@ -1,0 +1,7 @@
+use Rattle.std.specs.Prelude.{ℕ, List}
+use Rattle.journal_model.specs.declared.entry.Entry.{Entry}
+
+-- what contracts see of a journal: its entries, and for how many in all there is room
+pub record JournalValue : Type 0 where
+  pub entries : List Entry
+  pub room : ℕ

@@ -1,0 +1,3 @@
+pub mod JournalValue
+pub mod Shown
+pub mod Looks

@@ -1,0 +1,68 @@
+-- Words for what is asked of a journal.
+use Rattle.std.specs.Prelude.{ℕ, ◌==◌, ◌&&◌, ◌||◌, not, Bool, true, false, if◌then◌else◌, List, [], ◌∷◌, Option, Some, None, option_map, option_and_then, is_some, take, slice_get}
+use Rattle.annex_model.specs.Talks.{Item, is_remote}
+use Rattle.journal_model.specs.declared.entry.What.{What}
+use Rattle.journal_model.specs.declared.entry.What.TheVariants.{NoStart, Ask, Put, Got}
+use Rattle.journal_model.specs.declared.entry.Entry.{Entry}
+use Rattle.journal_model.specs.Journal.{asks, each_of, writes, is_settled, is_unsent}
+
+-- a child couldn't be started
+abbrev pub is_no_start : What → Bool
+is_no_start (NoStart slot) = true
+is_no_start _ = false
+
+-- ---- lines
+
+-- the job that a line written to the child asks, if it asks one
+abbrev pub written_to : ℕ → What → Option (Option ℕ)
+written_to c w = option_map (λ l. l.0) (writes c w)
+
+-- the entry writes a line to the child
+abbrev pub is_written : ℕ → What → Bool
+is_written c w = is_some (writes c w)
+
+abbrev pub got_line : What → List ℕ
+got_line (Got child line) = line
+got_line _ = []
+
+-- the entry's line is the host's, in this job
+abbrev pub is_hosts : ℕ → ℕ → What → Bool
+is_hosts c j (Ask child job task line) = child == c && job == j
+is_hosts c j (Put child job line) = child == c && job == j
+is_hosts c j _ = false
+
+abbrev pub hosts_line : What → List ℕ
+hosts_line (Ask child job task line) = line
+hosts_line (Put child job line) = line
+hosts_line _ = []
+
+-- ---- a job's part
+
+abbrev pub first_text : List Item → Option (List ℕ)
+first_text [] = None
+first_text (i ∷ rest) = Some i.text
+
+-- the text of the item, where the remote says it
+abbrev pub remote_text : Option Item → Option (List ℕ)
+remote_text None = None
+remote_text (Some i) = if is_remote i.side then Some i.text else None
+
+-- ---- the jobs that an end or a mute settles, entry by entry
+
+-- the job is not settled, and where unsent is asked for, its request was not written whole
+abbrev pub is_due : List Entry → ℕ → Bool → ℕ → Bool
+is_due past c unsent j = not (is_settled past c j) && (not unsent || is_unsent past c j)
+
+abbrev pub due_asked : List Entry → ℕ → Bool → Option ℕ → Option ℕ
+due_asked past c unsent None = None
+due_asked past c unsent (Some j) = if is_due past c unsent j then Some j else None
+
+abbrev pub due_job : List Entry → ℕ → Bool → What → Option ℕ
+due_job past c unsent w = due_asked past c unsent (asks c w)
+
+abbrev pub due_jobs : List Entry → ℕ → Bool → List ℕ
+due_jobs past c unsent = each_of (due_job past c unsent) past
+
+-- that of the entry at a place, where the first n entries are the past
+abbrev pub job_at : List Entry → ℕ → ℕ → ℕ → Bool → Option ℕ
+job_at entries n at c unsent = option_and_then (λ e. due_job (take n entries) c unsent e.what) (slice_get entries at)

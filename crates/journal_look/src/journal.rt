@@ -1,0 +1,104 @@
+// The journal as a store: it lends its entries, and takes more within room that was taken before.
+ghost use Rattle.std.specs.Prelude.{◌≡◌, ◌+◌, ◌<◌, ◌^◌, ◌++◌, ◌∷◌, [], slice_get, option_map, length, OnOk, OnErr, IsOk, vec_len};
+ghost use Rattle.journal_look.specs.Shown.{entry_shown};
+
+use crate::entry::{EntryRef, entry_of};
+use ann_key::NoMemory;
+use journal_model::Entry;
+use std::alloc::Global;
+use std::marker::Model;
+
+/// A journal: contracts see its entries, and for how many in all it has room.
+#[derive(Drop)]
+pub struct Journal {
+    entries: Vec<Entry>,
+    room: usize,
+}
+
+impl Model for Journal {
+    ghost use Rattle.std.specs.Prelude.{◌≤◌, vec_capacity};
+    ghost use Rattle.journal_look.specs.JournalValue.{JournalValue};
+
+    ghost Value = { JournalValue };
+
+    ghost view = { λ j. record { entries = j.entries.items; room = j.room } };
+
+    ghost invariant = { λ j. j.room ≤ vec_capacity j.entries };
+}
+
+impl Journal {
+    /// A journal without entries, and without room. It takes no memory.
+    pub fn new(alloc: Global) -> Journal
+        ensures { result ≡ record { entries = []; room = 0 } }
+    {
+        Journal {
+            entries: Vec::new(alloc),
+            room: 0,
+        }
+    }
+
+    /// The journal of these entries, without more room. It takes no memory.
+    pub fn from_entries(entries: Vec<Entry>) -> Journal
+        ensures { result ≡ record { entries = entries.items; room = vec_len entries } }
+    {
+        let room = entries.len();
+        Journal { entries, room }
+    }
+
+    /// How many entries there are.
+    pub fn len(&self) -> u64
+        ensures { result ≡ length self.now.entries }
+    {
+        self.entries.len() as u64
+    }
+
+    /// The entry at a place, counted from 0; None exactly past the end.
+    pub fn entry(&self, at: u64) -> Option<EntryRef<'_>>
+        ensures { option_map entry_shown result ≡ slice_get self.now.entries at }
+    {
+        match self.entries.get(at as usize) {
+            Some(entry) => Some(entry_of(entry)),
+            None => None,
+        }
+    }
+
+    /// Takes room for so many more entries.
+    pub fn take_room(&mut self, more: usize) -> Result<(), NoMemory>
+        ensures entries { self.new.entries ≡ self.old.entries }
+        ensures room { OnOk result (self.new.room ≡ self.old.room + more) }
+        ensures small { self.new.room < 2 ^ 64 }
+        ensures err { OnErr result (self.new.room ≡ self.old.room) }
+        ensures free { more ≡ 0 → IsOk result }
+    {
+        let taken = self.room;
+        if more == 0 {
+            return Ok(());
+        }
+        let Some(room) = taken.checked_add(more) else {
+            return Err(NoMemory);
+        };
+        let spare = room.saturating_sub(self.entries.len());
+        self.entries.reserve(spare)?;
+        self.room = room;
+        Ok(())
+    }
+
+    /// Appends the entry, for which there is room. It takes no memory.
+    pub fn push(&mut self, entry: Entry)
+        requires { length self.old.entries < self.old.room }
+        ensures entries { self.new.entries ≡ self.old.entries ++ entry ∷ [] }
+        ensures room { self.new.room ≡ self.old.room }
+    {
+        match self.entries.push(entry) {
+            Ok(()) => {}
+            Err(_) => unreachable!(),
+        }
+    }
+
+    // All entries, in order.
+    pub(crate) fn entries(&self) -> &[Entry]
+        ensures { result.now ≡ self.now.entries }
+    {
+        self.entries.as_slice()
+    }
+}

@@ -1,0 +1,347 @@
+// What the lines of the journal say: the greeting, tags, and what is still to be written.
+ghost use Rattle.std.specs.Prelude.{◌≡◌, ◌==◌, slice_get, filter, length, find, option_copied, option_map, IfOk, bytes_eq, codes, drop, nat_le};
+ghost use Rattle.std.specs.List.{list_any, slice_split};
+ghost use Rattle.annex_model.specs.Messages.{remote_reading, is_space};
+ghost use Rattle.annex_model.specs.Tags.{names_async, untag, without_tag};
+ghost use Rattle.journal_model.specs.Limits.{most_line_bytes};
+ghost use Rattle.journal_model.specs.Journal.{any, each_of, first_of, line_at, is_tagged, accepts_async, addressed, by_tag, on_wire, sends, unsent, is_unsent, is_job, got_from, line_bytes, bytes_in, is_full};
+ghost use Rattle.journal_model.specs.Due.{is_version_one};
+ghost use Rattle.journal_model.specs.Legality.{said_version, asks_prepare, prepares, is_prepared, is_greeted, is_empty, may_ask, is_done};
+ghost use Rattle.journal_look.specs.Looks.{written_to, got_line, is_written, hosts_line};
+
+use crate::talks::hosts_line;
+use crate::{children, tasks};
+use ann_key::{Bytes, NoMemory};
+use journal_model::{Entry, Verdict, What};
+use std::alloc::Global;
+use wire_msg::{HostMsg, RemoteMsg, read_host, read_remote, tag, untag};
+
+// A journal that has so many entries, or so many bytes in lines, is full.
+const MOST_ENTRIES: usize = 8_000_000;
+
+const MOST_LINE_BYTES: usize = 1_073_741_824;
+
+/// How many bytes the entry's line has, where it has one.
+fn line_bytes(what: &What) -> usize
+    ensures { result ≡ line_bytes what.now }
+{
+    match what {
+        What::Ask { line, .. } => line.view().len(),
+        What::Put { line, .. } => line.view().len(),
+        What::Got { line, .. } => line.view().len(),
+        _ => 0,
+    }
+}
+
+/// Whether the lines of the entries have as many bytes as a journal may have.
+fn is_heavy(entries: &[Entry]) -> bool
+    ensures { result ≡ nat_le most_line_bytes (bytes_in entries.now) }
+{
+    let mut left = MOST_LINE_BYTES;
+    for e in entries {
+        let bytes = line_bytes(&e.what);
+        if left <= bytes {
+            return true;
+        }
+        left -= bytes;
+    }
+    false
+}
+
+/// Whether the journal takes no further line of a child.
+pub(super) fn is_full(entries: &[Entry]) -> bool
+    ensures { result ≡ is_full entries.now }
+{
+    MOST_ENTRIES <= entries.len() || is_heavy(entries)
+}
+
+/// Whether the line spells VERSION with number 1.
+pub fn is_version_one(line: &[u8]) -> bool
+    ensures { result ≡ is_version_one (remote_reading line.now) }
+{
+    match read_remote(line) {
+        Some(RemoteMsg::Version(number)) => number == 1,
+        _ => false,
+    }
+}
+
+fn is_async(word: &[u8]) -> bool
+    ensures { result ≡ bytes_eq word.now (codes "ASYNC") }
+{
+    word == b"ASYNC".as_slice()
+}
+
+fn has_async(names: &[u8]) -> bool
+    ensures { result ≡ list_any (λ word. bytes_eq word (codes "ASYNC")) (slice_split is_space names.now) }
+{
+    names.split(|b| *b == 32).any(|word| is_async(word))
+}
+
+/// Whether the line is an answer to EXTENSIONS that names ASYNC.
+fn names_async(line: &[u8]) -> bool
+    ensures { result ≡ names_async (remote_reading line.now) }
+{
+    match read_remote(line) {
+        Some(RemoteMsg::Extensions(names)) => has_async(names),
+        _ => false,
+    }
+}
+
+fn got_line(what: &What) -> &[u8]
+    ensures { result.now ≡ got_line what.now }
+{
+    match what {
+        What::Got { line, .. } => line.view(),
+        _ => &[],
+    }
+}
+
+/// The line got at a place, if one was.
+pub fn line_at(entries: &[Entry], at: u64) -> &[u8]
+    ensures { result.now ≡ line_at entries.now at }
+{
+    match entries.get(at as usize) {
+        Some(e) => got_line(&e.what),
+        None => &[],
+    }
+}
+
+fn accepts_async(entries: &[Entry], verdict: Option<Verdict>) -> bool
+    ensures { result ≡ accepts_async entries.now verdict }
+{
+    match verdict {
+        Some(Verdict::Done { at }) => names_async(line_at(entries, at)),
+        _ => false,
+    }
+}
+
+/// Whether the lines of the child have tags.
+pub(super) fn is_tagged(entries: &[Entry], child: u32) -> bool
+    ensures { result ≡ is_tagged entries.now child }
+{
+    children::is_offered(entries, child)
+        && accepts_async(entries, children::verdict_of(entries, child, 0))
+}
+
+fn by_tag(line: &[u8]) -> (Option<u64>, &[u8])
+    ensures { (result.0, result.1.now) ≡ by_tag line.now (untag line.now) }
+{
+    match untag(line) {
+        Some((job, text)) => (Some(job), text),
+        None => (None, line),
+    }
+}
+
+/// The job that the line is for, and its text without the tag.
+pub(super) fn addressed<'a>(
+    entries: &[Entry],
+    child: u32,
+    line: &'a [u8],
+) -> (Option<u64>, &'a [u8])
+    ensures { (result.0, result.1.now) ≡ addressed entries.now child line.entry.now }
+{
+    if is_tagged(entries, child) {
+        by_tag(line)
+    } else {
+        (children::first_open(entries, child), line)
+    }
+}
+
+/// The line as it stands on the wire.
+pub(super) fn on_wire(
+    alloc: Global,
+    entries: &[Entry],
+    child: u32,
+    job: u64,
+    line: Bytes,
+) -> Result<Bytes, NoMemory>
+    ensures { IfOk result (λ b. b ≡ on_wire entries.now child job line) }
+{
+    if is_tagged(entries, child) {
+        tag(alloc, job, line.view())
+    } else {
+        Ok(line)
+    }
+}
+
+fn is_got(what: &What, c: u32) -> bool
+    ensures { result ≡ got_from c what.now }
+{
+    match what {
+        What::Got { child, .. } => *child == c,
+        _ => false,
+    }
+}
+
+fn first_got(entries: &[Entry], child: u32) -> Option<&Entry>
+    ensures { option_copied result ≡ find (λ e. got_from child e.what) entries.now }
+{
+    entries.iter().find(|e| is_got(&e.what, child))
+}
+
+/// Whether the child's first line was VERSION 1.
+fn said_version(entries: &[Entry], child: u32) -> bool
+    ensures { result ≡ said_version entries.now child }
+{
+    match first_got(entries, child) {
+        Some(e) => is_version_one(got_line(&e.what)),
+        None => false,
+    }
+}
+
+fn is_done(verdict: Option<Verdict>) -> bool
+    ensures { result ≡ is_done verdict }
+{
+    matches!(verdict, Some(Verdict::Done { .. }))
+}
+
+/// Whether the line asks to get ready, with a tag or without.
+fn asks_prepare(line: &[u8]) -> bool
+    ensures { result ≡ asks_prepare line.now }
+{
+    matches!(read_host(without_tag(line)), Some(HostMsg::Prepare))
+}
+
+fn without_tag(line: &[u8]) -> &[u8]
+    ensures { result.now ≡ without_tag line.now (untag line.now) }
+{
+    match untag(line) {
+        Some((_, text)) => text,
+        None => line,
+    }
+}
+
+fn prepares(what: &What, c: u32) -> bool
+    ensures { result ≡ prepares c what.now }
+{
+    match what {
+        What::Ask {
+            child,
+            job,
+            line,
+            ..
+        } => *child == c && *job == 1 && asks_prepare(line.view()),
+        _ => false,
+    }
+}
+
+fn is_to_prepare(entries: &[Entry], child: u32) -> bool
+    ensures { result ≡ any (prepares child) entries.now }
+{
+    entries.iter().any(|e| prepares(&e.what, child))
+}
+
+/// Whether the child's job 1 was to get ready, and is done.
+pub fn is_prepared(entries: &[Entry], child: u32) -> bool
+    ensures { result ≡ is_prepared entries.now child }
+{
+    is_done(children::verdict_of(entries, child, 1)) && is_to_prepare(entries, child)
+}
+
+/// Whether some request may be asked as this job of the child.
+fn is_greeted(entries: &[Entry], child: u32, job: u64) -> bool
+    ensures { result ≡ is_greeted entries.now child job }
+{
+    match job {
+        0 => said_version(entries, child),
+        1 => children::is_settled(entries, child, 0),
+        _ => is_prepared(entries, child),
+    }
+}
+
+/// Whether some request may be asked as the child's next job, but for its end or mute.
+pub(super) fn may_ask(entries: &[Entry], by: u32, task: u32, child: u32) -> bool
+    ensures { result ≡ may_ask entries.now by task child }
+{
+    is_greeted(entries, child, children::next_job(entries, child) as u64)
+        && tasks::may_work(entries, by, task, child)
+        && (is_tagged(entries, child) || children::has_no_open_job(entries, child))
+}
+
+fn sends(what: &What, c: u32) -> bool
+    ensures { result ≡ sends c what.now }
+{
+    match what {
+        What::Sent { child } => *child == c,
+        _ => false,
+    }
+}
+
+/// The job that a line written to the child asks, if it is one and asks one.
+fn writes(what: &What, c: u32) -> Option<Option<u64>>
+    ensures { result ≡ written_to c what.now }
+{
+    match what {
+        What::Ask { child, job, .. } if *child == c => Some(Some(*job)),
+        What::Put { child, .. } if *child == c => Some(None),
+        _ => None,
+    }
+}
+
+fn is_written(what: &What, c: u32) -> bool
+    ensures { result ≡ is_written c what.now }
+{
+    writes(what, c).is_some()
+}
+
+/// How many lines for the child were written whole.
+fn sents(entries: &[Entry], child: u32) -> usize
+    ensures { result ≡ length (filter (λ e. sends child e.what) entries.now) }
+{
+    entries.iter().filter(|e| sends(&e.what, child)).count()
+}
+
+fn written(entries: &[Entry], child: u32) -> usize
+    ensures { result ≡ length (each_of (written_to child) entries.now) }
+{
+    entries
+        .iter()
+        .filter_map(|e| writes(&e.what, child))
+        .count()
+}
+
+/// Whether each line for the child was written whole.
+pub(super) fn is_all_sent(entries: &[Entry], child: u32) -> bool
+    ensures { result ≡ is_empty (unsent entries.now child) }
+{
+    written(entries, child) <= sents(entries, child)
+}
+
+fn nth_written(entries: &[Entry], child: u32, n: usize) -> Option<&Entry>
+    ensures { option_copied result ≡ slice_get (filter (λ e. is_written child e.what) entries.now) n }
+{
+    entries.iter().filter(|e| is_written(&e.what, child)).nth(n)
+}
+
+/// The first of the lines for the child that were not written whole.
+pub(super) fn first_unsent(entries: &[Entry], child: u32) -> Option<&[u8]>
+    ensures { option_copied result ≡ option_map (λ w. w.1) (first_of (unsent entries.now child)) }
+{
+    match nth_written(entries, child, sents(entries, child)) {
+        Some(e) => Some(hosts_line(&e.what)),
+        None => None,
+    }
+}
+
+fn is_job(job: u64, of: Option<u64>) -> bool
+    ensures { result ≡ is_job job of }
+{
+    of == Some(job)
+}
+
+fn is_behind(entries: &[Entry], child: u32, job: u64, sents: usize) -> bool
+    ensures { result ≡ list_any (is_job job) (drop sents (each_of (written_to child) entries.now)) }
+{
+    entries
+        .iter()
+        .filter_map(|e| writes(&e.what, child))
+        .skip(sents)
+        .any(|of| is_job(job, of))
+}
+
+/// Whether the job's request was not written whole.
+pub(super) fn is_unsent(entries: &[Entry], child: u32, job: u64) -> bool
+    ensures { result ≡ is_unsent entries.now child job }
+{
+    is_behind(entries, child, job, sents(entries, child))
+}

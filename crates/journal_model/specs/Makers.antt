@@ -1,0 +1,37 @@
+-- Who made which entries, and which entries are a task's.
+use Rattle.std.specs.Prelude.{ℕ, ◌==◌, ◌&&◌, Bool, false, List, Option, filter, map}
+use Rattle.std.specs.List.{list_any}
+use Rattle.journal_model.specs.declared.entry.What.{What}
+use Rattle.journal_model.specs.declared.entry.What.TheVariants.{Claim, Ask, Lost, Answer as Answered, Note as Noted}
+use Rattle.journal_model.specs.declared.entry.Entry.{Entry}
+use Rattle.journal_model.specs.declared.verdict.Verdict.{Verdict}
+use Rattle.journal_model.specs.Journal.{each_of, verdict_of}
+use Rattle.journal_model.specs.Legality.{claims, job_for}
+
+-- the entries that this number made
+abbrev pub made_by_number : ℕ → List Entry → List Entry
+made_by_number number entries = filter (λ e. e.by == number) entries
+
+-- the task is claimed, asks, stands for a request that was lost, notes its chunks, or is answered
+abbrev pub is_of_task : ℕ → What → Bool
+is_of_task t (Claim task child) = task == t
+is_of_task t (Ask child job task line) = task == t
+is_of_task t (Lost child task) = task == t
+is_of_task t (Answered task answer) = task == t
+is_of_task t (Noted task chunk count) = task == t
+is_of_task t _ = false
+
+-- the number claims the task in one of the entries, and may have answered it since
+abbrev pub is_taken_by : List Entry → ℕ → ℕ → Bool
+is_taken_by entries number t = list_any (λ e. e.by == number && claims t e.what) entries
+
+-- what a journal has of a task: its entries, and how its jobs were settled
+pub record TaskPart : Type 0 where
+  pub entries : List Entry
+  pub verdicts : List (Option Verdict)
+
+abbrev pub task_part : List Entry → ℕ → TaskPart
+task_part journal t = record {
+  entries = filter (λ e. is_of_task t e.what) journal;
+  verdicts = map (λ q. verdict_of journal q.0 q.1) (each_of (job_for t) journal);
+}

@@ -1,0 +1,5 @@
+mod Complete
+mod Going
+mod KeptSaid
+mod LineFields
+mod Sound

@@ -1,0 +1,54 @@
+-- What stands behind the word of a line.
+use Rattle.std.proofs.Common.{◌≡◌, ℕ, ◌<◌, ◌^◌, Bool, true, false, List, [], ◌∷◌, ◌++◌, Option, Some, None, Result, Ok, Err, IfOk, refl, sym, ap, ◌∙◌}
+use mathlib.Core.Bool.{true≢false}
+use Rattle.std.specs.Prelude.{MatchOption, IsTrue, codes, decimal, bytes_eq}
+use Rattle.reg_file.proofs.Tables.{itself}
+use Rattle.chunk_log.specs.ChunkLines.{number_in}
+use Rattle.chunk_log.proofs.StampBack.{decimal_reads, Decimal}
+use Rattle.journal_lines.specs.JournalTexts.{worded, stamp_line}
+
+abbrev behind_one : List ℕ → List ℕ
+behind_one [] = []
+behind_one (x ∷ xs) = xs
+
+same_behind : (word a b : List ℕ) → word ++ a ≡ word ++ b → a ≡ b
+same_behind [] a b e = e
+same_behind (w ∷ word) a b e = same_behind word a b (ap behind_one e)
+
+pub worded_same : (word a b : List ℕ) → worded word a ≡ worded word b → a ≡ b
+worded_same word a b e = ap behind_one (same_behind word (32 ∷ a) (32 ∷ b) e)
+
+-- what stands behind the word, and then behind a space
+module _ {R : Type 0} (now : R → List ℕ) (word line rest : List ℕ) (is : line ≡ word ++ rest) where
+  pub behind_both : (r : Option R) → MatchOption r ((text : List ℕ) → rest ≡ 32 ∷ text → ⊥) (λ f. rest ≡ 32 ∷ now f)
+      → MatchOption r ((text : List ℕ) → line ≡ worded word text → ⊥) (λ f. line ≡ worded word (now f))
+  behind_both None h = λ text e. h text (same_behind word rest (32 ∷ text) (sym is ∙ e))
+  behind_both (Some f) h = is ∙ ap (λ (t : List ℕ). word ++ t) h
+
+-- a text that is asked for, behind the word
+module _ {R : Type 0} (now : R → List ℕ) (p : List ℕ → Bool) (word line text : List ℕ) (is : line ≡ worded word text) where
+  pub texted : (r : Option R) → MatchOption r (p text ≡ false) (λ f. (now f ≡ text) × (p text ≡ true))
+      → MatchOption r ((t : List ℕ) → line ≡ worded word t → IsTrue (p t) → ⊥) (λ f. (line ≡ worded word (now f)) × IsTrue (p (now f)))
+  texted None h = λ t e u. true≢false (sym u ∙ ap p (sym (worded_same word text t (sym is ∙ e))) ∙ h)
+  texted (Some f) h = (is ∙ ap (worded word) (sym h.0), ap p h.0 ∙ h.1)
+
+-- a number
+pub numbered : {E : Type 0} (line text : List ℕ) → line ≡ worded (codes "stamp") text → (r : Result (Option ℕ) E)
+    → IfOk r (λ found. MatchOption found ((n : ℕ) → n < 2 ^ 64 → text ≡ decimal n → ⊥) (λ n. text ≡ decimal n))
+    → IfOk r (λ found. MatchOption found ((n : ℕ) → n < 2 ^ 64 → line ≡ stamp_line n → ⊥) (λ n. line ≡ stamp_line n))
+numbered line text is (Err e) h = tt
+numbered line text is (Ok None) h = λ n small e. h n small (worded_same (codes "stamp") text (decimal n) (sym is ∙ e))
+numbered line text is (Ok (Some n)) h = is ∙ ap (worded (codes "stamp")) h
+
+pub number_read : (n : ℕ) → n < 2 ^ 64 → number_in (decimal n) ≡ Some n
+number_read n h = let d : Decimal n = decimal_reads n h in rw (d.number, d.value) refl
+
+-- the number that was read is written otherwise
+pub other_number : (m : ℕ) (text : List ℕ) → number_in text ≡ Some m → bytes_eq (decimal m) text ≡ false → (n : ℕ) → n < 2 ^ 64 → text ≡ decimal n → ⊥
+other_number m text read other n small is =
+    let both : Some n ≡ Some m = sym (number_read n small) ∙ ap number_in (sym is) ∙ read in
+    let same : n ≡ m = cc in
+    true≢false (sym (itself (decimal m)) ∙ ap (bytes_eq (decimal m)) (ap decimal (sym same) ∙ sym is) ∙ other)
+
+pub no_number : (text : List ℕ) → ((n : ℕ) → number_in text ≡ Some n → ⊥) → (n : ℕ) → n < 2 ^ 64 → text ≡ decimal n → ⊥
+no_number text none n small is = none n (ap number_in is ∙ number_read n small)

@@ -1,0 +1,7 @@
+use Rattle.std.proofs.Common.{◌≡◌, ◌++◌, ◌∷◌, [], take}
+use Rattle.annex_model.specs.Lines.{text}
+use Rattle.keep_text.specs.KeptFiles.{head}
+use Rattle.journal_reader.proofs.finish.file_of.Given as goal
+
+abbrev pub invariant-loop-line : goal.invariant-loop-line
+invariant-loop-line l = l.text.items ≡ text (head ∷ []) ++ text (take l.line-index l.kept)

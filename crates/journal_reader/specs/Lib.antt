@@ -1,0 +1,4 @@
+pub mod RunTexts
+pub mod Kinds
+pub mod Readings
+pub mod Runs

@@ -1,0 +1,53 @@
+-- Reading a list of lines.
+use Rattle.std.specs.Prelude.{ℕ, ◌≡◌, List, [], ◌∷◌, ◌++◌, map, length, codes, IsTrue}
+use Rattle.reg_file.specs.Registers.{nothing_set}
+use Rattle.reg_file.specs.RegLines.{set_by_lines}
+use Rattle.keep_text.specs.KeptFiles.{settings_in, notes_in, CountsAs}
+use Rattle.journal_model.specs.declared.opening.Opening.{Opening}
+use Rattle.entry_lines.specs.Entries.{entry_line}
+use Rattle.journal_lines.specs.JournalTexts.{Told, worded, head, begin, first_lines, task_line, keep_line, told_lines}
+use Rattle.journal_reader.specs.Readings.{Reading, Follows, nothing_told}
+use Rattle.journal_reader.specs.RunTexts.{is_uuid, is_text, IsTold}
+use Rattle.journal_reader.specs.declared.place.Place.{Place}
+use Rattle.journal_reader.specs.declared.place.Place.TheVariants.{Head, Uuid, Name, Gitdir, Stamp, Given, Entries, Over, Refused}
+
+-- each line was taken, one behind the other
+abbrev pub Reads : Reading → List (List ℕ) → Reading → Type 0
+Reads old [] new = new ≡ old
+Reads old (line ∷ lines) new = (next : Reading) × Follows old line next × Reads next lines new
+
+-- the opening is what is told: its registers are those that the kept lines set, and of its notes those count that count of theirs
+pub record IsOpeningOf (o : Opening) (t : Told) : Type 0 where
+  pub uuid : o.identity.uuid ≡ t.uuid
+  pub name : o.identity.name ≡ t.name
+  pub gitdir : o.identity.gitdir ≡ t.gitdir
+  pub stamp : o.stamp ≡ t.stamp
+  pub tasks : o.tasks ≡ t.tasks
+  pub registers : o.registers ≡ set_by_lines nothing_set (settings_in t.kept)
+  pub notes : CountsAs o.notes (notes_in t.kept)
+
+-- ---- what is told where this is awaited
+
+-- the lines that tell it
+abbrev pub lines_told : Place → Told → List (List ℕ)
+lines_told Head t = []
+lines_told Uuid t = head ∷ []
+lines_told Name t = head ∷ worded (codes "uuid") t.uuid ∷ []
+lines_told Gitdir t = head ∷ worded (codes "uuid") t.uuid ∷ worded (codes "name") t.name ∷ []
+lines_told Stamp t = head ∷ worded (codes "uuid") t.uuid ∷ worded (codes "name") t.name ∷ worded (codes "gitdir") t.gitdir ∷ []
+lines_told Given t = first_lines t ++ (map task_line t.tasks ++ map keep_line t.kept)
+lines_told Entries t = first_lines t ++ (map task_line t.tasks ++ (map keep_line t.kept ++ begin ∷ map entry_line t.entries))
+lines_told Over t = told_lines t
+lines_told (Refused number) t = []
+
+-- so much may be told, and nothing more is
+abbrev pub IsSoFar : Place → Told → Type 0
+IsSoFar Head t = t ≡ nothing_told
+IsSoFar Uuid t = t ≡ nothing_told
+IsSoFar Name t = IsTrue (is_uuid t.uuid) × (t ≡ record nothing_told { uuid = t.uuid })
+IsSoFar Gitdir t = IsTrue (is_uuid t.uuid) × IsTrue (is_text t.name) × (t ≡ record nothing_told { uuid = t.uuid; name = t.name })
+IsSoFar Stamp t = IsTrue (is_uuid t.uuid) × IsTrue (is_text t.name) × IsTrue (is_text t.gitdir) × (t ≡ record nothing_told { uuid = t.uuid; name = t.name; gitdir = t.gitdir })
+IsSoFar Given t = IsTold t × (t.entries ≡ [])
+IsSoFar Entries t = IsTold t
+IsSoFar Over t = IsTold t
+IsSoFar (Refused number) t = Unit {0}

@@ -1,0 +1,60 @@
+// Taking the lines of entries, and the end.
+ghost use Rattle.std.specs.Prelude.{◌≡◌, IfOk, MatchOption, bytes_eq, length};
+ghost use Rattle.journal_model.specs.declared.entry.Entry.{Entry};
+ghost use Rattle.journal_lines.specs.JournalTexts.{end_line};
+ghost use Rattle.entry_lines.specs.Entries.{entry_line, IsEntry};
+
+use crate::place::Place;
+use crate::reader::Reader;
+use crate::typed::is_entry;
+use ann_key::NoMemory;
+use entry_lines::read_entry;
+use journal_model::Entry;
+use std::alloc::Global;
+
+impl Reader {
+    ghost use Rattle.journal_reader.specs.Readings.{Took};
+
+    pub(crate) fn take_entry_or_end(&mut self, line: &[u8]) -> Result<bool, NoMemory>
+        requires { self.old.place ≡ Place.Entries }
+        ensures { Took self.old line.now self.new result }
+    {
+        if is_end(self.alloc, line, self.entries.len())? {
+            self.place = Place::Over;
+            return Ok(true);
+        }
+        self.take_entry(line)
+    }
+
+    fn take_entry(&mut self, line: &[u8]) -> Result<bool, NoMemory>
+        requires place { self.old.place ≡ Place.Entries }
+        requires more { line.now ≡ end_line (length self.old.told.entries) → ⊥ }
+        ensures { Took self.old line.now self.new result }
+    {
+        match entry_of(self.alloc, line)? {
+            Some(entry) => {
+                self.entries.push(entry)?;
+                Ok(true)
+            }
+            None => Ok(false),
+        }
+    }
+}
+
+// Whether the line is the last one behind so many entries.
+fn is_end(alloc: Global, line: &[u8], count: usize) -> Result<bool, NoMemory>
+    ensures { IfOk result (λ b. b ≡ bytes_eq (end_line count) line.now) }
+{
+    let end = format!(in alloc; "end {count}")?;
+    Ok(end.as_bytes() == line)
+}
+
+// The entry whose line this is.
+fn entry_of(alloc: Global, line: &[u8]) -> Result<Option<Entry>, NoMemory>
+    ensures { IfOk result (λ found. MatchOption found ((entry : Entry) → IsEntry entry → line.now ≡ entry_line entry → ⊥) (λ entry. (line.now ≡ entry_line entry) × IsEntry entry)) }
+{
+    match read_entry(alloc, line)? {
+        Some(entry) if is_entry(&entry) => Ok(Some(entry)),
+        _ => Ok(None),
+    }
+}

@@ -1,0 +1,184 @@
+// The fields of the first lines.
+ghost use Rattle.std.specs.Prelude.{◌≡◌, ◌≤◌, ◌^◌, ◌<◌, ◌∷◌, ◌++◌, IfOk, MatchOption, ℕ, List, true, false, length, codes, decimal, IsTrue, bytes_eq};
+ghost use Rattle.std.specs.List.{list_all};
+ghost use Rattle.ann_key.specs.Numbers.{is_digit, value_of};
+ghost use Rattle.chunk_log.specs.ChunkLines.{number_in};
+ghost use Rattle.uuid.specs.Text.{parsed, hyphenated_text, lower};
+ghost use Rattle.annex_model.specs.Lines.{has_newline};
+ghost use Rattle.journal_lines.specs.JournalTexts.{worded, stamp_line};
+ghost use Rattle.journal_reader.specs.RunTexts.{is_text, is_uuid};
+
+use ann_key::{NoMemory, Text};
+use std::alloc::Global;
+use std::str;
+use uuid::Uuid;
+
+/// What stands behind the word and a space.
+pub(crate) fn behind<'a>(line: &'a [u8], word: &[u8]) -> Option<&'a [u8]>
+    ensures { MatchOption result ((text : List ℕ) → line.entry.now ≡ worded word.now text → ⊥) (λ text. line.entry.now ≡ worded word.now text.now) }
+{
+    match behind_word(line, word) {
+        Some(rest) => behind_space(rest),
+        None => None,
+    }
+}
+
+fn behind_word<'a>(line: &'a [u8], word: &[u8]) -> Option<&'a [u8]>
+    ensures { MatchOption result ((rest : List ℕ) → line.entry.now ≡ word.now ++ rest → ⊥) (λ rest. line.entry.now ≡ word.now ++ rest.now) }
+{
+    line.strip_prefix(word)
+}
+
+fn behind_space(rest: &[u8]) -> Option<&[u8]>
+    ensures { MatchOption result ((text : List ℕ) → rest.entry.now ≡ 32 ∷ text → ⊥) (λ text. rest.entry.now ≡ 32 ∷ text.now) }
+{
+    match rest {
+        [b' ', text @ ..] => Some(text),
+        _ => None,
+    }
+}
+
+/// Whether the line holds byte 10.
+pub(crate) fn has_newline(line: &[u8]) -> bool
+    ensures { result ≡ has_newline line.now }
+{
+    line.iter().any(|b| *b == b'\n')
+}
+
+/// The text behind the word, where it is UTF-8 on one line.
+pub(crate) fn text_behind<'a>(line: &'a [u8], word: &[u8]) -> Option<&'a str>
+    ensures { MatchOption result ((text : List ℕ) → line.entry.now ≡ worded word.now text → IsTrue (is_text text) → ⊥) (λ text. (line.entry.now ≡ worded word.now text.now) × IsTrue (is_text text.now)) }
+{
+    match behind(line, word) {
+        Some(text) => text_of(text),
+        None => None,
+    }
+}
+
+fn text_of(text: &[u8]) -> Option<&str>
+    ensures { MatchOption result (is_text text.entry.now ≡ false) (λ found. (found.now ≡ text.entry.now) × (is_text text.entry.now ≡ true)) }
+{
+    if has_newline(text) {
+        return None;
+    }
+    match str::from_utf8(text) {
+        Ok(found) => Some(found),
+        Err(_) => None,
+    }
+}
+
+/// The UUID behind the word, in lower case with hyphens.
+pub(crate) fn uuid_behind(line: &[u8], word: &[u8]) -> Option<Uuid>
+    ensures { MatchOption result ((text : List ℕ) → line.now ≡ worded word.now text → IsTrue (is_uuid text) → ⊥) (λ uuid. (line.now ≡ worded word.now (hyphenated_text lower uuid)) × IsTrue (is_uuid (hyphenated_text lower uuid))) }
+{
+    match behind(line, word) {
+        Some(text) => uuid_of(text),
+        None => None,
+    }
+}
+
+// The UUID, where the text is it in lower case with hyphens.
+fn uuid_of(text: &[u8]) -> Option<Uuid>
+    ensures { MatchOption result (is_uuid text.now ≡ false) (λ uuid. (hyphenated_text lower uuid ≡ text.now) × (is_uuid text.now ≡ true)) }
+{
+    match parsed(text) {
+        Some(uuid) if is_written(uuid, text) => Some(uuid),
+        _ => None,
+    }
+}
+
+fn parsed(text: &[u8]) -> Option<Uuid>
+    ensures { result ≡ parsed text.now }
+{
+    match Uuid::try_parse_ascii(text) {
+        Ok(uuid) => Some(uuid),
+        Err(_) => None,
+    }
+}
+
+fn is_written(uuid: Uuid, text: &[u8]) -> bool
+    ensures { result ≡ bytes_eq (hyphenated_text lower uuid) text.now }
+{
+    let mut buffer = [0; 36];
+    uuid.hyphenated().encode_lower(&mut buffer).as_bytes() == text
+}
+
+/// The UUID's text, in lower case with hyphens.
+pub(crate) fn written(alloc: Global, uuid: Uuid) -> Result<Text, NoMemory>
+    ensures { IfOk result (λ text. text ≡ hyphenated_text lower uuid) }
+{
+    let mut buffer = [0; 36];
+    Text::copy(alloc, uuid.hyphenated().encode_lower(&mut buffer))
+}
+
+/// The number of a stamp's line.
+pub(crate) fn stamp_of(alloc: Global, line: &[u8]) -> Result<Option<u64>, NoMemory>
+    ensures { IfOk result (λ found. MatchOption found ((n : ℕ) → n < 2 ^ 64 → line.now ≡ stamp_line n → ⊥) (λ n. line.now ≡ stamp_line n)) }
+{
+    match behind(line, b"stamp") {
+        Some(text) => number_of(alloc, text),
+        None => Ok(None),
+    }
+}
+
+fn number_of(alloc: Global, text: &[u8]) -> Result<Option<u64>, NoMemory>
+    ensures { IfOk result (λ found. MatchOption found ((n : ℕ) → n < 2 ^ 64 → text.now ≡ decimal n → ⊥) (λ n. text.now ≡ decimal n)) }
+{
+    let Some(n) = number_in(text) else {
+        return Ok(None);
+    };
+    if is_decimal(alloc, n, text)? {
+        Ok(Some(n))
+    } else {
+        Ok(None)
+    }
+}
+
+fn is_decimal(alloc: Global, n: u64, text: &[u8]) -> Result<bool, NoMemory>
+    ensures { IfOk result (λ b. b ≡ bytes_eq (decimal n) text.now) }
+{
+    let digits = format!(in alloc; "{n}")?;
+    Ok(digits.as_bytes() == text)
+}
+
+fn is_digit(b: u8) -> bool
+    ensures { result ≡ is_digit b }
+{
+    48 <= b && b < 58
+}
+
+fn all_digits(text: &[u8]) -> bool
+    ensures { result ≡ list_all is_digit text.now }
+{
+    text.iter().all(|b| is_digit(*b))
+}
+
+fn digits_value(text: &[u8]) -> u128
+    requires few { length text.now ≤ 20 }
+    requires digits { list_all is_digit text.now ≡ true }
+    ensures { result ≡ value_of text.now }
+{
+    let mut n: u128 = 0;
+    for b in text {
+        n = 10 * n + (*b - 48) as u128;
+    }
+    n
+}
+
+// The number that the text spells; it may have leading zeros.
+fn number_in(text: &[u8]) -> Option<u64>
+    ensures { result ≡ number_in text.now }
+{
+    if text.is_empty() || text.len() > 20 {
+        return None;
+    }
+    if !all_digits(text) {
+        return None;
+    }
+    let value = digits_value(text);
+    if value < 18_446_744_073_709_551_616 {
+        Some(value as u64)
+    } else {
+        None
+    }
+}

@@ -1,0 +1,19 @@
+// Laws over whole texts, each the contract of a function with nothing to do.
+ghost use Rattle.std.specs.Prelude.{◌≡◌, ℕ, List, length};
+ghost use Rattle.journal_lines.specs.JournalTexts.{Told, told_lines};
+ghost use Rattle.journal_reader.specs.Readings.{Reading, start};
+ghost use Rattle.journal_reader.specs.RunTexts.{IsTold};
+ghost use Rattle.journal_reader.specs.Runs.{Reads};
+ghost use Rattle.journal_reader.specs.declared.place.Place.TheVariants as at;
+
+/// Lines that were taken one behind the other, up to the end, are the whole text of what they tell.
+pub fn what_is_taken_is_a_text()
+    ensures told { (lines : List (List ℕ)) (r : Reading) → Reads start lines r → r.place ≡ at.Over → IsTold r.told }
+    ensures lines { (lines : List (List ℕ)) (r : Reading) → Reads start lines r → r.place ≡ at.Over → told_lines r.told ≡ lines }
+    ensures counted { (lines : List (List ℕ)) (r : Reading) → Reads start lines r → r.taken ≡ length lines }
+{}
+
+/// Each whole text is taken to its end, and then what it tells was told.
+pub fn each_text_is_taken()
+    ensures { (t : Told) → IsTold t → (n : ℕ) × Reads start (told_lines t) (record { place = at.Over; taken = n; told = t }) }
+{}

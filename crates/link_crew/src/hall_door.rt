@@ -1,0 +1,44 @@
+// The way to a core that many threads share.
+ghost use Rattle.hall.specs.Passes.{IsPassOf};
+
+use ann_key::NoMemory;
+use hall::{Hall, Pass};
+use host_core::{Core, Event, Reply};
+use link_roles::Door;
+use std::sync::Wait;
+
+/// A door to the core of a hall, by one pass.
+#[derive(Drop)]
+pub struct HallDoor<'a, R: Wait> {
+    pub rt: &'a R,
+    pub hall: &'a Hall<Core>,
+    pub pass: &'a mut Pass<Core>,
+    ghost tied: { IsPassOf hall.now pass.now },
+}
+
+impl<'a, R: Wait> Door for HallDoor<'a, R> {
+    type Home = Hall<Core>;
+
+    ghost use Rattle.std.specs.Prelude.{false, [], ◌∷◌};
+    ghost use Rattle.hall.specs.Passes.{seen_of};
+
+    ghost opening = { λ d. d.hall.now.fixed };
+
+    ghost number = { λ d. d.pass.now.number };
+
+    ghost seen = { λ d. seen_of d.pass.now };
+
+    ghost alone = { λ d. false };
+
+    ghost loans = { λ d. d.pass.ghost_name ∷ [] };
+
+    ghost home = { λ d. d.hall.now };
+
+    fn step(&mut self, event: Event) -> Result<Reply, NoMemory> {
+        self.hall.enter(self.rt, self.pass, event)
+    }
+
+    fn rest(&mut self) {
+        self.hall.rest(self.rt, self.pass)
+    }
+}

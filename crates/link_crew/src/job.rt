@@ -1,0 +1,73 @@
+// Asking over a child that other threads read and write.
+ghost use Rattle.std.specs.Prelude.{◌≡◌, ◌<◌, ◌^◌, true, Some, IfSome, IfOk, OnErr};
+ghost use Rattle.journal_model.specs.Journal.{verdict_of};
+ghost use Rattle.journal_model.specs.Legality.{Legal};
+ghost use Rattle.journal_model.specs.Projection.{IsNamed};
+ghost use Rattle.host_core.specs.Steps.{is_asked};
+ghost use Rattle.talk_serial.specs.Requests.{message_of};
+ghost use Rattle.link_roles.specs.Doors.{IsSameDoor, Passed};
+ghost use Rattle.journal_model.specs.Shares.{by_asking};
+ghost use Rattle.link_roles.specs.Asks.{HasAsked, Grows, never};
+
+use ann_key::NoMemory;
+use journal_model::Verdict;
+use link_roles::Door;
+use link_roles::events::{self, Asked};
+use std::alloc::Global;
+use std::sync::Wait;
+use talk_serial::Request;
+
+// How the job was settled; where it isn't, a rest.
+fn look_or_rest<D: Door>(door: &mut D, child: u32, job: u64) -> Option<Verdict>
+    requires asked { is_asked (D.seen door.old) child job ≡ true }
+    ensures verdict { IfSome result (λ v. verdict_of (D.seen door.new) child job ≡ Some v) }
+    ensures grows { Grows (D.number door.old) (D.alone door.old) never (D.seen door.old) (D.seen door.new) }
+    ensures door { IsSameDoor D.opening D.number D.seen D.alone D.loans D.home door.old door.new }
+{
+    let settled = events::verdict(door, child, job);
+    if settled.is_none() {
+        door.rest();
+    }
+    settled
+}
+
+// Waits until the job is settled.
+fn wait_for<D: Door, R: Wait>(rt: &R, door: &mut D, child: u32, job: u64) -> Verdict
+    requires asked { is_asked (D.seen door.old) child job ≡ true }
+    ensures small { job < 2 ^ 64 }
+    ensures verdict { verdict_of (D.seen door.new) child job ≡ Some result }
+    ensures grows { Grows (D.number door.old) (D.alone door.old) never (D.seen door.old) (D.seen door.new) }
+    ensures door { IsSameDoor D.opening D.number D.seen D.alone D.loans D.home door.old door.new }
+{
+    for _ in rt.forever() {
+        if let Some(verdict) = look_or_rest(door, child, job) {
+            return verdict;
+        }
+    }
+    unreachable!()
+}
+
+/// Asks one request of a child, and waits until it is settled. `NoMemory` comes only before it is asked.
+pub fn ask_job<D: Door, R: Wait>(
+    rt: &R,
+    alloc: Global,
+    door: &mut D,
+    child: u32,
+    task: u32,
+    request: &Request,
+) -> Result<Verdict, NoMemory>
+    requires legal { Legal (D.opening door.old) (D.seen door.old) }
+    ensures named { IfOk result (IsNamed (message_of request.now)) }
+    ensures asked { IfOk result (HasAsked (D.opening door.old) (D.number door.old) (D.alone door.old) never (D.seen door.old) (D.seen door.new) child task (message_of request.now) (λ job. Unit {0})) }
+    ensures none { OnErr result (Passed (D.number door.old) (D.alone door.old) (D.seen door.old) (D.seen door.new)) }
+    ensures grows { Grows (D.number door.old) (D.alone door.old) (by_asking child) (D.seen door.old) (D.seen door.new) }
+    ensures door { IsSameDoor D.opening D.number D.seen D.alone D.loans D.home door.old door.new }
+{
+    let request = request.copy(alloc)?;
+    match events::ask(door, child, task, request)? {
+        Asked::Job(job) => Ok(wait_for(rt, door, child, job)),
+        Asked::Lost(Some(why)) => Ok(Verdict::Ended { why }),
+        Asked::Lost(None) => Ok(Verdict::Unsent),
+        Asked::Odd => Err(NoMemory),
+    }
+}

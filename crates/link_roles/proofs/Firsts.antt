@@ -1,0 +1,37 @@
+-- What stands first, over the bytes that a link is seen to hold.
+use Rattle.std.proofs.Common.{◌≡◌, ℕ, ◌+◌, ◌≤◌, List, [], ◌∷◌, refl, sym, ap, subst, ◌∙◌, Bool, true, false, not, ◌==◌, cond, suc, take, length, arith}
+use Rattle.std.specs.List.{position_or_len}
+use Rattle.std.proofs.Math.Seq.{take_all}
+use Rattle.annex_model.specs.Lines.{has_newline}
+use Rattle.wire_line.specs.declared.splitter.Next.{Next}
+use Rattle.wire_line.specs.HeldBytes.{has_line, first_line, TakesLine}
+use Rattle.wire_line.specs.Nexts.{IsNext}
+use Rattle.journal_model.specs.Limits.{longest_line}
+
+pub next_held : (limit : ℕ) (bytes held : List ℕ) (n : Next) → limit ≡ longest_line → bytes ≡ held → IsNext limit bytes n → IsNext longest_line held n
+next_held limit bytes held n l b h =
+    subst (λ (x : List ℕ). IsNext longest_line x n) b (subst (λ (x : ℕ). IsNext x bytes n) l h)
+
+pub line_held : (limit : ℕ) (bytes held : List ℕ) → limit ≡ longest_line → bytes ≡ held → has_line longest_line held ≡ true → has_line limit bytes ≡ true
+line_held limit bytes held l b h = rw (l, b) h
+
+pub takes_held : (bytes held after : List ℕ) → bytes ≡ held → TakesLine bytes (first_line bytes) after → TakesLine held (first_line held) after
+takes_held bytes held after b h = subst (λ (x : List ℕ). TakesLine x (first_line x) after) b h
+
+-- a line holds no byte 10
+pub line_whole : (bytes : List ℕ) → has_newline (first_line bytes) ≡ false
+line_whole [] = refl
+line_whole (b ∷ bs) = go (b == 10) refl (line_whole bs)
+  where
+    n : ℕ
+    n = position_or_len (λ (x : ℕ). x == 10) bs
+
+    go : (s : Bool) → (b == 10) ≡ s → has_newline (take n bs) ≡ false → has_newline (take (cond (not s) (1 + n) 0) (b ∷ bs)) ≡ false
+    go true e r = refl
+    go false e r = let k : 1 + n ≡ suc n = omega arith in rw (k, e) r
+
+-- where fewer bytes than the limit are held and no line stands first, no line is in them
+pub no_line : (held : List ℕ) → not (has_line longest_line held) ≡ true → length held ≤ longest_line → not (has_newline held) ≡ true
+no_line held none few =
+    let long : length held ≤ longest_line + 1 = omega arith in
+    ap (λ (x : List ℕ). not (has_newline x)) (sym (take_all (longest_line + 1) held long)) ∙ none

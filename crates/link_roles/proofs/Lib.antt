@@ -1,0 +1,12 @@
+pub mod Firsts
+pub mod Roles
+pub mod Replying
+pub mod Ears
+pub mod Mouths
+pub mod Turns
+pub mod Hearing
+pub mod Linked
+pub mod Asking
+pub mod Versions
+pub mod Solo
+pub mod Settling

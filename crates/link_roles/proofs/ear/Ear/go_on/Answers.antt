@@ -1,0 +1,13 @@
+use Rattle.std.proofs.Common.{sym, subst, List}
+use Rattle.link_roles.proofs.Roles.{rested}
+use Rattle.journal_model.specs.Shares.{by_ear, is_heard}
+use Rattle.journal_model.specs.declared.entry.Entry.{Entry}
+use Rattle.journal_model.specs.Shares.{Moved}
+use Rattle.journal_model.specs.Halves.{EarWired}
+use Rattle.link_roles.proofs.ear.Ear.go_on.Goals as goal
+
+pub returns-in-Rest-clause-moved : goal.returns-in-Rest-clause-moved
+returns-in-Rest-clause-moved g c = subst (λ (j : List Entry). Moved (g.D.Door.number c.args.door.now) (g.D.Door.alone c.args.door.now) (by_ear c.args.self.now.child) (is_heard c.args.self.now.child) (g.D.Door.seen c.args.door.now) j (EarWired (g.D.Door.seen c.args.door.now) c.args.self.now) (EarWired j c.turn.new.self)) (sym c.rest.ensures.seen) c.turn.ensures.moved
+
+pub returns-in-Rest-clause-door : goal.returns-in-Rest-clause-door
+returns-in-Rest-clause-door g c = rested c.rest.ensures.opening c.rest.ensures.number c.rest.ensures.alone c.rest.ensures.loans c.rest.ensures.home c.rest.ensures.seen c.turn.ensures.door

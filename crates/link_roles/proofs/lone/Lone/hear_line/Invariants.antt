@@ -1,0 +1,15 @@
+use Rattle.std.proofs.Common.{◌≡◌, true}
+use Rattle.journal_model.specs.Journal.{is_started}
+use Rattle.journal_model.specs.Shares.{Moved, by_link, is_of_child}
+use Rattle.link_roles.specs.Doors.{IsSameDoor}
+use Rattle.journal_model.specs.Halves.{LinkWired, IsSameEar, IsSameMouth}
+use Rattle.link_roles.proofs.lone.Lone.hear_line.Given as goal
+
+abbrev pub invariant-loop : goal.invariant-loop
+invariant-loop g l = record {
+  started : is_started (g.D.Door.seen l.door) l.self.ear.child ≡ true;
+  moved : Moved (g.D.Door.number l.initial.door) (g.D.Door.alone l.initial.door) (by_link l.initial.self.ear.child) (is_of_child l.initial.self.ear.child) (g.D.Door.seen l.initial.door) (g.D.Door.seen l.door)
+      (LinkWired (g.D.Door.seen l.initial.door) l.initial.self.ear l.initial.self.mouth) (LinkWired (g.D.Door.seen l.door) l.self.ear l.self.mouth);
+  same : IsSameEar l.initial.self.ear l.self.ear × IsSameMouth l.initial.self.mouth l.self.mouth;
+  door : IsSameDoor g.D.Door.opening g.D.Door.number g.D.Door.seen g.D.Door.alone g.D.Door.loans g.D.Door.home l.initial.door l.door;
+}

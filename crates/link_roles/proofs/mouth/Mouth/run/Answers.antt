@@ -1,0 +1,39 @@
+use Rattle.std.proofs.Common.{sym, ap, subst, ◌∙◌, ℕ}
+use Rattle.journal_model.specs.declared.verdict.Why.TheVariants.{Memory}
+use Rattle.link_roles.proofs.Roles.{moved_then, same_both, started_on}
+use Rattle.journal_model.specs.Shares.{by_mouth, is_said}
+use Rattle.journal_model.specs.Journal.{is_started, is_ended}
+use Rattle.host_core.specs.declared.event.Reply.TheVariants.{Over}
+use Rattle.link_roles.specs.Doors.{Ends}
+use Rattle.link_roles.proofs.Hearing.{says_fetch, ended_fetch}
+use Rattle.link_roles.proofs.Mouths.{mouth_ends}
+use Rattle.link_roles.proofs.mouth.Mouth.run.Goals as goal
+
+pub returns-then-not-go_on-clause-moved : goal.returns-then-not-go_on-clause-moved
+returns-then-not-go_on-clause-moved g c = moved_then by_mouth is_said c.loop.invariant.door.number c.loop.invariant.door.alone c.loop.invariant.same.0 c.loop.invariant.moved c.go_on.ensures.moved
+
+pub returns-then-not-go_on-clause-door : goal.returns-then-not-go_on-clause-door
+returns-then-not-go_on-clause-door g c = same_both c.loop.invariant.door c.go_on.ensures.door
+
+pub returns-then-not-go_on-clause-over : goal.returns-then-not-go_on-clause-over
+returns-then-not-go_on-clause-over g c = says_fetch (g.D.Door.seen c.go_on.new.door) Over c.loop.invariant.door.opening c.loop.invariant.door.number c.loop.invariant.same.0 (c.go_on.ensures.over c.if-not-go_on.true)
+
+pub loop-preserved : goal.loop-preserved
+loop-preserved g c = record {
+  started = ap (is_started (g.D.Door.seen c.go_on.new.door)) c.go_on.ensures.same.0 ∙ started_on c.loop.self.child c.go_on.ensures.moved c.loop.invariant.started;
+  moved = moved_then by_mouth is_said c.loop.invariant.door.number c.loop.invariant.door.alone c.loop.invariant.same.0 c.loop.invariant.moved c.go_on.ensures.moved;
+  same = (c.go_on.ensures.same.0 ∙ c.loop.invariant.same.0, c.go_on.ensures.same.1 ∙ c.loop.invariant.same.1);
+  door = same_both c.loop.invariant.door c.go_on.ensures.door;
+}
+
+pub returns-clause-moved : goal.returns-clause-moved
+returns-clause-moved g c = moved_then by_mouth is_said c.loop.invariant.door.number c.loop.invariant.door.alone c.loop.invariant.same.0 c.loop.invariant.moved (mouth_ends c.loop.self (subst (λ (k : ℕ). Ends (g.D.Door.opening c.loop.door) (g.D.Door.number c.loop.door) (g.D.Door.alone c.loop.door) (g.D.Door.seen c.loop.door) (g.D.Door.seen c.stop.new.door) k Memory) c.child-child.ensures c.stop.ensures.ends))
+
+pub returns-clause-door : goal.returns-clause-door
+returns-clause-door g c = same_both c.loop.invariant.door c.stop.ensures.door
+
+pub returns-clause-over : goal.returns-clause-over
+returns-clause-over g c =
+    ended_fetch (g.D.Door.opening c.args.door.now) (g.D.Door.number c.args.door.now) c.args.self.now.child (g.D.Door.seen c.stop.new.door)
+    (started_on c.args.self.now.child (returns-clause-moved g c) c.requires.started)
+    (ap (is_ended (g.D.Door.seen c.stop.new.door)) (sym (c.child-child.ensures ∙ c.loop.invariant.same.0)) ∙ c.stop.ensures.over)

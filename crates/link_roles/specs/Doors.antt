@@ -1,0 +1,76 @@
+-- What a step through a door does to the journal that the door has seen.
+use Rattle.std.specs.Prelude.{ℕ, ◌≡◌, ◌⊎◌, Bool, true, false, List, [], ◌++◌, Result, MatchResult}
+use Rattle.ann_key.specs.declared.bytes.NoMemory.{NoMemory}
+use Rattle.journal_model.specs.declared.verdict.Why.{Why}
+use Rattle.journal_model.specs.declared.verdict.Why.TheVariants.{Full}
+use Rattle.journal_model.specs.declared.entry.What.{What}
+use Rattle.journal_model.specs.declared.entry.What.TheVariants.{Sent, Mute, Got, End}
+use Rattle.journal_model.specs.declared.entry.Entry.{Entry}
+use Rattle.journal_model.specs.declared.opening.Opening.{Opening}
+use Rattle.journal_model.specs.Legality.{Legal}
+use Rattle.journal_model.specs.Journal.{is_ended, is_mute, unsent}
+use Rattle.host_core.specs.declared.event.Event.{Event}
+use Rattle.host_core.specs.declared.event.Reply.{Reply}
+use Rattle.host_core.specs.Steps.{step_of, group_of, told}
+use Rattle.journal_model.specs.Shares.{are_others}
+
+-- others have made entries, and where nobody else steps the core they have made none
+pub record Passed (number : ℕ) (alone : Bool) (old new : List Entry) : Type 0 where
+  pub others : List Entry
+  pub is : new ≡ old ++ others
+  pub apart : are_others number others ≡ true
+  pub none : alone ≡ true → others ≡ []
+
+-- behind entries of others stands what the event appends there by this number, and the reply is the event's, of a core that is
+-- shut or not
+pub record Made (o : Opening) (number : ℕ) (alone : Bool) (old new : List Entry) (event : Event) (reply : Reply) : Type 0 where
+  pub past : List Entry
+  pub passed : Passed number alone old past
+  pub legal : Legal o old → Legal o past
+  pub shut : Bool
+  pub reply_is : reply ≡ told shut event (step_of o past number event).reply
+  pub is : new ≡ past ++ (step_of o past number event).group
+
+-- where no memory is found nothing is appended
+abbrev pub Stepped : Opening → ℕ → Bool → List Entry → List Entry → Event → Result Reply NoMemory → Type 0
+Stepped o number alone old new event result = MatchResult result (Made o number alone old new event) (λ _. Passed number alone old new)
+
+-- behind entries of others stands the entry, with what it makes due, and at its place this was so
+pub record Appended (o : Opening) (number : ℕ) (alone : Bool) (old new : List Entry) (w : What) (Found : List Entry → Type 0) : Type 0 where
+  pub past : List Entry
+  pub passed : Passed number alone old past
+  pub legal : Legal o old → Legal o past
+  pub found : Found past
+  pub is : new ≡ past ++ group_of o past number w
+
+-- the child was ended so, or it had ended before
+abbrev pub Ends : Opening → ℕ → Bool → List Entry → List Entry → ℕ → Why → Type 0
+Ends o number alone old new c why =
+    Appended o number alone old new (End c why) (λ past. is_ended past c ≡ false)
+    ⊎ (Passed number alone old new × (is_ended new c ≡ true))
+
+-- the next line was noted as written whole, or none was to be written
+abbrev pub Sends : Opening → ℕ → Bool → List Entry → List Entry → ℕ → Type 0
+Sends o number alone old new c =
+    Appended o number alone old new (Sent c) (λ past. Unit {0})
+    ⊎ (Passed number alone old new × (unsent new c ≡ []))
+
+-- the child was noted as mute, or it was mute before
+abbrev pub Mutes : Opening → ℕ → Bool → List Entry → List Entry → ℕ → Type 0
+Mutes o number alone old new c =
+    Appended o number alone old new (Mute c) (λ past. Unit {0})
+    ⊎ (Passed number alone old new × (is_mute new c ≡ true))
+
+-- the line was taken; or the child ended, or had ended before
+abbrev pub Takes : Opening → ℕ → Bool → List Entry → List Entry → ℕ → List ℕ → Bool → Type 0
+Takes o number alone old new c line true = Appended o number alone old new (Got c line) (λ past. is_ended past c ≡ false)
+Takes o number alone old new c line false = Ends o number alone old new c Full
+
+-- it is the same door, and the journal that it has seen is still legal
+pub record IsSameDoor {D H : Type 0} (opening_of : D → Opening) (number_of : D → ℕ) (seen_of : D → List Entry) (alone_of : D → Bool) (loans_of : D → List ℕ) (home_of : D → H) (old new : D) : Type 0 where
+  pub opening : opening_of new ≡ opening_of old
+  pub number : number_of new ≡ number_of old
+  pub alone : alone_of new ≡ alone_of old
+  pub loans : loans_of new ≡ loans_of old
+  pub home : home_of new ≡ home_of old
+  pub legal : Legal (opening_of old) (seen_of old) → Legal (opening_of new) (seen_of new)

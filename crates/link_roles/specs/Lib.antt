@@ -1,0 +1,10 @@
+pub mod Doors
+pub mod Replies
+pub mod Events
+pub mod Fills
+pub mod Firsts
+pub mod Asks
+pub mod Alone
+pub mod Moves
+pub mod Hearings
+pub mod Rows

@@ -1,0 +1,94 @@
+// A link over a door that nobody else steps the core beside.
+ghost use Rattle.std.specs.Prelude.{◌≡◌, true, false, Some, IfOk, IfNone, OnErr};
+ghost use Rattle.journal_model.specs.declared.verdict.Why.TheVariants.{Memory, Closed};
+ghost use Rattle.journal_model.specs.Journal.{is_started, is_ended, why_of};
+ghost use Rattle.journal_model.specs.Legality.{Legal, said_version, may_stop};
+ghost use Rattle.journal_model.specs.Projection.{IsNamed};
+ghost use Rattle.host_core.specs.Steps.{may_request};
+ghost use Rattle.talk_serial.specs.Requests.{message_of};
+ghost use Rattle.link_roles.specs.Doors.{IsSameDoor};
+ghost use Rattle.link_roles.specs.Alone.{GoesOn, Closes, AskedAlone, KeepsLink};
+
+use crate::door::Door;
+use crate::events;
+use crate::lone::Lone;
+use ann_key::NoMemory;
+use ann_outside::{Sink, Source};
+use journal_model::{Verdict, Why};
+use talk_serial::Request;
+
+impl<I: Sink, O: Source> Lone<I, O> {
+    /// Asks one request, as [`Lone::ask`] does.
+    pub fn ask_alone<D: Door>(
+        &mut self,
+        door: &mut D,
+        task: u32,
+        request: &Request,
+    ) -> Result<Verdict, NoMemory>
+        requires alone { D.alone door.old ≡ true }
+        requires started { is_started (D.seen door.old) self.old.ear.child ≡ true }
+        requires legal { Legal (D.opening door.old) (D.seen door.old) }
+        requires may { may_request (D.seen door.old) (D.number door.old) task self.old.ear.child (message_of request.now) ≡ true }
+        ensures asked { IfOk result (AskedAlone (D.opening door.old) (D.seen door.old) (D.seen door.new) (D.number door.old) self.old.ear.child task (message_of request.now)) }
+        ensures named { IfOk result (IsNamed (message_of request.now)) }
+        ensures none { OnErr result (D.seen door.new ≡ D.seen door.old) }
+        ensures link { KeepsLink (D.seen door.old) (D.seen door.new) self.old.ear self.new.ear self.old.mouth self.new.mouth }
+        ensures door { IsSameDoor D.opening D.number D.seen D.alone D.loans D.home door.old door.new }
+    {
+        match self.ask(door, task, request) {
+            Ok(verdict) => Ok(verdict),
+            Err(NoMemory) => Err(NoMemory),
+        }
+    }
+
+    /// Hears the first line, as [`Lone::hear_version`] does.
+    pub fn hear_version_alone<D: Door>(&mut self, door: &mut D) -> Option<Why>
+        requires alone { D.alone door.old ≡ true }
+        requires started { is_started (D.seen door.old) self.old.ear.child ≡ true }
+        requires legal { Legal (D.opening door.old) (D.seen door.old) }
+        ensures why { result ≡ why_of (D.seen door.new) self.old.ear.child }
+        ensures version { IfNone result (said_version (D.seen door.new) self.old.ear.child ≡ true) }
+        ensures goes { GoesOn (D.number door.old) self.old.ear.child (D.seen door.old) (D.seen door.new) }
+        ensures link { KeepsLink (D.seen door.old) (D.seen door.new) self.old.ear self.new.ear self.old.mouth self.new.mouth }
+        ensures door { IsSameDoor D.opening D.number D.seen D.alone D.loans D.home door.old door.new }
+    {
+        self.hear_version(door)
+    }
+
+    /// Why the child ended, if it did.
+    pub fn why_ended_alone<D: Door>(&self, door: &mut D) -> Option<Why>
+        requires alone { D.alone door.old ≡ true }
+        requires started { is_started (D.seen door.old) self.now.ear.child ≡ true }
+        ensures why { result ≡ why_of (D.seen door.old) self.now.ear.child }
+        ensures seen { D.seen door.new ≡ D.seen door.old }
+        ensures door { IsSameDoor D.opening D.number D.seen D.alone D.loans D.home door.old door.new }
+    {
+        self.why_ended(door)
+    }
+
+    /// Ends a child that hasn't ended, for want of memory.
+    pub fn give_up_alone<D: Door>(&mut self, door: &mut D)
+        requires alone { D.alone door.old ≡ true }
+        requires started { is_started (D.seen door.old) self.old.ear.child ≡ true }
+        ensures goes { GoesOn (D.number door.old) self.old.ear.child (D.seen door.old) (D.seen door.new) }
+        ensures memory { is_ended (D.seen door.old) self.old.ear.child ≡ false → why_of (D.seen door.new) self.old.ear.child ≡ Some Memory }
+        ensures over { is_ended (D.seen door.new) self.old.ear.child ≡ true }
+        ensures link { KeepsLink (D.seen door.old) (D.seen door.new) self.old.ear self.new.ear self.old.mouth self.new.mouth }
+        ensures door { IsSameDoor D.opening D.number D.seen D.alone D.loans D.home door.old door.new }
+    {
+        self.give_up(door)
+    }
+
+    /// Ends the child as closed, unless it has ended. It has no open job and no busy task.
+    pub fn close_alone<D: Door>(&self, door: &mut D)
+        requires alone { D.alone door.old ≡ true }
+        requires started { is_started (D.seen door.old) self.now.ear.child ≡ true }
+        requires idle { may_stop (D.seen door.old) self.now.ear.child Closed ≡ true }
+        ensures closes { Closes (D.number door.old) self.now.ear.child (D.seen door.old) (D.seen door.new) }
+        ensures over { is_ended (D.seen door.new) self.now.ear.child ≡ true }
+        ensures link { KeepsLink (D.seen door.old) (D.seen door.new) self.now.ear self.now.ear self.now.mouth self.now.mouth }
+        ensures door { IsSameDoor D.opening D.number D.seen D.alone D.loans D.home door.old door.new }
+    {
+        events::close(door, self.child());
+    }
+}

@@ -1,0 +1,27 @@
+// Worked cases of what asking comes to, each the contract of a function with nothing to do.
+ghost use Rattle.std.specs.Prelude.{◌≡◌, [], true, false};
+ghost use Rattle.journal_model.specs.declared.verdict.Why.TheVariants.{Closed, Eof, Memory};
+ghost use Rattle.journal_model.specs.declared.verdict.Verdict.TheVariants.{Done, Unsent};
+ghost use Rattle.journal_model.specs.declared.entry.What.TheVariants.{Put, Sent, Got, End, Verdict as Settled};
+ghost use Rattle.journal_model.specs.Shares.{by_ear, by_mouth, is_heard, is_said, is_of_child};
+ghost use Rattle.link_roles.specs.Asks.{IsHeardOut};
+ghost use Rattle.link_roles.specs.Rows.{as_far_as_its_verdict, unwritten};
+
+/// The worked check is heard out at its verdict. It isn't where its request was never written.
+pub fn heard_out_rows()
+    ensures whole { IsHeardOut 1 2 (Done 13) as_far_as_its_verdict }
+    ensures unwritten { IsHeardOut 1 2 (Done 13) unwritten → ⊥ }
+{}
+
+/// What an ear and a mouth of child 1 make, and what others must leave to them.
+pub fn kinds_of_roles()
+    ensures ear_closes { by_ear 1 (End 1 Closed) ≡ false }
+    ensures ear_ends { by_ear 1 (End 1 Eof) ≡ true }
+    ensures ear_of_another { by_ear 1 (Got 2 []) ≡ false }
+    ensures mouth_settles { by_mouth 1 (Settled 1 2 (Done 13)) ≡ false }
+    ensures mouth_unsends { by_mouth 1 (Settled 1 2 Unsent) ≡ true }
+    ensures memory { is_heard 1 (End 1 Memory) ≡ false }
+    ensures heard { is_heard 1 (End 1 Eof) ≡ true }
+    ensures said { is_said 1 (Sent 1) ≡ true }
+    ensures replies { is_of_child 1 (Put 1 2 []) ≡ true }
+{}

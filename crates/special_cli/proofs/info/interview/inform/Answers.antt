@@ -1,0 +1,47 @@
+use Rattle.std.proofs.Common.{◌∙◌, map, ap, refl}
+use Rattle.std.specs.Prelude.{option_map}
+use Rattle.ann_key.specs.KeyRefs.{text_of}
+use Rattle.special_cli.specs.Endings.{starts_in}
+use Rattle.special_cli.specs.Left.{programs_value}
+use Rattle.special_cli.proofs.Leaving.{leaves_child, leaves_failed, leaves_unstarted}
+use Rattle.special_cli.proofs.Talking.{may_close, closed_asked, closed_complete, closed_starts, if_ok, unstarted_asked, unstarted_complete, nothing_asked}
+use Rattle.special_cli.proofs.info.interview.inform.Goals as goal
+
+pub close_child-requires-clause-idle : goal.close_child-requires-clause-idle
+close_child-requires-clause-idle g c = may_close (option_map text_of c.args.key) c.hold_interview.new.core.journal c.in-Over.link.child c.in-Over.ensures.interviewed.0
+
+pub returns-in-Over-clause-asked : goal.returns-in-Over-clause-asked
+returns-in-Over-clause-asked g c =
+    closed_asked (option_map text_of c.args.key) c.hold_interview.new.core.journal c.close_child.new.core.journal c.in-Over.link.child c.in-Over.ensures.interviewed.0 c.close_child.ensures.closes
+
+pub returns-in-Over-clause-complete : goal.returns-in-Over-clause-complete
+returns-in-Over-clause-complete g c =
+    if_ok c.in-Over.asked _ _ (closed_complete (option_map text_of c.args.key) c.hold_interview.new.core.journal c.close_child.new.core.journal c.in-Over.link.child c.in-Over.ensures.interviewed.0 c.close_child.ensures.closes)
+    c.in-Over.ensures.interviewed.1
+
+pub returns-in-Over-clause-leaves : goal.returns-in-Over-clause-leaves
+returns-in-Over-clause-leaves g c =
+    leaves_child _ (g.P.Programs.starts c.hold_interview.new.programs) (programs_value (g.P.Programs.starts c.args.programs.now) (g.P.Programs.faults c.args.programs.now)) (programs_value (g.P.Programs.starts c.finish.new.programs) (g.P.Programs.faults c.finish.new.programs)) c.args.program.now
+    c.close_child.new.core.journal c.in-Over.link c.close_child.new.link _
+    (closed_starts (option_map text_of c.args.key) c.hold_interview.new.core.journal c.close_child.new.core.journal c.in-Over.link.child c.in-Over.ensures.interviewed.0 c.close_child.ensures.closes)
+    c.in-Over.ensures.starts c.finish.ensures.starts c.in-Over.ensures.numbers c.close_child.ensures.numbers (c.close_child.ensures.child ∙ c.in-Over.ensures.interviewed.0.first)
+    (c.close_child.ensures.linked c.in-Over.ensures.linked) c.finish.ensures.left
+
+pub returns-in-StartFault-clause-asked : goal.returns-in-StartFault-clause-asked
+returns-in-StartFault-clause-asked g c = unstarted_asked (option_map text_of c.args.key) c.hold_interview.new.core.journal c.in-StartFault.ensures.interviewed
+
+pub returns-in-StartFault-clause-complete : goal.returns-in-StartFault-clause-complete
+returns-in-StartFault-clause-complete g c = unstarted_complete (option_map text_of c.args.key) c.hold_interview.new.core.journal c.in-StartFault.ensures.interviewed
+
+pub returns-in-StartFault-clause-leaves : goal.returns-in-StartFault-clause-leaves
+returns-in-StartFault-clause-leaves g c =
+    leaves_failed _ (programs_value (g.P.Programs.starts c.args.programs.now) (g.P.Programs.faults c.args.programs.now)) (programs_value (g.P.Programs.starts c.hold_interview.new.programs) (g.P.Programs.faults c.hold_interview.new.programs)) c.args.program.now c.hold_interview.new.core.journal _
+    (ap starts_in c.in-StartFault.ensures.interviewed) (ap (map _) c.requires.none) c.in-StartFault.ensures.starts (c.in-StartFault.ensures.fault refl)
+
+pub returns-in-NoMemory-clause-asked : goal.returns-in-NoMemory-clause-asked
+returns-in-NoMemory-clause-asked g c = nothing_asked (option_map text_of c.args.key) c.hold_interview.new.core.journal c.in-NoMemory.ensures.interviewed
+
+pub returns-in-NoMemory-clause-leaves : goal.returns-in-NoMemory-clause-leaves
+returns-in-NoMemory-clause-leaves g c =
+    leaves_unstarted _ (programs_value (g.P.Programs.starts c.args.programs.now) (g.P.Programs.faults c.args.programs.now)) (programs_value (g.P.Programs.starts c.hold_interview.new.programs) (g.P.Programs.faults c.hold_interview.new.programs)) c.args.program.now c.hold_interview.new.core.journal _
+    refl c.in-NoMemory.ensures.interviewed (ap (map _) c.requires.none) c.in-NoMemory.ensures.starts

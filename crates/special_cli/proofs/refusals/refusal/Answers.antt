@@ -1,7 +1,0 @@
-use Rattle.std.proofs.Common.{◌∙◌, sym}
-use Rattle.special_cli.proofs.Refusing.{not_refused, task_key}
-use Rattle.special_cli.proofs.refusals.refusal.Goals as goal
-
-pub returns-clause-fit : goal.returns-clause-fit
-returns-clause-fit c =
-    (λ h. task_key c.args.key.now (sym c.first_reason.ensures ∙ h), λ k. c.first_reason.ensures ∙ not_refused c.args.key.now k)

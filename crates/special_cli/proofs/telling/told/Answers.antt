@@ -1,0 +1,12 @@
+use Rattle.std.proofs.Common.{ap}
+use Rattle.special_cli.specs.Left.{RanValue}
+use Rattle.special_cli.specs.Tells.{flow}
+use Rattle.special_cli.proofs.Calling.{told_informed}
+use Rattle.special_cli.proofs.telling.told.Goals as goal
+
+pub returns-in-Informed : goal.returns-in-Informed
+returns-in-Informed g c =
+    told_informed c.args.ran.now c.ran.inside.end c.ran.inside.journal.entries c.in-Informed.key _ c.tell_info.result
+    (flow (g.O.Sink.faults c.args.out.now) (g.O.Sink.faults c.tell_info.new.out) (g.O.Sink.taken c.args.out.now) (g.O.Sink.taken c.tell_info.new.out))
+    (flow (g.E.Sink.faults c.args.err.now) (g.E.Sink.faults c.tell_info.new.err) (g.E.Sink.taken c.args.err.now) (g.E.Sink.taken c.tell_info.new.err))
+    (ap (λ (r : RanValue). r.end) c.ran.view_is) (ap (λ (r : RanValue). r.left.journal) c.ran.view_is) c.in-Informed.is c.lent.ensures c.tell_info.ensures

@@ -1,0 +1,67 @@
+-- What comes of a command, before it is told.
+use Rattle.std.specs.Prelude.{ℕ, ◌≡◌, ◌⊎◌, List, [], Option, None, Some}
+use Rattle.journal_model.specs.declared.answer.Answer.{Answer}
+use Rattle.special_cli.specs.declared.end.End.{End}
+use Rattle.special_cli.specs.declared.end.End.TheVariants.{Usage, Shown, Refused, Memory, Answered, Informed}
+use Rattle.cli_words.specs.declared.refusals.Reason.{Reason}
+use Rattle.special_cli.specs.Endings.{IsChecked, IsAnswered}
+use Rattle.special_cli.specs.Informs.{IsInformed, IsComplete}
+use Rattle.special_cli.specs.Left.{Left, OutsideValue, RanValue, IsIdle}
+use Rattle.special_cli.specs.Objects.{Leaves}
+use Rattle.cli_words.specs.Refusals.{reason_refused, refusal_if}
+use Rattle.cli_words.specs.declared.command.Command.{Command}
+use Rattle.cli_words.specs.declared.command.Command.TheVariants.{Check, Info, Show}
+
+-- nothing came of it but what is to be told: this, or want of memory
+pub record ComesToNothing (before : OutsideValue) (ran : RanValue) (end : End) : Type 0 where
+  pub end_is : (ran.end ≡ end) ⊎ (ran.end ≡ Memory)
+  pub idle : IsIdle before ran.left
+
+-- no desk was asked for
+pub record HasNoDesk (before : OutsideValue) (left : Left) : Type 0 where
+  pub made : left.outside.made ≡ before.made
+  pub tables : left.tables ≡ []
+
+-- ---- check
+
+-- there is the one answer, or none was found for want of memory
+abbrev pub EndsCheck : List ℕ → Left → End → Type 0
+EndsCheck key left Answered = (answer : Answer) × IsAnswered key left.journal left.answers answer
+EndsCheck key left Memory = left.answers ≡ []
+EndsCheck key left end = ⊥
+
+pub record HasChecked (clock : Option ℕ) (program key : List ℕ) (before : OutsideValue) (ran : RanValue) : Type 0 where
+  pub checked : IsChecked clock key ran.left.journal
+  pub ends : EndsCheck key ran.left ran.end
+  pub objects : Leaves (ran.end ≡ Memory) program ran.left.journal before.programs ran.left.outside.programs ran.left.wires
+  pub desks : HasNoDesk before ran.left
+
+-- ---- info
+
+-- all was asked, or there is a cause, or no memory was found
+abbrev pub EndsInfo : Option (List ℕ) → Left → End → Type 0
+EndsInfo key left (Informed k) = (k ≡ key) × IsComplete key left.journal
+EndsInfo key left Memory = Unit {0}
+EndsInfo key left end = ⊥
+
+pub record HasInformed (program : List ℕ) (key : Option (List ℕ)) (before : OutsideValue) (ran : RanValue) : Type 0 where
+  pub informed : IsInformed key ran.left.journal
+  pub ends : EndsInfo key ran.left ran.end
+  pub none : ran.left.answers ≡ []
+  pub objects : Leaves (ran.end ≡ Memory) program ran.left.journal before.programs ran.left.outside.programs ran.left.wires
+  pub desks : HasNoDesk before ran.left
+
+-- ---- the words
+
+-- a key that is refused ends a command before anything is started
+abbrev pub UnlessRefused : Option Reason → OutsideValue → RanValue → Type 0 → Type 0
+UnlessRefused None before ran P = P
+UnlessRefused (Some reason) before ran P = ComesToNothing before ran (Refused reason)
+
+-- what comes of what the words ask for
+abbrev pub Runs : Option ℕ → OutsideValue → Option Command → RanValue → Type 0
+Runs clock before None ran = ComesToNothing before ran Usage
+Runs clock before (Some (Show page)) ran = ComesToNothing before ran (Shown page)
+Runs clock before (Some (Check program key)) ran = UnlessRefused (reason_refused key) before ran (HasChecked clock program key before ran)
+Runs clock before (Some (Info program key)) ran = UnlessRefused (refusal_if key) before ran (HasInformed program key before ran)
+Runs clock before (Some command) ran = ⊥

@@ -1,0 +1,75 @@
+-- What is told of a command at its end, and with which status.
+use Rattle.std.specs.Prelude.{ℕ, ◌≡◌, ◌⊎◌, List, [], ◌∷◌, ◌++◌, ◌+◌, take, Option, if◌then◌else◌}
+use Rattle.std.specs.List.{list_all}
+use Rattle.std.specs.Io.KnownBytes.{Appends}
+use Rattle.ann_outside.specs.Causes.{Rose}
+use Rattle.annex_model.specs.Lines.{text}
+use Rattle.journal_model.specs.declared.answer.Answer.{Answer}
+use Rattle.journal_model.specs.declared.entry.Entry.{Entry}
+use Rattle.journal_model.specs.Output.{answer_line}
+use Rattle.info_run.specs.Infos.{info_lines}
+use Rattle.special_cli.specs.declared.end.End.{End}
+use Rattle.special_cli.specs.declared.end.End.TheVariants.{Usage, Shown, Refused, Memory, Answered, Informed}
+use Rattle.special_cli.specs.Endings.{is_well}
+use Rattle.special_cli.specs.Informs.{info_status}
+use Rattle.special_cli.specs.Left.{Left}
+use Rattle.cli_words.specs.Texts.{usage_line, memory_line, refused_line}
+
+-- what a sink counted and took, before and after
+pub record Flow : Type 0 where
+  pub faults : ℕ
+  pub faults' : ℕ
+  pub taken : Option (List ℕ)
+  pub taken' : Option (List ℕ)
+
+abbrev pub flow : ℕ → ℕ → Option (List ℕ) → Option (List ℕ) → Flow
+flow faults faults' taken taken' = record { faults = faults; faults' = faults'; taken = taken; taken' = taken' }
+
+-- nothing was written to it
+pub record IsSilent (f : Flow) : Type 0 where
+  pub faults : f.faults' ≡ f.faults
+  pub taken : f.taken' ≡ f.taken
+
+-- the text was written to it, and the status is the one that goes with it
+pub record IsWhole (wanted : ℕ) (written : List ℕ) (status : ℕ) (f : Flow) : Type 0 where
+  pub status_is : status ≡ wanted
+  pub appended : Appends f.taken f.taken' written
+
+-- a write of it failed, behind the first bytes of the text, which may be none or all, and the status is 5
+pub record IsCut (written : List ℕ) (status : ℕ) (f : Flow) : Type 0 where
+  pub status_is : status ≡ 5
+  pub rose : Rose f.faults f.faults'
+  pub size : ℕ
+  pub appended : Appends f.taken f.taken' (take size written)
+
+abbrev pub IsWritten : ℕ → List ℕ → ℕ → Flow → Type 0
+IsWritten wanted written status f = IsWhole wanted written status f ⊎ IsCut written status f
+
+-- the text is printed to one sink alone
+abbrev pub IsSaid : ℕ → List ℕ → ℕ → Flow → Flow → Type 0
+IsSaid wanted written status to other = IsWritten wanted written status to × IsSilent other
+
+-- the text is printed to out, or no memory was found for it
+abbrev pub IsPrintedOr : ℕ → List ℕ → ℕ → Flow → Flow → Type 0
+IsPrintedOr wanted written status out err = IsSaid wanted written status out err ⊎ IsSaid 7 memory_line status err out
+
+-- ---- the answers
+
+-- the lines of the answers of the tasks from this one on
+abbrev pub answer_lines : List Entry → ℕ → List Answer → List ℕ
+answer_lines journal task [] = []
+answer_lines journal task (answer ∷ answers) = answer_line journal task answer ++ answer_lines journal (task + 1) answers
+
+-- 0 where each is well
+abbrev pub answers_status : List Answer → ℕ
+answers_status answers = if list_all is_well answers then 0 else 1
+
+-- ---- the end
+
+abbrev pub IsToldOf : Left → ℕ → Flow → Flow → End → Type 0
+IsToldOf left status out err Usage = IsSaid 2 usage_line status err out
+IsToldOf left status out err (Shown page) = (written : List ℕ) × IsSaid 0 written status out err
+IsToldOf left status out err (Refused reason) = (IsWritten 3 (refused_line 1 reason) status err ⊎ IsWritten 7 memory_line status err) × IsSilent out
+IsToldOf left status out err Memory = IsSaid 7 memory_line status err out
+IsToldOf left status out err Answered = IsPrintedOr (answers_status left.answers) (answer_lines left.journal 1 left.answers) status out err
+IsToldOf left status out err (Informed key) = IsPrintedOr (info_status left.journal key) (text (info_lines left.journal key)) status out err

@@ -1,0 +1,44 @@
+ghost use Rattle.std.specs.Prelude.{◌≡◌, IfOk};
+ghost use Rattle.ann_key.specs.KeyRefs.{text_of};
+ghost use Rattle.special_cli.specs.Openings.{info_opening, check_opening};
+
+use ann_key::{Key, KeyRef, NoMemory, Text};
+use chunk_log::NoteBook;
+use cli_words::nobody;
+use journal_model::Opening;
+use reg_file::Registers;
+use std::alloc::Global;
+use task_text::{Task, Tasks, Work};
+
+/// What an info begins with: no task, and no stamp.
+pub(super) fn info_opening(alloc: Global) -> Result<Opening, NoMemory>
+    ensures { IfOk result (λ o. o ≡ info_opening) }
+{
+    Ok(Opening {
+        tasks: Tasks::new(Vec::new(alloc)),
+        registers: Registers::new(alloc),
+        notes: NoteBook::new(alloc),
+        identity: nobody(alloc)?,
+        stamp: 0,
+    })
+}
+
+/// What a check of one key begins with: its one task, and the stamp.
+pub(super) fn check_opening(alloc: Global, key: KeyRef<'_>, stamp: u64) -> Result<Opening, NoMemory>
+    ensures { IfOk result (λ o. o ≡ check_opening (text_of key.entry) stamp) }
+{
+    let task = Task {
+        work: Work::Check,
+        key: Key::copy(alloc, key)?,
+        file: Text::copy(alloc, "")?,
+    };
+    let mut list = Vec::new(alloc);
+    list.push(task)?;
+    Ok(Opening {
+        tasks: Tasks::new(list),
+        registers: Registers::new(alloc),
+        notes: NoteBook::new(alloc),
+        identity: nobody(alloc)?,
+        stamp,
+    })
+}

@@ -1,0 +1,17 @@
+use ann_outside::{Desks, Programs};
+use std::marker::Model;
+
+/// What a command reaches outside itself: the programs that it starts, and the desks of its workers.
+#[derive(Drop)]
+pub(crate) struct Outside<P: Programs, K: Desks> {
+    pub(crate) programs: P,
+    pub(crate) desks: K,
+}
+
+impl<P: Programs, K: Desks> Model for Outside<P, K> {
+    ghost use Rattle.special_cli.specs.Left.{OutsideValue};
+
+    ghost Value = { OutsideValue };
+
+    ghost view = { λ o. record { programs = record { starts = P.starts o.programs; faults = P.faults o.programs }; made = K.made o.desks } };
+}

@@ -1,0 +1,61 @@
+-- What a task asked of its child and noted, and what one call of an asker adds to it.
+use Rattle.std.specs.Prelude.{ℕ, ◌≡◌, ◌==◌, not, Bool, true, false, List, [], ◌∷◌, ◌++◌, Option, Some, None, Result, Ok, Err}
+use Rattle.std.specs.List.{list_all}
+use Rattle.ann_key.specs.declared.bytes.NoMemory.{NoMemory}
+use Rattle.annex_model.specs.Lines.{has_newline}
+use Rattle.annex_model.specs.Messages.{HostMessage, Transfer}
+use Rattle.journal_model.specs.declared.verdict.Verdict.{Verdict}
+use Rattle.journal_model.specs.declared.verdict.Verdict.TheVariants.{Ended, Unsent}
+
+-- a request, where it is kept, and its verdict
+pub record Asking : Type 0 where
+  pub request : Option HostMessage
+  pub verdict : Verdict
+
+-- a note that the remote has so many chunks of a size, and how many requests of the task were settled before it
+pub record Noting : Type 0 where
+  pub chunk : ℕ
+  pub count : ℕ
+  pub behind : ℕ
+
+-- the verdict is that of a child that had ended or was mute
+abbrev pub is_gone : Verdict → Bool
+is_gone (Ended why) = true
+is_gone Unsent = true
+is_gone _ = false
+
+-- the request is kept; it may be left out only where its child had ended or was mute
+abbrev pub IsKept : HostMessage → Option HostMessage → Verdict → Type 0
+IsKept q (Some kept) v = kept ≡ q
+IsKept q None v = is_gone v ≡ true
+
+-- one pair more, of this request and its verdict
+pub record AsksOne (old new : List Asking) (q : HostMessage) (v : Verdict) : Type 0 where
+  pub request : Option HostMessage
+  pub kept : IsKept q request v
+  pub added : new ≡ old ++ record { request = request; verdict = v } ∷ []
+
+-- without memory nothing was asked
+abbrev pub AskAdds : List Asking → List Asking → HostMessage → Result Verdict NoMemory → Type 0
+AskAdds old new q (Ok v) = AsksOne old new q v
+AskAdds old new q (Err e) = new ≡ old
+
+-- without memory nothing was noted
+abbrev pub NoteAdds : List Noting → List Noting → Noting → Result (Unit {0}) NoMemory → Type 0
+NoteAdds old new note (Ok done) = new ≡ old ++ note ∷ []
+NoteAdds old new note (Err e) = new ≡ old
+
+-- the file that the message names, if it names one, holds no line's end
+abbrev pub names_in_line : HostMessage → Bool
+names_in_line (Transfer store key file) = not (has_newline file)
+names_in_line q = true
+
+-- the chunks of each layout hold something
+abbrev pub are_layouts : List (ℕ × ℕ) → Bool
+are_layouts layouts = list_all (λ (layout : ℕ × ℕ). not (layout.0 == 0)) layouts
+
+-- what no call of an asker changes: its task, whether that may note, and what the asker borrows
+pub record IsSameTask (task task' : ℕ) (may_note may_note' : Bool) (loans loans' : List ℕ) : Type 0 where
+  pub task_is : task' ≡ task
+  pub may_note_is : may_note' ≡ may_note
+  pub loans_are : loans' ≡ loans

@@ -1,0 +1,4 @@
+pub mod Lined
+pub mod Taking
+pub mod Given
+pub mod Cuts

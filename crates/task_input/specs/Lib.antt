@@ -1,0 +1,5 @@
+pub mod InputLines
+pub mod Inputs
+pub mod Reads
+pub mod Steps
+pub mod Rows

@@ -1,0 +1,12 @@
+use Rattle.task_run.proofs.PlainRuns.{check_nothing_ran, check_once_ran, task_key_sent, or_memory}
+use Rattle.task_run.proofs.plain.check.Goals as goal
+
+pub present-requires-clause-key : goal.present-requires-clause-key
+present-requires-clause-key g c = rw c.view.ensures (task_key_sent c.args.task.now.key c.requires.task.key_class)
+
+pub returns-in-Ok-clause-ran : goal.returns-in-Ok-clause-ran
+returns-in-Ok-clause-ran g c =
+    or_memory _ _ _ _ _ _ c.check_answer.ensures (check_once_ran _ _ _ _ _ c.requires.work (rw c.view.ensures at c.in-Ok.ensures.pairs) (rw c.view.ensures at c.in-Ok.ensures.verdict))
+
+pub returns-in-Err-clause-ran : goal.returns-in-Err-clause-ran
+returns-in-Err-clause-ran g c = rw c.in-Err.ensures.pairs (check_nothing_ran _ _ _ _ c.requires.work)

@@ -1,0 +1,93 @@
+-- What a journal has of one run of a task: what it asked, what it noted, and how it was answered.
+use Rattle.std.specs.Prelude.{ℕ, ◌≡◌, ◌+◌, ◌-◌, ◌==◌, nat_le, Bool, false, if◌then◌else◌, List, [], ◌∷◌, ◌++◌, length, Option, Some, None, option_map}
+use Rattle.std.specs.List.{cons_option}
+use Rattle.annex_model.specs.Messages.{host_reading}
+use Rattle.journal_model.specs.declared.answer.Answer.{Answer}
+use Rattle.journal_model.specs.declared.verdict.Why.{Why}
+use Rattle.journal_model.specs.declared.verdict.Verdict.{Verdict}
+use Rattle.journal_model.specs.declared.verdict.Verdict.TheVariants.{Ended, Unsent}
+use Rattle.journal_model.specs.declared.entry.What.{What}
+use Rattle.journal_model.specs.declared.entry.What.TheVariants.{Claim, Ask, Lost, Note, Answer as Answered}
+use Rattle.journal_model.specs.declared.entry.Entry.{Entry}
+use Rattle.journal_model.specs.Journal.{any, verdict_of, why_of, addressed, is_tagged}
+use Rattle.task_asker.specs.Askings.{Asking, Noting}
+
+-- ---- what a task asked
+
+-- what a Lost stands for: the end of its child, or else its mute
+abbrev pub lost_verdict : Option Why → Verdict
+lost_verdict None = Unsent
+lost_verdict (Some why) = Ended why
+
+-- What the entry asks for task t, where it stands behind past: the request that an Ask spells with its tag taken off, if
+-- its job was settled; or a request that found its child ended or mute.
+abbrev pub asking_of : List Entry → ℕ → List Entry → What → Option Asking
+asking_of journal t past (Ask child job task line) =
+    if task == t
+    then option_map (λ v. record { request = host_reading (addressed past child line).1; verdict = v }) (verdict_of journal child job)
+    else None
+asking_of journal t past (Lost child task) =
+    if task == t then Some (record { request = None; verdict = lost_verdict (why_of past child) }) else None
+asking_of journal t past _ = None
+
+-- the askings of the entries in order, by recursion with what stands before
+abbrev pub askings_from : List Entry → ℕ → List Entry → List Entry → List Asking
+askings_from journal t past [] = []
+askings_from journal t past (e ∷ rest) = cons_option (asking_of journal t past e.what) (askings_from journal t (past ++ e ∷ []) rest)
+
+-- the settled requests of task t
+abbrev pub askings : List Entry → ℕ → List Asking
+askings journal t = askings_from journal t [] journal
+
+-- ---- what it noted
+
+-- what the entry notes for task t, behind so many of its requests
+abbrev pub noting_of : ℕ → ℕ → What → Option Noting
+noting_of t behind (Note task chunk count) = if task == t then Some (record { chunk = chunk; count = count; behind = behind }) else None
+noting_of t behind _ = None
+
+-- the notes of the entries in order, each behind the requests before it
+abbrev pub notings_from : List Entry → ℕ → List Entry → ℕ → List Entry → List Noting
+notings_from journal t past behind [] = []
+notings_from journal t past behind (e ∷ rest) =
+    cons_option (noting_of t behind e.what)
+    (notings_from journal t (past ++ e ∷ []) (behind + length (cons_option (asking_of journal t past e.what) [])) rest)
+
+-- ---- a run
+
+-- the entry claims task t, or answers it
+abbrev pub bounds_run : ℕ → What → Bool
+bounds_run t (Claim task child) = task == t
+bounds_run t (Answered task answer) = task == t
+bounds_run t _ = false
+
+-- One run of task t: the entries from one that claims it to the next that answers it. What stands between may be other tasks'.
+pub record TaskStretch (journal : List Entry) (t : ℕ) : Type 0 where
+  pub past : List Entry
+  pub by : ℕ
+  pub child : ℕ
+  pub within : List Entry
+  pub answered_by : ℕ
+  pub answer : Answer
+  pub rest : List Entry
+  pub is : journal ≡ past ++ record { by = by; what = Claim t child } ∷ within ++ record { by = answered_by; what = Answered t answer } ∷ rest
+  pub one : any (bounds_run t) within ≡ false
+
+-- what stands before its first entry behind the claim
+abbrev pub past_claim : {journal : List Entry} → {t : ℕ} → TaskStretch journal t → List Entry
+past_claim {journal} {t} run = run.past ++ record { by = run.by; what = Claim t run.child } ∷ []
+
+-- its settled requests, and its notes
+abbrev pub run_askings : {journal : List Entry} → {t : ℕ} → TaskStretch journal t → List Asking
+run_askings {journal} {t} run = askings_from journal t (past_claim run) run.within
+
+abbrev pub run_notings : {journal : List Entry} → {t : ℕ} → TaskStretch journal t → List Noting
+run_notings {journal} {t} run = notings_from journal t (past_claim run) 0 run.within
+
+-- The number of the desk of a number that claims for this child. The main thread uses the first worker's. Over a tagged child the
+-- numbers 1 to 3 are the main thread's, the ear's and the mouth's, and in a pool number 1 is the main thread's.
+abbrev pub desk_of : List Entry → ℕ → ℕ → ℕ
+desk_of journal by child = if nat_le by 1 then 1 else if is_tagged journal child then by - 3 else by - 1
+
+abbrev pub run_desk : {journal : List Entry} → {t : ℕ} → TaskStretch journal t → ℕ
+run_desk {journal} run = desk_of journal run.by run.child

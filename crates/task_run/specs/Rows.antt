@@ -1,0 +1,210 @@
+-- Runs of tasks, as examples.
+use Rattle.std.specs.Prelude.{ℕ, true, false, List, [], ◌∷◌, ◌++◌, codes, Some, Ok, Err}
+use Rattle.journal_model.specs.declared.verdict.Verdict.{Verdict}
+use Rattle.journal_model.specs.declared.verdict.Verdict.TheVariants.{Done, Absent}
+use Rattle.annex_model.specs.Messages.{HostMessage, Transfer, Checkpresent, Remove as RemoveKey}
+use Rattle.task_text.specs.declared.task.Work.{Work}
+use Rattle.task_text.specs.declared.task.Work.TheVariants.{Store, Get, Check, Drop}
+use Rattle.task_text.specs.declared.task.Task.{Task}
+use Rattle.ann_outside.specs.declared.file_desk.DeskError.TheVariants.{Missing}
+use Rattle.ann_outside.specs.declared.file_desk.Call.{Call}
+use Rattle.ann_outside.specs.declared.file_desk.Call.TheVariants.{Size, ReadAt, Create, Append, Cut, Rename, Remove}
+use Rattle.task_asker.specs.Askings.{Asking, Noting}
+use Rattle.task_run.specs.declared.setup.Setup.{Setup}
+
+abbrev pub task_of : Work → List ℕ → List ℕ → Task
+task_of work key file = record { work = work; key = key; file = file }
+
+abbrev pub setup_of : ℕ → Setup
+setup_of chunk = record { work = codes "w"; stamp = 1700000000000000; chunk = chunk }
+
+abbrev pub asks : HostMessage → Verdict → Asking
+asks q v = record { request = Some q; verdict = v }
+
+abbrev pub notes : ℕ → ℕ → ℕ → Noting
+notes chunk count behind = record { chunk = chunk; count = count; behind = behind }
+
+-- ---- plain
+
+-- a store of a file of two bytes, as the key of one that may have any length
+abbrev pub store_a : Task
+store_a = task_of Store (codes "WORM--a") (codes "f")
+
+abbrev pub stores_a : Verdict → List Asking
+stores_a v = asks (Transfer true (codes "WORM--a") (codes "f")) v ∷ []
+
+-- the length of a file
+abbrev pub sized : List ℕ → ℕ → List Call
+sized name n = Size name (Ok n) ∷ []
+
+abbrev pub get_abc : Task
+get_abc = task_of Get (codes "WORM-s3--a") (codes "o")
+
+abbrev pub fetched_1 : List ℕ
+fetched_1 = codes "w/1700000000000000-1-1.fetch"
+
+abbrev pub gets_abc : Verdict → List Asking
+gets_abc v = asks (Transfer false (codes "WORM-s3--a") fetched_1) v ∷ []
+
+-- a fetched file is moved to part, which is empty at first
+abbrev pub moved : List ℕ → List ℕ → List ℕ → List Call
+moved name part bytes = ReadAt name 0 (Ok bytes) ∷ Append part bytes (Ok tt) ∷ Remove name (Ok tt) ∷ []
+
+abbrev pub got_abc : List ℕ → List Call
+got_abc bytes = sized fetched_1 3 ++ Create (codes "o.part") (Ok tt) ∷ moved fetched_1 (codes "o.part") bytes
+
+abbrev pub renamed : List Call
+renamed = Rename (codes "o.part") (codes "o") (Ok tt) ∷ []
+
+abbrev pub part_gone : List Call
+part_gone = Remove (codes "o.part") (Ok tt) ∷ []
+
+-- ---- in chunks
+
+abbrev pub ten : List ℕ
+ten = codes "WORM-s10--ten"
+
+abbrev pub ten_bytes : List ℕ
+ten_bytes = codes "0123456789"
+
+abbrev pub c1 : List ℕ
+c1 = codes "WORM-s10-S4-C1--ten"
+
+abbrev pub c2 : List ℕ
+c2 = codes "WORM-s10-S4-C2--ten"
+
+abbrev pub c3 : List ℕ
+c3 = codes "WORM-s10-S4-C3--ten"
+
+abbrev pub store_ten : Task
+store_ten = task_of Store ten (codes "f")
+
+abbrev pub chunk_2 : List ℕ
+chunk_2 = codes "w/1700000000000000-1-2.chunk"
+
+abbrev pub chunk_3 : List ℕ
+chunk_3 = codes "w/1700000000000000-1-3.chunk"
+
+abbrev pub chunk_4 : List ℕ
+chunk_4 = codes "w/1700000000000000-1-4.chunk"
+
+-- the first chunk isn't there, and all are stored
+abbrev pub stores_ten : List Asking
+stores_ten =
+    asks (Checkpresent c1) (Absent 13) ∷ asks (Transfer true c1 chunk_2) (Done 16) ∷ asks (Transfer true c2 chunk_3) (Done 19)
+    ∷ asks (Transfer true c3 chunk_4) (Done 22) ∷ []
+
+-- a chunk's file is made of bytes of the task's file
+abbrev pub cut_out : List ℕ → ℕ → List ℕ → List Call
+cut_out name from bytes = Create name (Ok tt) ∷ ReadAt (codes "f") from (Ok bytes) ∷ Append name bytes (Ok tt) ∷ []
+
+abbrev pub dropped_file : List ℕ → List Call
+dropped_file name = Remove name (Ok tt) ∷ []
+
+abbrev pub stored_ten : List Call
+stored_ten =
+    sized (codes "f") 10 ++ cut_out chunk_2 0 (codes "0123") ++ dropped_file chunk_2 ++ cut_out chunk_3 4 (codes "4567") ++ dropped_file chunk_3
+    ++ cut_out chunk_4 8 (codes "89") ++ dropped_file chunk_4
+
+-- all chunks are there
+abbrev pub finds_ten : List Asking
+finds_ten = asks (Checkpresent c1) (Done 13) ∷ asks (Checkpresent c2) (Done 16) ∷ asks (Checkpresent c3) (Done 19) ∷ []
+
+-- the file shrank behind the second chunk
+abbrev pub stored_short : List Call
+stored_short =
+    sized (codes "f") 10 ++ cut_out chunk_2 0 (codes "0123") ++ dropped_file chunk_2 ++ cut_out chunk_3 4 (codes "45")
+    ++ ReadAt (codes "f") 6 (Ok []) ∷ []
+
+abbrev pub empty_key : List ℕ
+empty_key = codes "SHA256E-s0--e3b0c44298fc1c149afbf4c8996fb92427ae41e4649b934ca495991b7852b855"
+
+abbrev pub empty_c1 : List ℕ
+empty_c1 = codes "SHA256E-s0-S4-C1--e3b0c44298fc1c149afbf4c8996fb92427ae41e4649b934ca495991b7852b855"
+
+abbrev pub stores_empty : List Asking
+stores_empty = asks (Checkpresent empty_c1) (Absent 13) ∷ asks (Transfer true empty_c1 chunk_2) (Done 16) ∷ []
+
+abbrev pub stored_empty : List Call
+stored_empty = sized (codes "f") 0 ++ Create chunk_2 (Ok tt) ∷ Remove chunk_2 (Ok tt) ∷ []
+
+-- what is left of a fetch is taken up
+abbrev pub get_ten : Task
+get_ten = task_of Get ten (codes "o")
+
+abbrev pub gets_ten : List Asking
+gets_ten = asks (Transfer false c3 fetched_1) (Done 13) ∷ []
+
+abbrev pub resumed_ten : List Call
+resumed_ten =
+    sized (codes "o.part") 9 ++ Cut (codes "o.part") 8 (Ok tt) ∷ ReadAt (codes "o.part") 0 (Ok (codes "01234567")) ∷ sized fetched_1 2
+    ++ moved fetched_1 (codes "o.part") (codes "89") ++ renamed
+
+-- the same without a look at what part held
+abbrev pub unread_ten : List Call
+unread_ten =
+    sized (codes "o.part") 9 ++ Cut (codes "o.part") 8 (Ok tt) ∷ sized fetched_1 2 ++ moved fetched_1 (codes "o.part") (codes "89") ++ renamed
+
+-- and with a look at its first half alone, which doesn't fit then
+abbrev pub half_read_ten : List Call
+half_read_ten =
+    sized (codes "o.part") 9 ++ Cut (codes "o.part") 8 (Ok tt) ∷ ReadAt (codes "o.part") 0 (Ok (codes "0123")) ∷ sized fetched_1 2
+    ++ moved fetched_1 (codes "o.part") (codes "89") ++ part_gone
+
+abbrev pub get_none : Task
+get_none = task_of Get (codes "WORM-s0--e") (codes "o")
+
+-- the first fetched chunk is too short, and the next is asked all the same
+abbrev pub goes_on_ten : List Asking
+goes_on_ten = asks (Transfer false c1 fetched_1) (Done 13) ∷ asks (Transfer false c2 (codes "w/1700000000000000-1-2.fetch")) (Done 16) ∷ []
+
+abbrev pub short_then_more : List Call
+short_then_more =
+    Size (codes "o.part") (Err Missing) ∷ Create (codes "o.part") (Ok tt) ∷ sized fetched_1 3 ++ sized (codes "w/1700000000000000-1-2.fetch") 4 ++ part_gone
+
+abbrev pub drop_ten : Task
+drop_ten = task_of Drop ten []
+
+abbrev pub drops_ten : List Asking
+drops_ten =
+    asks (RemoveKey c1) (Done 13) ∷ asks (RemoveKey c2) (Done 16) ∷ asks (RemoveKey c3) (Done 19) ∷ asks (RemoveKey ten) (Done 22) ∷ []
+
+abbrev pub check_ten : Task
+check_ten = task_of Check ten []
+
+abbrev pub checks_ten : List Asking
+checks_ten = asks (Checkpresent c1) (Done 13) ∷ asks (Checkpresent c2) (Absent 16) ∷ asks (Checkpresent ten) (Absent 19) ∷ []
+
+-- a key that names its content's digest, of which part holds two chunks of one byte
+abbrev pub abc : List ℕ
+abc = codes "MD5-s3--900150983cd24fb0d6963f7d28e17f72"
+
+abbrev pub abc_2 : List ℕ
+abc_2 = codes "MD5-s3-S2-C2--900150983cd24fb0d6963f7d28e17f72"
+
+abbrev pub get_md5 : Task
+get_md5 = task_of Get abc (codes "o")
+
+abbrev pub gets_md5 : List Asking
+gets_md5 = asks (Transfer false abc_2 fetched_1) (Done 13) ∷ []
+
+abbrev pub resumed_foo : List Call
+resumed_foo =
+    sized (codes "o.part") 2 ++ Cut (codes "o.part") 2 (Ok tt) ∷ ReadAt (codes "o.part") 0 (Ok (codes "fo")) ∷ sized fetched_1 1
+    ++ moved fetched_1 (codes "o.part") (codes "o") ++ part_gone
+
+abbrev pub gets_whole_md5 : List Asking
+gets_whole_md5 = asks (Transfer false abc fetched_1) (Done 13) ∷ []
+
+abbrev pub fetched_foo : List Call
+fetched_foo = sized fetched_1 3 ++ Create (codes "o.part") (Ok tt) ∷ moved fetched_1 (codes "o.part") (codes "foo") ++ part_gone
+
+-- what one task stores another gets
+abbrev pub fetched_2_1 : List ℕ
+fetched_2_1 = codes "w/1700000000000000-2-1.fetch"
+
+abbrev pub gets_hi : List Asking
+gets_hi = asks (Transfer false (codes "WORM-s2--a") fetched_2_1) (Done 18) ∷ []
+
+abbrev pub got_hi : List Call
+got_hi = sized fetched_2_1 2 ++ Create (codes "o.part") (Ok tt) ∷ moved fetched_2_1 (codes "o.part") (codes "hi") ++ renamed

@@ -1,0 +1,77 @@
+-- What a task asked, did at its desk and noted, and how it is answered.
+use Rattle.std.specs.Prelude.{ℕ, ◌≡◌, ◌+◌, ◌==◌, ◌&&◌, not, if◌then◌else◌, Bool, true, List, [], ◌∷◌, ◌++◌, length, IfSome, is_some}
+use Rattle.std.specs.Bool.{MatchBool}
+use Rattle.std.specs.List.{list_all}
+use Rattle.ann_key.specs.Keys.{Parts, key_reading}
+use Rattle.task_text.specs.declared.task.Work.{Work}
+use Rattle.task_text.specs.declared.task.Work.TheVariants.{Store, Get, Check, Drop}
+use Rattle.task_text.specs.declared.task.Task.{Task}
+use Rattle.ann_outside.specs.declared.file_desk.Call.{Call}
+use Rattle.task_asker.specs.Askings.{Asking, Noting}
+use Rattle.journal_model.specs.declared.answer.Answer.{Answer}
+use Rattle.task_run.specs.declared.setup.Setup.{Setup}
+use Rattle.task_run.specs.Stops.{asking_stop, call_stop, is_stop_last, stops_of, AnsweredBy, is_done}
+use Rattle.task_run.specs.Names.{chunk_files, fetch_file, fetch_files, part_of}
+use Rattle.task_run.specs.Layouts.{sizes_tried, layouts_tried}
+use Rattle.task_run.specs.Discipline.{name_only, change_only, size_of_only, changes_as_result, are_found}
+use Rattle.task_run.specs.Checks.{CheckAsks, CheckAnswers}
+use Rattle.task_run.specs.Drops.{DropAsks, DropAnswers}
+use Rattle.task_run.specs.Stores.{PlainStoreAsks, PlainStoreAnswers, ChunkStoreAsks, ChunkStoreAnswers}
+use Rattle.task_run.specs.Gets.{GetAsks, GetAnswers}
+
+-- the files that the requests fetched which are done
+abbrev pub fetched_files : Setup → ℕ → ℕ → List Asking → List (List ℕ)
+fetched_files setup t n [] = []
+fetched_files setup t n (a ∷ more) = (if is_done a then fetch_file setup t n ∷ [] else []) ++ fetched_files setup t (n + 1) more
+
+-- A store names its file and its chunk files, and changes its chunk files alone. It asks the length of its file.
+pub record StoreCalls (setup : Setup) (t : ℕ) (file : List ℕ) (asked : List Asking) (calls : List Call) : Type 0 where
+  pub names : name_only (file ∷ chunk_files setup t (length asked + 1)) calls ≡ true
+  pub changes : change_only (chunk_files setup t (length asked + 1)) calls ≡ true
+  pub lengths : size_of_only (file ∷ []) calls ≡ true
+
+-- A get names its file, part and the files that it fetches, and changes its file only by renaming part to it, or removing it as a fetched
+-- file. It asks the length of part, and of a file that was fetched.
+pub record GetCalls (setup : Setup) (t : ℕ) (file : List ℕ) (asked : List Asking) (calls : List Call) : Type 0 where
+  pub names : name_only (file ∷ part_of file ∷ fetch_files setup t (length asked)) calls ≡ true
+  pub changes : list_all (changes_as_result file (fetch_files setup t (length asked))) calls ≡ true
+  pub lengths : size_of_only (part_of file ∷ fetched_files setup t 1 asked) calls ≡ true
+
+-- ---- by the work
+
+-- content is stored in chunks where a chunk size is set and the key says the content's size
+abbrev pub is_chunked : Setup → Parts → Bool
+is_chunked setup key = not (setup.chunk == 0) && is_some key.size
+
+abbrev pub WorkAsks : Setup → ℕ → Task → Parts → List (ℕ × ℕ) → Work → List Asking → List Call → List Noting → Type 0
+WorkAsks setup t task key layouts Store asked calls noted =
+    StoreCalls setup t task.file asked calls
+    × MatchBool (is_chunked setup key) (ChunkStoreAsks setup t key task.file asked calls noted)
+    (PlainStoreAsks key task.file asked calls × (noted ≡ []))
+WorkAsks setup t task key layouts Get asked calls noted =
+    GetCalls setup t task.file asked calls × GetAsks setup t key (sizes_tried key layouts) task.file asked calls × (noted ≡ [])
+WorkAsks setup t task key layouts Check asked calls noted = CheckAsks (layouts_tried key layouts) asked × (calls ≡ []) × (noted ≡ [])
+WorkAsks setup t task key layouts Drop asked calls noted = DropAsks key (sizes_tried key layouts) asked noted × (calls ≡ [])
+
+abbrev pub WorkAnswers : Setup → ℕ → Task → Parts → List (ℕ × ℕ) → Work → List Asking → List Call → List Noting → Answer → Type 0
+WorkAnswers setup t task key layouts Store asked calls noted answer =
+    MatchBool (is_chunked setup key) (ChunkStoreAnswers setup t key task.file asked calls noted answer) (PlainStoreAnswers key task.file asked calls answer)
+WorkAnswers setup t task key layouts Get asked calls noted answer = GetAnswers setup t key (sizes_tried key layouts) task.file asked calls answer
+WorkAnswers setup t task key layouts Check asked calls noted answer = CheckAnswers (layouts_tried key layouts) asked answer
+WorkAnswers setup t task key layouts Drop asked calls noted answer = DropAnswers key (sizes_tried key layouts) asked answer
+
+-- ---- any task
+
+pub record RunOf (setup : Setup) (t : ℕ) (task : Task) (key : Parts) (layouts : List (ℕ × ℕ)) (asked : List Asking) (calls : List Call) (noted : List Noting) (answer : Answer) : Type 0 where
+  -- nothing is asked behind a verdict that ends the task, and no call follows one that does
+  pub asked_till_stop : is_stop_last (asking_stop task.work) asked ≡ true
+  pub calls_till_stop : is_stop_last (call_stop (part_of task.file)) calls ≡ true
+  -- each file that a call needs was found or made before
+  pub found : are_found (part_of task.file) [] calls ≡ true
+  pub work : WorkAsks setup t task key layouts task.work asked calls noted
+  pub answered : AnsweredBy (stops_of task.work (part_of task.file) asked calls) answer (WorkAnswers setup t task key layouts task.work asked calls noted answer)
+
+-- The run of task number t: its settled requests, its desk's calls, its notes, and its answer. Want of memory may end it early.
+abbrev pub TaskRun : Task → ℕ → Setup → List (ℕ × ℕ) → List Asking → List Call → List Noting → Answer → Type 0
+TaskRun task t setup layouts asked calls noted answer =
+    IfSome (key_reading task.key) (λ key. RunOf setup t task key layouts asked calls noted answer)

@@ -1,0 +1,76 @@
+// The requests of a task, made, asked and let go.
+//
+// A request is asked in a function of its own, since what lets it go goes by its kinds.
+ghost use Rattle.std.specs.Prelude.{◌≡◌, true, false, IfOk};
+ghost use Rattle.ann_key.specs.KeyRefs.{text_of};
+ghost use Rattle.annex_model.specs.Lines.{has_newline};
+ghost use Rattle.annex_model.specs.Messages.{Checkpresent, Remove, Transfer, is_sent_key};
+ghost use Rattle.task_asker.specs.Askings.{AskAdds, IsSameTask};
+ghost use Rattle.task_run.specs.Ran.{is_verdict_of};
+
+use ann_key::{Key, KeyRef, NoMemory, Text};
+use journal_model::Verdict;
+use std::alloc::Global;
+use talk_serial::Request;
+use task_asker::Asker;
+
+// Whether the key is there.
+pub fn present<A: Asker>(
+    alloc: Global,
+    asker: &mut A,
+    number: u32,
+    key: KeyRef<'_>,
+) -> Result<Verdict, NoMemory>
+    requires task { number ≡ A.task asker.old }
+    requires key { is_sent_key (text_of key) ≡ true }
+    ensures pairs { AskAdds (A.pairs asker.old) (A.pairs asker.new) (Checkpresent (text_of key.entry)) result }
+    ensures verdict { IfOk result (λ v. is_verdict_of (Checkpresent (text_of key.entry)) v ≡ true) }
+    ensures notes { A.notes asker.new ≡ A.notes asker.old }
+    ensures layouts { A.current asker.new ≡ A.current asker.old }
+    ensures same { IsSameTask (A.task asker.old) (A.task asker.new) (A.may_note asker.old) (A.may_note asker.new) (A.loans asker.old) (A.loans asker.new) }
+{
+    let key = Key::copy(alloc, key)?;
+    asker.ask(alloc, number, &Request::CheckPresent { key })
+}
+
+// That the key be removed.
+pub fn remove<A: Asker>(
+    alloc: Global,
+    asker: &mut A,
+    number: u32,
+    key: KeyRef<'_>,
+) -> Result<Verdict, NoMemory>
+    requires task { number ≡ A.task asker.old }
+    requires key { is_sent_key (text_of key) ≡ true }
+    ensures pairs { AskAdds (A.pairs asker.old) (A.pairs asker.new) (Remove (text_of key.entry)) result }
+    ensures verdict { IfOk result (λ v. is_verdict_of (Remove (text_of key.entry)) v ≡ true) }
+    ensures notes { A.notes asker.new ≡ A.notes asker.old }
+    ensures layouts { A.current asker.new ≡ A.current asker.old }
+    ensures same { IsSameTask (A.task asker.old) (A.task asker.new) (A.may_note asker.old) (A.may_note asker.new) (A.loans asker.old) (A.loans asker.new) }
+{
+    let key = Key::copy(alloc, key)?;
+    asker.ask(alloc, number, &Request::Remove { key })
+}
+
+// That the file be stored as the key, or the key fetched into the file.
+pub fn transfer<A: Asker>(
+    alloc: Global,
+    asker: &mut A,
+    number: u32,
+    store: bool,
+    key: KeyRef<'_>,
+    file: &str,
+) -> Result<Verdict, NoMemory>
+    requires task { number ≡ A.task asker.old }
+    requires key { is_sent_key (text_of key) ≡ true }
+    requires file { has_newline file.now ≡ false }
+    ensures pairs { AskAdds (A.pairs asker.old) (A.pairs asker.new) (Transfer store (text_of key.entry) file.now) result }
+    ensures verdict { IfOk result (λ v. is_verdict_of (Transfer store (text_of key.entry) file.now) v ≡ true) }
+    ensures notes { A.notes asker.new ≡ A.notes asker.old }
+    ensures layouts { A.current asker.new ≡ A.current asker.old }
+    ensures same { IsSameTask (A.task asker.old) (A.task asker.new) (A.may_note asker.old) (A.may_note asker.new) (A.loans asker.old) (A.loans asker.new) }
+{
+    let key = Key::copy(alloc, key)?;
+    let file = Text::copy(alloc, file)?;
+    asker.ask(alloc, number, &Request::Transfer { store, key, file })
+}

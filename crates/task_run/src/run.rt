@@ -1,0 +1,40 @@
+// One task, in the plain layout.
+ghost use Rattle.std.specs.Prelude.{◌≡◌, [], false};
+ghost use Rattle.annex_model.specs.Lines.{has_newline};
+ghost use Rattle.task_text.specs.TaskLines.{IsTask};
+ghost use Rattle.task_run.specs.Ran.{Ran, HasTaskCauses};
+
+use crate::get::get;
+use crate::plain::{check, drop_key};
+use crate::setup::Setup;
+use crate::store::store;
+use ann_key::NoMemory;
+use ann_outside::Desk;
+use journal_model::Answer;
+use std::alloc::Global;
+use task_asker::Asker;
+use task_text::{Task, Work};
+
+/// Does the task by what its child is asked and what stands on the desk.
+pub fn run_task<A: Asker, D: Desk>(
+    alloc: Global,
+    task: &Task,
+    number: u32,
+    setup: &Setup,
+    asker: &mut A,
+    desk: &mut D,
+) -> Result<Answer, NoMemory>
+    requires task { IsTask task.now }
+    requires folder { has_newline setup.now.work ≡ false }
+    requires whole { setup.now.chunk ≡ 0 }
+    requires number { number ≡ A.task asker.old }
+    ensures ran { Ran task.now number setup.now [] (A.pairs asker.old) (A.pairs asker.new) (A.notes asker.old) (A.notes asker.new) (D.log desk.old) (D.log desk.new) result }
+    ensures causes { HasTaskCauses (D.counts desk.old) (D.counts desk.new) result }
+{
+    match task.work {
+        Work::Store => store(alloc, task, number, asker, desk),
+        Work::Get => get(alloc, task, number, setup, asker, desk),
+        Work::Check => check(alloc, task, number, asker),
+        Work::Drop => drop_key(alloc, task, number, asker),
+    }
+}

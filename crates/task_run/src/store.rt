@@ -1,0 +1,67 @@
+// Storing content whole.
+ghost use Rattle.std.specs.Prelude.{◌≡◌, [], true, false, Some};
+ghost use Rattle.task_text.specs.TaskLines.{IsTask};
+ghost use Rattle.task_text.specs.declared.task.Work.TheVariants as W;
+ghost use Rattle.task_run.specs.Stores.{is_size};
+ghost use Rattle.task_run.specs.Ran.{RanPlain, refusal, HasTaskCauses};
+
+use crate::answers::change_answer;
+use crate::ask;
+use ann_key::NoMemory;
+use ann_outside::{Desk, DeskError};
+use journal_model::Answer;
+use std::alloc::Global;
+use task_asker::Asker;
+use task_text::Task;
+
+pub fn is_size(size: Option<u64>, n: u64) -> bool
+    ensures { result ≡ is_size size n }
+{
+    match size {
+        Some(size) => n == size,
+        None => true,
+    }
+}
+
+/// Has the file stored as the key, if it has the key's size.
+pub fn store<A: Asker, D: Desk>(
+    alloc: Global,
+    task: &Task,
+    number: u32,
+    asker: &mut A,
+    desk: &mut D,
+) -> Result<Answer, NoMemory>
+    requires task { IsTask task.now }
+    requires work { task.now.work ≡ W.Store }
+    requires number { number ≡ A.task asker.old }
+    ensures ran { RanPlain task.now number [] (A.pairs asker.old) (A.pairs asker.new) (D.log desk.old) (D.log desk.new) result }
+    ensures notes { A.notes asker.new ≡ A.notes asker.old }
+    ensures causes { HasTaskCauses (D.counts desk.old) (D.counts desk.new) result }
+{
+    let key = task.key.view();
+    let file = task.file.view();
+    match desk.size(file) {
+        Ok(n) => {
+            if is_size(key.size(), n) {
+                match ask::transfer(alloc, asker, number, true, key, file) {
+                    Ok(verdict) => Ok(change_answer(Answer::Stored, verdict)),
+                    Err(error) => Err(error),
+                }
+            } else {
+                Ok(Answer::Size { bytes: n })
+            }
+        }
+        Err(error) => refused(error),
+    }
+}
+
+// A call of the desk was refused.
+pub fn refused(error: DeskError) -> Result<Answer, NoMemory>
+    ensures { result ≡ refusal error }
+{
+    match error {
+        DeskError::Failed => Ok(Answer::FileFault),
+        DeskError::Missing => Ok(Answer::NoFile),
+        DeskError::NoMemory => Err(NoMemory),
+    }
+}

@@ -1,0 +1,189 @@
+// One task over a desk in memory and a script of verdicts, and what came of it.
+ghost use Rattle.std.specs.Prelude.{◌≡◌, [], ℕ, length, IfOk};
+ghost use Rattle.annex_model.specs.Lines.{has_newline};
+ghost use Rattle.task_text.specs.TaskLines.{IsTask};
+
+use crate::script::ScriptAsker;
+use ann_key::{Bytes, NoMemory, Text};
+use ann_outside::{Call, DeskError, MemDesk};
+use journal_model::{Answer, Verdict, Why};
+use std::alloc::{AllocError, Global};
+use std::str;
+use std::test::Fail;
+use talk_serial::Request;
+use task_run::{Setup, run_task};
+use task_text::{Task, Work, read_task};
+
+/// A task's line, the files that stand on its desk, which of the desk's calls fail, and the verdicts of its requests.
+#[derive(Clone, Copy)]
+pub struct Case<'a> {
+    pub line: &'a str,
+    pub files: &'a [(&'a str, &'a str)],
+    pub fails: &'a [u64],
+    pub verdicts: &'a [Verdict],
+}
+
+/// What came of it: the answer, the requests and the calls, as text, and the desk.
+#[derive(Drop)]
+pub struct Outcome {
+    pub answer: String,
+    pub asked: String,
+    pub calls: String,
+    pub desk: MemDesk,
+}
+
+/// A desk with these files, on which the listed calls fail.
+pub fn desk_of(alloc: Global, files: &[(&str, &str)], fails: &[u64]) -> Result<MemDesk, NoMemory> {
+    let mut kept = Vec::new(alloc);
+    for (name, text) in files {
+        kept.push((
+            Text::copy(alloc, name)?,
+            Bytes::copy(alloc, text.as_bytes())?,
+        ))?;
+    }
+    MemDesk::new(alloc, kept, Vec::from_slice(alloc, fails)?)
+}
+
+/// The task as the run's task of that number, over that desk.
+pub fn run_on(
+    alloc: Global,
+    number: u32,
+    task: &Task,
+    verdicts: &[Verdict],
+    mut desk: MemDesk,
+) -> Result<Outcome, NoMemory>
+    requires { IsTask task.now }
+{
+    let setup = Setup {
+        work: Text::copy(alloc, "w")?,
+        stamp: 1_700_000_000_000_000,
+        chunk: 0,
+    };
+    let may_note = matches!(task.work, Work::Store | Work::Drop);
+    let verdicts = Vec::from_slice(alloc, verdicts)?;
+    let mut asker = ScriptAsker::new(alloc, number, may_note, Vec::new(alloc), verdicts);
+    let answer = run_task(alloc, task, number, &setup, &mut asker, &mut desk)?;
+    let answer = words(alloc, &answer)?;
+    let asked = asked_text(alloc, asker.asked())?;
+    let calls = calls_text(alloc, desk.log())?;
+    Ok(Outcome {
+        answer,
+        asked,
+        calls,
+        desk,
+    })
+}
+
+/// The case as task 1.
+pub fn run(alloc: Global, case: &Case<'_>) -> Result<Outcome, Fail> {
+    let task = read_task(alloc, case.line.as_bytes())?;
+    let desk = desk_of(alloc, case.files, case.fails)?;
+    Ok(run_on(alloc, 1, &task, case.verdicts, desk)?)
+}
+
+/// What the file holds, or a dash where there is none.
+pub fn held(alloc: Global, desk: &MemDesk, name: &str) -> Result<String, AllocError> {
+    match desk.content(name) {
+        Some(bytes) => String::from_utf8_lossy(alloc, bytes.view()),
+        None => String::from_str(alloc, "-"),
+    }
+}
+
+fn words(alloc: Global, answer: &Answer) -> Result<String, AllocError> {
+    match answer {
+        Answer::Stored => String::from_str(alloc, "stored"),
+        Answer::Got => String::from_str(alloc, "got"),
+        Answer::Present => String::from_str(alloc, "present"),
+        Answer::Dropped => String::from_str(alloc, "dropped"),
+        Answer::Absent => String::from_str(alloc, "absent"),
+        Answer::Unsupported => String::from_str(alloc, "unsupported"),
+        Answer::Unsent => String::from_str(alloc, "unsent"),
+        Answer::FileFault => String::from_str(alloc, "filefault"),
+        Answer::NoFile => String::from_str(alloc, "nofile"),
+        Answer::Failed { at } => format!(in alloc; "failed {at}"),
+        Answer::Unknown { at } => format!(in alloc; "unknown {at}"),
+        Answer::Ended { why: Why::Eof } => String::from_str(alloc, "ended eof"),
+        Answer::Size { bytes } => format!(in alloc; "size {bytes}"),
+        Answer::Hash { digest } => format!(in alloc; "hash {digest}"),
+        _ => String::from_str(alloc, "another answer"),
+    }
+}
+
+fn request_text(alloc: Global, request: &Request) -> Result<String, AllocError> {
+    match request {
+        Request::Transfer { store, key, file } => {
+            let way = if *store { "STORE" } else { "RETRIEVE" };
+            let key = str::from_utf8(key.view().text()).unwrap_or("(not text)");
+            let file = file.view();
+            format!(in alloc; "TRANSFER {way} {key} {file}")
+        }
+        Request::CheckPresent { key } => {
+            let key = str::from_utf8(key.view().text()).unwrap_or("(not text)");
+            format!(in alloc; "CHECKPRESENT {key}")
+        }
+        Request::Remove { key } => {
+            let key = str::from_utf8(key.view().text()).unwrap_or("(not text)");
+            format!(in alloc; "REMOVE {key}")
+        }
+        _ => String::from_str(alloc, "another request"),
+    }
+}
+
+fn asked_text(alloc: Global, asked: &[(Request, Verdict)]) -> Result<String, AllocError> {
+    let mut text = String::new(alloc);
+    for (request, _) in asked {
+        if !text.is_empty() {
+            text.push_str("; ")?;
+        }
+        let line = request_text(alloc, request)?;
+        text.push_str(line.as_str())?;
+    }
+    Ok(text)
+}
+
+fn answered<T>(answer: &Result<T, DeskError>) -> &'static str {
+    match answer {
+        Ok(_) => "",
+        Err(DeskError::Failed) => " failed",
+        Err(DeskError::Missing) => " missing",
+        Err(DeskError::NoMemory) => " no memory",
+    }
+}
+
+fn call_text(alloc: Global, call: &Call) -> Result<String, AllocError> {
+    match call {
+        Call::Size { name, answer } => {
+            format!(in alloc; "size {}{}", name.view(), answered(answer))
+        }
+        Call::ReadAt { name, from, answer } => {
+            format!(in alloc; "read {} {from}{}", name.view(), answered(answer))
+        }
+        Call::Create { name, answer } => {
+            format!(in alloc; "create {}{}", name.view(), answered(answer))
+        }
+        Call::Append { name, answer, .. } => {
+            format!(in alloc; "append {}{}", name.view(), answered(answer))
+        }
+        Call::Cut { name, size, answer } => {
+            format!(in alloc; "cut {} {size}{}", name.view(), answered(answer))
+        }
+        Call::Rename { from, to, answer } => {
+            format!(in alloc; "rename {} {}{}", from.view(), to.view(), answered(answer))
+        }
+        Call::Remove { name, answer } => {
+            format!(in alloc; "remove {}{}", name.view(), answered(answer))
+        }
+    }
+}
+
+fn calls_text(alloc: Global, calls: &[Call]) -> Result<String, AllocError> {
+    let mut text = String::new(alloc);
+    for call in calls {
+        if !text.is_empty() {
+            text.push_str("; ")?;
+        }
+        let line = call_text(alloc, call)?;
+        text.push_str(line.as_str())?;
+    }
+    Ok(text)
+}
