@@ -1,4 +1,4 @@
--- A child that was started just now has begun: it has said nothing and was asked nothing, and its link is a link to it.
+-- A child that was started just now has begun: it has said nothing and was asked nothing, and its link is wired to it.
 use Rattle.std.proofs.Common.{◌≡◌, ◌≢◌, ℕ, ◌+◌, ◌<◌, List, [], ◌∷◌, ◌++◌, refl, sym, ap, subst, ◌∙◌, length, length-append, append-nil, arith, Bool, true, false, ◌==◌, cond, Some, None, Option}
 use Rattle.std.specs.Prelude.{◌&&◌, ◌||◌, filter, IfSome, is_some}
 use Rattle.std.specs.List.{list_all, cons_option}
@@ -15,11 +15,13 @@ use Rattle.journal_model.proofs.Growing.{Legal-induction, StandsFrom-split}
 use Rattle.journal_model.proofs.Looks.{entry, both, same, same_number, differ, any-append, each_of-append}
 use Rattle.journal_model.proofs.Soft.{is_soft, soft_got, soft_mute, soft_verdicts}
 use Rattle.journal_model.proofs.Fresh.{Nothing, fresh}
-use Rattle.journal_model.proofs.Linking.{linked_start, why_is_end}
+use Rattle.journal_model.proofs.Linking.{Adds, nothing_both, why_is_end}
+use Rattle.journal_model.proofs.Ears.{ear_start}
+use Rattle.journal_model.proofs.Mouths.{mouth_start}
+use Rattle.journal_model.specs.Halves.{EarValue, MouthValue, LinkWired}
 use Rattle.journal_model.proofs.Heard.{heard_on}
 use Rattle.journal_model.proofs.Projecting.{invariant}
 use Rattle.annex_model.specs.Extensions.{names_of}
-use Rattle.child_link.specs.Links.{LinkValue, IsLinked}
 use Rattle.child_start.specs.Stages.{HasBegun}
 use Rattle.child_start.proofs.Jobs.{or_true, or_false}
 
@@ -168,21 +170,19 @@ module _ (o : Opening) (old new : List Entry) (c slot : ℕ) (offer : Bool) (num
     names = ap names_of offered;
   }
 
-  module _ {I O : Type 0} (taken : I → Option (List ℕ)) (wf : I → ℕ) (given : O → Option (List ℕ)) (left : O → Option (List ℕ)) (rf : O → ℕ) (link : LinkValue I O)
-      (child : link.child ≡ c) (held : link.held ≡ []) where
-    pub is_linked : IfSome (given link.outlet) (λ xs. xs ≡ []) → IfSome (taken link.inlet) (λ xs. xs ≡ []) → IsLinked taken wf given left rf new link
-    is_linked g t =
-        let linked = linked_start old c 0 slot offer (given link.outlet) (left link.outlet) (taken link.inlet) (rf link.outlet) (wf link.inlet) nothing g t in
-        subst (λ (l : LinkValue I O). IsLinked taken wf given left rf new l) (sym whole)
-        (subst (λ (x : List Entry). IsLinked taken wf given left rf x named) (sym is) (
-          linked,
-          heard_on c [] (old ++ one) (ap (λ (x : List Entry). got_lines x c) (sym is) ∙ no_lines) refl,
-        ))
-      where
-        named : LinkValue I O
-        named = record { child = c; inlet = link.inlet; outlet = link.outlet; held = [] }
+  adds : Adds c new [] [] 0 false None
+  adds = subst (λ (x : List Entry). Adds c x [] [] 0 false None) (sym is) (nothing_both c old one nothing (record { got = refl; written = refl; covers = refl; mutes = refl; ends = refl }))
 
-        whole : link ≡ named
-        whole =
-            let make : ℕ → List ℕ → LinkValue I O = λ k bytes. record { child = k; inlet = link.inlet; outlet = link.outlet; held = bytes } in
-            ap (λ (k : ℕ). make k link.held) child ∙ ap (make c) held
+  -- halves that gave and took nothing
+  pub is_wired : (given left : Option (List ℕ)) (read_faults : ℕ) (outlet_number : Option ℕ) (taken : Option (List ℕ)) (write_faults : ℕ) (inlet_number : Option ℕ) (e : EarValue) (m : MouthValue)
+      → e ≡ record { child = c; given = given; left = left; faults = read_faults; number = outlet_number; held = [] } → m ≡ record { child = c; taken = taken; faults = write_faults; number = inlet_number }
+      → IfSome given (λ xs. xs ≡ []) → IfSome taken (λ xs. xs ≡ []) → LinkWired new e m
+  is_wired given left read_faults outlet_number taken write_faults inlet_number e m ear mouth g t =
+      let begun_ear : EarValue = record { child = c; given = given; left = left; faults = read_faults; number = outlet_number; held = [] } in
+      let begun_mouth : MouthValue = record { child = c; taken = taken; faults = write_faults; number = inlet_number } in
+      subst (λ (x : EarValue). LinkWired new x m) (sym ear)
+      (subst (λ (x : MouthValue). LinkWired new begun_ear x) (sym mouth) (record {
+        ear = ear_start new begun_ear no_lines adds.ends refl g;
+        mouth = mouth_start new begun_mouth adds.covers adds.written adds.mutes t;
+        turn = heard_on c [] new no_lines refl;
+      }))

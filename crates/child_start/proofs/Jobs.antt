@@ -1,5 +1,5 @@
 -- What a child's jobs are as the journal grows by its link's entries, or by one request.
-use Rattle.std.proofs.Common.{◌≡◌, ℕ, List, [], ◌∷◌, ◌++◌, refl, sym, ap, ◌∙◌, append-nil, Bool, true, false, not, ◌==◌, cond, Some, None, ◌⊎◌, inl, inr}
+use Rattle.std.proofs.Common.{◌≡◌, ℕ, List, [], ◌∷◌, ◌++◌, refl, sym, ap, subst, ◌∙◌, append-nil, Bool, true, false, not, ◌==◌, cond, Some, None, ◌⊎◌, inl, inr}
 use Rattle.std.specs.Prelude.{◌||◌, filter}
 use Rattle.std.specs.List.{list_all, cons_option}
 use Rattle.std.proofs.lemmas.List.Elements.{filter-append}
@@ -14,33 +14,38 @@ use Rattle.journal_model.specs.Journal.{any, asks, offers, settles, is_settled, 
 use Rattle.journal_model.specs.Legality.{offered_names}
 use Rattle.journal_model.proofs.Looks.{both, same, any-append, each_of-append, settled_none}
 use Rattle.host_core.specs.Steps.{group_of, next_job}
-use Rattle.child_link.specs.Doors.{GoesOn, is_of_link}
-use Rattle.child_link.specs.Asks.{HasAsked, IsSettled, IsLost}
+use Rattle.journal_model.specs.Shares.{by_link}
+use Rattle.link_roles.specs.Alone.{GoesOn, AskedAlone, IsSettled, IsLost}
 
 -- ---- a link's own entries
 
-link_asks_none : (c : ℕ) (more : List Entry) → list_all (λ (e : Entry). is_of_link e.what) more ≡ true → asked_jobs more c ≡ []
+link_asks_none : (c : ℕ) (more : List Entry) → list_all (λ (e : Entry). by_link c e.what) more ≡ true → asked_jobs more c ≡ []
 link_asks_none c [] h = refl
 link_asks_none c (e ∷ more) h =
-    let t : (is_of_link e.what ≡ true) × (list_all (λ (e : Entry). is_of_link e.what) more ≡ true) = both (is_of_link e.what) (list_all (λ (e : Entry). is_of_link e.what) more) h in
+    let t : (by_link c e.what ≡ true) × (list_all (λ (e : Entry). by_link c e.what) more ≡ true) = both (by_link c e.what) (list_all (λ (e : Entry). by_link c e.what) more) h in
     step e.what t.0 (link_asks_none c more t.1)
   where
-    step : (w : What) → is_of_link w ≡ true → asked_jobs more c ≡ [] → cons_option (asks c w) (asked_jobs more c) ≡ []
+    step : (w : What) → by_link c w ≡ true → asked_jobs more c ≡ [] → cons_option (asks c w) (asked_jobs more c) ≡ []
     step (Ask child job task line) l r = absurd cc
     step w l r = r
 
-link_offers_none : (c : ℕ) (more : List Entry) → list_all (λ (e : Entry). is_of_link e.what) more ≡ true → any (offers c) more ≡ false
+link_offers_none : (c : ℕ) (more : List Entry) → list_all (λ (e : Entry). by_link c e.what) more ≡ true → any (offers c) more ≡ false
 link_offers_none c [] h = refl
 link_offers_none c (e ∷ more) h =
-    let t : (is_of_link e.what ≡ true) × (list_all (λ (e : Entry). is_of_link e.what) more ≡ true) = both (is_of_link e.what) (list_all (λ (e : Entry). is_of_link e.what) more) h in
+    let t : (by_link c e.what ≡ true) × (list_all (λ (e : Entry). by_link c e.what) more ≡ true) = both (by_link c e.what) (list_all (λ (e : Entry). by_link c e.what) more) h in
     step e.what t.0 (link_offers_none c more t.1)
   where
-    step : (w : What) → is_of_link w ≡ true → any (offers c) more ≡ false → (offers c w || any (offers c) more) ≡ false
+    step : (w : What) → by_link c w ≡ true → any (offers c) more ≡ false → (offers c w || any (offers c) more) ≡ false
     step (Start child slot offer) l r = absurd cc
     step w l r = r
 
+-- under other names
+pub goes_as : {n m c d : ℕ} {a b new : List Entry} → m ≡ n → d ≡ c → b ≡ a → GoesOn m d b new → GoesOn n c a new
+goes_as {m = m} {c = c} {d = d} {a = a} {new = new} e f h g =
+    subst (λ (k : ℕ). GoesOn k c a new) e (subst (λ (k : ℕ). GoesOn m k a new) f (subst (λ (j : List Entry). GoesOn m d j new) h g))
+
 -- a link asks nothing
-pub goes_jobs : (old new : List Entry) (c : ℕ) → GoesOn old new → asked_jobs new c ≡ asked_jobs old c
+pub goes_jobs : {n : ℕ} (old new : List Entry) (c : ℕ) → GoesOn n c old new → asked_jobs new c ≡ asked_jobs old c
 goes_jobs old new c g =
     ap (λ (x : List Entry). asked_jobs x c) g.is ∙ each_of-append (asks c) old g.more
     ∙ ap (λ (ks : List ℕ). asked_jobs old c ++ ks) (link_asks_none c g.more g.quiet) ∙ append-nil (asked_jobs old c)
@@ -53,7 +58,7 @@ pub or_false : (b : Bool) → (b || false) ≡ b
 or_false true = refl
 or_false false = refl
 
-pub goes_names : (old new : List Entry) (c : ℕ) → GoesOn old new → offered_names new c ≡ offered_names old c
+pub goes_names : {n : ℕ} (old new : List Entry) (c : ℕ) → GoesOn n c old new → offered_names new c ≡ offered_names old c
 goes_names old new c g =
     ap names_of (
     ap (any (offers c)) g.is ∙ any-append (offers c) old g.more ∙ ap (λ (b : Bool). any (offers c) old || b) (link_offers_none c g.more g.quiet) ∙ or_false (any (offers c) old)
@@ -92,7 +97,7 @@ idle_on old more c none idle =
     (each_of-append (asks c) old more ∙ ap (λ (ks : List ℕ). asked_jobs old c ++ ks) none ∙ append-nil (asked_jobs old c))
     ∙ none_left old (old ++ more) c (asked_jobs old c) (λ k. settled_on old more c k) idle
 
-pub goes_idle : (old new : List Entry) (c : ℕ) → GoesOn old new → open_jobs old c ≡ [] → open_jobs new c ≡ []
+pub goes_idle : {n : ℕ} (old new : List Entry) (c : ℕ) → GoesOn n c old new → open_jobs old c ≡ [] → open_jobs new c ≡ []
 goes_idle old new c g idle = ap (λ (x : List Entry). open_jobs x c) g.is ∙ idle_on old g.more c (link_asks_none c g.more g.quiet) idle
 
 own_job : (b : Bool) (job : ℕ) → b ≡ true → cons_option (cond b (Some job) None) [] ≡ job ∷ []
@@ -114,7 +119,7 @@ module _ (o : Opening) (old new : List Entry) (by c t : ℕ) (q : HostMessage) (
       ap (λ (x : List Entry). asked_jobs x c) l.made ∙ each_of-append (asks c) old (group_of o old by (Lost c t)) ∙ append-nil (asked_jobs old c)
 
   -- a request is one job more, or was lost
-  pub jobs_asked : HasAsked o old new by c t q verdict → (asked_jobs new c ≡ asked_jobs old c) ⊎ (asked_jobs new c ≡ asked_jobs old c ++ next_job old c ∷ [])
+  pub jobs_asked : AskedAlone o old new by c t q verdict → (asked_jobs new c ≡ asked_jobs old c) ⊎ (asked_jobs new c ≡ asked_jobs old c ++ next_job old c ∷ [])
   jobs_asked (inl s) = inr (jobs_settled s)
   jobs_asked (inr l) = inl (jobs_lost l)
 
@@ -131,6 +136,6 @@ module _ (o : Opening) (old new : List Entry) (by c t : ℕ) (q : HostMessage) (
       ∙ ap (λ (ks : List ℕ). ks ++ filter is_left (next_job old c ∷ [])) before ∙ last
 
   -- a request leaves an idle child idle
-  pub idle_asked : open_jobs old c ≡ [] → HasAsked o old new by c t q verdict → open_jobs new c ≡ []
+  pub idle_asked : open_jobs old c ≡ [] → AskedAlone o old new by c t q verdict → open_jobs new c ≡ []
   idle_asked idle (inl s) = idle_settled idle s
   idle_asked idle (inr l) = ap (λ (x : List Entry). open_jobs x c) l.made ∙ idle_on old (group_of o old by (Lost c t)) c refl idle

@@ -15,12 +15,12 @@ use Rattle.journal_model.specs.Legality.{Legal, asks_prepare, prepares, is_done,
 use Rattle.journal_model.proofs.Looks.{both, same_number, any-append, each_of-append}
 use Rattle.journal_model.proofs.Linking.{why_alone, why_is_end}
 use Rattle.host_core.specs.Steps.{next_job, may_request}
-use Rattle.child_link.specs.Doors.{GoesOn, is_closed}
-use Rattle.child_link.proofs.Turning.{started_after}
+use Rattle.journal_model.specs.Shares.{is_closed}
+use Rattle.link_roles.specs.Alone.{GoesOn}
 use Rattle.child_start.specs.declared.starting.RequestOutcome.{RequestOutcome}
 use Rattle.child_start.specs.declared.starting.RequestOutcome.TheVariants.{Done, Refused, Gone}
 use Rattle.child_start.specs.Greetings.{is_greeting_line, is_of_greeting, is_refusal, HasEnded, IsUnsent}
-use Rattle.child_start.specs.Stages.{HasBegun, MayAsk, GreetsOn, IsGoneNext, AsksNext, IsGoneUnready, Prepares}
+use Rattle.child_start.specs.Stages.{HasBegun, IsMain, MayAsk, GreetsOn, IsGoneNext, AsksNext, IsGoneUnready, Prepares}
 use Rattle.child_start.proofs.Jobs.{goes_jobs, goes_names, verdict_settled, or_true}
 use Rattle.child_start.proofs.Requests.{none_later, greets_goes, greets_both}
 
@@ -29,6 +29,14 @@ all_three a b c h k l = rw (h, k, l) refl
 
 pub greets_started : (old new : List Entry) (c d : ℕ) → d ≡ c → GreetsOn old new c → is_started old c ≡ true → is_started new d ≡ true
 greets_started old new c d e g a =
+    ap (is_started new) e ∙ ap (λ (x : List Entry). is_started x c) g.is ∙ any-append (starts c) old g.more ∙ ap (λ (b : Bool). b || is_started g.more c) a
+
+-- the main thread's way stays so
+pub main_on : {n m : ℕ} {a b : Bool} → m ≡ n → b ≡ a → IsMain n a → IsMain m b
+main_on e f h = record { first = e ∙ h.first; lone = f ∙ h.lone }
+
+pub started_after : {n : ℕ} (old new : List Entry) (c d : ℕ) → d ≡ c → GoesOn n c old new → is_started old c ≡ true → is_started new d ≡ true
+started_after old new c d e g a =
     ap (is_started new) e ∙ ap (λ (x : List Entry). is_started x c) g.is ∙ any-append (starts c) old g.more ∙ ap (λ (b : Bool). b || is_started g.more c) a
 
 -- a child that was asked nothing has no open job
@@ -153,7 +161,7 @@ module _ (old mid : List Entry) (c : ℕ) (none : asked_jobs old c ≡ []) where
 -- ---- before and behind both
 
 -- the child has said its version
-pub may_ask_first : (old mid : List Entry) (c d : ℕ) (offer : Bool) → d ≡ c → HasBegun old c offer → GoesOn old mid → said_version mid c ≡ true → MayAsk mid d offer
+pub may_ask_first : {n : ℕ} (old mid : List Entry) (c d : ℕ) (offer : Bool) → d ≡ c → HasBegun old c offer → GoesOn n c old mid → said_version mid c ≡ true → MayAsk mid d offer
 may_ask_first old mid c d offer e h g said = record {
   started = started_after old mid c d e g h.started;
   version = ap (said_version mid) e ∙ said;
@@ -171,7 +179,7 @@ greeting_keeps c (End child x) why own is = go (child == c) is
     open_end false h = refl
 
     go : (b : Bool) → cond b (Some x) None ≡ Some why → is_closed why ≡ false
-    go true e = let same_why : x ≡ why = cc in ap is_closed (sym same_why) ∙ open_end (is_closed x) own
+    go true e = let same_why : x ≡ why = cc in ap is_closed (sym same_why) ∙ open_end (is_closed x) (both (child == c) (not (is_closed x)) own).1
     go false e = absurd cc
 greeting_keeps c w why own is = absurd cc
 
@@ -194,15 +202,16 @@ greeted_kept old new c offer why h g is =
     greetings_keep c g.more why g.own (sym (ap (λ (j : List Entry). why_of j c) g.is ∙ why_alone old g.more c h.live) ∙ is)
 
 -- the child ended before it was asked
-pub ended_first : (o : Opening) (old new : List Entry) (c : ℕ) (offer : Bool) (why : Why) → Legal o new → HasBegun old c offer → GoesOn old new → Some why ≡ why_of new c → HasEnded new c why
-ended_first o old new c offer why legal h g is =
+pub ended_first : {n : ℕ} (o : Opening) (old new : List Entry) (c : ℕ) (offer : Bool) (why : Why) → n ≡ 0 → Legal o new → HasBegun old c offer → GoesOn n c old new → Some why ≡ why_of new c
+    → HasEnded new c why
+ended_first o old new c offer why first legal h g is =
     let none : length (asked_jobs new c) ≡ 0 = ap length (goes_jobs old new c g ∙ h.jobs) in
     let later : verdict_of new c 1 ≡ None = none_later o new c 1 legal (omega (arith, none)) in
     record {
       undone = ap is_done later;
       unrefused = ap is_refusal later;
       ended = sym is;
-      kept = greeted_kept old new c offer why h (greets_goes old new c g (unasked_idle old c h.jobs)) (sym is);
+      kept = greeted_kept old new c offer why h (greets_goes old new c first g (unasked_idle old c h.jobs)) (sym is);
     }
 
 -- the child ended, by its number and the journal under other names
@@ -232,7 +241,7 @@ pub greets_as : (old new : List Entry) (c d : ℕ) → d ≡ c → GreetsOn old 
 greets_as old new c d e g = subst (λ (k : ℕ). GreetsOn old new k) e g
 
 -- behind the version stands the rest of the greeting
-pub greets_heard : (old mid new last : List Entry) (c d : ℕ) (offer : Bool) → d ≡ c → HasBegun old c offer → GoesOn old mid → GreetsOn mid new d → last ≡ new → GreetsOn old last c
-greets_heard old mid new last c d offer e h g more l =
+pub greets_heard : {n : ℕ} (old mid new last : List Entry) (c d : ℕ) (offer : Bool) → n ≡ 0 → d ≡ c → HasBegun old c offer → GoesOn n c old mid → GreetsOn mid new d → last ≡ new → GreetsOn old last c
+greets_heard old mid new last c d offer first e h g more l =
     subst (λ (x : List Entry). GreetsOn old x c) (sym l)
-    (greets_both old mid new c (greets_goes old mid c g (unasked_idle old c h.jobs)) (greets_as mid new c d e more))
+    (greets_both old mid new c (greets_goes old mid c first g (unasked_idle old c h.jobs)) (greets_as mid new c d e more))

@@ -23,41 +23,54 @@ use Rattle.journal_model.proofs.Looks.{both, same, same_number, any-append}
 use Rattle.journal_model.proofs.Projecting.{invariant}
 use Rattle.journal_model.proofs.Verdicts.{ended_verdict, unsent_verdict, unasked_none}
 use Rattle.host_core.specs.Steps.{group_of, is_gone, next_job, may_request}
-use Rattle.child_link.specs.Doors.{GoesOn, is_of_link}
-use Rattle.child_link.specs.Asks.{HasAsked, IsSettled, IsLost, lost_as}
+use Rattle.journal_model.specs.Shares.{are_by, by_link}
+use Rattle.link_roles.specs.Asks.{lost_as}
+use Rattle.link_roles.specs.Alone.{GoesOn, AskedAlone, IsSettled, IsLost}
 use Rattle.child_start.specs.Greetings.{is_greeting_line, is_of_greeting, is_refusal}
 use Rattle.child_start.specs.Stages.{asked_as, is_greeting, GreetsOn, IsGoneNext, AsksNext}
 use Rattle.child_start.proofs.Jobs.{goes_jobs, goes_idle, jobs_settled, jobs_lost, idle_asked, or_true}
 
 -- ---- the greeting goes on
 
-own_link : (c : ℕ) (w : What) → is_of_link w ≡ true → is_of_greeting c w ≡ true
+own_link : (c : ℕ) (w : What) → by_link c w ≡ true → is_of_greeting c w ≡ true
 own_link c (Ask child job task line) h = absurd cc
 own_link c (Lost child task) h = absurd cc
 own_link c w h = h
 
-own_links : (c : ℕ) (more : List Entry) → list_all (λ (e : Entry). is_of_link e.what) more ≡ true → list_all (λ (e : Entry). is_of_greeting c e.what) more ≡ true
+own_links : (c : ℕ) (more : List Entry) → list_all (λ (e : Entry). by_link c e.what) more ≡ true → list_all (λ (e : Entry). is_of_greeting c e.what) more ≡ true
 own_links c [] h = refl
 own_links c (e ∷ more) h =
-    let t : (is_of_link e.what ≡ true) × (list_all (λ (e : Entry). is_of_link e.what) more ≡ true) = both (is_of_link e.what) (list_all (λ (e : Entry). is_of_link e.what) more) h in
+    let t : (by_link c e.what ≡ true) × (list_all (λ (e : Entry). by_link c e.what) more ≡ true) = both (by_link c e.what) (list_all (λ (e : Entry). by_link c e.what) more) h in
     rw (own_link c e.what t.0, own_links c more t.1) refl
+
+all_both : (p : Entry → Bool) (xs ys : List Entry) → list_all p xs ≡ true → list_all p ys ≡ true → list_all p (xs ++ ys) ≡ true
+all_both p xs ys h k = list_all-append p xs ys ∙ ap (λ (b : Bool). b && list_all p ys) h ∙ k
 
 own_both : (c : ℕ) (xs ys : List Entry) → list_all (λ (e : Entry). is_of_greeting c e.what) xs ≡ true → list_all (λ (e : Entry). is_of_greeting c e.what) ys ≡ true
     → list_all (λ (e : Entry). is_of_greeting c e.what) (xs ++ ys) ≡ true
-own_both c xs ys h k =
-    list_all-append (λ (e : Entry). is_of_greeting c e.what) xs ys ∙ ap (λ (b : Bool). b && list_all (λ (e : Entry). is_of_greeting c e.what) ys) h ∙ k
+own_both c xs ys h k = all_both (λ (e : Entry). is_of_greeting c e.what) xs ys h k
+
+pub main_both : (n : ℕ) (xs ys : List Entry) → are_by n xs ≡ true → are_by n ys ≡ true → are_by n (xs ++ ys) ≡ true
+main_both n xs ys h k = all_both (λ (e : Entry). e.by == n) xs ys h k
 
 pub greets_both : (a b d : List Entry) (c : ℕ) → GreetsOn a b c → GreetsOn b d c → GreetsOn a d c
 greets_both a b d c x y = record {
   more = x.more ++ y.more;
   is = y.is ∙ ap (λ (l : List Entry). l ++ y.more) x.is ∙ append_assoc a x.more y.more;
   own = own_both c x.more y.more x.own y.own;
+  main = main_both 0 x.more y.more x.main y.main;
   idle = y.idle;
 }
 
--- a link's own entries
-pub greets_goes : (old new : List Entry) (c : ℕ) → GoesOn old new → open_jobs old c ≡ [] → GreetsOn old new c
-greets_goes old new c g idle = record { more = g.more; is = g.is; own = own_links c g.more g.quiet; idle = goes_idle old new c g idle }
+-- a link's own entries, by the main thread
+pub greets_goes : {n : ℕ} (old new : List Entry) (c : ℕ) → n ≡ 0 → GoesOn n c old new → open_jobs old c ≡ [] → GreetsOn old new c
+greets_goes old new c first g idle = record {
+  more = g.more;
+  is = g.is;
+  own = own_links c g.more g.quiet;
+  main = subst (λ (k : ℕ). are_by k g.more ≡ true) first g.own;
+  idle = goes_idle old new c g idle;
+}
 
 -- a request of the greeting is job 0, or job 1 to get ready
 early_turn : (past : List Entry) (c job : ℕ) (q : HostMessage) → is_greeting q ≡ true → is_in_turn past c job q ≡ true → is_greeting_line job (on_wire past c job (host_line q)) ≡ true
@@ -84,22 +97,27 @@ early_job past by c q g h =
     early_turn past c (next_job past c) q g (both (is_started past c && may_ask past by 0 c) (is_in_turn past c (next_job past c) q) turn).1
 
 -- a request that is no task's
-pub greets_asked : (o : Opening) (old new : List Entry) (by c : ℕ) (q : HostMessage) (verdict : Verdict) → open_jobs old c ≡ []
-    → is_greeting_line (next_job old c) (on_wire old c (next_job old c) (host_line q)) ≡ true → HasAsked o old new by c 0 q verdict → GreetsOn old new c
-greets_asked o old new by c q verdict idle early (inl s) =
+pub greets_asked : (o : Opening) (old new : List Entry) (by c : ℕ) (q : HostMessage) (verdict : Verdict) → by ≡ 0 → open_jobs old c ≡ []
+    → is_greeting_line (next_job old c) (on_wire old c (next_job old c) (host_line q)) ≡ true → AskedAlone o old new by c 0 q verdict → GreetsOn old new c
+greets_asked o old new by c q verdict first idle early (inl s) =
     let asked : List Entry = group_of o old by (Ask c (next_job old c) 0 (on_wire old c (next_job old c) (host_line q))) in
     record {
       more = asked ++ s.goes.more;
       is = s.goes.is ∙ append_assoc old asked s.goes.more;
       own = own_both c asked s.goes.more (rw (same c, early) refl) (own_links c s.goes.more s.goes.quiet);
+      main = subst (λ (k : ℕ). are_by k (asked ++ s.goes.more) ≡ true) first (main_both by asked s.goes.more (rw (same by) refl) s.goes.own);
       idle = idle_asked o old new by c 0 q verdict idle (inl s);
     }
-greets_asked o old new by c q verdict idle early (inr l) = record {
-  more = group_of o old by (Lost c 0);
-  is = l.made;
-  own = rw (same c) refl;
-  idle = idle_asked o old new by c 0 q verdict idle (inr l);
-}
+greets_asked o old new by c q verdict first idle early (inr l) =
+    let lost : List Entry = group_of o old by (Lost c 0) in
+    let own : are_by by lost ≡ true = rw (same by) refl in
+    record {
+      more = lost;
+      is = l.made;
+      own = rw (same c) refl;
+      main = subst (λ (k : ℕ). are_by k lost ≡ true) first own;
+      idle = idle_asked o old new by c 0 q verdict idle (inr l);
+    }
 
 -- ---- the next job
 
@@ -182,7 +200,7 @@ module _ (o o' : Opening) (old new : List Entry) (by c : ℕ) (q : HostMessage) 
   }
 
   -- the request was asked, and settled so
-  pub asked_next : (verdict : Verdict) → Legal o' new → is_greeting q ≡ true → IsNamed q verdict → HasAsked o old new by c 0 q verdict
+  pub asked_next : (verdict : Verdict) → Legal o' new → is_greeting q ≡ true → IsNamed q verdict → AskedAlone o old new by c 0 q verdict
       → AsksNext old new c (asked_as verdict)
   asked_next (DoneAt at) legal kind n (inl s) = record { done = ap is_done s.settled; jobs = jobs_settled o old new by c 0 q (DoneAt at) s }
   asked_next (DoneAt at) legal kind n (inr l) = not_lost (DoneAt at) (why_of old c) refl l.lost
@@ -200,7 +218,7 @@ module _ (o o' : Opening) (old new : List Entry) (by c : ℕ) (q : HostMessage) 
   asked_next Unsent legal kind n (inr l) = gone_lost Unsent legal l
 
   -- it was not asked, and the child was ended
-  pub given_up_next : Legal o' new → GoesOn old new → is_ended new c ≡ true → IsGoneNext old new c
+  pub given_up_next : Legal o' new → GoesOn by c old new → is_ended new c ≡ true → IsGoneNext old new c
   given_up_next legal g over =
       let jobs : asked_jobs new c ≡ asked_jobs old c = goes_jobs old new c g in
       let few : length (asked_jobs new c) ≤ next_job old c = omega (arith, ap length jobs) in

@@ -1,5 +1,7 @@
 -- A greeting of a child that was started just now tells of it, from the journal before its start on.
 use Rattle.std.proofs.Common.{◌≡◌, ℕ, ◌+◌, List, [], ◌∷◌, ◌++◌, sym, ap, subst, ◌∙◌, append_assoc, Bool}
+use Rattle.ann_outside.specs.declared.Sink.{Ghosts as SinkGhosts}
+use Rattle.ann_outside.specs.declared.Source.{Ghosts as SourceGhosts}
 use Rattle.journal_model.specs.declared.entry.What.TheVariants.{Start}
 use Rattle.journal_model.specs.declared.entry.Entry.{Entry}
 use Rattle.journal_model.specs.Journal.{is_tagged}
@@ -7,8 +9,18 @@ use Rattle.journal_model.specs.Legality.{count, is_start}
 use Rattle.journal_model.proofs.Looks.{entry}
 use Rattle.child_start.specs.declared.greeting.Greeting.{Greeting}
 use Rattle.child_start.specs.declared.greeting.Greeting.TheVariants.{Ready, Refused, Ended, Unsent, StartFault, NoMemory}
-use Rattle.child_start.specs.Greetings.{Greeted, IsReady, IsRefused, HasEnded, IsUnsent, Tells}
+use Rattle.journal_model.specs.Halves.{EarValue, MouthValue}
+use Rattle.child_start.specs.Greetings.{Greeted, IsReady, IsRefused, HasEnded, IsUnsent, Tells, IfHasLink}
 use Rattle.child_start.specs.Stages.{GreetsOn, TellsOf}
+
+-- what follows of the halves of a greeting's link
+pub has_link : {I O S : Type 0} {sinks : SinkGhosts I} {sources : SourceGhosts O} (P Q : EarValue → MouthValue → Type 0) (greeting : Greeting I O S sinks sources) → ((e : EarValue) (m : MouthValue) → P e m → Q e m) → IfHasLink P greeting → IfHasLink Q greeting
+has_link P Q (Ready link stub tagged) f h = f link.ear link.mouth h
+has_link P Q (Refused verdict link stub) f h = f link.ear link.mouth h
+has_link P Q (Ended why link stub) f h = f link.ear link.mouth h
+has_link P Q (Unsent link stub) f h = f link.ear link.mouth h
+has_link P Q StartFault f h = tt
+has_link P Q NoMemory f h = tt
 
 module _ (old mid new : List Entry) (slot : ℕ) (offer : Bool) (c : ℕ) (number : c ≡ count is_start old + 1)
     (is : mid ≡ old ++ entry 0 (Start c slot offer) ∷ []) (on : GreetsOn mid new c) where
@@ -18,10 +30,11 @@ module _ (old mid new : List Entry) (slot : ℕ) (offer : Bool) (c : ℕ) (numbe
     more = on.more;
     grown = on.is ∙ ap (λ (l : List Entry). l ++ on.more) is ∙ append_assoc old (entry 0 (Start c slot offer) ∷ []) on.more;
     own = on.own;
+    main = on.main;
     idle = on.idle;
   }
 
-  pub tells_whole : {I O S : Type 0} (greeting : Greeting I O S) → TellsOf new c greeting → Tells old new slot offer greeting
+  pub tells_whole : {I O S : Type 0} {sinks : SinkGhosts I} {sources : SourceGhosts O} (greeting : Greeting I O S sinks sources) → TellsOf new c greeting → Tells old new slot offer greeting
   tells_whole (Ready link stub tagged) t =
       let e = sym t.0 in
       (subst (Greeted old new slot offer) e greeted, subst (IsReady new) e t.1, t.2 ∙ ap (is_tagged new) e)

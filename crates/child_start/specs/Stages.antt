@@ -1,6 +1,8 @@
 -- What each stage of a greeting leaves.
 use Rattle.std.specs.Prelude.{ℕ, ◌≡◌, ◌⊎◌, Bool, true, false, List, [], ◌∷◌, ◌++◌, Option, Some, None}
 use Rattle.std.specs.List.{list_all}
+use Rattle.ann_outside.specs.declared.Sink.{Ghosts as SinkGhosts}
+use Rattle.ann_outside.specs.declared.Source.{Ghosts as SourceGhosts}
 use Rattle.journal_model.specs.declared.verdict.Verdict.{Verdict}
 use Rattle.journal_model.specs.declared.verdict.Verdict.TheVariants.{Done as DoneAt, Failed as FailedAt, Unsupported as UnsupportedAt}
 use Rattle.annex_model.specs.Messages.{HostMessage, AskExtensions, Prepare}
@@ -10,8 +12,8 @@ use Rattle.journal_model.specs.Legality.{said_version, offered_names, is_done}
 use Rattle.annex_model.specs.Extensions.{names_of}
 use Rattle.host_core.specs.declared.event.Reply.{Reply}
 use Rattle.host_core.specs.declared.event.Reply.TheVariants.{Child}
-use Rattle.host_core.specs.Steps.{is_gone, next_job}
-use Rattle.child_link.specs.Links.{LinkValue}
+use Rattle.journal_model.specs.Shares.{are_by}
+use Rattle.host_core.specs.Steps.{is_gone, next_job, may_request}
 use Rattle.child_start.specs.declared.greeting.Greeting.{Greeting}
 use Rattle.child_start.specs.declared.greeting.Greeting.TheVariants.{Ready, Refused as RefusedGreeting, Ended, Unsent, StartFault, NoMemory}
 use Rattle.child_start.specs.declared.starting.RequestOutcome.{RequestOutcome}
@@ -53,11 +55,24 @@ pub record MayAsk (journal : List Entry) (c : ℕ) (offer : Bool) : Type 0 where
   pub jobs : asked_jobs journal c ≡ []
   pub names : offered_names journal c ≡ names_of offer
 
--- what was seen before is followed by the child's greeting alone, and none of its jobs is open
+-- it is the main thread's way to a core that nobody else steps
+pub record IsMain (number : ℕ) (alone : Bool) : Type 0 where
+  pub first : number ≡ 0
+  pub lone : alone ≡ true
+
+-- the child, which has no open job, may be asked this request of the greeting
+pub record MayGreet (journal : List Entry) (number c : ℕ) (q : HostMessage) : Type 0 where
+  pub started : is_started journal c ≡ true
+  pub may : may_request journal number 0 c q ≡ true
+  pub kind : is_greeting q ≡ true
+  pub idle : open_jobs journal c ≡ []
+
+-- what was seen before is followed by the child's greeting alone, the main thread's own, and none of its jobs is open
 pub record GreetsOn (old new : List Entry) (c : ℕ) : Type 0 where
   pub more : List Entry
   pub is : new ≡ old ++ more
   pub own : list_all (λ e. is_of_greeting c e.what) more ≡ true
+  pub main : are_by 0 more ≡ true
   pub idle : open_jobs new c ≡ []
 
 -- the child's next job is done
@@ -102,15 +117,10 @@ ComesTo journal c (Over why) = HasEnded journal c why
 ComesTo journal c Mute = IsUnsent journal c
 
 -- what a greeting says of the child, which was started
-abbrev pub TellsOf : {I O S : Type 0} → List Entry → ℕ → Greeting I O S → Type 0
-TellsOf new c (Ready link stub tagged) = (link.child ≡ c) × IsReady new c × (tagged ≡ is_tagged new c)
-TellsOf new c (RefusedGreeting verdict link stub) = (link.child ≡ c) × IsRefused new c verdict
-TellsOf new c (Ended why link stub) = (link.child ≡ c) × HasEnded new c why
-TellsOf new c (Unsent link stub) = (link.child ≡ c) × IsUnsent new c
+abbrev pub TellsOf : {I O S : Type 0} {sinks : SinkGhosts I} {sources : SourceGhosts O} → List Entry → ℕ → Greeting I O S sinks sources → Type 0
+TellsOf new c (Ready link stub tagged) = (link.ear.child ≡ c) × IsReady new c × (tagged ≡ is_tagged new c)
+TellsOf new c (RefusedGreeting verdict link stub) = (link.ear.child ≡ c) × IsRefused new c verdict
+TellsOf new c (Ended why link stub) = (link.ear.child ≡ c) × HasEnded new c why
+TellsOf new c (Unsent link stub) = (link.ear.child ≡ c) × IsUnsent new c
 TellsOf new c StartFault = ⊥
 TellsOf new c NoMemory = ⊥
-
--- both halves keep their numbers
-abbrev pub AreSameNumbers : {I O : Type 0} → (I → Option ℕ) → (O → Option ℕ) → LinkValue I O → LinkValue I O → Type 0
-AreSameNumbers inlet_number outlet_number old new =
-    (inlet_number new.inlet ≡ inlet_number old.inlet) × (outlet_number new.outlet ≡ outlet_number old.outlet)

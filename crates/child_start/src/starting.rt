@@ -1,20 +1,21 @@
-ghost use Rattle.std.specs.Prelude.{◌≡◌, ◌≤◌, ◌<◌, ◌+◌, ◌++◌, ◌∷◌, [], true, Some, MatchOption, MatchResult};
+ghost use Rattle.std.specs.Prelude.{◌≡◌, ◌≤◌, ◌<◌, ◌+◌, ◌++◌, ◌∷◌, [], true, MatchOption, MatchResult};
 ghost use Rattle.ann_outside.specs.Causes.{Rose, Stays};
 ghost use Rattle.journal_model.specs.declared.entry.What.TheVariants.{Start, NoStart};
-ghost use Rattle.journal_model.specs.Journal.{is_started, open_jobs};
 ghost use Rattle.journal_model.specs.Legality.{Legal, count, is_start};
+ghost use Rattle.journal_model.specs.Halves.{LinkWired};
 ghost use Rattle.talk_serial.specs.Requests.{message_of};
-ghost use Rattle.host_core.specs.Steps.{may_request};
-ghost use Rattle.child_link.specs.Links.{IsLinked};
+ghost use Rattle.link_roles.specs.Alone.{KeepsLink};
+ghost use Rattle.link_roles.specs.Doors.{IsSameDoor};
+ghost use Rattle.child_start.specs.Cores.{IsSameCore};
 ghost use Rattle.child_start.specs.Greetings.{Tells, IfHasLink, StartsOnce, AreNumbered};
-ghost use Rattle.child_start.specs.Stages.{asked_as, child_of, is_greeting, HasBegun, MayAsk, GreetsOn, AsksNext, Prepares, ComesTo, TellsOf, AreSameNumbers};
+ghost use Rattle.child_start.specs.Stages.{asked_as, child_of, HasBegun, IsMain, MayAsk, MayGreet, GreetsOn, AsksNext, Prepares, ComesTo, TellsOf};
 
 use crate::greeting::{Greeting, Mode};
 use ann_key::NoMemory;
 use ann_outside::{Programs, Sink, Source, StartError, Started};
-use child_link::{Door, Lone, OwnDoor};
 use host_core::{Core, Event, Reply};
 use journal_model::{Verdict, Why};
+use link_roles::{Door, Lone, OwnDoor};
 use std::alloc::Global;
 use talk_serial::Request;
 
@@ -52,28 +53,18 @@ fn ask_one<I: Sink, O: Source, D: Door>(
     door: &mut D,
     request: &Request,
 ) -> RequestOutcome
-    requires alone { D.alone door.old ≡ true }
-    requires first { D.number door.old ≡ 0 }
+    requires main { IsMain (D.number door.old) (D.alone door.old) }
     requires legal { Legal (D.opening door.old) (D.seen door.old) }
-    requires started { is_started (D.seen door.old) link.old.child ≡ true }
-    requires may { may_request (D.seen door.old) (D.number door.old) 0 link.old.child (message_of request.now) ≡ true }
-    requires kind { is_greeting (message_of request.now) ≡ true }
-    requires idle { open_jobs (D.seen door.old) link.old.child ≡ [] }
-    ensures on { GreetsOn (D.seen door.old) (D.seen door.new) link.old.child }
-    ensures asks { AsksNext (D.seen door.old) (D.seen door.new) link.old.child result }
-    ensures linked { IsLinked I.taken I.faults O.given O.left O.faults (D.seen door.old) link.old → IsLinked I.taken I.faults O.given O.left O.faults (D.seen door.new) link.new }
-    ensures child { link.new.child ≡ link.old.child }
-    ensures numbers { AreSameNumbers I.number O.number link.old link.new }
-    ensures legal { Legal (D.opening door.new) (D.seen door.new) }
-    ensures opening { D.opening door.new ≡ D.opening door.old }
-    ensures number { D.number door.new ≡ D.number door.old }
-    ensures alone { D.alone door.new ≡ true }
-    ensures loans { D.loans door.new ≡ D.loans door.old }
+    requires may { MayGreet (D.seen door.old) (D.number door.old) link.old.ear.child (message_of request.now) }
+    ensures on { GreetsOn (D.seen door.old) (D.seen door.new) link.old.ear.child }
+    ensures asks { AsksNext (D.seen door.old) (D.seen door.new) link.old.ear.child result }
+    ensures link { KeepsLink (D.seen door.old) (D.seen door.new) link.old.ear link.new.ear link.old.mouth link.new.mouth }
+    ensures door { IsSameDoor D.opening D.number D.seen D.alone D.loans D.home door.old door.new }
 {
-    match link.ask(door, 0, request) {
+    match link.ask_alone(door, 0, request) {
         Ok(verdict) => asked_as(verdict),
         Err(NoMemory) => {
-            link.end_for_memory(door);
+            link.give_up_alone(door);
             RequestOutcome::Gone
         }
     }
@@ -86,20 +77,13 @@ fn ask_both<I: Sink, O: Source, D: Door>(
     offer: bool,
     mode: Mode,
 ) -> RequestOutcome
-    requires alone { D.alone door.old ≡ true }
-    requires first { D.number door.old ≡ 0 }
+    requires main { IsMain (D.number door.old) (D.alone door.old) }
     requires legal { Legal (D.opening door.old) (D.seen door.old) }
-    requires asks { MayAsk (D.seen door.old) link.old.child offer }
-    ensures on { GreetsOn (D.seen door.old) (D.seen door.new) link.old.child }
-    ensures prepares { Prepares (D.seen door.new) link.old.child result }
-    ensures linked { IsLinked I.taken I.faults O.given O.left O.faults (D.seen door.old) link.old → IsLinked I.taken I.faults O.given O.left O.faults (D.seen door.new) link.new }
-    ensures child { link.new.child ≡ link.old.child }
-    ensures numbers { AreSameNumbers I.number O.number link.old link.new }
-    ensures legal { Legal (D.opening door.new) (D.seen door.new) }
-    ensures opening { D.opening door.new ≡ D.opening door.old }
-    ensures number { D.number door.new ≡ D.number door.old }
-    ensures alone { D.alone door.new ≡ true }
-    ensures loans { D.loans door.new ≡ D.loans door.old }
+    requires asks { MayAsk (D.seen door.old) link.old.ear.child offer }
+    ensures on { GreetsOn (D.seen door.old) (D.seen door.new) link.old.ear.child }
+    ensures prepares { Prepares (D.seen door.new) link.old.ear.child result }
+    ensures link { KeepsLink (D.seen door.old) (D.seen door.new) link.old.ear link.new.ear link.old.mouth link.new.mouth }
+    ensures door { IsSameDoor D.opening D.number D.seen D.alone D.loans D.home door.old door.new }
 {
     let extensions = Request::Extensions { offer };
     if let RequestOutcome::Gone = ask_one(link, door, &extensions) {
@@ -117,28 +101,21 @@ fn hear_and_ask<I: Sink, O: Source, D: Door>(
     offer: bool,
     mode: Mode,
 ) -> Came
-    requires alone { D.alone door.old ≡ true }
-    requires first { D.number door.old ≡ 0 }
+    requires main { IsMain (D.number door.old) (D.alone door.old) }
     requires legal { Legal (D.opening door.old) (D.seen door.old) }
-    requires begun { HasBegun (D.seen door.old) link.old.child offer }
-    ensures on { GreetsOn (D.seen door.old) (D.seen door.new) link.old.child }
-    ensures comes { ComesTo (D.seen door.new) link.old.child result }
-    ensures linked { IsLinked I.taken I.faults O.given O.left O.faults (D.seen door.old) link.old → IsLinked I.taken I.faults O.given O.left O.faults (D.seen door.new) link.new }
-    ensures child { link.new.child ≡ link.old.child }
-    ensures numbers { AreSameNumbers I.number O.number link.old link.new }
-    ensures legal { Legal (D.opening door.new) (D.seen door.new) }
-    ensures opening { D.opening door.new ≡ D.opening door.old }
-    ensures number { D.number door.new ≡ D.number door.old }
-    ensures alone { D.alone door.new ≡ true }
-    ensures loans { D.loans door.new ≡ D.loans door.old }
+    requires begun { HasBegun (D.seen door.old) link.old.ear.child offer }
+    ensures on { GreetsOn (D.seen door.old) (D.seen door.new) link.old.ear.child }
+    ensures comes { ComesTo (D.seen door.new) link.old.ear.child result }
+    ensures link { KeepsLink (D.seen door.old) (D.seen door.new) link.old.ear link.new.ear link.old.mouth link.new.mouth }
+    ensures door { IsSameDoor D.opening D.number D.seen D.alone D.loans D.home door.old door.new }
 {
-    if let Some(why) = link.hear_version(door) {
+    if let Some(why) = link.hear_version_alone(door) {
         return Came::Over(why);
     }
     match ask_both(link, door, offer, mode) {
         RequestOutcome::Done => Came::Prepared,
         RequestOutcome::Refused(verdict) => Came::Refused(verdict),
-        RequestOutcome::Gone => match link.why_ended(door) {
+        RequestOutcome::Gone => match link.why_ended_alone(door) {
             Some(why) => Came::Over(why),
             None => Came::Mute,
         },
@@ -153,14 +130,11 @@ fn greet_link<I: Sink, O: Source>(
     mode: Mode,
 ) -> Came
     requires legal { Legal core.old.opening core.old.journal }
-    requires begun { HasBegun core.old.journal link.old.child offer }
-    ensures on { GreetsOn core.old.journal core.new.journal link.old.child }
-    ensures comes { ComesTo core.new.journal link.old.child result }
-    ensures linked { IsLinked I.taken I.faults O.given O.left O.faults core.old.journal link.old → IsLinked I.taken I.faults O.given O.left O.faults core.new.journal link.new }
-    ensures child { link.new.child ≡ link.old.child }
-    ensures numbers { AreSameNumbers I.number O.number link.old link.new }
-    ensures legal { Legal core.new.opening core.new.journal }
-    ensures opening { core.new.opening ≡ core.old.opening }
+    requires begun { HasBegun core.old.journal link.old.ear.child offer }
+    ensures on { GreetsOn core.old.journal core.new.journal link.old.ear.child }
+    ensures comes { ComesTo core.new.journal link.old.ear.child result }
+    ensures link { KeepsLink core.old.journal core.new.journal link.old.ear link.new.ear link.old.mouth link.new.mouth }
+    ensures core { IsSameCore core.old core.new }
 {
     let mut door = OwnDoor { core };
     let came = hear_and_ask(link, &mut door, offer, mode);
@@ -177,13 +151,11 @@ fn greet_child<I: Sink, O: Source, S>(
     mode: Mode,
 ) -> Greeting<I, O, S>
     requires legal { Legal core.old.opening core.old.journal }
-    requires begun { HasBegun core.old.journal link.child offer }
-    ensures on { GreetsOn core.old.journal core.new.journal link.child }
-    ensures tells { TellsOf core.new.journal link.child result }
-    ensures linked { IsLinked I.taken I.faults O.given O.left O.faults core.old.journal link → IfHasLink (IsLinked I.taken I.faults O.given O.left O.faults core.new.journal) result }
-    ensures numbers { IfHasLink (AreSameNumbers I.number O.number link) result }
-    ensures legal { Legal core.new.opening core.new.journal }
-    ensures opening { core.new.opening ≡ core.old.opening }
+    requires begun { HasBegun core.old.journal link.ear.child offer }
+    ensures on { GreetsOn core.old.journal core.new.journal link.ear.child }
+    ensures tells { TellsOf core.new.journal link.ear.child result }
+    ensures link { IfHasLink (λ ear mouth. KeepsLink core.old.journal core.new.journal link.ear ear link.mouth mouth) result }
+    ensures core { IsSameCore core.old core.new }
 {
     let mut link = link;
     match greet_link(&mut link, core, offer, mode) {
@@ -268,13 +240,12 @@ where
     P::Outlet: Drop,
     requires few { count is_start core.old.journal < 4294967295 }
     ensures tells { Tells core.old.journal core.new.journal slot offer result }
-    ensures linked { IfHasLink (IsLinked P.Inlet.taken P.Inlet.faults P.Outlet.given P.Outlet.left P.Outlet.faults core.new.journal) result }
-    ensures numbers { IfHasLink (AreNumbered P.Inlet.number P.Outlet.number (P.starts programs.new)) result }
+    ensures wired { IfHasLink (LinkWired core.new.journal) result }
+    ensures numbers { IfHasLink (AreNumbered (P.starts programs.new)) result }
     ensures starts { StartsOnce (P.starts programs.old) (P.starts programs.new) program.now result }
     ensures fault { result ≡ Greeting.StartFault → Rose (P.faults programs.old) (P.faults programs.new) }
     ensures later { P.faults programs.old ≤ P.faults programs.new }
-    ensures opening { core.new.opening ≡ core.old.opening }
-    ensures legal { Legal core.old.opening core.old.journal → Legal core.new.opening core.new.journal }
+    ensures core { IsSameCore core.old core.new }
 {
     match programs.start(program) {
         Ok(

@@ -2,40 +2,51 @@ use Rattle.std.proofs.Common.{◌≡◌, true, sym, ap, subst, ◌∙◌, ℕ, L
 use Rattle.journal_model.specs.declared.entry.Entry.{Entry}
 use Rattle.journal_model.specs.Journal.{is_started, is_ended}
 use Rattle.talk_serial.specs.Requests.{message_of}
-use Rattle.child_link.specs.Doors.{GoesOn}
+use Rattle.link_roles.proofs.Roles.{same_both}
+use Rattle.link_roles.proofs.Solo.{keeps_both}
 use Rattle.child_start.specs.declared.starting.RequestOutcome.{RequestOutcome}
 use Rattle.child_start.specs.Stages.{AsksNext}
+use Rattle.child_start.proofs.Jobs.{goes_as}
 use Rattle.child_start.proofs.Requests.{greets_goes, greets_asked, early_job, asked_next, given_up_next}
 use Rattle.child_start.proofs.starting.ask_one.Goals as goal
 
-pub end_for_memory-requires-clause-started : goal.end_for_memory-requires-clause-started
-end_for_memory-requires-clause-started g c =
-    ap (is_started (g.D.Door.seen c.ask.new.door)) c.ask.ensures.child ∙ ap (λ (j : List Entry). is_started j c.args.link.now.child) c.in-Err.ensures.none.0 ∙ c.requires.started
+pub give_up_alone-requires-clause-started : goal.give_up_alone-requires-clause-started
+give_up_alone-requires-clause-started g c =
+    ap (is_started (g.D.Door.seen c.ask_alone.new.door)) c.ask_alone.ensures.link.same_ear.0 ∙ ap (λ (j : List Entry). is_started j c.args.link.now.ear.child) c.in-Err.ensures.none ∙ c.requires.may.started
 
 pub returns-in-Ok-clause-on : goal.returns-in-Ok-clause-on
 returns-in-Ok-clause-on g c =
     let seen = g.D.Door.seen c.args.door.now in
     let by = g.D.Door.number c.args.door.now in
     let q = message_of c.args.request.now in
-    greets_asked (g.D.Door.opening c.args.door.now) seen (g.D.Door.seen c.ask.new.door) by c.args.link.now.child q c.in-Ok.verdict c.requires.idle
-    (early_job seen by c.args.link.now.child q c.requires.kind c.requires.may) c.in-Ok.ensures.asked
+    greets_asked (g.D.Door.opening c.args.door.now) seen (g.D.Door.seen c.ask_alone.new.door) by c.args.link.now.ear.child q c.in-Ok.verdict c.requires.main.first c.requires.may.idle
+    (early_job seen by c.args.link.now.ear.child q c.requires.may.kind c.requires.may.may) c.in-Ok.ensures.asked
 
 pub returns-in-Ok-clause-asks : goal.returns-in-Ok-clause-asks
 returns-in-Ok-clause-asks g c =
     let seen = g.D.Door.seen c.args.door.now in
-    let new = g.D.Door.seen c.ask.new.door in
-    subst (λ (a : RequestOutcome). AsksNext seen new c.args.link.now.child a) (sym c.asked_as.ensures)
-    (asked_next (g.D.Door.opening c.args.door.now) (g.D.Door.opening c.ask.new.door) seen new (g.D.Door.number c.args.door.now) c.args.link.now.child (message_of c.args.request.now) c.in-Ok.verdict
-    (c.ask.ensures.legal c.requires.legal) c.requires.kind (c.in-Ok.ensures.named c.requires.legal) c.in-Ok.ensures.asked)
+    let new = g.D.Door.seen c.ask_alone.new.door in
+    subst (λ (a : RequestOutcome). AsksNext seen new c.args.link.now.ear.child a) (sym c.asked_as.ensures)
+    (asked_next (g.D.Door.opening c.args.door.now) (g.D.Door.opening c.ask_alone.new.door) seen new (g.D.Door.number c.args.door.now) c.args.link.now.ear.child (message_of c.args.request.now) c.in-Ok.verdict
+    (c.ask_alone.ensures.door.legal c.requires.legal) c.requires.may.kind c.in-Ok.ensures.named c.in-Ok.ensures.asked)
 
 pub returns-in-Err-clause-on : goal.returns-in-Err-clause-on
 returns-in-Err-clause-on g c =
-    greets_goes (g.D.Door.seen c.args.door.now) (g.D.Door.seen c.end_for_memory.new.door) c.args.link.now.child
-    (subst (λ (j : List Entry). GoesOn j (g.D.Door.seen c.end_for_memory.new.door)) c.in-Err.ensures.none.0 c.end_for_memory.ensures.goes) c.requires.idle
+    greets_goes (g.D.Door.seen c.args.door.now) (g.D.Door.seen c.give_up_alone.new.door) c.args.link.now.ear.child c.requires.main.first
+    (goes_as c.ask_alone.ensures.door.number c.ask_alone.ensures.link.same_ear.0 c.in-Err.ensures.none c.give_up_alone.ensures.goes) c.requires.may.idle
 
 pub returns-in-Err-clause-asks : goal.returns-in-Err-clause-asks
 returns-in-Err-clause-asks g c =
-    given_up_next (g.D.Door.opening c.args.door.now) (g.D.Door.opening c.end_for_memory.new.door) (g.D.Door.seen c.args.door.now) (g.D.Door.seen c.end_for_memory.new.door) (g.D.Door.number c.args.door.now) c.args.link.now.child (message_of c.args.request.now)
-    (c.end_for_memory.ensures.legal (c.ask.ensures.legal c.requires.legal))
-    (subst (λ (j : List Entry). GoesOn j (g.D.Door.seen c.end_for_memory.new.door)) c.in-Err.ensures.none.0 c.end_for_memory.ensures.goes)
-    (subst (λ (k : ℕ). is_ended (g.D.Door.seen c.end_for_memory.new.door) k ≡ true) c.ask.ensures.child c.end_for_memory.ensures.over)
+    given_up_next (g.D.Door.opening c.args.door.now) (g.D.Door.opening c.give_up_alone.new.door) (g.D.Door.seen c.args.door.now) (g.D.Door.seen c.give_up_alone.new.door) (g.D.Door.number c.args.door.now) c.args.link.now.ear.child (message_of c.args.request.now)
+    ((same_both c.ask_alone.ensures.door c.give_up_alone.ensures.door).legal c.requires.legal)
+    (goes_as c.ask_alone.ensures.door.number c.ask_alone.ensures.link.same_ear.0 c.in-Err.ensures.none c.give_up_alone.ensures.goes)
+    (subst (λ (k : ℕ). is_ended (g.D.Door.seen c.give_up_alone.new.door) k ≡ true) c.ask_alone.ensures.link.same_ear.0 c.give_up_alone.ensures.over)
+
+pub returns-in-Err-clause-link : goal.returns-in-Err-clause-link
+returns-in-Err-clause-link g c = keeps_both c.ask_alone.ensures.link c.give_up_alone.ensures.link
+
+pub returns-in-Err-clause-door : goal.returns-in-Err-clause-door
+returns-in-Err-clause-door g c = same_both c.ask_alone.ensures.door c.give_up_alone.ensures.door
+
+pub give_up_alone-requires-clause-alone : goal.give_up_alone-requires-clause-alone
+give_up_alone-requires-clause-alone g c = c.ask_alone.ensures.door.alone ∙ c.requires.main.lone

@@ -4,7 +4,7 @@ use Rattle.child_start.proofs.starting.greet_child.Goals as goal
 
 pub returns-in-Prepared-clause-tells : goal.returns-in-Prepared-clause-tells
 returns-in-Prepared-clause-tells g c = (
-  c.greet_link.ensures.child,
+  c.greet_link.ensures.link.same_ear.0,
   c.in-Prepared.ensures.comes,
-  c.tagged-tagged.ensures ∙ ap (is_tagged c.greet_link.new.core.journal) (c.child.ensures ∙ c.greet_link.ensures.child),
+  c.tagged-tagged.ensures ∙ ap (is_tagged c.greet_link.new.core.journal) (c.child.ensures ∙ c.greet_link.ensures.link.same_ear.0),
 )
