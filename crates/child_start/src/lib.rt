@@ -1,4 +1,4 @@
-// The start of a child, and its greeting: VERSION, EXTENSIONS, PREPARE.
+// The start of a child, and its greeting: VERSION, EXTENSIONS, and PREPARE or INITREMOTE.
 #![tactic(auto)]
 
 mod greeting;

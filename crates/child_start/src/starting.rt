@@ -7,8 +7,9 @@ ghost use Rattle.talk_serial.specs.Requests.{message_of};
 ghost use Rattle.link_roles.specs.Alone.{KeepsLink};
 ghost use Rattle.link_roles.specs.Doors.{IsSameDoor};
 ghost use Rattle.child_start.specs.Cores.{IsSameCore};
-ghost use Rattle.child_start.specs.Greetings.{Tells, IfHasLink, StartsOnce, AreNumbered};
-ghost use Rattle.child_start.specs.Stages.{asked_as, child_of, HasBegun, IsMain, MayAsk, MayGreet, GreetsOn, AsksNext, Prepares, ComesTo, TellsOf};
+ghost use Rattle.child_start.specs.declared.greeting.Mode.{Mode};
+ghost use Rattle.child_start.specs.Greetings.{TellsFor, IfHasLink, StartsOnce, AreNumbered};
+ghost use Rattle.child_start.specs.Stages.{asked_as, child_of, is_asked_for, last_request, HasBegun, IsMain, MayAsk, MayGreet, GreetsOn, AsksNext, Prepares, ComesTo, TellsOf};
 
 use crate::greeting::{Greeting, Mode};
 use ann_key::NoMemory;
@@ -56,7 +57,7 @@ fn ask_one<I: Sink, O: Source, D: Door>(
     requires main { IsMain (D.number door.old) (D.alone door.old) }
     requires legal { Legal (D.opening door.old) (D.seen door.old) }
     requires may { MayGreet (D.seen door.old) (D.number door.old) link.old.ear.child (message_of request.now) }
-    ensures on { GreetsOn (D.seen door.old) (D.seen door.new) link.old.ear.child }
+    ensures on { (mode : Mode) → is_asked_for (message_of request.now) mode ≡ true → GreetsOn mode (D.seen door.old) (D.seen door.new) link.old.ear.child }
     ensures asks { AsksNext (D.seen door.old) (D.seen door.new) link.old.ear.child result }
     ensures link { KeepsLink (D.seen door.old) (D.seen door.new) link.old.ear link.new.ear link.old.mouth link.new.mouth }
     ensures door { IsSameDoor D.opening D.number D.seen D.alone D.loans D.home door.old door.new }
@@ -70,7 +71,17 @@ fn ask_one<I: Sink, O: Source, D: Door>(
     }
 }
 
-// Asks for the extensions, and then to get ready for what the mode says. A remote that doesn't know of extensions has none.
+// What a child is asked behind its extensions.
+fn last_request(mode: Mode) -> Request
+    ensures { message_of result ≡ last_request mode }
+{
+    match mode {
+        Mode::Serve => Request::Prepare,
+        Mode::Init => Request::InitRemote,
+    }
+}
+
+// Asks for the extensions, and then to get ready or to be set up. A remote that doesn't know of extensions has none.
 fn ask_both<I: Sink, O: Source, D: Door>(
     link: &mut Lone<I, O>,
     door: &mut D,
@@ -80,8 +91,8 @@ fn ask_both<I: Sink, O: Source, D: Door>(
     requires main { IsMain (D.number door.old) (D.alone door.old) }
     requires legal { Legal (D.opening door.old) (D.seen door.old) }
     requires asks { MayAsk (D.seen door.old) link.old.ear.child offer }
-    ensures on { GreetsOn (D.seen door.old) (D.seen door.new) link.old.ear.child }
-    ensures prepares { Prepares (D.seen door.new) link.old.ear.child result }
+    ensures on { GreetsOn mode (D.seen door.old) (D.seen door.new) link.old.ear.child }
+    ensures prepares { Prepares mode (D.seen door.new) link.old.ear.child result }
     ensures link { KeepsLink (D.seen door.old) (D.seen door.new) link.old.ear link.new.ear link.old.mouth link.new.mouth }
     ensures door { IsSameDoor D.opening D.number D.seen D.alone D.loans D.home door.old door.new }
 {
@@ -89,9 +100,7 @@ fn ask_both<I: Sink, O: Source, D: Door>(
     if let RequestOutcome::Gone = ask_one(link, door, &extensions) {
         return RequestOutcome::Gone;
     }
-    match mode {
-        Mode::Serve => ask_one(link, door, &Request::Prepare),
-    }
+    ask_one(link, door, &last_request(mode))
 }
 
 // The whole greeting, from the child's first line on.
@@ -104,8 +113,8 @@ fn hear_and_ask<I: Sink, O: Source, D: Door>(
     requires main { IsMain (D.number door.old) (D.alone door.old) }
     requires legal { Legal (D.opening door.old) (D.seen door.old) }
     requires begun { HasBegun (D.seen door.old) link.old.ear.child offer }
-    ensures on { GreetsOn (D.seen door.old) (D.seen door.new) link.old.ear.child }
-    ensures comes { ComesTo (D.seen door.new) link.old.ear.child result }
+    ensures on { GreetsOn mode (D.seen door.old) (D.seen door.new) link.old.ear.child }
+    ensures comes { ComesTo mode (D.seen door.new) link.old.ear.child result }
     ensures link { KeepsLink (D.seen door.old) (D.seen door.new) link.old.ear link.new.ear link.old.mouth link.new.mouth }
     ensures door { IsSameDoor D.opening D.number D.seen D.alone D.loans D.home door.old door.new }
 {
@@ -131,8 +140,8 @@ fn greet_link<I: Sink, O: Source>(
 ) -> Came
     requires legal { Legal core.old.opening core.old.journal }
     requires begun { HasBegun core.old.journal link.old.ear.child offer }
-    ensures on { GreetsOn core.old.journal core.new.journal link.old.ear.child }
-    ensures comes { ComesTo core.new.journal link.old.ear.child result }
+    ensures on { GreetsOn mode core.old.journal core.new.journal link.old.ear.child }
+    ensures comes { ComesTo mode core.new.journal link.old.ear.child result }
     ensures link { KeepsLink core.old.journal core.new.journal link.old.ear link.new.ear link.old.mouth link.new.mouth }
     ensures core { IsSameCore core.old core.new }
 {
@@ -152,8 +161,8 @@ fn greet_child<I: Sink, O: Source, S>(
 ) -> Greeting<I, O, S>
     requires legal { Legal core.old.opening core.old.journal }
     requires begun { HasBegun core.old.journal link.ear.child offer }
-    ensures on { GreetsOn core.old.journal core.new.journal link.ear.child }
-    ensures tells { TellsOf core.new.journal link.ear.child result }
+    ensures on { GreetsOn mode core.old.journal core.new.journal link.ear.child }
+    ensures tells { TellsOf mode core.new.journal link.ear.child result }
     ensures link { IfHasLink (λ ear mouth. KeepsLink core.old.journal core.new.journal link.ear ear link.mouth mouth) result }
     ensures core { IsSameCore core.old core.new }
 {
@@ -225,7 +234,7 @@ where
 }
 
 /// Starts the program in a slot, and greets the child: its first line is its version, then it is asked for its extensions,
-/// where ASYNC is offered to it or not, and to get ready.
+/// where ASYNC is offered to it or not, and to get ready or to be set up.
 pub fn greet<P: Programs>(
     alloc: Global,
     programs: &mut P,
@@ -239,7 +248,7 @@ where
     P::Inlet: Drop,
     P::Outlet: Drop,
     requires few { count is_start core.old.journal < 4294967295 }
-    ensures tells { Tells core.old.journal core.new.journal slot offer result }
+    ensures tells { TellsFor mode core.old.journal core.new.journal slot offer result }
     ensures wired { IfHasLink (LinkWired core.new.journal) result }
     ensures numbers { IfHasLink (AreNumbered (P.starts programs.new)) result }
     ensures starts { StartsOnce (P.starts programs.old) (P.starts programs.new) program.now result }

@@ -4,7 +4,7 @@ use Rattle.link_roles.proofs.Roles.{same_both}
 use Rattle.link_roles.proofs.Solo.{keeps_both}
 use Rattle.child_start.specs.Stages.{AsksNext}
 use Rattle.child_start.proofs.Requests.{greets_both}
-use Rattle.child_start.proofs.Preparing.{main_on, unprepared_first, greets_started, may_prepare, prepared_second, greets_as}
+use Rattle.child_start.proofs.Preparing.{main_on, asked_for, kind_of, unprepared_first, greets_started, may_prepare, prepared_second, greets_as}
 use Rattle.child_start.proofs.starting.ask_both.Goals as goal
 
 pub returns-in-Gone-clause-prepares : goal.returns-in-Gone-clause-prepares
@@ -17,13 +17,13 @@ ask_one-requires-2-clause-main g c = main_on c.ask_one.ensures.door.number c.ask
 
 pub ask_one-requires-2-clause-may : goal.ask_one-requires-2-clause-may
 ask_one-requires-2-clause-may g c = record {
-  started = greets_started (g.D.Door.seen c.args.door.now) (g.D.Door.seen c.ask_one.new.door) c.args.link.now.ear.child c.ask_one.new.link.ear.child c.ask_one.ensures.link.same_ear.0 c.ask_one.ensures.on c.requires.asks.started;
+  started = greets_started (g.D.Door.seen c.args.door.now) (g.D.Door.seen c.ask_one.new.door) c.args.link.now.ear.child c.ask_one.new.link.ear.child c.ask_one.ensures.link.same_ear.0 (c.ask_one.ensures.on c.args.mode refl) c.requires.asks.started;
   may =
-      may_prepare (g.D.Door.seen c.args.door.now) (g.D.Door.seen c.ask_one.new.door) c.args.link.now.ear.child c.requires.asks.jobs c.ask_one.result c.in_default.not-Gone c.ask_one.ensures.asks
-      (g.D.Door.number c.ask_one.new.door) c.ask_one.new.link.ear.child c.ask_one.ensures.link.same_ear.0
-      (c.ask_one.ensures.door.number ∙ c.requires.main.first) c.requires.asks.started c.ask_one.ensures.on;
-  kind = refl;
-  idle = ap (open_jobs (g.D.Door.seen c.ask_one.new.door)) c.ask_one.ensures.link.same_ear.0 ∙ c.ask_one.ensures.on.idle;
+      rw c.last_request.ensures (may_prepare (g.D.Door.seen c.args.door.now) (g.D.Door.seen c.ask_one.new.door) c.args.link.now.ear.child c.requires.asks.jobs c.ask_one.result c.in_default.not-Gone c.ask_one.ensures.asks
+      c.args.mode (g.D.Door.number c.ask_one.new.door) c.ask_one.new.link.ear.child c.ask_one.ensures.link.same_ear.0
+      (c.ask_one.ensures.door.number ∙ c.requires.main.first) c.requires.asks.started (c.ask_one.ensures.on c.args.mode refl));
+  kind = kind_of _ c.args.mode c.last_request.ensures;
+  idle = ap (open_jobs (g.D.Door.seen c.ask_one.new.door)) c.ask_one.ensures.link.same_ear.0 ∙ (c.ask_one.ensures.on c.args.mode refl).idle;
 }
 
 pub returns-clause-on : goal.returns-clause-on
@@ -31,14 +31,14 @@ returns-clause-on g c =
     let seen = g.D.Door.seen c.args.door.now in
     let mid = g.D.Door.seen c.ask_one.new.door in
     let new = g.D.Door.seen c.ask_one-2.new.door in
-    greets_both seen mid new c.args.link.now.ear.child c.ask_one.ensures.on (greets_as mid new c.args.link.now.ear.child c.ask_one.new.link.ear.child c.ask_one.ensures.link.same_ear.0 c.ask_one-2.ensures.on)
+    greets_both seen mid new c.args.link.now.ear.child (c.ask_one.ensures.on c.args.mode refl) (greets_as mid new c.args.link.now.ear.child c.ask_one.new.link.ear.child c.ask_one.ensures.link.same_ear.0 (c.ask_one-2.ensures.on c.args.mode (asked_for _ c.args.mode c.last_request.ensures)))
 
 pub returns-clause-prepares : goal.returns-clause-prepares
 returns-clause-prepares g c =
     let mid = g.D.Door.seen c.ask_one.new.door in
     let new = g.D.Door.seen c.ask_one-2.new.door in
-    prepared_second (g.D.Door.seen c.args.door.now) mid c.args.link.now.ear.child c.requires.asks.jobs c.ask_one.result c.in_default.not-Gone c.ask_one.ensures.asks new c.ask_one-2.result
-    (greets_as mid new c.args.link.now.ear.child c.ask_one.new.link.ear.child c.ask_one.ensures.link.same_ear.0 c.ask_one-2.ensures.on)
+    prepared_second (g.D.Door.seen c.args.door.now) mid c.args.link.now.ear.child c.requires.asks.jobs c.ask_one.result c.in_default.not-Gone c.ask_one.ensures.asks c.args.mode new c.ask_one-2.result
+    (greets_as mid new c.args.link.now.ear.child c.ask_one.new.link.ear.child c.ask_one.ensures.link.same_ear.0 (c.ask_one-2.ensures.on c.args.mode (asked_for _ c.args.mode c.last_request.ensures)))
     (subst (λ (k : ℕ). AsksNext mid new k c.ask_one-2.result) c.ask_one.ensures.link.same_ear.0 c.ask_one-2.ensures.asks)
 
 pub returns-clause-link : goal.returns-clause-link

@@ -15,12 +15,12 @@ give_up_alone-requires-clause-started g c =
     ap (is_started (g.D.Door.seen c.ask_alone.new.door)) c.ask_alone.ensures.link.same_ear.0 ∙ ap (λ (j : List Entry). is_started j c.args.link.now.ear.child) c.in-Err.ensures.none ∙ c.requires.may.started
 
 pub returns-in-Ok-clause-on : goal.returns-in-Ok-clause-on
-returns-in-Ok-clause-on g c =
+returns-in-Ok-clause-on g c = λ mode asked.
     let seen = g.D.Door.seen c.args.door.now in
     let by = g.D.Door.number c.args.door.now in
     let q = message_of c.args.request.now in
     greets_asked (g.D.Door.opening c.args.door.now) seen (g.D.Door.seen c.ask_alone.new.door) by c.args.link.now.ear.child q c.in-Ok.verdict c.requires.main.first c.requires.may.idle
-    (early_job seen by c.args.link.now.ear.child q c.requires.may.kind c.requires.may.may) c.in-Ok.ensures.asked
+    (early_job seen by c.args.link.now.ear.child q mode asked c.requires.may.may) c.in-Ok.ensures.asked
 
 pub returns-in-Ok-clause-asks : goal.returns-in-Ok-clause-asks
 returns-in-Ok-clause-asks g c =
@@ -31,7 +31,7 @@ returns-in-Ok-clause-asks g c =
     (c.ask_alone.ensures.door.legal c.requires.legal) c.requires.may.kind c.in-Ok.ensures.named c.in-Ok.ensures.asked)
 
 pub returns-in-Err-clause-on : goal.returns-in-Err-clause-on
-returns-in-Err-clause-on g c =
+returns-in-Err-clause-on g c = λ mode asked.
     greets_goes (g.D.Door.seen c.args.door.now) (g.D.Door.seen c.give_up_alone.new.door) c.args.link.now.ear.child c.requires.main.first
     (goes_as c.ask_alone.ensures.door.number c.ask_alone.ensures.link.same_ear.0 c.in-Err.ensures.none c.give_up_alone.ensures.goes) c.requires.may.idle
 

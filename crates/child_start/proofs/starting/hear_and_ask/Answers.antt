@@ -28,7 +28,7 @@ returns-in-Done-clause-on g c =
 
 pub returns-in-Done-clause-comes : goal.returns-in-Done-clause-comes
 returns-in-Done-clause-comes g c =
-    prepares_as (g.D.Door.seen c.ask_both.new.door) c.args.link.now.ear.child c.hear_version_alone.new.self.ear.child Done c.ask_both.result c.hear_version_alone.ensures.link.same_ear.0 c.in-Done.is c.ask_both.ensures.prepares
+    prepares_as c.args.mode (g.D.Door.seen c.ask_both.new.door) c.args.link.now.ear.child c.hear_version_alone.new.self.ear.child Done c.ask_both.result c.hear_version_alone.ensures.link.same_ear.0 c.in-Done.is c.ask_both.ensures.prepares
 
 pub returns-in-Refused-clause-on : goal.returns-in-Refused-clause-on
 returns-in-Refused-clause-on g c =
@@ -37,7 +37,7 @@ returns-in-Refused-clause-on g c =
 
 pub returns-in-Refused-clause-comes : goal.returns-in-Refused-clause-comes
 returns-in-Refused-clause-comes g c =
-    prepares_as (g.D.Door.seen c.ask_both.new.door) c.args.link.now.ear.child c.hear_version_alone.new.self.ear.child (Refused c.in-Refused.verdict) c.ask_both.result c.hear_version_alone.ensures.link.same_ear.0 c.in-Refused.is c.ask_both.ensures.prepares
+    prepares_as c.args.mode (g.D.Door.seen c.ask_both.new.door) c.args.link.now.ear.child c.hear_version_alone.new.self.ear.child (Refused c.in-Refused.verdict) c.ask_both.result c.hear_version_alone.ensures.link.same_ear.0 c.in-Refused.is c.ask_both.ensures.prepares
 
 pub why_ended_alone-requires-clause-started : goal.why_ended_alone-requires-clause-started
 why_ended_alone-requires-clause-started g c =
@@ -55,7 +55,7 @@ returns-in-Some-why_ended_alone-clause-comes g c =
     c.why_ended_alone.ensures.seen (c.ask_both.ensures.link.same_ear.0 ∙ c.hear_version_alone.ensures.link.same_ear.0) c.requires.begun
     (greets_heard (g.D.Door.seen c.args.door.now) (g.D.Door.seen c.hear_version_alone.new.door) (g.D.Door.seen c.ask_both.new.door) (g.D.Door.seen c.why_ended_alone.new.door)
     c.args.link.now.ear.child c.hear_version_alone.new.self.ear.child c.args.offer c.requires.main.first c.hear_version_alone.ensures.link.same_ear.0 c.requires.begun c.hear_version_alone.ensures.goes c.ask_both.ensures.on c.why_ended_alone.ensures.seen)
-    (prepares_as (g.D.Door.seen c.ask_both.new.door) c.args.link.now.ear.child c.hear_version_alone.new.self.ear.child Gone c.ask_both.result c.hear_version_alone.ensures.link.same_ear.0 c.in-Gone.is c.ask_both.ensures.prepares)
+    (prepares_as c.args.mode (g.D.Door.seen c.ask_both.new.door) c.args.link.now.ear.child c.hear_version_alone.new.self.ear.child Gone c.ask_both.result c.hear_version_alone.ensures.link.same_ear.0 c.in-Gone.is c.ask_both.ensures.prepares)
     (sym c.in-Some-why_ended_alone.is ∙ c.why_ended_alone.ensures.why)
 
 pub returns-in-None-clause-on : goal.returns-in-None-clause-on
@@ -67,7 +67,7 @@ pub returns-in-None-clause-comes : goal.returns-in-None-clause-comes
 returns-in-None-clause-comes g c =
     unsent_told (g.D.Door.seen c.ask_both.new.door) (g.D.Door.seen c.why_ended_alone.new.door) c.args.link.now.ear.child c.ask_both.new.link.ear.child
     c.why_ended_alone.ensures.seen (c.ask_both.ensures.link.same_ear.0 ∙ c.hear_version_alone.ensures.link.same_ear.0)
-    (prepares_as (g.D.Door.seen c.ask_both.new.door) c.args.link.now.ear.child c.hear_version_alone.new.self.ear.child Gone c.ask_both.result c.hear_version_alone.ensures.link.same_ear.0 c.in-Gone.is c.ask_both.ensures.prepares)
+    (prepares_as c.args.mode (g.D.Door.seen c.ask_both.new.door) c.args.link.now.ear.child c.hear_version_alone.new.self.ear.child Gone c.ask_both.result c.hear_version_alone.ensures.link.same_ear.0 c.in-Gone.is c.ask_both.ensures.prepares)
     (sym c.in-None.is ∙ c.why_ended_alone.ensures.why)
 
 pub ask_both-requires-clause-main : goal.ask_both-requires-clause-main
