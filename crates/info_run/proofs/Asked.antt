@@ -23,10 +23,12 @@ use Rattle.journal_model.proofs.Verdicts.{ended_verdict, unsent_verdict}
 use Rattle.talk_serial.specs.declared.request.Request.{Request}
 use Rattle.talk_serial.specs.Requests.{message_of}
 use Rattle.host_core.specs.Steps.{group_of, next_job, may_request}
-use Rattle.child_link.specs.Asks.{HasAsked, IsSettled, IsLost, lost_as}
-use Rattle.child_link.specs.Doors.{is_closed, is_of_link}
+use Rattle.journal_model.specs.Shares.{are_by, by_link, is_closed}
+use Rattle.link_roles.specs.Asks.{lost_as}
+use Rattle.link_roles.specs.Alone.{AskedAlone, IsSettled, IsLost}
 use Rattle.child_start.specs.Greetings.{is_of_greeting, Greeted, IsReady}
 use Rattle.child_start.proofs.Jobs.{idle_asked, jobs_settled, or_true}
+use Rattle.child_start.proofs.Requests.{main_both}
 use Rattle.info_run.specs.Infos.{is_answered, are_answered}
 use Rattle.info_run.specs.Askings.{is_of_asking, line_to, asked_lines, Asks, AsksFront, HasFailed, is_question, is_kept, MayGoOn}
 
@@ -58,25 +60,21 @@ all_both : (p : What → Bool) (xs ys : List Entry) → list_all (λ (e : Entry)
     → list_all (λ (e : Entry). p e.what) (xs ++ ys) ≡ true
 all_both p xs ys h k = list_all-append (λ (e : Entry). p e.what) xs ys ∙ ap (λ (b : Bool). b && list_all (λ (e : Entry). p e.what) ys) h ∙ k
 
-link_asking : (c : ℕ) (w : What) → is_of_link w ≡ true → is_of_asking c w ≡ true
+link_asking : (c : ℕ) (w : What) → by_link c w ≡ true → is_of_asking c w ≡ true
 link_asking c (Ask child job task line) h = absurd cc
 link_asking c (Lost child task) h = absurd cc
 link_asking c w h = h
 
-link_line : (c : ℕ) (w : What) → is_of_link w ≡ true → line_to c w ≡ None
+link_line : (c : ℕ) (w : What) → by_link c w ≡ true → line_to c w ≡ None
 link_line c (Ask child job task line) h = absurd cc
 link_line c w h = refl
-
-link_kept : (w : What) → is_of_link w ≡ true → is_kept w ≡ true
-link_kept (End child why) h = h
-link_kept w h = refl
 
 asking_offers : (c d : ℕ) (w : What) → is_of_asking c w ≡ true → offers d w ≡ false
 asking_offers c d (Start child slot offer) h = absurd cc
 asking_offers c d w h = refl
 
 asking_kept : (c : ℕ) (w : What) → is_of_asking c w ≡ true → is_kept w ≡ true
-asking_kept c (End child why) h = h
+asking_kept c (End child why) h = (both (child == c) (not (is_closed why)) h).1
 asking_kept c w h = refl
 
 greeting_offers : (c d : ℕ) (w : What) → is_of_greeting c w ≡ true → offers d w ≡ false
@@ -84,7 +82,7 @@ greeting_offers c d (Start child slot offer) h = absurd cc
 greeting_offers c d w h = refl
 
 greeting_kept : (c : ℕ) (w : What) → is_of_greeting c w ≡ true → is_kept w ≡ true
-greeting_kept c (End child why) h = h
+greeting_kept c (End child why) h = (both (child == c) (not (is_closed why)) h).1
 greeting_kept c w h = refl
 
 -- ---- a child that is ready
@@ -101,6 +99,7 @@ may_begin journal c g r =
         more = [];
         is = sym (append-nil journal);
         own = refl;
+        main = refl;
         lines = sym (append-nil (asked_lines journal c));
         idle = g.idle;
       };
@@ -192,7 +191,7 @@ not_lost : {A : Type 0} (v : Verdict) (why : Option Why) → is_some (final_in v
 not_lost v None h e = let bad : false ≡ true = subst (λ (x : Verdict). is_some (final_in x) ≡ true) e h in absurd cc
 not_lost v (Some why) h e = let bad : false ≡ true = subst (λ (x : Verdict). is_some (final_in x) ≡ true) e h in absurd cc
 
-module _ (o : Opening) (asked : List HostMessage) (old mid new : List Entry) (c by : ℕ) (q : HostMessage) (m : MayGoOn asked old mid c) where
+module _ (o : Opening) (asked : List HostMessage) (old mid new : List Entry) (c by : ℕ) (q : HostMessage) (first : by ≡ 0) (m : MayGoOn asked old mid c) where
   abbrev line : List ℕ
   line = on_wire mid c (next_job mid c) (host_line q)
 
@@ -214,12 +213,15 @@ module _ (o : Opening) (asked : List HostMessage) (old mid new : List Entry) (c 
     grown = s.goes.is ∙ append_assoc mid request s.goes.more
 
     own : list_all (λ (e : Entry). is_of_asking c e.what) more ≡ true
-    own = all_both (is_of_asking c) request s.goes.more (rw (same c) refl) (all_so is_of_link (is_of_asking c) (link_asking c) s.goes.more s.goes.quiet)
+    own = all_both (is_of_asking c) request s.goes.more (rw (same c) refl) (all_so (by_link c) (is_of_asking c) (link_asking c) s.goes.more s.goes.quiet)
+
+    main : are_by 0 more ≡ true
+    main = subst (λ (k : ℕ). are_by k more ≡ true) first (main_both by request s.goes.more (rw (same by) refl) s.goes.own)
 
     own_lines : asked_lines more c ≡ host_line q ∷ []
     own_lines =
         each_of-append (line_to c) request s.goes.more
-        ∙ ap (λ (ls : List (List ℕ)). asked_lines request c ++ ls) (nothing_so is_of_link (line_to c) (link_line c) s.goes.more s.goes.quiet)
+        ∙ ap (λ (ls : List (List ℕ)). asked_lines request c ++ ls) (nothing_so (by_link c) (line_to c) (link_line c) s.goes.more s.goes.quiet)
         ∙ append-nil (asked_lines request c) ∙ own_line (c == c) (same c) ∙ ap (λ (l : List ℕ). l ∷ []) plain_line
 
     lines : asked_lines new c ≡ asked_lines old c ++ map host_line (asked ++ q ∷ [])
@@ -235,6 +237,7 @@ module _ (o : Opening) (asked : List HostMessage) (old mid new : List Entry) (c 
       more = m.asks.more ++ more;
       is = grown ∙ ap (λ (x : List Entry). x ++ more) m.asks.is ∙ append_assoc old m.asks.more more;
       own = all_both (is_of_asking c) m.asks.more more m.asks.own own;
+      main = main_both 0 m.asks.more more m.asks.main main;
       lines = lines;
       idle = idle_asked o mid new by c 0 q v m.asks.idle (inl s);
     }
@@ -261,17 +264,19 @@ module _ (o : Opening) (asked : List HostMessage) (old mid new : List Entry) (c 
             let two : length (asked ++ q ∷ []) ≡ length asked + 1 = length-append asked (q ∷ []) in
             omega (arith, one, two, m.jobs)
 
-  pub goes_on : (v : Verdict) → is_some (final_in v) ≡ true → HasAsked o mid new by c 0 q v → MayGoOn (asked ++ q ∷ []) old new c
+  pub goes_on : (v : Verdict) → is_some (final_in v) ≡ true → AskedAlone o mid new by c 0 q v → MayGoOn (asked ++ q ∷ []) old new c
   goes_on v final (inl s) = goes_settled v s final
   goes_on v final (inr l) = not_lost v (why_of mid c) final l.lost
 
   pub asks_lost : (v : Verdict) → IsLost o mid new by c 0 v → Asks asked old new c
   asks_lost v l =
       let lost : List Entry = group_of o mid by (Lost c 0) in
+      let by_main : are_by by lost ≡ true = rw (same by) refl in
       record {
         more = m.asks.more ++ lost;
         is = l.made ∙ ap (λ (x : List Entry). x ++ lost) m.asks.is ∙ append_assoc old m.asks.more lost;
         own = all_both (is_of_asking c) m.asks.more lost m.asks.own (rw (same c) refl);
+        main = main_both 0 m.asks.more lost m.asks.main (subst (λ (k : ℕ). are_by k lost ≡ true) first by_main);
         lines = ap (λ (x : List Entry). asked_lines x c) l.made ∙ each_of-append (line_to c) mid lost ∙ append-nil (asked_lines mid c) ∙ m.asks.lines;
         idle = idle_asked o mid new by c 0 q v m.asks.idle (inr l);
       }
@@ -308,11 +313,11 @@ failed_end journal c kept h = go (why_of journal c) refl
     go (Some why) e = inl (why, e, unclosed c journal why kept e)
     go None e = let bad : false ≡ true = ap is_some (sym e) ∙ why_is_end journal c ∙ h in absurd cc
 
-module _ (o o' : Opening) (asked : List HostMessage) (old mid new : List Entry) (c by : ℕ) (q : HostMessage) (m : MayGoOn asked old mid c) where
-  keeps : (v : Verdict) → HasAsked o mid new by c 0 q v → list_all (λ (e : Entry). is_kept e.what) new ≡ true
+module _ (o o' : Opening) (asked : List HostMessage) (old mid new : List Entry) (c by : ℕ) (q : HostMessage) (first : by ≡ 0) (m : MayGoOn asked old mid c) where
+  keeps : (v : Verdict) → AskedAlone o mid new by c 0 q v → list_all (λ (e : Entry). is_kept e.what) new ≡ true
   keeps v (inl s) =
-      ap (list_all (λ (e : Entry). is_kept e.what)) (grown o asked old mid new c by q m v s)
-      ∙ all_both is_kept mid (more o asked old mid new c by q m v s) m.kept (all_so (is_of_asking c) is_kept (asking_kept c) (more o asked old mid new c by q m v s) (own o asked old mid new c by q m v s))
+      ap (list_all (λ (e : Entry). is_kept e.what)) (grown o asked old mid new c by q first m v s)
+      ∙ all_both is_kept mid (more o asked old mid new c by q first m v s) m.kept (all_so (is_of_asking c) is_kept (asking_kept c) (more o asked old mid new c by q first m v s) (own o asked old mid new c by q first m v s))
   keeps v (inr l) = ap (list_all (λ (e : Entry). is_kept e.what)) l.made ∙ all_both is_kept mid (group_of o mid by (Lost c 0)) m.kept refl
 
   lost_failed : (v : Verdict) → IsLost o mid new by c 0 v → HasFailed new c
@@ -324,11 +329,11 @@ module _ (o o' : Opening) (asked : List HostMessage) (old mid new : List Entry) 
       go false e h = inr (ap (λ (x : List Entry). is_mute x c) l.made ∙ any-append (mutes c) mid (group_of o mid by (Lost c 0)) ∙ ap (λ (b : Bool). b || is_mute (group_of o mid by (Lost c 0)) c) h)
 
   -- a question without an answer is the last
-  pub stops : (v : Verdict) → Legal o' new → is_some (final_in v) ≡ false → HasAsked o mid new by c 0 q v → (Asks asked old new c ⊎ Asks (asked ++ q ∷ []) old new c) × HasFailed new c
-  stops v legal over (inr l) = (inl (asks_lost o asked old mid new c by q m v l), lost_failed v l)
+  pub stops : (v : Verdict) → Legal o' new → is_some (final_in v) ≡ false → AskedAlone o mid new by c 0 q v → (Asks asked old new c ⊎ Asks (asked ++ q ∷ []) old new c) × HasFailed new c
+  stops v legal over (inr l) = (inl (asks_lost o asked old mid new c by q first m v l), lost_failed v l)
   stops (Ended why) legal over (inl s) =
-      (inr (asks_settled o asked old mid new c by q m (Ended why) s), failed_end new c (keeps (Ended why) (inl s)) (ended_verdict o' new legal c (next_job mid c) why s.settled))
-  stops Unsent legal over (inl s) = (inr (asks_settled o asked old mid new c by q m Unsent s), inr (unsent_verdict o' new legal c (next_job mid c) s.settled))
+      (inr (asks_settled o asked old mid new c by q first m (Ended why) s), failed_end new c (keeps (Ended why) (inl s)) (ended_verdict o' new legal c (next_job mid c) why s.settled))
+  stops Unsent legal over (inl s) = (inr (asks_settled o asked old mid new c by q first m Unsent s), inr (unsent_verdict o' new legal c (next_job mid c) s.settled))
   stops v legal over (inl s) = absurd cc
 
 -- ---- request by request

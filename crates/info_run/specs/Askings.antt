@@ -9,16 +9,16 @@ use Rattle.journal_model.specs.declared.entry.Entry.{Entry}
 use Rattle.journal_model.specs.Journal.{any, each_of, offers, is_started, is_mute, why_of, open_jobs}
 use Rattle.journal_model.specs.Legality.{is_prepared}
 use Rattle.host_core.specs.Steps.{next_job}
-use Rattle.child_link.specs.Doors.{is_closed, is_of_link}
+use Rattle.journal_model.specs.Shares.{are_by, by_link, is_closed}
 use Rattle.info_run.specs.Infos.{are_answered}
 
 -- ---- what is appended
 
--- the entry is of a link, or a request to c that is no task's
+-- the entry is of c's link, or a request to c that is no task's
 abbrev pub is_of_asking : ℕ → What → Bool
 is_of_asking c (Ask child job task line) = child == c && task == 0
 is_of_asking c (Lost child task) = child == c && task == 0
-is_of_asking c w = is_of_link w
+is_of_asking c w = by_link c w
 
 -- the line that the entry asks of c
 abbrev pub line_to : ℕ → What → Option (List ℕ)
@@ -29,11 +29,12 @@ line_to c _ = None
 abbrev pub asked_lines : List Entry → ℕ → List (List ℕ)
 asked_lines journal c = each_of (line_to c) journal
 
--- Behind old stand such entries alone. They ask these questions in order, and leave no job of c open.
+-- Behind old stand such entries alone, the main thread's own. They ask these questions in order, and leave no job of c open.
 pub record Asks (asked : List HostMessage) (old new : List Entry) (c : ℕ) : Type 0 where
   pub more : List Entry
   pub is : new ≡ old ++ more
   pub own : list_all (λ e. is_of_asking c e.what) more ≡ true
+  pub main : are_by 0 more ≡ true
   pub lines : asked_lines new c ≡ asked_lines old c ++ map host_line asked
   pub idle : open_jobs new c ≡ []
 

@@ -1,21 +1,23 @@
 // Asking a remote about itself, over a link to it.
-ghost use Rattle.std.specs.Prelude.{◌≡◌, ◌⊎◌, [], true, false, map, MatchResult, IfOk, IfSome, option_map};
+ghost use Rattle.std.specs.Prelude.{◌≡◌, ◌⊎◌, [], true, false, map, IfOk, IfSome, option_map};
 ghost use Rattle.std.specs.List.{list_all};
 ghost use Rattle.ann_key.specs.KeyRefs.{text_of};
 ghost use Rattle.annex_model.specs.Messages.{is_sent_key};
 ghost use Rattle.journal_model.specs.Legality.{Legal};
 ghost use Rattle.talk_serial.specs.Requests.{message_of};
-ghost use Rattle.child_link.specs.Links.{IsLinked};
+ghost use Rattle.link_roles.specs.Alone.{KeepsLink};
+ghost use Rattle.link_roles.specs.Doors.{IsSameDoor};
+ghost use Rattle.child_start.specs.Cores.{IsSameCore};
 ghost use Rattle.child_start.specs.Greetings.{Greeted, IsReady};
-ghost use Rattle.child_start.specs.Stages.{AreSameNumbers};
+ghost use Rattle.child_start.specs.Stages.{IsMain};
 ghost use Rattle.info_run.specs.Infos.{questions};
 ghost use Rattle.info_run.specs.Askings.{AsksFront, IsAnswered, HasFailed, is_question, MayGoOn};
 
 use crate::informed::is_final;
 use ann_key::{Key, KeyRef, NoMemory};
 use ann_outside::{Sink, Source};
-use child_link::{Door, Lone, OwnDoor};
 use host_core::Core;
+use link_roles::{Door, Lone, OwnDoor};
 use std::alloc::Global;
 use talk_serial::Request;
 
@@ -40,22 +42,17 @@ fn ask_each<I: Sink, O: Source, D: Door>(
     door: &mut D,
     requests: &[Request],
 ) -> Result<(), NoMemory>
-    requires alone { D.alone door.old ≡ true }
-    requires first { D.number door.old ≡ 0 }
+    requires main { IsMain (D.number door.old) (D.alone door.old) }
     requires legal { Legal (D.opening door.old) (D.seen door.old) }
     requires questions { list_all is_question (map message_of requests.now) ≡ true }
-    requires begins { MayGoOn [] (D.seen door.old) (D.seen door.old) link.old.child }
-    ensures asks { AsksFront (map message_of requests.now) (D.seen door.old) (D.seen door.new) link.old.child }
-    ensures comes { IfOk result (λ _. IsAnswered (map message_of requests.now) (D.seen door.old) (D.seen door.new) link.old.child ⊎ HasFailed (D.seen door.new) link.old.child) }
-    ensures linked { IsLinked I.taken I.faults O.given O.left O.faults (D.seen door.old) link.old → IsLinked I.taken I.faults O.given O.left O.faults (D.seen door.new) link.new }
-    ensures child { link.new.child ≡ link.old.child }
-    ensures numbers { AreSameNumbers I.number O.number link.old link.new }
-    ensures legal { Legal (D.opening door.new) (D.seen door.new) }
-    ensures opening { D.opening door.new ≡ D.opening door.old }
-    ensures loans { D.loans door.new ≡ D.loans door.old }
+    requires begins { MayGoOn [] (D.seen door.old) (D.seen door.old) link.old.ear.child }
+    ensures asks { AsksFront (map message_of requests.now) (D.seen door.old) (D.seen door.new) link.old.ear.child }
+    ensures comes { IfOk result (λ _. IsAnswered (map message_of requests.now) (D.seen door.old) (D.seen door.new) link.old.ear.child ⊎ HasFailed (D.seen door.new) link.old.ear.child) }
+    ensures link { KeepsLink (D.seen door.old) (D.seen door.new) link.old.ear link.new.ear link.old.mouth link.new.mouth }
+    ensures door { IsSameDoor D.opening D.number D.seen D.alone D.loans D.home door.old door.new }
 {
     for request in requests {
-        let verdict = link.ask(door, 0, request)?;
+        let verdict = link.ask_alone(door, 0, request)?;
         if !is_final(verdict) {
             return Ok(());
         }
@@ -71,14 +68,11 @@ fn ask_over<I: Sink, O: Source>(
 ) -> Result<(), NoMemory>
     requires legal { Legal core.old.opening core.old.journal }
     requires questions { list_all is_question (map message_of requests.now) ≡ true }
-    requires begins { MayGoOn [] core.old.journal core.old.journal link.old.child }
-    ensures asks { AsksFront (map message_of requests.now) core.old.journal core.new.journal link.old.child }
-    ensures comes { IfOk result (λ _. IsAnswered (map message_of requests.now) core.old.journal core.new.journal link.old.child ⊎ HasFailed core.new.journal link.old.child) }
-    ensures linked { IsLinked I.taken I.faults O.given O.left O.faults core.old.journal link.old → IsLinked I.taken I.faults O.given O.left O.faults core.new.journal link.new }
-    ensures child { link.new.child ≡ link.old.child }
-    ensures numbers { AreSameNumbers I.number O.number link.old link.new }
-    ensures legal { Legal core.new.opening core.new.journal }
-    ensures opening { core.new.opening ≡ core.old.opening }
+    requires begins { MayGoOn [] core.old.journal core.old.journal link.old.ear.child }
+    ensures asks { AsksFront (map message_of requests.now) core.old.journal core.new.journal link.old.ear.child }
+    ensures comes { IfOk result (λ _. IsAnswered (map message_of requests.now) core.old.journal core.new.journal link.old.ear.child ⊎ HasFailed core.new.journal link.old.ear.child) }
+    ensures link { KeepsLink core.old.journal core.new.journal link.old.ear link.new.ear link.old.mouth link.new.mouth }
+    ensures core { IsSameCore core.old core.new }
 {
     let mut door = OwnDoor { core };
     let asked = ask_each(link, &mut door, requests);
@@ -96,15 +90,12 @@ pub fn ask_all<I: Sink, O: Source>(
 ) -> Result<(), NoMemory>
     requires legal { Legal core.old.opening core.old.journal }
     requires key { IfSome key (λ k. is_sent_key (text_of k) ≡ true) }
-    requires greeted { Greeted [] core.old.journal 0 false link.old.child }
-    requires ready { IsReady core.old.journal link.old.child }
-    ensures asks { AsksFront (questions (option_map text_of key.entry)) core.old.journal core.new.journal link.old.child }
-    ensures comes { IfOk result (λ _. IsAnswered (questions (option_map text_of key.entry)) core.old.journal core.new.journal link.old.child ⊎ HasFailed core.new.journal link.old.child) }
-    ensures linked { IsLinked I.taken I.faults O.given O.left O.faults core.old.journal link.old → IsLinked I.taken I.faults O.given O.left O.faults core.new.journal link.new }
-    ensures child { link.new.child ≡ link.old.child }
-    ensures numbers { (I.number link.new.inlet ≡ I.number link.old.inlet) × (O.number link.new.outlet ≡ O.number link.old.outlet) }
-    ensures opening { core.new.opening ≡ core.old.opening }
-    ensures legal { Legal core.new.opening core.new.journal }
+    requires greeted { Greeted [] core.old.journal 0 false link.old.ear.child }
+    requires ready { IsReady core.old.journal link.old.ear.child }
+    ensures asks { AsksFront (questions (option_map text_of key.entry)) core.old.journal core.new.journal link.old.ear.child }
+    ensures comes { IfOk result (λ _. IsAnswered (questions (option_map text_of key.entry)) core.old.journal core.new.journal link.old.ear.child ⊎ HasFailed core.new.journal link.old.ear.child) }
+    ensures link { KeepsLink core.old.journal core.new.journal link.old.ear link.new.ear link.old.mouth link.new.mouth }
+    ensures core { IsSameCore core.old core.new }
 {
     let requests = requests(alloc, key)?;
     ask_over(link, core, &requests)

@@ -1,33 +1,36 @@
-use Rattle.std.proofs.Common.{◌≡◌, ◌<◌, ◌∙◌, ℕ, List, sym, subst, map, take, length, arith, inr, true, false}
+use Rattle.std.proofs.Common.{◌≡◌, ◌<◌, ◌∙◌, ℕ, List, refl, sym, ap, subst, map, take, length, arith, inr, true, false}
 use Rattle.std.specs.Prelude.{is_some}
 use Rattle.annex_model.specs.Messages.{HostMessage}
 use Rattle.journal_model.specs.declared.entry.Entry.{Entry}
+use Rattle.journal_model.specs.Journal.{is_started}
 use Rattle.journal_model.specs.Projection.{final_in}
 use Rattle.talk_serial.specs.Requests.{message_of}
-use Rattle.child_link.specs.Asks.{HasAsked}
+use Rattle.link_roles.specs.Alone.{AskedAlone}
+use Rattle.link_roles.proofs.Roles.{same_both}
+use Rattle.link_roles.proofs.Solo.{keeps_own, keeps_both}
 use Rattle.info_run.specs.Askings.{Asks, MayGoOn}
 use Rattle.info_run.proofs.Asked.{may_next, goes_on, stops, asked_question, one_more, front, front_either}
 use Rattle.info_run.proofs.asking.ask_each.Goals as goal
 
-pub ask-requires-clause-may : goal.ask-requires-clause-may
-ask-requires-clause-may g c =
+pub ask_alone-requires-clause-may : goal.ask_alone-requires-clause-may
+ask_alone-requires-clause-may g c =
     let before = c.loop-request.invariant in
     let within : c.loop-request.request-index < length c.args.requests.now = omega arith in
     may_next (map message_of (take c.loop-request.request-index c.args.requests.now)) (g.D.Door.seen c.args.door.now) (g.D.Door.seen c.loop-request.door)
-    c.args.link.now.child c.loop-request.link.child (g.D.Door.number c.loop-request.door) (message_of c.request-item.result) before.child before.first before.goes
+    c.args.link.now.ear.child c.loop-request.link.ear.child (g.D.Door.number c.loop-request.door) (message_of c.request-item.result) before.link.same_ear.0 (before.door.number ∙ c.requires.main.first) before.goes
     (asked_question c.args.requests.now c.loop-request.request-index c.request-item.result c.requires.questions within c.request-item.is)
 
 pub returns-in_err-verdict-clause-asks : goal.returns-in_err-verdict-clause-asks
 returns-in_err-verdict-clause-asks g c =
     let old = g.D.Door.seen c.args.door.now in
-    subst (λ (new : List Entry). (n : ℕ) × Asks (take n (map message_of c.args.requests.now)) old new c.args.link.now.child) (sym c.in_err-verdict.ensures.none.0)
-    (front c.args.requests.now c.loop-request.request-index old (g.D.Door.seen c.loop-request.door) c.args.link.now.child c.loop-request.invariant.goes.asks)
+    subst (λ (new : List Entry). (n : ℕ) × Asks (take n (map message_of c.args.requests.now)) old new c.args.link.now.ear.child) (sym c.in_err-verdict.ensures.none)
+    (front c.args.requests.now c.loop-request.request-index old (g.D.Door.seen c.loop-request.door) c.args.link.now.ear.child c.loop-request.invariant.goes.asks)
 
 pub returns-then-not-is_final-clause-asks : goal.returns-then-not-is_final-clause-asks
 returns-then-not-is_final-clause-asks g c =
     let before = c.loop-request.invariant in
     let mid = g.D.Door.seen c.loop-request.door in
-    let new = g.D.Door.seen c.ask.new.door in
+    let new = g.D.Door.seen c.ask_alone.new.door in
     let o = g.D.Door.opening c.loop-request.door in
     let by = g.D.Door.number c.loop-request.door in
     let q = message_of c.request-item.result in
@@ -35,23 +38,23 @@ returns-then-not-is_final-clause-asks g c =
     let over : is_some (final_in v) ≡ false = cc in
     let within : c.loop-request.request-index < length c.args.requests.now = omega arith in
     let end =
-    stops o (g.D.Door.opening c.ask.new.door) (map message_of (take c.loop-request.request-index c.args.requests.now)) (g.D.Door.seen c.args.door.now) mid new c.args.link.now.child by q before.goes v
-    (c.in_ok-verdict.ensures.legal before.legal) over (subst (λ (k : ℕ). HasAsked o mid new by k 0 q v) before.child c.in_ok-verdict.ensures.asked) in
-    front_either c.args.requests.now c.loop-request.request-index c.request-item.result (g.D.Door.seen c.args.door.now) new c.args.link.now.child within c.request-item.is end.0
+    stops o (g.D.Door.opening c.ask_alone.new.door) (map message_of (take c.loop-request.request-index c.args.requests.now)) (g.D.Door.seen c.args.door.now) mid new c.args.link.now.ear.child by q (before.door.number ∙ c.requires.main.first) before.goes v
+    ((same_both before.door c.in_ok-verdict.ensures.door).legal c.requires.legal) over (subst (λ (k : ℕ). AskedAlone o mid new by k 0 q v) before.link.same_ear.0 c.in_ok-verdict.ensures.asked) in
+    front_either c.args.requests.now c.loop-request.request-index c.request-item.result (g.D.Door.seen c.args.door.now) new c.args.link.now.ear.child within c.request-item.is end.0
 
 pub returns-then-not-is_final-clause-comes : goal.returns-then-not-is_final-clause-comes
 returns-then-not-is_final-clause-comes g c =
     let before = c.loop-request.invariant in
     let mid = g.D.Door.seen c.loop-request.door in
-    let new = g.D.Door.seen c.ask.new.door in
+    let new = g.D.Door.seen c.ask_alone.new.door in
     let o = g.D.Door.opening c.loop-request.door in
     let by = g.D.Door.number c.loop-request.door in
     let q = message_of c.request-item.result in
     let v = c.in_ok-verdict.verdict in
     let over : is_some (final_in v) ≡ false = cc in
     let end =
-    stops o (g.D.Door.opening c.ask.new.door) (map message_of (take c.loop-request.request-index c.args.requests.now)) (g.D.Door.seen c.args.door.now) mid new c.args.link.now.child by q before.goes v
-    (c.in_ok-verdict.ensures.legal before.legal) over (subst (λ (k : ℕ). HasAsked o mid new by k 0 q v) before.child c.in_ok-verdict.ensures.asked) in
+    stops o (g.D.Door.opening c.ask_alone.new.door) (map message_of (take c.loop-request.request-index c.args.requests.now)) (g.D.Door.seen c.args.door.now) mid new c.args.link.now.ear.child by q (before.door.number ∙ c.requires.main.first) before.goes v
+    ((same_both before.door c.in_ok-verdict.ensures.door).legal c.requires.legal) over (subst (λ (k : ℕ). AskedAlone o mid new by k 0 q v) before.link.same_ear.0 c.in_ok-verdict.ensures.asked) in
     inr end.1
 
 pub loop-request-preserved : goal.loop-request-preserved
@@ -60,7 +63,7 @@ loop-request-preserved g c =
     let after = c.in_ok-verdict.ensures in
     let old = g.D.Door.seen c.args.door.now in
     let mid = g.D.Door.seen c.loop-request.door in
-    let new = g.D.Door.seen c.ask.new.door in
+    let new = g.D.Door.seen c.ask_alone.new.door in
     let o = g.D.Door.opening c.loop-request.door in
     let by = g.D.Door.number c.loop-request.door in
     let q = message_of c.request-item.result in
@@ -68,20 +71,42 @@ loop-request-preserved g c =
     let final : is_some (final_in v) ≡ true = cc in
     let within : c.loop-request.request-index < length c.args.requests.now = omega arith in
     record {
-      alone = after.alone;
-      first = after.number ∙ before.first;
-      legal = after.legal before.legal;
       goes =
-          subst (λ (qs : List HostMessage). MayGoOn qs old new c.args.link.now.child) (one_more c.args.requests.now c.loop-request.request-index c.request-item.result within c.request-item.is)
-          (goes_on o (map message_of (take c.loop-request.request-index c.args.requests.now)) old mid new c.args.link.now.child by q before.goes v final
-          (subst (λ (k : ℕ). HasAsked o mid new by k 0 q v) before.child after.asked));
-      linked = λ h. after.linked (before.linked h);
-      child = after.child ∙ before.child;
-      numbers = (after.numbers.0 ∙ before.numbers.0, after.numbers.1 ∙ before.numbers.1);
-      opening = after.opening ∙ before.opening;
-      loans = after.loans ∙ before.loans;
+          subst (λ (qs : List HostMessage). MayGoOn qs old new c.args.link.now.ear.child) (one_more c.args.requests.now c.loop-request.request-index c.request-item.result within c.request-item.is)
+          (goes_on o (map message_of (take c.loop-request.request-index c.args.requests.now)) old mid new c.args.link.now.ear.child by q (before.door.number ∙ c.requires.main.first) before.goes v final
+          (subst (λ (k : ℕ). AskedAlone o mid new by k 0 q v) before.link.same_ear.0 after.asked));
+      link = keeps_both before.link after.link;
+      door = same_both before.door after.door;
     }
 
 pub returns-clause-asks : goal.returns-clause-asks
 returns-clause-asks g c =
-    front c.args.requests.now c.loop-request.request-index (g.D.Door.seen c.args.door.now) (g.D.Door.seen c.loop-request.door) c.args.link.now.child c.loop-request.invariant.goes.asks
+    front c.args.requests.now c.loop-request.request-index (g.D.Door.seen c.args.door.now) (g.D.Door.seen c.loop-request.door) c.args.link.now.ear.child c.loop-request.invariant.goes.asks
+
+pub loop-request-init : goal.loop-request-init
+loop-request-init g c = record {
+  goes = c.requires.begins;
+  link = keeps_own (λ h. h);
+  door = record { opening = refl; number = refl; alone = refl; loans = refl; home = refl; legal = λ h. h };
+}
+
+pub ask_alone-requires-clause-alone : goal.ask_alone-requires-clause-alone
+ask_alone-requires-clause-alone g c = c.loop-request.invariant.door.alone ∙ c.requires.main.lone
+
+pub ask_alone-requires-clause-started : goal.ask_alone-requires-clause-started
+ask_alone-requires-clause-started g c = ap (is_started (g.D.Door.seen c.loop-request.door)) c.loop-request.invariant.link.same_ear.0 ∙ c.loop-request.invariant.goes.started
+
+pub ask_alone-requires-clause-legal : goal.ask_alone-requires-clause-legal
+ask_alone-requires-clause-legal g c = c.loop-request.invariant.door.legal c.requires.legal
+
+pub returns-in_err-verdict-clause-link : goal.returns-in_err-verdict-clause-link
+returns-in_err-verdict-clause-link g c = keeps_both c.loop-request.invariant.link c.in_err-verdict.ensures.link
+
+pub returns-in_err-verdict-clause-door : goal.returns-in_err-verdict-clause-door
+returns-in_err-verdict-clause-door g c = same_both c.loop-request.invariant.door c.in_err-verdict.ensures.door
+
+pub returns-then-not-is_final-clause-link : goal.returns-then-not-is_final-clause-link
+returns-then-not-is_final-clause-link g c = keeps_both c.loop-request.invariant.link c.in_ok-verdict.ensures.link
+
+pub returns-then-not-is_final-clause-door : goal.returns-then-not-is_final-clause-door
+returns-then-not-is_final-clause-door g c = same_both c.loop-request.invariant.door c.in_ok-verdict.ensures.door
