@@ -74,7 +74,7 @@ behind_so : {X : Type 0} (o : Option X) (behind : ℕ) (xs : List X) → (behind
 behind_so None behind xs = omega arith
 behind_so (Some x) behind xs = omega arith
 
-notings_from-append : (j : List Entry) (t : ℕ) (past : List Entry) (behind : ℕ) (xs ys : List Entry)
+pub notings_from-append : (j : List Entry) (t : ℕ) (past : List Entry) (behind : ℕ) (xs ys : List Entry)
     → notings_from j t past behind (xs ++ ys) ≡ notings_from j t past behind xs ++ notings_from j t (past ++ xs) (behind + length (askings_from j t past xs)) ys
 notings_from-append j t past behind [] ys =
     let none : behind + 0 ≡ behind = omega arith in
@@ -95,7 +95,7 @@ unnoted : (t behind : ℕ) (w : What) → notes_for t w ≡ false → noting_of 
 unnoted t behind (Note task chunk count) h = rw h refl
 unnoted t behind w h = refl
 
-notings_from-none : (j : List Entry) (t : ℕ) (past : List Entry) (behind : ℕ) (xs : List Entry) → any (notes_for t) xs ≡ false → notings_from j t past behind xs ≡ []
+pub notings_from-none : (j : List Entry) (t : ℕ) (past : List Entry) (behind : ℕ) (xs : List Entry) → any (notes_for t) xs ≡ false → notings_from j t past behind xs ≡ []
 notings_from-none j t past behind [] h = refl
 notings_from-none j t past behind (e ∷ xs) h =
     let now : ℕ = behind + length (cons_option (asking_of j t past e.what) []) in

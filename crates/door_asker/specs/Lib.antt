@@ -1,2 +1,4 @@
 pub mod AtTasks
 pub mod Noting
+pub mod Servings
+pub mod ServingLaws

@@ -2,7 +2,9 @@
 #![tactic(auto)]
 
 mod links;
+mod lone_asker;
 mod notes;
 
 pub use links::ask_by_link;
+pub use lone_asker::LoneAsker;
 pub use notes::note;

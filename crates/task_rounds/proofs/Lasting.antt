@@ -20,7 +20,7 @@ use Rattle.task_run.specs.Askings.{TaskStretch, past_claim, run_askings, run_not
 use Rattle.task_run.specs.Runs.{TaskRun}
 use Rattle.journal_model.specs.Makers.{is_of_task}
 use Rattle.journal_model.proofs.Working.{AllAsked, all_asked, kept_verdict}
-use Rattle.task_rounds.specs.JournalRuns.{JournalRun}
+use Rattle.task_rounds.specs.JournalRuns.{JournalRun, PlainRun, PlainIsWhole}
 
 -- ---- the same verdicts
 
@@ -78,7 +78,7 @@ notings_alike j k t past behind (e ∷ xs) h =
 -- ---- a run
 
 -- the run in a longer journal
-abbrev stretch_more : (past more : List Entry) (t : ℕ) → TaskStretch past t → TaskStretch (past ++ more) t
+abbrev pub stretch_more : (past more : List Entry) (t : ℕ) → TaskStretch past t → TaskStretch (past ++ more) t
 stretch_more past more t run = record {
   past = run.past;
   by = run.by;
@@ -121,6 +121,13 @@ within_alike past more t run shut = same_verdicts past more (each_of (job_for t)
         (sym (list_any-append (λ (q : ℕ × ℕ). is_open past q.0 q.1) front (each_of (job_for t) run.within))
         ∙ either_left (list_any (λ q. is_open past q.0 q.1) (front ++ each_of (job_for t) run.within)) (list_any (λ q. is_open past q.0 q.1) back) whole)
 
+-- what a run asked and noted is the same in a longer journal
+more_asked : (past more : List Entry) (t : ℕ) (run : TaskStretch past t) → has_open_job past t ≡ false → run_askings (stretch_more past more t run) ≡ run_askings run
+more_asked past more t run shut = askings_alike (past ++ more) past t (past_claim run) run.within (within_alike past more t run shut)
+
+more_noted : (past more : List Entry) (t : ℕ) (run : TaskStretch past t) → has_open_job past t ≡ false → run_notings (stretch_more past more t run) ≡ run_notings run
+more_noted past more t run shut = notings_alike (past ++ more) past t (past_claim run) 0 run.within (within_alike past more t run shut)
+
 pub run_lasts : (o : Opening) (setup : Setup) (calls : ℕ → ℕ → List Call) (n t : ℕ) (past more : List Entry) → any (is_of_task t) more ≡ false → has_open_job past t ≡ false
     → JournalRun o setup (calls n t) n t past → JournalRun o setup (calls n t) n t (past ++ more)
 run_lasts o setup calls n t past more none shut r = record {
@@ -130,15 +137,20 @@ run_lasts o setup calls n t past more none shut r = record {
   by_it = r.by_it;
   layouts = r.layouts;
   known = r.known;
-  ran = subst (λ (xs : List Asking). TaskRun r.task t setup r.layouts xs (calls n t) (run_notings (stretch_more past more t r.run)) r.run.answer) (sym asked)
-      (subst (λ (xs : List Noting). TaskRun r.task t setup r.layouts (run_askings r.run) (calls n t) xs r.run.answer) (sym noted) r.ran);
+  ran = subst (λ (xs : List Asking). TaskRun r.task t setup r.layouts xs (calls n t) (run_notings (stretch_more past more t r.run)) r.run.answer) (sym (more_asked past more t r.run shut))
+      (subst (λ (xs : List Noting). TaskRun r.task t setup r.layouts (run_askings r.run) (calls n t) xs r.run.answer) (sym (more_noted past more t r.run shut)) r.ran);
 }
-  where
-    verdicts : SameVerdicts (past ++ more) past (each_of (job_for t) r.run.within)
-    verdicts = within_alike past more t r.run shut
 
-    asked : run_askings (stretch_more past more t r.run) ≡ run_askings r.run
-    asked = askings_alike (past ++ more) past t (past_claim r.run) r.run.within verdicts
+pub plain_lasts : (o : Opening) (setup : Setup) (calls : List Call) (n t : ℕ) (past more : List Entry) → has_open_job past t ≡ false
+    → PlainRun o setup calls n t past → PlainRun o setup calls n t (past ++ more)
+plain_lasts o setup calls n t past more shut r = record {
+  task = r.task;
+  is = r.is;
+  run = stretch_more past more t r.run;
+  by_it = r.by_it;
+  ran = subst (λ (xs : List Asking). TaskRun r.task t setup [] xs calls (run_notings (stretch_more past more t r.run)) r.run.answer) (sym (more_asked past more t r.run shut))
+      (subst (λ (xs : List Noting). TaskRun r.task t setup [] (run_askings r.run) calls xs r.run.answer) (sym (more_noted past more t r.run shut)) r.ran);
+}
 
-    noted : run_notings (stretch_more past more t r.run) ≡ run_notings r.run
-    noted = notings_alike (past ++ more) past t (past_claim r.run) 0 r.run.within verdicts
+pub plain_is_whole : PlainIsWhole
+plain_is_whole o setup calls number t journal r known = record { task = r.task; is = r.is; run = r.run; by_it = r.by_it; layouts = []; known = known; ran = r.ran }

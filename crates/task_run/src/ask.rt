@@ -22,12 +22,14 @@ pub fn present<A: Asker>(
     key: KeyRef<'_>,
 ) -> Result<Verdict, NoMemory>
     requires task { number ≡ A.task asker.old }
+    requires ready { A.ready asker.old }
     requires key { is_sent_key (text_of key) ≡ true }
     ensures pairs { AskAdds (A.pairs asker.old) (A.pairs asker.new) (Checkpresent (text_of key.entry)) result }
     ensures verdict { IfOk result (λ v. is_verdict_of (Checkpresent (text_of key.entry)) v ≡ true) }
     ensures notes { A.notes asker.new ≡ A.notes asker.old }
     ensures layouts { A.current asker.new ≡ A.current asker.old }
     ensures same { IsSameTask (A.task asker.old) (A.task asker.new) (A.may_note asker.old) (A.may_note asker.new) (A.loans asker.old) (A.loans asker.new) }
+    ensures on { A.goes_on asker.old asker.new }
 {
     let key = Key::copy(alloc, key)?;
     asker.ask(alloc, number, &Request::CheckPresent { key })
@@ -41,12 +43,14 @@ pub fn remove<A: Asker>(
     key: KeyRef<'_>,
 ) -> Result<Verdict, NoMemory>
     requires task { number ≡ A.task asker.old }
+    requires ready { A.ready asker.old }
     requires key { is_sent_key (text_of key) ≡ true }
     ensures pairs { AskAdds (A.pairs asker.old) (A.pairs asker.new) (Remove (text_of key.entry)) result }
     ensures verdict { IfOk result (λ v. is_verdict_of (Remove (text_of key.entry)) v ≡ true) }
     ensures notes { A.notes asker.new ≡ A.notes asker.old }
     ensures layouts { A.current asker.new ≡ A.current asker.old }
     ensures same { IsSameTask (A.task asker.old) (A.task asker.new) (A.may_note asker.old) (A.may_note asker.new) (A.loans asker.old) (A.loans asker.new) }
+    ensures on { A.goes_on asker.old asker.new }
 {
     let key = Key::copy(alloc, key)?;
     asker.ask(alloc, number, &Request::Remove { key })
@@ -62,6 +66,7 @@ pub fn transfer<A: Asker>(
     file: &str,
 ) -> Result<Verdict, NoMemory>
     requires task { number ≡ A.task asker.old }
+    requires ready { A.ready asker.old }
     requires key { is_sent_key (text_of key) ≡ true }
     requires file { has_newline file.now ≡ false }
     ensures pairs { AskAdds (A.pairs asker.old) (A.pairs asker.new) (Transfer store (text_of key.entry) file.now) result }
@@ -69,6 +74,7 @@ pub fn transfer<A: Asker>(
     ensures notes { A.notes asker.new ≡ A.notes asker.old }
     ensures layouts { A.current asker.new ≡ A.current asker.old }
     ensures same { IsSameTask (A.task asker.old) (A.task asker.new) (A.may_note asker.old) (A.may_note asker.new) (A.loans asker.old) (A.loans asker.new) }
+    ensures on { A.goes_on asker.old asker.new }
 {
     let key = Key::copy(alloc, key)?;
     let file = Text::copy(alloc, file)?;

@@ -10,6 +10,7 @@ ghost use Rattle.task_text.specs.TaskLines.{IsTask};
 ghost use Rattle.task_text.specs.declared.task.Work.TheVariants as W;
 ghost use Rattle.ann_outside.specs.Calls.{logged};
 ghost use Rattle.ann_outside.specs.declared.file_desk.Call.TheVariants.{Remove};
+ghost use Rattle.task_asker.specs.Askings.{IsSameTask};
 
 use crate::answers::{is_done, undone_answer};
 use crate::ask;
@@ -123,8 +124,11 @@ pub fn get<A: Asker, D: Desk>(
     requires work { task.now.work ≡ W.Get }
     requires folder { has_newline setup.now.work ≡ false }
     requires number { number ≡ A.task asker.old }
+    requires ready { A.ready asker.old }
     ensures ran { RanGet task.now number setup.now [] (A.pairs asker.old) (A.pairs asker.new) (D.log desk.old) (D.log desk.new) result }
     ensures notes { A.notes asker.new ≡ A.notes asker.old }
+    ensures same { IsSameTask (A.task asker.old) (A.task asker.new) (A.may_note asker.old) (A.may_note asker.new) (A.loans asker.old) (A.loans asker.new) }
+    ensures on { A.goes_on asker.old asker.new }
     ensures causes { HasTaskCauses (D.counts desk.old) (D.counts desk.new) result }
 {
     let Ok(fetch) = fetch_name(alloc, setup, number, 1) else {
@@ -151,9 +155,12 @@ fn get_by<A: Asker, D: Desk>(
     requires line { has_newline fetch.now ≡ false }
     requires differ { fetch.now ≢ part.now }
     requires number { number ≡ A.task asker.old }
+    requires ready { A.ready asker.old }
     ensures ran { (setup : Setup) → fetch.now ≡ fetch_file setup number 1 → part.now ≡ part_of task.now.file
         → RanGet task.now number setup [] (A.pairs asker.old) (A.pairs asker.new) (D.log desk.old) (D.log desk.new) result }
     ensures notes { A.notes asker.new ≡ A.notes asker.old }
+    ensures same { IsSameTask (A.task asker.old) (A.task asker.new) (A.may_note asker.old) (A.may_note asker.new) (A.loans asker.old) (A.loans asker.new) }
+    ensures on { A.goes_on asker.old asker.new }
     ensures causes { HasTaskCauses (D.counts desk.old) (D.counts desk.new) result }
 {
     let key = task.key.view();

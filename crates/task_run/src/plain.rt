@@ -4,6 +4,7 @@ ghost use Rattle.ann_key.specs.KeyRefs.{text_of};
 ghost use Rattle.task_text.specs.TaskLines.{IsTask};
 ghost use Rattle.task_text.specs.declared.task.Work.TheVariants as W;
 ghost use Rattle.task_run.specs.Ran.{RanAsking, may_follow_refusal};
+ghost use Rattle.task_asker.specs.Askings.{IsSameTask};
 
 use crate::answers::change_answer;
 use crate::ask;
@@ -24,8 +25,11 @@ pub fn check<A: Asker>(
     requires task { IsTask task.now }
     requires work { task.now.work ≡ W.Check }
     requires number { number ≡ A.task asker.old }
+    requires ready { A.ready asker.old }
     ensures ran { RanAsking task.now number [] (A.pairs asker.old) (A.pairs asker.new) result }
     ensures notes { A.notes asker.new ≡ A.notes asker.old }
+    ensures same { IsSameTask (A.task asker.old) (A.task asker.new) (A.may_note asker.old) (A.may_note asker.new) (A.loans asker.old) (A.loans asker.new) }
+    ensures on { A.goes_on asker.old asker.new }
     ensures content { IfOk result (λ answer. may_follow_refusal (Ok answer) ≡ false) }
 {
     match ask::present(alloc, asker, number, task.key.view()) {
@@ -44,8 +48,11 @@ pub fn drop_key<A: Asker>(
     requires task { IsTask task.now }
     requires work { task.now.work ≡ W.Drop }
     requires number { number ≡ A.task asker.old }
+    requires ready { A.ready asker.old }
     ensures ran { RanAsking task.now number [] (A.pairs asker.old) (A.pairs asker.new) result }
     ensures notes { A.notes asker.new ≡ A.notes asker.old }
+    ensures same { IsSameTask (A.task asker.old) (A.task asker.new) (A.may_note asker.old) (A.may_note asker.new) (A.loans asker.old) (A.loans asker.new) }
+    ensures on { A.goes_on asker.old asker.new }
     ensures content { IfOk result (λ answer. may_follow_refusal (Ok answer) ≡ false) }
 {
     match ask::remove(alloc, asker, number, task.key.view()) {

@@ -3,6 +3,7 @@ ghost use Rattle.std.specs.Prelude.{◌≡◌, [], false};
 ghost use Rattle.annex_model.specs.Lines.{has_newline};
 ghost use Rattle.task_text.specs.TaskLines.{IsTask};
 ghost use Rattle.task_run.specs.Ran.{Ran, HasTaskCauses};
+ghost use Rattle.task_asker.specs.Askings.{IsSameTask};
 
 use crate::get::get;
 use crate::plain::{check, drop_key};
@@ -28,7 +29,10 @@ pub fn run_task<A: Asker, D: Desk>(
     requires folder { has_newline setup.now.work ≡ false }
     requires whole { setup.now.chunk ≡ 0 }
     requires number { number ≡ A.task asker.old }
+    requires ready { A.ready asker.old }
     ensures ran { Ran task.now number setup.now [] (A.pairs asker.old) (A.pairs asker.new) (A.notes asker.old) (A.notes asker.new) (D.log desk.old) (D.log desk.new) result }
+    ensures same { IsSameTask (A.task asker.old) (A.task asker.new) (A.may_note asker.old) (A.may_note asker.new) (A.loans asker.old) (A.loans asker.new) }
+    ensures on { A.goes_on asker.old asker.new }
     ensures causes { HasTaskCauses (D.counts desk.old) (D.counts desk.new) result }
 {
     match task.work {

@@ -4,6 +4,7 @@ ghost use Rattle.task_text.specs.TaskLines.{IsTask};
 ghost use Rattle.task_text.specs.declared.task.Work.TheVariants as W;
 ghost use Rattle.task_run.specs.Stores.{is_size};
 ghost use Rattle.task_run.specs.Ran.{RanPlain, refusal, HasTaskCauses};
+ghost use Rattle.task_asker.specs.Askings.{IsSameTask};
 
 use crate::answers::change_answer;
 use crate::ask;
@@ -34,8 +35,11 @@ pub fn store<A: Asker, D: Desk>(
     requires task { IsTask task.now }
     requires work { task.now.work ≡ W.Store }
     requires number { number ≡ A.task asker.old }
+    requires ready { A.ready asker.old }
     ensures ran { RanPlain task.now number [] (A.pairs asker.old) (A.pairs asker.new) (D.log desk.old) (D.log desk.new) result }
     ensures notes { A.notes asker.new ≡ A.notes asker.old }
+    ensures same { IsSameTask (A.task asker.old) (A.task asker.new) (A.may_note asker.old) (A.may_note asker.new) (A.loans asker.old) (A.loans asker.new) }
+    ensures on { A.goes_on asker.old asker.new }
     ensures causes { HasTaskCauses (D.counts desk.old) (D.counts desk.new) result }
 {
     let key = task.key.view();

@@ -119,6 +119,10 @@ impl Asker for ScriptAsker {
 
     ghost loans = { λ a. [] };
 
+    ghost ready = { λ a. Unit {0} };
+
+    ghost goes_on = { λ a b. Unit {0} };
+
     fn ask(&mut self, alloc: Global, number: u32, request: &Request) -> Result<Verdict, NoMemory> {
         let request = request.copy(alloc)?;
         self.asked.reserve(1)?;
