@@ -43,13 +43,13 @@ abbrev first_byte : List ℕ → ℕ
 first_byte [] = 0
 first_byte (b ∷ bytes) = b
 
-task_begin : (text : List ℕ) → worded (codes "task") text ≡ begin → ⊥
+pub task_begin : (text : List ℕ) → worded (codes "task") text ≡ begin → ⊥
 task_begin text e = let bytes : 116 ≡ 98 = ap first_byte e in absurd (omega (arith, bytes))
 
-keep_begin : (text : List ℕ) → worded (codes "keep") text ≡ begin → ⊥
+pub keep_begin : (text : List ℕ) → worded (codes "keep") text ≡ begin → ⊥
 keep_begin text e = let bytes : 107 ≡ 98 = ap first_byte e in absurd (omega (arith, bytes))
 
-task_keep : (text other : List ℕ) → worded (codes "task") text ≡ worded (codes "keep") other → ⊥
+pub task_keep : (text other : List ℕ) → worded (codes "task") text ≡ worded (codes "keep") other → ⊥
 task_keep text other e = let bytes : 116 ≡ 107 = ap first_byte e in absurd (omega (arith, bytes))
 
 -- ---- the lines behind the stamp

@@ -1,5 +1,7 @@
-mod Complete
+pub mod Agreeing
+pub mod Complete
+pub mod Continuing
 mod Going
 mod KeptSaid
-mod LineFields
-mod Sound
+pub mod LineFields
+pub mod Sound

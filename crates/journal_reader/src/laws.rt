@@ -1,8 +1,8 @@
 // Laws over whole texts, each the contract of a function with nothing to do.
-ghost use Rattle.std.specs.Prelude.{◌≡◌, ℕ, List, length};
+ghost use Rattle.std.specs.Prelude.{◌≡◌, ℕ, List, [], ◌∷◌, ◌++◌, length};
 ghost use Rattle.journal_lines.specs.JournalTexts.{Told, told_lines};
-ghost use Rattle.journal_reader.specs.Readings.{Reading, start};
-ghost use Rattle.journal_reader.specs.RunTexts.{IsTold};
+ghost use Rattle.journal_reader.specs.Readings.{Reading, CannotGo, start};
+ghost use Rattle.journal_reader.specs.RunTexts.{Begins, IsTold};
 ghost use Rattle.journal_reader.specs.Runs.{Reads};
 ghost use Rattle.journal_reader.specs.declared.place.Place.TheVariants as at;
 
@@ -16,4 +16,14 @@ pub fn what_is_taken_is_a_text()
 /// Each whole text is taken to its end, and then what it tells was told.
 pub fn each_text_is_taken()
     ensures { (t : Told) → IsTold t → (n : ℕ) × Reads start (told_lines t) (record { place = at.Over; taken = n; told = t }) }
+{}
+
+/// Lines that were taken one behind the other begin a whole text.
+pub fn what_is_taken_begins_a_text()
+    ensures { (lines : List (List ℕ)) (r : Reading) → Reads start lines r → Begins lines }
+{}
+
+/// A line that can't follow those that were taken stands behind them in no whole text.
+pub fn what_is_refused_is_in_no_text()
+    ensures { (lines : List (List ℕ)) (r : Reading) (line : List ℕ) → Reads start lines r → CannotGo r.place r.told line → Begins (lines ++ line ∷ []) → ⊥ }
 {}
