@@ -2,6 +2,10 @@ pub mod Agreeing
 pub mod Complete
 pub mod Continuing
 mod Going
+mod KeptOrder
 mod KeptSaid
-pub mod LineFields
+mod KeptWritten
+mod LineFields
+mod ReadBack
+mod SameNotes
 pub mod Sound
