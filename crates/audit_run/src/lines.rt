@@ -1,5 +1,5 @@
 // The lines of an input, read as the text of a run one by one.
-ghost use Rattle.std.specs.Prelude.{ℕ, ◌≡◌, ◌+◌, List, [], ◌∷◌, ◌++◌, Some, Err, OnOk, length};
+ghost use Rattle.std.specs.Prelude.{ℕ, ◌≡◌, ◌+◌, List, [], ◌∷◌, ◌++◌, Some, None, Err, OnOk, length};
 ghost use Rattle.task_input.specs.InputLines.{with_rest};
 ghost use Rattle.journal_reader.specs.Readings.{start};
 ghost use Rattle.journal_reader.specs.Runs.{Reads};
@@ -40,27 +40,42 @@ impl Lines {
     pub(crate) fn hold(&mut self, byte: u8) -> Result<(), NoMemory>
         ensures { OnOk result ((lines : List (List ℕ)) (rest : List ℕ) → Stands lines rest self.old → Stands lines (rest ++ byte ∷ []) self.new) }
     {
-        if self.bad.is_none() {
-            self.held.push(byte)?;
+        match self.bad {
+            Some(_) => Ok(()),
+            None => {
+                self.held.push(byte)?;
+                Ok(())
+            }
         }
-        Ok(())
     }
 
     /// The line has ended.
     pub(crate) fn end_line(&mut self) -> Result<(), NoMemory>
         ensures { OnOk result ((lines : List (List ℕ)) (rest : List ℕ) → Stands lines rest self.old → Stands (lines ++ rest ∷ []) [] self.new) }
     {
-        if self.bad.is_some() {
-            return Ok(());
+        match self.bad {
+            Some(_) => Ok(()),
+            None => self.push_held(),
         }
+    }
+
+    fn push_held(&mut self) -> Result<(), NoMemory>
+        requires { self.old.bad ≡ None }
+        ensures { OnOk result ((lines : List (List ℕ)) (rest : List ℕ) → Stands lines rest self.old → Stands (lines ++ rest ∷ []) [] self.new) }
+    {
         match self.reader.push(self.held.as_slice()) {
-            Ok(()) => {}
-            Err(JournalError::BadLine { line }) => self.bad = Some(line),
+            Ok(()) => {
+                self.held.clear();
+                Ok(())
+            }
+            Err(JournalError::BadLine { line }) => {
+                self.bad = Some(line);
+                self.held.clear();
+                Ok(())
+            }
             Err(JournalError::Cut { .. }) => unreachable!(),
-            Err(JournalError::NoMemory) => return Err(NoMemory),
+            Err(JournalError::NoMemory) => Err(NoMemory),
         }
-        self.held.clear();
-        Ok(())
     }
 
     /// The input has ended; the last line may lack its end.
@@ -78,8 +93,9 @@ impl Lines {
     pub(crate) fn refuse(&mut self, number: u64)
         ensures { (lines : List (List ℕ)) (rest : List ℕ) → Stands lines rest self.old → number ≡ length lines + 1 → IsRefusedBehind lines self.new.bad }
     {
-        if self.bad.is_none() {
-            self.bad = Some(number);
+        match self.bad {
+            Some(_) => {}
+            None => self.bad = Some(number),
         }
     }
 

@@ -1,7 +1,10 @@
 -- Lines that were taken can be continued to a whole text, and a line that can't follow stands behind them in none.
 use Rattle.std.proofs.Common.{◌≡◌, ℕ, ◌+◌, ◌<◌, ◌≤◌, ◌^◌, List, [], ◌∷◌, ◌++◌, map, length, Some, refl, sym, ap, subst, ◌∙◌, arith, append_assoc}
 use Rattle.std.specs.Prelude.{codes, IsTrue}
+use Rattle.std.specs.Char.{encode_utf8}
+use Rattle.std.specs.Str.{is_utf8, chars}
 use Rattle.std.proofs.lemmas.List.{append-nil}
+use Rattle.uuid.specs.Text.{by_index}
 use Rattle.task_text.specs.declared.task.Task.{Task}
 use Rattle.journal_model.specs.declared.entry.Entry.{Entry}
 use Rattle.entry_lines.specs.Entries.{entry_line}
@@ -19,6 +22,14 @@ use Rattle.journal_reader.proofs.Sound.{all_told}
 
 abbrev nil_uuid : List ℕ
 nil_uuid = codes "00000000-0000-0000-0000-000000000000"
+
+nil_right : IsTrue (is_uuid nil_uuid)
+unfolding by_index
+nil_right = refl
+
+none_right : IsTrue (is_text [])
+unfolding is_utf8 chars encode_utf8
+none_right = refl
 
 -- what is told of nothing but these
 abbrev told_first : List ℕ → List ℕ → List ℕ → Told
@@ -55,24 +66,24 @@ entries_lines t =
     ∙ sym (append_assoc (first_lines t) (map task_line t.tasks ++ (map keep_line t.kept ++ middle)) last)
 
 can_go_on : (at : Place) (t : Told) → IsSoFar at t → Begins (lines_told at t)
-can_go_on Head t s = let n = told_first nil_uuid [] [] in begins_with [] (told_lines n) n (first_is_told nil_uuid [] [] refl refl refl) refl
+can_go_on Head t s = let n = told_first nil_uuid [] [] in begins_with [] (told_lines n) n (first_is_told nil_uuid [] [] nil_right none_right none_right) refl
 can_go_on Uuid t s =
     let n = told_first nil_uuid [] [] in
     begins_with (head ∷ []) (worded (codes "uuid") nil_uuid ∷ worded (codes "name") [] ∷ worded (codes "gitdir") [] ∷ stamp_line 0 ∷ last_lines []) n
-    (first_is_told nil_uuid [] [] refl refl refl) refl
+    (first_is_told nil_uuid [] [] nil_right none_right none_right) refl
 can_go_on Name t s =
     let n = told_first t.uuid [] [] in
-    begins_with (lines_told Name t) (worded (codes "name") [] ∷ worded (codes "gitdir") [] ∷ stamp_line 0 ∷ last_lines []) n (first_is_told t.uuid [] [] s.0 refl refl) refl
+    begins_with (lines_told Name t) (worded (codes "name") [] ∷ worded (codes "gitdir") [] ∷ stamp_line 0 ∷ last_lines []) n (first_is_told t.uuid [] [] s.0 none_right none_right) refl
 can_go_on Gitdir t s =
     let n = told_first t.uuid t.name [] in
-    begins_with (lines_told Gitdir t) (worded (codes "gitdir") [] ∷ stamp_line 0 ∷ last_lines []) n (first_is_told t.uuid t.name [] s.0 s.1 refl) refl
+    begins_with (lines_told Gitdir t) (worded (codes "gitdir") [] ∷ stamp_line 0 ∷ last_lines []) n (first_is_told t.uuid t.name [] s.0 s.1 none_right) refl
 can_go_on Stamp t s =
     let n = told_first t.uuid t.name t.gitdir in
     begins_with (lines_told Stamp t) (stamp_line 0 ∷ last_lines []) n (first_is_told t.uuid t.name t.gitdir s.0 s.1 s.2) refl
 can_go_on Given t s = begins_with (lines_told Given t) (last_lines []) t s.0 (given_lines t s.1)
 can_go_on Entries t s = begins_with (lines_told Entries t) (end_line (length t.entries) ∷ []) t s (entries_lines t)
 can_go_on Over t s = begins_with (told_lines t) [] t s (sym (append-nil (told_lines t)))
-can_go_on (Refused number) t s = let n = told_first nil_uuid [] [] in begins_with [] (told_lines n) n (first_is_told nil_uuid [] [] refl refl refl) refl
+can_go_on (Refused number) t s = let n = told_first nil_uuid [] [] in begins_with [] (told_lines n) n (first_is_told nil_uuid [] [] nil_right none_right none_right) refl
 
 pub taken_begins : (lines : List (List ℕ)) (r : Reading) → Reads start lines r → Begins lines
 taken_begins lines r reads =
