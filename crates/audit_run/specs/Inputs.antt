@@ -14,6 +14,10 @@ use Rattle.audit_run.specs.declared.error.AuditError.TheVariants.{Entry as BadEn
 
 -- ---- the limits
 
+-- those of the input of `audit`
+abbrev pub audit_limits : Limits
+audit_limits = record { lines = 16000000; bytes = 4294967296 }
+
 -- the input has more bytes than it may have
 abbrev pub is_large : Limits → List ℕ → Bool
 is_large limits bytes = nat_lt limits.bytes (length bytes)
