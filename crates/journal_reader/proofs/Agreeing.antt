@@ -1,5 +1,5 @@
 -- Lines lead to one reading at most.
-use Rattle.std.proofs.Common.{◌≡◌, ℕ, ◌+◌, ◌<◌, ◌^◌, ◌⊎◌, inl, inr, List, [], ◌∷◌, ◌++◌, Option, Some, None, length, refl, sym, ap, subst, ◌∙◌, arith}
+use Rattle.std.proofs.Common.{◌≡◌, ℕ, ◌<◌, ◌^◌, inl, inr, List, [], ◌∷◌, ◌++◌, Some, None, length, refl, sym, ap, subst, ◌∙◌}
 use Rattle.std.specs.Prelude.{codes}
 use Rattle.task_text.specs.TaskLines.{line_of, IsTask}
 use Rattle.task_text.specs.declared.task.Task.{Task}
@@ -7,8 +7,8 @@ use Rattle.task_text.proofs.Spelled.{at_most_one}
 use Rattle.journal_model.specs.declared.entry.Entry.{Entry}
 use Rattle.entry_lines.specs.Entries.{entry_line, entry_at, IsEntry}
 use Rattle.entry_lines.proofs.EntryBack.{entry_back}
-use Rattle.journal_lines.specs.JournalTexts.{Told, worded, begin, stamp_line, task_line, keep_line, end_line}
-use Rattle.journal_reader.specs.Readings.{Reading, Goes, Follows, TakesTask, TakesKept, TakesEntry}
+use Rattle.journal_lines.specs.JournalTexts.{Told, stamp_line, task_line, end_line}
+use Rattle.journal_reader.specs.Readings.{Reading, Goes, Follows}
 use Rattle.journal_reader.specs.Runs.{Reads}
 use Rattle.journal_reader.specs.declared.place.Place.{Place}
 use Rattle.journal_reader.specs.declared.place.Place.TheVariants.{Head, Uuid, Name, Gitdir, Stamp, Given, Entries, Over, Refused}

@@ -1,16 +1,15 @@
 -- Lines that were taken can be continued to a whole text, and a line that can't follow stands behind them in none.
-use Rattle.std.proofs.Common.{◌≡◌, ℕ, ◌+◌, ◌<◌, ◌≤◌, ◌^◌, List, [], ◌∷◌, ◌++◌, map, length, Some, refl, sym, ap, subst, ◌∙◌, arith, append_assoc}
+use Rattle.std.proofs.Common.{◌≡◌, ℕ, List, [], ◌∷◌, ◌++◌, map, length, refl, sym, ap, subst, ◌∙◌, arith, append_assoc}
 use Rattle.std.specs.Prelude.{codes, IsTrue}
 use Rattle.std.specs.Char.{encode_utf8}
 use Rattle.std.specs.Str.{is_utf8, chars}
 use Rattle.std.proofs.lemmas.List.{append-nil}
 use Rattle.uuid.specs.Text.{by_index}
-use Rattle.task_text.specs.declared.task.Task.{Task}
 use Rattle.journal_model.specs.declared.entry.Entry.{Entry}
 use Rattle.entry_lines.specs.Entries.{entry_line}
 use Rattle.journal_lines.specs.JournalTexts.{Told, worded, head, begin, stamp_line, task_line, keep_line, end_line, first_lines, last_lines, told_lines}
-use Rattle.journal_reader.specs.RunTexts.{is_uuid, is_text, IsTold, IsWhole, Begins, NoneKept}
-use Rattle.journal_reader.specs.Readings.{Reading, Goes, CannotGo, Follows, start, nothing_told}
+use Rattle.journal_reader.specs.RunTexts.{is_uuid, is_text, IsTold, Begins, NoneKept}
+use Rattle.journal_reader.specs.Readings.{Reading, CannotGo, Follows, start, nothing_told}
 use Rattle.journal_reader.specs.Runs.{Reads, lines_told, IsSoFar}
 use Rattle.journal_reader.specs.declared.place.Place.{Place}
 use Rattle.journal_reader.specs.declared.place.Place.TheVariants.{Head, Uuid, Name, Gitdir, Stamp, Given, Entries, Over, Refused}

@@ -1,6 +1,6 @@
 -- What is written of registers and notes stands in the written order.
-use Rattle.std.proofs.Common.{◌≡◌, ℕ, suc, ◌+◌, ◌-◌, ◌/◌, ◌%◌, ◌<◌, Bool, true, false, not, ◌&&◌, ◌==◌, List, [], ◌∷◌, ◌++◌, map, length, nat_lt, Option, Some, None, refl, sym, ap, ◌∙◌, arith}
-use Rattle.std.specs.Prelude.{All, decimal, codes}
+use Rattle.std.proofs.Common.{◌≡◌, ℕ, suc, ◌<◌, Bool, true, ◌&&◌, List, [], ◌∷◌, ◌++◌, map, nat_lt, Option, Some, None, refl, sym, ap, ◌∙◌, arith}
+use Rattle.std.specs.Prelude.{All}
 use Rattle.std.specs.Cmp.{nat_cmp_is}
 use Rattle.std.specs.List.{list_all, AllByRecursion}
 use Rattle.std.specs.List.Sorted.{IsStrictlySortedBy}
@@ -11,7 +11,7 @@ use Rattle.std.proofs.lemmas.Bool.{and_parts}
 use Rattle.std.proofs.lemmas.Bool.Decides.{nat_tests}
 use Rattle.reg_file.specs.Links.{by_link}
 use Rattle.reg_file.specs.Registers.{RegisterFile, IsKept}
-use Rattle.reg_file.specs.RegLines.{Line, ConfigLine, WantedLine, StateLine, UrlLine, lines_of, later_lines_of, keyed_lines_of, wanted_lines}
+use Rattle.reg_file.specs.RegLines.{Line, ConfigLine, StateLine, UrlLine, lines_of, later_lines_of, keyed_lines_of, wanted_lines}
 use Rattle.reg_file.specs.Tables.{Texts, by_bytes}
 use Rattle.reg_file.proofs.Settings.{both_true}
 use Rattle.chunk_log.specs.ChunkLines.{line_text}
@@ -19,7 +19,7 @@ use Rattle.chunk_log.specs.NoteBooks.{place_cmp, is_before, in_order}
 use Rattle.chunk_log.specs.declared.note.Note.{Note}
 use Rattle.chunk_log.proofs.ReadBack.{reads_back}
 use Rattle.keep_text.specs.KeptFiles.{kept_of, kept_note, cut_note, IsKeepable}
-use Rattle.keep_text.specs.KeptLines.{KeptLine, Setting, Expression, State, Url, Chunks, chunk_in}
+use Rattle.keep_text.specs.KeptLines.{KeptLine, Setting, Expression, State, Url, chunk_in}
 use Rattle.keep_text.specs.Orders.{rank, kept_cmp, fields_cmp, logs_cmp}
 use Rattle.keep_text.proofs.Chunked.{chunk_read}
 

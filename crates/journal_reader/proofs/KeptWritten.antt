@@ -1,7 +1,7 @@
 -- Each line that is written of registers and notes is one that may be kept.
-use Rattle.std.proofs.Common.{◌≡◌, ℕ, suc, ◌+◌, ◌-◌, ◌/◌, ◌%◌, ◌<◌, Bool, true, false, not, ◌&&◌, ◌||◌, ◌==◌, List, [], ◌∷◌, ◌++◌, map, length, nat_lt, Option, Some, None, refl, sym, ap, subst, ◌∙◌, arith}
+use Rattle.std.proofs.Common.{◌≡◌, ℕ, suc, ◌+◌, ◌-◌, ◌/◌, ◌%◌, Bool, true, false, not, ◌&&◌, ◌||◌, ◌==◌, List, [], ◌∷◌, ◌++◌, map, length, nat_lt, Option, Some, None, refl, sym, ap, subst, ◌∙◌, arith, length-append}
 use mathlib.Core.Bool.{false≢true}
-use Rattle.std.specs.Prelude.{All, bytes_eq, codes, decimal}
+use Rattle.std.specs.Prelude.{All, bytes_eq}
 use Rattle.std.specs.List.{list_all, list_any, cons_option, slice_get}
 use Rattle.std.proofs.lemmas.Bool.{and_parts}
 use Rattle.std.proofs.lemmas.Bool.Decides.{nat_tests}
@@ -20,12 +20,11 @@ use Rattle.reg_file.proofs.Settings.{both_true}
 use Rattle.reg_file.proofs.Tables.{itself}
 use Rattle.chunk_log.specs.ChunkLines.{line_text}
 use Rattle.chunk_log.specs.LogLaws.{cut}
-use Rattle.chunk_log.specs.Stamps.{micros_text}
 use Rattle.chunk_log.specs.NoteBooks.{in_order}
 use Rattle.chunk_log.specs.declared.line.ChunkLine.{ChunkLine}
 use Rattle.chunk_log.specs.declared.note.Note.{Note}
 use Rattle.chunk_log.proofs.ReadBack.{reads_back}
-use Rattle.keep_text.specs.KeptFiles.{settings_in, notes_in, kept_of, kept_note, written_line, written_note, cut_note, IsKeepable}
+use Rattle.keep_text.specs.KeptFiles.{kept_of, kept_note, written_line, written_note, cut_note, IsKeepable}
 use Rattle.keep_text.specs.KeptLines.{KeptLine, Setting, Expression, State, Url, Chunks, kept_row, kept_reading, chunk_in, setting_of, line_of}
 use Rattle.keep_text.specs.Orders.{is_log_of, is_written, is_written_as, is_written_line, come_in_order, comes_before}
 use Rattle.keep_text.proofs.Chunked.{chunk_read}
@@ -172,10 +171,15 @@ may_stand k s =
 comes_as : (a k : KeptLine) → IsSaid a → IsSaid k → comes_before (line_of a) (line_of k) ≡ follows (Some a) k
 comes_as a k s t = ap (λ (o : Option KeptLine). come_in_order o (kept_reading (line_of k))) s.read ∙ ap (come_in_order (Some a)) t.read
 
+at_end : {X : Type 0} (xs : List X) (x : X) → slice_get (xs ++ x ∷ []) (length xs) ≡ Some x
+at_end [] x = refl
+at_end (y ∷ xs) x = at_end xs x
+
 last_is : {X : Type 0} (xs : List X) (x : X) → slice_get (xs ++ x ∷ []) (length (xs ++ x ∷ []) - 1) ≡ Some x
-last_is [] x = refl
-last_is (y ∷ []) x = refl
-last_is (y ∷ z ∷ xs) x = last_is (z ∷ xs) x
+last_is xs x =
+    let long : length (xs ++ x ∷ []) ≡ length xs + 1 = length-append xs (x ∷ []) in
+    let last : length (xs ++ x ∷ []) - 1 ≡ length xs = omega arith in
+    ap (λ (n : ℕ). slice_get (xs ++ x ∷ []) n) last ∙ at_end xs x
 
 mapped-append : {X Y : Type 0} (f : X → Y) (xs ys : List X) → map f (xs ++ ys) ≡ map f xs ++ map f ys
 mapped-append f [] ys = refl

@@ -1,15 +1,15 @@
 -- What is written of an opening and a journal is a text of a run, and is read back.
-use Rattle.std.proofs.Common.{◌≡◌, ℕ, true, List, [], ◌∷◌, ◌++◌, map, Some, refl, sym, ap, subst, ◌∙◌}
+use Rattle.std.proofs.Common.{◌≡◌, ℕ, List, [], ◌++◌, map, Some, ap, subst, ◌∙◌}
 use Rattle.std.specs.Prelude.{IsTrue}
 use Rattle.std.specs.List.{slice_get}
 use Rattle.std.proofs.lemmas.List.{append-nil}
-use Rattle.reg_file.specs.Registers.{RegisterFile, nothing_set}
+use Rattle.reg_file.specs.Registers.{nothing_set}
 use Rattle.reg_file.specs.RegLines.{lines_of, set_by_lines}
 use Rattle.reg_file.proofs.Fed.{lines_again}
 use Rattle.reg_file.proofs.Readings.{lines_fit}
 use Rattle.chunk_log.specs.NoteBooks.{in_order}
 use Rattle.chunk_log.specs.declared.note.Note.{Note}
-use Rattle.keep_text.specs.KeptFiles.{written_line, written_note, settings_in, notes_in, cut_note, CountsAs}
+use Rattle.keep_text.specs.KeptFiles.{written_note, cut_note, CountsAs}
 use Rattle.keep_text.proofs.WrittenLines.{Written, lines_written, notes_written}
 use Rattle.journal_model.specs.declared.entry.Entry.{Entry}
 use Rattle.journal_model.specs.declared.opening.Identity.{Identity}
