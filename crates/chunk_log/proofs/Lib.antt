@@ -9,3 +9,4 @@ pub mod Places
 pub mod ReadBack
 pub mod Refused
 pub mod StampBack
+pub mod Uuids

@@ -1,59 +1,85 @@
 -- The newest first.
-use Rattle.std.proofs.Common.{◌≡◌, ℕ, zero, suc, ◌+◌, ◌<◌, ◌≤◌, false, List, [], ◌∷◌, length, get_or, map, filter, is_lt, nat_cmp, Result, Ok, Err, refl, ap, ◌∙◌, subst, arith, IsPermutation}
-use Rattle.std.specs.Prelude.{◌==◌, ◌&&◌, ◌||◌, nat_lt, IfOk}
+use Rattle.std.proofs.Common.{◌≡◌, ℕ, zero, suc, ◌+◌, ◌<◌, Bool, true, false, not, cond, List, [], ◌∷◌, ◌++◌, length, get_or, fold, refl, sym, subst, arith, append-nil, add-one, IsPermutation}
+use Rattle.std.specs.Prelude.{insert}
+use Rattle.std.specs.List.{position_or_len}
 use Rattle.std.specs.List.Sorted.{IsSortedBy}
-use Rattle.std.specs.Ordering.{ordering_then}
 use Rattle.std.proofs.lemmas.Bool.Decides.{nat_tests}
-use Rattle.std.proofs.lemmas.List.{length-map}
-use Rattle.std.proofs.lemmas.List.Sorted.{IsPermutation-map}
-use Rattle.ann_key.specs.declared.bytes.NoMemory.{NoMemory}
-use Rattle.chunk_log.specs.Current.{is_current, standing_of, stands_before, IsCurrent, Standing}
-use Rattle.chunk_log.specs.Found.{found_of}
-use Rattle.chunk_log.specs.declared.layouts.Layouts.{Layouts}
+use Rattle.std.proofs.lemmas.List.Sorted.{IsPermutation-append_left, IsPermutation-insert, IsPermutation-middle, IsPermutation-refl, IsPermutation-trans}
+use Rattle.chunk_log.specs.Current.{in_rank, layouts_of, ranked, standings_of, stands_before, IsCurrent}
 use Rattle.chunk_log.specs.declared.note.Note.{Note}
-use Rattle.chunk_log.specs.declared.standing.Found.{Found}
+use Rattle.chunk_log.specs.declared.standing.Standing.{Standing}
 
-abbrev shown : Found → Standing
-shown f = record { stamp = f.stamp.0; chunk = f.chunk.0; count = f.count }
+-- ---- in order
 
-abbrev hidden : Standing → Found
-hidden s = record { stamp = record { 0 = s.stamp }; chunk = record { 0 = s.chunk }; count = s.count }
+abbrev IsHead : Standing → List Standing → Type 0
+IsHead s [] = Unit {0}
+IsHead s (t ∷ ts) = stands_before t s ≡ false
 
-shown-found : (notes : List Note) → map shown (map found_of notes) ≡ map standing_of notes
-shown-found [] = refl
-shown-found (x ∷ xs) = ap (λ (l : List Standing). standing_of x ∷ l) (shown-found xs)
+-- none stands before the one in front of it
+abbrev AreRanked : List Standing → Type 0
+AreRanked [] = Unit {0}
+AreRanked (s ∷ ss) = IsHead s ss × AreRanked ss
 
-pairs-shown : (fs : List Found) → map {B = ℕ × ℕ} (λ f. (f.chunk.0, f.count)) fs ≡ map {B = ℕ × ℕ} (λ s. (s.chunk, s.count)) (map shown fs)
-pairs-shown [] = refl
-pairs-shown (x ∷ xs) = let p : ℕ × ℕ = (x.chunk.0, x.count) in ap (λ (l : List (ℕ × ℕ)). p ∷ l) (pairs-shown xs)
+one_way : (s t : Standing) → stands_before s t ≡ true → stands_before t s ≡ false
+one_way s t h = grind (arith, nat_tests)
 
-get_or-shown : (fs : List Found) (k : ℕ) (d : Standing) → get_or (map shown fs) k d ≡ shown (get_or fs k (hidden d))
-get_or-shown [] k d = refl
-get_or-shown (x ∷ xs) zero d = refl
-get_or-shown (x ∷ xs) (suc k) d = get_or-shown xs k d
+one_suc : (n : ℕ) → 1 + n ≡ suc n
+one_suc n = omega arith
 
-not_before : (s s' n n' c c' t t' : ℕ)
-    → is_lt (ordering_then (ordering_then (nat_cmp s s') (nat_cmp n n')) (ordering_then (nat_cmp c c') (nat_cmp t t'))) ≡ false
-    → (nat_lt s s' || (s' == s && nat_lt n n') || (s' == s && n' == n && nat_lt c c')) ≡ false
-not_before s s' n n' c c' t t' h = grind (arith, nat_tests)
+ranked-cons : (s x : Standing) (xs : List Standing) → ranked s (x ∷ xs) ≡ cond (stands_before s x) (s ∷ x ∷ xs) (x ∷ ranked s xs)
+ranked-cons s x xs = go (stands_before s x)
+  where
+    n : ℕ
+    n = position_or_len (stands_before s) xs
 
-pub in_newest_order : (fs : List Found)
-    → ((k : ℕ) (d : Found) → 0 ≤ k → k + 1 < length fs → is_lt (ordering_then (ordering_then (nat_cmp (get_or fs k d).stamp.0.seconds (get_or fs (k + 1) d).stamp.0.seconds) (nat_cmp (get_or fs k d).stamp.0.nanos (get_or fs (k + 1) d).stamp.0.nanos)) (ordering_then (nat_cmp (get_or fs k d).chunk.0 (get_or fs (k + 1) d).chunk.0) (nat_cmp (get_or fs (k + 1) d).count (get_or fs k d).count))) ≡ false)
-    → IsSortedBy stands_before (map shown fs)
-in_newest_order fs h k d low high =
-    let long : length (map shown fs) ≡ length fs = length-map fs shown in
-    let a : Found = get_or fs k (hidden d) in
-    let b : Found = get_or fs (k + 1) (hidden d) in
-    rw (get_or-shown fs (k + 1) d, get_or-shown fs k d)
-    (not_before a.stamp.0.seconds b.stamp.0.seconds a.stamp.0.nanos b.stamp.0.nanos a.chunk.0 b.chunk.0 b.count a.count (h k (hidden d) low (omega arith)))
+    go : (b : Bool) → insert (x ∷ xs) (cond (not b) (1 + n) 0) s ≡ cond b (s ∷ x ∷ xs) (x ∷ insert xs n s)
+    go true = refl
+    go false = rw one_suc refl
 
-pub currently : (r : Result Layouts NoMemory) (notes : List Note) (key uuid : List ℕ) (found sorted seen : List Found)
-    → found ≡ map found_of (filter (is_current key uuid) notes) → IsPermutation found sorted → IsSortedBy stands_before (map shown sorted)
-    → IfOk r (λ layouts. layouts ≡ map {B = ℕ × ℕ} (λ f. (f.chunk.0, f.count)) seen) → seen ≡ sorted → IfOk r (λ layouts. IsCurrent notes key uuid layouts)
-currently (Ok layouts) notes key uuid found sorted seen is moved order pairs same = record {
-  standing = map shown sorted;
-  those = subst (λ (l : List Standing). IsPermutation l (map shown sorted)) (ap (map shown) is ∙ shown-found (filter (is_current key uuid) notes)) (IsPermutation-map shown found sorted moved);
-  order = order;
-  pairs = pairs ∙ ap (map {B = ℕ × ℕ} (λ (f : Found). (f.chunk.0, f.count))) same ∙ pairs-shown sorted;
+head_stays : (s x : Standing) (xs : List Standing) → stands_before s x ≡ false → IsHead x xs → IsHead x (ranked s xs)
+head_stays s x [] behind head = behind
+head_stays s x (y ∷ ys) behind head = rw ranked-cons (go (stands_before s y))
+  where
+    go : (b : Bool) → IsHead x (cond b (s ∷ y ∷ ys) (y ∷ ranked s ys))
+    go true = behind
+    go false = head
+
+ranked_stay : (s : Standing) (xs : List Standing) → AreRanked xs → AreRanked (ranked s xs)
+ranked_stay s [] h = (tt, tt)
+ranked_stay s (x ∷ xs) h = rw ranked-cons (go (stands_before s x) refl (ranked_stay s xs h.1))
+  where
+    go : (b : Bool) → stands_before s x ≡ b → AreRanked (ranked s xs) → AreRanked (cond b (s ∷ x ∷ xs) (x ∷ ranked s xs))
+    go true e rest = (one_way s x e, h)
+    go false e rest = (head_stays s x xs e h.0, rest)
+
+all_ranked : (ss others : List Standing) → AreRanked others → AreRanked (fold (λ l s. ranked s l) others ss)
+all_ranked [] others h = h
+all_ranked (s ∷ ss) others h = all_ranked ss (ranked s others) (ranked_stay s others h)
+
+next : (xs : List Standing) (k : ℕ) (d : Standing) → AreRanked xs → suc k < length xs → stands_before (get_or xs (suc k) d) (get_or xs k d) ≡ false
+next [] k d h long = absurd (omega arith)
+next (x ∷ []) k d h long = absurd (omega arith)
+next (x ∷ y ∷ ys) zero d h long = h.0
+next (x ∷ y ∷ ys) (suc k) d h long = next (y ∷ ys) k d h.1 (omega arith)
+
+in_order : (xs : List Standing) → AreRanked xs → IsSortedBy stands_before xs
+in_order xs h k d low high = let long : suc k < length xs = omega arith in rw add-one (next xs k d h long)
+
+-- ---- the same ones
+
+all_kept : (ss others : List Standing) → IsPermutation (others ++ ss) (fold (λ l s. ranked s l) others ss)
+all_kept [] others = subst (λ (l : List Standing). IsPermutation l others) (sym (append-nil others)) (IsPermutation-refl others)
+all_kept (s ∷ ss) others =
+    IsPermutation-trans (others ++ s ∷ ss) (ranked s others ++ ss) (fold (λ l t. ranked t l) (ranked s others) ss)
+    (IsPermutation-trans (others ++ s ∷ ss) (s ∷ (others ++ ss)) (ranked s others ++ ss) (IsPermutation-middle others s ss)
+    (IsPermutation-append_left ss (s ∷ others) (ranked s others) (IsPermutation-insert others (position_or_len (stands_before s) others) s)))
+    (all_kept ss (ranked s others))
+
+pub layouts_current : (notes : List Note) (key uuid : List ℕ) → IsCurrent notes key uuid (layouts_of notes key uuid)
+unfolding layouts_of
+layouts_current notes key uuid = record {
+  standing = in_rank (standings_of notes key uuid);
+  those = all_kept (standings_of notes key uuid) [];
+  order = in_order (in_rank (standings_of notes key uuid)) (all_ranked (standings_of notes key uuid) [] tt);
+  pairs = refl;
 }
-currently (Err e) notes key uuid found sorted seen is moved order pairs same = tt

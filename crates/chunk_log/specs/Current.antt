@@ -1,21 +1,20 @@
 -- Which layouts a remote has of a key.
-use Rattle.std.specs.Prelude.{ℕ, ◌≡◌, ◌==◌, ◌&&◌, ◌||◌, not, nat_lt, bytes_eq, Bool, List, filter, map}
+use Rattle.std.specs.Prelude.{ℕ, ◌≡◌, ◌==◌, ◌&&◌, ◌||◌, not, nat_lt, bytes_eq, Bool, List, [], filter, fold, insert, map}
+use Rattle.std.specs.List.{position_or_len}
 use Rattle.std.specs.List.Sorted.{IsPermutation, IsSortedBy}
 use Rattle.chunk_log.specs.declared.note.Note.{Note}
-use Rattle.chunk_log.specs.declared.stamp.Stamp.{Stamp}
+use Rattle.chunk_log.specs.declared.standing.Standing.{Standing}
 
 -- whether a note says that a remote has chunks of a key
 abbrev pub is_current : List ℕ → List ℕ → Note → Bool
 is_current key uuid note = bytes_eq note.key key && bytes_eq note.line.uuid uuid && not (note.line.count == 0)
 
--- chunks of a size, how many, and since when
-pub record Standing : Type 0 where
-  pub stamp : Stamp
-  pub chunk : ℕ
-  pub count : ℕ
-
 abbrev pub standing_of : Note → Standing
 standing_of note = record { stamp = note.line.stamp; chunk = note.line.chunk; count = note.line.count }
+
+-- what stands of a key at a remote
+abbrev pub standings_of : List Note → List ℕ → List ℕ → List Standing
+standings_of notes key uuid = map standing_of (filter (is_current key uuid) notes)
 
 -- the newer first, then the larger chunks first
 abbrev pub stands_before : Standing → Standing → Bool
@@ -24,9 +23,24 @@ stands_before a b =
     || (a.stamp.seconds == b.stamp.seconds && nat_lt b.stamp.nanos a.stamp.nanos)
     || (a.stamp.seconds == b.stamp.seconds && a.stamp.nanos == b.stamp.nanos && nat_lt b.chunk a.chunk)
 
+-- one more, in front of the first that it stands before
+abbrev pub ranked : Standing → List Standing → List Standing
+ranked s others = insert others (position_or_len (stands_before s) others) s
+
+-- all of them, each put in its place among those before it
+abbrev pub in_rank : List Standing → List Standing
+in_rank standing = fold (λ others s. ranked s others) [] standing
+
+abbrev pub layout_of : Standing → ℕ × ℕ
+layout_of s = (s.chunk, s.count)
+
+-- the layouts of a key at a remote: the newest first, then the larger chunks first
+unfoldable pub layouts_of : List Note → List ℕ → List ℕ → List (ℕ × ℕ)
+layouts_of notes key uuid = map layout_of (in_rank (standings_of notes key uuid))
+
 -- the layouts are those of the notes that say so, and of no others, in this order
 pub record IsCurrent (notes : List Note) (key uuid : List ℕ) (layouts : List (ℕ × ℕ)) : Type 0 where
   pub standing : List Standing
-  pub those : IsPermutation (map standing_of (filter (is_current key uuid) notes)) standing
+  pub those : IsPermutation (standings_of notes key uuid) standing
   pub order : IsSortedBy stands_before standing
-  pub pairs : layouts ≡ map (λ s. (s.chunk, s.count)) standing
+  pub pairs : layouts ≡ map layout_of standing

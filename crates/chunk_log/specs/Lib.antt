@@ -1,6 +1,6 @@
 pub mod ChunkLines
 pub mod Current
-pub mod Found
+pub mod LayoutRows
 pub mod LogLaws
 pub mod NoteBooks
 pub mod Stamps

@@ -1,6 +1,7 @@
 -- What follows from the lines that count, and from the text of lines.
 use Rattle.std.specs.Prelude.{ℕ, ◌≡◌, ◌-◌, ◌%◌, ◌^◌, ◌<◌, List, [], ◌∷◌, ◌++◌}
 use Rattle.chunk_log.specs.ChunkLines.{line_text, IsChunkLine, IsWritable}
+use Rattle.chunk_log.specs.Current.{layouts_of, IsCurrent}
 use Rattle.chunk_log.specs.NoteBooks.{counting}
 use Rattle.chunk_log.specs.declared.line.ChunkLine.{ChunkLine}
 use Rattle.chunk_log.specs.declared.note.Note.{Note}
@@ -11,6 +12,10 @@ abbrev pub CountingGoesOn : Type 0
 CountingGoesOn =
     (book all : List Note) (note : Note) (key uuid : List ℕ) (chunk : ℕ) → counting book key uuid chunk ≡ counting all key uuid chunk
     → counting (book ++ note ∷ []) key uuid chunk ≡ counting (all ++ note ∷ []) key uuid chunk
+
+-- the layouts of a key at a remote are those of the notes that say so, in order
+abbrev pub LayoutsAreCurrent : Type 0
+LayoutsAreCurrent = (notes : List Note) (key uuid : List ℕ) → IsCurrent notes key uuid (layouts_of notes key uuid)
 
 -- a stamp as it is read back: what is less than a millionth of a second is gone
 abbrev pub cut : Stamp → Stamp

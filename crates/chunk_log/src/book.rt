@@ -33,8 +33,8 @@ impl Model for NoteBook {
 }
 
 impl NoteBook {
-    ghost use Rattle.chunk_log.specs.NoteBooks.{counting, in_order, IsNote};
-    ghost use Rattle.chunk_log.specs.Current.{IsCurrent};
+    ghost use Rattle.chunk_log.specs.NoteBooks.{counting, in_order, inserted, IsNote};
+    ghost use Rattle.chunk_log.specs.Current.{layouts_of};
     ghost use Rattle.chunk_log.specs.declared.note.Note.{Note};
 
     /// No line. It takes no memory.
@@ -50,6 +50,7 @@ impl NoteBook {
     pub fn add(&mut self, alloc: Global, key: KeyRef<'_>, line: ChunkLine) -> Result<(), NoMemory>
         requires key { list_any is_space (text_of key) ≡ true → ⊥ }
         requires line { IsWritable line }
+        ensures inserted { OnOk result (self.new ≡ inserted (record { key = text_of key.entry; line = line }) self.old) }
         ensures counts { OnOk result ((key' uuid : List ℕ) (chunk : ℕ) → counting self.new key' uuid chunk ≡ counting (self.old ++ record { key = text_of key.entry; line = line } ∷ []) key' uuid chunk) }
         ensures err { OnErr result (self.new ≡ self.old) }
     {
@@ -82,7 +83,7 @@ impl NoteBook {
 
     /// The layouts in which the remote has chunks of the key: the newest first, then the largest chunks.
     pub fn current(&self, alloc: Global, key: KeyRef<'_>, uuid: &str) -> Result<Layouts, NoMemory>
-        ensures { IfOk result (λ layouts. IsCurrent self.now (text_of key.entry) uuid.now layouts) }
+        ensures { IfOk result (λ layouts. layouts ≡ layouts_of self.now (text_of key.entry) uuid.now) }
     {
         current(alloc, &self.notes, key.text(), uuid.as_bytes())
     }

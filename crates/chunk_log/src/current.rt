@@ -1,14 +1,13 @@
 // The layouts in which a remote has chunks of a key.
-ghost use Rattle.std.specs.Prelude.{◌≡◌, IfOk, filter, map};
-ghost use Rattle.chunk_log.specs.Current.{is_current, IsCurrent};
-ghost use Rattle.chunk_log.specs.Found.{found_of};
+ghost use Rattle.std.specs.Prelude.{◌≡◌, ◌≤◌, ◌<◌, length, IfOk, OnOk, map};
+ghost use Rattle.std.specs.List.{position_or_len};
+ghost use Rattle.chunk_log.specs.Current.{is_current, in_rank, layout_of, layouts_of, ranked, standing_of, standings_of, stands_before};
 
 use crate::layouts::Layouts;
 use crate::note::Note;
-use crate::standing::Found;
+use crate::standing::Standing;
 use ann_key::NoMemory;
 use std::alloc::Global;
-use std::cmp::Reverse;
 
 fn is_current(note: &Note, key: &[u8], uuid: &[u8]) -> bool
     ensures { result ≡ is_current key.now uuid.now note.now }
@@ -18,42 +17,61 @@ fn is_current(note: &Note, key: &[u8], uuid: &[u8]) -> bool
         && note.line.count != 0
 }
 
-fn found_of(note: &Note) -> Found
-    ensures { result ≡ found_of note.now }
+fn standing_of(note: &Note) -> Standing
+    ensures { result ≡ standing_of note.now }
 {
-    Found {
-        stamp: Reverse(note.line.stamp),
-        chunk: Reverse(note.line.chunk),
+    Standing {
+        stamp: note.line.stamp,
+        chunk: note.line.chunk,
         count: note.line.count,
     }
 }
 
-fn found(alloc: Global, notes: &[Note], key: &[u8], uuid: &[u8]) -> Result<Vec<Found>, NoMemory>
-    ensures { IfOk result (λ found. found.items ≡ map found_of (filter (is_current key.now uuid.now) notes.now)) }
+fn place_of(others: &[Standing], one: &Standing) -> usize
+    ensures value { result ≡ position_or_len (stands_before one.now) others.now }
+    ensures bound { result ≤ length others.now }
 {
-    let mut found = Vec::new(alloc);
+    others
+        .iter()
+        .take_while(|other| !one.stands_before(other))
+        .count()
+}
+
+fn rank(others: &mut Vec<Standing>, one: Standing) -> Result<(), NoMemory>
+    ensures { OnOk result (others.new.items ≡ ranked one others.old.items) }
+{
+    let at = place_of(others, &one);
+    others.insert(at, one)?;
+    Ok(())
+}
+
+/// What stands of the key at the remote, in order.
+fn ranks(alloc: Global, notes: &[Note], key: &[u8], uuid: &[u8]) -> Result<Vec<Standing>, NoMemory>
+    ensures { IfOk result (λ ranks. ranks.items ≡ in_rank (standings_of notes.now key.now uuid.now)) }
+{
+    let mut ranks = Vec::new(alloc);
     for note in notes {
         if is_current(note, key, uuid) {
-            found.push(found_of(note))?;
+            rank(&mut ranks, standing_of(note))?;
         }
     }
-    Ok(found)
+    Ok(ranks)
 }
 
+#[tactic(auto, unfolding(crate::specs::Current::layouts_of))]
 pub fn current(alloc: Global, notes: &[Note], key: &[u8], uuid: &[u8]) -> Result<Layouts, NoMemory>
-    ensures { IfOk result (λ layouts. IsCurrent notes.now key.now uuid.now layouts) }
+    ensures { IfOk result (λ layouts. layouts ≡ layouts_of notes.now key.now uuid.now) }
 {
-    let mut found = found(alloc, notes, key, uuid)?;
-    found.sort()?;
-    pairs(alloc, found.as_slice())
+    let ranks = ranks(alloc, notes, key, uuid)?;
+    pairs(alloc, ranks.as_slice())
 }
 
-fn pairs(alloc: Global, found: &[Found]) -> Result<Layouts, NoMemory>
-    ensures { IfOk result (λ layouts. layouts ≡ map (λ f. (f.chunk.0, f.count)) found.now) }
+fn pairs(alloc: Global, ranks: &[Standing]) -> Result<Layouts, NoMemory>
+    ensures { IfOk result (λ layouts. layouts ≡ map layout_of ranks.now) }
 {
     let mut items = Vec::new(alloc);
-    for one in found {
-        items.push((one.chunk.0, one.count))?;
+    for one in ranks {
+        items.push((one.chunk, one.count))?;
     }
     Ok(Layouts::from_vec(items))
 }

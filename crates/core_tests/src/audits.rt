@@ -57,11 +57,7 @@ fn push_tail(alloc: Global, list: &mut Vec<Entry>, tail: &str) -> Result<bool, N
 }
 
 fn found(alloc: Global, journal: Journal) -> Result<String, NoMemory> {
-    match cores::opening(alloc)? {
-        Some(opening) => {
-            let found = audit(alloc, &opening, &journal)?;
-            words::named(alloc, "", &found)
-        }
-        None => words::told(alloc, "no opening"),
-    }
+    let opening = cores::one_check(alloc)?;
+    let found = audit(alloc, &opening, &journal)?;
+    words::named(alloc, "", &found)
 }

@@ -1,101 +1,115 @@
-// A core of one check, which is told events of one child, 1 at first, or of task 1 over it.
-ghost use Rattle.std.specs.Prelude.{◌≤◌, length, IfOk, IfSome};
-ghost use Rattle.journal_model.specs.Limits.{most_tasks};
-ghost use Rattle.journal_model.specs.Replies.{IsLineIdentity};
+// A core that is told events by a number, of a child, or of a task.
+ghost use Rattle.std.specs.Prelude.{IfOk};
+ghost use Rattle.journal_model.specs.Beginnings.{MayBegin};
 
+use crate::openings::{CHECK, opening};
 use crate::{ends, requests, words};
-use ann_key::{Bytes, Key, KeyRef, NoMemory, Text};
-use chunk_log::NoteBook;
+use ann_key::{Bytes, NoMemory};
+use chunk_log::Layouts;
 use entry_text::{said, text_of};
 use host_core::{Core, Event, Reply};
-use journal_model::{Identity, Opening};
-use reg_file::Registers;
+use journal_model::Opening;
 use std::alloc::Global;
-use task_text::{Task, Tasks, Work};
 
-const KEY: &str = "SHA256E-s0--e3b0c44298fc1c149afbf4c8996fb92427ae41e4649b934ca495991b7852b855";
-
-/// What a run of one check of the key begins with.
-pub(crate) fn opening(alloc: Global) -> Result<Option<Opening>, NoMemory>
-    ensures few { IfOk result (λ o. IfSome o (λ opening. length opening.tasks ≤ most_tasks)) }
-    ensures lines { IfOk result (λ o. IfSome o (λ opening. IsLineIdentity opening.identity)) }
+/// What one check begins with.
+pub(crate) fn one_check(alloc: Global) -> Result<Opening, NoMemory>
+    ensures { IfOk result MayBegin }
 {
-    let Ok(key) = KeyRef::read(KEY.as_bytes()) else {
-        return Ok(None);
+    let line = String::from_str(alloc, CHECK)?;
+    let lines = vec![in alloc; line]?;
+    opening(alloc, lines.as_slice())
+}
+
+/// Who tells the events that come, and of what.
+#[derive(Clone, Copy)]
+struct Turn {
+    by: u32,
+    child: u32,
+    task: u32,
+}
+
+impl Turn {
+    const FIRST: Turn = Turn {
+        by: 0,
+        child: 1,
+        task: 1,
     };
-    let task = Task {
-        work: Work::Check,
-        key: Key::copy(alloc, key)?,
-        file: Text::copy(alloc, "")?,
-    };
-    let identity = Identity {
-        uuid: Text::copy(alloc, "00000000-0000-0000-0000-000000000000")?,
-        name: Text::copy(alloc, "remote")?,
-        gitdir: Text::copy(alloc, ".git")?,
-    };
-    Ok(Some(Opening {
-        tasks: Tasks::new(vec![in alloc; task]?),
-        registers: Registers::new(alloc),
-        notes: NoteBook::new(alloc),
-        identity,
-        stamp: 1_700_000_000_000_000,
-    }))
 }
 
 /// A core that goes on from row to row.
 #[derive(Drop)]
 pub(crate) struct Stage {
     core: Option<Core>,
-    child: u32,
+    turn: Turn,
+    tasks: Vec<String>,
 }
 
 impl Stage {
-    pub(crate) fn new() -> Stage {
+    pub(crate) fn new(alloc: Global) -> Stage {
         Stage {
             core: None,
-            child: 1,
+            turn: Turn::FIRST,
+            tasks: Vec::new(alloc),
         }
     }
 
     /// A new core, the entries of the journal, what else is known of it, or an event and the reply to it.
     pub(crate) fn play(&mut self, alloc: Global, text: &str) -> Result<String, NoMemory> {
-        match text {
+        let (word, rest) = words::cut(text);
+        match word {
+            "task" => self.add_task(alloc, rest),
             "new" => self.renew(alloc),
             "close" => self.close(alloc),
-            "first" => self.turn_to(alloc, 1),
-            "second" => self.turn_to(alloc, 2),
+            "by" | "child" | "of" => self.turn_to(alloc, word, words::task(rest)),
             _ => match &mut self.core {
-                Some(core) => told(alloc, core, self.child, text),
+                Some(core) => told(alloc, core, self.turn, text),
                 None => words::told(alloc, "no core"),
             },
         }
     }
 
-    // The events from here on are this child's.
-    fn turn_to(&mut self, alloc: Global, child: u32) -> Result<String, NoMemory> {
-        self.child = child;
+    // The next new core has this task too.
+    fn add_task(&mut self, alloc: Global, line: &str) -> Result<String, NoMemory> {
+        self.tasks.push(String::from_str(alloc, line)?)?;
         Ok(String::new(alloc))
     }
 
+    // The events from here on are told by this number, or are of this child or this task.
+    fn turn_to(&mut self, alloc: Global, word: &str, number: u32) -> Result<String, NoMemory> {
+        match word {
+            "by" => self.turn.by = number,
+            "child" => self.turn.child = number,
+            _ => self.turn.task = number,
+        }
+        Ok(String::new(alloc))
+    }
+
+    // A core with the tasks that were added since the last one, or with one check.
     fn renew(&mut self, alloc: Global) -> Result<String, NoMemory> {
-        self.child = 1;
-        self.core = match opening(alloc)? {
-            Some(opening) => Some(Core::new(alloc, opening)?),
-            None => None,
+        self.turn = Turn::FIRST;
+        let opening = if self.tasks.is_empty() {
+            one_check(alloc)?
+        } else {
+            opening(alloc, self.tasks.as_slice())?
         };
+        self.tasks.clear();
+        self.core = Some(Core::new(alloc, opening)?);
         Ok(String::new(alloc))
     }
 
-    // How many entries the journal has at the end.
+    // How many entries the journal has at the end, and what is set and noted.
     fn close(&mut self, alloc: Global) -> Result<String, NoMemory> {
         match self.core.take() {
-            Some(core) => { words::numbered(alloc, "entries", core.close().0.len()) }
+            Some(core) => {
+                let (journal, _, _) = core.close();
+                words::numbered(alloc, "entries", journal.len())
+            }
             None => words::told(alloc, "no core"),
         }
     }
 }
 
-fn told(alloc: Global, core: &mut Core, child: u32, text: &str) -> Result<String, NoMemory> {
+fn told(alloc: Global, core: &mut Core, turn: Turn, text: &str) -> Result<String, NoMemory> {
     match text {
         "journal" => {
             let entries = text_of(alloc, core.journal())?;
@@ -103,9 +117,9 @@ fn told(alloc: Global, core: &mut Core, child: u32, text: &str) -> Result<String
             said.push_str(entries.trim_end())?;
             Ok(said)
         }
-        "state" => state(alloc, core, child),
-        _ => match event(alloc, child, text)? {
-            Some(event) => reply_text(alloc, core.step(0, event)?),
+        "state" => state(alloc, core, turn.child),
+        _ => match event(alloc, turn, text)? {
+            Some(event) => reply_text(alloc, core.step(turn.by, event)?),
             None => words::told(alloc, "no event"),
         },
     }
@@ -124,8 +138,9 @@ fn state(alloc: Global, core: &Core, child: u32) -> Result<String, NoMemory> {
     Ok(said)
 }
 
-fn event(alloc: Global, child: u32, text: &str) -> Result<Option<Event>, NoMemory> {
+fn event(alloc: Global, turn: Turn, text: &str) -> Result<Option<Event>, NoMemory> {
     let (word, rest) = words::cut(text);
+    let child = turn.child;
     match word {
         "ask" => {
             let (task, request) = words::cut(rest);
@@ -136,8 +151,8 @@ fn event(alloc: Global, child: u32, text: &str) -> Result<Option<Event>, NoMemor
             line: Bytes::copy(alloc, rest.as_bytes())?,
         })),
         "stop" => Ok(ends::why(rest).map(|why| Event::Stop { child, why })),
-        "answer" => Ok(ends::answer(rest).map(|answer| Event::Answer { task: 1, answer })),
-        _ => Ok(plain(child, word, rest)),
+        "answer" => Ok(of_answer(turn.task, rest)),
+        _ => Ok(of_child(child, word, rest).or(of_task(turn.task, word, rest))),
     }
 }
 
@@ -150,7 +165,27 @@ fn ask(alloc: Global, child: u32, task: u32, text: &str) -> Result<Option<Event>
     }))
 }
 
-fn plain(child: u32, word: &str, rest: &str) -> Option<Event> {
+fn of_answer(task: u32, text: &str) -> Option<Event> {
+    ends::answer(text).map(|answer| Event::Answer { task, answer })
+}
+
+fn of_task(task: u32, word: &str, rest: &str) -> Option<Event> {
+    match word {
+        "note" => {
+            let (chunk, count) = words::cut(rest);
+            Some(Event::Note {
+                task,
+                chunk: words::number(chunk),
+                count: words::number(count),
+            })
+        }
+        "layouts" => Some(Event::Layouts { task }),
+        "shut" => Some(Event::Shut { on: rest == "on" }),
+        _ => None,
+    }
+}
+
+fn of_child(child: u32, word: &str, rest: &str) -> Option<Event> {
     match word {
         "start" => Some(Event::Start {
             slot: 0,
@@ -163,6 +198,7 @@ fn plain(child: u32, word: &str, rest: &str) -> Option<Event> {
             job: words::number(rest),
         }),
         "look" => Some(Event::Look { child }),
+        "listen" => Some(Event::Listen { child }),
         "fetch" => Some(Event::Fetch { child }),
         "sent" => Some(Event::Sent { child }),
         "mute" => Some(Event::Mute { child }),
@@ -176,6 +212,7 @@ fn reply_text(alloc: Global, reply: Reply) -> Result<String, NoMemory> {
         Reply::Child(child) => words::numbered(alloc, "child", u64::from(child)),
         Reply::Job(job) => words::numbered(alloc, "job", job),
         Reply::Verdict(verdict) => words::named(alloc, "", &verdict),
+        Reply::Layouts(layouts) => layouts_text(alloc, &layouts),
         Reply::Line(line) => words::quoted(alloc, "line ", said(line.view())),
         Reply::Gone { why: Some(why) } => words::named(alloc, "gone ", &why),
         Reply::Gone { why: None } => words::told(alloc, "gone mute"),
@@ -186,4 +223,14 @@ fn reply_text(alloc: Global, reply: Reply) -> Result<String, NoMemory> {
         Reply::Done => words::told(alloc, "done"),
         Reply::Odd => words::told(alloc, "odd"),
     }
+}
+
+// Each layout as its chunk size and how many chunks there are.
+fn layouts_text(alloc: Global, layouts: &Layouts) -> Result<String, NoMemory> {
+    let mut text = words::told(alloc, "layouts")?;
+    for (chunk, count) in layouts.view() {
+        let layout = format!(in alloc; " {chunk}x{count}")?;
+        text.push_str(layout.as_str())?;
+    }
+    Ok(text)
 }

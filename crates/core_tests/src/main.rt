@@ -7,6 +7,7 @@ mod audits;
 mod cores;
 mod ends;
 mod entries;
+mod openings;
 mod requests;
 mod talks;
 mod words;
@@ -50,7 +51,7 @@ fn print_row(rt: &(impl Print + AllocGlobal), scene: &mut Scene, row: &str) -> i
 
 fn print_rows(rt: &(impl Input + Print + AllocGlobal)) -> io::Result<()> {
     let mut scene = Scene {
-        stage: Stage::new(),
+        stage: Stage::new(rt.alloc()),
         talking: Talking::new(),
         head: Vec::new(rt.alloc()),
     };

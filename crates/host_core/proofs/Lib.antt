@@ -8,3 +8,4 @@ pub mod Sharing
 pub mod Setting
 pub mod Sparing
 pub mod Answered
+pub mod Noting

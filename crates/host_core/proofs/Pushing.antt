@@ -21,7 +21,7 @@ use Rattle.journal_model.proofs.Rooms.{room_suffices, room_grows}
 use Rattle.host_core.specs.declared.due.Due.{Due}
 use Rattle.host_core.specs.declared.due.Due.TheVariants.{Nothing, Settle, Replies, EndOf, EndedJobs, UnsentJobs}
 use Rattle.host_core.specs.declared.event.Event.{Event}
-use Rattle.host_core.specs.Steps.{step_of, needs_room, is_line, is_free}
+use Rattle.host_core.specs.Steps.{step_of, needs_room, needs_memory, is_free}
 use Rattle.journal_look.specs.Looks.{due_asked, due_job, due_jobs, job_at}
 use Rattle.host_core.specs.Moves.{dues, group_made, first_room, due_room, group_room}
 use Rattle.host_core.proofs.Stepping.{Legal-step}
@@ -235,7 +235,7 @@ no_room_in (e ∷ es) h =
 
 none_needed : (o : Opening) (past : List Entry) (by : ℕ) (event : Event) → is_free (step_of o past by event) ≡ true → list_any needs_room (step_of o past by event).group ≡ false
 none_needed o past by event h =
-    not_true (list_any needs_room (step_of o past by event).group) (both (not (list_any needs_room (step_of o past by event).group)) (not (is_line (step_of o past by event).reply)) h).0
+    not_true (list_any needs_room (step_of o past by event).group) (both (not (list_any needs_room (step_of o past by event).group)) (not (needs_memory (step_of o past by event).reply)) h).0
   where
     not_true : (b : Bool) → not b ≡ true → b ≡ false
     not_true true h = absurd cc

@@ -14,12 +14,13 @@ use Rattle.talk_serial.specs.declared.request.Request.{Request}
 use Rattle.talk_serial.specs.Requests.{message_of}
 use Rattle.journal_model.specs.Journal.{is_full, first_of, is_started, is_ended, is_mute, is_live, is_unsent, open_jobs, unsent, verdict_of}
 use Rattle.journal_model.specs.Due.{made_by}
-use Rattle.journal_model.specs.Legality.{least_free, is_prepared, is_empty}
+use Rattle.journal_model.specs.Legality.{least_free, is_prepared, is_empty, is_claimed_by, task_of}
+use Rattle.task_text.specs.declared.task.Task.{Task}
 use Rattle.host_core.specs.declared.event.Event.{Event}
-use Rattle.host_core.specs.declared.event.Event.TheVariants.{Claim as ClaimEvent, Ask as AskEvent, Fetch, Got as GotEvent, Lookup, Look, Listen, Stop, Sent as SentEvent, Mute as MuteEvent, Answer as AnswerEvent, Shut}
+use Rattle.host_core.specs.declared.event.Event.TheVariants.{Claim as ClaimEvent, Ask as AskEvent, Fetch, Got as GotEvent, Lookup, Look, Listen, Stop, Sent as SentEvent, Mute as MuteEvent, Answer as AnswerEvent, Layouts as LayoutsEvent, Shut}
 use Rattle.host_core.specs.declared.event.Reply.{Reply}
 use Rattle.host_core.specs.declared.event.Reply.TheVariants.{NoTask, Read, Over, Wait, Done}
-use Rattle.host_core.specs.Steps.{Step, step_of, needs_room, is_line, is_free, next_line, takes_no_memory, odd, only, append, gone, is_gone, claim, are_all_claimed, is_asked, settled_so, listening, is_awaited, is_idle, may_end, may_answer, may_request, resting}
+use Rattle.host_core.specs.Steps.{Step, step_of, needs_room, needs_memory, is_free, next_line, takes_no_memory, odd, only, append, gone, is_gone, claim, are_all_claimed, is_asked, settled_so, listening, is_awaited, is_idle, may_end, may_answer, may_request, resting}
 
 verdicts_free : (by c : ℕ) (v : Verdict) (js : List ℕ) → list_any needs_room (made_by by (map (λ j. Settled c j v) js)) ≡ false
 verdicts_free by c v [] = refl
@@ -77,7 +78,7 @@ event_free o past by event h = absurd cc
 
 -- where a line is to be written, it is answered
 pub line_first : (rest : Reply) (us : List (Option ℕ × List ℕ)) (line : List ℕ) → Some line ≡ option_map (λ (w : Option ℕ × List ℕ). w.1) (first_of us)
-    → is_line (next_line rest us) ≡ true
+    → needs_memory (next_line rest us) ≡ true
 line_first rest [] line h = absurd cc
 line_first rest (w ∷ ws) line h = refl
 
@@ -91,12 +92,16 @@ pub got_takes : (o : Opening) (past : List Entry) (by child : ℕ) (line : List 
     → is_free (step_of o past by (GotEvent child line)) ≡ false
 got_takes o past by child line fits live full = rw (fits, live, full) refl
 
+pub layouts_take : (o : Opening) (past : List Entry) (by number : ℕ) (task : Task) → is_claimed_by past by number ≡ true → task_of o number ≡ Some task
+    → is_free (step_of o past by (LayoutsEvent number)) ≡ false
+layouts_take o past by number task claimed there = rw (claimed, there) refl
+
 pub fetch_is : (o : Opening) (past : List Entry) (by child : ℕ) → is_started past child ≡ true → is_gone past child ≡ false
     → step_of o past by (Fetch child) ≡ only (next_line (resting o past child) (unsent past child))
 fetch_is o past by child started here = rw (started, here) refl
 
-pub free_line : (reply : Reply) → is_free (only reply) ≡ true → is_line reply ≡ false
-free_line reply h = go (is_line reply) h
+pub free_line : (reply : Reply) → is_free (only reply) ≡ true → needs_memory reply ≡ false
+free_line reply h = go (needs_memory reply) h
   where
     go : (b : Bool) → (true && not b) ≡ true → b ≡ false
     go true h = absurd cc

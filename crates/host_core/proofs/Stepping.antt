@@ -12,13 +12,14 @@ use Rattle.journal_model.specs.declared.entry.What.TheVariants.{Claim, Start, No
 use Rattle.journal_model.specs.declared.entry.Entry.{Entry}
 use Rattle.journal_model.specs.declared.opening.Opening.{Opening}
 use Rattle.journal_model.specs.Journal.{is_started, is_ended, is_mute, is_live, unsent, addressed, on_wire, verdict_of, is_full}
-use Rattle.journal_model.specs.Legality.{Legal, is_empty, count, is_start, least_free, is_prepared, is_in_turn, may_ask, may_stop, may_come, is_number, asks_in_turn}
+use Rattle.journal_model.specs.Legality.{Legal, is_empty, count, is_start, least_free, is_prepared, is_in_turn, may_ask, may_stop, may_come, is_number, asks_in_turn, is_claimed_by, task_of}
+use Rattle.task_text.specs.declared.task.Task.{Task}
 use Rattle.journal_model.proofs.Growing.{Legal-group}
 use Rattle.journal_model.proofs.Looks.{same, both}
 use Rattle.host_core.specs.declared.event.Event.{Event}
-use Rattle.host_core.specs.declared.event.Event.TheVariants.{Claim as ClaimEvent, Start as StartEvent, NoStart as NoStartEvent, Ask as AskEvent, Lookup, Look, Listen, Fetch, Got as GotEvent, Stop, Sent as SentEvent, Mute as MuteEvent, Answer as AnswerEvent, Note as NoteEvent, Shut}
+use Rattle.host_core.specs.declared.event.Event.TheVariants.{Claim as ClaimEvent, Start as StartEvent, NoStart as NoStartEvent, Ask as AskEvent, Lookup, Look, Listen, Fetch, Got as GotEvent, Stop, Sent as SentEvent, Mute as MuteEvent, Answer as AnswerEvent, Note as NoteEvent, Layouts as LayoutsEvent, Shut}
 use Rattle.host_core.specs.declared.event.Reply.TheVariants.{Child, Job, Over, Done, Gone}
-use Rattle.host_core.specs.Steps.{Step, step_of, group_of, append, odd, only, gone, is_gone, claim, next_job, may_request, may_answer, may_add_note, may_end, is_full_why, is_asked, settled_so, next_line, listening, resting, Comes}
+use Rattle.host_core.specs.Steps.{Step, step_of, group_of, append, odd, only, gone, is_gone, claim, next_job, may_request, may_answer, may_add_note, may_end, is_full_why, is_asked, settled_so, next_line, listening, resting, layouts_for, Comes}
 use Rattle.talk_serial.specs.Requests.{message_of}
 use Rattle.host_core.proofs.Wiring.{wired_turn, few_jobs}
 
@@ -149,6 +150,11 @@ notes_keep : (o : Opening) (past : List Entry) (by task chunk count : ℕ) (b : 
 notes_keep o past by task chunk count true e = inr (Noted task chunk count, e, refl)
 notes_keep o past by task chunk count false e = inl refl
 
+layouts_keep : (o : Opening) (past : List Entry) (by : ℕ) (b : Bool) (task : Option Task) → Comes o past by (cond b (layouts_for o past task) odd)
+layouts_keep o past by true (Some task) = inl refl
+layouts_keep o past by true None = inl refl
+layouts_keep o past by false task = inl refl
+
 pub step_comes : (o : Opening) (past : List Entry) (by : ℕ) (event : Event) → length past < 2 ^ 64 → Comes o past by (step_of o past by event)
 step_comes o past by (ClaimEvent child) few =
     claims_keep o past by child (child == 0 && by == 0) (is_started past child) (is_prepared past child) (is_ended past child) (is_mute past child) refl refl refl refl refl
@@ -159,6 +165,7 @@ step_comes o past by (AskEvent child task request) few =
 step_comes o past by (Lookup child job) few = lookups_keep o past by child job (is_asked past child job)
 step_comes o past by (Look child) few = looks_keep o past by child (is_started past child) (is_gone past child)
 step_comes o past by (Listen child) few = listens_keep o past by child (is_started past child) (is_ended past child)
+step_comes o past by (LayoutsEvent task) few = layouts_keep o past by (is_claimed_by past by task) (task_of o task)
 step_comes o past by (Shut on) few = shuts_keep o past by (nat_le by 1)
 step_comes o past by (Fetch child) few = fetches_keep o past by child (is_started past child) (is_gone past child)
 step_comes o past by (GotEvent child line) few = gots_keep o past by child line (is_started past child) (has_newline line) (is_ended past child) (is_full past) refl refl refl refl

@@ -1,4 +1,5 @@
 use Rattle.std.specs.Prelude.{List, Bool}
+use Rattle.chunk_log.specs.declared.note.Note.{Note}
 use Rattle.reg_file.specs.Registers.{RegisterFile}
 use Rattle.journal_model.specs.declared.entry.Entry.{Entry}
 use Rattle.journal_model.specs.declared.opening.Opening.{Opening}
@@ -8,4 +9,5 @@ pub record CoreValue : Type 0 where
   pub opening : Opening
   pub journal : List Entry
   pub registers : RegisterFile
+  pub notes : List Note
   pub shut : Bool

@@ -4,6 +4,8 @@ use Rattle.std.specs.List.{list_any, list_all}
 use Rattle.journal_model.specs.declared.verdict.Why.{Why}
 use Rattle.journal_model.specs.declared.verdict.Why.TheVariants.{Full}
 use Rattle.journal_model.specs.declared.verdict.Verdict.{Verdict}
+use Rattle.chunk_log.specs.Current.{layouts_of}
+use Rattle.task_text.specs.declared.task.Task.{Task}
 use Rattle.annex_model.specs.Lines.{has_newline}
 use Rattle.annex_model.specs.Messages.{HostMessage, host_line, is_askable}
 use Rattle.journal_model.specs.declared.entry.What.{What}
@@ -15,10 +17,11 @@ use Rattle.journal_model.specs.Room.{room_for}
 use Rattle.journal_model.specs.Due.{due_after}
 use Rattle.journal_model.specs.Legality.{may_come, is_empty, count, is_start, is_claimed, numbers_of, least_free, is_prepared, is_in_turn, may_ask, may_stop, is_claimed_by, has_open_job, has_busy_task, task_of, may_note}
 use Rattle.talk_serial.specs.Requests.{message_of}
+use Rattle.host_core.specs.Books.{notes_after}
 use Rattle.host_core.specs.declared.event.Event.{Event}
-use Rattle.host_core.specs.declared.event.Event.TheVariants.{Claim as ClaimEvent, Start as StartEvent, NoStart as NoStartEvent, Ask as AskEvent, Lookup, Look, Listen, Fetch, Got as GotEvent, Stop, Sent as SentEvent, Mute as MuteEvent, Answer as AnswerEvent, Note as NoteEvent, Shut}
+use Rattle.host_core.specs.declared.event.Event.TheVariants.{Claim as ClaimEvent, Start as StartEvent, NoStart as NoStartEvent, Ask as AskEvent, Lookup, Look, Listen, Fetch, Got as GotEvent, Stop, Sent as SentEvent, Mute as MuteEvent, Answer as AnswerEvent, Note as NoteEvent, Layouts as LayoutsEvent, Shut}
 use Rattle.host_core.specs.declared.event.Reply.{Reply}
-use Rattle.host_core.specs.declared.event.Reply.TheVariants.{Task, Child, Job, Verdict as Settled, Line, Read, Wait, NoTask, Gone, Over, Done, Odd}
+use Rattle.host_core.specs.declared.event.Reply.TheVariants.{Task as TaskReply, Child, Job, Verdict as Settled, Layouts as Known, Line, Read, Wait, NoTask, Gone, Over, Done, Odd}
 
 pub record Step : Type 0 where
   pub reply : Reply
@@ -82,13 +85,15 @@ may_add_note o past by task chunk =
 abbrev pub needs_room : Entry → Bool
 needs_room e = nat_lt 0 (room_for e.what)
 
-abbrev pub is_line : Reply → Bool
-is_line (Line line) = true
-is_line reply = false
+-- the reply is a line, or layouts
+abbrev pub needs_memory : Reply → Bool
+needs_memory (Line line) = true
+needs_memory (Known layouts) = true
+needs_memory reply = false
 
--- A step takes memory only for an entry whose room was not kept before, or for a line that it answers.
+-- A step takes memory only for an entry whose room was not kept before, or for a line or layouts that it answers.
 abbrev pub is_free : Step → Bool
-is_free s = not (list_any needs_room s.group) && not (is_line s.reply)
+is_free s = not (list_any needs_room s.group) && not (needs_memory s.reply)
 
 -- such are all steps by this event
 abbrev pub takes_no_memory : Event → Bool
@@ -98,6 +103,7 @@ takes_no_memory (AskEvent child task request) = false
 takes_no_memory (Fetch child) = false
 takes_no_memory (GotEvent child line) = false
 takes_no_memory (NoteEvent task chunk count) = false
+takes_no_memory (LayoutsEvent task) = false
 takes_no_memory _ = true
 
 -- ---- steps that have more than one outcome
@@ -111,7 +117,7 @@ unclaimed o past = filter (λ t. not (is_claimed past t)) (numbers_of o)
 
 -- the least free task is claimed for the child
 abbrev pub claim : Opening → List Entry → ℕ → ℕ → Option ℕ → Step
-claim o past by child (Some task) = append o past by (Claim task child) (Task task)
+claim o past by child (Some task) = append o past by (Claim task child) (TaskReply task)
 claim o past by child None = only (if are_all_claimed o past then NoTask else Wait)
 
 -- the job is asked, or lost where the child is gone
@@ -147,6 +153,11 @@ resting o past child = if not (is_awaited past child) && is_idle o past child th
 abbrev pub next_line : Reply → List (Option ℕ × List ℕ) → Reply
 next_line rest [] = rest
 next_line rest (w ∷ ws) = Line (w.1 ++ 10 ∷ [])
+
+-- the layouts in which the remote is known to have the task's key, by all notes so far
+abbrev pub layouts_for : Opening → List Entry → Option Task → Step
+layouts_for o past None = odd
+layouts_for o past (Some task) = only (Known (layouts_of (notes_after o past) task.key o.identity.uuid))
 
 -- ---- the table of events
 
@@ -190,6 +201,7 @@ step_of o past by (MuteEvent child) =
     if is_started past child && not (is_mute past child) then append o past by (Mute child) Done else odd
 step_of o past by (AnswerEvent task answer) = if may_answer past by task then append o past by (Answered task answer) Done else odd
 step_of o past by (NoteEvent task chunk count) = if may_add_note o past by task chunk then append o past by (Noted task chunk count) Done else odd
+step_of o past by (LayoutsEvent task) = if is_claimed_by past by task then layouts_for o past (task_of o task) else odd
 step_of o past by (Shut on) = if nat_le by 1 then only Done else odd
 
 -- ---- a core that was shut: those that would wait for a child are told that it is over

@@ -1,4 +1,5 @@
 use ann_key::Bytes;
+use chunk_log::Layouts;
 use journal_model::{Answer, Verdict, Why};
 use talk_serial::Request;
 
@@ -70,6 +71,10 @@ pub enum Event {
         chunk: u64,
         count: u64,
     },
+    /// The layouts in which the remote is known to have the task's content.
+    Layouts {
+        task: u32,
+    },
     /// Those that wait for a child are to stop, or to go on. The main thread may tell it.
     Shut {
         on: bool,
@@ -87,6 +92,8 @@ pub enum Reply {
     Job(u64),
     /// The job is settled so.
     Verdict(Verdict),
+    /// The remote is known to have the content in these layouts.
+    Layouts(Layouts),
     /// This line is to be written to the child, with its byte 10.
     Line(Bytes),
     /// The child's output is to be read.

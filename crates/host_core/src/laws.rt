@@ -1,11 +1,19 @@
 // Laws over the table of events, each the contract of a function with nothing to do.
-ghost use Rattle.std.specs.Prelude.{◌≡◌, ◌<◌, ◌^◌, ◌++◌, ◌↔◌, ℕ, List, true, length};
+ghost use Rattle.std.specs.Prelude.{◌≡◌, ◌<◌, ◌^◌, ◌++◌, ◌∷◌, [], ◌↔◌, ℕ, List, Some, true, length, IsTrue};
+ghost use Rattle.chunk_log.specs.NoteBooks.{in_order};
+ghost use Rattle.task_text.specs.declared.task.Task.{Task};
 ghost use Rattle.journal_model.specs.declared.entry.What.{What};
 ghost use Rattle.journal_model.specs.declared.entry.Entry.{Entry};
 ghost use Rattle.journal_model.specs.declared.opening.Opening.{Opening};
-ghost use Rattle.journal_model.specs.Legality.{Legal, may_come};
+ghost use Rattle.journal_model.specs.Legality.{Legal, may_come, task_of};
+ghost use Rattle.journal_model.specs.Notes.{AreCurrentAt};
+ghost use Rattle.journal_model.specs.NoteRows.{to_do, known_since, claimed, stored, noting, noted_and_answered};
+ghost use Rattle.journal_model.specs.Rows.{greeting};
+ghost use Rattle.task_text.specs.declared.task.Work.TheVariants.{Store, Drop};
 ghost use Rattle.host_core.specs.Steps.{step_of, Comes, Appends};
 ghost use Rattle.host_core.specs.declared.event.Event.{Event};
+ghost use Rattle.host_core.specs.declared.event.Event.TheVariants.{Layouts as AskLayouts};
+ghost use Rattle.host_core.specs.declared.event.Reply.TheVariants.{Layouts as Known, Odd};
 
 /// An event appends nothing, or an entry that may come with what it makes due, and keeps a journal legal. Each entry that
 /// may come is one that some event appends first. A job's number has 64 bits, so these hold of journals shorter than that.
@@ -13,4 +21,24 @@ pub fn events_keep_legal()
     ensures group { (o : Opening) (past : List Entry) (by : ℕ) (event : Event) → length past < 2 ^ 64 → Comes o past by (step_of o past by event) }
     ensures legal { (o : Opening) (past : List Entry) (by : ℕ) (event : Event) → length past < 2 ^ 64 → Legal o past → Legal o (past ++ (step_of o past by event).group) }
     ensures exact { (o : Opening) (past : List Entry) (by : ℕ) (w : What) → length past < 2 ^ 64 → (may_come o past by w ≡ true) ↔ Appends o past by w }
+{}
+
+/// The layouts that are answered are those in which the remote has the task's key by all notes so far. A book that a run begins
+/// with is in order.
+pub fn layouts_are_current()
+    ensures { (o : Opening) (past : List Entry) (by number : ℕ) (layouts : List (ℕ × ℕ)) → IsTrue (in_order o.notes) → (step_of o past by (AskLayouts number)).reply ≡ Known layouts → (task : Task) × (task_of o number ≡ Some task) × AreCurrentAt o past task.key layouts }
+{}
+
+/// Layouts are answered to the number that holds the task, of any work, and to no other.
+#[tactic(auto, unfolding(chunk_log::specs::Current::layouts_of))]
+pub fn worked_layouts()
+    ensures none { (step_of (to_do Store) stored 0 (AskLayouts 1)).reply ≡ Known [] }
+    ensures noted { (step_of (to_do Store) (noting 2) 0 (AskLayouts 1)).reply ≡ Known ((100, 2) ∷ []) }
+    ensures before { (step_of (known_since 5 Drop) claimed 0 (AskLayouts 1)).reply ≡ Known ((100, 2) ∷ []) }
+    ensures over_older { (step_of (known_since 5 Store) (noting 7) 0 (AskLayouts 1)).reply ≡ Known ((100, 7) ∷ []) }
+    ensures no_chunks { (step_of (known_since 5 Store) (noting 0) 0 (AskLayouts 1)).reply ≡ Known [] }
+    ensures other_number { (step_of (to_do Store) (noting 2) 3 (AskLayouts 1)).reply ≡ Odd }
+    ensures answered { (step_of (to_do Store) noted_and_answered 0 (AskLayouts 1)).reply ≡ Odd }
+    ensures unclaimed { (step_of (to_do Store) greeting 0 (AskLayouts 1)).reply ≡ Odd }
+    ensures other_task { (step_of (to_do Store) (noting 2) 0 (AskLayouts 2)).reply ≡ Odd }
 {}

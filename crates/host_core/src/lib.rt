@@ -4,6 +4,7 @@
 mod due;
 mod event;
 mod group;
+mod keeping;
 pub mod laws;
 mod lines;
 mod machine;

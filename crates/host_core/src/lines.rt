@@ -4,7 +4,7 @@ ghost use Rattle.annex_model.specs.Lines.{has_newline};
 ghost use Rattle.annex_model.specs.Messages.{remote_reading};
 ghost use Rattle.journal_model.specs.Journal.{unsent};
 ghost use Rattle.journal_model.specs.Due.{is_error};
-ghost use Rattle.host_core.specs.Steps.{is_line, next_line};
+ghost use Rattle.host_core.specs.Steps.{needs_memory, next_line};
 
 use crate::event::Reply;
 use ann_key::{Bytes, NoMemory};
@@ -41,7 +41,7 @@ pub(super) fn next_line(
     rest: Reply,
 ) -> Result<Reply, NoMemory>
     ensures line { IfOk result (λ reply. reply ≡ next_line rest (unsent journal.now.entries child)) }
-    ensures free { is_line (next_line rest (unsent journal.now.entries child)) ≡ false → IsOk result }
+    ensures free { needs_memory (next_line rest (unsent journal.now.entries child)) ≡ false → IsOk result }
 {
     match first_unsent(journal, child) {
         Some(line) => Ok(Reply::Line(with_newline(alloc, line)?)),

@@ -1,53 +1,56 @@
-ghost use Rattle.std.specs.Prelude.{◌≡◌, ◌≤◌, ◌<◌, ◌^◌, ◌++◌, [], length, true, false, All, IfOk, IsOk, OnOk, OnErr};
-ghost use Rattle.journal_model.specs.Limits.{most_tasks};
+ghost use Rattle.std.specs.Prelude.{◌≡◌, ◌<◌, ◌^◌, ◌++◌, [], length, true, false, All, IfOk, IsOk, IsTrue, OnOk, OnErr};
+ghost use Rattle.chunk_log.specs.NoteBooks.{in_order};
+ghost use Rattle.journal_model.specs.Beginnings.{MayBegin};
 ghost use Rattle.journal_model.specs.Journal.{is_tagged};
 ghost use Rattle.journal_model.specs.Legality.{Legal};
-ghost use Rattle.journal_model.specs.Replies.{IsLineIdentity};
+ghost use Rattle.host_core.specs.Books.{notes_after};
 ghost use Rattle.host_core.specs.Mays.{IsMadeBy};
 ghost use Rattle.host_core.specs.Steps.{step_of, takes_no_memory, is_free, unclaimed, told, shut_by};
 ghost use Rattle.host_core.specs.Settings.{registers_after};
 
 use crate::event::{Event, Reply};
 use crate::serving::Past;
-use crate::{group, moves, serving};
+use crate::{group, keeping, moves};
 use ann_key::NoMemory;
+use chunk_log::NoteBook;
 use journal_look::{Journal, is_tagged, unclaimed};
 use journal_model::Opening;
 use reg_file::Registers;
 use std::alloc::Global;
 use std::marker::Model;
 
-/// The core of a run: what it began with, the journal so far, which is legal, and the registers behind it; and whether it is
-/// shut. It keeps room for all that can come of the entries so far.
+/// The core of a run: what it began with, the journal so far, which is legal, and the registers and the notes behind it; and
+/// whether it is shut. It keeps room for all that can come of the entries so far.
 #[derive(Drop)]
 pub struct Core {
     alloc: Global,
     opening: Opening,
     journal: Journal,
     registers: Registers,
+    notes: NoteBook,
     shut: bool,
 }
 
 impl Model for Core {
-    ghost use Rattle.std.specs.Prelude.{◌≤◌, ◌<◌, ◌^◌, length};
+    ghost use Rattle.std.specs.Prelude.{◌≤◌, ◌<◌, ◌^◌};
     ghost use Rattle.journal_model.specs.Room.{room_of};
     ghost use Rattle.journal_model.specs.Legality.{Legal};
-    ghost use Rattle.journal_model.specs.Limits.{most_tasks};
+    ghost use Rattle.journal_model.specs.Beginnings.{MayBegin};
+    ghost use Rattle.host_core.specs.Books.{IsNoted};
     ghost use Rattle.host_core.specs.CoreValue.{CoreValue};
     ghost use Rattle.host_core.specs.Settings.{IsServed};
 
     ghost Value = { CoreValue };
 
-    ghost view = { λ c. record { opening = c.opening; journal = c.journal.entries; registers = c.registers; shut = c.shut } };
+    ghost view = { λ c. record { opening = c.opening; journal = c.journal.entries; registers = c.registers; notes = c.notes; shut = c.shut } };
 
-    ghost invariant = { λ c. Legal c.opening c.journal.entries × (length c.opening.tasks ≤ most_tasks) × (room_of c.opening c.journal.entries ≤ c.journal.room) × (c.journal.room < 2 ^ 64) × IsServed c.opening c.journal.entries c.registers };
+    ghost invariant = { λ c. Legal c.opening c.journal.entries × MayBegin c.opening × (room_of c.opening c.journal.entries ≤ c.journal.room) × (c.journal.room < 2 ^ 64) × IsServed c.opening c.journal.entries c.registers × IsNoted c.opening c.journal.entries c.notes };
 }
 
 impl Core {
-    /// A core with an empty journal. It has at most 65,536 tasks.
+    /// A core with an empty journal.
     pub fn new(alloc: Global, opening: Opening) -> Result<Core, NoMemory>
-        requires few { length opening.tasks ≤ most_tasks }
-        requires lines { IsLineIdentity opening.identity }
+        requires { MayBegin opening }
         ensures opening { IfOk result (λ c. c.opening ≡ opening) }
         ensures empty { IfOk result (λ c. c.journal ≡ []) }
         ensures shut { IfOk result (λ c. c.shut ≡ false) }
@@ -57,17 +60,20 @@ impl Core {
         journal.take_room(room)?;
         let registers = opening.registers.copy()?;
         let _kept = opening.registers.wanted();
+        let notes = opening.notes.copy(alloc)?;
+        let _in_order = opening.notes.line(0);
         Ok(Core {
             alloc,
             opening,
             journal,
             registers,
+            notes,
             shut: false,
         })
     }
 
     /// One event, told by that number. What takes memory is taken in an order such that nothing has to be undone: the replies, then
-    /// room, then what is set. So after want of memory the core is as before.
+    /// room, then what is set or noted. So after want of memory the core is as before.
     pub fn step(&mut self, by: u32, event: Event) -> Result<Reply, NoMemory>
         ensures reply { IfOk result (λ reply. reply ≡ told self.old.shut event (step_of self.old.opening self.old.journal by event).reply) }
         ensures journal { OnOk result (self.new.journal ≡ self.old.journal ++ (step_of self.old.opening self.old.journal by event).group) }
@@ -76,6 +82,7 @@ impl Core {
         ensures opening { self.new.opening ≡ self.old.opening }
         ensures legal { Legal self.new.opening self.new.journal }
         ensures registers { self.new.registers ≡ registers_after self.new.opening self.new.journal }
+        ensures notes { self.new.notes ≡ notes_after self.new.opening self.new.journal }
         ensures few { length self.new.journal < 2 ^ 64 }
         ensures free { is_free (step_of self.old.opening self.old.journal by event) ≡ true → IsOk result }
         ensures free_event { takes_no_memory event ≡ true → IsOk result }
@@ -87,11 +94,20 @@ impl Core {
             opening: &self.opening,
             journal: &self.journal,
             registers: &self.registers,
+            notes: &self.notes,
         };
         let step = moves::move_of(self.alloc, past, by, event)?;
         let more = group::group_room(&step.what, &step.due)?;
         self.journal.take_room(more)?;
-        serving::set_by_group(&mut self.registers, &self.journal, &step.what, &step.due)?;
+        keeping::keep_group(
+            self.alloc,
+            &mut self.registers,
+            &mut self.notes,
+            &self.opening,
+            &self.journal,
+            &step.what,
+            &step.due,
+        )?;
         group::push_group(&mut self.journal, by, step.what, step.due);
         let reply = moves::told(waits, self.shut, step.reply);
         self.shut = shut;
@@ -111,6 +127,15 @@ impl Core {
         ensures given { self.now.registers ≡ registers_after self.now.opening self.now.journal }
     {
         &self.registers
+    }
+
+    /// The lines of chunk logs that count behind the journal. It takes no memory.
+    pub fn notes(&self) -> &NoteBook
+        ensures value { result.now ≡ self.now.notes }
+        ensures given { self.now.notes ≡ notes_after self.now.opening self.now.journal }
+        ensures order { IsTrue (in_order self.now.opening.notes) }
+    {
+        &self.notes
     }
 
     /// What the run began with.
@@ -134,11 +159,12 @@ impl Core {
         unclaimed(&self.opening, &self.journal)
     }
 
-    /// The journal and the registers, when the run is over. It takes no memory.
-    pub fn close(self) -> (Journal, Registers)
+    /// The journal, the registers and the notes, when the run is over. It takes no memory.
+    pub fn close(self) -> (Journal, Registers, NoteBook)
         ensures journal { result.0.entries ≡ self.journal }
         ensures registers { result.1 ≡ self.registers }
+        ensures notes { result.2 ≡ self.notes }
     {
-        (self.journal, self.registers)
+        (self.journal, self.registers, self.notes)
     }
 }

@@ -6,6 +6,7 @@ ghost use Rattle.journal_model.specs.Journal.{on_wire};
 ghost use Rattle.journal_model.specs.Legality.{Legal, least_free};
 ghost use Rattle.talk_serial.specs.Requests.{message_of};
 ghost use Rattle.host_core.specs.Steps.{is_free, step_of, claim, is_gone, gone, may_end, may_answer, may_add_note, told, unless_shut, shut_by, is_awaited, is_idle, listening, resting, next_line};
+ghost use Rattle.host_core.specs.Books.{IsNoted};
 ghost use Rattle.host_core.specs.Moves.{IsStep};
 ghost use Rattle.host_core.specs.Settings.{IsServed, IsDueReply};
 ghost use Rattle.journal_model.specs.declared.verdict.Why.TheVariants.{Full};
@@ -22,7 +23,8 @@ use ann_key::{Bytes, NoMemory};
 use journal_look::{
     Journal, are_all_claimed, has_busy_task, has_no_open_job, has_open_job, has_spoken,
     is_all_sent, is_asked, is_claimed_by, is_ended, is_full, is_live, is_mute, is_prepared,
-    is_started, least_free, may_note, next_job, on_wire, starts_so_far, verdict_of, why_of,
+    is_started, least_free, may_note, next_job, on_wire, starts_so_far, task_of, verdict_of,
+    why_of,
 };
 use journal_model::{Answer, Opening, What, Why};
 use std::alloc::Global;
@@ -418,6 +420,24 @@ fn note(opening: &Opening, journal: &Journal, by: u32, task: u32, chunk: u64, co
     }
 }
 
+/// The layouts in which the remote is known to have the task's key.
+fn layouts(alloc: Global, past: Past<'_>, by: u32, task: u32) -> Result<Move, NoMemory>
+    requires { IsNoted past.opening.now past.journal.now.entries past.notes.now }
+    ensures step { IfOk result (IsStep past.entry.journal.now.entries by (step_of past.entry.opening.now past.entry.journal.now.entries by (Event.Layouts task))) }
+    ensures reply { IfOk result (λ m. IsDueReply past.entry.journal.now.entries m.what m.due) }
+    ensures free { is_free (step_of past.entry.opening.now past.entry.journal.now.entries by (Event.Layouts task)) ≡ true → IsOk result }
+{
+    if !is_claimed_by(past.journal, by, task) {
+        return Ok(only(Reply::Odd));
+    }
+    let Some(task) = task_of(past.opening, task) else {
+        return Ok(only(Reply::Odd));
+    };
+    let uuid = past.opening.identity.uuid.view();
+    let layouts = past.notes.current(alloc, task.key.view(), uuid)?;
+    Ok(only(Reply::Layouts(layouts)))
+}
+
 fn shut(opening: &Opening, journal: &Journal, by: u32, on: bool) -> Move
     ensures step { IsStep journal.now.entries by (step_of opening.now journal.now.entries by (Event.Shut on)) result }
     ensures reply { IsDueReply journal.now.entries result.what result.due }
@@ -466,6 +486,7 @@ pub(super) fn move_of(
     requires few { length past.opening.now.tasks ≤ most_tasks }
     requires legal { Legal past.opening.now past.journal.now.entries }
     requires served { IsServed past.opening.now past.journal.now.entries past.registers.now }
+    requires noted { IsNoted past.opening.now past.journal.now.entries past.notes.now }
     ensures step { IfOk result (IsStep past.entry.journal.now.entries by (step_of past.entry.opening.now past.entry.journal.now.entries by event)) }
     ensures reply { IfOk result (λ m. IsDueReply past.entry.journal.now.entries m.what m.due) }
     ensures free { is_free (step_of past.entry.opening.now past.entry.journal.now.entries by event) ≡ true → IsOk result }
@@ -491,6 +512,7 @@ pub(super) fn move_of(
         Event::Mute { child } => mute(opening, journal, by, child),
         Event::Answer { task, answer } => answer_task(opening, journal, by, task, answer),
         Event::Note { task, chunk, count } => note(opening, journal, by, task, chunk, count),
+        Event::Layouts { task } => layouts(alloc, past, by, task)?,
         Event::Shut { on } => shut(opening, journal, by, on),
     };
     Ok(step)

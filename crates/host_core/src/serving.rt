@@ -14,18 +14,20 @@ ghost use Rattle.host_core.specs.Settings.{IsServed, IsLine, is_reply, set_in};
 use crate::due::Due;
 use ann_key::{Bytes, NoMemory};
 use ask_serve::replies_to;
+use chunk_log::NoteBook;
 use journal_look::{Journal, addressed, on_wire};
 use journal_model::{Opening, What};
 use reg_file::Registers;
 use std::alloc::Global;
 use wire_msg::{RemoteMsg, read_remote};
 
-/// What stands so far: what the run began with, the journal, and the registers behind it.
+/// What stands so far: what the run began with, the journal, and the registers and the notes behind it.
 #[derive(Clone, Copy)]
 pub struct Past<'a> {
     pub opening: &'a Opening,
     pub journal: &'a Journal,
     pub registers: &'a Registers,
+    pub notes: &'a NoteBook,
 }
 
 /// The lines as they stand on the wire in that job.

@@ -1,7 +1,6 @@
 // Makes the journal again, by a core of its own.
-ghost use Rattle.std.specs.Prelude.{ℕ, ◌≡◌, ◌↔◌, ◌≤◌, ◌<◌, ◌^◌, List, Some, length, slice_get, IfOk, OnOk, IsTrue};
-ghost use Rattle.journal_model.specs.Limits.{most_tasks};
-ghost use Rattle.journal_model.specs.Replies.{IsLineIdentity};
+ghost use Rattle.std.specs.Prelude.{ℕ, ◌≡◌, ◌↔◌, ◌<◌, ◌^◌, List, Some, length, slice_get, IfOk, OnOk, IsTrue};
+ghost use Rattle.journal_model.specs.Beginnings.{MayBegin};
 ghost use Rattle.journal_model.specs.declared.entry.Entry.{Entry};
 ghost use Rattle.journal_look.specs.Shown.{entry_shown};
 ghost use Rattle.journal_audit.specs.Audits.{IsAudit};
@@ -55,8 +54,7 @@ fn may_stand(alloc: Global, core: &mut Core, at: u64, entry: EntryRef<'_>) -> Re
 /// What is found of the journal of a run that began so. It is plain and slow: for each entry it goes through all that stand
 /// before it, more than once. It takes memory for a copy of the opening and of the journal.
 pub fn audit(alloc: Global, opening: &Opening, journal: &Journal) -> Result<Audit, NoMemory>
-    requires few { length opening.now.tasks ≤ most_tasks }
-    requires lines { IsLineIdentity opening.now.identity }
+    requires { MayBegin opening.now }
     ensures audit { IfOk result (IsAudit opening.now journal.now.entries) }
 {
     let mut core = Core::new(alloc, opening.copy(alloc)?)?;

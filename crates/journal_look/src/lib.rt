@@ -20,4 +20,4 @@ pub use looks::{
     line_at, may_ask, next_job, on_wire, said_at, starts_so_far, unclaimed, verdict_of, why_before,
     why_of,
 };
-pub use tasks::may_note;
+pub use tasks::{may_note, task_of};

@@ -88,7 +88,7 @@ fn conflicts(one: &Task, other: &Task) -> bool
 }
 
 /// The task of a number, counted from 1.
-fn task_of(opening: &Opening, number: u32) -> Option<&Task>
+pub fn task_of(opening: &Opening, number: u32) -> Option<&Task>
     ensures { option_copied result ≡ task_of opening.now number }
 {
     if number == 0 {

@@ -1,3 +1,4 @@
+pub mod Beginnings
 pub mod Due
 pub mod Journal
 pub mod Legality
@@ -6,6 +7,7 @@ pub mod Links
 pub mod Makers
 pub mod NoteRows
 pub mod Notes
+pub mod OpeningRows
 pub mod Output
 pub mod Parts
 pub mod Projection

@@ -8,6 +8,7 @@ mod holder;
 pub mod laws;
 pub mod note_laws;
 mod opening;
+pub mod opening_laws;
 pub mod register_laws;
 pub mod reply_laws;
 pub mod task_laws;

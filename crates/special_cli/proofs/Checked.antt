@@ -1,6 +1,21 @@
 -- What comes of a check.
-use Rattle.std.proofs.Common.{◌≡◌, ◌⊎◌, ℕ, List, [], ◌∷◌, length, refl, sym, ap, subst, ◌∙◌, false, Option, inl, inr}
+use Rattle.std.proofs.Common.{◌≡◌, ◌⊎◌, ◌≤◌, ℕ, List, [], ◌∷◌, length, lit≤, refl, sym, ap, subst, ◌∙◌, false, true, All, None, Option, Some, inl, inr}
 use Rattle.std.specs.Prelude.{IfSome}
+use Rattle.std.proofs.lemmas.List.Elements.{All-cons, All-nil}
+use Rattle.ann_key.specs.Keys.{key_reading}
+use Rattle.ann_key.proofs.Spelling.{read_of_spelled}
+use Rattle.task_text.specs.TaskLines.{is_task_key, IsTask}
+use Rattle.task_text.specs.declared.task.Task.{Task}
+use Rattle.task_text.specs.declared.task.Work.TheVariants.{Check}
+use Rattle.chunk_log.specs.ChunkLines.{IsWrittenUuid}
+use Rattle.chunk_log.proofs.Uuids.{nil_written}
+use Rattle.cli_words.specs.Identities.{nobody}
+use Rattle.cli_words.specs.Refusals.{reason_refused}
+use Rattle.cli_words.proofs.Refusing.{task_key}
+use Rattle.journal_model.specs.Beginnings.{MayBegin}
+use Rattle.journal_model.specs.Limits.{most_tasks}
+use Rattle.journal_model.specs.Replies.{IsLineIdentity}
+use Rattle.journal_model.specs.declared.opening.Identity.{Identity}
 use Rattle.std.specs.List.{list_all}
 use Rattle.journal_model.specs.declared.answer.Answer.{Answer}
 use Rattle.journal_model.specs.declared.entry.What.{What}
@@ -9,12 +24,36 @@ use Rattle.journal_model.specs.declared.entry.Entry.{Entry}
 use Rattle.journal_model.specs.declared.opening.Opening.{Opening}
 use Rattle.journal_model.specs.Legality.{Legal}
 use Rattle.journal_model.proofs.Projecting.{parts_fit}
-use Rattle.special_cli.specs.Openings.{check_opening}
+use Rattle.special_cli.specs.Openings.{check_opening, info_opening}
 use Rattle.special_cli.specs.Endings.{starts_in, is_for_task, IsAnswered, IsChecked}
 use Rattle.special_cli.specs.Runs.{IsStart, HasAnswered, HasOneTask}
 
 pub one_task : (key : List ℕ) (stamp : ℕ) (o : Opening) → o ≡ check_opening key stamp → HasOneTask o
 one_task key stamp o h = ap (λ (x : Opening). length x.tasks) h
+
+-- what a check of a key that isn't refused begins with, and an info
+begins : (o : Opening) → length o.tasks ≤ most_tasks → All IsTask o.tasks → o.identity ≡ nobody → MayBegin o
+begins o few tasks who = record {
+  few = few;
+  tasks = tasks;
+  lines = subst IsLineIdentity (sym who) record { uuid = refl; name = refl; gitdir = refl };
+  uuid = subst (λ (i : Identity). IsWrittenUuid i.uuid) (sym who) nil_written;
+}
+
+task_key_class : (key : List ℕ) → reason_refused key ≡ None → is_task_key key ≡ true
+task_key_class key h =
+    let k = task_key key h in
+    let read : key_reading key ≡ Some k.parts = read_of_spelled key k.parts k.key in
+    rw (read, k.sendable, k.whole) refl
+
+pub check_begins : (key : List ℕ) (stamp : ℕ) (o : Opening) → reason_refused key ≡ None → o ≡ check_opening key stamp → MayBegin o
+check_begins key stamp o h same =
+    let one : Task = record { work = Check; key = key; file = [] } in
+    subst MayBegin (sym same)
+    (begins (check_opening key stamp) (lit≤ tt) (All-cons IsTask one [] record { key_class = task_key_class key h; file_class = refl } (All-nil IsTask)) refl)
+
+pub info_begins : (o : Opening) → o ≡ info_opening → MayBegin o
+info_begins o same = subst MayBegin (sym same) (begins info_opening (lit≤ tt) (All-nil IsTask) refl)
 
 -- ---- the journal
 

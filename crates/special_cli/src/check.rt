@@ -36,7 +36,7 @@ struct Ready<P: Programs> {
 }
 
 // The core of a check, the key to ask for, and room for its answer and its wire.
-#[tactic(auto, using(crate::proofs::Checked::one_task, cli_words::proofs::Refusing::sent_key))]
+#[tactic(auto, using(crate::proofs::Checked::one_task, crate::proofs::Checked::check_begins, cli_words::proofs::Refusing::sent_key))]
 fn prepare<P: Programs>(alloc: Global, key: KeyRef<'_>, stamp: u64) -> Result<Ready<P>, NoMemory>
 where
     P::Inlet: Drop,

@@ -40,7 +40,7 @@ fn copied(alloc: Global, key: Option<KeyRef<'_>>) -> Result<Option<Key>, NoMemor
 }
 
 // The core of an info, the key to tell of, and room for its wire.
-#[tactic(auto, using(crate::proofs::Informed::no_tasks))]
+#[tactic(auto, using(crate::proofs::Informed::no_tasks, crate::proofs::Checked::info_begins))]
 fn prepare<P: Programs>(alloc: Global, key: Option<KeyRef<'_>>) -> Result<Ready<P>, NoMemory>
 where
     P::Inlet: Drop,

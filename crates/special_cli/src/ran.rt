@@ -65,10 +65,10 @@ impl<P: Programs, K: Desks> Ran<P, K> {
     }
 }
 
-/// The journal of a core whose registers are of no use any more.
+/// The journal of a core whose registers and notes are of no use any more.
 pub(crate) fn journal_of(core: Core) -> Journal
     ensures { result.entries ≡ core.journal }
 {
-    let (journal, _) = core.close();
+    let (journal, _, _) = core.close();
     journal
 }

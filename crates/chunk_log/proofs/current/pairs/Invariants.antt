@@ -1,5 +1,6 @@
-use Rattle.std.proofs.Common.{◌≡◌, ℕ, map, take}
+use Rattle.std.proofs.Common.{◌≡◌, map, take}
+use Rattle.chunk_log.specs.Current.{layout_of}
 use Rattle.chunk_log.proofs.current.pairs.Given as goal
 
 abbrev pub invariant-loop-one : goal.invariant-loop-one
-invariant-loop-one l = l.items.items ≡ map {B = ℕ × ℕ} (λ f. (f.chunk.0, f.count)) (take l.one-index l.found)
+invariant-loop-one l = l.items.items ≡ map layout_of (take l.one-index l.ranks)

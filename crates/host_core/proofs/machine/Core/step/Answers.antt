@@ -12,6 +12,7 @@ use Rattle.journal_model.specs.Replies.{set_by_all}
 use Rattle.journal_model.specs.Registers.{settings}
 use Rattle.host_core.specs.declared.due.Due.{Due}
 use Rattle.host_core.specs.Steps.{step_of, told, is_free}
+use Rattle.host_core.specs.Books.{notes_after}
 use Rattle.host_core.specs.CoreValue.{CoreValue}
 use Rattle.host_core.specs.Mays.{IsMadeBy}
 use Rattle.host_core.specs.Moves.{group_made, group_room}
@@ -20,11 +21,12 @@ use Rattle.host_core.proofs.Sharing.{step_made}
 use Rattle.host_core.proofs.Stepping.{Legal-step}
 use Rattle.host_core.proofs.Pushing.{group_fits, few_entries, free_room, free_first}
 use Rattle.host_core.proofs.Sparing.{event_free}
+use Rattle.host_core.proofs.Noting.{note_fits, notes_grow}
 use Rattle.host_core.proofs.Setting.{settings_group, line_fits, registers_grow}
 use Rattle.host_core.proofs.machine.Core.step.Goals as goal
 
-pub set_by_group-requires : goal.set_by_group-requires
-set_by_group-requires c =
+pub keep_group-requires-clause-line : goal.keep_group-requires-clause-line
+keep_group-requires-clause-line c =
     let o : Opening = c.self.inside.opening in
     let past : List Entry = c.self.inside.journal.entries in
     let what : Option What = c.in_ok-step.step.what in
@@ -32,6 +34,13 @@ set_by_group-requires c =
     let few = few_entries o past c.self.inside.journal.room c.self.invariant.0 c.self.invariant.2 c.self.invariant.3 in
     let e : group_made past c.args.by what due ≡ (step_of o past c.args.by c.args.event).group = c.in_ok-step.ensures.step.group_is in
     line_fits o past c.args.by c.args.event what due few e
+
+pub keep_group-requires-clause-sized : goal.keep_group-requires-clause-sized
+keep_group-requires-clause-sized c =
+    let o : Opening = c.self.inside.opening in
+    let past : List Entry = c.self.inside.journal.entries in
+    let few = few_entries o past c.self.inside.journal.room c.self.invariant.0 c.self.invariant.2 c.self.invariant.3 in
+    note_fits o past c.args.by c.args.event c.in_ok-step.step.what c.in_ok-step.step.due few c.in_ok-step.ensures.step.group_is
 
 pub push_group-requires : goal.push_group-requires
 push_group-requires c =
@@ -70,10 +79,20 @@ returns-clause-registers c =
     let grown : c.push_group.new.journal.entries ≡ past ++ group_made past c.args.by what due =
     c.push_group.ensures.entries ∙ ap (λ (es : List Entry). es ++ group_made es c.args.by what due) c.take_room.ensures.entries in
     let x : Option RemoteMessage = set_in past what due in
-    let sets : c.set_by_group.new.registers ≡ set_by_all c.self.inside.registers (cons_option x []) =
-    c.in_ok-set_by_group.ensures.set ∙ ap (λ (es : List Entry). set_by_all c.self.inside.registers (cons_option (set_in es what due) [])) c.take_room.ensures.entries in
-    registers_grow o past c.push_group.new.journal.entries c.self.inside.registers c.set_by_group.new.registers x c.self.invariant.4.given sets
+    let sets : c.keep_group.new.registers ≡ set_by_all c.self.inside.registers (cons_option x []) =
+    c.in_ok-keep_group.ensures.set ∙ ap (λ (es : List Entry). set_by_all c.self.inside.registers (cons_option (set_in es what due) [])) c.take_room.ensures.entries in
+    registers_grow o past c.push_group.new.journal.entries c.self.inside.registers c.keep_group.new.registers x c.self.invariant.4.given sets
     (ap settings grown ∙ settings_group o past c.args.by c.args.event what due few c.self.invariant.0 c.in_ok-step.ensures.reply e)
+
+pub returns-clause-notes : goal.returns-clause-notes
+returns-clause-notes c =
+    let o : Opening = c.self.inside.opening in
+    let past : List Entry = c.self.inside.journal.entries in
+    let what : Option What = c.in_ok-step.step.what in
+    let due : Due = c.in_ok-step.step.due in
+    let grown : c.push_group.new.journal.entries ≡ past ++ group_made past c.args.by what due =
+    c.push_group.ensures.entries ∙ ap (λ (es : List Entry). es ++ group_made es c.args.by what due) c.take_room.ensures.entries in
+    notes_grow o past c.push_group.new.journal.entries c.self.inside.notes c.keep_group.new.notes c.args.by what due c.self.invariant.5.given c.in_ok-keep_group.ensures.noted grown
 
 pub invariant_of-self-2 : goal.invariant_of-self-2
 invariant_of-self-2 c =
@@ -94,6 +113,7 @@ invariant_of-self-2 c =
       omega (arith, roomy, both.1, kept, c.push_group.ensures.room),
       omega (arith, c.take_room.ensures.small, c.push_group.ensures.room),
       record { given = returns-clause-registers c; kept = c.self.invariant.4.kept; identity = c.self.invariant.4.identity },
+      record { given = returns-clause-notes c; order = c.self.invariant.5.order },
     )
 
 pub returns-clause-reply : goal.returns-clause-reply
@@ -154,31 +174,34 @@ returns-in_err-take_room-clause-free_event c = λ free. (
     (cc)
     )
 
-pub returns-in_err-set_by_group-clause-free : goal.returns-in_err-set_by_group-clause-free
-returns-in_err-set_by_group-clause-free c = λ free. (
+pub returns-in_err-keep_group-clause-free : goal.returns-in_err-keep_group-clause-free
+returns-in_err-keep_group-clause-free c = λ free. (
     let o : Opening = c.self.inside.opening in
     let past : List Entry = c.self.inside.journal.entries in
     let what : Option What = c.in_ok-step.step.what in
     let due : Due = c.in_ok-step.step.due in
     let e : group_made past c.args.by what due ≡ (step_of o past c.args.by c.args.event).group = c.in_ok-step.ensures.step.group_is in
     let f : is_free (step_of o past c.args.by c.args.event) ≡ true = subst (λ (v : CoreValue). is_free (step_of v.opening v.journal c.args.by c.args.event) ≡ true) (sym c.self.view_is) free in
-    let no : false ≡ true = c.in_err-set_by_group.ensures.free (free_first what due (free_room o past c.args.by c.args.event what due f e)) in
+    let no : false ≡ true = c.in_err-keep_group.ensures.free (free_first what due (free_room o past c.args.by c.args.event what due f e)) in
     (cc)
     )
 
-pub returns-in_err-set_by_group-clause-free_event : goal.returns-in_err-set_by_group-clause-free_event
-returns-in_err-set_by_group-clause-free_event c = λ free. (
+pub returns-in_err-keep_group-clause-free_event : goal.returns-in_err-keep_group-clause-free_event
+returns-in_err-keep_group-clause-free_event c = λ free. (
     let o : Opening = c.self.inside.opening in
     let past : List Entry = c.self.inside.journal.entries in
     let what : Option What = c.in_ok-step.step.what in
     let due : Due = c.in_ok-step.step.due in
     let e : group_made past c.args.by what due ≡ (step_of o past c.args.by c.args.event).group = c.in_ok-step.ensures.step.group_is in
     let f : is_free (step_of o past c.args.by c.args.event) ≡ true = event_free o past c.args.by c.args.event free in
-    let no : false ≡ true = c.in_err-set_by_group.ensures.free (free_first what due (free_room o past c.args.by c.args.event what due f e)) in
+    let no : false ≡ true = c.in_err-keep_group.ensures.free (free_first what due (free_room o past c.args.by c.args.event what due f e)) in
     (cc)
     )
 
-pub returns-in_err-set_by_group-clause-few : goal.returns-in_err-set_by_group-clause-few
-returns-in_err-set_by_group-clause-few c =
+pub returns-in_err-keep_group-clause-few : goal.returns-in_err-keep_group-clause-few
+returns-in_err-keep_group-clause-few c =
     subst (λ (es : List Entry). length es < 2 ^ 64) (sym c.take_room.ensures.entries)
     (few_entries c.self.inside.opening c.self.inside.journal.entries c.self.inside.journal.room c.self.invariant.0 c.self.invariant.2 c.self.invariant.3)
+
+pub returns-in_err-step-clause-notes : goal.returns-in_err-step-clause-notes
+returns-in_err-step-clause-notes c = subst (λ (v : CoreValue). v.notes ≡ notes_after v.opening v.journal) c.self.view_is c.self.invariant.5.given
