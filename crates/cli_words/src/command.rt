@@ -12,8 +12,6 @@ pub enum Command {
     Init(InitWords),
     /// Does the tasks of the input.
     Run(RunWords),
-    /// Checks the text of a run, which is the input.
-    Audit,
     /// Prints a text.
     Show(Page),
 }
@@ -27,7 +25,6 @@ pub enum Page {
     Info,
     Init,
     Run,
-    Audit,
     Version,
 }
 
