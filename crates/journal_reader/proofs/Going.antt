@@ -1,14 +1,14 @@
 -- Which lines can follow, and which can't.
-use Rattle.std.proofs.Common.{◌≡◌, ℕ, ◌<◌, ◌^◌, ◌+◌, ◌⊎◌, inl, inr, Bool, true, false, Ok, List, [], ◌∷◌, ◌++◌, length, refl, sym, ap, subst, ◌∙◌, arith}
+use Rattle.std.proofs.Common.{◌≡◌, ℕ, ◌<◌, ◌+◌, inl, inr, Bool, true, false, Ok, List, [], ◌∷◌, length, sym, ap, subst, ◌∙◌, arith}
 use mathlib.Core.Bool.{true≢false}
-use Rattle.std.specs.Prelude.{codes, IsTrue}
+use Rattle.std.specs.Prelude.{codes}
 use Rattle.task_text.specs.TaskLines.{IsTask, line_of}
 use Rattle.task_text.specs.declared.task.Task.{Task}
 use Rattle.journal_model.specs.declared.entry.Entry.{Entry}
 use Rattle.entry_lines.specs.Entries.{entry_line, IsEntry}
-use Rattle.journal_lines.specs.JournalTexts.{Told, worded, begin, end_line, task_line, keep_line}
+use Rattle.journal_lines.specs.JournalTexts.{Told, worded, begin, end_line}
 use Rattle.journal_reader.specs.RunTexts.{may_be_kept}
-use Rattle.journal_reader.specs.Readings.{Reading, Goes, CannotGo, Took, RefusedAs, is_open, TakesTask, TakesKept, TakesEntry}
+use Rattle.journal_reader.specs.Readings.{Reading, Goes, CannotGo, Took, RefusedAs, is_open}
 use Rattle.journal_reader.specs.declared.place.Place.{Place}
 use Rattle.journal_reader.specs.declared.place.Place.TheVariants.{Head, Uuid, Name, Gitdir, Stamp, Given, Entries, Over, Refused}
 use Rattle.journal_reader.proofs.LineFields.{worded_same}
@@ -43,13 +43,13 @@ abbrev first_byte : List ℕ → ℕ
 first_byte [] = 0
 first_byte (b ∷ bytes) = b
 
-task_begin : (text : List ℕ) → worded (codes "task") text ≡ begin → ⊥
+pub task_begin : (text : List ℕ) → worded (codes "task") text ≡ begin → ⊥
 task_begin text e = let bytes : 116 ≡ 98 = ap first_byte e in absurd (omega (arith, bytes))
 
-keep_begin : (text : List ℕ) → worded (codes "keep") text ≡ begin → ⊥
+pub keep_begin : (text : List ℕ) → worded (codes "keep") text ≡ begin → ⊥
 keep_begin text e = let bytes : 107 ≡ 98 = ap first_byte e in absurd (omega (arith, bytes))
 
-task_keep : (text other : List ℕ) → worded (codes "task") text ≡ worded (codes "keep") other → ⊥
+pub task_keep : (text other : List ℕ) → worded (codes "task") text ≡ worded (codes "keep") other → ⊥
 task_keep text other e = let bytes : 116 ≡ 107 = ap first_byte e in absurd (omega (arith, bytes))
 
 -- ---- the lines behind the stamp

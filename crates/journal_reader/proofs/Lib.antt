@@ -1,5 +1,11 @@
-mod Complete
+pub mod Agreeing
+pub mod Complete
+pub mod Continuing
 mod Going
+mod KeptOrder
 mod KeptSaid
+mod KeptWritten
 mod LineFields
-mod Sound
+mod ReadBack
+mod SameNotes
+pub mod Sound

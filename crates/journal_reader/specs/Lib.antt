@@ -2,3 +2,4 @@ pub mod RunTexts
 pub mod Kinds
 pub mod Readings
 pub mod Runs
+pub mod Openings

@@ -1,5 +1,5 @@
 -- Reading a list of lines.
-use Rattle.std.specs.Prelude.{ℕ, ◌≡◌, List, [], ◌∷◌, ◌++◌, map, length, codes, IsTrue}
+use Rattle.std.specs.Prelude.{ℕ, ◌≡◌, List, [], ◌∷◌, ◌++◌, map, codes, IsTrue}
 use Rattle.reg_file.specs.Registers.{nothing_set}
 use Rattle.reg_file.specs.RegLines.{set_by_lines}
 use Rattle.keep_text.specs.KeptFiles.{settings_in, notes_in, CountsAs}

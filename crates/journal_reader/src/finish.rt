@@ -21,6 +21,7 @@ use task_text::Tasks;
 
 impl Reader {
     ghost use Rattle.std.specs.Prelude.{OnOk, IfErr};
+    ghost use Rattle.chunk_log.specs.NoteBooks.{in_order};
     ghost use Rattle.journal_reader.specs.Readings.{IsEndAs};
     ghost use Rattle.journal_reader.specs.Runs.{IsOpeningOf};
 
@@ -28,6 +29,7 @@ impl Reader {
     pub fn finish(self) -> Result<(Opening, Journal), JournalError>
         ensures whole { OnOk result (self.place ≡ Place.Over) }
         ensures opening { IfOk result (λ run. IsOpeningOf run.0 self.told) }
+        ensures order { IfOk result (λ run. IsTrue (in_order run.0.notes)) }
         ensures journal { IfOk result (λ run. run.1.entries ≡ self.told.entries) }
         ensures fault { IfErr result (λ error. IsEndAs self.place self.taken error) }
     {
@@ -43,9 +45,11 @@ impl Reader {
 
     fn into_run(self) -> Result<(Opening, Journal), NoMemory>
         ensures opening { IfOk result (λ run. IsOpeningOf run.0 self.told) }
+        ensures order { IfOk result (λ run. IsTrue (in_order run.0.notes)) }
         ensures journal { IfOk result (λ run. run.1.entries ≡ self.told.entries) }
     {
         let (registers, notes) = kept_of(self.alloc, self.kept.as_slice())?;
+        let _in_order = notes.line(0);
         let opening = Opening {
             tasks: Tasks::new(self.tasks),
             registers,

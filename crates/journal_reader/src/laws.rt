@@ -1,9 +1,14 @@
 // Laws over whole texts, each the contract of a function with nothing to do.
-ghost use Rattle.std.specs.Prelude.{◌≡◌, ℕ, List, length};
-ghost use Rattle.journal_lines.specs.JournalTexts.{Told, told_lines};
-ghost use Rattle.journal_reader.specs.Readings.{Reading, start};
-ghost use Rattle.journal_reader.specs.RunTexts.{IsTold};
-ghost use Rattle.journal_reader.specs.Runs.{Reads};
+ghost use Rattle.std.specs.Prelude.{◌≡◌, ℕ, List, [], ◌∷◌, ◌++◌, Some, length, slice_get, IsTrue};
+ghost use Rattle.chunk_log.specs.NoteBooks.{in_order};
+ghost use Rattle.entry_lines.specs.Entries.{IsEntry};
+ghost use Rattle.journal_lines.specs.JournalTexts.{Told, told, told_lines};
+ghost use Rattle.journal_model.specs.declared.entry.Entry.{Entry};
+ghost use Rattle.journal_model.specs.declared.opening.Opening.{Opening};
+ghost use Rattle.journal_reader.specs.Openings.{IsReadBack, IsTellable};
+ghost use Rattle.journal_reader.specs.Readings.{Reading, CannotGo, start};
+ghost use Rattle.journal_reader.specs.RunTexts.{Begins, IsTold};
+ghost use Rattle.journal_reader.specs.Runs.{IsOpeningOf, Reads};
 ghost use Rattle.journal_reader.specs.declared.place.Place.TheVariants as at;
 
 /// Lines that were taken one behind the other, up to the end, are the whole text of what they tell.
@@ -16,4 +21,21 @@ pub fn what_is_taken_is_a_text()
 /// Each whole text is taken to its end, and then what it tells was told.
 pub fn each_text_is_taken()
     ensures { (t : Told) → IsTold t → (n : ℕ) × Reads start (told_lines t) (record { place = at.Over; taken = n; told = t }) }
+{}
+
+/// Lines that were taken one behind the other begin a whole text.
+pub fn what_is_taken_begins_a_text()
+    ensures { (lines : List (List ℕ)) (r : Reading) → Reads start lines r → Begins lines }
+{}
+
+/// A line that can't follow those that were taken stands behind them in no whole text.
+pub fn what_is_refused_is_in_no_text()
+    ensures { (lines : List (List ℕ)) (r : Reading) (line : List ℕ) → Reads start lines r → CannotGo r.place r.told line → Begins (lines ++ line ∷ []) → ⊥ }
+{}
+
+/// What is written of an opening and a journal is a whole text, and is read as that opening: users and passwords are left out,
+/// and the stamps of notes are cut to microseconds.
+pub fn what_is_written_is_read()
+    ensures text { (o : Opening) (journal : List Entry) → IsTellable o → ((n : ℕ) (entry : Entry) → slice_get journal n ≡ Some entry → IsEntry entry) → IsTold (told o journal) }
+    ensures opening { (o read : Opening) (journal : List Entry) → IsTellable o → IsTrue (in_order read.notes) → IsOpeningOf read (told o journal) → IsReadBack read o }
 {}

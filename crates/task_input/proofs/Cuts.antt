@@ -48,7 +48,7 @@ clear : (b : Bool) → not b ≡ true → b ≡ false
 clear false h = refl
 clear true h = absurd (false≢true h)
 
-behind : (last : Bool) (lines : List (List ℕ)) (rest : List ℕ) → list_all (λ line. not (has_newline line)) lines ≡ true
+pub behind : (last : Bool) (lines : List (List ℕ)) (rest : List ℕ) → list_all (λ line. not (has_newline line)) lines ≡ true
     → lines_of last (text lines ++ rest) ≡ lines ++ lines_of last rest
 behind last [] rest h = refl
 behind last (line ∷ lines) rest h =

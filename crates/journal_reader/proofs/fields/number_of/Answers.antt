@@ -1,4 +1,4 @@
-use Rattle.std.proofs.Common.{◌≡◌, ◌∙◌, sym}
+use Rattle.std.proofs.Common.{◌∙◌, sym}
 use Rattle.journal_reader.proofs.LineFields.{other_number, no_number}
 use Rattle.journal_reader.proofs.fields.number_of.Goals as goal
 

@@ -1,4 +1,4 @@
-use Rattle.std.proofs.Common.{◌≡◌, ◌∷◌, ℕ, List, Some, None, sym, ap, subst, ◌∙◌}
+use Rattle.std.proofs.Common.{◌≡◌, ◌∷◌, ℕ, List, Some, None, ap, subst, ◌∙◌}
 use Rattle.annex_model.specs.Lines.{text}
 use Rattle.chunk_log.specs.declared.note.Note.{Note}
 use Rattle.reg_file.specs.Registers.{nothing_set}

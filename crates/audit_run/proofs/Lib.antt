@@ -1,0 +1,5 @@
+pub mod Ending
+pub mod Fitting
+pub mod Limiting
+pub mod Refusing
+pub mod Taking
