@@ -5,7 +5,7 @@ use Rattle.std.specs.List.{list_all, list_any, cons_option}
 use Rattle.journal_model.specs.declared.verdict.Why.{Why}
 use Rattle.journal_model.specs.declared.verdict.Verdict.{Verdict}
 use Rattle.journal_model.specs.declared.verdict.Verdict.TheVariants.{Failed as FailedAt, Unsupported as UnsupportedAt}
-use Rattle.annex_model.specs.Messages.{HostMessage, Prepare, Initremote, is_askable}
+use Rattle.annex_model.specs.Messages.{HostMessage, is_askable}
 use Rattle.journal_model.specs.declared.entry.What.{What}
 use Rattle.journal_model.specs.declared.entry.What.TheVariants.{Ask, End}
 use Rattle.journal_model.specs.declared.entry.Entry.{Entry}

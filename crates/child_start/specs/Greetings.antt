@@ -68,7 +68,7 @@ pub record IsReady (journal : List Entry) (c : ℕ) : Type 0 where
   pub prepared : is_prepared journal c ≡ true
   pub jobs : asked_jobs journal c ≡ 0 ∷ 1 ∷ []
 
--- the child is set up, after EXTENSIONS and INITREMOTE alone
+-- the child's job 1 is done, after jobs 0 and 1 alone. That it asked INITREMOTE is its greeting's to say
 pub record IsSetUp (journal : List Entry) (c : ℕ) : Type 0 where
   pub done : is_done (verdict_of journal c 1) ≡ true
   pub jobs : asked_jobs journal c ≡ 0 ∷ 1 ∷ []

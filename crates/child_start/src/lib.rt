@@ -2,6 +2,7 @@
 #![tactic(auto)]
 
 mod greeting;
+pub mod laws;
 mod starting;
 
 pub use greeting::{Greeting, Mode};

@@ -1,7 +1,7 @@
 -- Worked journals: one child that is to set the remote up.
 use Rattle.std.specs.Prelude.{List, [], ◌∷◌, ◌++◌, codes, false}
 use Rattle.journal_model.specs.declared.verdict.Why.TheVariants.{Closed, Eof}
-use Rattle.journal_model.specs.declared.verdict.Verdict.TheVariants.{Done, Failed, Unsupported, Ended}
+use Rattle.journal_model.specs.declared.verdict.Verdict.TheVariants.{Done, Failed, Unsupported}
 use Rattle.journal_model.specs.declared.entry.What.TheVariants.{Start, NoStart, Ask, Sent, Got, End, Verdict as Settled}
 use Rattle.journal_model.specs.declared.entry.Entry.{Entry}
 use Rattle.journal_model.specs.Rows.{by_main}
