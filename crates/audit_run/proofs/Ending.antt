@@ -53,9 +53,9 @@ text_cut lines r n reads h =
     let at = cut_at r.place r.taken n h in
     let t = all_told lines r reads in
     let not_whole : IsWhole lines → ⊥ = λ w.
-        (let read = whole_is_read w.0 w.1 in
-        let last : Reading = record { place = Over; taken = read.0; told = w.0 } in
-        let P : List (List ℕ) → Type 0 = λ l. Reads start l last in
-        let same : last ≡ r = reads_same start lines last r (subst P w.2 read.1) reads in
-        at.0 (sym (ap (λ (x : Reading). x.place) same))) in
+    (let read = whole_is_read w.0 w.1 in
+    let last : Reading = record { place = Over; taken = read.0; told = w.0 } in
+    let P : List (List ℕ) → Type 0 = λ l. Reads start l last in
+    let same : last ≡ r = reads_same start lines last r (subst P w.2 read.1) reads in
+    at.0 (sym (ap (λ (x : Reading). x.place) same))) in
     record { begins = taken_begins lines r reads; unfinished = not_whole; count = at.1 ∙ t.taken }

@@ -95,7 +95,7 @@ rest_few limits lines (b ∷ rest) few full =
     omega (arith, not_all)
 
 module _ (limits : Limits) (bytes : List ℕ) (lines : List (List ℕ)) (rest : List ℕ) (cut : Cut bytes lines rest) (ended : has_newline rest ≡ false)
-  (small : length bytes ≤ limits.bytes) (few : length lines ≤ limits.lines) (full : length lines ≡ limits.lines → rest ≡ []) where
+    (small : length bytes ≤ limits.bytes) (few : length lines ≤ limits.lines) (full : length lines ≡ limits.lines → rest ≡ []) where
   pub all_are : lines_of true bytes ≡ with_rest lines rest
   all_are = all_lines bytes rest lines cut ended
 

@@ -86,15 +86,76 @@ pushed_bad lines line old new bad r f =
     let t = all_told lines old r in
     refused_there lines line bad (taken_begins lines old r) (refused_is_in_none lines old line r says.0) (says.1 ∙ ap (λ (n : ℕ). n + 1) t.taken)
 
--- ---- how lines stand
-
--- one more line
-pub stands_more : (lines : List (List ℕ)) (rest : List ℕ) (reader : Reading) (held held' more : List ℕ) (reader' : Reading) (number : ℕ) (line : List ℕ)
-    → StandsBy lines rest reader held (Some number) → StandsBy (lines ++ line ∷ []) more reader' held' (Some number)
-stands_more lines rest reader held held' more reader' number line h = refused_on lines (line ∷ []) false number h
-
 -- the last line may lack its end
-pub refused_rest : (lines : List (List ℕ)) (rest : List ℕ) (past : Bool) (number : ℕ) → IsRefused lines false number → IsRefused (with_rest lines rest) past number
+refused_rest : (lines : List (List ℕ)) (rest : List ℕ) (past : Bool) (number : ℕ) → IsRefused lines false number → IsRefused (with_rest lines rest) past number
 refused_rest lines [] past number h =
     let P : List (List ℕ) → Type 0 = λ l. IsRefused l past number in subst P (append-nil lines) (refused_on lines [] past number h)
 refused_rest lines (b ∷ rest) past number h = refused_on lines ((b ∷ rest) ∷ []) past number h
+
+-- ---- how lines stand
+
+module _ (lines : List (List ℕ)) (rest : List ℕ) (reader : Reading) (held : List ℕ) where
+  -- once a line is refused, no byte and no line matters
+  pub held_refused : (bad : Option ℕ) (n : ℕ) (more : List ℕ) → bad ≡ Some n → StandsBy lines rest reader held bad → StandsBy lines more reader held bad
+  held_refused None n more e h = absurd cc
+  held_refused (Some m) n more e h = h
+
+  pub ended_refused : (bad : Option ℕ) (n : ℕ) → bad ≡ Some n → StandsBy lines rest reader held bad → StandsBy (lines ++ rest ∷ []) [] reader held bad
+  ended_refused None n e h = absurd cc
+  ended_refused (Some m) n e h = refused_on lines (rest ∷ []) false m h
+
+  pub input_refused : (bad : Option ℕ) (n : ℕ) → bad ≡ Some n → StandsBy lines rest reader held bad → StandsBy (with_rest lines rest) [] reader held bad
+  input_refused None n e h = absurd cc
+  input_refused (Some m) n e h = refused_rest lines rest false m h
+
+  -- one byte more
+  pub byte_held : (bad : Option ℕ) (held' : List ℕ) (byte : ℕ) → bad ≡ None → held' ≡ held ++ byte ∷ [] → StandsBy lines rest reader held bad → StandsBy lines (rest ++ byte ∷ []) reader held' bad
+  byte_held None held' byte e k h = (h.0, k ∙ ap (λ (b : List ℕ). b ++ byte ∷ []) h.1)
+  byte_held (Some m) held' byte e k h = absurd cc
+
+  -- the line was taken, or is refused
+  pub line_taken : (bad : Option ℕ) (reader' : Reading) (held' : List ℕ) → bad ≡ None → Follows reader held reader' → held' ≡ [] → StandsBy lines rest reader held bad
+      → StandsBy (lines ++ rest ∷ []) [] reader' held' bad
+  line_taken None reader' held' e f k h =
+      (reads_more start reader reader' lines rest h.0 (let P : List ℕ → Type 0 = λ l. Follows reader l reader' in subst P h.1 f), k)
+  line_taken (Some m) reader' held' e f k h = absurd cc
+
+  pub line_refused : (bad : Option ℕ) (reader' : Reading) (n : ℕ) → bad ≡ None → IsFault reader held reader' (BadLine n) → StandsBy lines rest reader held bad → IsRefused (lines ++ rest ∷ []) false n
+  line_refused None reader' n e f h = pushed_bad lines rest reader reader' n h.0 (let P : List ℕ → Type 0 = λ l. IsFault reader l reader' (BadLine n) in subst P h.1 f)
+  line_refused (Some m) reader' n e f h = absurd cc
+
+  -- nothing is held at the end
+  pub nothing_held : (bad : Option ℕ) → bad ≡ None → held ≡ [] → StandsBy lines rest reader held bad → StandsBy (with_rest lines rest) [] reader held bad
+  nothing_held None e k h = go rest (sym h.1 ∙ k)
+    where
+      go : (r : List ℕ) → r ≡ [] → Reads start (with_rest lines r) reader × (held ≡ [])
+      go [] f = (h.0, k)
+      go (b ∷ r) f = absurd cc
+  nothing_held (Some m) e k h = absurd cc
+
+  -- the line that is held is the last
+  pub rest_ended : (bad : Option ℕ) (k : ℕ) → bad ≡ None → k ≡ length held → (k ≡ 0 → ⊥) → StandsBy lines rest reader held bad → with_rest lines rest ≡ lines ++ rest ∷ []
+  rest_ended None k e l some h = go rest (l ∙ ap (λ (b : List ℕ). length b) h.1)
+    where
+      go : (r : List ℕ) → k ≡ length r → with_rest lines r ≡ lines ++ r ∷ []
+      go [] f = absurd (some f)
+      go (b ∷ r) f = refl
+  rest_ended (Some m) k e l some h = absurd cc
+
+  -- a limit is passed
+  pub refused_here : (bad : Option ℕ) (n : ℕ) → bad ≡ Some n → StandsBy lines rest reader held bad → IsRefusedBehind lines bad
+  refused_here None n e h = absurd cc
+  refused_here (Some m) n e h = let P : List (List ℕ) → Type 0 = λ l. IsRefused l true m in subst P (append-nil lines) (refused_on lines [] true m h)
+
+  pub refused_next : (bad : Option ℕ) (n : ℕ) → bad ≡ None → n ≡ length lines + 1 → StandsBy lines rest reader held bad → IsRefused lines true n
+  refused_next None n e count h = refused_behind lines n (taken_begins lines reader h.0) count
+  refused_next (Some m) n e count h = absurd cc
+
+  -- at the end
+  pub all_taken : (bad : Option ℕ) → bad ≡ None → StandsBy lines rest reader held bad → Reads start lines reader
+  all_taken None e h = h.0
+  all_taken (Some m) e h = absurd cc
+
+  pub one_refused : (bad : Option ℕ) (n : ℕ) → bad ≡ Some n → StandsBy lines rest reader held bad → IsRefused lines false n
+  one_refused None n e h = absurd cc
+  one_refused (Some m) n e h = let same : m ≡ n = cc in subst (IsRefused lines false) same h

@@ -3,13 +3,14 @@ use Rattle.std.proofs.Common.{◌≡◌, ℕ, ◌+◌, ◌<◌, ◌≤◌, ◌�
 use Rattle.std.specs.Prelude.{◌==◌, ◌||◌, ◌&&◌, IsTrue}
 use Rattle.std.specs.List.{list_all}
 use Rattle.std.proofs.lemmas.Bool.{and_from}
+use Rattle.std.proofs.lemmas.Bool.Decides.{nat_tests}
 use Rattle.std.proofs.lemmas.List.Folds.{list_any-append, list_all-append}
 use Rattle.annex_model.specs.Lines.{text, has_newline, Cut}
 use Rattle.journal_look.specs.declared.journal.Journal.{Journal}
 use Rattle.journal_model.specs.declared.opening.Opening.{Opening}
 use Rattle.task_input.specs.InputLines.{lines_of, with_rest}
 use Rattle.audit_run.specs.Inputs.{passes, lines_within, IsRefused}
-use Rattle.audit_run.specs.Intakes.{IsWithin, IsPast, Took}
+use Rattle.audit_run.specs.Intakes.{IsWithin, IsPast, Took, TookBy}
 use Rattle.audit_run.specs.Standing.{Stands}
 use Rattle.audit_run.specs.Steps.{Comes, Ends, IsRefusedBehind}
 use Rattle.audit_run.specs.declared.intake.Intake.{Intake}
@@ -158,3 +159,82 @@ module _ (limits : Limits) (bytes : List ℕ) (k : Intake) (w : IsWithin limits 
   comes_within (Err (CutText number)) h = (none, let P : List (List ℕ) → Type 0 = λ l. Ends l (Err (CutText number)) in subst P (sym all) h)
   comes_within (Err Failed) h = absurd h
   comes_within (Err NoMemory) h = tt
+
+-- ---- as the code has it
+
+pub within : (limits : Limits) (bytes : List ℕ) (k : Intake) → k.past ≡ false → Took limits bytes k → IsWithin limits bytes k
+within limits bytes k e t = let P : Bool → Type 0 = λ p. TookBy p limits bytes k in subst P e t
+
+pub past : (limits : Limits) (bytes : List ℕ) (k : Intake) → k.past ≡ true → Took limits bytes k → IsPast limits bytes k
+past limits bytes k e t = let P : Bool → Type 0 = λ p. TookBy p limits bytes k in subst P e t
+
+took_within : (limits : Limits) (bytes : List ℕ) (k : Intake) → k.past ≡ false → IsWithin limits bytes k → Took limits bytes k
+took_within limits bytes k e w = let P : Bool → Type 0 = λ p. TookBy p limits bytes k in subst P (sym e) w
+
+took_past : (limits : Limits) (bytes : List ℕ) (k : Intake) → k.past ≡ true → IsPast limits bytes k → Took limits bytes k
+took_past limits bytes k e p = let P : Bool → Type 0 = λ b. TookBy b limits bytes k in subst P (sym e) p
+
+pub took_nothing : (limits : Limits) (k : Intake) → k.past ≡ false → k.number ≡ 1 → k.bytes ≡ 0 → Stands [] [] k.lines → Took limits [] k
+took_nothing limits k e n b s =
+    took_within limits [] k e (record {
+      lines = [];
+      rest = [];
+      cut = record { whole = refl; apart = refl };
+      ended = refl;
+      number = n;
+      size = b;
+      few = omega arith;
+      small = omega arith;
+      full = λ h. refl;
+      stands = s;
+    })
+
+pub took_on : (limits : Limits) (bytes more : List ℕ) (k : Intake) → k.past ≡ true → Took limits bytes k → Took limits (bytes ++ more) k
+took_on limits bytes more k e t = took_past limits (bytes ++ more) k e (past_more limits bytes more k (past limits bytes k e t))
+
+-- what a limit that is passed says of the line
+abbrev pub Refuses : Intake → Option ℕ → Type 0
+Refuses old bad = (lines : List (List ℕ)) (rest : List ℕ) → Stands lines rest old.lines → old.number ≡ length lines + 1 → IsRefusedBehind lines bad
+
+refused_of : (lines : List (List ℕ)) (bad : Option ℕ) → IsRefusedBehind lines bad → (n : ℕ) × (bad ≡ Some n) × IsRefused lines true n
+refused_of lines None h = absurd h
+refused_of lines (Some n) h = (n, refl, h)
+
+module _ (limits : Limits) (bytes : List ℕ) (old new : Intake) (b : ℕ) (was : old.past ≡ false) where
+  pub took_past_bytes : limits.bytes ≤ old.bytes → new.past ≡ true → Refuses old new.lines.bad → Took limits bytes old → Took limits (bytes ++ b ∷ []) new
+  took_past_bytes over is refuses t =
+      let w = within limits bytes old was t in
+      let r = refused_of w.lines new.lines.bad (refuses w.lines w.rest w.stands w.number) in
+      took_past limits (bytes ++ b ∷ []) new is (past_bytes limits bytes old new b w r.0 over r.1 r.2)
+
+  pub took_past_lines : limits.lines < old.number → new.past ≡ true → Refuses old new.lines.bad → Took limits bytes old → Took limits (bytes ++ b ∷ []) new
+  took_past_lines over is refuses t =
+      let w = within limits bytes old was t in
+      let r = refused_of w.lines new.lines.bad (refuses w.lines w.rest w.stands w.number) in
+      took_past limits (bytes ++ b ∷ []) new is (past_lines limits bytes old new b w r.0 over r.1 r.2)
+
+  pub took_byte : old.bytes < limits.bytes → old.number ≤ limits.lines → (b ≡ 10 → ⊥) → new.past ≡ false → new.number ≡ old.number → new.bytes ≡ old.bytes + 1
+      → ((lines : List (List ℕ)) (rest : List ℕ) → Stands lines rest old.lines → Stands lines (rest ++ b ∷ []) new.lines) → Took limits bytes old → Took limits (bytes ++ b ∷ []) new
+  took_byte below few other is number size stands t =
+      let w = within limits bytes old was t in
+      let no : (b == 10) ≡ false = grind (arith, nat_tests) in
+      took_within limits (bytes ++ b ∷ []) new is (byte_held limits bytes old new b w below few no number size (stands w.lines w.rest w.stands))
+
+  pub took_end : old.bytes < limits.bytes → old.number ≤ limits.lines → b ≡ 10 → new.past ≡ false → new.number ≡ old.number + 1 → new.bytes ≡ old.bytes + 1
+      → ((lines : List (List ℕ)) (rest : List ℕ) → Stands lines rest old.lines → Stands (lines ++ rest ∷ []) [] new.lines) → Took limits bytes old → Took limits (bytes ++ b ∷ []) new
+  took_end below few end is number size stands t =
+      let w = within limits bytes old was t in
+      took_within limits (bytes ++ b ∷ []) new is (line_ended limits bytes old new b w below few end number size (stands w.lines w.rest w.stands))
+
+pub ends_past : (limits : Limits) (bytes more : List ℕ) (k : Intake) (r : Result (Opening × Journal) AuditError) → k.past ≡ true → Took limits bytes k
+    → ((n : ℕ) → k.lines.bad ≡ Some n → r ≡ Err (Entry n)) → Comes limits (bytes ++ more) r
+ends_past limits bytes more k r e t h = comes_past limits bytes more k (past limits bytes k e t) r h
+
+pub ends_within : (limits : Limits) (bytes more : List ℕ) (k : Intake) (last : Lines) (r : Result (Opening × Journal) AuditError) → k.past ≡ false → Took limits bytes k
+    → ((lines : List (List ℕ)) (rest : List ℕ) → Stands lines rest k.lines → Stands (with_rest lines rest) [] last) → ((lines : List (List ℕ)) → Stands lines [] last → Ends lines r)
+    → more ≡ [] → Comes limits (bytes ++ more) r
+ends_within limits bytes more k last r e t ended ends none =
+    let w = within limits bytes k e t in
+    let P : List ℕ → Type 0 = λ bs. Comes limits bs r in
+    subst P (sym (ap (λ (m : List ℕ). bytes ++ m) none ∙ append-nil bytes))
+    (comes_within limits bytes k w r (ends (with_rest w.lines w.rest) (ended w.lines w.rest w.stands)))

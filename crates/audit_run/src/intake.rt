@@ -1,6 +1,6 @@
 // The bytes of an input, within its limits.
-ghost use Rattle.std.specs.Prelude.{ℕ, ◌≡◌, List, [], ◌∷◌, ◌++◌, OnOk, false};
-ghost use Rattle.audit_run.specs.Steps.{Comes};
+ghost use Rattle.std.specs.Prelude.{ℕ, ◌≡◌, ◌+◌, List, [], ◌∷◌, ◌++◌, OnOk, true, false, length};
+ghost use Rattle.audit_run.specs.Steps.{Comes, IsRefusedBehind};
 ghost use Rattle.audit_run.specs.declared.limits.Limits.{Limits as AnyLimits};
 
 use crate::error::AuditError;
@@ -22,6 +22,7 @@ pub(crate) struct Intake {
 
 impl Intake {
     ghost use Rattle.audit_run.specs.Intakes.{Took};
+    ghost use Rattle.audit_run.specs.Standing.{Stands};
 
     /// No byte yet.
     pub(crate) fn new(alloc: Global) -> Intake
@@ -51,9 +52,12 @@ impl Intake {
         if self.past {
             return Ok(());
         }
-        if self.bytes >= limits.bytes || self.number > u64::from(limits.lines) {
-            self.past = true;
-            self.lines.refuse(self.number);
+        if self.bytes >= limits.bytes {
+            self.pass();
+            return Ok(());
+        }
+        if self.number > u64::from(limits.lines) {
+            self.pass();
             return Ok(());
         }
         self.bytes += 1;
@@ -65,13 +69,23 @@ impl Intake {
         }
     }
 
+    // A limit is passed in the line that is read.
+    fn pass(&mut self)
+        ensures past { self.new.past ≡ true }
+        ensures refused { (lines : List (List ℕ)) (rest : List ℕ) → Stands lines rest self.old.lines → self.old.number ≡ length lines + 1 → IsRefusedBehind lines self.new.lines.bad }
+    {
+        self.past = true;
+        self.lines.refuse(self.number);
+    }
+
     /// The opening and the journal of the input, where it has ended or passed a limit. What may stand behind that doesn't count.
     pub(crate) fn finish(mut self) -> Result<(Opening, Journal), AuditError>
         ensures { (limits : AnyLimits) (bytes more : List ℕ) → Took limits bytes self → (self.past ≡ false → more ≡ []) → Comes limits (bytes ++ more) result }
     {
-        if !self.past {
-            self.lines.end_input()?;
+        if self.past {
+            return self.lines.finish();
         }
+        self.lines.end_input()?;
         self.lines.finish()
     }
 }

@@ -82,10 +82,20 @@ impl Lines {
     pub(crate) fn end_input(&mut self) -> Result<(), NoMemory>
         ensures { OnOk result ((lines : List (List ℕ)) (rest : List ℕ) → Stands lines rest self.old → Stands (with_rest lines rest) [] self.new) }
     {
+        match self.bad {
+            Some(_) => Ok(()),
+            None => self.end_rest(),
+        }
+    }
+
+    fn end_rest(&mut self) -> Result<(), NoMemory>
+        requires { self.old.bad ≡ None }
+        ensures { OnOk result ((lines : List (List ℕ)) (rest : List ℕ) → Stands lines rest self.old → Stands (with_rest lines rest) [] self.new) }
+    {
         if self.held.is_empty() {
             Ok(())
         } else {
-            self.end_line()
+            self.push_held()
         }
     }
 

@@ -37,11 +37,7 @@ pub fn audit_input<S: Source>(
 }
 
 // Takes what the source gives up to its end, or until a limit is passed.
-fn take_all<S: Source>(
-    alloc: Global,
-    source: &mut S,
-    limits: &Limits,
-) -> Result<Intake, AuditError>
+fn take_all<S: Source>(alloc: Global, source: &mut S, limits: &Limits) -> Result<Intake, AuditError>
     requires { S.is_open source.old ≡ true }
     ensures given { (bytes : List ℕ) × HasGiven (S.given source.old) (S.given source.new) (S.left source.old) (S.left source.new) bytes × Holds limits.now bytes (S.left source.new) result }
     ensures faults { IsCounted (S.faults source.old) (S.faults source.new) result }
