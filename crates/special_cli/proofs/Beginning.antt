@@ -15,7 +15,7 @@ use Rattle.journal_model.proofs.Holding.{holder_append}
 use Rattle.journal_model.proofs.Looks.{same_number, both}
 use Rattle.task_run.specs.TaskRuns.{child_claimed}
 use Rattle.task_run.proofs.Askings.{asks_for, askings_from-none}
-use Rattle.child_link.specs.Doors.{is_of_link}
+use Rattle.journal_model.specs.Shares.{by_link}
 use Rattle.child_start.specs.Greetings.{Greeted, is_greeting_line, is_of_greeting}
 use Rattle.special_cli.specs.Endings.{start_in, is_for_task}
 use Rattle.special_cli.specs.Runs.{main_entry, claim_in, IsBegun, HasOneTask}
@@ -35,9 +35,9 @@ no_answers = record { put = λ c j l. refl; sent = λ c. refl; mute = λ c. refl
 pub no_jobs : Vanishes (job_for 1)
 no_jobs = record { put = λ c j l. refl; sent = λ c. refl; mute = λ c. refl; got = λ c l. refl; ended = λ c w. refl; settled = λ c j v. refl; ask = λ c j l. refl; lost = λ c. refl }
 
-pub link_for_task : (w : What) → is_of_link w ≡ true → is_for_task w ≡ true
-link_for_task (Ask child job task line) h = absurd cc
-link_for_task w h = refl
+pub link_for_task : (c : ℕ) (w : What) → by_link c w ≡ true → is_for_task w ≡ true
+link_for_task c (Ask child job task line) h = absurd cc
+link_for_task c w h = refl
 
 greeting_for_task : (c : ℕ) (w : What) → is_of_greeting c w ≡ true → is_for_task w ≡ true
 greeting_for_task c (Ask child job task line) h = go (nat_lt job 2) (early (job == 0) refl (job == 1) refl (and_last (child == c) (task == 0) (is_greeting_line job line) h))
@@ -57,10 +57,10 @@ greeting_for_task c (Ask child job task line) h = go (nat_lt job 2) (early (job 
     go false e = absurd cc
 greeting_for_task c w h = refl
 
-pub link_asks_none : (w : What) → is_of_link w ≡ true → asks_for 1 w ≡ false
-link_asks_none (Ask child job task line) h = absurd cc
-link_asks_none (Lost child task) h = absurd cc
-link_asks_none w h = refl
+pub link_asks_none : (c : ℕ) (w : What) → by_link c w ≡ true → asks_for 1 w ≡ false
+link_asks_none c (Ask child job task line) h = absurd cc
+link_asks_none c (Lost child task) h = absurd cc
+link_asks_none c w h = refl
 
 greeting_asks_none : (c : ℕ) (w : What) → is_of_greeting c w ≡ true → asks_for 1 w ≡ false
 greeting_asks_none c (Ask child job task line) h = ap (λ (t : ℕ). t == 1) (no_task c child task (is_greeting_line job line) h)

@@ -24,7 +24,7 @@ use Rattle.journal_model.proofs.Linking.{why_is_end, why_of-append}
 use Rattle.journal_model.proofs.Verdicts.{unsent_verdict}
 use Rattle.host_core.specs.Steps.{is_gone}
 use Rattle.task_run.specs.TaskRuns.{came_of, failed_start, ended_answer, or_refusal, refusal_of, unready_answer, check_answer}
-use Rattle.child_link.specs.Asks.{lost_as}
+use Rattle.link_roles.specs.Asks.{lost_as}
 use Rattle.special_cli.specs.Causes.{HasCause}
 use Rattle.special_cli.specs.Endings.{start_in, starts_in}
 use Rattle.special_cli.specs.Objects.{is_failed_start}

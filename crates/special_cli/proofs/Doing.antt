@@ -24,8 +24,9 @@ use Rattle.host_core.specs.Steps.{next_job, may_request}
 use Rattle.host_core.proofs.Wiring.{wired_text}
 use Rattle.task_run.specs.TaskRuns.{Asking, askings, came_of, failed_start, ended_answer, refused_at, refusal_of, or_refusal, gone_answer, unready_answer, check_answer, lost_verdict, ChildZero, CheckOver, CheckRun}
 use Rattle.task_run.proofs.Askings.{asks_for, askings-unasked, askings-ask, askings-lost}
-use Rattle.child_link.specs.Asks.{HasAsked, IsSettled, IsLost, lost_as}
-use Rattle.child_link.specs.Doors.{is_closed, is_of_link}
+use Rattle.journal_model.specs.Shares.{is_closed, by_link}
+use Rattle.link_roles.specs.Asks.{lost_as}
+use Rattle.link_roles.specs.Alone.{AskedAlone, IsSettled, IsLost}
 use Rattle.std.specs.Option.{option_or}
 use Rattle.std.proofs.lemmas.List.{append-nil}
 use Rattle.child_start.proofs.Jobs.{idle_on, idle_asked}
@@ -251,7 +252,7 @@ module _ (o : Opening) (first : What) (past : List Entry) (c : ℕ) (begun : IsB
     done_settled o' o'' journal verdict answer sent idle legal s says =
         let more : List Entry = asked ∷ s.goes.more in
         let grown : journal ≡ claimed ++ more = s.goes.is ∙ append_assoc claimed (asked ∷ []) s.goes.more in
-        let quiet : any (asks_for 1) s.goes.more ≡ false = any_none is_of_link (asks_for 1) link_asks_none s.goes.more s.goes.quiet in
+        let quiet : any (asks_for 1) s.goes.more ≡ false = any_none (by_link c) (asks_for 1) (link_asks_none c) s.goes.more s.goes.quiet in
         let reads : host_reading (addressed claimed c line).1 ≡ Some question = ap host_reading (wired_text claimed c (next_job claimed c) (host_line question) small) ∙ canonical_read question sent in
         let verdict_is : verdict_of (claimed ++ more) c (next_job claimed c) ≡ Some verdict = ap (λ (j : List Entry). verdict_of j c (next_job claimed c)) (sym grown) ∙ s.settled in
         let pairs : askings (claimed ++ more) 1 ≡ record { request = Some question; verdict = verdict } ∷ [] =
@@ -259,17 +260,17 @@ module _ (o : Opening) (first : What) (past : List Entry) (c : ℕ) (begun : IsB
         ∙ ap (λ (xs : List Asking). xs ++ record { request = Some question; verdict = verdict } ∷ []) unasked in
         let jobs : each_of (job_for 1) (claimed ++ more) ≡ (c, next_job claimed c) ∷ [] =
         each_of-append (job_for 1) claimed more ∙ ap (λ (xs : List (ℕ × ℕ)). xs ++ each_of (job_for 1) more) task_jobs
-        ∙ ap (λ (xs : List (ℕ × ℕ)). (c, next_job claimed c) ∷ xs) (link_says_none (job_for 1) no_jobs s.goes.more s.goes.quiet) in
+        ∙ ap (λ (xs : List (ℕ × ℕ)). (c, next_job claimed c) ∷ xs) (link_says_none (job_for 1) no_jobs c s.goes.more s.goes.quiet) in
         let none_open : open_jobs (claimed ++ more) c ≡ [] = ap (λ (j : List Entry). open_jobs j c) (sym grown) ∙ idle in
         let closed : has_open_job (claimed ++ more) 1 ≡ false =
         ap (list_any (λ (q : ℕ × ℕ). is_open (claimed ++ more) q.0 q.1)) jobs ∙ ap (λ (ks : List ℕ). list_any (λ k. k == next_job claimed c) ks || false) none_open in
-        let tasked : list_all (λ (e : Entry). is_for_task e.what) more ≡ true = rw (or_true (nat_lt (next_job claimed c) 2), all_weaken is_of_link is_for_task link_for_task s.goes.more s.goes.quiet) refl in
+        let tasked : list_all (λ (e : Entry). is_for_task e.what) more ≡ true = rw (or_true (nat_lt (next_job claimed c) 2), all_weaken (by_link c) is_for_task (link_for_task c) s.goes.more s.goes.quiet) refl in
         let run : CheckRun key (record { request = Some question; verdict = verdict } ∷ []) answer = (refl, inr says) in
         subst (λ (j : List Entry). IsDone key first j answer) (sym grown)
         (done_later more answer (
-          link_says_none start_in no_starts s.goes.more s.goes.quiet,
-          link_says_none claim_in no_claims s.goes.more s.goes.quiet,
-          link_says_none answer_in no_answers s.goes.more s.goes.quiet,
+          link_says_none start_in no_starts c s.goes.more s.goes.quiet,
+          link_says_none claim_in no_claims c s.goes.more s.goes.quiet,
+          link_says_none answer_in no_answers c s.goes.more s.goes.quiet,
           closed,
           tasked,
           subst (λ (xs : List Asking). CheckRun key xs answer) (sym pairs) run,
@@ -300,7 +301,7 @@ module _ (o : Opening) (first : What) (past : List Entry) (c : ℕ) (begun : IsB
         ))
 
     pub done_asked : (o' o'' : Opening) (journal : List Entry) (verdict : Verdict) (answer : Answer) → is_sent_key key ≡ true → open_jobs journal c ≡ [] → Legal o'' journal
-        → HasAsked o' claimed journal 0 c 1 question verdict → check_answer verdict ≡ Some answer → IsDone key first journal answer
+        → AskedAlone o' claimed journal 0 c 1 question verdict → check_answer verdict ≡ Some answer → IsDone key first journal answer
     done_asked o' o'' journal verdict answer sent idle legal (inl s) says = done_settled o' o'' journal verdict answer sent idle legal s says
     done_asked o' o'' journal verdict answer sent idle legal (inr l) says = done_lost o' journal verdict answer l says
 

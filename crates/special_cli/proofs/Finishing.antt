@@ -14,13 +14,15 @@ use Rattle.journal_model.specs.declared.holder.Holder.{Holder}
 use Rattle.journal_model.specs.Legality.{holder, is_held_for, claimed_for, is_busy_with, has_busy_task, has_open_job, may_stop}
 use Rattle.journal_model.proofs.Holding.{holder_append}
 use Rattle.journal_model.proofs.Looks.{same, each_of-append, any-append}
-use Rattle.journal_model.proofs.Linking.{linked_apart}
 use Rattle.journal_model.proofs.Heard.{heard_on}
 use Rattle.host_core.specs.Steps.{may_answer}
 use Rattle.task_run.specs.TaskRuns.{Asking, ChildZero, CheckOver, CheckRun}
 use Rattle.task_run.proofs.Askings.{asks_for, askings-unasked}
-use Rattle.child_link.specs.Doors.{Closes}
-use Rattle.child_link.specs.Links.{LinkValue, IsLinked}
+use Rattle.journal_model.specs.Shares.{is_heard, is_said}
+use Rattle.journal_model.specs.Halves.{EarValue, MouthValue, LinkWired}
+use Rattle.journal_model.proofs.Ears.{ear_apart}
+use Rattle.journal_model.proofs.Mouths.{mouth_apart}
+use Rattle.link_roles.specs.Alone.{Closes}
 use Rattle.child_start.specs.Greetings.{Greeted}
 use Rattle.child_start.proofs.Jobs.{idle_on}
 use Rattle.special_cli.specs.Endings.{start_in, is_for_task, closing}
@@ -145,23 +147,19 @@ closed_over past mid journal c answer one was given closes =
 
 -- ---- links
 
--- an entry that says nothing of children leaves each link linked
-module _ {I O : Type 0} (taken : I → Option (List ℕ)) (wf : I → ℕ) (given left : O → Option (List ℕ)) (rf : O → ℕ) (past journal : List Entry) (link : LinkValue I O) where
-  pub links_claim : (task child : ℕ) → journal ≡ past ++ main_entry (Claim task child) ∷ [] → IsLinked taken wf given left rf past link → IsLinked taken wf given left rf journal link
+-- an entry that says nothing of children leaves each link wired
+module _ (past journal : List Entry) (ear : EarValue) (mouth : MouthValue) where
+  pub links_claim : (task child : ℕ) → journal ≡ past ++ main_entry (Claim task child) ∷ [] → LinkWired past ear mouth → LinkWired journal ear mouth
   links_claim task child e h =
-      subst (λ (j : List Entry). IsLinked taken wf given left rf j link) (sym e) (
-        linked_apart past (main_entry (Claim task child) ∷ []) link.child (given link.outlet) (left link.outlet) (taken link.inlet) (rf link.outlet) (wf link.inlet) link.held
-            record { got = refl; written = refl; covers = refl; mutes = refl; ends = refl } h.0,
-        heard_on link.child past (main_entry (Claim task child) ∷ []) refl h.1,
-      )
+      let more : List Entry = main_entry (Claim task child) ∷ [] in
+      subst (λ (j : List Entry). LinkWired j ear mouth) (sym e)
+      (record { ear = ear_apart past more ear refl h.ear; mouth = mouth_apart past more mouth refl h.mouth; turn = heard_on ear.child past more refl h.turn })
 
-  pub links_answer : (task : ℕ) (answer : Answer) → journal ≡ past ++ main_entry (Answered task answer) ∷ [] → IsLinked taken wf given left rf past link → IsLinked taken wf given left rf journal link
+  pub links_answer : (task : ℕ) (answer : Answer) → journal ≡ past ++ main_entry (Answered task answer) ∷ [] → LinkWired past ear mouth → LinkWired journal ear mouth
   links_answer task answer e h =
-      subst (λ (j : List Entry). IsLinked taken wf given left rf j link) (sym e) (
-        linked_apart past (main_entry (Answered task answer) ∷ []) link.child (given link.outlet) (left link.outlet) (taken link.inlet) (rf link.outlet) (wf link.inlet) link.held
-            record { got = refl; written = refl; covers = refl; mutes = refl; ends = refl } h.0,
-        heard_on link.child past (main_entry (Answered task answer) ∷ []) refl h.1,
-      )
+      let more : List Entry = main_entry (Answered task answer) ∷ [] in
+      subst (λ (j : List Entry). LinkWired j ear mouth) (sym e)
+      (record { ear = ear_apart past more ear refl h.ear; mouth = mouth_apart past more mouth refl h.mouth; turn = heard_on ear.child past more refl h.turn })
 
 -- the first child was started
 pub greeted_started : (journal : List Entry) (c : ℕ) → Greeted [] journal 0 false c → is_started journal c ≡ true

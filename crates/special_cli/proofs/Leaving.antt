@@ -15,7 +15,8 @@ use Rattle.journal_model.specs.declared.entry.Entry.{Entry}
 use Rattle.journal_model.specs.Journal.{any}
 use Rattle.journal_model.specs.Wires.{Wired, Caused, is_heard_in_turn}
 use Rattle.task_run.specs.TaskRuns.{refused_at}
-use Rattle.child_link.specs.Links.{LinkValue, IsLinked}
+use Rattle.journal_model.specs.Halves.{EarValue, MouthValue, LinkWired, IsSameEar, IsSameMouth}
+use Rattle.journal_model.proofs.Ears.{halves_wire}
 use Rattle.child_start.specs.Greetings.{Greeted, IsRefused, HasEnded, IsUnsent, AreNumbered}
 use Rattle.special_cli.specs.Endings.{start_in, starts_in}
 use Rattle.special_cli.specs.Objects.{came_in, came, IsOfStart, IsWire, AreWires, OneIsLeft, told_in, told, AddsAll, HaveStarted, Leaves, is_failed_start}
@@ -100,20 +101,22 @@ of_start None new x (Some n) a h = tt
 of_start (Some xs) None x (Some n) a h = absurd a
 of_start (Some xs) (Some ys) x (Some n) a h = h ∙ ap (λ (zs : Starts). length zs) a ∙ length-append xs (x ∷ [])
 
+-- halves of the same start have its number
+pub numbered_on : (starts : Option Starts) (e e' : EarValue) (m m' : MouthValue) → IsSameEar e e' → IsSameMouth m m' → AreNumbered starts e m → AreNumbered starts e' m'
+numbered_on starts e e' m m' same_ear same_mouth h = (subst (IsNumbered starts) (sym same_mouth.1) h.0, subst (IsNumbered starts) (sym same_ear.1) h.1)
+
 -- the one child's wire
-one_wire : {I O : Type 0} (taken : I → Option (List ℕ)) (wf : I → ℕ) (inlet_number : I → Option ℕ) (given left : O → Option (List ℕ)) (rf : O → ℕ) (outlet_number : O → Option ℕ)
-    (old new : Option Starts) (journal : List Entry) (x : List ℕ × Bool) (begun link : LinkValue I O) (wires : List WireValue) → starts_in journal ≡ Start 1 0 false ∷ []
-    → AddsOne old new x → AreNumbered inlet_number outlet_number new begun
-    → (inlet_number link.inlet ≡ inlet_number begun.inlet) × (outlet_number link.outlet ≡ outlet_number begun.outlet) → link.child ≡ 1
-    → IsLinked taken wf given left rf journal link → OneIsLeft taken wf inlet_number given left rf outlet_number link wires
+one_wire : (old new : Option Starts) (journal : List Entry) (x : List ℕ × Bool) (ear : EarValue) (mouth : MouthValue) (wires : List WireValue) → starts_in journal ≡ Start 1 0 false ∷ []
+    → AddsOne old new x → AreNumbered new ear mouth → ear.child ≡ 1 → mouth.child ≡ ear.child → LinkWired journal ear mouth → OneIsLeft ear mouth wires
     → AreWires old journal 0 (came journal) wires
-one_wire taken wf inlet_number given left rf outlet_number old new journal x begun link wires starts adds numbered same_numbers one linked (wire, only, is) =
+one_wire old new journal x ear mouth wires starts adds numbered one both_one linked (wire, only, is) =
     let first : came journal ≡ Some 1 ∷ [] = came_of_starts journal (Start 1 0 false) starts in
-    let wired : Wired journal wire.child wire.given wire.taken wire.rest = rw (is.child, is.given_is, is.taken_is, is.rest) linked.0.wired in
-    let caused : Caused journal wire.child wire.left wire.read_faults wire.write_faults = rw (is.child, is.left_is, is.faults.0, is.faults.1) linked.0.caused in
-    let heard : IsTrue (is_heard_in_turn journal wire.child) = rw is.child linked.1 in
-    let inlet : IsOfStart old 1 wire.inlet_number = subst (IsOfStart old 1) (sym (is.numbers.0 ∙ same_numbers.0)) (of_start old new x (inlet_number begun.inlet) adds numbered.0) in
-    let outlet : IsOfStart old 1 wire.outlet_number = subst (IsOfStart old 1) (sym (is.numbers.1 ∙ same_numbers.1)) (of_start old new x (outlet_number begun.outlet) adds numbered.1) in
+    let halves : Wired journal ear.child ear.given mouth.taken ear.held × Caused journal ear.child ear.left ear.faults mouth.faults = halves_wire journal ear mouth both_one linked.ear linked.mouth in
+    let wired : Wired journal wire.child wire.given wire.taken wire.rest = rw (is.child, is.given_is, is.taken_is, is.rest) halves.0 in
+    let caused : Caused journal wire.child wire.left wire.read_faults wire.write_faults = rw (is.child, is.left_is, is.faults.0, is.faults.1) halves.1 in
+    let heard : IsTrue (is_heard_in_turn journal wire.child) = rw is.child linked.turn in
+    let inlet : IsOfStart old 1 wire.inlet_number = subst (IsOfStart old 1) (sym is.numbers.0) (of_start old new x mouth.number adds numbered.0) in
+    let outlet : IsOfStart old 1 wire.outlet_number = subst (IsOfStart old 1) (sym is.numbers.1) (of_start old new x ear.number adds numbered.1) in
     let own : IsWire old journal 1 wire = record { wired = wired; caused = caused; heard = heard; inlet = inlet; outlet = outlet; closed = is.closed } in
     subst (λ (cs : List (Option ℕ)). AreWires old journal 0 cs wires) (sym first)
     (subst (λ (ws : List WireValue). AreWires old journal 0 (Some 1 ∷ []) ws) (sym only) (is.child ∙ one, own, tt))
@@ -177,14 +180,11 @@ leaves_failed W before after program journal wires j w adds rose = record {
 }
 
 -- one child was started, and its link is closed
-pub leaves_child : {I O : Type 0} {taken : I → Option (List ℕ)} {wf : I → ℕ} {inlet_number : I → Option ℕ} {given left : O → Option (List ℕ)} {rf : O → ℕ} {outlet_number : O → Option ℕ}
-    (W : Type 0) (mid : Option Starts) (before after : ProgramsValue) (program : List ℕ) (journal : List Entry) (begun link : LinkValue I O) (wires : List WireValue)
-    → starts_in journal ≡ Start 1 0 false ∷ [] → AddsOne before.starts mid (program, true) → Stays mid after.starts → AreNumbered inlet_number outlet_number mid begun
-    → (inlet_number link.inlet ≡ inlet_number begun.inlet) × (outlet_number link.outlet ≡ outlet_number begun.outlet) → link.child ≡ 1
-    → IsLinked taken wf given left rf journal link → OneIsLeft taken wf inlet_number given left rf outlet_number link wires
-    → Leaves W program journal before after wires
-leaves_child {taken = taken} {wf = wf} {inlet_number = inlet_number} {given = given} {left = left} {rf = rf} {outlet_number = outlet_number} W mid before after program journal begun link wires j adds stays numbered same one linked only = record {
-  wired = one_wire taken wf inlet_number given left rf outlet_number before.starts mid journal (program, true) begun link wires j adds numbered same one linked only;
+pub leaves_child : (W : Type 0) (mid : Option Starts) (before after : ProgramsValue) (program : List ℕ) (journal : List Entry) (ear : EarValue) (mouth : MouthValue) (wires : List WireValue)
+    → starts_in journal ≡ Start 1 0 false ∷ [] → AddsOne before.starts mid (program, true) → Stays mid after.starts → AreNumbered mid ear mouth → ear.child ≡ 1 → mouth.child ≡ ear.child
+    → LinkWired journal ear mouth → OneIsLeft ear mouth wires → Leaves W program journal before after wires
+leaves_child W mid before after program journal ear mouth wires j adds stays numbered one both_one linked only = record {
+  wired = one_wire before.starts mid journal (program, true) ear mouth wires j adds numbered one both_one linked only;
   started = inl (child_told program journal before.starts mid after.starts j adds stays);
   fault = λ failed. none_failed journal 1 0 false j failed;
 }

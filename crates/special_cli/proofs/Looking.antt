@@ -9,7 +9,7 @@ use Rattle.journal_model.specs.declared.entry.What.TheVariants.{Claim, Start, No
 use Rattle.journal_model.specs.declared.entry.Entry.{Entry}
 use Rattle.journal_model.specs.Journal.{any, each_of}
 use Rattle.journal_model.proofs.Looks.{both, same_number}
-use Rattle.child_link.specs.Doors.{is_of_link}
+use Rattle.journal_model.specs.Shares.{by_link}
 use Rattle.child_start.specs.Greetings.{is_greeting_line, is_of_greeting}
 
 -- ---- what links and greetings don't say
@@ -25,20 +25,20 @@ pub record Vanishes {X : Type 0} (f : What → Option X) : Type 0 where
   pub ask : (c j : ℕ) (line : List ℕ) → f (Ask c j 0 line) ≡ None
   pub lost : (c : ℕ) → f (Lost c 0) ≡ None
 
-of_link : {X : Type 0} (f : What → Option X) → Vanishes f → (w : What) → is_of_link w ≡ true → f w ≡ None
-of_link f v (Put c j line) h = v.put c j line
-of_link f v (Sent c) h = v.sent c
-of_link f v (Mute c) h = v.mute c
-of_link f v (Got c line) h = v.got c line
-of_link f v (End c why) h = v.ended c why
-of_link f v (Settled c j verdict) h = v.settled c j verdict
-of_link f v (Claim task child) h = absurd cc
-of_link f v (Start child slot offer) h = absurd cc
-of_link f v (NoStart slot) h = absurd cc
-of_link f v (Ask child job task line) h = absurd cc
-of_link f v (Lost child task) h = absurd cc
-of_link f v (Answered task answer) h = absurd cc
-of_link f v (Noted task chunk count) h = absurd cc
+of_link : {X : Type 0} (f : What → Option X) → Vanishes f → (c : ℕ) (w : What) → by_link c w ≡ true → f w ≡ None
+of_link f v c (Put d j line) h = v.put d j line
+of_link f v c (Sent d) h = v.sent d
+of_link f v c (Mute d) h = v.mute d
+of_link f v c (Got d line) h = v.got d line
+of_link f v c (End d why) h = v.ended d why
+of_link f v c (Settled d j verdict) h = v.settled d j verdict
+of_link f v c (Claim task child) h = absurd cc
+of_link f v c (Start child slot offer) h = absurd cc
+of_link f v c (NoStart slot) h = absurd cc
+of_link f v c (Ask child job task line) h = absurd cc
+of_link f v c (Lost child task) h = absurd cc
+of_link f v c (Answered task answer) h = absurd cc
+of_link f v c (Noted task chunk count) h = absurd cc
 
 pub no_task : (c child task : ℕ) (b : Bool) → (child == c && (task == 0 && b)) ≡ true → task ≡ 0
 no_task c child task b h =
@@ -67,8 +67,8 @@ none_of f p quiet (e ∷ xs) h =
     let t = both (p e.what) (list_all (λ (x : Entry). p x.what) xs) h in
     rw (quiet e.what t.0, none_of f p quiet xs t.1) refl
 
-pub link_says_none : {X : Type 0} (f : What → Option X) → Vanishes f → (xs : List Entry) → list_all (λ (e : Entry). is_of_link e.what) xs ≡ true → each_of f xs ≡ []
-link_says_none f v xs h = none_of f is_of_link (of_link f v) xs h
+pub link_says_none : {X : Type 0} (f : What → Option X) → Vanishes f → (c : ℕ) (xs : List Entry) → list_all (λ (e : Entry). by_link c e.what) xs ≡ true → each_of f xs ≡ []
+link_says_none f v c xs h = none_of f (by_link c) (of_link f v c) xs h
 
 pub greeting_says_none : {X : Type 0} (f : What → Option X) → Vanishes f → (c : ℕ) (xs : List Entry) → list_all (λ (e : Entry). is_of_greeting c e.what) xs ≡ true → each_of f xs ≡ []
 greeting_says_none f v c xs h = none_of f (is_of_greeting c) (of_greeting f v c) xs h

@@ -17,7 +17,7 @@ use Rattle.journal_model.specs.Legality.{Legal, claimed_for, is_busy_with, has_b
 use Rattle.journal_model.proofs.Looks.{both, any-append, each_of-append, verdict_of-append}
 use Rattle.journal_model.proofs.Linking.{why_of-append}
 use Rattle.task_run.specs.TaskRuns.{refused_at}
-use Rattle.child_link.specs.Doors.{Closes}
+use Rattle.link_roles.specs.Alone.{Closes}
 use Rattle.child_start.specs.Greetings.{Greeted, IsReady, IsRefused, HasEnded, IsUnsent, is_greeting_line, is_of_greeting}
 use Rattle.child_start.proofs.Jobs.{idle_on}
 use Rattle.info_run.specs.Infos.{questions}

@@ -11,7 +11,7 @@ use Rattle.journal_model.specs.Due.{replies_at}
 use Rattle.journal_model.specs.Legality.{Legal}
 use Rattle.journal_model.specs.Projection.{JobFits}
 use Rattle.task_run.specs.TaskRuns.{refusal_of}
-use Rattle.child_link.specs.Doors.{is_closed}
+use Rattle.journal_model.specs.Shares.{is_closed}
 use Rattle.info_run.specs.Infos.{questions, info_lines, is_informed}
 use Rattle.info_run.specs.Askings.{asked_lines}
 use Rattle.special_cli.specs.Endings.{starts_in, IsPrinted}

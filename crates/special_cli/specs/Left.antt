@@ -7,7 +7,7 @@ use Rattle.ann_outside.specs.Files.{Files}
 use Rattle.ann_outside.specs.declared.file_desk.Call.{Call}
 use Rattle.journal_model.specs.declared.answer.Answer.{Answer}
 use Rattle.journal_model.specs.declared.entry.Entry.{Entry}
-use Rattle.child_link.specs.declared.wire.Wire.{Wire}
+use Rattle.link_roles.specs.declared.wire.Wire.{Wire}
 use Rattle.special_cli.specs.declared.end.End.{End}
 
 -- ---- the objects

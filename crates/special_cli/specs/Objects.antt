@@ -9,7 +9,7 @@ use Rattle.journal_model.specs.declared.entry.What.TheVariants.{Start, NoStart}
 use Rattle.journal_model.specs.declared.entry.Entry.{Entry}
 use Rattle.journal_model.specs.Journal.{any, each_of}
 use Rattle.journal_model.specs.Wires.{Wired, Caused, is_heard_in_turn}
-use Rattle.child_link.specs.Links.{LinkValue}
+use Rattle.journal_model.specs.Halves.{EarValue, MouthValue}
 use Rattle.special_cli.specs.Left.{ProgramsValue, WireValue, TableValue}
 
 -- ---- wires
@@ -47,23 +47,20 @@ AreWires starts journal n (None ∷ cs) wires = AreWires starts journal (n + 1) 
 AreWires starts journal n (Some c ∷ cs) (wire ∷ wires) = (wire.child ≡ c) × IsWire starts journal (n + 1) wire × AreWires starts journal (n + 1) cs wires
 AreWires starts journal n _ _ = ⊥
 
--- the wire that a link leaves
-pub record IsLeft {I O : Type 0} (taken : I → Option (List ℕ)) (write_faults : I → ℕ) (inlet_number : I → Option ℕ)
-    (given left : O → Option (List ℕ)) (read_faults : O → ℕ) (outlet_number : O → Option ℕ) (link : LinkValue I O) (wire : WireValue) : Type 0 where
-  pub child : wire.child ≡ link.child
-  pub taken_is : wire.taken ≡ taken link.inlet
-  pub given_is : wire.given ≡ given link.outlet
-  pub left_is : wire.left ≡ left link.outlet
-  pub faults : (wire.write_faults ≡ write_faults link.inlet) × (wire.read_faults ≡ read_faults link.outlet)
-  pub numbers : (wire.inlet_number ≡ inlet_number link.inlet) × (wire.outlet_number ≡ outlet_number link.outlet)
+-- the wire that a link's halves leave
+pub record IsLeft (ear : EarValue) (mouth : MouthValue) (wire : WireValue) : Type 0 where
+  pub child : wire.child ≡ ear.child
+  pub taken_is : wire.taken ≡ mouth.taken
+  pub given_is : wire.given ≡ ear.given
+  pub left_is : wire.left ≡ ear.left
+  pub faults : (wire.write_faults ≡ mouth.faults) × (wire.read_faults ≡ ear.faults)
+  pub numbers : (wire.inlet_number ≡ mouth.number) × (wire.outlet_number ≡ ear.number)
   pub closed : (wire.is_inlet_open ≡ false) × (wire.is_outlet_open ≡ false)
-  pub rest : wire.rest ≡ link.held
+  pub rest : wire.rest ≡ ear.held
 
 -- it is the only one
-abbrev pub OneIsLeft : {I O : Type 0} → (I → Option (List ℕ)) → (I → ℕ) → (I → Option ℕ) → (O → Option (List ℕ)) → (O → Option (List ℕ)) → (O → ℕ) → (O → Option ℕ)
-    → LinkValue I O → List WireValue → Type 0
-OneIsLeft {I} {O} taken write_faults inlet_number given left read_faults outlet_number link wires =
-    (wire : WireValue) × (wires ≡ wire ∷ []) × IsLeft taken write_faults inlet_number given left read_faults outlet_number link wire
+abbrev pub OneIsLeft : EarValue → MouthValue → List WireValue → Type 0
+OneIsLeft ear mouth wires = (wire : WireValue) × (wires ≡ wire ∷ []) × IsLeft ear mouth wire
 
 -- ---- starts
 

@@ -13,7 +13,7 @@ use Rattle.journal_model.specs.declared.opening.Opening.{Opening}
 use Rattle.journal_model.specs.Journal.{each_of}
 use Rattle.journal_model.specs.Legality.{is_claimed_by, job_for, has_open_job}
 use Rattle.task_run.specs.TaskRuns.{askings, came_of, failed_start, check_answer, CheckTask}
-use Rattle.child_link.specs.Asks.{HasAsked}
+use Rattle.link_roles.specs.Alone.{AskedAlone}
 use Rattle.special_cli.specs.Causes.{HasCause}
 use Rattle.special_cli.specs.Endings.{starts_in, is_for_task, IsClosed}
 
@@ -71,7 +71,7 @@ HasOneTask o = length o.tasks ≡ 1
 -- the key was asked for and this answer is what came of it, or there was no memory to ask
 abbrev pub AsksFor : Opening → List Entry → List Entry → ℕ → List ℕ → Answer → Type 0
 AsksFor o old new c key answer =
-    ((v : Verdict) × HasAsked o old new 0 c 1 (Checkpresent key) v × (check_answer v ≡ Some answer))
+    ((v : Verdict) × AskedAlone o old new 0 c 1 (Checkpresent key) v × (check_answer v ≡ Some answer))
     ⊎ ((new ≡ old) × (answer ≡ Memory))
 
 -- the run has begun, and this is the answer of its child, which is not ready

@@ -20,10 +20,10 @@ use crate::outside::Outside;
 use crate::ran::{Ran, journal_of};
 use ann_key::{Key, KeyRef, NoMemory};
 use ann_outside::{Clock, Desks, Programs};
-use child_link::Wire;
 use cli_words::refusal;
 use host_core::Core;
 use journal_model::Answer;
+use link_roles::Wire;
 use std::alloc::Global;
 
 // What a check is made with.

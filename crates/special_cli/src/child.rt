@@ -3,29 +3,27 @@ ghost use Rattle.std.specs.Prelude.{◌≡◌, ◌<◌, ◌≤◌, [], map, true
 ghost use Rattle.ann_outside.specs.Causes.{Stays};
 ghost use Rattle.journal_model.specs.declared.verdict.Why.TheVariants.{Closed};
 ghost use Rattle.journal_model.specs.Journal.{is_started};
-ghost use Rattle.journal_model.specs.Legality.{Legal, may_stop};
-ghost use Rattle.child_link.specs.Doors.{Closes};
-ghost use Rattle.child_link.specs.Links.{IsLinked};
+ghost use Rattle.journal_model.specs.Legality.{may_stop};
+ghost use Rattle.journal_model.specs.Halves.{LinkWired};
+ghost use Rattle.link_roles.specs.Alone.{Closes};
+ghost use Rattle.child_start.specs.Cores.{IsSameCore};
 ghost use Rattle.special_cli.specs.Left.{wire_value};
 ghost use Rattle.special_cli.specs.Objects.{OneIsLeft};
 
 use ann_outside::{Programs, Sink, Source};
-use child_link::{Lone, OwnDoor, Wire};
 use host_core::Core;
+use link_roles::{Lone, OwnDoor, Wire};
 
 /// The child is closed.
-pub(crate) fn close_child<I: Sink, O: Source>(link: &mut Lone<I, O>, core: &mut Core)
-    requires started { is_started core.old.journal link.old.child ≡ true }
-    requires idle { may_stop core.old.journal link.old.child Closed ≡ true }
-    ensures closes { Closes 0 link.old.child core.old.journal core.new.journal }
-    ensures linked { IsLinked I.taken I.faults O.given O.left O.faults core.old.journal link.old → IsLinked I.taken I.faults O.given O.left O.faults core.new.journal link.new }
-    ensures child { link.new.child ≡ link.old.child }
-    ensures numbers { (I.number link.new.inlet ≡ I.number link.old.inlet) × (O.number link.new.outlet ≡ O.number link.old.outlet) }
-    ensures opening { core.new.opening ≡ core.old.opening }
-    ensures legal { Legal core.old.opening core.old.journal → Legal core.new.opening core.new.journal }
+pub(crate) fn close_child<I: Sink, O: Source>(link: &Lone<I, O>, core: &mut Core)
+    requires started { is_started core.old.journal link.now.ear.child ≡ true }
+    requires idle { may_stop core.old.journal link.now.ear.child Closed ≡ true }
+    ensures closes { Closes 0 link.now.ear.child core.old.journal core.new.journal }
+    ensures wired { LinkWired core.old.journal link.now.ear link.now.mouth → LinkWired core.new.journal link.now.ear link.now.mouth }
+    ensures core { IsSameCore core.old core.new }
 {
     let mut door = OwnDoor { core };
-    link.close(&mut door);
+    link.close_alone(&mut door);
 }
 
 /// The link's halves are closed and kept as a wire, and the program is waited for.
@@ -37,7 +35,7 @@ pub(crate) fn finish<P: Programs>(
 )
     requires room { vec_len wires.old < vec_capacity wires.old }
     requires none { wires.old.items ≡ [] }
-    ensures left { OneIsLeft P.Inlet.taken P.Inlet.faults P.Inlet.number P.Outlet.given P.Outlet.left P.Outlet.faults P.Outlet.number link (map (wire_value P.Inlet.taken P.Inlet.faults P.Inlet.number P.Inlet.is_open P.Outlet.given P.Outlet.left P.Outlet.faults P.Outlet.number P.Outlet.is_open) wires.new.items) }
+    ensures left { OneIsLeft link.ear link.mouth (map (wire_value P.Inlet.taken P.Inlet.faults P.Inlet.number P.Inlet.is_open P.Outlet.given P.Outlet.left P.Outlet.faults P.Outlet.number P.Outlet.is_open) wires.new.items) }
     ensures starts { Stays (P.starts programs.old) (P.starts programs.new) }
     ensures later { P.faults programs.old ≤ P.faults programs.new }
 {

@@ -1,8 +1,8 @@
 // One start of the program, and the one answer.
 ghost use Rattle.std.specs.Prelude.{◌≡◌, ◌<◌, [], true, Some, is_some, map, option_map, IsErr, MatchResult, vec_len, vec_capacity};
 ghost use Rattle.annex_model.specs.Messages.{is_sent_key};
-ghost use Rattle.journal_model.specs.Legality.{Legal};
 ghost use Rattle.journal_model.specs.declared.answer.Answer.TheVariants.{NotPrepared};
+ghost use Rattle.child_start.specs.Cores.{IsSameCore};
 ghost use Rattle.task_run.specs.TaskRuns.{refused_at};
 ghost use Rattle.special_cli.specs.Left.{wire_value, programs_value};
 ghost use Rattle.special_cli.specs.Objects.{Leaves};
@@ -12,10 +12,10 @@ use super::task;
 use crate::child::finish;
 use ann_key::{Key, NoMemory};
 use ann_outside::Programs;
-use child_link::Wire;
 use child_start::{Greeting, Mode, greet};
 use host_core::Core;
 use journal_model::{Answer, Verdict};
+use link_roles::Wire;
 use std::alloc::Global;
 
 // The answer where a line refused to get ready, with that line's place.
@@ -49,8 +49,7 @@ where
     requires none { wires.old.items ≡ [] }
     ensures ran { MatchResult result (HasAnswered key core.new.journal) (λ _. core.new.journal ≡ []) }
     ensures leaves { Leaves (IsErr result) program.now core.new.journal (programs_value (P.starts programs.old) (P.faults programs.old)) (programs_value (P.starts programs.new) (P.faults programs.new)) (map (wire_value P.Inlet.taken P.Inlet.faults P.Inlet.number P.Inlet.is_open P.Outlet.given P.Outlet.left P.Outlet.faults P.Outlet.number P.Outlet.is_open) wires.new.items) }
-    ensures opening { core.new.opening ≡ core.old.opening }
-    ensures legal { Legal core.old.opening core.old.journal → Legal core.new.opening core.new.journal }
+    ensures core { IsSameCore core.old core.new }
 {
     match greet(alloc, programs, program, core, 0, false, Mode::Serve) {
         Greeting::Ready {
@@ -64,27 +63,23 @@ where
         }
         Greeting::Refused {
             verdict,
-            mut link,
+            link,
             stub,
         } => {
             let answer = not_prepared(verdict);
-            task::answer_unready(&mut link, core, answer);
+            task::answer_unready(&link, core, answer);
             finish(programs, link, stub, wires);
             Ok(answer)
         }
-        Greeting::Ended {
-            why,
-            mut link,
-            stub,
-        } => {
+        Greeting::Ended { why, link, stub } => {
             let answer = Answer::Ended { why };
-            task::answer_unready(&mut link, core, answer);
+            task::answer_unready(&link, core, answer);
             finish(programs, link, stub, wires);
             Ok(answer)
         }
-        Greeting::Unsent { mut link, stub } => {
+        Greeting::Unsent { link, stub } => {
             let answer = Answer::Unsent;
-            task::answer_unready(&mut link, core, answer);
+            task::answer_unready(&link, core, answer);
             finish(programs, link, stub, wires);
             Ok(answer)
         }

@@ -7,17 +7,18 @@ ghost use Rattle.journal_model.specs.Journal.{is_started, open_jobs};
 ghost use Rattle.journal_model.specs.Legality.{Legal, least_free, is_prepared};
 ghost use Rattle.journal_model.specs.Projection.{IsNamed};
 ghost use Rattle.host_core.specs.Steps.{may_answer, may_request};
-ghost use Rattle.child_link.specs.Asks.{HasAsked};
-ghost use Rattle.child_link.specs.Links.{IsLinked};
+ghost use Rattle.journal_model.specs.Halves.{LinkWired};
+ghost use Rattle.link_roles.specs.Alone.{AskedAlone, KeepsLink};
+ghost use Rattle.child_start.specs.Cores.{IsSameCore};
 ghost use Rattle.child_start.specs.Greetings.{Greeted, IsReady};
 ghost use Rattle.special_cli.specs.Runs.{main_entry, AsksFor, IsUnready, IsDone, IsRun, HasOneTask};
 
 use crate::child::close_child;
 use ann_key::{Key, NoMemory};
 use ann_outside::{Sink, Source};
-use child_link::{Lone, OwnDoor};
 use host_core::{Core, Event, Reply};
 use journal_model::{Answer, Verdict};
+use link_roles::{Lone, OwnDoor};
 use talk_serial::Request;
 use task_run::check_answer;
 
@@ -62,32 +63,27 @@ fn ask<I: Sink, O: Source>(
     core: &mut Core,
     key: Key,
 ) -> Result<Verdict, NoMemory>
-    requires started { is_started core.old.journal link.old.child ≡ true }
-    requires may { may_request core.old.journal 0 1 link.old.child (Checkpresent key) ≡ true }
-    ensures asked { MatchResult result (HasAsked core.old.opening core.old.journal core.new.journal 0 link.old.child 1 (Checkpresent key)) (λ _. core.new.journal ≡ core.old.journal) }
-    ensures named { Legal core.old.opening core.old.journal → IfOk result (IsNamed (Checkpresent key)) }
-    ensures linked { IsLinked I.taken I.faults O.given O.left O.faults core.old.journal link.old → IsLinked I.taken I.faults O.given O.left O.faults core.new.journal link.new }
-    ensures child { link.new.child ≡ link.old.child }
-    ensures numbers { (I.number link.new.inlet ≡ I.number link.old.inlet) × (O.number link.new.outlet ≡ O.number link.old.outlet) }
-    ensures opening { core.new.opening ≡ core.old.opening }
-    ensures legal { Legal core.old.opening core.old.journal → Legal core.new.opening core.new.journal }
+    requires legal { Legal core.old.opening core.old.journal }
+    requires started { is_started core.old.journal link.old.ear.child ≡ true }
+    requires may { may_request core.old.journal 0 1 link.old.ear.child (Checkpresent key) ≡ true }
+    ensures asked { MatchResult result (AskedAlone core.old.opening core.old.journal core.new.journal 0 link.old.ear.child 1 (Checkpresent key)) (λ _. core.new.journal ≡ core.old.journal) }
+    ensures named { IfOk result (IsNamed (Checkpresent key)) }
+    ensures link { KeepsLink core.old.journal core.new.journal link.old.ear link.new.ear link.old.mouth link.new.mouth }
+    ensures core { IsSameCore core.old core.new }
 {
     let mut door = OwnDoor { core };
-    link.ask(&mut door, 1, &Request::CheckPresent { key })
+    link.ask_alone(&mut door, 1, &Request::CheckPresent { key })
 }
 
 // What comes of asking the child for the key. No line says that a check failed.
 #[tactic(auto, using(crate::proofs::Causing::check_settles))]
 fn answer_of<I: Sink, O: Source>(link: &mut Lone<I, O>, core: &mut Core, key: Key) -> Answer
     requires legal { Legal core.old.opening core.old.journal }
-    requires started { is_started core.old.journal link.old.child ≡ true }
-    requires may { may_request core.old.journal 0 1 link.old.child (Checkpresent key) ≡ true }
-    ensures asked { AsksFor core.old.opening core.old.journal core.new.journal link.old.child key result }
-    ensures linked { IsLinked I.taken I.faults O.given O.left O.faults core.old.journal link.old → IsLinked I.taken I.faults O.given O.left O.faults core.new.journal link.new }
-    ensures child { link.new.child ≡ link.old.child }
-    ensures numbers { (I.number link.new.inlet ≡ I.number link.old.inlet) × (O.number link.new.outlet ≡ O.number link.old.outlet) }
-    ensures opening { core.new.opening ≡ core.old.opening }
-    ensures legal { Legal core.new.opening core.new.journal }
+    requires started { is_started core.old.journal link.old.ear.child ≡ true }
+    requires may { may_request core.old.journal 0 1 link.old.ear.child (Checkpresent key) ≡ true }
+    ensures asked { AsksFor core.old.opening core.old.journal core.new.journal link.old.ear.child key result }
+    ensures link { KeepsLink core.old.journal core.new.journal link.old.ear link.new.ear link.old.mouth link.new.mouth }
+    ensures core { IsSameCore core.old core.new }
 {
     match ask(link, core, key) {
         Ok(verdict) => check_answer(verdict),
@@ -100,16 +96,13 @@ fn answer_of<I: Sink, O: Source>(link: &mut Lone<I, O>, core: &mut Core, key: Ke
 fn do_task<I: Sink, O: Source>(link: &mut Lone<I, O>, core: &mut Core, key: Key) -> Answer
     requires one { HasOneTask core.old.opening }
     requires key { is_sent_key key ≡ true }
-    requires greeted { Greeted [] core.old.journal 0 false link.old.child }
-    requires ready { IsReady core.old.journal link.old.child }
+    requires greeted { Greeted [] core.old.journal 0 false link.old.ear.child }
+    requires ready { IsReady core.old.journal link.old.ear.child }
     ensures done { IsDone key (Start 1 0 false) core.new.journal result }
-    ensures idle { open_jobs core.new.journal link.old.child ≡ [] }
-    ensures started { is_started core.new.journal link.old.child ≡ true }
-    ensures linked { IsLinked I.taken I.faults O.given O.left O.faults core.old.journal link.old → IsLinked I.taken I.faults O.given O.left O.faults core.new.journal link.new }
-    ensures child { link.new.child ≡ link.old.child }
-    ensures numbers { (I.number link.new.inlet ≡ I.number link.old.inlet) × (O.number link.new.outlet ≡ O.number link.old.outlet) }
-    ensures opening { core.new.opening ≡ core.old.opening }
-    ensures legal { Legal core.old.opening core.old.journal → Legal core.new.opening core.new.journal }
+    ensures idle { open_jobs core.new.journal link.old.ear.child ≡ [] }
+    ensures started { is_started core.new.journal link.old.ear.child ≡ true }
+    ensures link { KeepsLink core.old.journal core.new.journal link.old.ear link.new.ear link.old.mouth link.new.mouth }
+    ensures core { IsSameCore core.old core.new }
 {
     let child = link.child();
     if claim(core, child) {
@@ -121,17 +114,14 @@ fn do_task<I: Sink, O: Source>(link: &mut Lone<I, O>, core: &mut Core, key: Key)
 }
 
 // The answer is given, and the child is closed.
-fn end<I: Sink, O: Source>(link: &mut Lone<I, O>, core: &mut Core, answer: Answer)
+fn end<I: Sink, O: Source>(link: &Lone<I, O>, core: &mut Core, answer: Answer)
     requires done { (key : List ℕ) × (first : What) × IsDone key first core.old.journal answer }
-    requires idle { open_jobs core.old.journal link.old.child ≡ [] }
-    requires started { is_started core.old.journal link.old.child ≡ true }
-    requires number { link.old.child ≡ 1 }
+    requires idle { open_jobs core.old.journal link.now.ear.child ≡ [] }
+    requires started { is_started core.old.journal link.now.ear.child ≡ true }
+    requires number { link.now.ear.child ≡ 1 }
     ensures run { (key : List ℕ) (first : What) → IsDone key first core.old.journal answer → IsRun key first core.new.journal answer }
-    ensures linked { IsLinked I.taken I.faults O.given O.left O.faults core.old.journal link.old → IsLinked I.taken I.faults O.given O.left O.faults core.new.journal link.new }
-    ensures child { link.new.child ≡ link.old.child }
-    ensures numbers { (I.number link.new.inlet ≡ I.number link.old.inlet) × (O.number link.new.outlet ≡ O.number link.old.outlet) }
-    ensures opening { core.new.opening ≡ core.old.opening }
-    ensures legal { Legal core.old.opening core.old.journal → Legal core.new.opening core.new.journal }
+    ensures wired { LinkWired core.old.journal link.now.ear link.now.mouth → LinkWired core.new.journal link.now.ear link.now.mouth }
+    ensures core { IsSameCore core.old core.new }
 {
     give(core, answer);
     close_child(link, core);
@@ -141,14 +131,11 @@ fn end<I: Sink, O: Source>(link: &mut Lone<I, O>, core: &mut Core, answer: Answe
 pub(super) fn check<I: Sink, O: Source>(link: &mut Lone<I, O>, core: &mut Core, key: Key) -> Answer
     requires one { HasOneTask core.old.opening }
     requires key { is_sent_key key ≡ true }
-    requires greeted { Greeted [] core.old.journal 0 false link.old.child }
-    requires ready { IsReady core.old.journal link.old.child }
+    requires greeted { Greeted [] core.old.journal 0 false link.old.ear.child }
+    requires ready { IsReady core.old.journal link.old.ear.child }
     ensures run { IsRun key (Start 1 0 false) core.new.journal result }
-    ensures linked { IsLinked I.taken I.faults O.given O.left O.faults core.old.journal link.old → IsLinked I.taken I.faults O.given O.left O.faults core.new.journal link.new }
-    ensures child { link.new.child ≡ link.old.child }
-    ensures numbers { (I.number link.new.inlet ≡ I.number link.old.inlet) × (O.number link.new.outlet ≡ O.number link.old.outlet) }
-    ensures opening { core.new.opening ≡ core.old.opening }
-    ensures legal { Legal core.old.opening core.old.journal → Legal core.new.opening core.new.journal }
+    ensures link { KeepsLink core.old.journal core.new.journal link.old.ear link.new.ear link.old.mouth link.new.mouth }
+    ensures core { IsSameCore core.old core.new }
 {
     let answer = do_task(link, core, key);
     end(link, core, answer);
@@ -156,22 +143,15 @@ pub(super) fn check<I: Sink, O: Source>(link: &mut Lone<I, O>, core: &mut Core, 
 }
 
 /// The one task is answered for a child that isn't ready, which is closed.
-pub(super) fn answer_unready<I: Sink, O: Source>(
-    link: &mut Lone<I, O>,
-    core: &mut Core,
-    answer: Answer,
-)
+pub(super) fn answer_unready<I: Sink, O: Source>(link: &Lone<I, O>, core: &mut Core, answer: Answer)
     requires one { HasOneTask core.old.opening }
     requires unready { IsUnready core.old.journal answer }
-    requires idle { open_jobs core.old.journal link.old.child ≡ [] }
-    requires started { is_started core.old.journal link.old.child ≡ true }
-    requires number { link.old.child ≡ 1 }
+    requires idle { open_jobs core.old.journal link.now.ear.child ≡ [] }
+    requires started { is_started core.old.journal link.now.ear.child ≡ true }
+    requires number { link.now.ear.child ≡ 1 }
     ensures run { (key : List ℕ) → IsRun key (Start 1 0 false) core.new.journal answer }
-    ensures linked { IsLinked I.taken I.faults O.given O.left O.faults core.old.journal link.old → IsLinked I.taken I.faults O.given O.left O.faults core.new.journal link.new }
-    ensures child { link.new.child ≡ link.old.child }
-    ensures numbers { (I.number link.new.inlet ≡ I.number link.old.inlet) × (O.number link.new.outlet ≡ O.number link.old.outlet) }
-    ensures opening { core.new.opening ≡ core.old.opening }
-    ensures legal { Legal core.old.opening core.old.journal → Legal core.new.opening core.new.journal }
+    ensures wired { LinkWired core.old.journal link.now.ear link.now.mouth → LinkWired core.new.journal link.now.ear link.now.mouth }
+    ensures core { IsSameCore core.old core.new }
 {
     claim_alone(core);
     end(link, core, answer);
@@ -182,8 +162,7 @@ pub(super) fn not_started(core: &mut Core) -> Answer
     requires one { HasOneTask core.old.opening }
     requires failed { core.old.journal ≡ main_entry (NoStart 0) ∷ [] }
     ensures run { (key : List ℕ) → IsRun key (NoStart 0) core.new.journal result }
-    ensures opening { core.new.opening ≡ core.old.opening }
-    ensures legal { Legal core.new.opening core.new.journal }
+    ensures core { IsSameCore core.old core.new }
 {
     let answer = Answer::StartFault;
     claim_alone(core);

@@ -4,7 +4,8 @@ ghost use Rattle.ann_key.specs.KeyRefs.{text_of};
 ghost use Rattle.ann_outside.specs.Causes.{Rose};
 ghost use Rattle.annex_model.specs.Messages.{is_sent_key};
 ghost use Rattle.journal_model.specs.Legality.{Legal};
-ghost use Rattle.child_link.specs.Links.{IsLinked};
+ghost use Rattle.journal_model.specs.Halves.{LinkWired};
+ghost use Rattle.child_start.specs.Cores.{IsSameCore};
 ghost use Rattle.child_start.specs.Greetings.{AreNumbered};
 ghost use Rattle.special_cli.specs.Informs.{IsAsked, IsComplete};
 ghost use Rattle.special_cli.specs.Left.{wire_value, programs_value};
@@ -14,10 +15,10 @@ ghost use Rattle.special_cli.specs.Interviews.{Interviewed, IfOver, InterviewSta
 use crate::child::{close_child, finish};
 use ann_key::{KeyRef, NoMemory};
 use ann_outside::{Programs, Sink, Source};
-use child_link::{Lone, Wire};
 use child_start::{Greeting, Mode, greet};
 use host_core::Core;
 use info_run::ask_all;
+use link_roles::{Lone, Wire};
 use std::alloc::Global;
 
 // What became of a child that was to be asked about itself.
@@ -49,12 +50,11 @@ where
     requires legal { Legal core.old.opening core.old.journal }
     requires key { IfSome key (λ k. is_sent_key (text_of k) ≡ true) }
     ensures interviewed { Interviewed (option_map text_of key.entry) core.new.journal result }
-    ensures linked { IfOver (IsLinked P.Inlet.taken P.Inlet.faults P.Outlet.given P.Outlet.left P.Outlet.faults core.new.journal) result }
-    ensures numbers { IfOver (AreNumbered P.Inlet.number P.Outlet.number (P.starts programs.new)) result }
+    ensures wired { IfOver (LinkWired core.new.journal) result }
+    ensures numbers { IfOver (AreNumbered (P.starts programs.new)) result }
     ensures starts { InterviewStarts (P.starts programs.old) (P.starts programs.new) program.now result }
     ensures fault { result ≡ Interview.StartFault → Rose (P.faults programs.old) (P.faults programs.new) }
-    ensures opening { core.new.opening ≡ core.old.opening }
-    ensures legal { Legal core.new.opening core.new.journal }
+    ensures core { IsSameCore core.old core.new }
 {
     match greet(alloc, programs, program, core, 0, false, Mode::Serve) {
         Greeting::Ready {
@@ -110,16 +110,11 @@ where
     ensures asked { IsAsked (option_map text_of key.entry) core.new.journal }
     ensures complete { IfOk result (λ _. IsComplete (option_map text_of key.entry) core.new.journal) }
     ensures leaves { Leaves (IsErr result) program.now core.new.journal (programs_value (P.starts programs.old) (P.faults programs.old)) (programs_value (P.starts programs.new) (P.faults programs.new)) (map (wire_value P.Inlet.taken P.Inlet.faults P.Inlet.number P.Inlet.is_open P.Outlet.given P.Outlet.left P.Outlet.faults P.Outlet.number P.Outlet.is_open) wires.new.items) }
-    ensures opening { core.new.opening ≡ core.old.opening }
-    ensures legal { Legal core.new.opening core.new.journal }
+    ensures core { IsSameCore core.old core.new }
 {
     match hold_interview(alloc, program, key, programs, core) {
-        Interview::Over {
-            mut link,
-            stub,
-            asked,
-        } => {
-            close_child(&mut link, core);
+        Interview::Over { link, stub, asked } => {
+            close_child(&link, core);
             finish(programs, link, stub, wires);
             asked
         }

@@ -18,13 +18,13 @@ end-requires-clause-done g c =
 
 pub end-requires-clause-idle : goal.end-requires-clause-idle
 end-requires-clause-idle g c =
-    ap (λ (j : List Entry). open_jobs j c.args.link.now.child) c.claim_alone.ensures.claimed
-    ∙ idle_on c.args.core.now.journal (main_entry (Claim 1 0) ∷ []) c.args.link.now.child refl c.requires.idle
+    ap (λ (j : List Entry). open_jobs j c.args.link.now.ear.child) c.claim_alone.ensures.claimed
+    ∙ idle_on c.args.core.now.journal (main_entry (Claim 1 0) ∷ []) c.args.link.now.ear.child refl c.requires.idle
 
 pub returns-clause-run : goal.returns-clause-run
 returns-clause-run g c = λ key.
     c.end.ensures.run key (Start 1 0 false) (done_alone key (Start 1 0 false) c.args.core.now.journal c.claim_alone.new.core.journal c.args.answer c.requires.unready.begun c.claim_alone.ensures.claimed (inr c.requires.unready.why))
 
-pub returns-clause-linked : goal.returns-clause-linked
-returns-clause-linked g c = λ before.
-    c.end.ensures.linked (links_claim g.I.Sink.taken g.I.Sink.faults g.O.Source.given g.O.Source.left g.O.Source.faults c.args.core.now.journal c.claim_alone.new.core.journal c.args.link.now 1 0 c.claim_alone.ensures.claimed before)
+pub returns-clause-wired : goal.returns-clause-wired
+returns-clause-wired g c = λ before.
+    c.end.ensures.wired (links_claim c.args.core.now.journal c.claim_alone.new.core.journal c.args.link.now.ear c.args.link.now.mouth 1 0 c.claim_alone.ensures.claimed before)

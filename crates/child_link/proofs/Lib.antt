@@ -1,5 +1,0 @@
-pub mod Firsts
-pub mod Replying
-pub mod Turning
-pub mod Versions
-pub mod Asking

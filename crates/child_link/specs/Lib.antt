@@ -1,8 +1,0 @@
-pub mod Asks
-pub mod Doors
-pub mod Events
-pub mod Fills
-pub mod Firsts
-pub mod Links
-pub mod Replies
-pub mod Turns
