@@ -18,7 +18,6 @@ use Rattle.journal_model.proofs.Heard.{heard_on}
 use Rattle.host_core.specs.Steps.{may_answer}
 use Rattle.task_run.specs.TaskRuns.{Asking, ChildZero, CheckOver, CheckRun}
 use Rattle.task_run.proofs.Askings.{asks_for, askings-unasked}
-use Rattle.journal_model.specs.Shares.{is_heard, is_said}
 use Rattle.journal_model.specs.Halves.{EarValue, MouthValue, LinkWired}
 use Rattle.journal_model.proofs.Ears.{ear_apart}
 use Rattle.journal_model.proofs.Mouths.{mouth_apart}

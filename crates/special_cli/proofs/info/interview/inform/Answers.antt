@@ -1,4 +1,4 @@
-use Rattle.std.proofs.Common.{◌∙◌, map, ap, refl}
+use Rattle.std.proofs.Common.{map, ap, refl}
 use Rattle.std.specs.Prelude.{option_map}
 use Rattle.ann_key.specs.KeyRefs.{text_of}
 use Rattle.special_cli.specs.Endings.{starts_in}
