@@ -1,0 +1,4 @@
+pub mod Claiming
+pub mod Running
+pub mod Working
+pub mod Turning

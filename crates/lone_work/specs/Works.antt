@@ -1,0 +1,140 @@
+-- How a worker stands between two tasks and in one, and what it leaves.
+use Rattle.std.specs.Prelude.{ℕ, ◌≡◌, ◌<◌, ◌==◌, ◌&&◌, not, Bool, true, false, List, [], ◌∷◌, ◌++◌, map, Option, Some, None, Ok}
+use Rattle.std.specs.List.{list_all}
+use Rattle.task_text.specs.declared.task.Task.{Task}
+use Rattle.task_text.specs.TaskLines.{IsTask}
+use Rattle.ann_outside.specs.Calls.{Gained}
+use Rattle.ann_outside.specs.DeskCauses.{Counts}
+use Rattle.ann_outside.specs.declared.file_desk.Call.{Call}
+use Rattle.journal_model.specs.declared.answer.Answer.{Answer}
+use Rattle.journal_model.specs.declared.entry.What.{What}
+use Rattle.journal_model.specs.declared.entry.What.TheVariants.{Claim, Ask, Lost, Answer as Answered, Note}
+use Rattle.journal_model.specs.declared.entry.Entry.{Entry}
+use Rattle.journal_model.specs.declared.opening.Opening.{Opening}
+use Rattle.journal_model.specs.Journal.{any, each_of, is_started, open_jobs}
+use Rattle.journal_model.specs.Legality.{Legal, is_busy, is_prepared, least_free, numbers_of}
+use Rattle.journal_model.specs.Makers.{is_of_task}
+use Rattle.journal_model.specs.Output.{answers_in}
+use Rattle.journal_model.specs.Shares.{are_by, by_link, makes_only}
+use Rattle.host_core.specs.declared.event.Reply.{Reply}
+use Rattle.host_core.specs.declared.event.Reply.TheVariants.{Task as TaskReply}
+use Rattle.host_core.specs.Steps.{is_gone}
+use Rattle.door_asker.specs.Servings.{Serves, by_server}
+use Rattle.gathering.specs.Tasks.{IsThrough}
+use Rattle.task_run.specs.declared.setup.Setup.{Setup}
+use Rattle.task_run.specs.Ran.{HasTaskCauses}
+use Rattle.task_rounds.specs.JournalRuns.{PlainRun}
+
+-- ---- between two tasks
+
+-- the child was got ready and has no open job, and no task is busy
+pub record CanWork (o : Opening) (c : ℕ) (seen : List Entry) : Type 0 where
+  pub legal : Legal o seen
+  pub number : 0 < c
+  pub started : is_started seen c ≡ true
+  pub prepared : is_prepared seen c ≡ true
+  pub idle : open_jobs seen c ≡ []
+  pub rest : (t : ℕ) → is_busy seen t ≡ false
+
+-- each task is one that some line spells
+abbrev pub AreTasks : List Task → Type 0
+AreTasks [] = Unit {0}
+AreTasks (task ∷ more) = IsTask task × AreTasks more
+
+-- ---- a claim
+
+-- the task that the core claimed
+abbrev pub task_in : Reply → Option ℕ
+task_in (TaskReply task) = Some task
+task_in reply = None
+
+-- the task was just claimed for the child, by a number that could work, and nothing else was made of it
+pub record Begun (o : Opening) (number c t : ℕ) (seen : List Entry) : Type 0 where
+  pub past : List Entry
+  pub is : seen ≡ past ++ record { by = number; what = Claim t c } ∷ []
+  pub could : CanWork o c past
+  pub least : least_free o past ≡ Some t
+  pub fresh : any (is_of_task t) past ≡ false
+  pub serves : Serves o number true c t seen
+
+-- the least free task was claimed; or nothing was done, and there is nothing more to do for the child
+abbrev pub ClaimsNext : Opening → ℕ → ℕ → List Entry → List Entry → Option ℕ → Type 0
+ClaimsNext o number c old new (Some t) = (b : Begun o number c t new) × (b.past ≡ old)
+ClaimsNext o number c old new None = (new ≡ old) × IsThrough o old c
+
+-- ---- what was done
+
+-- what a desk tells that a worker may change: its log, and its counts
+pub record DeskTells : Type 0 where
+  pub log : Option (List Call)
+  pub counts : Counts
+
+abbrev pub desk_tells : Option (List Call) → Counts → DeskTells
+desk_tells log counts = record { log = log; counts = counts }
+
+-- a task, the calls of its desk, its answer, and the desk's counts then
+pub record TaskDone : Type 0 where
+  pub task : ℕ
+  pub calls : List Call
+  pub answer : Answer
+  pub counts : Counts
+
+abbrev pub claimed_task : What → Option ℕ
+claimed_task (Claim task child) = Some task
+claimed_task w = None
+
+-- the tasks that the entries claim, in order
+abbrev pub claims_in : List Entry → List ℕ
+claims_in entries = each_of claimed_task entries
+
+-- what a worker of c makes: claims for it, requests of tasks, notes and answers, and what its link does
+abbrev pub by_worker : ℕ → What → Bool
+by_worker c (Claim task child) = child == c
+by_worker c (Ask child job task line) = child == c && not (task == 0)
+by_worker c (Lost child task) = child == c && not (task == 0)
+by_worker c (Note task chunk count) = true
+by_worker c (Answered task answer) = true
+by_worker c w = by_link c w
+
+-- the journal has a run of each of the tasks, with these calls
+abbrev pub AllRan : Opening → Setup → ℕ → List Entry → List TaskDone → Type 0
+AllRan o setup number journal [] = Unit {0}
+AllRan o setup number journal (r ∷ rs) = PlainRun o setup r.calls number r.task journal × AllRan o setup number journal rs
+
+-- the calls of the tasks, one task behind the other
+abbrev pub all_calls : List TaskDone → List Call
+all_calls [] = []
+all_calls (r ∷ rs) = r.calls ++ all_calls rs
+
+-- from one task to the next the desk's counts have their causes
+abbrev pub CausedInTurn : Counts → List TaskDone → Counts → Type 0
+CausedInTurn old [] new = new ≡ old
+CausedInTurn old (r ∷ rs) new = HasTaskCauses old r.counts (Ok r.answer) × CausedInTurn r.counts rs new
+
+-- The journal has grown by what a worker of c makes, by this number. Each task that was claimed was run and then answered so,
+-- in turn, and the desk made the calls of these runs, in their order, and no others.
+pub record Worked (o : Opening) (setup : Setup) (number c : ℕ) (old new : List Entry) (desk desk' : DeskTells) : Type 0 where
+  pub more : List Entry
+  pub is : new ≡ old ++ more
+  pub only : list_all (λ e. by_worker c e.what) more ≡ true
+  pub own : are_by number more ≡ true
+  pub done : List TaskDone
+  pub claimed : map (λ r. r.task) done ≡ claims_in more
+  pub answered : map (λ r. (r.task, r.answer)) done ≡ answers_in more
+  pub ran : AllRan o setup number new done
+  pub log_is : Gained desk.log desk'.log (all_calls done)
+  pub caused : CausedInTurn desk.counts done desk'.counts
+
+-- ---- one task
+
+-- the task was asked and noted for, and then answered as it ran
+pub record Does (o : Opening) (setup : Setup) (number c t : ℕ) (old new : List Entry) (desk desk' : DeskTells) : Type 0 where
+  pub within : List Entry
+  pub answer : Answer
+  pub calls : List Call
+  pub is : new ≡ (old ++ within) ++ record { by = number; what = Answered t answer } ∷ []
+  pub only : makes_only (by_server c t) number within ≡ true
+  pub own : are_by number within ≡ true
+  pub run : PlainRun o setup calls number t new
+  pub log_is : Gained desk.log desk'.log calls
+  pub caused : HasTaskCauses desk.counts desk'.counts (Ok answer)

@@ -1,0 +1,93 @@
+// One task that was claimed: it is run over the child's link, and answered.
+ghost use Rattle.std.specs.Prelude.{◌≡◌, ◌≤◌, ◌<◌, ◌-◌, [], Some, true, false, length, slice_get};
+ghost use Rattle.annex_model.specs.Lines.{has_newline};
+ghost use Rattle.task_text.specs.TaskLines.{IsTask};
+ghost use Rattle.journal_model.specs.Halves.{LinkWired};
+ghost use Rattle.task_run.specs.Askings.{askings};
+ghost use Rattle.task_run.specs.Ran.{Ran, HasTaskCauses, answered};
+ghost use Rattle.link_roles.specs.Doors.{IsSameDoor};
+ghost use Rattle.link_roles.specs.Moves.{IsSameLink};
+ghost use Rattle.link_roles.specs.Alone.{KeepsLink};
+ghost use Rattle.door_asker.specs.AtTasks.{notings};
+ghost use Rattle.door_asker.specs.Servings.{Serves, ServesOn};
+ghost use Rattle.lone_work.specs.Works.{AreTasks, Begun, CanWork, Does, desk_tells};
+
+use crate::events::give;
+use ann_key::NoMemory;
+use ann_outside::{Desk, Sink, Source};
+use door_asker::LoneAsker;
+use journal_model::Answer;
+use link_roles::{Door, Lone};
+use std::alloc::Global;
+use task_run::{Setup, run_task};
+use task_text::Task;
+
+// The task of that number, counted from 1.
+fn task_at(tasks: &[Task], number: u32) -> &Task
+    requires { (0 < number) × (number ≤ length tasks.now) }
+    ensures { slice_get tasks.now (number - 1) ≡ Some result.now }
+{
+    &tasks[number as usize - 1]
+}
+
+// Want of memory is an answer as well.
+fn answer_of(outcome: Result<Answer, NoMemory>) -> Answer
+    ensures { result ≡ answered outcome }
+{
+    match outcome {
+        Ok(answer) => answer,
+        Err(NoMemory) => Answer::Memory,
+    }
+}
+
+// Runs the task over the link.
+fn run_over<I: Sink, O: Source, D: Door, K: Desk>(
+    alloc: Global,
+    task: &Task,
+    number: u32,
+    setup: &Setup,
+    link: &mut Lone<I, O>,
+    door: &mut D,
+    desk: &mut K,
+) -> Result<Answer, NoMemory>
+    requires task { IsTask task.now }
+    requires setup { (has_newline setup.now.work ≡ false) × (setup.now.chunk ≡ 0) }
+    requires serves { Serves (D.opening door.old) (D.number door.old) (D.alone door.old) link.old.ear.child number (D.seen door.old) }
+    ensures ran { Ran task.now number setup.now [] (askings (D.seen door.old) number) (askings (D.seen door.new) number) (notings (D.seen door.old) number) (notings (D.seen door.new) number) (K.log desk.old) (K.log desk.new) result }
+    ensures causes { HasTaskCauses (K.counts desk.old) (K.counts desk.new) result }
+    ensures on { ServesOn (D.opening door.old) (D.number door.old) (D.alone door.old) link.old.ear.child number (D.seen door.old) (D.seen door.new)
+        (LinkWired (D.seen door.old) link.old.ear link.old.mouth) (LinkWired (D.seen door.new) link.new.ear link.new.mouth) }
+    ensures same { IsSameLink link.old.ear link.new.ear link.old.mouth link.new.mouth }
+    ensures door { IsSameDoor D.opening D.number D.seen D.alone D.loans D.home door.old door.new }
+{
+    let mut asker = LoneAsker {
+        link,
+        door,
+        task: number,
+    };
+    run_task(alloc, task, number, setup, &mut asker, desk)
+}
+
+/// Runs a task that was just claimed for the link's child, and answers it.
+pub(crate) fn do_task<I: Sink, O: Source, D: Door, K: Desk>(
+    alloc: Global,
+    tasks: &[Task],
+    number: u32,
+    setup: &Setup,
+    link: &mut Lone<I, O>,
+    door: &mut D,
+    desk: &mut K,
+)
+    requires alone { D.alone door.old ≡ true }
+    requires tasks { ((D.opening door.old).tasks ≡ tasks.now) × AreTasks tasks.now }
+    requires setup { (has_newline setup.now.work ≡ false) × (setup.now.chunk ≡ 0) }
+    requires begun { Begun (D.opening door.old) (D.number door.old) link.old.ear.child number (D.seen door.old) }
+    ensures does { Does (D.opening door.old) setup.now (D.number door.old) link.old.ear.child number (D.seen door.old) (D.seen door.new) (desk_tells (K.log desk.old) (K.counts desk.old)) (desk_tells (K.log desk.new) (K.counts desk.new)) }
+    ensures can { CanWork (D.opening door.new) link.new.ear.child (D.seen door.new) }
+    ensures link { KeepsLink (D.seen door.old) (D.seen door.new) link.old.ear link.new.ear link.old.mouth link.new.mouth }
+    ensures door { IsSameDoor D.opening D.number D.seen D.alone D.loans D.home door.old door.new }
+{
+    let task = task_at(tasks, number);
+    let outcome = run_over(alloc, task, number, setup, link, door, desk);
+    give(door, number, answer_of(outcome));
+}
