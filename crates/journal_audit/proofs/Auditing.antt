@@ -1,12 +1,12 @@
 -- What an audit finds.
-use Rattle.std.proofs.Common.{◌≡◌, Bool, true, false, ℕ, zero, suc, List, [], ◌∷◌, ◌++◌, ◌+◌, ◌<◌, refl, sym, ap, subst, ◌∙◌, Some, arith, inl, inr, length, take, drop, slice_get, get_or, add-one, None}
+use Rattle.std.proofs.Common.{◌≡◌, Bool, true, false, ℕ, zero, suc, List, [], ◌∷◌, ◌++◌, ◌+◌, ◌<◌, ◌≤◌, refl, sym, ap, subst, ◌∙◌, Some, arith, inl, inr, length, append-nil, take, drop, slice_get, get_or, add-one, None}
 use Rattle.std.proofs.Math.Nat.{lt_of_not-le}
 use Rattle.std.proofs.Math.Seq.{take-suc}
-use Rattle.std.proofs.lemmas.List.{length-take-le}
+use Rattle.std.proofs.lemmas.List.{length-append, length-take-le, take_all}
 use Rattle.std.proofs.lemmas.Option.{slice_get_read}
 use Rattle.journal_model.specs.declared.entry.Entry.{Entry}
 use Rattle.journal_model.specs.declared.opening.Opening.{Opening}
-use Rattle.journal_model.specs.Legality.{Legal as IsLegal, FirstWrong, kind_of, StandsFrom, MayStand, owed_after}
+use Rattle.journal_model.specs.Legality.{Legal as IsLegal, FirstWrong, Unfinished, kind_of, StandsFrom, MayStand, owed_after}
 use Rattle.journal_model.proofs.Growing.{StandsFrom-split}
 use Rattle.journal_audit.specs.declared.found.Audit.{Audit}
 use Rattle.journal_audit.specs.declared.found.Audit.TheVariants.{Legal, Wrong}
@@ -113,3 +113,23 @@ pub some_there : (xs : List Entry) (at : ℕ) → at < length xs → None ≡ sl
 some_there [] at less h = let no : ⊥ = omega (arith, less) in no
 some_there (x ∷ xs) zero less h = cc
 some_there (x ∷ xs) (suc at) less h = some_there xs at (omega (arith, less)) h
+
+-- ---- at the end
+
+none_left : (xs : List Entry) → length xs ≡ 0 → xs ≡ []
+none_left [] h = refl
+none_left (x ∷ xs) h = absurd (let no : ⊥ = omega (arith, h) in no)
+
+pub legal_end : (o : Opening) (journal made : List Entry) → IsReplayed o journal made → length made ≡ length journal → IsLegal o journal
+legal_end o journal made r same =
+    let long : length made ≡ length journal + length (owed_after o journal) = ap length r.whole ∙ length-append journal (owed_after o journal) in
+    record { stands = r.stands; nothing_due = none_left (owed_after o journal) (omega (arith, long, same)) }
+
+pub due_end : (o : Opening) (journal made : List Entry) → IsReplayed o journal made → (length made ≡ length journal → ⊥) → Unfinished o journal
+due_end o journal made r more = record {
+  stands = r.stands;
+  due = λ none. more (ap length (r.whole ∙ ap (λ (es : List Entry). journal ++ es) none ∙ append-nil journal));
+}
+
+pub replayed_whole : (o : Opening) (items made : List Entry) (at : ℕ) → length items ≤ at → IsReplayed o (take at items) made → IsReplayed o items made
+replayed_whole o items made at long r = subst (λ (p : List Entry). IsReplayed o p made) (take_all at items long) r

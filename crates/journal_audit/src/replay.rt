@@ -51,6 +51,22 @@ fn may_stand(alloc: Global, core: &mut Core, at: u64, entry: EntryRef<'_>) -> Re
     Ok(is_at(core.journal(), at, entry))
 }
 
+/// What is found of a journal that the core has made again whole, with what is due at its end.
+#[tactic(auto, using(crate::proofs::Auditing::legal_end, crate::proofs::Auditing::due_end))]
+fn found_at_end(opening: &Opening, core: &Core, journal: &Journal) -> Audit
+    requires { IsReplayed opening.now journal.now.entries core.now.journal }
+    ensures { IsAudit opening.now journal.now.entries result }
+{
+    if core.journal().len() == journal.len() {
+        Audit::Legal
+    } else {
+        Audit::Wrong {
+            entry: journal.len(),
+            kind: 0,
+        }
+    }
+}
+
 /// What is found of the journal of a run that began so. It is plain and slow: for each entry it goes through all that stand
 /// before it, more than once. It takes memory for a copy of the opening and of the journal.
 pub fn audit(alloc: Global, opening: &Opening, journal: &Journal) -> Result<Audit, NoMemory>
@@ -69,12 +85,5 @@ pub fn audit(alloc: Global, opening: &Opening, journal: &Journal) -> Result<Audi
             });
         }
     }
-    if core.journal().len() == journal.len() {
-        Ok(Audit::Legal)
-    } else {
-        Ok(Audit::Wrong {
-            entry: journal.len(),
-            kind: 0,
-        })
-    }
+    Ok(found_at_end(opening, &core, journal))
 }

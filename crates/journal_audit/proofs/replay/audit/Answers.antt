@@ -1,12 +1,16 @@
 use Rattle.std.proofs.Common.{◌∙◌, ◌<◌, List, length, refl, true, false, arith}
 use Rattle.journal_model.specs.declared.entry.Entry.{Entry}
 use Rattle.journal_look.specs.Shown.{entry_shown}
-use Rattle.journal_audit.proofs.Auditing.{next_here, wrong_here, replayed_more, read_there, some_there}
+use Rattle.journal_audit.proofs.Auditing.{next_here, wrong_here, replayed_more, replayed_whole, read_there, some_there}
 use Rattle.journal_audit.proofs.replay.audit.Goals as goal
 
 pub unreachable-requires : goal.unreachable-requires
 unreachable-requires c =
     some_there c.args.journal.now.entries c.loop-at.at (omega (arith, c.loop-at-test.true, c.len-at-end.ensures)) c.in_default.ensures
+
+pub found_at_end-requires : goal.found_at_end-requires
+found_at_end-requires c =
+    replayed_whole c.args.opening.now c.args.journal.now.entries c.loop-at.core.journal c.loop-at.at (omega (arith, c.loop-at-test.false, c.len-at-end.ensures)) c.loop-at.invariant.replayed
 
 pub returns-then-not-branch : goal.returns-then-not-branch
 returns-then-not-branch c =
