@@ -2,3 +2,4 @@ pub mod Firsts
 pub mod Parted
 pub mod Written
 pub mod FirstItem
+pub mod Marking

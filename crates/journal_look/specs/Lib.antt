@@ -1,3 +1,4 @@
 pub mod JournalValue
 pub mod Shown
 pub mod Looks
+pub mod Marks

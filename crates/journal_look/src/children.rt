@@ -1,9 +1,10 @@
 // What the journal says of a child and of its jobs: one function for each definition, over the flat list of entries.
-ghost use Rattle.std.specs.Prelude.{◌≡◌, ◌==◌, not, find, option_copied, length, IfOk};
+ghost use Rattle.std.specs.Prelude.{◌≡◌, ◌≤◌, ◌==◌, not, drop, filter, find, option_copied, length, IfOk};
 ghost use Rattle.std.specs.List.{list_any};
 ghost use Rattle.journal_model.specs.Journal.{starts, ends, mutes, got_from, sends, settles, asks, offers, verdict_in, end_why, first_of, each_of, any, is_started, is_ended, is_mute, is_live, has_spoken, asked_jobs, is_settled, open_jobs, is_open, verdict_of, why_of};
 ghost use Rattle.journal_model.specs.Legality.{count, is_start, is_empty};
 ghost use Rattle.journal_look.specs.Looks.{is_no_start};
+ghost use Rattle.journal_look.specs.Marks.{AreSettled};
 
 use journal_model::{Entry, Verdict, What, Why};
 
@@ -181,37 +182,55 @@ pub(super) fn is_settled(entries: &[Entry], child: u32, job: u64) -> bool
     entries.iter().any(|e| settles(&e.what, child, job))
 }
 
-/// Whether the job was asked and is not settled.
-pub(super) fn is_open(entries: &[Entry], child: u32, job: u64) -> bool
-    ensures { result ≡ is_open entries.now child job }
+/// What stands behind the first entries, so many.
+fn behind(entries: &[Entry], settled: usize) -> &[Entry]
+    requires { settled ≤ length entries.now }
+    ensures { result.now ≡ drop settled entries.entry.now }
 {
-    entries
-        .iter()
+    &entries[settled..]
+}
+
+fn any_open(entries: &[Entry], rest: &[Entry], child: u32, job: u64) -> bool
+    ensures { result ≡ list_any (λ k. k == job) (filter (λ j. not (is_settled entries.now child j)) (asked_jobs rest.now child)) }
+{
+    rest.iter()
         .filter_map(|e| asks(&e.what, child))
         .filter(|k| !is_settled(entries, child, *k))
         .any(|k| k == job)
 }
 
-fn find_open(entries: &[Entry], child: u32) -> Option<u64>
-    ensures { result ≡ find (λ j. not (is_settled entries.now child j)) (asked_jobs entries.now child) }
+fn find_open(entries: &[Entry], rest: &[Entry], child: u32) -> Option<u64>
+    ensures { result ≡ find (λ j. not (is_settled entries.now child j)) (asked_jobs rest.now child) }
 {
-    entries
-        .iter()
+    rest.iter()
         .filter_map(|e| asks(&e.what, child))
         .find(|k| !is_settled(entries, child, *k))
 }
 
-/// The first of the child's open jobs, in rising order.
-pub(super) fn first_open(entries: &[Entry], child: u32) -> Option<u64>
-    ensures { result ≡ first_of (open_jobs entries.now child) }
+/// Whether the job was asked and is not settled. The first entries, so many, ask only jobs that are.
+pub(super) fn is_open(entries: &[Entry], settled: usize, child: u32, job: u64) -> bool
+    requires bound { settled ≤ length entries.now }
+    requires settled { AreSettled entries.now settled }
+    ensures { result ≡ is_open entries.now child job }
 {
-    find_open(entries, child)
+    any_open(entries, behind(entries, settled), child, job)
 }
 
-pub(super) fn has_no_open_job(entries: &[Entry], child: u32) -> bool
+/// The first of the child's open jobs, in rising order.
+pub(super) fn first_open(entries: &[Entry], settled: usize, child: u32) -> Option<u64>
+    requires bound { settled ≤ length entries.now }
+    requires settled { AreSettled entries.now settled }
+    ensures { result ≡ first_of (open_jobs entries.now child) }
+{
+    find_open(entries, behind(entries, settled), child)
+}
+
+pub(super) fn has_no_open_job(entries: &[Entry], settled: usize, child: u32) -> bool
+    requires bound { settled ≤ length entries.now }
+    requires settled { AreSettled entries.now settled }
     ensures { result ≡ is_empty (open_jobs entries.now child) }
 {
-    first_open(entries, child).is_none()
+    first_open(entries, settled, child).is_none()
 }
 
 fn find_verdict(entries: &[Entry], child: u32, job: u64) -> Option<&Entry>

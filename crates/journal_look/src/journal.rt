@@ -1,32 +1,39 @@
 // The journal as a store: it lends its entries, and takes more within room that was taken before.
-ghost use Rattle.std.specs.Prelude.{◌≡◌, ◌+◌, ◌<◌, ◌^◌, ◌++◌, ◌∷◌, [], slice_get, option_map, length, OnOk, OnErr, IsOk, vec_len};
+ghost use Rattle.std.specs.Prelude.{◌≡◌, ◌+◌, ◌<◌, ◌≤◌, ◌^◌, ◌++◌, ◌∷◌, [], slice_get, option_map, length, OnOk, OnErr, IsOk, vec_len};
 ghost use Rattle.journal_look.specs.Shown.{entry_shown};
 
 use crate::entry::{EntryRef, entry_of};
+use crate::marks::{claimed_from, settled_from};
 use ann_key::NoMemory;
-use journal_model::Entry;
+use journal_model::{Entry, What};
 use std::alloc::Global;
 use std::marker::Model;
 
-/// A journal: contracts see its entries, and for how many in all it has room.
+/// A journal: contracts see its entries, and for how many in all it has room. It marks how many of its first entries ask only
+/// jobs that are settled, and below which number each task is claimed.
 #[derive(Drop)]
 pub struct Journal {
     entries: Vec<Entry>,
     room: usize,
+    settled: usize,
+    claimed: u32,
 }
 
 impl Model for Journal {
-    ghost use Rattle.std.specs.Prelude.{◌≤◌, vec_capacity};
+    ghost use Rattle.std.specs.Prelude.{◌≤◌, ◌<◌, length, vec_capacity};
     ghost use Rattle.journal_look.specs.JournalValue.{JournalValue};
+    ghost use Rattle.journal_look.specs.Marks.{AreClaimed, AreSettled};
 
     ghost Value = { JournalValue };
 
     ghost view = { λ j. record { entries = j.entries.items; room = j.room } };
 
-    ghost invariant = { λ j. j.room ≤ vec_capacity j.entries };
+    ghost invariant = { λ j. (j.room ≤ vec_capacity j.entries) × (j.settled ≤ length j.entries.items) × AreSettled j.entries.items j.settled × (0 < j.claimed) × AreClaimed j.entries.items j.claimed };
 }
 
 impl Journal {
+    ghost use Rattle.journal_look.specs.Marks.{AreClaimed, AreSettled};
+
     /// A journal without entries, and without room. It takes no memory.
     pub fn new(alloc: Global) -> Journal
         ensures { result ≡ record { entries = []; room = 0 } }
@@ -34,6 +41,8 @@ impl Journal {
         Journal {
             entries: Vec::new(alloc),
             room: 0,
+            settled: 0,
+            claimed: 1,
         }
     }
 
@@ -42,7 +51,12 @@ impl Journal {
         ensures { result ≡ record { entries = entries.items; room = vec_len entries } }
     {
         let room = entries.len();
-        Journal { entries, room }
+        Journal {
+            entries,
+            room,
+            settled: 0,
+            claimed: 1,
+        }
     }
 
     /// How many entries there are.
@@ -84,14 +98,23 @@ impl Journal {
     }
 
     /// Appends the entry, for which there is room. It takes no memory.
+    #[tactic(auto, using(crate::proofs::Marking::settled_more, crate::proofs::Marking::claimed_more))]
     pub fn push(&mut self, entry: Entry)
         requires { length self.old.entries < self.old.room }
         ensures entries { self.new.entries ≡ self.old.entries ++ entry ∷ [] }
         ensures room { self.new.room ≡ self.old.room }
     {
+        let settles = matches!(entry.what, What::Verdict { .. });
+        let claims = matches!(entry.what, What::Claim { .. });
         match self.entries.push(entry) {
             Ok(()) => {}
             Err(_) => unreachable!(),
+        }
+        if settles {
+            self.settled = settled_from(self.entries.as_slice(), self.settled);
+        }
+        if claims {
+            self.claimed = claimed_from(self.entries.as_slice(), self.claimed);
         }
     }
 
@@ -100,5 +123,21 @@ impl Journal {
         ensures { result.now ≡ self.now.entries }
     {
         self.entries.as_slice()
+    }
+
+    // How many of the first entries ask only jobs that are settled.
+    pub(crate) fn settled(&self) -> usize
+        ensures bound { result ≤ length self.now.entries }
+        ensures settled { AreSettled self.now.entries result }
+    {
+        self.settled
+    }
+
+    // A task below which each is claimed.
+    pub(crate) fn claimed(&self) -> u32
+        ensures some { 0 < result }
+        ensures claimed { AreClaimed self.now.entries result }
+    {
+        self.claimed
     }
 }

@@ -7,6 +7,7 @@ mod entry;
 mod journal;
 mod lines;
 mod looks;
+mod marks;
 mod talks;
 mod tasks;
 

@@ -1,5 +1,5 @@
 // What the lines of the journal say: the greeting, tags, and what is still to be written.
-ghost use Rattle.std.specs.Prelude.{◌≡◌, ◌==◌, slice_get, filter, length, find, option_copied, option_map, IfOk, bytes_eq, codes, drop, nat_le};
+ghost use Rattle.std.specs.Prelude.{◌≡◌, ◌≤◌, ◌==◌, slice_get, filter, length, find, option_copied, option_map, IfOk, bytes_eq, codes, drop, nat_le};
 ghost use Rattle.std.specs.List.{list_any, slice_split};
 ghost use Rattle.annex_model.specs.Messages.{remote_reading, is_space};
 ghost use Rattle.annex_model.specs.Tags.{names_async, untag, without_tag};
@@ -7,6 +7,7 @@ ghost use Rattle.journal_model.specs.Limits.{most_line_bytes};
 ghost use Rattle.journal_model.specs.Journal.{any, each_of, first_of, line_at, is_tagged, accepts_async, addressed, by_tag, on_wire, sends, unsent, is_unsent, is_job, got_from, line_bytes, bytes_in, is_full};
 ghost use Rattle.journal_model.specs.Due.{is_version_one};
 ghost use Rattle.journal_model.specs.Legality.{said_version, asks_prepare, prepares, is_prepared, is_greeted, is_empty, may_ask, is_done};
+ghost use Rattle.journal_look.specs.Marks.{AreSettled};
 ghost use Rattle.journal_look.specs.Looks.{written_to, got_line, is_written, hosts_line};
 
 use crate::talks::hosts_line;
@@ -135,15 +136,30 @@ fn by_tag(line: &[u8]) -> (Option<u64>, &[u8])
 /// The job that the line is for, and its text without the tag.
 pub(super) fn addressed<'a>(
     entries: &[Entry],
+    settled: usize,
     child: u32,
     line: &'a [u8],
 ) -> (Option<u64>, &'a [u8])
+    requires bound { settled ≤ length entries.now }
+    requires settled { AreSettled entries.now settled }
     ensures { (result.0, result.1.now) ≡ addressed entries.now child line.entry.now }
 {
     if is_tagged(entries, child) {
         by_tag(line)
     } else {
-        (children::first_open(entries, child), line)
+        (children::first_open(entries, settled, child), line)
+    }
+}
+
+/// The line's text without the tag.
+pub(super) fn text_of<'a>(entries: &[Entry], child: u32, line: &'a [u8]) -> &'a [u8]
+    ensures { result.now ≡ (addressed entries.now child line.entry.now).1 }
+{
+    if is_tagged(entries, child) {
+        let (_, text) = by_tag(line);
+        text
+    } else {
+        line
     }
 }
 
@@ -250,12 +266,14 @@ fn is_greeted(entries: &[Entry], child: u32, job: u64) -> bool
 }
 
 /// Whether some request may be asked as the child's next job, but for its end or mute.
-pub(super) fn may_ask(entries: &[Entry], by: u32, task: u32, child: u32) -> bool
+pub(super) fn may_ask(entries: &[Entry], settled: usize, by: u32, task: u32, child: u32) -> bool
+    requires bound { settled ≤ length entries.now }
+    requires settled { AreSettled entries.now settled }
     ensures { result ≡ may_ask entries.now by task child }
 {
     is_greeted(entries, child, children::next_job(entries, child) as u64)
-        && tasks::may_work(entries, by, task, child)
-        && (is_tagged(entries, child) || children::has_no_open_job(entries, child))
+        && tasks::may_work(entries, settled, by, task, child)
+        && (is_tagged(entries, child) || children::has_no_open_job(entries, settled, child))
 }
 
 fn sends(what: &What, c: u32) -> bool

@@ -106,14 +106,14 @@ pub fn is_asked(journal: &Journal, child: u32, job: u64) -> bool
 pub fn is_open(journal: &Journal, child: u32, job: u64) -> bool
     ensures { result ≡ is_open journal.now.entries child job }
 {
-    children::is_open(journal.entries(), child, job)
+    children::is_open(journal.entries(), journal.settled(), child, job)
 }
 
 /// Whether each job of the child is settled.
 pub fn has_no_open_job(journal: &Journal, child: u32) -> bool
     ensures { result ≡ is_empty (open_jobs journal.now.entries child) }
 {
-    children::has_no_open_job(journal.entries(), child)
+    children::has_no_open_job(journal.entries(), journal.settled(), child)
 }
 
 /// How the job was settled, if it was.
@@ -134,7 +134,7 @@ pub fn is_prepared(journal: &Journal, child: u32) -> bool
 pub fn may_ask(journal: &Journal, by: u32, task: u32, child: u32) -> bool
     ensures { result ≡ may_ask journal.now.entries by task child }
 {
-    lines::may_ask(journal.entries(), by, task, child)
+    lines::may_ask(journal.entries(), journal.settled(), by, task, child)
 }
 
 /// The job asked at a place of the first n entries, where the child's end behind them settles it, or where its mute does.
@@ -186,7 +186,7 @@ pub fn is_tagged(journal: &Journal, child: u32) -> bool
 pub fn addressed<'a>(journal: &Journal, child: u32, line: &'a [u8]) -> (Option<u64>, &'a [u8])
     ensures { (result.0, result.1.now) ≡ addressed journal.now.entries child line.entry.now }
 {
-    lines::addressed(journal.entries(), child, line)
+    lines::addressed(journal.entries(), journal.settled(), child, line)
 }
 
 /// The line as it stands on the wire.
@@ -223,7 +223,7 @@ pub fn least_free(opening: &Opening, journal: &Journal) -> Option<u32>
     requires { length opening.now.tasks ≤ most_tasks }
     ensures { result ≡ least_free opening.now journal.now.entries }
 {
-    tasks::least_free(opening, journal.entries())
+    tasks::least_free(opening, journal.entries(), journal.claimed())
 }
 
 /// Whether each task is claimed.
@@ -231,7 +231,7 @@ pub fn are_all_claimed(opening: &Opening, journal: &Journal) -> bool
     requires { length opening.now.tasks ≤ most_tasks }
     ensures { result ≡ list_all (is_claimed journal.now.entries) (numbers_of opening.now) }
 {
-    tasks::are_all_claimed(opening, journal.entries())
+    tasks::are_all_claimed(opening, journal.entries(), journal.claimed())
 }
 
 /// How many tasks are not claimed.
@@ -253,7 +253,7 @@ pub fn is_claimed_by(journal: &Journal, by: u32, task: u32) -> bool
 pub fn has_open_job(journal: &Journal, task: u32) -> bool
     ensures { result ≡ has_open_job journal.now.entries task }
 {
-    tasks::has_open_job(journal.entries(), task)
+    tasks::has_open_job(journal.entries(), journal.settled(), task)
 }
 
 /// Whether a task is held for the child.

@@ -52,7 +52,7 @@ pub(super) fn first_text(entries: &[Entry], child: u32, job: u64) -> Option<&[u8
 {
     let at = before_job(entries, child, job);
     match entry_at(entries, at) {
-        Some(e) => Some(lines::addressed(&entries[..at], child, hosts_line(&e.what)).1),
+        Some(e) => Some(lines::text_of(&entries[..at], child, hosts_line(&e.what))),
         None => None,
     }
 }
@@ -90,9 +90,9 @@ fn said_line<'a>(
 ) -> Option<&'a [u8]>
     ensures { option_copied result ≡ remote_text (item_of child job past.now (What.Got child line.entry.now) rest.now) }
 {
-    let (to, text) = lines::addressed(past, child, line);
+    let (to, text) = lines::addressed(past, 0, child, line);
     if to == Some(job)
-        && children::is_open(past, child, job)
+        && children::is_open(past, 0, child, job)
         && !ends_at(rest, child, past.len() as u64)
     {
         Some(text)

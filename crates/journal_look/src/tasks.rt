@@ -1,9 +1,10 @@
 // What the journal says of the tasks.
-ghost use Rattle.std.specs.Prelude.{◌≡◌, ◌≤◌, ◌^◌, ◌&&◌, ◌==◌, ◌++◌, filter, find, length, not, option_copied, bytes_eq, codes};
+ghost use Rattle.std.specs.Prelude.{◌≡◌, ◌≤◌, ◌<◌, ◌-◌, ◌^◌, ◌&&◌, ◌==◌, ◌++◌, filter, find, length, not, option_copied, bytes_eq, codes};
 ghost use Rattle.std.specs.List.{list_any, list_all, range_with_len};
 ghost use Rattle.journal_model.specs.Limits.{most_tasks};
 ghost use Rattle.journal_model.specs.Journal.{each_of};
 ghost use Rattle.journal_model.specs.Legality.{claims, is_claimed, turned, holder, is_busy, clashes, conflicts, task_of, both_conflict, numbers_of, is_free, least_free, is_claimed_by, is_busy_with, job_for, has_open_job, changes_content, may_note, may_work, claimed_for, has_busy_task};
+ghost use Rattle.journal_look.specs.Marks.{AreClaimed, AreSettled};
 
 use crate::children;
 use journal_model::{Entry, Holder, Opening, What};
@@ -118,13 +119,20 @@ pub(super) fn task_count(opening: &Opening) -> u32
     opening.tasks.view().len() as u32
 }
 
+/// Whether the other task is busy and in the task's way. Few are in the way of any.
+#[tactic(auto, using(crate::proofs::Marking::either_order))]
+fn is_busy_in_way(opening: &Opening, entries: &[Entry], task: u32, other: u32) -> bool
+    ensures { result ≡ (is_busy entries.now other && both_conflict (task_of opening.now other) (task_of opening.now task)) }
+{
+    both_conflict(opening, other, task) && is_busy(entries, other)
+}
+
 /// Whether a busy task is in the task's way.
 fn is_in_way(opening: &Opening, entries: &[Entry], task: u32) -> bool
     requires { length opening.now.tasks ≤ most_tasks }
     ensures { result ≡ list_any (λ u. is_busy entries.now u && both_conflict (task_of opening.now u) (task_of opening.now task)) (numbers_of opening.now) }
 {
-    (1..task_count(opening) + 1).any(|other| is_busy(entries, other)
-        && both_conflict(opening, other, task))
+    (1..task_count(opening) + 1).any(|other| is_busy_in_way(opening, entries, task, other))
 }
 
 fn is_free(opening: &Opening, entries: &[Entry], task: u32) -> bool
@@ -134,19 +142,37 @@ fn is_free(opening: &Opening, entries: &[Entry], task: u32) -> bool
     !is_claimed(entries, task) && !is_in_way(opening, entries, task)
 }
 
-/// The first task that is free to be claimed.
-pub(super) fn least_free(opening: &Opening, entries: &[Entry]) -> Option<u32>
+fn first_free(opening: &Opening, entries: &[Entry], from: u32, end: u32) -> Option<u32>
     requires { length opening.now.tasks ≤ most_tasks }
-    ensures { result ≡ least_free opening.now entries.now }
+    ensures { result ≡ find (is_free opening.now entries.now) (range_with_len from (end - from)) }
 {
-    (1..task_count(opening) + 1).find(|task| is_free(opening, entries, *task))
+    (from..end).find(|task| is_free(opening, entries, *task))
 }
 
-pub(super) fn are_all_claimed(opening: &Opening, entries: &[Entry]) -> bool
-    requires { length opening.now.tasks ≤ most_tasks }
+fn all_claimed(entries: &[Entry], from: u32, end: u32) -> bool
+    ensures { result ≡ list_all (is_claimed entries.now) (range_with_len from (end - from)) }
+{
+    (from..end).all(|task| is_claimed(entries, task))
+}
+
+/// The first task that is free to be claimed. Each below from is claimed.
+pub(super) fn least_free(opening: &Opening, entries: &[Entry], from: u32) -> Option<u32>
+    requires few { length opening.now.tasks ≤ most_tasks }
+    requires some { 0 < from }
+    requires claimed { AreClaimed entries.now from }
+    ensures { result ≡ least_free opening.now entries.now }
+{
+    first_free(opening, entries, from, task_count(opening) + 1)
+}
+
+/// Whether each task is claimed, where each below from is.
+pub(super) fn are_all_claimed(opening: &Opening, entries: &[Entry], from: u32) -> bool
+    requires few { length opening.now.tasks ≤ most_tasks }
+    requires some { 0 < from }
+    requires claimed { AreClaimed entries.now from }
     ensures { result ≡ list_all (is_claimed entries.now) (numbers_of opening.now) }
 {
-    (1..task_count(opening) + 1).all(|task| is_claimed(entries, task))
+    all_claimed(entries, from, task_count(opening) + 1)
 }
 
 /// Whether the number holds the task.
@@ -200,23 +226,27 @@ fn changes_content(work: Work) -> bool
     matches!(work, Work::Store | Work::Drop)
 }
 
-pub(super) fn has_open_job(entries: &[Entry], task: u32) -> bool
+pub(super) fn has_open_job(entries: &[Entry], settled: usize, task: u32) -> bool
+    requires bound { settled ≤ length entries.now }
+    requires settled { AreSettled entries.now settled }
     ensures { result ≡ has_open_job entries.now task }
 {
     entries
         .iter()
         .filter_map(|e| job_for(&e.what, task))
-        .any(|q| children::is_open(entries, q.0, q.1))
+        .any(|q| children::is_open(entries, settled, q.0, q.1))
 }
 
 /// Whether a request for the task may be made by this number over the child.
-pub(super) fn may_work(entries: &[Entry], by: u32, task: u32, child: u32) -> bool
+pub(super) fn may_work(entries: &[Entry], settled: usize, by: u32, task: u32, child: u32) -> bool
+    requires bound { settled ≤ length entries.now }
+    requires settled { AreSettled entries.now settled }
     ensures { result ≡ may_work entries.now by task child }
 {
     task == 0 && by == 0
         || is_claimed_by(entries, by, task)
             && is_busy_with(entries, child, task)
-            && !has_open_job(entries, task)
+            && !has_open_job(entries, settled, task)
 }
 
 /// The task that the entry claims for the child.

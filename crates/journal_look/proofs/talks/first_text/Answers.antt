@@ -7,7 +7,7 @@ pub returns-in-Some : goal.returns-in-Some
 returns-in-Some c =
     let past = c.args.entries.now in
     let n = c.before_job-at.result in
-    ap (λ (p : Option ℕ × List ℕ). Some p.1) c.addressed.ensures
+    ap (λ (l : List ℕ). Some l) c.text_of.ensures
     ∙ ap (λ (l : List ℕ). Some (addressed (take n past) c.args.child l).1) c.hosts_line.ensures
     ∙ first_some_at past c.args.child c.args.job c.in-Some.e.now n c.before_job-at.ensures.value c.in-Some.ensures
 
