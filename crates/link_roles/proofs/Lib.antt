@@ -10,3 +10,4 @@ pub mod Asking
 pub mod Versions
 pub mod Solo
 pub mod Settling
+pub mod Apart

@@ -1,5 +1,10 @@
-// Worked cases of what asking comes to, each the contract of a function with nothing to do.
-ghost use Rattle.std.specs.Prelude.{◌≡◌, [], true, false};
+// What roles make, and worked cases of what asking comes to, each the contract of a function with nothing to do.
+ghost use Rattle.std.specs.Prelude.{◌≡◌, [], true, false, ℕ, List};
+ghost use Rattle.std.specs.List.{list_all};
+ghost use Rattle.journal_model.specs.declared.entry.Entry.{Entry};
+ghost use Rattle.journal_model.specs.declared.opening.Opening.{Opening};
+ghost use Rattle.host_core.specs.Steps.{step_of};
+ghost use Rattle.host_core.specs.declared.event.Event.TheVariants.{Got as GotEvent};
 ghost use Rattle.journal_model.specs.declared.verdict.Why.TheVariants.{Closed, Eof, Memory};
 ghost use Rattle.journal_model.specs.declared.verdict.Verdict.TheVariants.{Done, Unsent};
 ghost use Rattle.journal_model.specs.declared.entry.What.TheVariants.{Put, Sent, Got, End, Verdict as Settled};
@@ -24,4 +29,9 @@ pub fn kinds_of_roles()
     ensures heard { is_heard 1 (End 1 Eof) ≡ true }
     ensures said { is_said 1 (Sent 1) ≡ true }
     ensures replies { is_of_child 1 (Put 1 2 []) ≡ true }
+{}
+
+/// Whatever a child says, its line makes entries of that child alone: it ends no other child, and settles no other child's job.
+pub fn children_apart()
+    ensures { (o : Opening) (past : List Entry) (by c : ℕ) (line : List ℕ) → list_all (λ (e : Entry). by_ear c e.what) (step_of o past by (GotEvent c line)).group ≡ true }
 {}
