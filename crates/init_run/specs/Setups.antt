@@ -76,17 +76,19 @@ setup_for Unsent = Stopped answer.Unsent
 abbrev pub mute_outcome : Bool → Option Setup
 mute_outcome mute = if mute then Some (Stopped answer.Unsent) else None
 
--- a child that was not asked, or whose job nothing settled: its end, but for its closing, or else its mute
+-- a child that said nothing of it: its end, but for its closing, or else its mute
 abbrev pub gone_outcome : Option Why → Bool → Option Setup
 gone_outcome None mute = mute_outcome mute
 gone_outcome (Some Closed) mute = mute_outcome mute
 gone_outcome (Some why) mute = Some (Stopped (answer.Ended why))
 
 abbrev pub verdict_outcome : Option Verdict → Option Why → Bool → Option Setup
-verdict_outcome (Some verdict) why mute = Some (setup_for verdict)
-verdict_outcome None why mute = gone_outcome why mute
+verdict_outcome (Some (Done at)) why mute = Some Initialized
+verdict_outcome (Some (Failed at)) why mute = Some (Stopped (answer.Failed at))
+verdict_outcome (Some (Unsupported at)) why mute = Some (Stopped answer.Unsupported)
+verdict_outcome verdict why mute = gone_outcome why mute
 
--- the verdict of job 1 of its child, or why there is none; a start that failed; nothing where nothing was started
+-- what a line of its child said of job 1, or why none did; a start that failed; nothing where nothing was started
 abbrev pub outcome_of : List Entry → Option Setup
 outcome_of journal =
     if any is_no_start journal then Some (Stopped answer.StartFault)

@@ -6,6 +6,7 @@ mod child;
 mod closing;
 mod end;
 mod info;
+mod init;
 pub mod info_laws;
 pub mod laws;
 mod openings;
