@@ -22,8 +22,8 @@ use Rattle.journal_look.specs.Looks.{is_no_start}
 use Rattle.keep_text.specs.KeptFiles.{bad_line, registers_of, notes_of, CountsAs}
 use Rattle.keep_desk.specs.KeptDesks.{text_at}
 use Rattle.keep_desk.specs.declared.TheConstants.{MOST_BYTES}
-use Rattle.init_run.specs.declared.begin.Begun.{Begun}
-use Rattle.init_run.specs.declared.begin.Begun.TheVariants.{Ready, BadLine, TooLarge, Fault}
+use Rattle.init_run.specs.declared.beginning.Begun.{Begun}
+use Rattle.init_run.specs.declared.beginning.Begun.TheVariants.{Ready, BadLine, TooLarge, Fault}
 use Rattle.init_run.specs.declared.setup.Setup.{Setup}
 use Rattle.init_run.specs.declared.setup.Setup.TheVariants.{Initialized, Stopped}
 

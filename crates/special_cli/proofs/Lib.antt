@@ -11,3 +11,4 @@ pub mod Leaving
 pub mod Looking
 pub mod Talking
 pub mod Alone
+pub mod Settling

@@ -26,8 +26,8 @@ use Rattle.init_run.specs.Setups.{IsOpening, IsTextOf, outcome_of}
 use Rattle.init_run.specs.declared.setup.Setup.{Setup}
 use Rattle.init_run.specs.declared.setup.Setup.TheVariants.{Initialized, Stopped}
 use Rattle.child_link.specs.Links.{LinkValue}
-use Rattle.special_cli.specs.declared.init.setup.Talk.{Talk}
-use Rattle.special_cli.specs.declared.init.setup.Talk.TheVariants.{Over, StartFault, NoMemory}
+use Rattle.special_cli.specs.declared.init.asking.Talk.{Talk}
+use Rattle.special_cli.specs.declared.init.asking.Talk.TheVariants.{Over, StartFault, NoMemory}
 use Rattle.special_cli.specs.Runs.{main_entry}
 use Rattle.special_cli.specs.declared.end.End.{End as Ending}
 use Rattle.special_cli.specs.declared.end.End.TheVariants.{Memory, BadKept, KeptTooLarge, FileFailed, SetUp, NotSetUp}
@@ -41,7 +41,7 @@ use Rattle.special_cli.specs.Objects.{Leaves}
 abbrev pub is_of_setup : What → Bool
 is_of_setup (Start child slot offer) = child == 1 && (slot == 0 && not offer)
 is_of_setup (NoStart slot) = slot == 0
-is_of_setup (End child why) = child == 1
+is_of_setup (End child why) = true
 is_of_setup w = is_of_greeting_for Init 1 w
 
 -- There is one start at most, in slot 0, and ASYNC is not offered. The child was asked EXTENSIONS and then INITREMOTE, as far as

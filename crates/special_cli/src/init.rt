@@ -1,5 +1,5 @@
 // The command `init`: a remote is set up, and what it is set to is kept.
-mod setup;
+mod asking;
 
 ghost use Rattle.std.specs.Prelude.{◌≡◌, ◌<◌, [], map, IfOk, Ok, vec_len, vec_capacity};
 ghost use Rattle.ann_outside.specs.Desks.{no_counts};
@@ -49,7 +49,7 @@ fn nothing_made(alloc: Global, end: End) -> Made
     }
 }
 
-fn room<P: Programs, K: Desks>(alloc: Global) -> Result<Room<P, K>, NoMemory>
+fn take_room<P: Programs, K: Desks>(alloc: Global) -> Result<Room<P, K>, NoMemory>
 where
     P::Inlet: Drop,
     P::Outlet: Drop,
@@ -75,7 +75,7 @@ where
     requires fit { IsFit (Init words.now) }
     ensures { HasSetUp words.now outside result }
 {
-    match room(alloc) {
+    match take_room(alloc) {
         Ok(room) => at_desk(alloc, words, outside, room),
         Err(NoMemory) => Ran::nothing(alloc, outside, End::Memory),
     }
@@ -169,7 +169,7 @@ where
     let Ok(mut core) = Core::new(alloc, opening) else {
         return nothing_made(alloc, End::Memory);
     };
-    let asked = setup::ask(alloc, words.program.view(), programs, &mut core, wires);
+    let asked = asking::ask(alloc, words.program.view(), programs, &mut core, wires);
     let end = match asked {
         Ok(Setup::Initialized) => keep(alloc, words, desk, &core),
         Ok(Setup::Stopped(answer)) => End::NotSetUp(answer),

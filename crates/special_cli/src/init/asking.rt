@@ -34,7 +34,7 @@ enum Talk<I: Sink, O: Source, S> {
 }
 
 // Starts the program, and asks its child to set the remote up.
-fn talk<P: Programs>(
+fn hold_talk<P: Programs>(
     alloc: Global,
     program: &str,
     programs: &mut P,
@@ -108,7 +108,7 @@ where
     ensures opening { core.new.opening ≡ core.old.opening }
     ensures legal { Legal core.new.opening core.new.journal }
 {
-    match talk(alloc, program, programs, core) {
+    match hold_talk(alloc, program, programs, core) {
         Talk::Over {
             mut link,
             stub,

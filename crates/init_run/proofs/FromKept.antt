@@ -17,7 +17,7 @@ use Rattle.keep_desk.specs.declared.TheConstants.{MOST_BYTES}
 use Rattle.keep_desk.specs.declared.reading.KeptRead.{KeptRead}
 use Rattle.keep_desk.specs.declared.reading.KeptRead.TheVariants.{Kept, BadLine as BadKept, TooLarge as LargeKept, Fault as FaultyKept}
 use Rattle.keep_desk.specs.KeptDesks.{IsKeptOf, ComesTo, IsReadAs, text_at, IsKeptAt}
-use Rattle.init_run.specs.declared.begin.Begun.TheVariants.{Ready, BadLine, TooLarge}
+use Rattle.init_run.specs.declared.beginning.Begun.TheVariants.{Ready, BadLine, TooLarge}
 use Rattle.init_run.specs.Setups.{init_opening, IsOpening, IsTextOf, Begins}
 
 -- ---- some text was read, and where files are told it is the file's
