@@ -1,7 +1,6 @@
 -- What is kept is what a setup begins with.
-use Rattle.std.proofs.Common.{◌≡◌, ◌<◌, ℕ, List, [], length, refl, sym, subst}
+use Rattle.std.proofs.Common.{◌≡◌, ℕ, List, [], refl, subst}
 use Rattle.std.specs.Prelude.{Option, Some, None, Result, Ok, Err, IfSome}
-use Rattle.std.specs.List.{concat}
 use Rattle.ann_key.specs.declared.bytes.NoMemory.{NoMemory}
 use Rattle.ann_outside.specs.Files.{Files}
 use Rattle.ann_outside.specs.declared.file_desk.Call.{Call}
@@ -9,16 +8,12 @@ use Rattle.reg_file.specs.Registers.{RegisterFile}
 use Rattle.chunk_log.specs.declared.note.Note.{Note}
 use Rattle.cli_words.specs.declared.command.InitWords.{InitWords}
 use Rattle.journal_model.specs.declared.opening.Opening.{Opening}
-use Rattle.desk_file.specs.declared.reading.FileRead.{FileRead}
 use Rattle.desk_file.specs.declared.reading.FileRead.TheVariants as F
-use Rattle.desk_file.specs.Reads.{IsReadBy}
-use Rattle.keep_text.specs.KeptFiles.{bad_line, registers_of, notes_of, CountsAs}
-use Rattle.keep_desk.specs.declared.TheConstants.{MOST_BYTES}
 use Rattle.keep_desk.specs.declared.reading.KeptRead.{KeptRead}
-use Rattle.keep_desk.specs.declared.reading.KeptRead.TheVariants.{Kept, BadLine as BadKept, TooLarge as LargeKept, Fault as FaultyKept}
-use Rattle.keep_desk.specs.KeptDesks.{IsKeptOf, ComesTo, IsReadAs, text_at, IsKeptAt}
-use Rattle.init_run.specs.declared.beginning.Begun.TheVariants.{Ready, BadLine, TooLarge}
-use Rattle.init_run.specs.Setups.{init_opening, IsOpening, IsTextOf, Begins}
+use Rattle.keep_desk.specs.declared.reading.KeptRead.TheVariants.{Kept, TooLarge as LargeKept, Fault as FaultyKept}
+use Rattle.keep_desk.specs.KeptDesks.{IsKeptOf, IsReadAs, text_at, IsKeptAt}
+use Rattle.init_run.specs.declared.beginning.Begun.TheVariants.{Ready}
+use Rattle.init_run.specs.Setups.{init_opening, IsTextOf, Begins}
 
 -- ---- some text was read, and where files are told it is the file's
 
@@ -39,20 +34,6 @@ kept_text old new name registers notes (Ok F.TooLarge, by, comes) = absurd (let 
 kept_text old new name registers notes (Ok F.Fault, by, comes) = absurd (let bad : Ok (Kept registers notes) ≡ Ok FaultyKept = comes in cc)
 kept_text old new name registers notes (Err e, by, comes) = absurd (let bad : Ok (Kept registers notes) ≡ Err e = comes in cc)
 
-bad_text : (old new : Option (List Call)) (name : List ℕ) (line : ℕ) → IsReadAs old new name (Ok (BadKept line)) → (kept : List ℕ) × (bad_line kept ≡ Some line)
-bad_text old new name line (Ok (F.Text text), by, comes) = (text, comes)
-bad_text old new name line (Ok F.Missing, by, comes) = ([], comes)
-bad_text old new name line (Ok F.TooLarge, by, comes) = absurd (let bad : Ok (BadKept line) ≡ Ok LargeKept = comes in cc)
-bad_text old new name line (Ok F.Fault, by, comes) = absurd (let bad : Ok (BadKept line) ≡ Ok FaultyKept = comes in cc)
-bad_text old new name line (Err e, by, comes) = absurd (let bad : Ok (BadKept line) ≡ Err e = comes in cc)
-
-large_text : (old new : Option (List Call)) (name : List ℕ) → IsReadAs old new name (Ok LargeKept) → (kept : List ℕ) × (MOST_BYTES < length kept)
-large_text old new name (Ok (F.Text text), by, comes) = absurd comes
-large_text old new name (Ok F.Missing, by, comes) = absurd comes
-large_text old new name (Ok F.TooLarge, by, comes) = (concat by.pieces, by.ends.0)
-large_text old new name (Ok F.Fault, by, comes) = absurd (let bad : Ok LargeKept ≡ Ok FaultyKept = comes in cc)
-large_text old new name (Err e, by, comes) = absurd (let bad : Ok LargeKept ≡ Err e = comes in cc)
-
 -- ---- what it begins with
 
 pub ready : (words : InitWords) (told : Option Files) (old new : Option (List Call)) (registers : RegisterFile) (notes : List Note) (opening : Opening) → IsReadAs old new words.keep (Ok (Kept registers notes))
@@ -68,10 +49,3 @@ ready words told old new registers notes opening read known e =
         is = subst (λ (r : RegisterFile). opening ≡ init_opening words r notes) found.2.1 e;
       },
     )
-
-pub bad : (words : InitWords) (told : Option Files) (old new : Option (List Call)) (line : ℕ) → IsReadAs old new words.keep (Ok (BadKept line)) → IfSome told (λ files. IsKeptAt words.keep files (Ok (BadKept line)))
-    → Begins words told (Ok (BadLine line))
-bad words told old new line read known = told_text words told (Ok (BadKept line)) (λ kept. bad_line kept ≡ Some line) (λ files h. h) (bad_text old new words.keep line read) known
-
-pub large : (words : InitWords) (told : Option Files) (old new : Option (List Call)) → IsReadAs old new words.keep (Ok LargeKept) → IfSome told (λ files. IsKeptAt words.keep files (Ok LargeKept)) → Begins words told (Ok TooLarge)
-large words told old new read known = told_text words told (Ok LargeKept) (λ kept. MOST_BYTES < length kept) (λ files h. h) (large_text old new words.keep read) known
