@@ -47,11 +47,7 @@ fn init_opening(
 }
 
 /// Reads the kept file that the words name, and puts together what the setup begins with. A file that isn't there hands on nothing.
-pub fn begin<D: Desk>(
-    alloc: Global,
-    words: &InitWords,
-    desk: &mut D,
-) -> Result<Begun, NoMemory>
+pub fn begin<D: Desk>(alloc: Global, words: &InitWords, desk: &mut D) -> Result<Begun, NoMemory>
     requires { IsTrue (list_all is_setting words.now.settings) }
     ensures begins { Begins words.now (D.files desk.old) result }
     ensures files { D.files desk.new ≡ D.files desk.old }

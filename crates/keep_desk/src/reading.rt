@@ -27,11 +27,7 @@ pub enum KeptRead {
 }
 
 /// What the file hands on. One that isn't there hands on what an empty one does.
-pub fn read_kept<D: Desk>(
-    alloc: Global,
-    desk: &mut D,
-    name: &str,
-) -> Result<KeptRead, NoMemory>
+pub fn read_kept<D: Desk>(alloc: Global, desk: &mut D, name: &str) -> Result<KeptRead, NoMemory>
     ensures read { IsReadAs (D.log desk.old) (D.log desk.new) name.now result }
     ensures told { IfSome (D.files desk.old) (λ files. IsKeptAt name.now files result) }
     ensures files { D.files desk.new ≡ D.files desk.old }

@@ -1,6 +1,6 @@
 use Rattle.std.proofs.Common.{List, ℕ, Ok, subst}
 use Rattle.std.specs.Prelude.{IfSome}
-use Rattle.keep_desk.specs.declared.reading.KeptRead.TheVariants.{Kept}
+use Rattle.keep_desk.specs.declared.reading.KeptRead.{KeptRead}
 use Rattle.keep_desk.specs.KeptDesks.{IsReadAs, IsKeptAt}
 use Rattle.init_run.proofs.FromKept.{ready}
 use Rattle.init_run.proofs.beginning.begin.Goals as goal
@@ -10,7 +10,10 @@ returns-in-Ok-clause-begins g c =
     let told = g.D.Desk.files c.args.desk.now in
     let old = g.D.Desk.log c.args.desk.now in
     let new = g.D.Desk.log c.read_kept.new.desk in
+    let keep = c.args.words.now.keep in
     ready c.args.words.now told old new c.in-Ok-Kept.registers c.in-Ok-Kept.notes c.in-Ok.opening
-    (subst (λ (name : List ℕ). IsReadAs old new name (Ok (Kept c.in-Ok-Kept.registers c.in-Ok-Kept.notes))) c.view.ensures c.in-Ok-Kept.ensures.read)
-    (subst (λ (name : List ℕ). IfSome told (λ files. IsKeptAt name files (Ok (Kept c.in-Ok-Kept.registers c.in-Ok-Kept.notes)))) c.view.ensures c.in-Ok-Kept.ensures.told)
+    (subst (λ (k : KeptRead). IsReadAs old new keep (Ok k)) c.in-Ok-Kept.field-0-is
+    (subst (λ (name : List ℕ). IsReadAs old new name (Ok c.in-Ok-Kept.field-0)) c.view.ensures c.in-Ok-Kept.ensures.read))
+    (subst (λ (k : KeptRead). IfSome told (λ files. IsKeptAt keep files (Ok k))) c.in-Ok-Kept.field-0-is
+    (subst (λ (name : List ℕ). IfSome told (λ files. IsKeptAt name files (Ok c.in-Ok-Kept.field-0))) c.view.ensures c.in-Ok-Kept.ensures.told))
     c.in-Ok.ensures
