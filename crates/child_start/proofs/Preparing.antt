@@ -236,7 +236,7 @@ ended_first o old new c offer why legal h g is =
       undone = ap is_done later;
       unrefused = ap is_refusal later;
       ended = sym is;
-      kept = greeted_kept old new c offer why h (greets_goes old new c g (unasked_idle old c h.jobs)) (sym is);
+      kept = greeted_kept {mode = Serve} old new c offer why h (greets_goes old new c g (unasked_idle old c h.jobs)) (sym is);
     }
 
 -- the child ended, by its number and the journal under other names
