@@ -5,7 +5,7 @@ use Rattle.std.specs.List.{list_all, list_any, cons_option}
 use Rattle.journal_model.specs.declared.verdict.Why.{Why}
 use Rattle.journal_model.specs.declared.verdict.Verdict.{Verdict}
 use Rattle.journal_model.specs.declared.verdict.Verdict.TheVariants.{Failed as FailedAt, Unsupported as UnsupportedAt}
-use Rattle.annex_model.specs.Messages.{HostMessage, Prepare, Initremote, is_askable}
+use Rattle.annex_model.specs.Messages.{Prepare}
 use Rattle.journal_model.specs.declared.entry.What.{What}
 use Rattle.journal_model.specs.declared.entry.What.TheVariants.{Ask, End}
 use Rattle.journal_model.specs.declared.entry.Entry.{Entry}
@@ -19,35 +19,15 @@ use Rattle.child_link.specs.Doors.{GoesOn, is_closed}
 use Rattle.child_link.proofs.Turning.{started_after}
 use Rattle.child_start.specs.declared.starting.RequestOutcome.{RequestOutcome}
 use Rattle.child_start.specs.declared.starting.RequestOutcome.TheVariants.{Done, Refused, Gone}
-use Rattle.child_start.specs.declared.greeting.Mode.{Mode}
-use Rattle.child_start.specs.declared.greeting.Mode.TheVariants.{Serve, Init}
-use Rattle.child_start.specs.Greetings.{is_greeting_line, is_of_greeting, is_of_greeting_for, is_refusal, IsReadyFor, HasEnded, IsUnsent}
-use Rattle.child_start.specs.Stages.{is_greeting, is_asked_for, last_request, HasBegun, MayAsk, GreetsOn, IsGoneNext, AsksNext, IsGoneUnready, Prepares}
+use Rattle.child_start.specs.Greetings.{is_greeting_line, is_of_greeting, is_refusal, HasEnded, IsUnsent}
+use Rattle.child_start.specs.Stages.{HasBegun, MayAsk, GreetsOn, IsGoneNext, AsksNext, IsGoneUnready, Prepares}
 use Rattle.child_start.proofs.Jobs.{goes_jobs, goes_names, verdict_settled, or_true}
 use Rattle.child_start.proofs.Requests.{none_later, greets_goes, greets_both}
-
-two_true : (a b : Bool) → a ≡ true → b ≡ true → (a && b) ≡ true
-two_true a b h k = rw (h, k) refl
 
 all_three : (a b c : Bool) → a ≡ true → b ≡ true → c ≡ true → (a && b && c) ≡ true
 all_three a b c h k l = rw (h, k, l) refl
 
--- what such a child is asked last is a request of its greeting
-pub asked_for : (q : HostMessage) (mode : Mode) → q ≡ last_request mode → is_asked_for q mode ≡ true
-asked_for q mode e = subst (λ (x : HostMessage). is_asked_for x mode ≡ true) (sym e) (by_mode mode)
-  where
-    by_mode : (mode : Mode) → is_asked_for (last_request mode) mode ≡ true
-    by_mode Serve = refl
-    by_mode Init = refl
-
-pub kind_of : (q : HostMessage) (mode : Mode) → q ≡ last_request mode → is_greeting q ≡ true
-kind_of q mode e = subst (λ (x : HostMessage). is_greeting x ≡ true) (sym e) (by_mode mode)
-  where
-    by_mode : (mode : Mode) → is_greeting (last_request mode) ≡ true
-    by_mode Serve = refl
-    by_mode Init = refl
-
-pub greets_started : {mode : Mode} (old new : List Entry) (c d : ℕ) → d ≡ c → GreetsOn mode old new c → is_started old c ≡ true → is_started new d ≡ true
+pub greets_started : (old new : List Entry) (c d : ℕ) → d ≡ c → GreetsOn old new c → is_started old c ≡ true → is_started new d ≡ true
 greets_started old new c d e g a =
     ap (is_started new) e ∙ ap (λ (x : List Entry). is_started x c) g.is ∙ any-append (starts c) old g.more ∙ ap (λ (b : Bool). b || is_started g.more c) a
 
@@ -106,7 +86,7 @@ module _ (old mid : List Entry) (c : ℕ) (none : asked_jobs old c ≡ []) where
   first_job = ap length none
 
   -- the child is gone, so PREPARE was not asked
-  pub unprepared_first : (o : Opening) → Legal o mid → IsGoneNext old mid c → IsGoneUnready mid c
+  pub unprepared_first : (o : Opening) → Legal o mid → IsGoneNext old mid c → Prepares mid c Gone
   unprepared_first o legal n =
       let none : verdict_of mid c 1 ≡ None = none_later o mid c 1 legal (few n.jobs) in
       record { gone = n.gone; undone = ap is_done none; unrefused = ap is_refusal none }
@@ -132,44 +112,30 @@ module _ (old mid : List Entry) (c : ℕ) (none : asked_jobs old c ≡ []) where
         go (Refused verdict) here n = verdict_settled mid c 0 verdict (ap (verdict_of mid c) (sym first_job) ∙ n.settled)
         go Gone here n = absurd (here refl)
 
-    askable : (mode : Mode) → is_askable (last_request mode) ≡ true
-    askable Serve = refl
-    askable Init = refl
-
-    in_turn : (mode : Mode) → is_in_turn mid c (next_job mid c) (last_request mode) ≡ true
-    in_turn Serve = ap (λ (ks : List ℕ). length ks == 1 && true) one_job
-    in_turn Init = ap (λ (ks : List ℕ). length ks == 1 && true) one_job
-
-    -- PREPARE or INITREMOTE may be asked
-    pub may_prepare : (mode : Mode) (by d : ℕ) → d ≡ c → by ≡ 0 → is_started old c ≡ true → GreetsOn mode old mid c → may_request mid by 0 d (last_request mode) ≡ true
-    may_prepare mode by d e main started g =
-        let q : HostMessage = last_request mode in
+    -- PREPARE may be asked
+    pub may_prepare : (by d : ℕ) → d ≡ c → by ≡ 0 → is_started old c ≡ true → GreetsOn old mid c → may_request mid by 0 d Prepare ≡ true
+    may_prepare by d e main started g =
         let greeted : is_greeted mid c (next_job mid c) ≡ true = ap (λ (ks : List ℕ). is_greeted mid c (length ks)) one_job ∙ settled in
         let work : may_work mid by 0 c ≡ true = ap (λ (k : ℕ). may_work mid k 0 c) main in
         let free : (is_tagged mid c || is_empty (open_jobs mid c)) ≡ true = ap (λ (ks : List ℕ). is_tagged mid c || is_empty ks) g.idle ∙ or_true (is_tagged mid c) in
         let may : may_ask mid by 0 c ≡ true = all_three (is_greeted mid c (next_job mid c)) (may_work mid by 0 c) (is_tagged mid c || is_empty (open_jobs mid c)) greeted work free in
-        let turn : is_in_turn mid c (next_job mid c) q ≡ true = in_turn mode in
-        let three : (is_started mid c && may_ask mid by 0 c && is_in_turn mid c (next_job mid c) q) ≡ true =
-        all_three (is_started mid c) (may_ask mid by 0 c) (is_in_turn mid c (next_job mid c) q) (greets_started old mid c c refl g started) may turn in
-        ap (λ (k : ℕ). may_request mid by 0 k q) e ∙ two_true _ (is_askable q) three (askable mode)
+        let turn : is_in_turn mid c (next_job mid c) Prepare ≡ true = ap (λ (ks : List ℕ). length ks == 1 && true) one_job in
+        let three : (is_started mid c && may_ask mid by 0 c && is_in_turn mid c (next_job mid c) Prepare) ≡ true =
+        all_three (is_started mid c) (may_ask mid by 0 c) (is_in_turn mid c (next_job mid c) Prepare) (greets_started old mid c c refl g started) may turn in
+        ap (λ (k : ℕ). may_request mid by 0 k Prepare) e ∙ ap (λ (b : Bool). b && true) three
 
     -- PREPARE was asked
-    pub prepared_second : (mode : Mode) (new : List Entry) (b : RequestOutcome) → GreetsOn mode mid new c → AsksNext mid new c b → Prepares mode new c b
-    prepared_second mode new Done g a =
+    pub prepared_second : (new : List Entry) (b : RequestOutcome) → GreetsOn mid new c → AsksNext mid new c b → Prepares new c b
+    prepared_second new Done g a =
         let done : is_done (verdict_of new c 1) ≡ true = ap (λ (ks : List ℕ). is_done (verdict_of new c (length ks))) (sym one_job) ∙ a.done in
         let jobs : asked_jobs new c ≡ 0 ∷ 1 ∷ [] = a.jobs ∙ ap (λ (ks : List ℕ). ks ++ length ks ∷ []) one_job in
-        ready mode done jobs g
-      where
-        ready : (mode : Mode) → is_done (verdict_of new c 1) ≡ true → asked_jobs new c ≡ 0 ∷ 1 ∷ [] → GreetsOn mode mid new c → IsReadyFor mode new c
-        ready Init done jobs g = record { done = done; jobs = jobs }
-        ready Serve done jobs g =
-            let later : (0 ∷ []) ++ asked_jobs g.more c ≡ 0 ∷ 1 ∷ [] =
-            sym (ap (λ (x : List Entry). asked_jobs x c) g.is ∙ each_of-append (asks c) mid g.more ∙ ap (λ (ks : List ℕ). ks ++ asked_jobs g.more c) one_job) ∙ jobs in
-            let second : list_any (λ k. k == 1) (asked_jobs g.more c) ≡ true = ap (list_any (λ k. k == 1)) later in
-            let asked : any (prepares c) new ≡ true =
-            ap (any (prepares c)) g.is ∙ any-append (prepares c) mid g.more ∙ ap (λ (b : Bool). any (prepares c) mid || b) (second_prepares c g.more g.own second) ∙ or_true (any (prepares c) mid) in
-            record { prepared = rw (done, asked) refl; jobs = jobs }
-    prepared_second mode new (Refused verdict) g a =
+        let later : (0 ∷ []) ++ asked_jobs g.more c ≡ 0 ∷ 1 ∷ [] =
+        sym (ap (λ (x : List Entry). asked_jobs x c) g.is ∙ each_of-append (asks c) mid g.more ∙ ap (λ (ks : List ℕ). ks ++ asked_jobs g.more c) one_job) ∙ jobs in
+        let second : list_any (λ k. k == 1) (asked_jobs g.more c) ≡ true = ap (list_any (λ k. k == 1)) later in
+        let asked : any (prepares c) new ≡ true =
+        ap (any (prepares c)) g.is ∙ any-append (prepares c) mid g.more ∙ ap (λ (b : Bool). any (prepares c) mid || b) (second_prepares c g.more g.own second) ∙ or_true (any (prepares c) mid) in
+        record { prepared = rw (done, asked) refl; jobs = jobs }
+    prepared_second new (Refused verdict) g a =
         let told : verdict_of new c 1 ≡ Some verdict = ap (λ (ks : List ℕ). verdict_of new c (length ks)) (sym one_job) ∙ a.settled in
         record {
           undone = ap is_done told ∙ refused_undone verdict a.place a.refusal;
@@ -178,7 +144,7 @@ module _ (old mid : List Entry) (c : ℕ) (none : asked_jobs old c ≡ []) where
           refusal = a.refusal;
           jobs = a.jobs ∙ ap (λ (ks : List ℕ). ks ++ length ks ∷ []) one_job;
         }
-    prepared_second mode new Gone g a = record {
+    prepared_second new Gone g a = record {
       gone = a.gone;
       undone = ap (λ (ks : List ℕ). is_done (verdict_of new c (length ks))) (sym one_job) ∙ a.undone;
       unrefused = ap (λ (ks : List ℕ). is_refusal (verdict_of new c (length ks))) (sym one_job) ∙ a.unrefused;
@@ -197,8 +163,8 @@ may_ask_first old mid c d offer e h g said = record {
 
 -- ---- no greeting closes its child
 
-greeting_keeps : (mode : Mode) (c : ℕ) (w : What) (why : Why) → is_of_greeting_for mode c w ≡ true → end_why c w ≡ Some why → is_closed why ≡ false
-greeting_keeps mode c (End child x) why own is = go (child == c) is
+greeting_keeps : (c : ℕ) (w : What) (why : Why) → is_of_greeting c w ≡ true → end_why c w ≡ Some why → is_closed why ≡ false
+greeting_keeps c (End child x) why own is = go (child == c) is
   where
     open_end : (b : Bool) → not b ≡ true → b ≡ false
     open_end true h = absurd cc
@@ -207,25 +173,25 @@ greeting_keeps mode c (End child x) why own is = go (child == c) is
     go : (b : Bool) → cond b (Some x) None ≡ Some why → is_closed why ≡ false
     go true e = let same_why : x ≡ why = cc in ap is_closed (sym same_why) ∙ open_end (is_closed x) own
     go false e = absurd cc
-greeting_keeps mode c w why own is = absurd cc
+greeting_keeps c w why own is = absurd cc
 
-greetings_keep : (mode : Mode) (c : ℕ) (more : List Entry) (why : Why) → list_all (λ (e : Entry). is_of_greeting_for mode c e.what) more ≡ true → why_of more c ≡ Some why → is_closed why ≡ false
-greetings_keep mode c [] why own is = absurd cc
-greetings_keep mode c (e ∷ more) why own is =
-    let t : (is_of_greeting_for mode c e.what ≡ true) × (list_all (λ (x : Entry). is_of_greeting_for mode c x.what) more ≡ true) =
-    both (is_of_greeting_for mode c e.what) (list_all (λ (x : Entry). is_of_greeting_for mode c x.what) more) own in
-    go t.0 (ends c e.what) is (greetings_keep mode c more why t.1)
+greetings_keep : (c : ℕ) (more : List Entry) (why : Why) → list_all (λ (e : Entry). is_of_greeting c e.what) more ≡ true → why_of more c ≡ Some why → is_closed why ≡ false
+greetings_keep c [] why own is = absurd cc
+greetings_keep c (e ∷ more) why own is =
+    let t : (is_of_greeting c e.what ≡ true) × (list_all (λ (x : Entry). is_of_greeting c x.what) more ≡ true) =
+    both (is_of_greeting c e.what) (list_all (λ (x : Entry). is_of_greeting c x.what) more) own in
+    go t.0 (ends c e.what) is (greetings_keep c more why t.1)
   where
-    go : is_of_greeting_for mode c e.what ≡ true → (b : Bool)
+    go : is_of_greeting c e.what ≡ true → (b : Bool)
         → option_and_then (λ (x : Entry). end_why c x.what) (cond b (Some e) (find (λ (x : Entry). ends c x.what) more)) ≡ Some why → (why_of more c ≡ Some why → is_closed why ≡ false)
         → is_closed why ≡ false
-    go first true k later = greeting_keeps mode c e.what why first k
+    go first true k later = greeting_keeps c e.what why first k
     go first false k later = later k
 
 -- a child that had begun was ended in its greeting
-pub greeted_kept : {mode : Mode} (old new : List Entry) (c : ℕ) (offer : Bool) (why : Why) → HasBegun old c offer → GreetsOn mode old new c → why_of new c ≡ Some why → is_closed why ≡ false
-greeted_kept {mode} old new c offer why h g is =
-    greetings_keep mode c g.more why g.own (sym (ap (λ (j : List Entry). why_of j c) g.is ∙ why_alone old g.more c h.live) ∙ is)
+pub greeted_kept : (old new : List Entry) (c : ℕ) (offer : Bool) (why : Why) → HasBegun old c offer → GreetsOn old new c → why_of new c ≡ Some why → is_closed why ≡ false
+greeted_kept old new c offer why h g is =
+    greetings_keep c g.more why g.own (sym (ap (λ (j : List Entry). why_of j c) g.is ∙ why_alone old g.more c h.live) ∙ is)
 
 -- the child ended before it was asked
 pub ended_first : (o : Opening) (old new : List Entry) (c : ℕ) (offer : Bool) (why : Why) → Legal o new → HasBegun old c offer → GoesOn old new → Some why ≡ why_of new c → HasEnded new c why
@@ -236,11 +202,11 @@ ended_first o old new c offer why legal h g is =
       undone = ap is_done later;
       unrefused = ap is_refusal later;
       ended = sym is;
-      kept = greeted_kept {mode = Serve} old new c offer why h (greets_goes old new c g (unasked_idle old c h.jobs)) (sym is);
+      kept = greeted_kept old new c offer why h (greets_goes old new c g (unasked_idle old c h.jobs)) (sym is);
     }
 
 -- the child ended, by its number and the journal under other names
-pub ended_told : {mode : Mode} (old journal last : List Entry) (c k : ℕ) (offer : Bool) (why : Why) → last ≡ journal → k ≡ c → HasBegun old c offer → GreetsOn mode old last c → IsGoneUnready journal c
+pub ended_told : (old journal last : List Entry) (c k : ℕ) (offer : Bool) (why : Why) → last ≡ journal → k ≡ c → HasBegun old c offer → GreetsOn old last c → IsGoneUnready journal c
     → Some why ≡ why_of journal k → HasEnded last c why
 ended_told old journal last c k offer why l e h g p is =
     let ended : why_of last c ≡ Some why = ap (λ (x : List Entry). why_of x c) l ∙ ap (why_of journal) (sym e) ∙ sym is in
@@ -259,14 +225,14 @@ unsent_told journal last c k l e p is =
     (record { undone = p.undone; unrefused = p.unrefused; live = live; mute = sym (ap (λ (b : Bool). b || is_mute journal c) live) ∙ p.gone })
 
 -- what was prepared or not, by the child's number under another name
-pub prepares_as : (mode : Mode) (journal : List Entry) (c d : ℕ) (b r : RequestOutcome) → d ≡ c → r ≡ b → Prepares mode journal d r → Prepares mode journal c b
-prepares_as mode journal c d b r e f p = subst (λ (x : RequestOutcome). Prepares mode journal c x) f (subst (λ (k : ℕ). Prepares mode journal k r) e p)
+pub prepares_as : (journal : List Entry) (c d : ℕ) (b r : RequestOutcome) → d ≡ c → r ≡ b → Prepares journal d r → Prepares journal c b
+prepares_as journal c d b r e f p = subst (λ (x : RequestOutcome). Prepares journal c x) f (subst (λ (k : ℕ). Prepares journal k r) e p)
 
-pub greets_as : {mode : Mode} (old new : List Entry) (c d : ℕ) → d ≡ c → GreetsOn mode old new d → GreetsOn mode old new c
-greets_as {mode} old new c d e g = subst (λ (k : ℕ). GreetsOn mode old new k) e g
+pub greets_as : (old new : List Entry) (c d : ℕ) → d ≡ c → GreetsOn old new d → GreetsOn old new c
+greets_as old new c d e g = subst (λ (k : ℕ). GreetsOn old new k) e g
 
 -- behind the version stands the rest of the greeting
-pub greets_heard : {mode : Mode} (old mid new last : List Entry) (c d : ℕ) (offer : Bool) → d ≡ c → HasBegun old c offer → GoesOn old mid → GreetsOn mode mid new d → last ≡ new → GreetsOn mode old last c
-greets_heard {mode} old mid new last c d offer e h g more l =
-    subst (λ (x : List Entry). GreetsOn mode old x c) (sym l)
+pub greets_heard : (old mid new last : List Entry) (c d : ℕ) (offer : Bool) → d ≡ c → HasBegun old c offer → GoesOn old mid → GreetsOn mid new d → last ≡ new → GreetsOn old last c
+greets_heard old mid new last c d offer e h g more l =
+    subst (λ (x : List Entry). GreetsOn old x c) (sym l)
     (greets_both old mid new c (greets_goes old mid c g (unasked_idle old c h.jobs)) (greets_as mid new c d e more))

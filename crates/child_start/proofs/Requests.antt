@@ -8,7 +8,7 @@ use Rattle.annex_model.specs.declared.final_line.Final.{Final}
 use Rattle.annex_model.specs.declared.final_line.Final.TheVariants.{Absent, Unknown, Unsupported}
 use Rattle.journal_model.specs.declared.verdict.Verdict.{Verdict}
 use Rattle.journal_model.specs.declared.verdict.Verdict.TheVariants.{Done as DoneAt, Failed as FailedAt, Absent as AbsentAt, Unknown as UnknownAt, Unsupported as UnsupportedAt, Ended, Unsent}
-use Rattle.annex_model.specs.Messages.{RemoteMessage, Extensions, PrepareSuccess, PrepareFailure, InitremoteSuccess, InitremoteFailure, HostMessage, AskExtensions, Prepare, Initremote, host_line, host_reading, is_askable}
+use Rattle.annex_model.specs.Messages.{RemoteMessage, Extensions, PrepareSuccess, PrepareFailure, HostMessage, AskExtensions, Prepare, host_line, host_reading, is_askable}
 use Rattle.annex_model.specs.Tags.{tagged_line, without_tag}
 use Rattle.annex_model.proofs.TagReadings.{untag_of_tagged}
 use Rattle.annex_model.specs.Talks.{final_of, is_unsupported, one_line, said_alone}
@@ -25,95 +25,76 @@ use Rattle.journal_model.proofs.Verdicts.{ended_verdict, unsent_verdict, unasked
 use Rattle.host_core.specs.Steps.{group_of, is_gone, next_job, may_request}
 use Rattle.child_link.specs.Doors.{GoesOn, is_of_link}
 use Rattle.child_link.specs.Asks.{HasAsked, IsSettled, IsLost, lost_as}
-use Rattle.child_start.specs.declared.greeting.Mode.{Mode}
-use Rattle.child_start.specs.declared.greeting.Mode.TheVariants.{Serve, Init}
-use Rattle.child_start.specs.Greetings.{is_greeting_line_for, is_of_greeting_for, is_initremote, asks_for, is_refusal}
-use Rattle.child_start.specs.Stages.{asked_as, is_greeting, is_asked_for, GreetsOn, IsGoneNext, AsksNext}
+use Rattle.child_start.specs.Greetings.{is_greeting_line, is_of_greeting, is_refusal}
+use Rattle.child_start.specs.Stages.{asked_as, is_greeting, GreetsOn, IsGoneNext, AsksNext}
 use Rattle.child_start.proofs.Jobs.{goes_jobs, goes_idle, jobs_settled, jobs_lost, idle_asked, or_true}
 
 -- ---- the greeting goes on
 
-own_link : (mode : Mode) (c : ℕ) (w : What) → is_of_link w ≡ true → is_of_greeting_for mode c w ≡ true
-own_link mode c (Ask child job task line) h = absurd cc
-own_link mode c (Lost child task) h = absurd cc
-own_link mode c w h = h
+own_link : (c : ℕ) (w : What) → is_of_link w ≡ true → is_of_greeting c w ≡ true
+own_link c (Ask child job task line) h = absurd cc
+own_link c (Lost child task) h = absurd cc
+own_link c w h = h
 
-own_links : (mode : Mode) (c : ℕ) (more : List Entry) → list_all (λ (e : Entry). is_of_link e.what) more ≡ true → list_all (λ (e : Entry). is_of_greeting_for mode c e.what) more ≡ true
-own_links mode c [] h = refl
-own_links mode c (e ∷ more) h =
+own_links : (c : ℕ) (more : List Entry) → list_all (λ (e : Entry). is_of_link e.what) more ≡ true → list_all (λ (e : Entry). is_of_greeting c e.what) more ≡ true
+own_links c [] h = refl
+own_links c (e ∷ more) h =
     let t : (is_of_link e.what ≡ true) × (list_all (λ (e : Entry). is_of_link e.what) more ≡ true) = both (is_of_link e.what) (list_all (λ (e : Entry). is_of_link e.what) more) h in
-    rw (own_link mode c e.what t.0, own_links mode c more t.1) refl
+    rw (own_link c e.what t.0, own_links c more t.1) refl
 
-own_both : (mode : Mode) (c : ℕ) (xs ys : List Entry) → list_all (λ (e : Entry). is_of_greeting_for mode c e.what) xs ≡ true → list_all (λ (e : Entry). is_of_greeting_for mode c e.what) ys ≡ true
-    → list_all (λ (e : Entry). is_of_greeting_for mode c e.what) (xs ++ ys) ≡ true
-own_both mode c xs ys h k =
-    list_all-append (λ (e : Entry). is_of_greeting_for mode c e.what) xs ys ∙ ap (λ (b : Bool). b && list_all (λ (e : Entry). is_of_greeting_for mode c e.what) ys) h ∙ k
+own_both : (c : ℕ) (xs ys : List Entry) → list_all (λ (e : Entry). is_of_greeting c e.what) xs ≡ true → list_all (λ (e : Entry). is_of_greeting c e.what) ys ≡ true
+    → list_all (λ (e : Entry). is_of_greeting c e.what) (xs ++ ys) ≡ true
+own_both c xs ys h k =
+    list_all-append (λ (e : Entry). is_of_greeting c e.what) xs ys ∙ ap (λ (b : Bool). b && list_all (λ (e : Entry). is_of_greeting c e.what) ys) h ∙ k
 
-pub greets_both : {mode : Mode} (a b d : List Entry) (c : ℕ) → GreetsOn mode a b c → GreetsOn mode b d c → GreetsOn mode a d c
-greets_both {mode} a b d c x y = record {
+pub greets_both : (a b d : List Entry) (c : ℕ) → GreetsOn a b c → GreetsOn b d c → GreetsOn a d c
+greets_both a b d c x y = record {
   more = x.more ++ y.more;
   is = y.is ∙ ap (λ (l : List Entry). l ++ y.more) x.is ∙ append_assoc a x.more y.more;
-  own = own_both mode c x.more y.more x.own y.own;
+  own = own_both c x.more y.more x.own y.own;
   idle = y.idle;
 }
 
 -- a link's own entries
-pub greets_goes : {mode : Mode} (old new : List Entry) (c : ℕ) → GoesOn old new → open_jobs old c ≡ [] → GreetsOn mode old new c
-greets_goes {mode} old new c g idle = record { more = g.more; is = g.is; own = own_links mode c g.more g.quiet; idle = goes_idle old new c g idle }
+pub greets_goes : (old new : List Entry) (c : ℕ) → GoesOn old new → open_jobs old c ≡ [] → GreetsOn old new c
+greets_goes old new c g idle = record { more = g.more; is = g.is; own = own_links c g.more g.quiet; idle = goes_idle old new c g idle }
 
--- the line of a request of its own reads as that request, with its tag or without
-module _ (asks : List ℕ → Bool) (q : HostMessage) (reads : (line : List ℕ) → line ≡ host_line q → asks line ≡ true)
-    (tagged : asks (tagged_line 1 (host_line q)) ≡ true) where
-  second_line : (past : List Entry) (c job : ℕ) → (job == 1) ≡ true → (job == 0 || (job == 1 && asks (on_wire past c job (host_line q)))) ≡ true
-  second_line past c job one =
-      let number : job ≡ 1 = same_number job 1 one in
-      let asked : asks (on_wire past c job (host_line q)) ≡ true = ap (λ (k : ℕ). asks (on_wire past c k (host_line q))) number ∙ wired (is_tagged past c) in
-      ap (λ (b : Bool). job == 0 || (b && asks (on_wire past c job (host_line q)))) one ∙ ap (λ (b : Bool). job == 0 || b) asked ∙ or_true (job == 0)
-    where
-      wired : (b : Bool) → asks (cond b (tagged_line 1 (host_line q)) (host_line q)) ≡ true
-      wired true = tagged
-      wired false = reads (host_line q) refl
-
--- a request of the greeting is job 0, or job 1 to get ready or to be set up
-early_turn : (past : List Entry) (c job : ℕ) (q : HostMessage) (mode : Mode) → is_asked_for q mode ≡ true → is_in_turn past c job q ≡ true
-    → is_greeting_line_for mode job (on_wire past c job (host_line q)) ≡ true
-early_turn past c job (AskExtensions names) mode g h =
-    ap (λ (b : Bool). b || (job == 1 && asks_for mode (on_wire past c job (host_line (AskExtensions names))))) (both (job == 0) (bytes_eq names (offered_names past c)) h).0
-early_turn past c job Prepare Serve g h =
-    second_line asks_prepare Prepare (λ line e. ap asks_prepare e) tagged past c job (both (job == 1) true h).0
+-- a request of the greeting is job 0, or job 1 to get ready
+early_turn : (past : List Entry) (c job : ℕ) (q : HostMessage) → is_greeting q ≡ true → is_in_turn past c job q ≡ true → is_greeting_line job (on_wire past c job (host_line q)) ≡ true
+early_turn past c job (AskExtensions names) g h =
+    ap (λ (b : Bool). b || (job == 1 && asks_prepare (on_wire past c job (host_line (AskExtensions names))))) (both (job == 0) (bytes_eq names (offered_names past c)) h).0
+early_turn past c job Prepare g h =
+    let one : (job == 1) ≡ true = (both (job == 1) true h).0 in
+    let asks : asks_prepare (on_wire past c job (host_line Prepare)) ≡ true =
+    ap (λ (k : ℕ). asks_prepare (on_wire past c k (host_line Prepare))) (same_number job 1 one) ∙ wired (is_tagged past c) in
+    ap (λ (b : Bool). job == 0 || (b && asks_prepare (on_wire past c job (host_line Prepare)))) one ∙ ap (λ (b : Bool). job == 0 || b) asks ∙ or_true (job == 0)
   where
-    tagged : asks_prepare (tagged_line 1 (host_line Prepare)) ≡ true
-    tagged =
+    wired : (b : Bool) → asks_prepare (cond b (tagged_line 1 (host_line Prepare)) (host_line Prepare)) ≡ true
+    wired true =
         let small : 1 < 2 ^ 64 = lit< tt in
         ap (λ (t : Option (ℕ × List ℕ)). is_prepare (host_reading (without_tag (tagged_line 1 (host_line Prepare)) t))) (untag_of_tagged 1 (host_line Prepare) small)
-early_turn past c job Initremote Init g h =
-    second_line (asks_for Init) Initremote (λ line e. ap (asks_for Init) e) tagged past c job (both (job == 1) true h).0
-  where
-    tagged : asks_for Init (tagged_line 1 (host_line Initremote)) ≡ true
-    tagged =
-        let small : 1 < 2 ^ 64 = lit< tt in
-        ap (λ (t : Option (ℕ × List ℕ)). is_initremote (host_reading (without_tag (tagged_line 1 (host_line Initremote)) t))) (untag_of_tagged 1 (host_line Initremote) small)
-early_turn past c job q mode g h = absurd cc
+    wired false = refl
+early_turn past c job q g h = absurd cc
 
-pub early_job : (past : List Entry) (by c : ℕ) (q : HostMessage) (mode : Mode) → is_asked_for q mode ≡ true → may_request past by 0 c q ≡ true
-    → is_greeting_line_for mode (next_job past c) (on_wire past c (next_job past c) (host_line q)) ≡ true
-early_job past by c q mode g h =
+pub early_job : (past : List Entry) (by c : ℕ) (q : HostMessage) → is_greeting q ≡ true → may_request past by 0 c q ≡ true
+    → is_greeting_line (next_job past c) (on_wire past c (next_job past c) (host_line q)) ≡ true
+early_job past by c q g h =
     let turn : (is_started past c && may_ask past by 0 c && is_in_turn past c (next_job past c) q) ≡ true =
     (both (is_started past c && may_ask past by 0 c && is_in_turn past c (next_job past c) q) (is_askable q) h).0 in
-    early_turn past c (next_job past c) q mode g (both (is_started past c && may_ask past by 0 c) (is_in_turn past c (next_job past c) q) turn).1
+    early_turn past c (next_job past c) q g (both (is_started past c && may_ask past by 0 c) (is_in_turn past c (next_job past c) q) turn).1
 
 -- a request that is no task's
-pub greets_asked : {mode : Mode} (o : Opening) (old new : List Entry) (by c : ℕ) (q : HostMessage) (verdict : Verdict) → open_jobs old c ≡ []
-    → is_greeting_line_for mode (next_job old c) (on_wire old c (next_job old c) (host_line q)) ≡ true → HasAsked o old new by c 0 q verdict → GreetsOn mode old new c
-greets_asked {mode} o old new by c q verdict idle early (inl s) =
+pub greets_asked : (o : Opening) (old new : List Entry) (by c : ℕ) (q : HostMessage) (verdict : Verdict) → open_jobs old c ≡ []
+    → is_greeting_line (next_job old c) (on_wire old c (next_job old c) (host_line q)) ≡ true → HasAsked o old new by c 0 q verdict → GreetsOn old new c
+greets_asked o old new by c q verdict idle early (inl s) =
     let asked : List Entry = group_of o old by (Ask c (next_job old c) 0 (on_wire old c (next_job old c) (host_line q))) in
     record {
       more = asked ++ s.goes.more;
       is = s.goes.is ∙ append_assoc old asked s.goes.more;
-      own = own_both mode c asked s.goes.more (rw (same c, early) refl) (own_links mode c s.goes.more s.goes.quiet);
+      own = own_both c asked s.goes.more (rw (same c, early) refl) (own_links c s.goes.more s.goes.quiet);
       idle = idle_asked o old new by c 0 q verdict idle (inl s);
     }
-greets_asked {mode} o old new by c q verdict idle early (inr l) = record {
+greets_asked o old new by c q verdict idle early (inr l) = record {
   more = group_of o old by (Lost c 0);
   is = l.made;
   own = rw (same c) refl;
@@ -153,9 +134,6 @@ one_plain (AskExtensions names) m h = refl
 one_plain Prepare PrepareSuccess h = refl
 one_plain Prepare (PrepareFailure text) h = refl
 one_plain Prepare m h = refl
-one_plain Initremote InitremoteSuccess h = refl
-one_plain Initremote (InitremoteFailure text) h = refl
-one_plain Initremote m h = refl
 one_plain q m h = absurd cc
 
 alone_plain : (q : HostMessage) (ms : List (Option RemoteMessage)) → is_greeting q ≡ true → is_plain (said_alone q ms) ≡ true
@@ -169,7 +147,6 @@ either_plain false f h = h
 final_plain : (q : HostMessage) (ms : List (Option RemoteMessage)) → is_greeting q ≡ true → is_plain (final_of q ms) ≡ true
 final_plain (AskExtensions names) ms h = either_plain (is_unsupported ms) (said_alone (AskExtensions names) ms) (alone_plain (AskExtensions names) ms h)
 final_plain Prepare ms h = either_plain (is_unsupported ms) (said_alone Prepare ms) (alone_plain Prepare ms h)
-final_plain Initremote ms h = either_plain (is_unsupported ms) (said_alone Initremote ms) (alone_plain Initremote ms h)
 final_plain q ms h = absurd cc
 
 -- no answer to a request of the greeting says so

@@ -10,67 +10,35 @@ use Rattle.journal_model.specs.declared.verdict.Verdict.TheVariants.{Failed as F
 use Rattle.journal_model.specs.declared.entry.What.{What}
 use Rattle.journal_model.specs.declared.entry.What.TheVariants.{Start, NoStart, Ask, Lost}
 use Rattle.journal_model.specs.declared.entry.Entry.{Entry}
-use Rattle.annex_model.specs.Messages.{HostMessage, Initremote, host_reading}
-use Rattle.annex_model.specs.Tags.{untag, without_tag}
 use Rattle.journal_model.specs.Journal.{is_ended, is_mute, is_tagged, why_of, verdict_of, asked_jobs, open_jobs}
 use Rattle.journal_model.specs.Legality.{count, is_start, is_done, asks_prepare, is_prepared}
 use Rattle.child_link.specs.Doors.{is_closed, is_of_link}
 use Rattle.child_link.specs.Links.{LinkValue}
-use Rattle.child_start.specs.declared.greeting.Mode.{Mode}
-use Rattle.child_start.specs.declared.greeting.Mode.TheVariants.{Serve, Init}
 use Rattle.child_start.specs.declared.greeting.Greeting.{Greeting}
 use Rattle.child_start.specs.declared.greeting.Greeting.TheVariants.{Ready, Refused, Ended, Unsent, StartFault, NoMemory}
 
-abbrev pub is_initremote : Option HostMessage → Bool
-is_initremote (Some Initremote) = true
-is_initremote q = false
+-- the line is that of job 0, or of job 1 and asks to get ready
+abbrev pub is_greeting_line : ℕ → List ℕ → Bool
+is_greeting_line job line = job == 0 || (job == 1 && asks_prepare line)
 
--- the line asks what such a child is asked: to get ready, or to be set up
-abbrev pub asks_for : Mode → List ℕ → Bool
-asks_for Serve line = asks_prepare line
-asks_for Init line = is_initremote (host_reading (without_tag line (untag line)))
-
--- the line is that of job 0, or of job 1 and asks that
-abbrev pub is_greeting_line_for : Mode → ℕ → List ℕ → Bool
-is_greeting_line_for mode job line = job == 0 || (job == 1 && asks_for mode line)
-
--- the entry is of c's greeting: its link's own, or a request that is no task's, as job 0 or job 1
-abbrev pub is_of_greeting_for : Mode → ℕ → What → Bool
-is_of_greeting_for mode c (Ask child job task line) = child == c && (task == 0 && is_greeting_line_for mode job line)
-is_of_greeting_for mode c (Lost child task) = child == c && task == 0
-is_of_greeting_for mode c w = is_of_link w
+-- the entry is of c's greeting: its link's own, or a request that is no task's, as job 0, or as job 1 to get ready
+abbrev pub is_of_greeting : ℕ → What → Bool
+is_of_greeting c (Ask child job task line) = child == c && (task == 0 && is_greeting_line job line)
+is_of_greeting c (Lost child task) = child == c && task == 0
+is_of_greeting c w = is_of_link w
 
 -- the child was started in that slot, and behind its start stands its greeting alone, with each of its jobs settled
-pub record GreetedFor (mode : Mode) (old new : List Entry) (slot : ℕ) (offer : Bool) (c : ℕ) : Type 0 where
+pub record Greeted (old new : List Entry) (slot : ℕ) (offer : Bool) (c : ℕ) : Type 0 where
   pub next : c ≡ count is_start old + 1
   pub more : List Entry
   pub grown : new ≡ old ++ record { by = 0; what = Start c slot offer } ∷ more
-  pub own : list_all (λ e. is_of_greeting_for mode c e.what) more ≡ true
+  pub own : list_all (λ e. is_of_greeting c e.what) more ≡ true
   pub idle : open_jobs new c ≡ []
-
--- the same of a child that is to serve
-abbrev pub is_greeting_line : ℕ → List ℕ → Bool
-is_greeting_line job line = is_greeting_line_for Serve job line
-
-abbrev pub is_of_greeting : ℕ → What → Bool
-is_of_greeting c w = is_of_greeting_for Serve c w
-
-abbrev pub Greeted : List Entry → List Entry → ℕ → Bool → ℕ → Type 0
-Greeted old new slot offer c = GreetedFor Serve old new slot offer c
 
 -- the child is prepared, after EXTENSIONS and PREPARE alone
 pub record IsReady (journal : List Entry) (c : ℕ) : Type 0 where
   pub prepared : is_prepared journal c ≡ true
   pub jobs : asked_jobs journal c ≡ 0 ∷ 1 ∷ []
-
--- the child is set up, after EXTENSIONS and INITREMOTE alone
-pub record IsSetUp (journal : List Entry) (c : ℕ) : Type 0 where
-  pub done : is_done (verdict_of journal c 1) ≡ true
-  pub jobs : asked_jobs journal c ≡ 0 ∷ 1 ∷ []
-
-abbrev pub IsReadyFor : Mode → List Entry → ℕ → Type 0
-IsReadyFor Serve journal c = IsReady journal c
-IsReadyFor Init journal c = IsSetUp journal c
 
 -- the verdict is that of a request that a line refused: it failed, or the remote doesn't know it
 abbrev pub is_refusal : Option Verdict → Bool
@@ -101,14 +69,14 @@ pub record IsUnsent (journal : List Entry) (c : ℕ) : Type 0 where
   pub mute : is_mute journal c ≡ true
 
 -- what the journal says of a greeting
-abbrev pub TellsFor : {I O S : Type 0} → Mode → List Entry → List Entry → ℕ → Bool → Greeting I O S → Type 0
-TellsFor mode old new slot offer (Ready link stub tagged) =
-    GreetedFor mode old new slot offer link.child × IsReadyFor mode new link.child × (tagged ≡ is_tagged new link.child)
-TellsFor mode old new slot offer (Refused verdict link stub) = GreetedFor mode old new slot offer link.child × IsRefused new link.child verdict
-TellsFor mode old new slot offer (Ended why link stub) = GreetedFor mode old new slot offer link.child × HasEnded new link.child why
-TellsFor mode old new slot offer (Unsent link stub) = GreetedFor mode old new slot offer link.child × IsUnsent new link.child
-TellsFor mode old new slot offer StartFault = new ≡ old ++ record { by = 0; what = NoStart slot } ∷ []
-TellsFor mode old new slot offer NoMemory = new ≡ old
+abbrev pub Tells : {I O S : Type 0} → List Entry → List Entry → ℕ → Bool → Greeting I O S → Type 0
+Tells old new slot offer (Ready link stub tagged) =
+    Greeted old new slot offer link.child × IsReady new link.child × (tagged ≡ is_tagged new link.child)
+Tells old new slot offer (Refused verdict link stub) = Greeted old new slot offer link.child × IsRefused new link.child verdict
+Tells old new slot offer (Ended why link stub) = Greeted old new slot offer link.child × HasEnded new link.child why
+Tells old new slot offer (Unsent link stub) = Greeted old new slot offer link.child × IsUnsent new link.child
+Tells old new slot offer StartFault = new ≡ old ++ record { by = 0; what = NoStart slot } ∷ []
+Tells old new slot offer NoMemory = new ≡ old
 
 -- the link of a greeting that has one
 abbrev pub IfHasLink : {I O S : Type 0} → (LinkValue I O → Type 0) → Greeting I O S → Type 0

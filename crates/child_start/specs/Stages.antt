@@ -3,7 +3,7 @@ use Rattle.std.specs.Prelude.{ℕ, ◌≡◌, ◌⊎◌, Bool, true, false, List
 use Rattle.std.specs.List.{list_all}
 use Rattle.journal_model.specs.declared.verdict.Verdict.{Verdict}
 use Rattle.journal_model.specs.declared.verdict.Verdict.TheVariants.{Done as DoneAt, Failed as FailedAt, Unsupported as UnsupportedAt}
-use Rattle.annex_model.specs.Messages.{HostMessage, AskExtensions, Prepare, Initremote}
+use Rattle.annex_model.specs.Messages.{HostMessage, AskExtensions, Prepare}
 use Rattle.journal_model.specs.declared.entry.Entry.{Entry}
 use Rattle.journal_model.specs.Journal.{is_started, is_ended, has_spoken, is_tagged, verdict_of, asked_jobs, open_jobs}
 use Rattle.journal_model.specs.Legality.{said_version, offered_names, is_done}
@@ -12,15 +12,13 @@ use Rattle.host_core.specs.declared.event.Reply.{Reply}
 use Rattle.host_core.specs.declared.event.Reply.TheVariants.{Child}
 use Rattle.host_core.specs.Steps.{is_gone, next_job}
 use Rattle.child_link.specs.Links.{LinkValue}
-use Rattle.child_start.specs.declared.greeting.Mode.{Mode}
-use Rattle.child_start.specs.declared.greeting.Mode.TheVariants.{Serve, Init}
 use Rattle.child_start.specs.declared.greeting.Greeting.{Greeting}
 use Rattle.child_start.specs.declared.greeting.Greeting.TheVariants.{Ready, Refused as RefusedGreeting, Ended, Unsent, StartFault, NoMemory}
 use Rattle.child_start.specs.declared.starting.RequestOutcome.{RequestOutcome}
 use Rattle.child_start.specs.declared.starting.RequestOutcome.TheVariants.{Done, Refused, Gone}
 use Rattle.child_start.specs.declared.starting.Came.{Came}
 use Rattle.child_start.specs.declared.starting.Came.TheVariants.{Prepared, Refused as RefusedToPrepare, Over, Mute}
-use Rattle.child_start.specs.Greetings.{is_of_greeting_for, is_refusal, IsReadyFor, IsRefused, HasEnded, IsUnsent}
+use Rattle.child_start.specs.Greetings.{is_of_greeting, is_refusal, IsReady, IsRefused, HasEnded, IsUnsent}
 
 -- the child that the core numbers
 abbrev pub child_of : Reply → Option ℕ
@@ -31,20 +29,7 @@ child_of _ = None
 abbrev pub is_greeting : HostMessage → Bool
 is_greeting (AskExtensions names) = true
 is_greeting Prepare = true
-is_greeting Initremote = true
 is_greeting q = false
-
--- what a child is asked behind its extensions
-abbrev pub last_request : Mode → HostMessage
-last_request Serve = Prepare
-last_request Init = Initremote
-
--- such a child is asked it
-abbrev pub is_asked_for : HostMessage → Mode → Bool
-is_asked_for (AskExtensions names) mode = true
-is_asked_for Prepare Serve = true
-is_asked_for Initremote Init = true
-is_asked_for q mode = false
 
 -- what the verdict of a request of the greeting is to it
 abbrev pub asked_as : Verdict → RequestOutcome
@@ -69,10 +54,10 @@ pub record MayAsk (journal : List Entry) (c : ℕ) (offer : Bool) : Type 0 where
   pub names : offered_names journal c ≡ names_of offer
 
 -- what was seen before is followed by the child's greeting alone, and none of its jobs is open
-pub record GreetsOn (mode : Mode) (old new : List Entry) (c : ℕ) : Type 0 where
+pub record GreetsOn (old new : List Entry) (c : ℕ) : Type 0 where
   pub more : List Entry
   pub is : new ≡ old ++ more
-  pub own : list_all (λ e. is_of_greeting_for mode c e.what) more ≡ true
+  pub own : list_all (λ e. is_of_greeting c e.what) more ≡ true
   pub idle : open_jobs new c ≡ []
 
 -- the child's next job is done
@@ -105,25 +90,25 @@ pub record IsGoneUnready (journal : List Entry) (c : ℕ) : Type 0 where
   pub undone : is_done (verdict_of journal c 1) ≡ false
   pub unrefused : is_refusal (verdict_of journal c 1) ≡ false
 
-abbrev pub Prepares : Mode → List Entry → ℕ → RequestOutcome → Type 0
-Prepares mode journal c Done = IsReadyFor mode journal c
-Prepares mode journal c (Refused verdict) = IsRefused journal c verdict
-Prepares mode journal c Gone = IsGoneUnready journal c
+abbrev pub Prepares : List Entry → ℕ → RequestOutcome → Type 0
+Prepares journal c Done = IsReady journal c
+Prepares journal c (Refused verdict) = IsRefused journal c verdict
+Prepares journal c Gone = IsGoneUnready journal c
 
-abbrev pub ComesTo : Mode → List Entry → ℕ → Came → Type 0
-ComesTo mode journal c Prepared = IsReadyFor mode journal c
-ComesTo mode journal c (RefusedToPrepare verdict) = IsRefused journal c verdict
-ComesTo mode journal c (Over why) = HasEnded journal c why
-ComesTo mode journal c Mute = IsUnsent journal c
+abbrev pub ComesTo : List Entry → ℕ → Came → Type 0
+ComesTo journal c Prepared = IsReady journal c
+ComesTo journal c (RefusedToPrepare verdict) = IsRefused journal c verdict
+ComesTo journal c (Over why) = HasEnded journal c why
+ComesTo journal c Mute = IsUnsent journal c
 
 -- what a greeting says of the child, which was started
-abbrev pub TellsOf : {I O S : Type 0} → Mode → List Entry → ℕ → Greeting I O S → Type 0
-TellsOf mode new c (Ready link stub tagged) = (link.child ≡ c) × IsReadyFor mode new c × (tagged ≡ is_tagged new c)
-TellsOf mode new c (RefusedGreeting verdict link stub) = (link.child ≡ c) × IsRefused new c verdict
-TellsOf mode new c (Ended why link stub) = (link.child ≡ c) × HasEnded new c why
-TellsOf mode new c (Unsent link stub) = (link.child ≡ c) × IsUnsent new c
-TellsOf mode new c StartFault = ⊥
-TellsOf mode new c NoMemory = ⊥
+abbrev pub TellsOf : {I O S : Type 0} → List Entry → ℕ → Greeting I O S → Type 0
+TellsOf new c (Ready link stub tagged) = (link.child ≡ c) × IsReady new c × (tagged ≡ is_tagged new c)
+TellsOf new c (RefusedGreeting verdict link stub) = (link.child ≡ c) × IsRefused new c verdict
+TellsOf new c (Ended why link stub) = (link.child ≡ c) × HasEnded new c why
+TellsOf new c (Unsent link stub) = (link.child ≡ c) × IsUnsent new c
+TellsOf new c StartFault = ⊥
+TellsOf new c NoMemory = ⊥
 
 -- both halves keep their numbers
 abbrev pub AreSameNumbers : {I O : Type 0} → (I → Option ℕ) → (O → Option ℕ) → LinkValue I O → LinkValue I O → Type 0

@@ -7,13 +7,11 @@ use journal_model::{Verdict, Why};
 pub enum Mode {
     /// To serve: it is asked PREPARE.
     Serve,
-    /// To be set up: it is asked INITREMOTE, and nothing behind it.
-    Init,
 }
 
 /// What became of a child that was to be started.
 pub enum Greeting<I: Sink, O: Source, S> {
-    /// It did what it was prepared for. Where that is to serve, it takes requests.
+    /// It takes requests.
     Ready {
         link: Lone<I, O>,
         stub: S,

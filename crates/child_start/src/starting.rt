@@ -6,9 +6,8 @@ ghost use Rattle.journal_model.specs.Legality.{Legal, count, is_start};
 ghost use Rattle.talk_serial.specs.Requests.{message_of};
 ghost use Rattle.host_core.specs.Steps.{may_request};
 ghost use Rattle.child_link.specs.Links.{IsLinked};
-ghost use Rattle.child_start.specs.declared.greeting.Mode.{Mode};
-ghost use Rattle.child_start.specs.Greetings.{TellsFor, IfHasLink, StartsOnce, AreNumbered};
-ghost use Rattle.child_start.specs.Stages.{asked_as, child_of, is_greeting, is_asked_for, last_request, HasBegun, MayAsk, GreetsOn, AsksNext, Prepares, ComesTo, TellsOf, AreSameNumbers};
+ghost use Rattle.child_start.specs.Greetings.{Tells, IfHasLink, StartsOnce, AreNumbered};
+ghost use Rattle.child_start.specs.Stages.{asked_as, child_of, is_greeting, HasBegun, MayAsk, GreetsOn, AsksNext, Prepares, ComesTo, TellsOf, AreSameNumbers};
 
 use crate::greeting::{Greeting, Mode};
 use ann_key::NoMemory;
@@ -60,7 +59,7 @@ fn ask_one<I: Sink, O: Source, D: Door>(
     requires may { may_request (D.seen door.old) (D.number door.old) 0 link.old.child (message_of request.now) ≡ true }
     requires kind { is_greeting (message_of request.now) ≡ true }
     requires idle { open_jobs (D.seen door.old) link.old.child ≡ [] }
-    ensures on { (mode : Mode) → is_asked_for (message_of request.now) mode ≡ true → GreetsOn mode (D.seen door.old) (D.seen door.new) link.old.child }
+    ensures on { GreetsOn (D.seen door.old) (D.seen door.new) link.old.child }
     ensures asks { AsksNext (D.seen door.old) (D.seen door.new) link.old.child result }
     ensures linked { IsLinked I.taken I.faults O.given O.left O.faults (D.seen door.old) link.old → IsLinked I.taken I.faults O.given O.left O.faults (D.seen door.new) link.new }
     ensures child { link.new.child ≡ link.old.child }
@@ -80,17 +79,7 @@ fn ask_one<I: Sink, O: Source, D: Door>(
     }
 }
 
-// What a child is asked behind its extensions.
-fn last_request(mode: Mode) -> Request
-    ensures { message_of result ≡ last_request mode }
-{
-    match mode {
-        Mode::Serve => Request::Prepare,
-        Mode::Init => Request::InitRemote,
-    }
-}
-
-// Asks for the extensions, and then to get ready or to be set up. A remote that doesn't know of extensions has none.
+// Asks for the extensions, and then to get ready for what the mode says. A remote that doesn't know of extensions has none.
 fn ask_both<I: Sink, O: Source, D: Door>(
     link: &mut Lone<I, O>,
     door: &mut D,
@@ -101,8 +90,8 @@ fn ask_both<I: Sink, O: Source, D: Door>(
     requires first { D.number door.old ≡ 0 }
     requires legal { Legal (D.opening door.old) (D.seen door.old) }
     requires asks { MayAsk (D.seen door.old) link.old.child offer }
-    ensures on { GreetsOn mode (D.seen door.old) (D.seen door.new) link.old.child }
-    ensures prepares { Prepares mode (D.seen door.new) link.old.child result }
+    ensures on { GreetsOn (D.seen door.old) (D.seen door.new) link.old.child }
+    ensures prepares { Prepares (D.seen door.new) link.old.child result }
     ensures linked { IsLinked I.taken I.faults O.given O.left O.faults (D.seen door.old) link.old → IsLinked I.taken I.faults O.given O.left O.faults (D.seen door.new) link.new }
     ensures child { link.new.child ≡ link.old.child }
     ensures numbers { AreSameNumbers I.number O.number link.old link.new }
@@ -116,7 +105,9 @@ fn ask_both<I: Sink, O: Source, D: Door>(
     if let RequestOutcome::Gone = ask_one(link, door, &extensions) {
         return RequestOutcome::Gone;
     }
-    ask_one(link, door, &last_request(mode))
+    match mode {
+        Mode::Serve => ask_one(link, door, &Request::Prepare),
+    }
 }
 
 // The whole greeting, from the child's first line on.
@@ -130,8 +121,8 @@ fn hear_and_ask<I: Sink, O: Source, D: Door>(
     requires first { D.number door.old ≡ 0 }
     requires legal { Legal (D.opening door.old) (D.seen door.old) }
     requires begun { HasBegun (D.seen door.old) link.old.child offer }
-    ensures on { GreetsOn mode (D.seen door.old) (D.seen door.new) link.old.child }
-    ensures comes { ComesTo mode (D.seen door.new) link.old.child result }
+    ensures on { GreetsOn (D.seen door.old) (D.seen door.new) link.old.child }
+    ensures comes { ComesTo (D.seen door.new) link.old.child result }
     ensures linked { IsLinked I.taken I.faults O.given O.left O.faults (D.seen door.old) link.old → IsLinked I.taken I.faults O.given O.left O.faults (D.seen door.new) link.new }
     ensures child { link.new.child ≡ link.old.child }
     ensures numbers { AreSameNumbers I.number O.number link.old link.new }
@@ -163,8 +154,8 @@ fn greet_link<I: Sink, O: Source>(
 ) -> Came
     requires legal { Legal core.old.opening core.old.journal }
     requires begun { HasBegun core.old.journal link.old.child offer }
-    ensures on { GreetsOn mode core.old.journal core.new.journal link.old.child }
-    ensures comes { ComesTo mode core.new.journal link.old.child result }
+    ensures on { GreetsOn core.old.journal core.new.journal link.old.child }
+    ensures comes { ComesTo core.new.journal link.old.child result }
     ensures linked { IsLinked I.taken I.faults O.given O.left O.faults core.old.journal link.old → IsLinked I.taken I.faults O.given O.left O.faults core.new.journal link.new }
     ensures child { link.new.child ≡ link.old.child }
     ensures numbers { AreSameNumbers I.number O.number link.old link.new }
@@ -187,8 +178,8 @@ fn greet_child<I: Sink, O: Source, S>(
 ) -> Greeting<I, O, S>
     requires legal { Legal core.old.opening core.old.journal }
     requires begun { HasBegun core.old.journal link.child offer }
-    ensures on { GreetsOn mode core.old.journal core.new.journal link.child }
-    ensures tells { TellsOf mode core.new.journal link.child result }
+    ensures on { GreetsOn core.old.journal core.new.journal link.child }
+    ensures tells { TellsOf core.new.journal link.child result }
     ensures linked { IsLinked I.taken I.faults O.given O.left O.faults core.old.journal link → IfHasLink (IsLinked I.taken I.faults O.given O.left O.faults core.new.journal) result }
     ensures numbers { IfHasLink (AreSameNumbers I.number O.number link) result }
     ensures legal { Legal core.new.opening core.new.journal }
@@ -262,7 +253,7 @@ where
 }
 
 /// Starts the program in a slot, and greets the child: its first line is its version, then it is asked for its extensions,
-/// where ASYNC is offered to it or not, and to get ready or to be set up.
+/// where ASYNC is offered to it or not, and to get ready.
 pub fn greet<P: Programs>(
     alloc: Global,
     programs: &mut P,
@@ -276,7 +267,7 @@ where
     P::Inlet: Drop,
     P::Outlet: Drop,
     requires few { count is_start core.old.journal < 4294967295 }
-    ensures tells { TellsFor mode core.old.journal core.new.journal slot offer result }
+    ensures tells { Tells core.old.journal core.new.journal slot offer result }
     ensures linked { IfHasLink (IsLinked P.Inlet.taken P.Inlet.faults P.Outlet.given P.Outlet.left P.Outlet.faults core.new.journal) result }
     ensures numbers { IfHasLink (AreNumbered P.Inlet.number P.Outlet.number (P.starts programs.new)) result }
     ensures starts { StartsOnce (P.starts programs.old) (P.starts programs.new) program.now result }

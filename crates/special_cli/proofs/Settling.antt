@@ -17,7 +17,8 @@ use Rattle.journal_model.specs.Legality.{is_done, is_busy_with, has_busy_task, m
 use Rattle.journal_model.proofs.Looks.{both, same, any-append, each_of-append, verdict_of-append}
 use Rattle.journal_model.proofs.Linking.{why_of-append, why_is_end}
 use Rattle.journal_look.specs.Looks.{is_no_start}
-use Rattle.child_link.specs.Doors.{Closes, is_closed}
+use Rattle.journal_model.specs.Shares.{is_closed}
+use Rattle.link_roles.specs.Alone.{Closes}
 use Rattle.child_start.specs.declared.greeting.Mode.TheVariants.{Init}
 use Rattle.child_start.specs.Greetings.{GreetedFor, IsSetUp, IsRefused, HasEnded, IsUnsent, is_of_greeting_for, is_refusal}
 use Rattle.child_start.proofs.Jobs.{idle_on}

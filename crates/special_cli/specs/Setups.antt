@@ -25,7 +25,9 @@ use Rattle.child_start.specs.Greetings.{is_of_greeting_for}
 use Rattle.init_run.specs.Setups.{IsOpening, IsTextOf, outcome_of}
 use Rattle.init_run.specs.declared.setup.Setup.{Setup}
 use Rattle.init_run.specs.declared.setup.Setup.TheVariants.{Initialized, Stopped}
-use Rattle.child_link.specs.Links.{LinkValue}
+use Rattle.ann_outside.specs.declared.Sink.{Ghosts as SinkGhosts}
+use Rattle.ann_outside.specs.declared.Source.{Ghosts as SourceGhosts}
+use Rattle.journal_model.specs.Halves.{EarValue, MouthValue}
 use Rattle.special_cli.specs.declared.init.asking.Talk.{Talk}
 use Rattle.special_cli.specs.declared.init.asking.Talk.TheVariants.{Over, StartFault, NoMemory}
 use Rattle.special_cli.specs.Runs.{main_entry}
@@ -133,20 +135,20 @@ pub record IsTalked (journal : List Entry) (c : ℕ) (setup : Setup) : Type 0 wh
   pub settled : open_jobs journal c ≡ []
   pub outcome : outcome_of journal ≡ Some setup
 
-abbrev pub Talked : {I O S : Type 0} → List Entry → Talk I O S → Type 0
-Talked journal (Over link stub setup) = IsTalked journal link.child setup
+abbrev pub Talked : {I O S : Type 0} {sinks : SinkGhosts I} {sources : SourceGhosts O} → List Entry → Talk I O S sinks sources → Type 0
+Talked journal (Over link stub setup) = IsTalked journal link.ear.child setup
 Talked journal StartFault = journal ≡ main_entry (NoStart 0) ∷ []
 Talked journal NoMemory = journal ≡ []
 
--- the link of a child that there is
-abbrev pub IfTalked : {I O S : Type 0} → (LinkValue I O → Type 0) → Talk I O S → Type 0
-IfTalked P (Over link stub setup) = P link
+-- the halves of the link of a child that there is
+abbrev pub IfTalked : {I O S : Type 0} {sinks : SinkGhosts I} {sources : SourceGhosts O} → (EarValue → MouthValue → Type 0) → Talk I O S sinks sources → Type 0
+IfTalked P (Over link stub setup) = P link.ear link.mouth
 IfTalked P StartFault = Unit {0}
 IfTalked P NoMemory = Unit {0}
 
 -- Where programs tell, they were asked for the program once, which gave a child or not. Without memory they may not have been
 -- asked, or it may have been for nothing.
-abbrev pub TalkStarts : {I O S : Type 0} → Option Starts → Option Starts → List ℕ → Talk I O S → Type 0
+abbrev pub TalkStarts : {I O S : Type 0} {sinks : SinkGhosts I} {sources : SourceGhosts O} → Option Starts → Option Starts → List ℕ → Talk I O S sinks sources → Type 0
 TalkStarts old new program (Over link stub setup) = AddsOne old new (program, true)
 TalkStarts old new program StartFault = AddsOne old new (program, false)
 TalkStarts old new program NoMemory = Stays old new ⊎ ((b : Bool) × AddsOne old new (program, b))

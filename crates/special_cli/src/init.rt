@@ -16,13 +16,13 @@ use crate::outside::Outside;
 use crate::ran::{Ran, journal_of};
 use ann_key::NoMemory;
 use ann_outside::{Desk, Desks, Programs};
-use child_link::Wire;
 use cli_words::InitWords;
 use host_core::Core;
 use init_run::{Begun, Setup, begin};
 use journal_look::Journal;
 use journal_model::Opening;
 use keep_desk::write_kept;
+use link_roles::Wire;
 use std::alloc::Global;
 
 // Room for what a setup leaves of its objects.

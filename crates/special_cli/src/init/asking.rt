@@ -2,7 +2,8 @@
 ghost use Rattle.std.specs.Prelude.{◌≡◌, ◌<◌, [], Some, map, IfOk, IsErr, vec_len, vec_capacity};
 ghost use Rattle.ann_outside.specs.Causes.{Rose};
 ghost use Rattle.journal_model.specs.Legality.{Legal};
-ghost use Rattle.child_link.specs.Links.{IsLinked};
+ghost use Rattle.journal_model.specs.Halves.{LinkWired};
+ghost use Rattle.child_start.specs.Cores.{IsSameCore};
 ghost use Rattle.child_start.specs.Greetings.{AreNumbered};
 ghost use Rattle.init_run.specs.Setups.{outcome_of};
 ghost use Rattle.special_cli.specs.Left.{wire_value, programs_value};
@@ -12,11 +13,11 @@ ghost use Rattle.special_cli.specs.Setups.{IsSetup, Talked, IfTalked, TalkStarts
 use crate::child::{close_child, finish};
 use ann_key::NoMemory;
 use ann_outside::{Programs, Sink, Source};
-use child_link::{Lone, Wire};
 use child_start::{Greeting, Mode, greet};
 use host_core::Core;
 use init_run::{Setup, setup_for};
 use journal_model::Answer;
+use link_roles::{Lone, Wire};
 use std::alloc::Global;
 
 // What became of a child that was to set the remote up.
@@ -46,12 +47,11 @@ where
     requires empty { core.old.journal ≡ [] }
     requires legal { Legal core.old.opening core.old.journal }
     ensures talked { Talked core.new.journal result }
-    ensures linked { IfTalked (IsLinked P.Inlet.taken P.Inlet.faults P.Outlet.given P.Outlet.left P.Outlet.faults core.new.journal) result }
-    ensures numbers { IfTalked (AreNumbered P.Inlet.number P.Outlet.number (P.starts programs.new)) result }
+    ensures wired { IfTalked (LinkWired core.new.journal) result }
+    ensures numbers { IfTalked (AreNumbered (P.starts programs.new)) result }
     ensures starts { TalkStarts (P.starts programs.old) (P.starts programs.new) program.now result }
     ensures fault { result ≡ Talk.StartFault → Rose (P.faults programs.old) (P.faults programs.new) }
-    ensures opening { core.new.opening ≡ core.old.opening }
-    ensures legal { Legal core.new.opening core.new.journal }
+    ensures core { IsSameCore core.old core.new }
 {
     match greet(alloc, programs, program, core, 0, false, Mode::Init) {
         Greeting::Ready {
@@ -105,16 +105,11 @@ where
     ensures asked { IsSetup core.new.journal }
     ensures outcome { IfOk result (λ setup. outcome_of core.new.journal ≡ Some setup) }
     ensures leaves { Leaves (IsErr result) program.now core.new.journal (programs_value (P.starts programs.old) (P.faults programs.old)) (programs_value (P.starts programs.new) (P.faults programs.new)) (map (wire_value P.Inlet.taken P.Inlet.faults P.Inlet.number P.Inlet.is_open P.Outlet.given P.Outlet.left P.Outlet.faults P.Outlet.number P.Outlet.is_open) wires.new.items) }
-    ensures opening { core.new.opening ≡ core.old.opening }
-    ensures legal { Legal core.new.opening core.new.journal }
+    ensures core { IsSameCore core.old core.new }
 {
     match hold_talk(alloc, program, programs, core) {
-        Talk::Over {
-            mut link,
-            stub,
-            setup,
-        } => {
-            close_child(&mut link, core);
+        Talk::Over { link, stub, setup } => {
+            close_child(&link, core);
             finish(programs, link, stub, wires);
             Ok(setup)
         }

@@ -13,12 +13,12 @@ end_for_memory-requires-clause-started g c =
     ap (is_started (g.D.Door.seen c.ask.new.door)) c.ask.ensures.child ∙ ap (λ (j : List Entry). is_started j c.args.link.now.child) c.in-Err.ensures.none.0 ∙ c.requires.started
 
 pub returns-in-Ok-clause-on : goal.returns-in-Ok-clause-on
-returns-in-Ok-clause-on g c = λ mode asked.
+returns-in-Ok-clause-on g c =
     let seen = g.D.Door.seen c.args.door.now in
     let by = g.D.Door.number c.args.door.now in
     let q = message_of c.args.request.now in
     greets_asked (g.D.Door.opening c.args.door.now) seen (g.D.Door.seen c.ask.new.door) by c.args.link.now.child q c.in-Ok.verdict c.requires.idle
-    (early_job seen by c.args.link.now.child q mode asked c.requires.may) c.in-Ok.ensures.asked
+    (early_job seen by c.args.link.now.child q c.requires.kind c.requires.may) c.in-Ok.ensures.asked
 
 pub returns-in-Ok-clause-asks : goal.returns-in-Ok-clause-asks
 returns-in-Ok-clause-asks g c =
@@ -29,7 +29,7 @@ returns-in-Ok-clause-asks g c =
     (c.ask.ensures.legal c.requires.legal) c.requires.kind (c.in-Ok.ensures.named c.requires.legal) c.in-Ok.ensures.asked)
 
 pub returns-in-Err-clause-on : goal.returns-in-Err-clause-on
-returns-in-Err-clause-on g c = λ mode asked.
+returns-in-Err-clause-on g c =
     greets_goes (g.D.Door.seen c.args.door.now) (g.D.Door.seen c.end_for_memory.new.door) c.args.link.now.child
     (subst (λ (j : List Entry). GoesOn j (g.D.Door.seen c.end_for_memory.new.door)) c.in-Err.ensures.none.0 c.end_for_memory.ensures.goes) c.requires.idle
 

@@ -13,11 +13,11 @@ greet_child-requires-clause-begun g c =
 
 pub returns-in-Some-clause-tells : goal.returns-in-Some-clause-tells
 returns-in-Some-clause-tells g c =
-    tells_whole c.args.mode c.args.core.now.journal c.note_start.new.core.journal c.greet_child.new.core.journal c.args.slot c.args.offer c.in-Some.child
+    tells_whole c.args.core.now.journal c.note_start.new.core.journal c.greet_child.new.core.journal c.args.slot c.args.offer c.in-Some.child
     c.in-Some.ensures.started.0 c.in-Some.ensures.started.1
-    (subst (λ (k : ℕ). GreetsOn c.args.mode c.note_start.new.core.journal c.greet_child.new.core.journal k) c.new.ensures.child c.greet_child.ensures.on)
+    (subst (λ (k : ℕ). GreetsOn c.note_start.new.core.journal c.greet_child.new.core.journal k) c.new.ensures.child c.greet_child.ensures.on)
     c.greet_child.result
-    (subst (λ (k : ℕ). TellsOf c.args.mode c.greet_child.new.core.journal k c.greet_child.result) c.new.ensures.child c.greet_child.ensures.tells)
+    (subst (λ (k : ℕ). TellsOf c.greet_child.new.core.journal k c.greet_child.result) c.new.ensures.child c.greet_child.ensures.tells)
 
 pub returns-in-Some-clause-linked : goal.returns-in-Some-clause-linked
 returns-in-Some-clause-linked g c =

@@ -27,7 +27,7 @@ returns-in-Done-clause-on g c =
 
 pub returns-in-Done-clause-comes : goal.returns-in-Done-clause-comes
 returns-in-Done-clause-comes g c =
-    prepares_as c.args.mode (g.D.Door.seen c.ask_both.new.door) c.args.link.now.child c.hear_version.new.self.child Done c.ask_both.result c.hear_version.ensures.child c.in-Done.is c.ask_both.ensures.prepares
+    prepares_as (g.D.Door.seen c.ask_both.new.door) c.args.link.now.child c.hear_version.new.self.child Done c.ask_both.result c.hear_version.ensures.child c.in-Done.is c.ask_both.ensures.prepares
 
 pub returns-in-Refused-clause-on : goal.returns-in-Refused-clause-on
 returns-in-Refused-clause-on g c =
@@ -36,7 +36,7 @@ returns-in-Refused-clause-on g c =
 
 pub returns-in-Refused-clause-comes : goal.returns-in-Refused-clause-comes
 returns-in-Refused-clause-comes g c =
-    prepares_as c.args.mode (g.D.Door.seen c.ask_both.new.door) c.args.link.now.child c.hear_version.new.self.child (Refused c.in-Refused.verdict) c.ask_both.result c.hear_version.ensures.child c.in-Refused.is c.ask_both.ensures.prepares
+    prepares_as (g.D.Door.seen c.ask_both.new.door) c.args.link.now.child c.hear_version.new.self.child (Refused c.in-Refused.verdict) c.ask_both.result c.hear_version.ensures.child c.in-Refused.is c.ask_both.ensures.prepares
 
 pub why_ended-requires-clause-started : goal.why_ended-requires-clause-started
 why_ended-requires-clause-started g c =
@@ -54,7 +54,7 @@ returns-in-Some-why_ended-clause-comes g c =
     c.why_ended.ensures.seen (c.ask_both.ensures.child ∙ c.hear_version.ensures.child) c.requires.begun
     (greets_heard (g.D.Door.seen c.args.door.now) (g.D.Door.seen c.hear_version.new.door) (g.D.Door.seen c.ask_both.new.door) (g.D.Door.seen c.why_ended.new.door)
     c.args.link.now.child c.hear_version.new.self.child c.args.offer c.hear_version.ensures.child c.requires.begun c.hear_version.ensures.goes c.ask_both.ensures.on c.why_ended.ensures.seen)
-    (prepares_as c.args.mode (g.D.Door.seen c.ask_both.new.door) c.args.link.now.child c.hear_version.new.self.child Gone c.ask_both.result c.hear_version.ensures.child c.in-Gone.is c.ask_both.ensures.prepares)
+    (prepares_as (g.D.Door.seen c.ask_both.new.door) c.args.link.now.child c.hear_version.new.self.child Gone c.ask_both.result c.hear_version.ensures.child c.in-Gone.is c.ask_both.ensures.prepares)
     (sym c.in-Some-why_ended.is ∙ c.why_ended.ensures.why)
 
 pub returns-in-None-clause-on : goal.returns-in-None-clause-on
@@ -66,5 +66,5 @@ pub returns-in-None-clause-comes : goal.returns-in-None-clause-comes
 returns-in-None-clause-comes g c =
     unsent_told (g.D.Door.seen c.ask_both.new.door) (g.D.Door.seen c.why_ended.new.door) c.args.link.now.child c.ask_both.new.link.child
     c.why_ended.ensures.seen (c.ask_both.ensures.child ∙ c.hear_version.ensures.child)
-    (prepares_as c.args.mode (g.D.Door.seen c.ask_both.new.door) c.args.link.now.child c.hear_version.new.self.child Gone c.ask_both.result c.hear_version.ensures.child c.in-Gone.is c.ask_both.ensures.prepares)
+    (prepares_as (g.D.Door.seen c.ask_both.new.door) c.args.link.now.child c.hear_version.new.self.child Gone c.ask_both.result c.hear_version.ensures.child c.in-Gone.is c.ask_both.ensures.prepares)
     (sym c.in-None.is ∙ c.why_ended.ensures.why)
