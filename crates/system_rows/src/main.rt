@@ -51,7 +51,10 @@ fn kept(alloc: Global, left: &Left, name: &str) -> Result<String, NoMemory> {
     match left.tables.first() {
         Some(desk) => match desk.content(name) {
             Some(bytes) => {
-                words::told(alloc, words::quoted(alloc, memory::shown(bytes.view()))?.as_str())
+                words::told(
+                    alloc,
+                    words::quoted(alloc, memory::shown(bytes.view()))?.as_str(),
+                )
             }
             None => words::told(alloc, "no file"),
         },
