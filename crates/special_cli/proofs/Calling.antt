@@ -479,11 +479,7 @@ module _ (clock : Option ℕ) (before : OutsideValue) (left : Left) (end : End) 
       }
     where
       neither : HasSetUp words before whole → NeitherIn (wanted_of end)
-      neither (inl (e, idle)) = subst (λ (x : End). NeitherIn (wanted_of x)) (sym e) memory
-        where
-          memory : NeitherIn (wanted_of Memory)
-          unfolding wanted_of NeitherIn
-          memory = (refl, refl)
+      neither (inl (e, idle)) = subst (λ (x : End). NeitherIn (wanted_of x)) (sym e) (refl, refl)
       neither (inr d) = init_wanted words d.told d.table left.journal end d.ends
 
       left_of : HasSetUp words before whole → Leaves (end ≡ Memory) words.program left.journal before.programs left.outside.programs left.wires

@@ -1,6 +1,6 @@
 -- What a setup comes to at its desk: from what was read of the kept file to what was written.
 use Rattle.std.proofs.Common.{◌≡◌, ◌∙◌, ◌+◌, ◌^◌, ◌-◌, ◌≤◌, ◌<◌, min, ℕ, List, [], ◌∷◌, ◌++◌, length, refl, sym, ap, subst, arith, inl, inr, Some, None, Option, Ok, Err}
-use Rattle.std.specs.Prelude.{◌⊎◌, Result}
+use Rattle.std.specs.Prelude.{Result, IfOk, IsErr, true, false}
 use Rattle.ann_key.specs.declared.bytes.NoMemory.{NoMemory}
 use Rattle.ann_outside.specs.Causes.{Rose, Stays, AddsOne}
 use Rattle.ann_outside.specs.Desks.{Made, no_counts}
@@ -28,8 +28,10 @@ use Rattle.init_run.specs.declared.setup.Setup.TheVariants.{Initialized, Stopped
 use Rattle.init_run.specs.Setups.{IsTextOf, Begins, outcome_of}
 use Rattle.special_cli.specs.declared.end.End.{End}
 use Rattle.special_cli.specs.declared.end.End.TheVariants.{Memory, SetUp, NotSetUp}
-use Rattle.special_cli.specs.Left.{TableValue}
+use Rattle.special_cli.specs.Left.{ProgramsValue, TableValue, WireValue}
+use Rattle.special_cli.specs.Objects.{Leaves}
 use Rattle.special_cli.specs.Setups.{IsSetup, IsRunOf, IsAsBefore, HasFailed, IsKept, IsUnbegun, EndsInit, EndsKeep}
+use Rattle.special_cli.proofs.Leaving.{leaves_as}
 
 -- ---- files that stay
 
@@ -39,37 +41,6 @@ as_before words told table e = subst (λ (t : Option Files). WhereTold told t (O
     go : (told : Option Files) → WhereTold told told (OthersStay (λ other. other ≡ new_name words.keep))
     go None = tt
     go (Some files) = λ other d. refl
-
-stays_so : (words : InitWords) (told told' : Option Files) → WhereTold told told' (λ old new. new ≡ old) → WhereTold told told' (OthersStay (λ other. other ≡ new_name words.keep))
-stays_so words None None h = tt
-stays_so words None (Some y) h = absurd h
-stays_so words (Some x) None h = absurd h
-stays_so words (Some x) (Some y) h = λ other d. ap (content other) h
-
--- ---- what is written
-
-rose_at_all : (a b : ℕ) → Rose a b → Rose 0 b
-rose_at_all a b h = omega (arith, h)
-
-failed : (told : Option Files) (before after : Counts) → Rose before.faults after.faults ⊎ ((told ≡ None) × Rose before.missing after.missing)
-    → Rose 0 after.faults ⊎ ((told ≡ None) × Rose 0 after.missing)
-failed told before after (inl h) = inl (rose_at_all before.faults after.faults h)
-failed told before after (inr h) = inr (h.0, rose_at_all before.missing after.missing h.1)
-
--- what was written is what is kept
-written : (words : InitWords) (told told' : Option Files) (old new : Option (List Call)) (before after : Counts) (o : Opening) (journal : List Entry) (text : List ℕ) (k : KeptWritten)
-    → text ≡ kept_text (registers_after o journal) (registers_after o journal) o.notes → WhereTold told told' (IsWrittenIn words.keep text (Ok k)) → IsWrittenBy old new words.keep text (Ok k)
-    → HasWriteCauses told before after (Ok k) → EndsKeep words told told' after o journal (SetUp k)
-written words told told' old new before after o journal text W.Done e files calls causes = subst (λ (t : List ℕ). WhereTold told told' (IsReplacedBy words.keep t (Ok tt))) e files
-written words told told' old new before after o journal text W.TooLarge e files calls causes = (subst (λ (t : List ℕ). MOST_BYTES < length t) e calls.0, stays_so words told told' files)
-written words told told' old new before after o journal text W.Fault e files calls causes = (failed told before after (causes.fault refl), files)
-
-pub keeps : (words : InitWords) (told told' : Option Files) (old new : Option (List Call)) (before after : Counts) (o o' : Opening) (journal : List Entry) (r r' : RegisterFile) (k : KeptWritten)
-    → r ≡ r' → r' ≡ registers_after o journal → o' ≡ o → WhereTold told told' (IsWrittenIn words.keep (kept_text r r o'.notes) (Ok k)) → IsWrittenBy old new words.keep (kept_text r r o'.notes) (Ok k)
-    → HasWriteCauses told before after (Ok k) → EndsKeep words told told' after o journal (SetUp k)
-keeps words told told' old new before after o o' journal r r' k e f h files calls causes =
-    written words told told' old new before after o journal (kept_text r r o'.notes) k
-    (ap (λ (x : RegisterFile). kept_text x x o'.notes) (e ∙ f) ∙ ap (λ (x : Opening). kept_text (registers_after o journal) (registers_after o journal) x.notes) h) files calls causes
 
 -- ---- its end
 
@@ -96,21 +67,53 @@ kept_as words told told' counts log o journal W.Fault h = h
 pub ends_kept : (words : InitWords) (told told' : Option Files) (counts : Counts) (log : Option (List Call)) (o o' : Opening) (journal : List Entry) (end : End)
     → (begins : Begins words told (Ok (Ready o))) → (e : o' ≡ o) → Legal o' journal → IsSetup journal → outcome_of journal ≡ Some Initialized → EndsKeep words told told' counts o' journal end
     → EndsInit words told (record { counts = counts; files = told'; log = log }) journal end
+unfolding is_run
 ends_kept words told told' counts log o o' journal (SetUp k) begins e legal run outcome h =
     (is_run words told o o' journal begins e legal run, outcome, kept_as words told told' counts log o journal k (subst (λ (x : Opening). IsKept words told (record { counts = counts; files = told'; log = None }) x journal k) e h))
 ends_kept words told told' counts log o o' journal Memory begins e legal run outcome h = (inr (is_run words told o o' journal begins e legal run), h)
 ends_kept words told told' counts log o o' journal end begins e legal run outcome h = absurd h
 
+-- what was asked of the child is kept
+pub ends_set : (words : InitWords) (told told' : Option Files) (counts : Counts) (log : Option (List Call)) (table : TableValue) (o o' : Opening) (journal journal' : List Entry) (setup : Setup) (end end' : End)
+    → Begins words told (Ok (Ready o)) → o' ≡ o → Legal o' journal → IsSetup journal → outcome_of journal ≡ Some setup → setup ≡ Initialized → EndsKeep words told told' counts o' journal end
+    → end' ≡ end → table ≡ record { counts = counts; files = told'; log = log } → journal' ≡ journal → EndsInit words told table journal' end'
+ends_set words told told' counts log table o o' journal journal' setup end end' begins e legal run outcome is h f t j =
+    subst (λ (x : List Entry). EndsInit words told table x end') (sym j)
+    (subst (λ (x : End). EndsInit words told table journal x) (sym f)
+    (subst (λ (x : TableValue). EndsInit words told x journal end) (sym t)
+    (ends_kept words told told' counts log o o' journal end begins e legal run (outcome ∙ ap Some is) h)))
+
+-- or the child wasn't set up
+pub ends_stopped : (words : InitWords) (told : Option Files) (table : TableValue) (o o' : Opening) (journal journal' : List Entry) (setup : Setup) (answer : Answer) (end' : End) → Begins words told (Ok (Ready o))
+    → o' ≡ o → Legal o' journal → IsSetup journal → outcome_of journal ≡ Some setup → setup ≡ Stopped answer → end' ≡ NotSetUp answer → table.files ≡ told → journal' ≡ journal → EndsInit words told table journal' end'
+ends_stopped words told table o o' journal journal' setup answer end' begins e legal run outcome is f t j =
+    subst (λ (x : List Entry). EndsInit words told table x end') (sym j)
+    (subst (λ (x : End). EndsInit words told table journal x) (sym f)
+    (is_run words told o o' journal begins e legal run, outcome ∙ ap Some is, as_before words told table t))
+
+-- or no memory was found
+pub ends_wanting : (words : InitWords) (told : Option Files) (table : TableValue) (o o' : Opening) (journal journal' : List Entry) (end' : End) → Begins words told (Ok (Ready o)) → o' ≡ o → Legal o' journal
+    → IsSetup journal → end' ≡ Memory → table.files ≡ told → journal' ≡ journal → EndsInit words told table journal' end'
+ends_wanting words told table o o' journal journal' end' begins e legal run f t j =
+    subst (λ (x : List Entry). EndsInit words told table x end') (sym j)
+    (subst (λ (x : End). EndsInit words told table journal x) (sym f)
+    (inr (is_run words told o o' journal begins e legal run), as_before words told table t))
+
 -- ---- the desk
-
-pub stays_is : {A : Type 0} (old new : Option A) → Stays old new → new ≡ old
-stays_is None None h = refl
-stays_is None (Some y) h = absurd h
-stays_is (Some x) None h = absurd h
-stays_is (Some x) (Some y) h = ap Some h
-
-pub counted : (old new : Counts) → old ≡ no_counts → Rose old.faults new.faults → Rose 0 new.faults
-counted old new e h = rose_at_all old.faults new.faults h
 
 pub same_files : (words : InitWords) (told told' : Option Files) (table : TableValue) (journal : List Entry) (end : End) → told' ≡ told → EndsInit words told' table journal end → EndsInit words told table journal end
 same_files words told told' table journal end e h = subst (λ (t : Option Files). EndsInit words t table journal end) e h
+
+-- ---- the objects
+
+pub outcome_ok : (journal : List Entry) (r : Result Setup NoMemory) (setup : Setup) → r ≡ Ok setup → IfOk r (λ x. outcome_of journal ≡ Some x) → outcome_of journal ≡ Some setup
+outcome_ok journal r setup e h = subst (λ (x : Result Setup NoMemory). IfOk x (λ y. outcome_of journal ≡ Some y)) e h
+
+pub ok_err : {A : Type 0} (r : Result Setup NoMemory) (setup : Setup) → r ≡ Ok setup → IsErr r → A
+ok_err r setup e h = absurd (let bad : false ≡ true = subst IsErr e h in cc)
+
+-- the want of memory, the program and the journal are named otherwise
+pub leaves_named : {V W : Type 0} {program program' : List ℕ} {journal journal' : List Entry} {before after : ProgramsValue} {wires : List WireValue} → (V → W) → journal' ≡ journal → program ≡ program'
+    → Leaves V program journal before after wires → Leaves W program' journal' before after wires
+leaves_named {V} {W} {program} {program'} {journal} {journal'} {before} {after} {wires} f j e h =
+    leaves_as f j refl (subst (λ (p : List ℕ). Leaves V p journal before after wires) e h)

@@ -13,3 +13,4 @@ pub mod Talking
 pub mod Alone
 pub mod Keeping
 pub mod Settling
+pub mod Written

@@ -1,5 +1,6 @@
 -- What the words ask for.
 use Rattle.std.specs.Prelude.{ℕ, List, Option, Some, None}
+use Rattle.chunk_log.specs.ChunkLines.{IsWrittenUuid}
 use Rattle.cli_words.specs.declared.command.Command.{Command}
 use Rattle.cli_words.specs.declared.command.Command.TheVariants.{Check, Info, Init, Show}
 use Rattle.cli_words.specs.Words.{command_of}
@@ -14,3 +15,8 @@ taken_up command = None
 
 abbrev pub wish_of : List (List ℕ) → Option Command
 wish_of words = taken_up (command_of words)
+
+-- the UUID of a setup is in its written form
+abbrev pub HasWrittenUuid : Option Command → Type 0
+HasWrittenUuid (Some (Init words)) = IsWrittenUuid words.uuid
+HasWrittenUuid command = Unit {0}

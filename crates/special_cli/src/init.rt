@@ -3,6 +3,7 @@ mod asking;
 
 ghost use Rattle.std.specs.Prelude.{◌≡◌, ◌<◌, [], map, IfOk, Ok, vec_len, vec_capacity};
 ghost use Rattle.ann_outside.specs.Desks.{no_counts};
+ghost use Rattle.chunk_log.specs.ChunkLines.{IsWrittenUuid};
 ghost use Rattle.cli_words.specs.Identities.{IsFit};
 ghost use Rattle.cli_words.specs.declared.command.Command.TheVariants.{Init};
 ghost use Rattle.init_run.specs.Setups.{Begins};
@@ -73,6 +74,7 @@ where
     P::Outlet: Drop,
     K::Desk: Drop,
     requires fit { IsFit (Init words.now) }
+    requires uuid { IsWrittenUuid words.now.uuid }
     ensures { HasSetUp words.now outside result }
 {
     match take_room(alloc) {
@@ -93,6 +95,7 @@ where
     P::Outlet: Drop,
     K::Desk: Drop,
     requires fit { IsFit (Init words.now) }
+    requires uuid { IsWrittenUuid words.now.uuid }
     requires none { (room.wires.items ≡ []) × (room.tables.items ≡ []) }
     requires room { (vec_len room.wires < vec_capacity room.wires) × (vec_len room.tables < vec_capacity room.tables) }
     ensures { HasSetUp words.now outside result }
@@ -132,6 +135,7 @@ where
     P::Inlet: Drop,
     P::Outlet: Drop,
     requires fit { IsFit (Init words.now) }
+    requires uuid { IsWrittenUuid words.now.uuid }
     requires fresh { D.counts desk.old ≡ no_counts }
     requires room { vec_len wires.old < vec_capacity wires.old }
     requires none { wires.old.items ≡ [] }
@@ -160,6 +164,7 @@ where
     P::Inlet: Drop,
     P::Outlet: Drop,
     requires fit { IsFit (Init words.now) }
+    requires uuid { IsWrittenUuid words.now.uuid }
     requires begins { Begins words.now (D.files desk.old) (Ok (Begun.Ready opening)) }
     requires room { vec_len wires.old < vec_capacity wires.old }
     requires none { wires.old.items ≡ [] }

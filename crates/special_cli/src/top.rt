@@ -4,7 +4,7 @@ ghost use Rattle.ann_outside.specs.Causes.{Rose};
 ghost use Rattle.special_cli.specs.Calls.{IsInitCalled};
 ghost use Rattle.special_cli.specs.Commands.{Runs};
 ghost use Rattle.special_cli.specs.Tells.{flow};
-ghost use Rattle.special_cli.specs.Wishes.{wish_of, taken_up};
+ghost use Rattle.special_cli.specs.Wishes.{wish_of, taken_up, HasWrittenUuid};
 ghost use Rattle.cli_words.specs.Identities.{IsFit};
 ghost use Rattle.cli_words.specs.Values.{texts_of};
 ghost use Rattle.special_cli.specs.Endings.{refused_in, check_in, info_in, init_in, run_in, IsChecked, IsTold, LacksMemory};
@@ -98,6 +98,7 @@ where
     P::Outlet: Drop,
     K::Desk: Drop,
     requires fit { IfSome command IsFit }
+    requires uuid { HasWrittenUuid command }
     ensures { Runs (C.answer clock.old) outside (taken_up command) result }
 {
     match command {

@@ -23,8 +23,13 @@ fn asked(alloc: Global, command: &Command) -> Result<String, NoMemory> {
         },
         Command::Init(init) => named(alloc, "init", &[&init.program, &init.uuid, &init.keep]),
         Command::Run(run) => named(alloc, "run", &[&run.program, &run.uuid]),
-        Command::Show(page) => words::joined(alloc, &["show", words::named(alloc, page)?.as_str()]),
+        Command::Show(page) => show(alloc, *page),
     }
+}
+
+fn show(alloc: Global, page: Page) -> Result<String, NoMemory> {
+    let page = words::named(alloc, &page)?;
+    words::joined(alloc, &["show", page.as_str()])
 }
 
 // The command, and its values in quotes.

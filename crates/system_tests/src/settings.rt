@@ -3,7 +3,7 @@ use ann_os::{OsDesks, OsPrograms};
 use ann_outside::{MemClock, MemSink, MemSource};
 use special_cli::special;
 use std::alloc::AllocError;
-use std::fs::{File, Permissions};
+use std::fs::Permissions;
 use std::os::unix::fs::PermissionsExt;
 use std::test::Fail;
 use std::{fs, io};
@@ -100,15 +100,5 @@ fn a_folder_is_no_kept_file(rt: HostRuntime) -> Result<(), Fail> {
     let told = init(&rt, "echo", "folder", "a=b")?;
     fs::remove_dir_all(&rt, "folder")?;
     assert!(rt; is_told(&told, 6, "", "special: file failed\n"));
-    Ok(())
-}
-
-#[test]
-fn a_kept_file_that_is_too_large_is_not_taken(rt: HostRuntime) -> Result<(), Fail> {
-    let file = File::create(&rt, "large")?;
-    file.set_len(268_435_457)?;
-    let told = init(&rt, "echo", "large", "a=b")?;
-    fs::remove_file(&rt, "large")?;
-    assert!(rt; is_told(&told, 6, "", "special: keep large\n"));
     Ok(())
 }
