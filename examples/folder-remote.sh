@@ -1,14 +1,34 @@
 #!/bin/sh
 # A git-annex external special remote over a folder, for trying out `special`: the content of a key is the file of
-# its name. The folder is $REMOTE_DIR, or `store` beside this script. It speaks VERSION 1 of
-# https://git-annex.branchable.com/design/external_special_remote_protocol/ and knows CHECKPRESENT alone.
+# its name. The folder is the setting `directory`, which INITREMOTE asks for; where it isn't set, $REMOTE_DIR, or
+# `store` beside this script. It speaks VERSION 1 of
+# https://git-annex.branchable.com/design/external_special_remote_protocol/ and knows CHECKPRESENT and LISTCONFIGS.
 dir=${REMOTE_DIR:-$(dirname "$0")/store}
+
+# The value of the setting, which the host answers on one line.
+setting() {
+  echo "GETCONFIG $1"
+  IFS= read -r line
+  value=${line#VALUE}
+  value=${value# }
+}
+
 echo "VERSION 1"
 while IFS= read -r line; do
   word=${line%% *}
   case "$word" in
     EXTENSIONS) echo "EXTENSIONS" ;;
+    LISTCONFIGS)
+      echo "CONFIG directory the folder that keeps the content"
+      echo "CONFIGEND" ;;
+    INITREMOTE)
+      setting directory
+      if [ -z "$value" ]; then echo "INITREMOTE-FAILURE directory is not set"
+      elif mkdir -p "$value" 2>/dev/null; then echo "INITREMOTE-SUCCESS"
+      else echo "INITREMOTE-FAILURE no folder $value"; fi ;;
     PREPARE)
+      setting directory
+      dir=${value:-$dir}
       if [ -d "$dir" ]; then echo "PREPARE-SUCCESS"; else echo "PREPARE-FAILURE no folder $dir"; fi ;;
     CHECKPRESENT)
       key=${line#CHECKPRESENT }

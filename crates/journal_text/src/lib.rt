@@ -3,4 +3,4 @@
 
 mod output;
 
-pub use output::print_answer;
+pub use output::{print_answer, print_words};

@@ -22,7 +22,7 @@ pub fn print_answer(
     ensures { IfOk result (λ b. b ≡ answer_line journal.now.entries task answer.now) }
 {
     let number = format!(in alloc; "{task}")?;
-    let words = answer_text(alloc, answer, journal)?;
+    let words = print_words(alloc, answer, journal)?;
     let mut line = Vec::from_slice(alloc, number.as_bytes())?;
     line.push(b' ')?;
     line.extend_from_slice(words.view())?;
@@ -30,7 +30,8 @@ pub fn print_answer(
     Ok(Bytes::from_vec(line))
 }
 
-fn answer_text(alloc: Global, answer: &Answer, journal: &Journal) -> Result<Bytes, NoMemory>
+/// The words of an answer, without a number and without an end.
+pub fn print_words(alloc: Global, answer: &Answer, journal: &Journal) -> Result<Bytes, NoMemory>
     ensures { IfOk result (λ b. b ≡ answer_words journal.now.entries answer.now) }
 {
     match answer {

@@ -4,7 +4,7 @@ use Rattle.std.specs.Prelude.{◌||◌, IfSome, IsSome}
 use Rattle.std.specs.Io.KnownBytes.{Appends}
 use Rattle.std.specs.List.{list_all, list_any}
 use Rattle.std.proofs.lemmas.List.{append-nil}
-use Rattle.ann_outside.specs.Causes.{Rose, Stays}
+use Rattle.ann_outside.specs.Causes.{AddsOne, Rose, Stays}
 use Rattle.ann_outside.specs.Desks.{Made}
 use Rattle.annex_model.specs.Lines.{text}
 use Rattle.journal_model.specs.declared.answer.Answer.{Answer}
@@ -14,21 +14,25 @@ use Rattle.journal_model.proofs.Looks.{same_number}
 use Rattle.journal_model.specs.Output.{answer_line}
 use Rattle.info_run.specs.Infos.{info_lines, is_informed}
 use Rattle.special_cli.specs.declared.end.End.{End}
-use Rattle.special_cli.specs.declared.end.End.TheVariants.{Usage, Shown, Refused, Memory, Answered, Informed}
+use Rattle.special_cli.specs.declared.end.End.TheVariants.{Usage, Shown, Refused, Memory, Answered, Informed, BadKept, KeptTooLarge, FileFailed, SetUp, NotSetUp}
 use Rattle.cli_words.specs.declared.refusals.Reason.{Reason}
 use Rattle.cli_words.specs.declared.command.Page.{Page}
+use Rattle.ann_outside.specs.Files.{Files}
+use Rattle.keep_desk.specs.declared.writing.KeptWritten.TheVariants as W
+use Rattle.cli_words.specs.declared.command.InitWords.{InitWords}
+use Rattle.special_cli.specs.Setups.{EndsInit, IsAtDesk, HasSetUp}
 use Rattle.special_cli.specs.Calls.{IsCalled}
 use Rattle.special_cli.specs.Commands.{ComesToNothing, EndsCheck, HasChecked, EndsInfo, HasInformed, UnlessRefused, Runs}
 use Rattle.special_cli.specs.Endings.{is_well, status_of, IsChecked, IsPrinted, IsTold, LacksMemory}
 use Rattle.special_cli.specs.Informs.{IsInformed, IsInfoTold, info_status}
 use Rattle.special_cli.specs.Left.{Left, OutsideValue, RanValue, TableValue, IsIdle}
-use Rattle.special_cli.specs.Objects.{AreWires, HaveMade, HaveStarted, came, is_failed_start}
+use Rattle.special_cli.specs.Objects.{AreWires, HaveMade, HaveStarted, Leaves, came, is_failed_start}
 use Rattle.cli_words.specs.Refusals.{reason_refused, refusal_if, unless}
 use Rattle.special_cli.specs.Wishes.{taken_up}
 use Rattle.special_cli.proofs.Checked.{unstarted}
 use Rattle.special_cli.proofs.Informed.{nothing_informed}
 use Rattle.special_cli.proofs.Leaving.{leaves_nothing}
-use Rattle.special_cli.specs.Tells.{Flow, IsSilent, IsWritten, IsPrintedOr, IsToldOf, answer_lines, answers_status}
+use Rattle.special_cli.specs.Tells.{Flow, IsSilent, IsWritten, IsPrintedOr, IsSaidThen, IsToldOf, answer_lines, answers_status}
 use Rattle.cli_words.specs.declared.command.Command.{Command}
 use Rattle.cli_words.specs.declared.command.Command.TheVariants.{Check, Info, Init, Run, Show}
 
@@ -45,6 +49,11 @@ wanted_of (Refused reason) = 3 ∷ 7 ∷ []
 wanted_of Memory = 7 ∷ []
 wanted_of Answered = 0 ∷ 1 ∷ 7 ∷ []
 wanted_of (Informed key) = 0 ∷ 1 ∷ 7 ∷ []
+wanted_of (BadKept line) = 6 ∷ 7 ∷ []
+wanted_of KeptTooLarge = 6 ∷ []
+wanted_of FileFailed = 6 ∷ []
+wanted_of (SetUp written) = 0 ∷ 6 ∷ []
+wanted_of (NotSetUp answer) = 1 ∷ 7 ∷ []
 
 -- it is one of these, or 5 behind a write that failed
 EndsWith : List ℕ → ℕ → Flow → Flow → Type 0
@@ -67,6 +76,11 @@ low : (b : Bool) → list_any (λ v. v == cond {A = ℕ} b 0 1) (0 ∷ 1 ∷ 7 �
 low true = refl
 low false = refl
 
+on_both : (first second : List ℕ) (status : ℕ) (out err : Flow) → IsSaidThen 6 first second status out err → EndsWith (0 ∷ 6 ∷ []) status out err
+unfolding EndsWith
+on_both first second status out err (inl (cut, silent)) = inl (cut.status_is, inl cut.rose)
+on_both first second status out err (inr (appended, written)) = on_err (0 ∷ 6 ∷ []) 6 second status out err refl written
+
 ends_with : (left : Left) (status : ℕ) (out err : Flow) (end : End) → IsToldOf left status out err end → EndsWith (wanted_of end) status out err
 unfolding wanted_of
 ends_with left status out err Usage told = on_err (2 ∷ []) 2 _ status out err refl told.0
@@ -78,6 +92,15 @@ ends_with left status out err Answered (inl said) = on_out (0 ∷ 1 ∷ 7 ∷ []
 ends_with left status out err Answered (inr said) = on_err (0 ∷ 1 ∷ 7 ∷ []) 7 _ status out err refl said.0
 ends_with left status out err (Informed key) (inl said) = on_out (0 ∷ 1 ∷ 7 ∷ []) (info_status left.journal key) _ status out err (low (is_informed left.journal 1 key)) said.0
 ends_with left status out err (Informed key) (inr said) = on_err (0 ∷ 1 ∷ 7 ∷ []) 7 _ status out err refl said.0
+ends_with left status out err (BadKept line) (inl w, silent) = on_err (6 ∷ 7 ∷ []) 6 _ status out err refl w
+ends_with left status out err (BadKept line) (inr w, silent) = on_err (6 ∷ 7 ∷ []) 7 _ status out err refl w
+ends_with left status out err KeptTooLarge told = on_err (6 ∷ []) 6 _ status out err refl told.0
+ends_with left status out err FileFailed told = on_err (6 ∷ []) 6 _ status out err refl told.0
+ends_with left status out err (SetUp W.Done) told = on_out (0 ∷ 6 ∷ []) 0 _ status out err refl told.0
+ends_with left status out err (SetUp W.TooLarge) told = on_both _ _ status out err told
+ends_with left status out err (SetUp W.Fault) told = on_both _ _ status out err told
+ends_with left status out err (NotSetUp answer) (inl said) = on_out (1 ∷ 7 ∷ []) 1 _ status out err refl said.0
+ends_with left status out err (NotSetUp answer) (inr said) = on_err (1 ∷ 7 ∷ []) 7 _ status out err refl said.0
 
 -- another status isn't met
 apart : {A : Type 0} (ws : List ℕ) (status k : ℕ) (out err : Flow) → EndsWith ws status out err → (5 == k) ≡ false → list_any (λ w. w == k) ws ≡ false → status ≡ k → A
@@ -100,6 +123,11 @@ none_five (Refused reason) = refl
 none_five Memory = refl
 none_five Answered = refl
 none_five (Informed key) = refl
+none_five (BadKept line) = refl
+none_five KeptTooLarge = refl
+none_five FileFailed = refl
+none_five (SetUp written) = refl
+none_five (NotSetUp answer) = refl
 
 or_seven : (ws : List ℕ) (status : ℕ) (out err : Flow) → EndsWith ws status out err → EndsWith (7 ∷ ws) status out err
 unfolding EndsWith
@@ -169,10 +197,7 @@ check_told key left status out err Answered (answer, is) told =
     )
 check_told key left status out err Memory none (written, silent) =
     inr record { none = none; silent = subst (λ (t : Option (List ℕ)). Stays out.taken t) (sym silent.taken) (stays out.taken); status_is = lacks status _ err written }
-check_told key left status out err Usage ends told = absurd ends
-check_told key left status out err (Shown page) ends told = absurd ends
-check_told key left status out err (Refused reason) ends told = absurd ends
-check_told key left status out err (Informed k) ends told = absurd ends
+check_told key left status out err end ends told = absurd ends
 
 -- neither status 2 nor 3
 NeitherIn : List ℕ → Type 0
@@ -182,10 +207,7 @@ check_wanted : (key : List ℕ) (left : Left) (end : End) → EndsCheck key left
 unfolding wanted_of NeitherIn
 check_wanted key left Answered ends = (refl, refl)
 check_wanted key left Memory ends = (refl, refl)
-check_wanted key left Usage ends = absurd ends
-check_wanted key left (Shown page) ends = absurd ends
-check_wanted key left (Refused reason) ends = absurd ends
-check_wanted key left (Informed k) ends = absurd ends
+check_wanted key left end ends = absurd ends
 
 -- ---- info
 
@@ -206,19 +228,25 @@ info_told key left status out err Memory ends (written, silent) = record {
     too_late s (inl a) (inr b) = absurd (let bad : 5 ≡ 1 = sym a ∙ b in cc)
     too_late s (inr a) (inl b) = absurd (let bad : 7 ≡ 0 = sym a ∙ b in cc)
     too_late s (inr a) (inr b) = absurd (let bad : 7 ≡ 1 = sym a ∙ b in cc)
-info_told key left status out err Usage ends told = absurd ends
-info_told key left status out err (Shown page) ends told = absurd ends
-info_told key left status out err (Refused reason) ends told = absurd ends
-info_told key left status out err Answered ends told = absurd ends
+info_told key left status out err end ends told = absurd ends
 
 info_wanted : (key : Option (List ℕ)) (left : Left) (end : End) → EndsInfo key left end → NeitherIn (wanted_of end)
 unfolding wanted_of NeitherIn
 info_wanted key left (Informed k) ends = (refl, refl)
 info_wanted key left Memory ends = (refl, refl)
-info_wanted key left Usage ends = absurd ends
-info_wanted key left (Shown page) ends = absurd ends
-info_wanted key left (Refused reason) ends = absurd ends
-info_wanted key left Answered ends = absurd ends
+info_wanted key left end ends = absurd ends
+
+-- ---- init
+
+init_wanted : (words : InitWords) (told : Option Files) (table : TableValue) (journal : List Entry) (end : End) → EndsInit words told table journal end → NeitherIn (wanted_of end)
+unfolding wanted_of NeitherIn
+init_wanted words told table journal (BadKept line) ends = (refl, refl)
+init_wanted words told table journal KeptTooLarge ends = (refl, refl)
+init_wanted words told table journal FileFailed ends = (refl, refl)
+init_wanted words told table journal (SetUp written) ends = (refl, refl)
+init_wanted words told table journal (NotSetUp answer) ends = (refl, refl)
+init_wanted words told table journal Memory ends = (refl, refl)
+init_wanted words told table journal end ends = absurd ends
 
 -- ---- the objects
 
@@ -228,6 +256,16 @@ made_none (Some xs) = ([], sym (append-nil xs), refl)
 
 made_still : (old new : Option (List Made)) (tables : List TableValue) → new ≡ old → tables ≡ [] → HaveMade old new tables
 made_still old new tables e t = subst (λ (x : Option (List Made)). HaveMade old x tables) (sym e) (subst (λ (x : List TableValue). HaveMade old old x) (sym t) (made_none old))
+
+-- one desk was asked for
+made_one : (old new : Option (List Made)) (m : Made) (table : TableValue) (tables : List TableValue) → m.number ≡ 0 → AddsOne old new m → tables ≡ table ∷ [] → HaveMade old new tables
+made_one old new m table tables zero a e = subst (λ (x : List TableValue). HaveMade old new x) (sym e) (go old new a)
+  where
+    go : (old new : Option (List Made)) → AddsOne old new m → HaveMade old new (table ∷ [])
+    go None None a = tt
+    go None (Some ys) a = absurd a
+    go (Some xs) None a = absurd a
+    go (Some xs) (Some ys) a = (m ∷ [], a, ap (λ (n : ℕ). n ∷ []) zero)
 
 wanting : (left : Left) (status : ℕ) (out err : Flow) (end : End) → IsToldOf left status out err end → end ≡ Memory → LacksMemory status (Rose err.faults err.faults')
 wanting left status out err end told e = lacks status _ err (subst (λ (x : End). IsToldOf left status out err x) e told).0
@@ -302,6 +340,7 @@ module _ (clock : Option ℕ) (before : OutsideValue) (left : Left) (end : End) 
     told = tt;
     informed = tt;
     info_told = tt;
+    init = tt;
     wires = tt;
     starts = tt;
     fault = tt;
@@ -321,6 +360,7 @@ module _ (clock : Option ℕ) (before : OutsideValue) (left : Left) (end : End) 
     told = tt;
     informed = tt;
     info_told = tt;
+    init = tt;
     wires = tt;
     starts = tt;
     fault = tt;
@@ -345,6 +385,7 @@ module _ (clock : Option ℕ) (before : OutsideValue) (left : Left) (end : End) 
             told = subst (λ (o : Option Reason). IfSome {T = List ℕ × List ℕ} (unless o (program, key)) (λ c. IsTold status (Rose err.faults err.faults') out.taken out.taken' c.1 left.journal left.answers)) (sym e) (check_told key left status out err end h.ends told);
             informed = tt;
             info_told = tt;
+            init = tt;
             wires = subst (λ (o : Option Reason). IfSome (unless o program) (λ p. AreWires before.programs.starts left.journal 0 (came left.journal) left.wires)) (sym e) h.objects.wired;
             starts = subst (λ (o : Option Reason). IfSome (unless o program) (λ p. HaveStarted (LacksMemory status (Rose err.faults err.faults')) p left.journal before.programs.starts left.outside.programs.starts)) (sym e) (started left status out err end program before told h.objects.started);
             fault = subst (λ (o : Option Reason). IfSome (unless o program) (λ p. any is_failed_start left.journal ≡ true → Rose before.programs.faults left.outside.programs.faults)) (sym e) h.objects.fault;
@@ -363,6 +404,7 @@ module _ (clock : Option ℕ) (before : OutsideValue) (left : Left) (end : End) 
             told = subst (λ (o : Option Reason). IfSome {T = List ℕ × List ℕ} (unless o (program, key)) (λ c. IsTold status (Rose err.faults err.faults') out.taken out.taken' c.1 left.journal left.answers)) (sym e) tt;
             informed = tt;
             info_told = tt;
+            init = tt;
             wires = subst (λ (o : Option Reason). IfSome (unless o program) (λ p. AreWires before.programs.starts left.journal 0 (came left.journal) left.wires)) (sym e) tt;
             starts = subst (λ (o : Option Reason). IfSome (unless o program) (λ p. HaveStarted (LacksMemory status (Rose err.faults err.faults')) p left.journal before.programs.starts left.outside.programs.starts)) (sym e) tt;
             fault = subst (λ (o : Option Reason). IfSome (unless o program) (λ p. any is_failed_start left.journal ≡ true → Rose before.programs.faults left.outside.programs.faults)) (sym e) tt;
@@ -387,6 +429,7 @@ module _ (clock : Option ℕ) (before : OutsideValue) (left : Left) (end : End) 
             told = tt;
             informed = subst (λ (o : Option Reason). IfSome {T = List ℕ × Option (List ℕ)} (unless o (program, key)) (λ c. IsInformed c.1 left.journal)) (sym e) h.informed;
             info_told = subst (λ (o : Option Reason). IfSome {T = List ℕ × Option (List ℕ)} (unless o (program, key)) (λ c. IsInfoTold status out.taken out.taken' c.1 left.journal × (left.answers ≡ []))) (sym e) (info_told key left status out err end h.ends told, h.none);
+            init = tt;
             wires = subst (λ (o : Option Reason). IfSome (unless o program) (λ p. AreWires before.programs.starts left.journal 0 (came left.journal) left.wires)) (sym e) h.objects.wired;
             starts = subst (λ (o : Option Reason). IfSome (unless o program) (λ p. HaveStarted (LacksMemory status (Rose err.faults err.faults')) p left.journal before.programs.starts left.outside.programs.starts)) (sym e) (started left status out err end program before told h.objects.started);
             fault = subst (λ (o : Option Reason). IfSome (unless o program) (λ p. any is_failed_start left.journal ≡ true → Rose before.programs.faults left.outside.programs.faults)) (sym e) h.objects.fault;
@@ -405,18 +448,54 @@ module _ (clock : Option ℕ) (before : OutsideValue) (left : Left) (end : End) 
             told = tt;
             informed = subst (λ (o : Option Reason). IfSome {T = List ℕ × Option (List ℕ)} (unless o (program, key)) (λ c. IsInformed c.1 left.journal)) (sym e) tt;
             info_told = subst (λ (o : Option Reason). IfSome {T = List ℕ × Option (List ℕ)} (unless o (program, key)) (λ c. IsInfoTold status out.taken out.taken' c.1 left.journal × (left.answers ≡ []))) (sym e) tt;
+            init = tt;
             wires = subst (λ (o : Option Reason). IfSome (unless o program) (λ p. AreWires before.programs.starts left.journal 0 (came left.journal) left.wires)) (sym e) tt;
             starts = subst (λ (o : Option Reason). IfSome (unless o program) (λ p. HaveStarted (LacksMemory status (Rose err.faults err.faults')) p left.journal before.programs.starts left.outside.programs.starts)) (sym e) tt;
             fault = subst (λ (o : Option Reason). IfSome (unless o program) (λ p. any is_failed_start left.journal ≡ true → Rose before.programs.faults left.outside.programs.faults)) (sym e) tt;
             desks = idle_desks h.idle;
           }
 
+  called_init : (words : InitWords) → HasSetUp words before whole → IsCalled clock before (Some (Init words)) out err status left
+  unfolding wanted_of NeitherIn
+  called_init words h =
+      let none = neither h in
+      let objects = left_of h in
+      record {
+        usage = λ s. apart (wanted_of end) status 2 out err ends refl none.0 s;
+        words = λ no. asked_for (Init words) no;
+        refused = λ s. apart (wanted_of end) status 3 out err ends refl none.1 s;
+        key = λ some. never some;
+        early = λ no. (let bad : Some words.program ≡ None = no in absurd cc);
+        output = output;
+        checked = tt;
+        told = tt;
+        informed = tt;
+        info_told = tt;
+        init = (end, h, told);
+        wires = objects.wired;
+        starts = started left status out err end words.program before told objects.started;
+        fault = objects.fault;
+        desks = desks h;
+      }
+    where
+      neither : HasSetUp words before whole → NeitherIn (wanted_of end)
+      neither (inl (e, idle)) = subst (λ (x : End). NeitherIn (wanted_of x)) (sym e) (refl, refl)
+      neither (inr d) = init_wanted words d.told d.table left.journal end d.ends
+
+      left_of : HasSetUp words before whole → Leaves (end ≡ Memory) words.program left.journal before.programs left.outside.programs left.wires
+      left_of (inl (e, idle)) = leaves_nothing _ before.programs left.outside.programs words.program left.journal left.wires (ap (λ (o : OutsideValue). o.programs) idle.outside) idle.journal idle.wires
+      left_of (inr d) = d.objects
+
+      desks : HasSetUp words before whole → HaveMade before.made left.outside.made left.tables
+      desks (inl (e, idle)) = idle_desks idle
+      desks (inr d) = made_one before.made left.outside.made (record { number = 0; files = d.told }) d.table left.tables refl d.made d.tables
+
   called_left : (wish : Option Command) → Runs clock before wish whole → IsCalled clock before wish out err status left
   called_left None h = called_unknown h
   called_left (Some (Show page)) h = called_text page h
   called_left (Some (Check program key)) h = called_check program key h
   called_left (Some (Info program key)) h = called_info program key h
-  called_left (Some (Init words)) h = absurd h
+  called_left (Some (Init words)) h = called_init words h
   called_left (Some (Run words)) h = absurd h
 
 pub called : (clock : Option ℕ) (before : OutsideValue) (wish : Option Command) (ran : RanValue) (left : Left) (status : ℕ) (out err : Flow) → left ≡ ran.left → Runs clock before wish ran
@@ -432,10 +511,7 @@ none_few left e = let z : length left.answers ≡ 0 = ap (λ (xs : List Answer).
 answered_few : (key : List ℕ) (left : Left) (end : End) → EndsCheck key left end → length left.answers ≤ 65536
 answered_few key left Answered (answer, is) = let e : length left.answers ≡ 1 = ap (λ (xs : List Answer). length xs) is.one in omega arith
 answered_few key left Memory none = none_few left none
-answered_few key left Usage ends = absurd ends
-answered_few key left (Shown page) ends = absurd ends
-answered_few key left (Refused reason) ends = absurd ends
-answered_few key left (Informed k) ends = absurd ends
+answered_few key left end ends = absurd ends
 
 pub few : (clock : Option ℕ) (before : OutsideValue) (wish : Option Command) (ran : RanValue) → Runs clock before wish ran → length ran.left.answers ≤ 65536
 few clock before None ran h = none_few ran.left h.idle.answers
@@ -445,7 +521,8 @@ few clock before (Some (Check program key)) ran h = go (reason_refused key) h
     go : (r : Option Reason) → UnlessRefused r before ran (HasChecked clock program key before ran) → length ran.left.answers ≤ 65536
     go None h = answered_few key ran.left ran.end h.ends
     go (Some reason) h = none_few ran.left h.idle.answers
-few clock before (Some (Init words)) ran h = absurd h
+few clock before (Some (Init words)) ran (inl h) = none_few ran.left h.1.answers
+few clock before (Some (Init words)) ran (inr h) = none_few ran.left h.none
 few clock before (Some (Run words)) ran h = absurd h
 few clock before (Some (Info program key)) ran h = go (refusal_if key) h
   where
@@ -489,7 +566,7 @@ runs_nothing clock before (Some (Info program key)) ran e idle = go (refusal_if 
     go : (r : Option Reason) → UnlessRefused r before ran (HasInformed program key before ran)
     go None = nothing_informed_of program key before ran e idle
     go (Some reason) = record { end_is = inr e; idle = idle }
-runs_nothing clock before (Some (Init words)) ran e idle = record { end_is = inr e; idle = idle }
+runs_nothing clock before (Some (Init words)) ran e idle = inl (e, idle)
 runs_nothing clock before (Some (Run words)) ran e idle = record { end_is = inr e; idle = idle }
 
 -- ---- an info is told

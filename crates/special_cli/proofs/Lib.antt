@@ -11,3 +11,6 @@ pub mod Leaving
 pub mod Looking
 pub mod Talking
 pub mod Alone
+pub mod Keeping
+pub mod Settling
+pub mod Written

@@ -50,7 +50,7 @@ taskless_greeting c (Answered task answer) h = absurd cc
 taskless_greeting c (Noted task chunk count) h = absurd cc
 taskless_greeting c w h = refl
 
-off : (b : Bool) → (b && false) ≡ false
+pub off : (b : Bool) → (b && false) ≡ false
 off true = refl
 off false = refl
 
@@ -175,7 +175,7 @@ ready_complete o key old mid journal c none legal greeted ready came =
 
 -- ---- the child is closed
 
-no_claims : (c : ℕ) (journal : List Entry) → any is_of_task journal ≡ false → each_of (claimed_for c) journal ≡ []
+pub no_claims : (c : ℕ) (journal : List Entry) → any is_of_task journal ≡ false → each_of (claimed_for c) journal ≡ []
 no_claims c [] h = refl
 no_claims c (e ∷ journal) h = go e.what h (no_claims c journal)
   where
@@ -192,27 +192,27 @@ may_close key journal c t =
     rw (t.settled, idle) refl
 
 -- the entry that closes it, or none
-abbrev closing_of : Bool → ℕ → List Entry
+abbrev pub closing_of : Bool → ℕ → List Entry
 closing_of ended c = cond ended [] (main_entry (End c Closed) ∷ [])
 
-closed_so : (c : ℕ) (past journal : List Entry) → Closes 0 c past journal → journal ≡ past ++ closing_of (is_ended past c) c
+pub closed_so : (c : ℕ) (past journal : List Entry) → Closes 0 c past journal → journal ≡ past ++ closing_of (is_ended past c) c
 closed_so c past journal h = go (is_ended past c) h
   where
     go : (b : Bool) → journal ≡ cond b past (past ++ main_entry (End c Closed) ∷ []) → journal ≡ past ++ closing_of b c
     go true e = e ∙ sym (append-nil past)
     go false e = e
 
-record IsStill (more : List Entry) : Type 0 where
-  starts : starts_in more ≡ []
-  lines : asked_lines more 1 ≡ []
-  jobs : asked_jobs more 1 ≡ []
-  taskless : any is_of_task more ≡ false
+pub record IsStill (more : List Entry) : Type 0 where
+  pub starts : starts_in more ≡ []
+  pub lines : asked_lines more 1 ≡ []
+  pub jobs : asked_jobs more 1 ≡ []
+  pub taskless : any is_of_task more ≡ false
 
-closing_still : (b : Bool) → IsStill (closing_of b 1)
+pub closing_still : (b : Bool) → IsStill (closing_of b 1)
 closing_still true = record { starts = refl; lines = refl; jobs = refl; taskless = refl }
 closing_still false = record { starts = refl; lines = refl; jobs = refl; taskless = refl }
 
-over_or : (b : Bool) → (b || any (ends 1) (closing_of b 1)) ≡ true
+pub over_or : (b : Bool) → (b || any (ends 1) (closing_of b 1)) ≡ true
 over_or true = refl
 over_or false = refl
 

@@ -3,11 +3,18 @@ use Rattle.std.specs.Prelude.{ℕ, ◌≡◌, ◌⊎◌, true, [], Option, None,
 use Rattle.ann_outside.specs.Causes.{Rose}
 use Rattle.journal_model.specs.Journal.{any}
 use Rattle.cli_words.specs.declared.command.Command.{Command}
-use Rattle.special_cli.specs.Endings.{refused_in, check_in, info_in, run_in, IsChecked, IsTold, LacksMemory}
+use Rattle.special_cli.specs.Endings.{refused_in, check_in, info_in, init_in, run_in, IsChecked, IsTold, LacksMemory}
 use Rattle.special_cli.specs.Informs.{IsInformed, IsInfoTold}
 use Rattle.special_cli.specs.Left.{Left, OutsideValue, IsIdle}
 use Rattle.special_cli.specs.Objects.{AreWires, HaveStarted, HaveMade, came, is_failed_start}
-use Rattle.special_cli.specs.Tells.{Flow}
+use Rattle.special_cli.specs.Setups.{HasSetUp}
+use Rattle.special_cli.specs.Tells.{Flow, IsToldOf}
+use Rattle.special_cli.specs.declared.end.End.{End}
+use Rattle.cli_words.specs.declared.command.InitWords.{InitWords}
+
+-- an init came to an end that was told so
+abbrev pub IsInitCalled : InitWords → OutsideValue → ℕ → Flow → Flow → Left → Type 0
+IsInitCalled words before status out err left = (end : End) × HasSetUp words before (record { left = left; end = end }) × IsToldOf left status out err end
 
 pub record IsCalled (clock : Option ℕ) (before : OutsideValue) (wish : Option Command) (out err : Flow) (status : ℕ) (left : Left) : Type 0 where
   pub usage : status ≡ 2 → wish ≡ None
@@ -20,6 +27,7 @@ pub record IsCalled (clock : Option ℕ) (before : OutsideValue) (wish : Option 
   pub told : IfSome (check_in wish) (λ c. IsTold status (Rose err.faults err.faults') out.taken out.taken' c.1 left.journal left.answers)
   pub informed : IfSome (info_in wish) (λ c. IsInformed c.1 left.journal)
   pub info_told : IfSome (info_in wish) (λ c. IsInfoTold status out.taken out.taken' c.1 left.journal × (left.answers ≡ []))
+  pub init : IfSome (init_in wish) (λ words. IsInitCalled words before status out err left)
   pub wires : IfSome (run_in wish) (λ program. AreWires before.programs.starts left.journal 0 (came left.journal) left.wires)
   pub starts : IfSome (run_in wish) (λ program. HaveStarted (LacksMemory status (Rose err.faults err.faults')) program left.journal before.programs.starts left.outside.programs.starts)
   pub fault : IfSome (run_in wish) (λ program. any is_failed_start left.journal ≡ true → Rose before.programs.faults left.outside.programs.faults)

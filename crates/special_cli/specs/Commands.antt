@@ -8,9 +8,10 @@ use Rattle.special_cli.specs.Endings.{IsChecked, IsAnswered}
 use Rattle.special_cli.specs.Informs.{IsInformed, IsComplete}
 use Rattle.special_cli.specs.Left.{Left, OutsideValue, RanValue, IsIdle}
 use Rattle.special_cli.specs.Objects.{Leaves}
+use Rattle.special_cli.specs.Setups.{HasSetUp}
 use Rattle.cli_words.specs.Refusals.{reason_refused, refusal_if}
 use Rattle.cli_words.specs.declared.command.Command.{Command}
-use Rattle.cli_words.specs.declared.command.Command.TheVariants.{Check, Info, Show}
+use Rattle.cli_words.specs.declared.command.Command.TheVariants.{Check, Info, Init, Show}
 
 -- nothing came of it but what is to be told: this, or want of memory
 pub record ComesToNothing (before : OutsideValue) (ran : RanValue) (end : End) : Type 0 where
@@ -64,4 +65,5 @@ Runs clock before None ran = ComesToNothing before ran Usage
 Runs clock before (Some (Show page)) ran = ComesToNothing before ran (Shown page)
 Runs clock before (Some (Check program key)) ran = UnlessRefused (reason_refused key) before ran (HasChecked clock program key before ran)
 Runs clock before (Some (Info program key)) ran = UnlessRefused (refusal_if key) before ran (HasInformed program key before ran)
+Runs clock before (Some (Init words)) ran = HasSetUp words before ran
 Runs clock before (Some command) ran = ⊥

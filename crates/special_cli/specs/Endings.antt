@@ -17,7 +17,8 @@ use Rattle.journal_model.specs.Projection.{JobFits}
 use Rattle.task_run.specs.TaskRuns.{CheckTask}
 use Rattle.special_cli.specs.Causes.{HasCause}
 use Rattle.cli_words.specs.declared.command.Command.{Command}
-use Rattle.cli_words.specs.declared.command.Command.TheVariants.{Check, Info}
+use Rattle.cli_words.specs.declared.command.Command.TheVariants.{Check, Info, Init}
+use Rattle.cli_words.specs.declared.command.InitWords.{InitWords}
 use Rattle.cli_words.specs.Refusals.{reason_refused, refusal_if, unless}
 use Rattle.special_cli.specs.Openings.{check_opening}
 use Rattle.cli_words.specs.declared.refusals.Reason.{Reason}
@@ -38,10 +39,16 @@ abbrev pub info_in : Option Command → Option (List ℕ × Option (List ℕ))
 info_in (Some (Info program key)) = unless (refusal_if key) (program, key)
 info_in wish = None
 
--- the program of such a check or info
+-- the words of an init
+abbrev pub init_in : Option Command → Option InitWords
+init_in (Some (Init words)) = Some words
+init_in wish = None
+
+-- the program of such a check or info, or of an init
 abbrev pub run_in : Option Command → Option (List ℕ)
 run_in (Some (Check program key)) = unless (reason_refused key) program
 run_in (Some (Info program key)) = unless (refusal_if key) program
+run_in (Some (Init words)) = Some words.program
 run_in wish = None
 
 -- ---- the journal

@@ -11,3 +11,4 @@ pub mod Runs
 pub mod Interviews
 pub mod Tells
 pub mod Wishes
+pub mod Setups

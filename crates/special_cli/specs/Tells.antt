@@ -1,5 +1,5 @@
 -- What is told of a command at its end, and with which status.
-use Rattle.std.specs.Prelude.{ℕ, ◌≡◌, ◌⊎◌, List, [], ◌∷◌, ◌++◌, ◌+◌, take, Option, if◌then◌else◌}
+use Rattle.std.specs.Prelude.{ℕ, ◌≡◌, ◌⊎◌, List, [], ◌∷◌, ◌++◌, ◌+◌, take, codes, Option, if◌then◌else◌}
 use Rattle.std.specs.List.{list_all}
 use Rattle.std.specs.Io.KnownBytes.{Appends}
 use Rattle.ann_outside.specs.Causes.{Rose}
@@ -8,12 +8,16 @@ use Rattle.journal_model.specs.declared.answer.Answer.{Answer}
 use Rattle.journal_model.specs.declared.entry.Entry.{Entry}
 use Rattle.journal_model.specs.Output.{answer_line}
 use Rattle.info_run.specs.Infos.{info_lines}
+use Rattle.init_run.specs.Setups.{setup_text}
+use Rattle.init_run.specs.declared.setup.Setup.TheVariants.{Stopped}
+use Rattle.keep_desk.specs.declared.writing.KeptWritten.{KeptWritten}
+use Rattle.keep_desk.specs.declared.writing.KeptWritten.TheVariants as W
 use Rattle.special_cli.specs.declared.end.End.{End}
-use Rattle.special_cli.specs.declared.end.End.TheVariants.{Usage, Shown, Refused, Memory, Answered, Informed}
+use Rattle.special_cli.specs.declared.end.End.TheVariants.{Usage, Shown, Refused, Memory, Answered, Informed, BadKept, KeptTooLarge, FileFailed, SetUp, NotSetUp}
 use Rattle.special_cli.specs.Endings.{is_well}
 use Rattle.special_cli.specs.Informs.{info_status}
 use Rattle.special_cli.specs.Left.{Left}
-use Rattle.cli_words.specs.Texts.{usage_line, memory_line, refused_line}
+use Rattle.cli_words.specs.Texts.{usage_line, memory_line, refused_line, bad_kept_line, keep_large_line, file_line}
 
 -- what a sink counted and took, before and after
 pub record Flow : Type 0 where
@@ -53,6 +57,11 @@ IsSaid wanted written status to other = IsWritten wanted written status to × Is
 abbrev pub IsPrintedOr : ℕ → List ℕ → ℕ → Flow → Flow → Type 0
 IsPrintedOr wanted written status out err = IsSaid wanted written status out err ⊎ IsSaid 7 memory_line status err out
 
+-- the first text is written to out, and then the second to err; where a write of the first failed, nothing more is written
+abbrev pub IsSaidThen : ℕ → List ℕ → List ℕ → ℕ → Flow → Flow → Type 0
+IsSaidThen wanted first second status out err =
+    (IsCut first status out × IsSilent err) ⊎ (Appends out.taken out.taken' first × IsWritten wanted second status err)
+
 -- ---- the answers
 
 -- the lines of the answers of the tasks from this one on
@@ -64,6 +73,14 @@ answer_lines journal task (answer ∷ answers) = answer_line journal task answer
 abbrev pub answers_status : List Answer → ℕ
 answers_status answers = if list_all is_well answers then 0 else 1
 
+-- ---- a setup
+
+-- the remote is set up, and what is set was kept or not
+abbrev pub IsSetUpTold : KeptWritten → ℕ → Flow → Flow → Type 0
+IsSetUpTold W.Done status out err = IsSaid 0 (codes "initialized" ++ 10 ∷ []) status out err
+IsSetUpTold W.TooLarge status out err = IsSaidThen 6 (codes "initialized" ++ 10 ∷ []) keep_large_line status out err
+IsSetUpTold W.Fault status out err = IsSaidThen 6 (codes "initialized" ++ 10 ∷ []) file_line status out err
+
 -- ---- the end
 
 abbrev pub IsToldOf : Left → ℕ → Flow → Flow → End → Type 0
@@ -73,3 +90,8 @@ IsToldOf left status out err (Refused reason) = (IsWritten 3 (refused_line 1 rea
 IsToldOf left status out err Memory = IsSaid 7 memory_line status err out
 IsToldOf left status out err Answered = IsPrintedOr (answers_status left.answers) (answer_lines left.journal 1 left.answers) status out err
 IsToldOf left status out err (Informed key) = IsPrintedOr (info_status left.journal key) (text (info_lines left.journal key)) status out err
+IsToldOf left status out err (BadKept line) = (IsWritten 6 (bad_kept_line line) status err ⊎ IsWritten 7 memory_line status err) × IsSilent out
+IsToldOf left status out err KeptTooLarge = IsSaid 6 keep_large_line status err out
+IsToldOf left status out err FileFailed = IsSaid 6 file_line status err out
+IsToldOf left status out err (SetUp written) = IsSetUpTold written status out err
+IsToldOf left status out err (NotSetUp answer) = IsPrintedOr 1 (setup_text left.journal (Stopped answer)) status out err

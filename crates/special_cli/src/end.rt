@@ -1,5 +1,7 @@
 use ann_key::Key;
 use cli_words::{Page, Reason};
+use journal_model::Answer;
+use keep_desk::KeptWritten;
 
 /// What is to be told of a command that has run.
 #[derive(Drop)]
@@ -16,4 +18,14 @@ pub(crate) enum End {
     Answered,
     /// What the child says of itself, and of the key where there is one.
     Informed(Option<Key>),
+    /// The line of that number of the kept file may not stand there.
+    BadKept(u64),
+    /// The kept file is larger than it may be.
+    KeptTooLarge,
+    /// The kept file couldn't be read.
+    FileFailed,
+    /// The remote is set up, and this came of keeping what is set.
+    SetUp(KeptWritten),
+    /// The remote isn't set up.
+    NotSetUp(Answer),
 }

@@ -7,6 +7,7 @@ mod closing;
 mod end;
 mod info;
 pub mod info_laws;
+mod init;
 pub mod laws;
 mod openings;
 mod outside;

@@ -1,25 +1,30 @@
 // The end of every command: the one place that knows which text goes where, with which status, and what a write that fails
 // makes of it.
-ghost use Rattle.std.specs.Prelude.{◌≡◌, ◌⊎◌, ◌≤◌, true, length, IfOk, option_map};
+ghost use Rattle.std.specs.Prelude.{◌≡◌, ◌⊎◌, ◌≤◌, ◌++◌, ◌∷◌, [], codes, true, length, IfOk, option_map};
 ghost use Rattle.std.specs.List.{list_all};
 ghost use Rattle.ann_key.specs.KeyRefs.{text_of};
 ghost use Rattle.annex_model.specs.Lines.{text};
 ghost use Rattle.info_run.specs.Infos.{info_lines};
+ghost use Rattle.init_run.specs.Setups.{setup_text};
+ghost use Rattle.init_run.specs.declared.setup.Setup.TheVariants.{Stopped};
 ghost use Rattle.special_cli.specs.Endings.{is_well};
 ghost use Rattle.special_cli.specs.Informs.{info_status};
-ghost use Rattle.special_cli.specs.Tells.{flow, IsWritten, IsPrintedOr, IsToldOf, answer_lines, answers_status};
-ghost use Rattle.cli_words.specs.Texts.{memory_line, refused_line};
+ghost use Rattle.special_cli.specs.Tells.{flow, IsWritten, IsPrintedOr, IsSaidThen, IsSetUpTold, IsToldOf, answer_lines, answers_status};
+ghost use Rattle.cli_words.specs.Texts.{memory_line, refused_line, bad_kept_line};
 
 use crate::closing::Closing;
 use crate::end::End;
 use crate::ran::Ran;
 use ann_key::{Bytes, Key, KeyRef, NoMemory};
 use ann_outside::{Desks, Failed, Programs, Sink, write_all};
-use cli_words::{Reason, memory_line, refused_line, usage_line};
+use cli_words::{
+    Reason, bad_kept_line, file_line, keep_large_line, memory_line, refused_line, usage_line,
+};
 use info_run::{is_informed, print_info};
 use journal_look::Journal;
 use journal_model::Answer;
-use journal_text::print_answer;
+use journal_text::{print_answer, print_words};
+use keep_desk::KeptWritten;
 use std::alloc::Global;
 
 /// Tells what came of a command: an answer on `out`, or why there is none on `err`.
@@ -58,6 +63,11 @@ fn told<P: Programs, K: Desks, O: Sink, E: Sink>(
         End::Memory => write(err, memory_line(), 7),
         End::Answered => tell_answers(alloc, &ran.journal, &ran.answers, out, err),
         End::Informed(key) => tell_info(alloc, &ran.journal, lent(key), out, err),
+        End::BadKept(line) => tell_bad_kept(alloc, *line, err),
+        End::KeptTooLarge => write(err, keep_large_line(), 6),
+        End::FileFailed => write(err, file_line(), 6),
+        End::SetUp(written) => tell_set_up(*written, out, err),
+        End::NotSetUp(answer) => tell_not_set_up(alloc, &ran.journal, answer, out, err),
     }
 }
 
@@ -165,4 +175,77 @@ fn info_status(journal: &Journal, key: Option<KeyRef<'_>>) -> u8
     ensures { result ≡ info_status journal.now.entries (option_map text_of key.entry) }
 {
     if is_informed(journal, key) { 0 } else { 1 }
+}
+
+// Writes a text to one sink, and then another one to the other.
+fn write_then<O: Sink, E: Sink>(
+    out: &mut O,
+    first: &[u8],
+    err: &mut E,
+    second: &[u8],
+    status: u8,
+) -> u8
+    requires out { O.is_open out.old ≡ true }
+    requires err { E.is_open err.old ≡ true }
+    ensures { IsSaidThen status first.now second.now result (flow (O.faults out.old) (O.faults out.new) (O.taken out.old) (O.taken out.new)) (flow (E.faults err.old) (E.faults err.new) (E.taken err.old) (E.taken err.new)) }
+{
+    match write_all(out, first) {
+        Ok(()) => write(err, second, status),
+        Err(Failed) => 5,
+    }
+}
+
+fn tell_bad_kept<E: Sink>(alloc: Global, line: u64, err: &mut E) -> u8
+    requires { E.is_open err.old ≡ true }
+    ensures { IsWritten 6 (bad_kept_line line) result (flow (E.faults err.old) (E.faults err.new) (E.taken err.old) (E.taken err.new)) ⊎ IsWritten 7 memory_line result (flow (E.faults err.old) (E.faults err.new) (E.taken err.old) (E.taken err.new)) }
+{
+    match bad_kept_line(alloc, line) {
+        Ok(text) => write(err, text.view(), 6),
+        Err(NoMemory) => write(err, memory_line(), 7),
+    }
+}
+
+fn initialized_line() -> &'static [u8]
+    ensures { result.now ≡ codes "initialized" ++ 10 ∷ [] }
+{
+    b"initialized\n"
+}
+
+fn tell_set_up<O: Sink, E: Sink>(written: KeptWritten, out: &mut O, err: &mut E) -> u8
+    requires out { O.is_open out.old ≡ true }
+    requires err { E.is_open err.old ≡ true }
+    ensures { IsSetUpTold written result (flow (O.faults out.old) (O.faults out.new) (O.taken out.old) (O.taken out.new)) (flow (E.faults err.old) (E.faults err.new) (E.taken err.old) (E.taken err.new)) }
+{
+    let line = initialized_line();
+    match written {
+        KeptWritten::Done => write(out, line, 0),
+        KeptWritten::TooLarge => write_then(out, line, err, keep_large_line(), 6),
+        KeptWritten::Fault => write_then(out, line, err, file_line(), 6),
+    }
+}
+
+// The words of the answer, as a line.
+fn print_line(alloc: Global, answer: &Answer, journal: &Journal) -> Result<Bytes, NoMemory>
+    ensures { IfOk result (λ b. b ≡ setup_text journal.now.entries (Stopped answer.now)) }
+{
+    let mut text = print_words(alloc, answer, journal)?.into_vec();
+    text.push(b'\n')?;
+    Ok(Bytes::from_vec(text))
+}
+
+fn tell_not_set_up<O: Sink, E: Sink>(
+    alloc: Global,
+    journal: &Journal,
+    answer: &Answer,
+    out: &mut O,
+    err: &mut E,
+) -> u8
+    requires out { O.is_open out.old ≡ true }
+    requires err { E.is_open err.old ≡ true }
+    ensures { IsPrintedOr 1 (setup_text journal.now.entries (Stopped answer.now)) result (flow (O.faults out.old) (O.faults out.new) (O.taken out.old) (O.taken out.new)) (flow (E.faults err.old) (E.faults err.new) (E.taken err.old) (E.taken err.new)) }
+{
+    match print_line(alloc, answer, journal) {
+        Ok(line) => write(out, line.view(), 1),
+        Err(NoMemory) => write(err, memory_line(), 7),
+    }
 }

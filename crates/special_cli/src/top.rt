@@ -1,10 +1,13 @@
 ghost use Rattle.std.specs.Prelude.{◌≡◌, ◌⊎◌, [], None, IfSome, IsSome, true};
 ghost use Rattle.journal_model.specs.Journal.{any};
 ghost use Rattle.ann_outside.specs.Causes.{Rose};
+ghost use Rattle.special_cli.specs.Calls.{IsInitCalled};
 ghost use Rattle.special_cli.specs.Commands.{Runs};
-ghost use Rattle.special_cli.specs.Wishes.{wish_of, taken_up};
+ghost use Rattle.special_cli.specs.Tells.{flow};
+ghost use Rattle.special_cli.specs.Wishes.{wish_of, taken_up, HasWrittenUuid};
+ghost use Rattle.cli_words.specs.Identities.{IsFit};
 ghost use Rattle.cli_words.specs.Values.{texts_of};
-ghost use Rattle.special_cli.specs.Endings.{refused_in, check_in, info_in, run_in, IsChecked, IsTold, LacksMemory};
+ghost use Rattle.special_cli.specs.Endings.{refused_in, check_in, info_in, init_in, run_in, IsChecked, IsTold, LacksMemory};
 ghost use Rattle.special_cli.specs.Informs.{IsInformed, IsInfoTold};
 ghost use Rattle.special_cli.specs.Left.{IsIdle, programs_value};
 ghost use Rattle.special_cli.specs.Objects.{AreWires, HaveStarted, HaveMade, came, is_failed_start};
@@ -13,6 +16,7 @@ use crate::check::check;
 use crate::closing::Closing;
 use crate::end::End;
 use crate::info::info;
+use crate::init::init;
 use crate::outside::Outside;
 use crate::ran::Ran;
 use crate::telling::tell;
@@ -52,6 +56,7 @@ where
     ensures told { IfSome (check_in (wish_of (texts_of words.now))) (λ c. IsTold result.status (Rose (E.faults err.old) (E.faults err.new)) (O.taken out.old) (O.taken out.new) c.1 result.left.journal result.left.answers) }
     ensures informed { IfSome (info_in (wish_of (texts_of words.now))) (λ c. IsInformed c.1 result.left.journal) }
     ensures info_told { IfSome (info_in (wish_of (texts_of words.now))) (λ c. IsInfoTold result.status (O.taken out.old) (O.taken out.new) c.1 result.left.journal × (result.left.answers ≡ [])) }
+    ensures init { IfSome (init_in (wish_of (texts_of words.now))) (λ w. IsInitCalled w (record { programs = programs_value (P.starts programs) (P.faults programs); made = K.made desks }) result.status (flow (O.faults out.old) (O.faults out.new) (O.taken out.old) (O.taken out.new)) (flow (E.faults err.old) (E.faults err.new) (E.taken err.old) (E.taken err.new)) result.left) }
     ensures wires { IfSome (run_in (wish_of (texts_of words.now))) (λ program. AreWires (P.starts programs) result.left.journal 0 (came result.left.journal) result.left.wires) }
     ensures starts { IfSome (run_in (wish_of (texts_of words.now))) (λ program. HaveStarted (LacksMemory result.status (Rose (E.faults err.old) (E.faults err.new))) program result.left.journal (P.starts programs) result.left.outside.programs.starts) }
     ensures fault { IfSome (run_in (wish_of (texts_of words.now))) (λ program. any is_failed_start result.left.journal ≡ true → Rose (P.faults programs) result.left.outside.programs.faults) }
@@ -92,6 +97,8 @@ where
     P::Inlet: Drop,
     P::Outlet: Drop,
     K::Desk: Drop,
+    requires fit { IfSome command IsFit }
+    requires uuid { HasWrittenUuid command }
     ensures { Runs (C.answer clock.old) outside (taken_up command) result }
 {
     match command {
@@ -100,8 +107,7 @@ where
             check(alloc, program.view(), key.view(), outside, clock)
         }
         Some(Command::Info { program, key }) => info(alloc, program.view(), key, outside),
-        Some(Command::Init(_) | Command::Run(_)) | None => {
-            Ran::nothing(alloc, outside, End::Usage)
-        }
+        Some(Command::Init(words)) => init(alloc, &words, outside),
+        Some(Command::Run(_)) | None => Ran::nothing(alloc, outside, End::Usage),
     }
 }

@@ -31,6 +31,10 @@ fn said(alloc: Global, scene: &mut Scene, word: &str, rest: &str) -> Result<Stri
             Some(left) => left_text(alloc, left, word),
             None => Ok(String::new(alloc)),
         },
+        "kept" => match scene.left() {
+            Some(left) => kept(alloc, left, rest),
+            None => Ok(String::new(alloc)),
+        },
         "words" => cli::command(alloc, scene::written_out(alloc, rest)?.as_str()),
         "refused" => cli::refused(alloc, scene::written_out(alloc, rest)?.as_str()),
         "texts" => cli::texts(alloc),
@@ -39,6 +43,22 @@ fn said(alloc: Global, scene: &mut Scene, word: &str, rest: &str) -> Result<Stri
             scene.set(alloc, word, rest)?;
             Ok(String::new(alloc))
         }
+    }
+}
+
+// The text of the file of that name, as the last call left it.
+fn kept(alloc: Global, left: &Left, name: &str) -> Result<String, NoMemory> {
+    match left.tables.first() {
+        Some(desk) => match desk.content(name) {
+            Some(bytes) => {
+                words::told(
+                    alloc,
+                    words::quoted(alloc, memory::shown(bytes.view()))?.as_str(),
+                )
+            }
+            None => words::told(alloc, "no file"),
+        },
+        None => words::told(alloc, "no desk"),
     }
 }
 

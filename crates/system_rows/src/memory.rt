@@ -1,14 +1,14 @@
 // A call of the program over children in memory, and what it leaves.
 ghost use Rattle.std.specs.Prelude.{◌<◌};
 
-use ann_key::{Bytes, NoMemory};
-use ann_outside::{MemChild, MemClock, MemDesks, MemPrograms, MemSink, MemSource};
+use ann_key::{Bytes, NoMemory, Text};
+use ann_outside::{MemChild, MemClock, MemDesk, MemDesks, MemPrograms, MemSink, MemSource};
 use entry_text::text_of;
 use special_cli::special;
 use std::alloc::Global;
 use std::str;
 
-/// What a call leaves: the journal as text, and of the wires the children's numbers, what was written to them and what
+/// What a call leaves: the journal as text, the desks, and of the wires the children's numbers, what was written to them and what
 /// was read and not fed.
 #[derive(Drop)]
 pub(crate) struct Left {
@@ -19,6 +19,7 @@ pub(crate) struct Left {
     pub(crate) children: Vec<u32>,
     pub(crate) written: String,
     pub(crate) rest: String,
+    pub(crate) tables: Vec<MemDesk>,
 }
 
 /// What a child says, so many bytes a read.
@@ -63,11 +64,26 @@ pub(crate) fn no_child(alloc: Global) -> Result<MemPrograms, NoMemory> {
     Ok(MemPrograms::new(alloc, Vec::new(alloc), fails))
 }
 
+/// The desk of a call: its files, each with its text, and which of its calls fail.
+pub(crate) fn desk(
+    alloc: Global,
+    files: &[(String, String)],
+    fails: &[u64],
+) -> Result<MemDesk, NoMemory> {
+    let mut list = Vec::new(alloc);
+    for (name, text) in files {
+        let name = Text::copy(alloc, name.as_str())?;
+        list.push((name, Bytes::copy(alloc, text.as_bytes())?))?;
+    }
+    MemDesk::new(alloc, list, Vec::from_slice(alloc, fails)?)
+}
+
 /// The call with the words between bars, where each write takes at most 7 bytes and those that are listed fail.
 pub(crate) fn run(
     alloc: Global,
     words: &str,
     programs: MemPrograms,
+    desk: MemDesk,
     out_fails: &[u64],
 ) -> Result<Left, NoMemory> {
     let words = words_of(alloc, words)?;
@@ -75,11 +91,13 @@ pub(crate) fn run(
     let mut out = MemSink::new(alloc, 7, Vec::from_slice(alloc, out_fails)?);
     let mut err = MemSink::new(alloc, 7, Vec::new(alloc));
     let mut clock = MemClock::new(1_700_000_000_000_000);
+    let mut desks = Vec::new(alloc);
+    desks.push(desk)?;
     let closing = special(
         alloc,
         words.as_slice(),
         programs,
-        MemDesks::new(alloc, Vec::new(alloc)),
+        MemDesks::new(alloc, desks),
         &mut input,
         &mut out,
         &mut err,
@@ -93,6 +111,7 @@ pub(crate) fn run(
         children: Vec::new(alloc),
         written: String::new(alloc),
         rest: String::new(alloc),
+        tables: closing.tables,
     };
     for wire in &closing.wires {
         left.children.push(wire.child)?;

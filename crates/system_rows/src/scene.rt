@@ -18,6 +18,9 @@ pub(crate) struct Scene {
     read_fails: Vec<u64>,
     write_fails: Vec<u64>,
     out_fails: Vec<u64>,
+    // The files of desk 0, and its calls that fail.
+    files: Vec<(String, String)>,
+    desk_fails: Vec<u64>,
     left: Option<Left>,
 }
 
@@ -66,6 +69,8 @@ impl Scene {
             read_fails: Vec::new(alloc),
             write_fails: Vec::new(alloc),
             out_fails: Vec::new(alloc),
+            files: Vec::new(alloc),
+            desk_fails: Vec::new(alloc),
             left: None,
         }
     }
@@ -92,8 +97,18 @@ impl Scene {
             "readfault" => self.read_fails.push(number(rest))?,
             "writefault" => self.write_fails.push(number(rest))?,
             "outfault" => self.out_fails.push(number(rest))?,
+            "deskfault" => self.desk_fails.push(number(rest))?,
+            "file" => self.add_file(alloc, rest)?,
             _ => {}
         }
+        Ok(())
+    }
+
+    // Puts a file on the desk: its name, a space, and its text.
+    fn add_file(&mut self, alloc: Global, rest: &str) -> Result<(), NoMemory> {
+        let (name, text) = rest.split_once(' ').unwrap_or((rest, ""));
+        let name = String::from_str(alloc, name)?;
+        self.files.push((name, written_out(alloc, text)?))?;
         Ok(())
     }
 
@@ -108,7 +123,8 @@ impl Scene {
     pub(crate) fn call(&mut self, alloc: Global, words: &str) -> Result<String, NoMemory> {
         let words = written_out(alloc, words)?;
         let programs = self.programs(alloc)?;
-        let left = memory::run(alloc, words.as_str(), programs, &self.out_fails)?;
+        let desk = memory::desk(alloc, &self.files, &self.desk_fails)?;
+        let left = memory::run(alloc, words.as_str(), programs, desk, &self.out_fails)?;
         let said = said(alloc, &left)?;
         self.left = Some(left);
         Ok(said)

@@ -23,6 +23,7 @@ returns g c =
       told = all.told;
       informed = all.informed;
       info_told = all.info_told;
+      init = all.init;
       wires = all.wires;
       starts = all.starts;
       fault = all.fault;

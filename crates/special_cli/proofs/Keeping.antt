@@ -1,0 +1,119 @@
+-- What a setup comes to at its desk: from what was read of the kept file to what was written.
+use Rattle.std.proofs.Common.{◌≡◌, ◌∙◌, ◌+◌, ◌^◌, ◌-◌, ◌≤◌, ◌<◌, min, ℕ, List, [], ◌∷◌, ◌++◌, length, refl, sym, ap, subst, arith, inl, inr, Some, None, Option, Ok, Err}
+use Rattle.std.specs.Prelude.{Result, IfOk, IsErr, true, false}
+use Rattle.ann_key.specs.declared.bytes.NoMemory.{NoMemory}
+use Rattle.ann_outside.specs.Causes.{Rose, Stays, AddsOne}
+use Rattle.ann_outside.specs.Desks.{Made, no_counts}
+use Rattle.ann_outside.specs.DeskCauses.{Counts}
+use Rattle.ann_outside.specs.Files.{Files, WhereTold, OthersStay, content}
+use Rattle.ann_outside.specs.declared.file_desk.Call.{Call}
+use Rattle.reg_file.specs.Registers.{RegisterFile}
+use Rattle.chunk_log.specs.declared.note.Note.{Note}
+use Rattle.desk_file.specs.Writes.{new_name, IsReplacedBy}
+use Rattle.keep_text.specs.KeptFiles.{bad_line, kept_text}
+use Rattle.keep_desk.specs.declared.TheConstants.{MOST_BYTES}
+use Rattle.keep_desk.specs.declared.writing.KeptWritten.{KeptWritten}
+use Rattle.keep_desk.specs.declared.writing.KeptWritten.TheVariants as W
+use Rattle.keep_desk.specs.KeptDesks.{IsWrittenBy, IsWrittenIn, HasWriteCauses}
+use Rattle.cli_words.specs.declared.command.InitWords.{InitWords}
+use Rattle.journal_model.specs.declared.answer.Answer.{Answer}
+use Rattle.journal_model.specs.declared.entry.Entry.{Entry}
+use Rattle.journal_model.specs.declared.opening.Opening.{Opening}
+use Rattle.journal_model.specs.Legality.{Legal}
+use Rattle.journal_model.proofs.Projecting.{parts_fit}
+use Rattle.host_core.specs.Settings.{registers_after}
+use Rattle.init_run.specs.declared.beginning.Begun.TheVariants.{Ready}
+use Rattle.init_run.specs.declared.setup.Setup.{Setup}
+use Rattle.init_run.specs.declared.setup.Setup.TheVariants.{Initialized, Stopped}
+use Rattle.init_run.specs.Setups.{IsTextOf, Begins, outcome_of}
+use Rattle.special_cli.specs.declared.end.End.{End}
+use Rattle.special_cli.specs.declared.end.End.TheVariants.{Memory, SetUp, NotSetUp}
+use Rattle.special_cli.specs.Left.{ProgramsValue, TableValue, WireValue}
+use Rattle.special_cli.specs.Objects.{Leaves}
+use Rattle.special_cli.specs.Setups.{IsSetup, IsRunOf, IsAsBefore, HasFailed, IsKept, IsUnbegun, EndsInit, EndsKeep}
+use Rattle.special_cli.proofs.Leaving.{leaves_as}
+
+-- ---- files that stay
+
+pub as_before : (words : InitWords) (told : Option Files) (table : TableValue) → table.files ≡ told → IsAsBefore words told table
+as_before words told table e = subst (λ (t : Option Files). WhereTold told t (OthersStay (λ other. other ≡ new_name words.keep))) (sym e) (go told)
+  where
+    go : (told : Option Files) → WhereTold told told (OthersStay (λ other. other ≡ new_name words.keep))
+    go None = tt
+    go (Some files) = λ other d. refl
+
+-- ---- its end
+
+pub is_run : (words : InitWords) (told : Option Files) (o o' : Opening) (journal : List Entry) → Begins words told (Ok (Ready o)) → o' ≡ o → Legal o' journal → IsSetup journal → IsRunOf words told journal
+is_run words told o o' journal begins e legal run =
+    let l : Legal o journal = subst (λ (x : Opening). Legal x journal) e legal in
+    record {
+      kept = begins.0;
+      text = begins.1;
+      right = begins.2;
+      opening = o;
+      begins = begins.3;
+      legal = l;
+      parts = parts_fit o journal l;
+      run = run;
+    }
+
+kept_as : (words : InitWords) (told told' : Option Files) (counts : Counts) (log : Option (List Call)) (o : Opening) (journal : List Entry) (k : KeptWritten)
+    → IsKept words told (record { counts = counts; files = told'; log = None }) o journal k → IsKept words told (record { counts = counts; files = told'; log = log }) o journal k
+kept_as words told told' counts log o journal W.Done h = h
+kept_as words told told' counts log o journal W.TooLarge h = h
+kept_as words told told' counts log o journal W.Fault h = h
+
+pub ends_kept : (words : InitWords) (told told' : Option Files) (counts : Counts) (log : Option (List Call)) (o o' : Opening) (journal : List Entry) (end : End)
+    → (begins : Begins words told (Ok (Ready o))) → (e : o' ≡ o) → Legal o' journal → IsSetup journal → outcome_of journal ≡ Some Initialized → EndsKeep words told told' counts o' journal end
+    → EndsInit words told (record { counts = counts; files = told'; log = log }) journal end
+unfolding is_run
+ends_kept words told told' counts log o o' journal (SetUp k) begins e legal run outcome h =
+    (is_run words told o o' journal begins e legal run, outcome, kept_as words told told' counts log o journal k (subst (λ (x : Opening). IsKept words told (record { counts = counts; files = told'; log = None }) x journal k) e h))
+ends_kept words told told' counts log o o' journal Memory begins e legal run outcome h = (inr (is_run words told o o' journal begins e legal run), h)
+ends_kept words told told' counts log o o' journal end begins e legal run outcome h = absurd h
+
+-- what was asked of the child is kept
+pub ends_set : (words : InitWords) (told told' : Option Files) (counts : Counts) (log : Option (List Call)) (table : TableValue) (o o' : Opening) (journal journal' : List Entry) (setup : Setup) (end end' : End)
+    → Begins words told (Ok (Ready o)) → o' ≡ o → Legal o' journal → IsSetup journal → outcome_of journal ≡ Some setup → setup ≡ Initialized → EndsKeep words told told' counts o' journal end
+    → end' ≡ end → table ≡ record { counts = counts; files = told'; log = log } → journal' ≡ journal → EndsInit words told table journal' end'
+ends_set words told told' counts log table o o' journal journal' setup end end' begins e legal run outcome is h f t j =
+    subst (λ (x : List Entry). EndsInit words told table x end') (sym j)
+    (subst (λ (x : End). EndsInit words told table journal x) (sym f)
+    (subst (λ (x : TableValue). EndsInit words told x journal end) (sym t)
+    (ends_kept words told told' counts log o o' journal end begins e legal run (outcome ∙ ap Some is) h)))
+
+-- or the child wasn't set up
+pub ends_stopped : (words : InitWords) (told : Option Files) (table : TableValue) (o o' : Opening) (journal journal' : List Entry) (setup : Setup) (answer : Answer) (end' : End) → Begins words told (Ok (Ready o))
+    → o' ≡ o → Legal o' journal → IsSetup journal → outcome_of journal ≡ Some setup → setup ≡ Stopped answer → end' ≡ NotSetUp answer → table.files ≡ told → journal' ≡ journal → EndsInit words told table journal' end'
+ends_stopped words told table o o' journal journal' setup answer end' begins e legal run outcome is f t j =
+    subst (λ (x : List Entry). EndsInit words told table x end') (sym j)
+    (subst (λ (x : End). EndsInit words told table journal x) (sym f)
+    (is_run words told o o' journal begins e legal run, outcome ∙ ap Some is, as_before words told table t))
+
+-- or no memory was found
+pub ends_wanting : (words : InitWords) (told : Option Files) (table : TableValue) (o o' : Opening) (journal journal' : List Entry) (end' : End) → Begins words told (Ok (Ready o)) → o' ≡ o → Legal o' journal
+    → IsSetup journal → end' ≡ Memory → table.files ≡ told → journal' ≡ journal → EndsInit words told table journal' end'
+ends_wanting words told table o o' journal journal' end' begins e legal run f t j =
+    subst (λ (x : List Entry). EndsInit words told table x end') (sym j)
+    (subst (λ (x : End). EndsInit words told table journal x) (sym f)
+    (inr (is_run words told o o' journal begins e legal run), as_before words told table t))
+
+-- ---- the desk
+
+pub same_files : (words : InitWords) (told told' : Option Files) (table : TableValue) (journal : List Entry) (end : End) → told' ≡ told → EndsInit words told' table journal end → EndsInit words told table journal end
+same_files words told told' table journal end e h = subst (λ (t : Option Files). EndsInit words t table journal end) e h
+
+-- ---- the objects
+
+pub outcome_ok : (journal : List Entry) (r : Result Setup NoMemory) (setup : Setup) → r ≡ Ok setup → IfOk r (λ x. outcome_of journal ≡ Some x) → outcome_of journal ≡ Some setup
+outcome_ok journal r setup e h = subst (λ (x : Result Setup NoMemory). IfOk x (λ y. outcome_of journal ≡ Some y)) e h
+
+pub ok_err : {A : Type 0} (r : Result Setup NoMemory) (setup : Setup) → r ≡ Ok setup → IsErr r → A
+ok_err r setup e h = absurd (let bad : false ≡ true = subst IsErr e h in cc)
+
+-- the want of memory, the program and the journal are named otherwise
+pub leaves_named : {V W : Type 0} {program program' : List ℕ} {journal journal' : List Entry} {before after : ProgramsValue} {wires : List WireValue} → (V → W) → journal' ≡ journal → program ≡ program'
+    → Leaves V program journal before after wires → Leaves W program' journal' before after wires
+leaves_named {V} {W} {program} {program'} {journal} {journal'} {before} {after} {wires} f j e h =
+    leaves_as f j refl (subst (λ (p : List ℕ). Leaves V p journal before after wires) e h)

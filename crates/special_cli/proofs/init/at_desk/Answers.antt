@@ -1,0 +1,18 @@
+use Rattle.std.proofs.Common.{◌∙◌, List, Option, [], ◌∷◌, ◌++◌, map, refl, sym, ap, subst, inr}
+use Rattle.ann_outside.specs.Causes.{AddsOne}
+use Rattle.ann_outside.specs.Desks.{Made}
+use Rattle.special_cli.specs.Left.{OutsideValue, table_value}
+use Rattle.special_cli.proofs.Leaving.{leaves_as}
+use Rattle.special_cli.proofs.init.at_desk.Goals as goal
+
+pub returns : goal.returns
+returns g c = inr record {
+  told = g.K.Desk.Desk.files c.in-Ok.desk;
+  table = table_value g.K.Desk.Desk.counts g.K.Desk.Desk.files g.K.Desk.Desk.log c.set_up-made.new.desk;
+  tables = ap (map (table_value g.K.Desk.Desk.counts g.K.Desk.Desk.files g.K.Desk.Desk.log)) (c.push_reserved.ensures.items ∙ ap (λ xs. xs ++ c.set_up-made.new.desk ∷ []) c.requires.none.1);
+  made = subst (λ (m : Option (List Made)). AddsOne m (g.K.Desks.made c.desk.new.self) (record { number = 0; files = g.K.Desk.Desk.files c.in-Ok.desk }))
+      (ap (λ (o : OutsideValue). o.made) c.outside.view_is) c.in-Ok.ensures.made;
+  ends = c.set_up-made.ensures.ends;
+  none = c.new.ensures.items;
+  objects = leaves_as (λ e. e) refl (sym (ap (λ (o : OutsideValue). o.programs) c.outside.view_is)) c.set_up-made.ensures.leaves;
+}

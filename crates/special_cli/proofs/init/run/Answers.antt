@@ -1,0 +1,48 @@
+use Rattle.std.proofs.Common.{◌≡◌, ◌∙◌, map, refl, ap, rules, arith}
+use Rattle.std.specs.Prelude.{IsErr}
+use Rattle.std.proofs.lemmas.Grind.{common_steps}
+use Rattle.init_run.specs.declared.setup.Setup.TheVariants.{Initialized, Stopped}
+use Rattle.special_cli.specs.declared.end.End.TheVariants.{Memory}
+use Rattle.special_cli.specs.Left.{programs_value, table_value}
+use Rattle.special_cli.proofs.Informed.{nothing_legal}
+use Rattle.special_cli.proofs.Keeping.{ends_set, ends_stopped, ends_wanting, outcome_ok, ok_err, leaves_named}
+use Rattle.special_cli.proofs.Leaving.{leaves_nothing}
+use Rattle.special_cli.proofs.init.run.Goals as goal
+use Rattle.special_cli.proofs.init.run.Goals.{in-Ok-Initialized, in-Ok-Stopped, in-Err}
+
+pub returns-in_default-clause-leaves : goal.returns-in_default-clause-leaves
+returns-in_default-clause-leaves g c =
+    leaves_nothing _ (programs_value (g.P.Programs.starts c.args.programs.now) (g.P.Programs.faults c.args.programs.now)) (programs_value (g.P.Programs.starts c.args.programs.now) (g.P.Programs.faults c.args.programs.now)) c.args.words.now.program
+    c.nothing_made.result.journal.entries _ refl c.nothing_made.ensures.journal (ap (map _) c.requires.none)
+
+pub returns-clause-ends : goal.returns-clause-ends
+returns-clause-ends g c =
+    let told = g.D.Desk.files c.args.desk.now in
+    let table = table_value g.D.Desk.counts g.D.Desk.files g.D.Desk.log c.match-asked.desk in
+    let core = c.ask-asked.new.core in
+    let same = c.ask-asked.ensures.core.opening ∙ c.in-Ok.ensures.opening in
+    let legal = c.ask-asked.ensures.core.legal (nothing_legal c.in-Ok.core.opening c.in-Ok.core.journal c.in-Ok.ensures.empty) in
+    elim c.match-asked.branch [
+      | in-Ok-Initialized w ↦
+          let is : w.in-Ok-Initialized.field-0 ≡ Initialized = rw w.in-Ok-Initialized.is at w.in-Ok-Initialized.field-0-is in
+          ends_set c.args.words.now told (g.D.Desk.files w.keep-end.new.desk) (g.D.Desk.counts w.keep-end.new.desk) (g.D.Desk.log w.keep-end.new.desk) table c.args.opening core.opening core.journal
+          c.journal_of.result.entries w.in-Ok-Initialized.field-0 w.keep-end.result c.match-asked.end c.requires.begins same legal c.ask-asked.ensures.asked (outcome_ok core.journal c.ask-asked.result w.in-Ok-Initialized.field-0 w.in-Ok-Initialized.is c.ask-asked.ensures.outcome)
+          is w.keep-end.ensures.keeps w.end-is (ap (table_value g.D.Desk.counts g.D.Desk.files g.D.Desk.log) w.desk-is) c.journal_of.ensures
+      | in-Ok-Stopped w ↦
+          let is : w.in-Ok-Stopped.field-0 ≡ Stopped w.in-Ok-Stopped.answer = first_of (search rules, grind (arith, common_steps)) in
+          ends_stopped c.args.words.now told table c.args.opening core.opening core.journal c.journal_of.result.entries w.in-Ok-Stopped.field-0 w.in-Ok-Stopped.answer c.match-asked.end c.requires.begins same legal
+          c.ask-asked.ensures.asked (outcome_ok core.journal c.ask-asked.result w.in-Ok-Stopped.field-0 w.in-Ok-Stopped.is c.ask-asked.ensures.outcome) is w.end-is (ap g.D.Desk.files w.desk-is) c.journal_of.ensures
+      | in-Err w ↦
+          ends_wanting c.args.words.now told table c.args.opening core.opening core.journal c.journal_of.result.entries c.match-asked.end c.requires.begins same legal c.ask-asked.ensures.asked w.end-is
+          (ap g.D.Desk.files w.desk-is) c.journal_of.ensures
+    ]
+
+pub returns-clause-leaves : goal.returns-clause-leaves
+returns-clause-leaves g c =
+    let wanting : IsErr c.ask-asked.result → c.match-asked.end ≡ Memory = λ err.
+    elim c.match-asked.branch [
+      | in-Ok-Initialized w ↦ ok_err c.ask-asked.result w.in-Ok-Initialized.field-0 w.in-Ok-Initialized.is err
+      | in-Ok-Stopped w ↦ ok_err c.ask-asked.result w.in-Ok-Stopped.field-0 w.in-Ok-Stopped.is err
+      | in-Err w ↦ w.end-is
+    ] in
+    leaves_named wanting c.journal_of.ensures c.view.ensures c.ask-asked.ensures.leaves

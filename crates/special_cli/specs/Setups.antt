@@ -1,0 +1,154 @@
+-- What comes of a setup: what its child was asked, what it begins with, and what is kept.
+use Rattle.std.specs.Prelude.{ℕ, ◌≡◌, ◌⊎◌, ◌==◌, ◌&&◌, ◌<◌, not, Bool, true, false, List, [], ◌∷◌, length, Option, Some, None, Ok}
+use Rattle.std.specs.List.{list_all}
+use Rattle.ann_outside.specs.Causes.{AddsOne, Rose, Stays}
+use Rattle.ann_outside.specs.DeskCauses.{Counts}
+use Rattle.ann_outside.specs.Starts.{Starts}
+use Rattle.ann_outside.specs.Files.{Files, WhereTold, OthersStay}
+use Rattle.desk_file.specs.Writes.{new_name, IsReplacedBy}
+use Rattle.keep_text.specs.KeptFiles.{bad_line, kept_text}
+use Rattle.keep_desk.specs.declared.TheConstants.{MOST_BYTES}
+use Rattle.keep_desk.specs.declared.writing.KeptWritten.{KeptWritten}
+use Rattle.keep_desk.specs.declared.writing.KeptWritten.TheVariants as W
+use Rattle.cli_words.specs.declared.command.InitWords.{InitWords}
+use Rattle.journal_model.specs.declared.entry.What.{What}
+use Rattle.journal_model.specs.declared.entry.What.TheVariants.{Start, NoStart, End}
+use Rattle.journal_model.specs.declared.entry.Entry.{Entry}
+use Rattle.journal_model.specs.declared.opening.Opening.{Opening}
+use Rattle.journal_model.specs.Journal.{is_live, is_started, open_jobs}
+use Rattle.journal_model.specs.Due.{replies_at}
+use Rattle.journal_model.specs.Legality.{Legal}
+use Rattle.journal_model.specs.Projection.{JobFits}
+use Rattle.host_core.specs.Settings.{registers_after}
+use Rattle.child_start.specs.declared.greeting.Mode.TheVariants.{Init}
+use Rattle.child_start.specs.Greetings.{is_of_greeting_for}
+use Rattle.init_run.specs.Setups.{IsOpening, IsTextOf, outcome_of}
+use Rattle.init_run.specs.declared.setup.Setup.{Setup}
+use Rattle.init_run.specs.declared.setup.Setup.TheVariants.{Initialized, Stopped}
+use Rattle.ann_outside.specs.declared.Sink.{Ghosts as SinkGhosts}
+use Rattle.ann_outside.specs.declared.Source.{Ghosts as SourceGhosts}
+use Rattle.journal_model.specs.Halves.{EarValue, MouthValue}
+use Rattle.special_cli.specs.declared.init.asking.Talk.{Talk}
+use Rattle.special_cli.specs.declared.init.asking.Talk.TheVariants.{Over, StartFault, NoMemory}
+use Rattle.special_cli.specs.Runs.{main_entry}
+use Rattle.special_cli.specs.declared.end.End.{End as Ending}
+use Rattle.special_cli.specs.declared.end.End.TheVariants.{Memory, BadKept, KeptTooLarge, FileFailed, SetUp, NotSetUp}
+use Rattle.special_cli.specs.Endings.{starts_in}
+use Rattle.special_cli.specs.Left.{OutsideValue, RanValue, TableValue, IsIdle}
+use Rattle.special_cli.specs.Objects.{Leaves}
+
+-- ---- the journal
+
+-- the one start, the closing, or an entry of the child's greeting, whose last request is INITREMOTE
+abbrev pub is_of_setup : What → Bool
+is_of_setup (Start child slot offer) = child == 1 && (slot == 0 && not offer)
+is_of_setup (NoStart slot) = slot == 0
+is_of_setup (End child why) = true
+is_of_setup w = is_of_greeting_for Init 1 w
+
+-- There is one start at most, in slot 0, and ASYNC is not offered. The child was asked EXTENSIONS and then INITREMOTE, as far as
+-- it came, and nothing else; no job of it is open, and it has ended. No task is claimed or answered.
+pub record IsSetup (journal : List Entry) : Type 0 where
+  pub once : (starts_in journal ≡ []) ⊎ (starts_in journal ≡ Start 1 0 false ∷ []) ⊎ (starts_in journal ≡ NoStart 0 ∷ [])
+  pub own : list_all (λ e. is_of_setup e.what) journal ≡ true
+  pub settled : open_jobs journal 1 ≡ []
+  pub ended : is_live journal 1 ≡ false
+
+-- From an opening of the words, over what the text of their kept file hands on, the journal is legal, and each job's part fits.
+pub record IsRunOf (words : InitWords) (told : Option Files) (journal : List Entry) : Type 0 where
+  pub kept : List ℕ
+  pub text : IsTextOf words told kept
+  pub right : bad_line kept ≡ None
+  pub opening : Opening
+  pub begins : IsOpening words kept opening
+  pub legal : Legal opening journal
+  pub parts : (c j : ℕ) → JobFits (replies_at opening journal) journal c j
+  pub run : IsSetup journal
+
+-- ---- the kept file
+
+-- the kept file is as before, where files are told
+abbrev pub IsAsBefore : InitWords → Option Files → TableValue → Type 0
+IsAsBefore words told table = WhereTold told table.files (OthersStay (λ other. other ≡ new_name words.keep))
+
+-- the desk counted a fault, or a missing file where it tells no files
+abbrev pub HasFailed : Option Files → TableValue → Type 0
+HasFailed told table = Rose 0 table.counts.faults ⊎ ((told ≡ None) × Rose 0 table.counts.missing)
+
+-- it is the text of the registers behind the journal and of the notes, or as before
+abbrev pub IsKept : InitWords → Option Files → TableValue → Opening → List Entry → KeptWritten → Type 0
+IsKept words told table o journal W.Done =
+    WhereTold told table.files (IsReplacedBy words.keep (kept_text (registers_after o journal) (registers_after o journal) o.notes) (Ok tt))
+IsKept words told table o journal W.TooLarge =
+    (MOST_BYTES < length (kept_text (registers_after o journal) (registers_after o journal) o.notes)) × IsAsBefore words told table
+IsKept words told table o journal W.Fault = HasFailed told table × IsAsBefore words told table
+
+-- ---- its end
+
+-- the setup didn't begin: nothing was started, and the kept file is as before
+pub record IsUnbegun (words : InitWords) (told : Option Files) (table : TableValue) (journal : List Entry) (P : List ℕ → Type 0) : Type 0 where
+  pub kept : List ℕ
+  pub text : IsTextOf words told kept
+  pub cause : P kept
+  pub nothing : journal ≡ []
+  pub before : IsAsBefore words told table
+
+-- what a setup at desk 0 comes to, by its end
+abbrev pub EndsInit : InitWords → Option Files → TableValue → List Entry → Ending → Type 0
+EndsInit words told table journal (BadKept line) = IsUnbegun words told table journal (λ kept. bad_line kept ≡ Some line)
+EndsInit words told table journal KeptTooLarge = IsUnbegun words told table journal (λ kept. MOST_BYTES < length kept)
+EndsInit words told table journal FileFailed = (journal ≡ []) × Rose 0 table.counts.faults × IsAsBefore words told table
+EndsInit words told table journal (SetUp written) =
+    (run : IsRunOf words told journal) × (outcome_of journal ≡ Some Initialized) × IsKept words told table run.opening journal written
+EndsInit words told table journal (NotSetUp answer) = IsRunOf words told journal × (outcome_of journal ≡ Some (Stopped answer)) × IsAsBefore words told table
+EndsInit words told table journal Memory = ((journal ≡ []) ⊎ IsRunOf words told journal) × IsAsBefore words told table
+EndsInit words told table journal end = ⊥
+
+-- desk 0 was asked for, once, and this came of it
+pub record IsAtDesk (words : InitWords) (before : OutsideValue) (ran : RanValue) : Type 0 where
+  pub told : Option Files
+  pub table : TableValue
+  pub tables : ran.left.tables ≡ table ∷ []
+  pub made : AddsOne before.made ran.left.outside.made (record { number = 0; files = told })
+  pub ends : EndsInit words told table ran.left.journal ran.end
+  pub none : ran.left.answers ≡ []
+  pub objects : Leaves (ran.end ≡ Memory) words.program ran.left.journal before.programs ran.left.outside.programs ran.left.wires
+
+-- so it is, or no memory was found for a desk
+abbrev pub HasSetUp : InitWords → OutsideValue → RanValue → Type 0
+HasSetUp words before ran = ((ran.end ≡ Memory) × IsIdle before ran.left) ⊎ IsAtDesk words before ran
+
+-- ---- on the way
+
+-- what keeping it comes to, from the files that are told before and behind it, and what the desk counted
+abbrev pub EndsKeep : InitWords → Option Files → Option Files → Counts → Opening → List Entry → Ending → Type 0
+EndsKeep words told told' counts o journal (SetUp written) = IsKept words told (record { counts = counts; files = told'; log = None }) o journal written
+EndsKeep words told told' counts o journal Memory = WhereTold told told' (OthersStay (λ other. other ≡ new_name words.keep))
+EndsKeep words told told' counts o journal end = ⊥
+
+-- the child is the first, its jobs are settled, and it comes to this
+pub record IsTalked (journal : List Entry) (c : ℕ) (setup : Setup) : Type 0 where
+  pub first : c ≡ 1
+  pub started : is_started journal c ≡ true
+  pub starts : starts_in journal ≡ Start 1 0 false ∷ []
+  pub own : list_all (λ e. is_of_setup e.what) journal ≡ true
+  pub settled : open_jobs journal c ≡ []
+  pub outcome : outcome_of journal ≡ Some setup
+
+abbrev pub Talked : {I O S : Type 0} {sinks : SinkGhosts I} {sources : SourceGhosts O} → List Entry → Talk I O S sinks sources → Type 0
+Talked journal (Over link stub setup) = IsTalked journal link.ear.child setup
+Talked journal StartFault = journal ≡ main_entry (NoStart 0) ∷ []
+Talked journal NoMemory = journal ≡ []
+
+-- the halves of the link of a child that there is
+abbrev pub IfTalked : {I O S : Type 0} {sinks : SinkGhosts I} {sources : SourceGhosts O} → (EarValue → MouthValue → Type 0) → Talk I O S sinks sources → Type 0
+IfTalked P (Over link stub setup) = P link.ear link.mouth
+IfTalked P StartFault = Unit {0}
+IfTalked P NoMemory = Unit {0}
+
+-- Where programs tell, they were asked for the program once, which gave a child or not. Without memory they may not have been
+-- asked, or it may have been for nothing.
+abbrev pub TalkStarts : {I O S : Type 0} {sinks : SinkGhosts I} {sources : SourceGhosts O} → Option Starts → Option Starts → List ℕ → Talk I O S sinks sources → Type 0
+TalkStarts old new program (Over link stub setup) = AddsOne old new (program, true)
+TalkStarts old new program StartFault = AddsOne old new (program, false)
+TalkStarts old new program NoMemory = Stays old new ⊎ ((b : Bool) × AddsOne old new (program, b))
