@@ -1,6 +1,6 @@
 pub mod Ending
 pub mod Fitting
 pub mod Limiting
-pub mod Reading
+pub mod Pieces
 pub mod Refusing
 pub mod Taking

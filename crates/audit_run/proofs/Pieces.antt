@@ -8,7 +8,7 @@ use Rattle.journal_audit.specs.Audits.{IsAudit}
 use Rattle.journal_audit.specs.declared.found.Audit.{Audit}
 use Rattle.audit_run.specs.Inputs.{passes, ComesTo}
 use Rattle.audit_run.specs.Intakes.{IsWithin, IsPast, Took, TookBy}
-use Rattle.audit_run.specs.Reads.{IsRead}
+use Rattle.audit_run.specs.Reads.{IsCounted, IsRead}
 use Rattle.audit_run.specs.Steps.{Comes, Holds, IsStep}
 use Rattle.audit_run.specs.declared.intake.Intake.{Intake}
 use Rattle.audit_run.specs.declared.limits.Limits.{Limits}
@@ -72,6 +72,21 @@ told_unread limits bytes left (Some all) (Entry line) h = absurd h
 told_unread limits bytes left (Some all) (Cut line) h = absurd h
 told_unread limits bytes left (Some all) Failed h = tt
 told_unread limits bytes left (Some all) NoMemory h = tt
+
+-- ---- the count of faults
+
+pub counted_on : {A B : Type 0} (before now : ℕ) (fault : AuditError) → IsCounted {T = A} before now (Err fault) → IsCounted {T = B} before now (Err fault)
+counted_on before now (Entry line) h = h
+counted_on before now (Cut line) h = h
+counted_on before now Failed h = h
+counted_on before now NoMemory h = h
+
+-- what is refused of a text isn't a read that failed
+pub counted_end : {B : Type 0} (before now : ℕ) (limits : Limits) (bytes : List ℕ) (fault : AuditError) → Comes limits bytes (Err fault) → now ≡ before → IsCounted {T = B} before now (Err fault)
+counted_end before now limits bytes (Entry line) h e = e
+counted_end before now limits bytes (Cut line) h e = e
+counted_end before now limits bytes Failed h e = absurd h
+counted_end before now limits bytes NoMemory h e = e
 
 -- ---- the result
 
