@@ -75,18 +75,18 @@ told_unread limits bytes left (Some all) NoMemory h = tt
 
 -- ---- the count of faults
 
-pub counted_on : {A B : Type 0} (before now : ℕ) (fault : AuditError) → IsCounted {T = A} before now (Err fault) → IsCounted {T = B} before now (Err fault)
-counted_on before now (Entry line) h = h
-counted_on before now (Cut line) h = h
-counted_on before now Failed h = h
-counted_on before now NoMemory h = h
+pub counted_on : (A B : Type 0) (before now : ℕ) (fault : AuditError) → IsCounted {T = A} before now (Err fault) → IsCounted {T = B} before now (Err fault)
+counted_on A B before now (Entry line) h = h
+counted_on A B before now (Cut line) h = h
+counted_on A B before now Failed h = h
+counted_on A B before now NoMemory h = h
 
 -- what is refused of a text isn't a read that failed
-pub counted_end : {B : Type 0} (before now : ℕ) (limits : Limits) (bytes : List ℕ) (fault : AuditError) → Comes limits bytes (Err fault) → now ≡ before → IsCounted {T = B} before now (Err fault)
-counted_end before now limits bytes (Entry line) h e = e
-counted_end before now limits bytes (Cut line) h e = e
-counted_end before now limits bytes Failed h e = absurd h
-counted_end before now limits bytes NoMemory h e = e
+pub counted_end : (B : Type 0) (before now : ℕ) (limits : Limits) (bytes : List ℕ) (fault : AuditError) → Comes limits bytes (Err fault) → now ≡ before → IsCounted {T = B} before now (Err fault)
+counted_end B before now limits bytes (Entry line) h e = e
+counted_end B before now limits bytes (Cut line) h e = e
+counted_end B before now limits bytes Failed h e = absurd h
+counted_end B before now limits bytes NoMemory h e = e
 
 -- ---- the result
 
@@ -94,11 +94,11 @@ passed : (limits : Limits) (bytes : List ℕ) (k : Intake) → IsPast limits byt
 passed limits bytes k p = ap (passes limits) (sym (append-nil bytes)) ∙ p.passed []
 
 at_end : (limits : Limits) (bytes : List ℕ) (left : Option (List ℕ)) (k : Intake) → Took limits bytes k → (k.past ≡ false → IsAtEnd left) → passes limits bytes ≡ false → IsAtEnd left
-at_end limits bytes left k t h no = go k.past refl
+at_end limits bytes left k t h kept = go k.past refl
   where
     go : (b : Bool) → k.past ≡ b → IsAtEnd left
     go false e = h e
-    go true e = absurd (let bad : true ≡ false = sym (passed limits bytes k (past limits bytes k e t)) ∙ no in cc)
+    go true e = absurd (let bad : true ≡ false = sym (passed limits bytes k (past limits bytes k e t)) ∙ kept in cc)
 
 -- what it comes to whatever follows where a limit was passed
 abbrev pub ComesAll : Limits → List ℕ → Intake → Result (Opening × Journal) AuditError → Type 0

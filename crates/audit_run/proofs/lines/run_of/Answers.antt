@@ -6,7 +6,7 @@ use Rattle.audit_run.proofs.lines.run_of.Goals as goal
 
 pub returns-in-Ok : goal.returns-in-Ok
 returns-in-Ok c = λ lines reads.
-    text_read lines c.args.reader c.in-Ok.run.0 c.in-Ok.run.1.entries reads c.in-Ok.ensures.whole c.in-Ok.ensures.opening c.in-Ok.ensures.journal
+    text_read lines c.args.reader c.in-Ok.run'.0 c.in-Ok.run'.1.entries reads c.in-Ok.ensures.whole c.in-Ok.ensures.opening c.in-Ok.ensures.journal
 
 pub returns-in-Err-BadLine : goal.returns-in-Err-BadLine
 returns-in-Err-BadLine c = λ lines reads.
