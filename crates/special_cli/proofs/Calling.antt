@@ -1,5 +1,5 @@
 -- What is told of a call, from what came of its command and how that was told.
-use Rattle.std.proofs.Common.{◌≡◌, ◌⊎◌, ◌∙◌, ◌==◌, ◌≤◌, ℕ, List, [], ◌∷◌, length, Bool, true, false, cond, Option, Some, None, refl, sym, ap, subst, inl, inr, arith}
+use Rattle.std.proofs.Common.{◌≡◌, ◌⊎◌, ◌∙◌, ◌==◌, ◌≤◌, ℕ, List, [], ◌∷◌, length, Bool, true, false, cond, Option, Some, None, Result, Ok, Err, refl, sym, ap, subst, inl, inr, arith}
 use Rattle.std.specs.Prelude.{◌||◌, IfSome, IsSome}
 use Rattle.std.specs.Io.KnownBytes.{Appends}
 use Rattle.std.specs.List.{list_all, list_any}
@@ -13,12 +13,16 @@ use Rattle.journal_model.specs.Journal.{any}
 use Rattle.journal_model.proofs.Looks.{same_number}
 use Rattle.journal_model.specs.Output.{answer_line}
 use Rattle.info_run.specs.Infos.{info_lines, is_informed}
+use Rattle.journal_audit.specs.declared.found.Audit.{Audit as AuditFound}
+use Rattle.journal_audit.specs.declared.found.Audit.TheVariants.{Legal, Wrong}
+use Rattle.audit_run.specs.declared.error.AuditError.{AuditError}
+use Rattle.audit_run.specs.declared.error.AuditError.TheVariants.{Entry as BadEntry, Cut as NoEnd, Failed, NoMemory}
 use Rattle.special_cli.specs.declared.end.End.{End}
-use Rattle.special_cli.specs.declared.end.End.TheVariants.{Usage, Shown, Refused, Memory, Answered, Informed}
+use Rattle.special_cli.specs.declared.end.End.TheVariants.{Usage, Shown, Refused, Memory, Answered, Informed, Audited}
 use Rattle.cli_words.specs.declared.refusals.Reason.{Reason}
 use Rattle.cli_words.specs.declared.command.Page.{Page}
 use Rattle.special_cli.specs.Calls.{IsCalled}
-use Rattle.special_cli.specs.Commands.{ComesToNothing, EndsCheck, HasChecked, EndsInfo, HasInformed, UnlessRefused, Runs}
+use Rattle.special_cli.specs.Commands.{ComesToNothing, EndsCheck, HasChecked, EndsInfo, HasInformed, UnlessRefused, Runs, EndsAudit, HasAudited}
 use Rattle.special_cli.specs.Endings.{is_well, status_of, IsChecked, IsPrinted, IsTold, LacksMemory}
 use Rattle.special_cli.specs.Informs.{IsInformed, IsInfoTold, info_status}
 use Rattle.special_cli.specs.Left.{Left, OutsideValue, RanValue, TableValue, IsIdle}
@@ -28,14 +32,22 @@ use Rattle.special_cli.specs.Wishes.{taken_up}
 use Rattle.special_cli.proofs.Checked.{unstarted}
 use Rattle.special_cli.proofs.Informed.{nothing_informed}
 use Rattle.special_cli.proofs.Leaving.{leaves_nothing}
-use Rattle.special_cli.specs.Tells.{Flow, IsSilent, IsWritten, IsPrintedOr, IsToldOf, answer_lines, answers_status}
+use Rattle.special_cli.specs.Tells.{Flow, IsSilent, IsWritten, IsPrintedOr, IsToldOf, answer_lines, answers_status, IsAuditTold}
 use Rattle.cli_words.specs.declared.command.Command.{Command}
-use Rattle.cli_words.specs.declared.command.Command.TheVariants.{Check, Info, Init, Run, Show}
+use Rattle.cli_words.specs.declared.command.Command.TheVariants.{Check, Info, Init, Run, Show, Audit}
 
 -- ---- the statuses
 
 never : {A : Type 0} → false ≡ true → A
 never e = absurd cc
+
+wants : Result AuditFound AuditError → List ℕ
+wants (Ok Legal) = 0 ∷ 7 ∷ []
+wants (Ok (Wrong entry kind)) = 1 ∷ 7 ∷ []
+wants (Err (BadEntry line)) = 3 ∷ 7 ∷ []
+wants (Err (NoEnd line)) = 3 ∷ 7 ∷ []
+wants (Err Failed) = 4 ∷ []
+wants (Err NoMemory) = 7 ∷ []
 
 -- the statuses that go with an end whose text was written
 wanted_of : End → List ℕ
@@ -43,6 +55,7 @@ wanted_of Usage = 2 ∷ []
 wanted_of (Shown page) = 0 ∷ []
 wanted_of (Refused reason) = 3 ∷ 7 ∷ []
 wanted_of Memory = 7 ∷ []
+wanted_of (Audited outcome) = wants outcome
 wanted_of Answered = 0 ∷ 1 ∷ 7 ∷ []
 wanted_of (Informed key) = 0 ∷ 1 ∷ 7 ∷ []
 
@@ -67,6 +80,19 @@ low : (b : Bool) → list_any (λ v. v == cond {A = ℕ} b 0 1) (0 ∷ 1 ∷ 7 �
 low true = refl
 low false = refl
 
+pub audit_ends : (outcome : Result AuditFound AuditError) (status : ℕ) (out err : Flow) → IsAuditTold status out err outcome → EndsWith (wants outcome) status out err
+unfolding wants
+audit_ends (Ok Legal) status out err (inl said) = on_out (0 ∷ 7 ∷ []) 0 _ status out err refl said.0
+audit_ends (Ok Legal) status out err (inr said) = on_err (0 ∷ 7 ∷ []) 7 _ status out err refl said.0
+audit_ends (Ok (Wrong entry kind)) status out err (inl said) = on_out (1 ∷ 7 ∷ []) 1 _ status out err refl said.0
+audit_ends (Ok (Wrong entry kind)) status out err (inr said) = on_err (1 ∷ 7 ∷ []) 7 _ status out err refl said.0
+audit_ends (Err (BadEntry line)) status out err (inl w, silent) = on_err (3 ∷ 7 ∷ []) 3 _ status out err refl w
+audit_ends (Err (BadEntry line)) status out err (inr w, silent) = on_err (3 ∷ 7 ∷ []) 7 _ status out err refl w
+audit_ends (Err (NoEnd line)) status out err (inl w, silent) = on_err (3 ∷ 7 ∷ []) 3 _ status out err refl w
+audit_ends (Err (NoEnd line)) status out err (inr w, silent) = on_err (3 ∷ 7 ∷ []) 7 _ status out err refl w
+audit_ends (Err Failed) status out err told = on_err (4 ∷ []) 4 _ status out err refl told.0
+audit_ends (Err NoMemory) status out err told = on_err (7 ∷ []) 7 _ status out err refl told.0
+
 ends_with : (left : Left) (status : ℕ) (out err : Flow) (end : End) → IsToldOf left status out err end → EndsWith (wanted_of end) status out err
 unfolding wanted_of
 ends_with left status out err Usage told = on_err (2 ∷ []) 2 _ status out err refl told.0
@@ -74,6 +100,7 @@ ends_with left status out err (Shown page) told = on_out (0 ∷ []) 0 told.0 sta
 ends_with left status out err (Refused reason) (inl w, silent) = on_err (3 ∷ 7 ∷ []) 3 _ status out err refl w
 ends_with left status out err (Refused reason) (inr w, silent) = on_err (3 ∷ 7 ∷ []) 7 _ status out err refl w
 ends_with left status out err Memory told = on_err (7 ∷ []) 7 _ status out err refl told.0
+ends_with left status out err (Audited outcome) told = audit_ends outcome status out err told
 ends_with left status out err Answered (inl said) = on_out (0 ∷ 1 ∷ 7 ∷ []) (answers_status left.answers) _ status out err (low (list_all is_well left.answers)) said.0
 ends_with left status out err Answered (inr said) = on_err (0 ∷ 1 ∷ 7 ∷ []) 7 _ status out err refl said.0
 ends_with left status out err (Informed key) (inl said) = on_out (0 ∷ 1 ∷ 7 ∷ []) (info_status left.journal key) _ status out err (low (is_informed left.journal 1 key)) said.0
@@ -85,6 +112,34 @@ unfolding EndsWith
 apart ws status k out err (inl (five, rose)) other none is = absurd (let bad : true ≡ false = ap (λ (s : ℕ). 5 == s) (sym five ∙ is) ∙ other in cc)
 apart ws status k out err (inr is_of) other none is =
     absurd (let bad : true ≡ false = sym is_of ∙ ap (λ (s : ℕ). list_any (λ w. w == s) ws) is ∙ none in cc)
+
+-- an audit comes to status 4 only where a read failed
+pub four_fails : (outcome : Result AuditFound AuditError) (status : ℕ) (out err : Flow) → IsAuditTold status out err outcome → status ≡ 4 → outcome ≡ Err Failed
+unfolding wants
+four_fails (Ok Legal) status out err told four = apart (0 ∷ 7 ∷ []) status 4 out err (audit_ends (Ok Legal) status out err told) refl refl four
+four_fails (Ok (Wrong entry kind)) status out err told four = apart (1 ∷ 7 ∷ []) status 4 out err (audit_ends (Ok (Wrong entry kind)) status out err told) refl refl four
+four_fails (Err (BadEntry line)) status out err told four = apart (3 ∷ 7 ∷ []) status 4 out err (audit_ends (Err (BadEntry line)) status out err told) refl refl four
+four_fails (Err (NoEnd line)) status out err told four = apart (3 ∷ 7 ∷ []) status 4 out err (audit_ends (Err (NoEnd line)) status out err told) refl refl four
+four_fails (Err Failed) status out err told four = refl
+four_fails (Err NoMemory) status out err told four = apart (7 ∷ []) status 4 out err (audit_ends (Err NoMemory) status out err told) refl refl four
+
+wanted_two : (outcome : Result AuditFound AuditError) → list_any (λ w. w == 2) (wants outcome) ≡ false
+unfolding wants
+wanted_two (Ok Legal) = refl
+wanted_two (Ok (Wrong entry kind)) = refl
+wanted_two (Err (BadEntry line)) = refl
+wanted_two (Err (NoEnd line)) = refl
+wanted_two (Err Failed) = refl
+wanted_two (Err NoMemory) = refl
+
+wanted_five : (outcome : Result AuditFound AuditError) → list_any (λ w. w == 5) (wants outcome) ≡ false
+unfolding wants
+wanted_five (Ok Legal) = refl
+wanted_five (Ok (Wrong entry kind)) = refl
+wanted_five (Err (BadEntry line)) = refl
+wanted_five (Err (NoEnd line)) = refl
+wanted_five (Err Failed) = refl
+wanted_five (Err NoMemory) = refl
 
 output_of : (ws : List ℕ) (status : ℕ) (out err : Flow) → EndsWith ws status out err → list_any (λ w. w == 5) ws ≡ false → status ≡ 5 → Rose out.faults out.faults' ⊎ Rose err.faults err.faults'
 unfolding EndsWith
@@ -98,6 +153,7 @@ none_five Usage = refl
 none_five (Shown page) = refl
 none_five (Refused reason) = refl
 none_five Memory = refl
+none_five (Audited outcome) = wanted_five outcome
 none_five Answered = refl
 none_five (Informed key) = refl
 
@@ -173,19 +229,21 @@ check_told key left status out err Usage ends told = absurd ends
 check_told key left status out err (Shown page) ends told = absurd ends
 check_told key left status out err (Refused reason) ends told = absurd ends
 check_told key left status out err (Informed k) ends told = absurd ends
+check_told key left status out err (Audited outcome) ends told = absurd ends
 
--- neither status 2 nor 3
+-- none of the statuses 2, 3 and 4
 NeitherIn : List ℕ → Type 0
-NeitherIn ws = (list_any (λ w. w == 2) ws ≡ false) × (list_any (λ w. w == 3) ws ≡ false)
+NeitherIn ws = (list_any (λ w. w == 2) ws ≡ false) × (list_any (λ w. w == 3) ws ≡ false) × (list_any (λ w. w == 4) ws ≡ false)
 
 check_wanted : (key : List ℕ) (left : Left) (end : End) → EndsCheck key left end → NeitherIn (wanted_of end)
 unfolding wanted_of NeitherIn
-check_wanted key left Answered ends = (refl, refl)
-check_wanted key left Memory ends = (refl, refl)
+check_wanted key left Answered ends = (refl, refl, refl)
+check_wanted key left Memory ends = (refl, refl, refl)
 check_wanted key left Usage ends = absurd ends
 check_wanted key left (Shown page) ends = absurd ends
 check_wanted key left (Refused reason) ends = absurd ends
 check_wanted key left (Informed k) ends = absurd ends
+check_wanted key left (Audited outcome) ends = absurd ends
 
 -- ---- info
 
@@ -210,15 +268,17 @@ info_told key left status out err Usage ends told = absurd ends
 info_told key left status out err (Shown page) ends told = absurd ends
 info_told key left status out err (Refused reason) ends told = absurd ends
 info_told key left status out err Answered ends told = absurd ends
+info_told key left status out err (Audited outcome) ends told = absurd ends
 
 info_wanted : (key : Option (List ℕ)) (left : Left) (end : End) → EndsInfo key left end → NeitherIn (wanted_of end)
 unfolding wanted_of NeitherIn
-info_wanted key left (Informed k) ends = (refl, refl)
-info_wanted key left Memory ends = (refl, refl)
+info_wanted key left (Informed k) ends = (refl, refl, refl)
+info_wanted key left Memory ends = (refl, refl, refl)
 info_wanted key left Usage ends = absurd ends
 info_wanted key left (Shown page) ends = absurd ends
 info_wanted key left (Refused reason) ends = absurd ends
 info_wanted key left Answered ends = absurd ends
+info_wanted key left (Audited outcome) ends = absurd ends
 
 -- ---- the objects
 
@@ -270,6 +330,12 @@ three_five_seven status out err (inr h) = go (7 == status) (3 == status) refl re
     go false true e f h = inl (sym (same_number 3 status f))
     go false false e f h = never h
 
+audit_wanted : (end : End) → EndsAudit end → list_any (λ w. w == 2) (wanted_of end) ≡ false
+unfolding wanted_of
+audit_wanted (Audited outcome) h = wanted_two outcome
+audit_wanted Memory h = refl
+audit_wanted end h = absurd h
+
 module _ (clock : Option ℕ) (before : OutsideValue) (left : Left) (end : End) (status : ℕ) (out err : Flow) (told : IsToldOf left status out err end) where
   abbrev whole : RanValue
   whole = record { left = left; end = end }
@@ -294,8 +360,9 @@ module _ (clock : Option ℕ) (before : OutsideValue) (left : Left) (end : End) 
   called_unknown h = record {
     usage = λ s. refl;
     words = λ none. two_five_seven status out err (ends_as Usage h.end_is);
-    refused = λ s. apart (7 ∷ 2 ∷ []) status 3 out err (ends_as Usage h.end_is) refl refl s;
+    refused = λ other s. apart (7 ∷ 2 ∷ []) status 3 out err (ends_as Usage h.end_is) refl refl s;
     key = λ some. never some;
+    fourth = λ s. apart (7 ∷ 2 ∷ []) status 4 out err (ends_as Usage h.end_is) refl refl s;
     early = λ none. h.idle;
     output = output;
     checked = tt;
@@ -313,8 +380,9 @@ module _ (clock : Option ℕ) (before : OutsideValue) (left : Left) (end : End) 
   called_text page h = record {
     usage = λ s. apart (7 ∷ 0 ∷ []) status 2 out err (ends_as (Shown page) h.end_is) refl refl s;
     words = λ none. asked_for (Show page) none;
-    refused = λ s. apart (7 ∷ 0 ∷ []) status 3 out err (ends_as (Shown page) h.end_is) refl refl s;
+    refused = λ other s. apart (7 ∷ 0 ∷ []) status 3 out err (ends_as (Shown page) h.end_is) refl refl s;
     key = λ some. never some;
+    fourth = λ s. apart (7 ∷ 0 ∷ []) status 4 out err (ends_as (Shown page) h.end_is) refl refl s;
     early = λ none. h.idle;
     output = output;
     checked = tt;
@@ -337,8 +405,9 @@ module _ (clock : Option ℕ) (before : OutsideValue) (left : Left) (end : End) 
           record {
             usage = λ s. apart (wanted_of end) status 2 out err ends refl none.0 s;
             words = λ no. asked_for (Check program key) no;
-            refused = λ s. apart (wanted_of end) status 3 out err ends refl none.1 s;
+            refused = λ other s. apart (wanted_of end) status 3 out err ends refl none.1 s;
             key = λ some. no_reason (reason_refused key) e some;
+            fourth = λ s. apart (wanted_of end) status 4 out err ends refl none.2 s;
             early = λ no. run_at_all (reason_refused key) program e no;
             output = output;
             checked = subst (λ (o : Option Reason). IfSome {T = List ℕ × List ℕ} (unless o (program, key)) (λ c. IsChecked clock c.1 left.journal)) (sym e) h.checked;
@@ -355,8 +424,9 @@ module _ (clock : Option ℕ) (before : OutsideValue) (left : Left) (end : End) 
           record {
             usage = λ s. apart (7 ∷ 3 ∷ 7 ∷ []) status 2 out err refused_so refl refl s;
             words = λ no. asked_for (Check program key) no;
-            refused = λ s. subst (λ (o : Option Reason). IsSome o) (sym e) refl;
+            refused = λ other s. subst (λ (o : Option Reason). IsSome o) (sym e) refl;
             key = λ some. three_five_seven status out err refused_so;
+            fourth = λ s. apart (7 ∷ 3 ∷ 7 ∷ []) status 4 out err refused_so refl refl s;
             early = λ none. h.idle;
             output = output;
             checked = subst (λ (o : Option Reason). IfSome {T = List ℕ × List ℕ} (unless o (program, key)) (λ c. IsChecked clock c.1 left.journal)) (sym e) tt;
@@ -379,8 +449,9 @@ module _ (clock : Option ℕ) (before : OutsideValue) (left : Left) (end : End) 
           record {
             usage = λ s. apart (wanted_of end) status 2 out err ends refl none.0 s;
             words = λ no. asked_for (Info program key) no;
-            refused = λ s. apart (wanted_of end) status 3 out err ends refl none.1 s;
+            refused = λ other s. apart (wanted_of end) status 3 out err ends refl none.1 s;
             key = λ some. no_reason (refusal_if key) e some;
+            fourth = λ s. apart (wanted_of end) status 4 out err ends refl none.2 s;
             early = λ no. run_at_all (refusal_if key) program e no;
             output = output;
             checked = tt;
@@ -397,8 +468,9 @@ module _ (clock : Option ℕ) (before : OutsideValue) (left : Left) (end : End) 
           record {
             usage = λ s. apart (7 ∷ 3 ∷ 7 ∷ []) status 2 out err refused_so refl refl s;
             words = λ no. asked_for (Info program key) no;
-            refused = λ s. subst (λ (o : Option Reason). IsSome o) (sym e) refl;
+            refused = λ other s. subst (λ (o : Option Reason). IsSome o) (sym e) refl;
             key = λ some. three_five_seven status out err refused_so;
+            fourth = λ s. apart (7 ∷ 3 ∷ 7 ∷ []) status 4 out err refused_so refl refl s;
             early = λ none. h.idle;
             output = output;
             checked = tt;
@@ -411,9 +483,29 @@ module _ (clock : Option ℕ) (before : OutsideValue) (left : Left) (end : End) 
             desks = idle_desks h.idle;
           }
 
+  called_audit : HasAudited before whole → IsCalled clock before (Some Audit) out err status left
+  called_audit h = record {
+    usage = λ s. apart (wanted_of end) status 2 out err ends refl (audit_wanted end h.ends) s;
+    words = λ none. asked_for Audit none;
+    refused = λ other s. never (sym other);
+    key = λ some. never some;
+    fourth = λ s. refl;
+    early = λ none. h.idle;
+    output = output;
+    checked = tt;
+    told = tt;
+    informed = tt;
+    info_told = tt;
+    wires = tt;
+    starts = tt;
+    fault = tt;
+    desks = idle_desks h.idle;
+  }
+
   called_left : (wish : Option Command) → Runs clock before wish whole → IsCalled clock before wish out err status left
   called_left None h = called_unknown h
   called_left (Some (Show page)) h = called_text page h
+  called_left (Some Audit) h = called_audit h
   called_left (Some (Check program key)) h = called_check program key h
   called_left (Some (Info program key)) h = called_info program key h
   called_left (Some (Init words)) h = absurd h
@@ -436,10 +528,12 @@ answered_few key left Usage ends = absurd ends
 answered_few key left (Shown page) ends = absurd ends
 answered_few key left (Refused reason) ends = absurd ends
 answered_few key left (Informed k) ends = absurd ends
+answered_few key left (Audited outcome) ends = absurd ends
 
 pub few : (clock : Option ℕ) (before : OutsideValue) (wish : Option Command) (ran : RanValue) → Runs clock before wish ran → length ran.left.answers ≤ 65536
 few clock before None ran h = none_few ran.left h.idle.answers
 few clock before (Some (Show page)) ran h = none_few ran.left h.idle.answers
+few clock before (Some Audit) ran h = none_few ran.left h.idle.answers
 few clock before (Some (Check program key)) ran h = go (reason_refused key) h
   where
     go : (r : Option Reason) → UnlessRefused r before ran (HasChecked clock program key before ran) → length ran.left.answers ≤ 65536
@@ -479,6 +573,7 @@ nothing_informed_of program key before ran e idle = record {
 pub runs_nothing : (clock : Option ℕ) (before : OutsideValue) (command : Option Command) (ran : RanValue) → ran.end ≡ Memory → IsIdle before ran.left → Runs clock before (taken_up command) ran
 runs_nothing clock before None ran e idle = record { end_is = inr e; idle = idle }
 runs_nothing clock before (Some (Show page)) ran e idle = record { end_is = inr e; idle = idle }
+runs_nothing clock before (Some Audit) ran e idle = record { idle = idle; ends = subst (λ (x : End). EndsAudit x) (sym e) tt }
 runs_nothing clock before (Some (Check program key)) ran e idle = go (reason_refused key)
   where
     go : (r : Option Reason) → UnlessRefused r before ran (HasChecked clock program key before ran)

@@ -1,4 +1,5 @@
 pub mod Asked
+mod Auditing
 pub mod Beginning
 pub mod Calling
 pub mod Causing

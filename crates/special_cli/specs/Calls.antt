@@ -1,8 +1,9 @@
 -- All that is told of a call, in one record.
-use Rattle.std.specs.Prelude.{ℕ, ◌≡◌, ◌⊎◌, true, [], Option, None, IfSome, IsSome}
+use Rattle.std.specs.Prelude.{ℕ, ◌≡◌, ◌⊎◌, true, false, [], Option, None, IfSome, IsSome}
 use Rattle.ann_outside.specs.Causes.{Rose}
 use Rattle.journal_model.specs.Journal.{any}
 use Rattle.cli_words.specs.declared.command.Command.{Command}
+use Rattle.special_cli.specs.Audits.{is_audit}
 use Rattle.special_cli.specs.Endings.{refused_in, check_in, info_in, run_in, IsChecked, IsTold, LacksMemory}
 use Rattle.special_cli.specs.Informs.{IsInformed, IsInfoTold}
 use Rattle.special_cli.specs.Left.{Left, OutsideValue, IsIdle}
@@ -12,8 +13,9 @@ use Rattle.special_cli.specs.Tells.{Flow}
 pub record IsCalled (clock : Option ℕ) (before : OutsideValue) (wish : Option Command) (out err : Flow) (status : ℕ) (left : Left) : Type 0 where
   pub usage : status ≡ 2 → wish ≡ None
   pub words : wish ≡ None → (status ≡ 2) ⊎ (status ≡ 5) ⊎ (status ≡ 7)
-  pub refused : status ≡ 3 → IsSome (refused_in wish)
+  pub refused : is_audit wish ≡ false → status ≡ 3 → IsSome (refused_in wish)
   pub key : IsSome (refused_in wish) → (status ≡ 3) ⊎ (status ≡ 5) ⊎ (status ≡ 7)
+  pub fourth : status ≡ 4 → is_audit wish ≡ true
   pub early : run_in wish ≡ None → IsIdle before left
   pub output : status ≡ 5 → Rose out.faults out.faults' ⊎ Rose err.faults err.faults'
   pub checked : IfSome (check_in wish) (λ c. IsChecked clock c.1 left.journal)

@@ -2,7 +2,7 @@
 use Rattle.std.specs.Prelude.{ℕ, ◌≡◌, ◌⊎◌, List, [], Option, None, Some}
 use Rattle.journal_model.specs.declared.answer.Answer.{Answer}
 use Rattle.special_cli.specs.declared.end.End.{End}
-use Rattle.special_cli.specs.declared.end.End.TheVariants.{Usage, Shown, Refused, Memory, Answered, Informed}
+use Rattle.special_cli.specs.declared.end.End.TheVariants.{Usage, Shown, Refused, Memory, Answered, Informed, Audited}
 use Rattle.cli_words.specs.declared.refusals.Reason.{Reason}
 use Rattle.special_cli.specs.Endings.{IsChecked, IsAnswered}
 use Rattle.special_cli.specs.Informs.{IsInformed, IsComplete}
@@ -10,7 +10,7 @@ use Rattle.special_cli.specs.Left.{Left, OutsideValue, RanValue, IsIdle}
 use Rattle.special_cli.specs.Objects.{Leaves}
 use Rattle.cli_words.specs.Refusals.{reason_refused, refusal_if}
 use Rattle.cli_words.specs.declared.command.Command.{Command}
-use Rattle.cli_words.specs.declared.command.Command.TheVariants.{Check, Info, Show}
+use Rattle.cli_words.specs.declared.command.Command.TheVariants.{Check, Info, Show, Audit}
 
 -- nothing came of it but what is to be told: this, or want of memory
 pub record ComesToNothing (before : OutsideValue) (ran : RanValue) (end : End) : Type 0 where
@@ -51,6 +51,18 @@ pub record HasInformed (program : List ℕ) (key : Option (List ℕ)) (before : 
   pub objects : Leaves (ran.end ≡ Memory) program ran.left.journal before.programs ran.left.outside.programs ran.left.wires
   pub desks : HasNoDesk before ran.left
 
+-- ---- audit
+
+abbrev pub EndsAudit : End → Type 0
+EndsAudit (Audited outcome) = Unit {0}
+EndsAudit Memory = Unit {0}
+EndsAudit end = ⊥
+
+-- nothing was started, and something was found of the input, or why nothing was
+pub record HasAudited (before : OutsideValue) (ran : RanValue) : Type 0 where
+  pub idle : IsIdle before ran.left
+  pub ends : EndsAudit ran.end
+
 -- ---- the words
 
 -- a key that is refused ends a command before anything is started
@@ -64,4 +76,5 @@ Runs clock before None ran = ComesToNothing before ran Usage
 Runs clock before (Some (Show page)) ran = ComesToNothing before ran (Shown page)
 Runs clock before (Some (Check program key)) ran = UnlessRefused (reason_refused key) before ran (HasChecked clock program key before ran)
 Runs clock before (Some (Info program key)) ran = UnlessRefused (refusal_if key) before ran (HasInformed program key before ran)
+Runs clock before (Some Audit) ran = HasAudited before ran
 Runs clock before (Some command) ran = ⊥

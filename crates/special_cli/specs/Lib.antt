@@ -1,7 +1,9 @@
+pub mod Audits
 pub mod Calls
 pub mod Causes
 pub mod Commands
 pub mod Endings
+pub mod Founds
 pub mod Informs
 pub mod Left
 pub mod Objects

@@ -1,5 +1,5 @@
 -- What is told of a command at its end, and with which status.
-use Rattle.std.specs.Prelude.{ℕ, ◌≡◌, ◌⊎◌, List, [], ◌∷◌, ◌++◌, ◌+◌, take, Option, if◌then◌else◌}
+use Rattle.std.specs.Prelude.{ℕ, ◌≡◌, ◌⊎◌, List, [], ◌∷◌, ◌++◌, ◌+◌, take, Option, if◌then◌else◌, Result, Ok, Err}
 use Rattle.std.specs.List.{list_all}
 use Rattle.std.specs.Io.KnownBytes.{Appends}
 use Rattle.ann_outside.specs.Causes.{Rose}
@@ -8,12 +8,18 @@ use Rattle.journal_model.specs.declared.answer.Answer.{Answer}
 use Rattle.journal_model.specs.declared.entry.Entry.{Entry}
 use Rattle.journal_model.specs.Output.{answer_line}
 use Rattle.info_run.specs.Infos.{info_lines}
+use Rattle.journal_audit.specs.declared.found.Audit.{Audit}
+use Rattle.audit_run.specs.declared.error.AuditError.{AuditError}
+use Rattle.audit_run.specs.declared.error.AuditError.TheVariants.{Entry as BadEntry, Cut as NoEnd, Failed, NoMemory}
+use Rattle.cli_words.specs.declared.refusals.Reason.{Reason}
+use Rattle.cli_words.specs.declared.refusals.Reason.TheVariants.{Entry as ByEntry, Cut as ByCut}
+use Rattle.special_cli.specs.Founds.{found_line, found_status}
 use Rattle.special_cli.specs.declared.end.End.{End}
-use Rattle.special_cli.specs.declared.end.End.TheVariants.{Usage, Shown, Refused, Memory, Answered, Informed}
+use Rattle.special_cli.specs.declared.end.End.TheVariants.{Usage, Shown, Refused, Memory, Answered, Informed, Audited}
 use Rattle.special_cli.specs.Endings.{is_well}
 use Rattle.special_cli.specs.Informs.{info_status}
 use Rattle.special_cli.specs.Left.{Left}
-use Rattle.cli_words.specs.Texts.{usage_line, memory_line, refused_line}
+use Rattle.cli_words.specs.Texts.{usage_line, memory_line, refused_line, input_line}
 
 -- what a sink counted and took, before and after
 pub record Flow : Type 0 where
@@ -64,12 +70,26 @@ answer_lines journal task (answer ∷ answers) = answer_line journal task answer
 abbrev pub answers_status : List Answer → ℕ
 answers_status answers = if list_all is_well answers then 0 else 1
 
+-- ---- an audit
+
+-- the line that says so is printed to err, or no memory was found for it
+abbrev pub IsRefusedSo : ℕ → Reason → ℕ → Flow → Flow → Type 0
+IsRefusedSo line reason status out err = (IsWritten 3 (refused_line line reason) status err ⊎ IsWritten 7 memory_line status err) × IsSilent out
+
+abbrev pub IsAuditTold : ℕ → Flow → Flow → Result Audit AuditError → Type 0
+IsAuditTold status out err (Ok found) = IsPrintedOr (found_status found) (found_line found) status out err
+IsAuditTold status out err (Err (BadEntry line)) = IsRefusedSo line ByEntry status out err
+IsAuditTold status out err (Err (NoEnd line)) = IsRefusedSo line ByCut status out err
+IsAuditTold status out err (Err Failed) = IsSaid 4 input_line status err out
+IsAuditTold status out err (Err NoMemory) = IsSaid 7 memory_line status err out
+
 -- ---- the end
 
 abbrev pub IsToldOf : Left → ℕ → Flow → Flow → End → Type 0
 IsToldOf left status out err Usage = IsSaid 2 usage_line status err out
 IsToldOf left status out err (Shown page) = (written : List ℕ) × IsSaid 0 written status out err
-IsToldOf left status out err (Refused reason) = (IsWritten 3 (refused_line 1 reason) status err ⊎ IsWritten 7 memory_line status err) × IsSilent out
+IsToldOf left status out err (Refused reason) = IsRefusedSo 1 reason status out err
 IsToldOf left status out err Memory = IsSaid 7 memory_line status err out
 IsToldOf left status out err Answered = IsPrintedOr (answers_status left.answers) (answer_lines left.journal 1 left.answers) status out err
 IsToldOf left status out err (Informed key) = IsPrintedOr (info_status left.journal key) (text (info_lines left.journal key)) status out err
+IsToldOf left status out err (Audited outcome) = IsAuditTold status out err outcome

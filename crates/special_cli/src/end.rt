@@ -1,5 +1,7 @@
 use ann_key::Key;
+use audit_run::AuditError;
 use cli_words::{Page, Reason};
+use journal_audit::Audit;
 
 /// What is to be told of a command that has run.
 #[derive(Drop)]
@@ -16,4 +18,6 @@ pub(crate) enum End {
     Answered,
     /// What the child says of itself, and of the key where there is one.
     Informed(Option<Key>),
+    /// What was found of the input, or why nothing was.
+    Audited(Result<Audit, AuditError>),
 }

@@ -10,6 +10,7 @@ ghost use Rattle.special_cli.specs.Informs.{info_status};
 ghost use Rattle.special_cli.specs.Tells.{flow, IsWritten, IsPrintedOr, IsToldOf, answer_lines, answers_status};
 ghost use Rattle.cli_words.specs.Texts.{memory_line, refused_line};
 
+use crate::audit::tell_audit;
 use crate::closing::Closing;
 use crate::end::End;
 use crate::ran::Ran;
@@ -54,15 +55,16 @@ fn told<P: Programs, K: Desks, O: Sink, E: Sink>(
     match &ran.end {
         End::Usage => write(err, usage_line(), 2),
         End::Shown(page) => write(out, page.text().as_bytes(), 0),
-        End::Refused(reason) => tell_refused(alloc, *reason, err),
+        End::Refused(reason) => tell_refused(alloc, 1, *reason, err),
         End::Memory => write(err, memory_line(), 7),
         End::Answered => tell_answers(alloc, &ran.journal, &ran.answers, out, err),
         End::Informed(key) => tell_info(alloc, &ran.journal, lent(key), out, err),
+        End::Audited(outcome) => tell_audit(alloc, *outcome, out, err),
     }
 }
 
-// Writes a text; the status is this one, or 5 where a write fails.
-fn write<S: Sink>(sink: &mut S, text: &[u8], status: u8) -> u8
+/// Writes a text; the status is this one, or 5 where a write fails.
+pub(crate) fn write<S: Sink>(sink: &mut S, text: &[u8], status: u8) -> u8
     requires { S.is_open sink.old ≡ true }
     ensures { IsWritten status text.now result (flow (S.faults sink.old) (S.faults sink.new) (S.taken sink.old) (S.taken sink.new)) }
 {
@@ -72,11 +74,12 @@ fn write<S: Sink>(sink: &mut S, text: &[u8], status: u8) -> u8
     }
 }
 
-fn tell_refused<E: Sink>(alloc: Global, reason: Reason, err: &mut E) -> u8
+/// Tells that the line of that number is refused.
+pub(crate) fn tell_refused<E: Sink>(alloc: Global, line: u64, reason: Reason, err: &mut E) -> u8
     requires { E.is_open err.old ≡ true }
-    ensures { IsWritten 3 (refused_line 1 reason) result (flow (E.faults err.old) (E.faults err.new) (E.taken err.old) (E.taken err.new)) ⊎ IsWritten 7 memory_line result (flow (E.faults err.old) (E.faults err.new) (E.taken err.old) (E.taken err.new)) }
+    ensures { IsWritten 3 (refused_line line reason) result (flow (E.faults err.old) (E.faults err.new) (E.taken err.old) (E.taken err.new)) ⊎ IsWritten 7 memory_line result (flow (E.faults err.old) (E.faults err.new) (E.taken err.old) (E.taken err.new)) }
 {
-    match refused_line(alloc, 1, reason) {
+    match refused_line(alloc, line, reason) {
         Ok(line) => write(err, line.view(), 3),
         Err(NoMemory) => write(err, memory_line(), 7),
     }

@@ -1,7 +1,9 @@
-ghost use Rattle.std.specs.Prelude.{◌≡◌, ◌⊎◌, [], None, IfSome, IsSome, true};
+ghost use Rattle.std.specs.Prelude.{◌≡◌, ◌⊎◌, [], None, IfSome, IsSome, true, false};
 ghost use Rattle.journal_model.specs.Journal.{any};
 ghost use Rattle.ann_outside.specs.Causes.{Rose};
+ghost use Rattle.special_cli.specs.Audits.{intake, is_audit, IsTakenUp, Takes};
 ghost use Rattle.special_cli.specs.Commands.{Runs};
+ghost use Rattle.special_cli.specs.Tells.{flow};
 ghost use Rattle.special_cli.specs.Wishes.{wish_of, taken_up};
 ghost use Rattle.cli_words.specs.Values.{texts_of};
 ghost use Rattle.special_cli.specs.Endings.{refused_in, check_in, info_in, run_in, IsChecked, IsTold, LacksMemory};
@@ -9,6 +11,7 @@ ghost use Rattle.special_cli.specs.Informs.{IsInformed, IsInfoTold};
 ghost use Rattle.special_cli.specs.Left.{IsIdle, programs_value};
 ghost use Rattle.special_cli.specs.Objects.{AreWires, HaveStarted, HaveMade, came, is_failed_start};
 
+use crate::audit::audit;
 use crate::check::check;
 use crate::closing::Closing;
 use crate::end::End;
@@ -22,7 +25,7 @@ use cli_words::{Command, command_of};
 use std::alloc::Global;
 
 /// Does all that the program does: reads the words behind its name, starts what they ask for, prints what comes of it to
-/// `out` or why there is nothing to `err`, and leaves the status to end with.
+/// `out` or why there is nothing to `err`, and leaves the status to end with. Of the input only an audit reads.
 ///
 /// 0: all is well. 1: the answer isn't `present`, or not all was answered. 2: the words aren't in the grammar. 3: the key is refused. 5: a write to
 /// `out` or `err` failed. 7: no memory was found.
@@ -31,7 +34,7 @@ pub fn special<P: Programs, K: Desks, I: Source, O: Sink, E: Sink, C: Clock>(
     words: &[String],
     programs: P,
     desks: K,
-    _input: &mut I,
+    input: &mut I,
     out: &mut O,
     err: &mut E,
     clock: &mut C,
@@ -40,11 +43,12 @@ where
     P::Inlet: Drop,
     P::Outlet: Drop,
     K::Desk: Drop,
+    requires input { I.is_open input.old ≡ true }
     requires out { O.is_open out.old ≡ true }
     requires err { E.is_open err.old ≡ true }
     ensures usage { result.status ≡ 2 → wish_of (texts_of words.now) ≡ None }
     ensures words { wish_of (texts_of words.now) ≡ None → (result.status ≡ 2) ⊎ (result.status ≡ 5) ⊎ (result.status ≡ 7) }
-    ensures refused { result.status ≡ 3 → IsSome (refused_in (wish_of (texts_of words.now))) }
+    ensures refused { is_audit (wish_of (texts_of words.now)) ≡ false → result.status ≡ 3 → IsSome (refused_in (wish_of (texts_of words.now))) }
     ensures key { IsSome (refused_in (wish_of (texts_of words.now))) → (result.status ≡ 3) ⊎ (result.status ≡ 5) ⊎ (result.status ≡ 7) }
     ensures early { run_in (wish_of (texts_of words.now)) ≡ None → IsIdle (record { programs = programs_value (P.starts programs) (P.faults programs); made = K.made desks }) result.left }
     ensures output { result.status ≡ 5 → Rose (O.faults out.old) (O.faults out.new) ⊎ Rose (E.faults err.old) (E.faults err.new) }
@@ -55,44 +59,51 @@ where
     ensures wires { IfSome (run_in (wish_of (texts_of words.now))) (λ program. AreWires (P.starts programs) result.left.journal 0 (came result.left.journal) result.left.wires) }
     ensures starts { IfSome (run_in (wish_of (texts_of words.now))) (λ program. HaveStarted (LacksMemory result.status (Rose (E.faults err.old) (E.faults err.new))) program result.left.journal (P.starts programs) result.left.outside.programs.starts) }
     ensures fault { IfSome (run_in (wish_of (texts_of words.now))) (λ program. any is_failed_start result.left.journal ≡ true → Rose (P.faults programs) result.left.outside.programs.faults) }
+    ensures input { IsTakenUp (wish_of (texts_of words.now)) (intake (I.given input.old) (I.given input.new) (I.left input.old) (I.left input.new) (I.faults input.old) (I.faults input.new)) result.status (flow (O.faults out.old) (O.faults out.new) (O.taken out.old) (O.taken out.new)) (flow (E.faults err.old) (E.faults err.new) (E.taken err.old) (E.taken err.new)) }
     ensures desks { HaveMade (K.made desks) result.left.outside.made result.left.tables }
 {
     let outside = Outside { programs, desks };
-    let ran = run_words(alloc, words, outside, clock);
+    let ran = run_words(alloc, words, outside, input, clock);
     tell(alloc, ran, out, err)
 }
 
 // Reads the words, and does what they ask for.
-fn run_words<P: Programs, K: Desks, C: Clock>(
+fn run_words<P: Programs, K: Desks, I: Source, C: Clock>(
     alloc: Global,
     words: &[String],
     outside: Outside<P, K>,
+    input: &mut I,
     clock: &mut C,
 ) -> Ran<P, K>
 where
     P::Inlet: Drop,
     P::Outlet: Drop,
     K::Desk: Drop,
-    ensures { Runs (C.answer clock.old) outside (wish_of (texts_of words.now)) result }
+    requires { I.is_open input.old ≡ true }
+    ensures runs { Runs (C.answer clock.old) outside (wish_of (texts_of words.now)) result }
+    ensures takes { Takes (wish_of (texts_of words.now)) (intake (I.given input.old) (I.given input.new) (I.left input.old) (I.left input.new) (I.faults input.old) (I.faults input.new)) result.end }
 {
     match command_of(alloc, words) {
-        Ok(command) => run(alloc, command, outside, clock),
+        Ok(command) => run(alloc, command, outside, input, clock),
         Err(NoMemory) => Ran::nothing(alloc, outside, End::Memory),
     }
 }
 
 // Does what was asked for.
-fn run<P: Programs, K: Desks, C: Clock>(
+fn run<P: Programs, K: Desks, I: Source, C: Clock>(
     alloc: Global,
     command: Option<Command>,
     outside: Outside<P, K>,
+    input: &mut I,
     clock: &mut C,
 ) -> Ran<P, K>
 where
     P::Inlet: Drop,
     P::Outlet: Drop,
     K::Desk: Drop,
-    ensures { Runs (C.answer clock.old) outside (taken_up command) result }
+    requires input { I.is_open input.old ≡ true }
+    ensures runs { Runs (C.answer clock.old) outside (taken_up command) result }
+    ensures takes { Takes (taken_up command) (intake (I.given input.old) (I.given input.new) (I.left input.old) (I.left input.new) (I.faults input.old) (I.faults input.new)) result.end }
 {
     match command {
         Some(Command::Show(page)) => Ran::nothing(alloc, outside, End::Shown(page)),
@@ -100,6 +111,7 @@ where
             check(alloc, program.view(), key.view(), outside, clock)
         }
         Some(Command::Info { program, key }) => info(alloc, program.view(), key, outside),
+        Some(Command::Audit) => audit(alloc, outside, input),
         Some(Command::Init(_) | Command::Run(_)) | None => {
             Ran::nothing(alloc, outside, End::Usage)
         }

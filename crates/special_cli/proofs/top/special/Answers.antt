@@ -1,17 +1,21 @@
 use Rattle.cli_words.specs.Values.{texts_of}
 use Rattle.special_cli.specs.Left.{OutsideValue, programs_value}
 use Rattle.special_cli.specs.Wishes.{wish_of}
+use Rattle.special_cli.proofs.Auditing.{taken_up_told, audit_ends_so}
 use Rattle.special_cli.proofs.Calling.{called, few}
 use Rattle.special_cli.proofs.top.special.Goals as goal
 
 pub tell-requires-clause-few : goal.tell-requires-clause-few
 tell-requires-clause-few g c = λ κs lives.
     let before : OutsideValue = record { programs = programs_value (g.P.Programs.starts c.args.programs) (g.P.Programs.faults c.args.programs); made = g.K.Desks.made c.args.desks } in
-    few (g.C.Clock.answer c.args.clock.now) before (wish_of (texts_of c.args.words.now)) c.run_words-ran.result c.run_words-ran.ensures
+    few (g.C.Clock.answer c.args.clock.now) before (wish_of (texts_of c.args.words.now)) c.run_words-ran.result c.run_words-ran.ensures.runs
 
 pub returns : goal.returns
 returns g c =
-    let all = called _ _ _ _ _ _ _ _ c.tell.ensures.left c.run_words-ran.ensures c.tell.ensures.told in
+    let all = called _ _ _ _ _ _ _ _ c.tell.ensures.left c.run_words-ran.ensures.runs c.tell.ensures.told in
+    let wish = wish_of (texts_of c.args.words.now) in
+    let clock = g.C.Clock.answer c.args.clock.now in
+    let read = taken_up_told _ c.run_words-ran.result.left c.tell.result.status _ _ wish c.run_words-ran.result.end (audit_ends_so clock _ wish c.run_words-ran.result c.run_words-ran.ensures.runs) c.run_words-ran.ensures.takes all.fourth c.tell.ensures.told in
     record {
       usage = all.usage;
       words = all.words;
@@ -26,5 +30,6 @@ returns g c =
       wires = all.wires;
       starts = all.starts;
       fault = all.fault;
+      input = read;
       desks = all.desks;
     }

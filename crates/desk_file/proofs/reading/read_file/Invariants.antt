@@ -1,0 +1,16 @@
+use Rattle.std.proofs.Common.{◌-◌, ◌+◌, ◌≡◌, vec_len}
+use Rattle.std.specs.Prelude.{IfSome}
+use Rattle.desk_file.specs.Reads.{IsReading, IsReadingOf}
+use Rattle.desk_file.proofs.reading.read_file.Given as goal
+
+abbrev pub invariant-loop-desk : goal.invariant-loop-desk
+invariant-loop-desk g l = record {
+  reading : IsReading (g.D.Desk.log l.fn.desk) (g.D.Desk.log l.desk) l.name l.bytes.items;
+  told : IfSome (g.D.Desk.files l.fn.desk) (λ files. IsReadingOf l.name l.bytes.items files);
+  files : g.D.Desk.files l.desk ≡ g.D.Desk.files l.fn.desk;
+  quiet : g.D.Desk.counts l.desk ≡ g.D.Desk.counts l.fn.desk;
+  buffer : vec_len l.buffer ≡ 65536;
+}
+
+abbrev pub decreases-loop-desk : goal.decreases-loop-desk
+decreases-loop-desk g l = l.limit + 1 - vec_len l.bytes

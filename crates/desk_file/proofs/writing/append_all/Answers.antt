@@ -1,0 +1,33 @@
+use Rattle.std.proofs.Common.{◌≡◌, ◌∙◌, ◌≤◌, ◌+◌, ◌-◌, Ok, [], take, drop, refl, arith}
+use Rattle.ann_outside.specs.Files.{AppendDoes}
+use Rattle.desk_file.specs.Writes.{HasGrown}
+use Rattle.desk_file.proofs.WriteLaws.{appending_nothing, appending_more, appends_refused, where_same, where_then, grows_nothing, grows_more}
+use Rattle.desk_file.proofs.writing.append_all.Goals as goal
+
+pub loop-at-init : goal.loop-at-init
+loop-at-init g c = record {
+  appending = appending_nothing _ _ _ refl;
+  files = where_same (HasGrown c.args.name.now []) (g.D.Desk.files c.args.desk.now) (λ files. grows_nothing c.args.name.now [] files refl);
+  quiet = refl;
+  most = omega arith;
+}
+
+pub loop-at-preserved : goal.loop-at-preserved
+loop-at-preserved g c =
+    let i = c.loop-at.invariant in
+    let name = c.args.name.now in
+    let text = c.args.text.now in
+    let at = c.loop-at.at in
+    let end = c.loop-at.at + c.min.result in
+    let low : c.loop-at.at ≤ c.loop-at.at + c.min.result = omega arith in
+    record {
+      appending = appending_more _ _ _ c.args.name.now c.args.text.now c.loop-at.at (c.loop-at.at + c.min.result) low i.appending c.in-Ok.ensures.log;
+      files = where_then (HasGrown name (take at text)) (AppendDoes name (take (end - at) (drop at text)) (Ok tt)) (HasGrown name (take end text)) _ _ _
+          (λ x y z p q. grows_more name text at end low x y z p q) i.files c.in-Ok.ensures.files;
+      quiet = c.in-Ok.ensures.causes.done ∙ i.quiet;
+      most = omega (arith, c.min.ensures, i.most);
+    }
+
+pub returns-in-Err-clause-calls : goal.returns-in-Err-clause-calls
+returns-in-Err-clause-calls g c =
+    appends_refused _ _ _ c.args.name.now c.args.text.now c.loop-at.at (c.loop-at.at + c.min.result - c.loop-at.at) c.in-Err.error c.loop-at.invariant.appending c.in-Err.ensures.log

@@ -1,0 +1,15 @@
+use Rattle.std.proofs.Common.{length, take, ◌-◌, ◌≤◌, ◌≡◌}
+use Rattle.ann_outside.specs.Files.{WhereTold}
+use Rattle.desk_file.specs.Writes.{IsAppending, HasGrown}
+use Rattle.desk_file.proofs.writing.append_all.Given as goal
+
+abbrev pub invariant-loop-at : goal.invariant-loop-at
+invariant-loop-at g l = record {
+  appending : IsAppending (g.D.Desk.log l.fn.desk) (g.D.Desk.log l.desk) l.name (take l.at l.text);
+  files : WhereTold (g.D.Desk.files l.fn.desk) (g.D.Desk.files l.desk) (HasGrown l.name (take l.at l.text));
+  quiet : g.D.Desk.counts l.desk ≡ g.D.Desk.counts l.fn.desk;
+  most : l.at ≤ length l.text;
+}
+
+abbrev pub decreases-loop-at : goal.decreases-loop-at
+decreases-loop-at g l = length l.text - l.at

@@ -1,0 +1,88 @@
+ghost use Rattle.std.specs.Prelude.{◌≡◌, ◌<◌, length, vec_len, IfOk, IfSome};
+ghost use Rattle.ann_outside.specs.DeskCauses.{HasCauses};
+ghost use Rattle.desk_file.specs.Reads.{IsReadBy, IsReadOf, IsStep, IsStepOf, HasReadCauses, refusal_of};
+
+use ann_key::{Bytes, NoMemory};
+use ann_outside::{Desk, DeskError};
+use std::alloc::Global;
+
+const STEP: usize = 65536;
+
+/// What came of reading a file.
+#[derive(Drop)]
+pub enum FileRead {
+    /// Its bytes.
+    Text(Bytes),
+    /// It has more bytes than it may.
+    TooLarge,
+    /// There is no file of that name, and the desk counted it.
+    Missing,
+    /// A call of the desk failed, and was counted.
+    Fault,
+}
+
+/// Reads the file to its end, or past the limit.
+pub fn read_file<D: Desk>(
+    alloc: Global,
+    desk: &mut D,
+    name: &str,
+    limit: usize,
+) -> Result<FileRead, NoMemory>
+    ensures read { IsReadBy (D.log desk.old) (D.log desk.new) name.now limit result }
+    ensures told { IfSome (D.files desk.old) (λ files. IsReadOf name.now limit files result) }
+    ensures files { D.files desk.new ≡ D.files desk.old }
+    ensures causes { HasReadCauses (D.counts desk.old) (D.counts desk.new) result }
+{
+    let Ok(mut buffer) = step_buffer(alloc) else {
+        return Err(NoMemory);
+    };
+    let mut bytes = Vec::new(alloc);
+    while bytes.len() <= limit {
+        match read_step(desk, name, &mut bytes, &mut buffer) {
+            Ok(true) => {}
+            Ok(false) => return Ok(FileRead::Text(Bytes::from_vec(bytes))),
+            Err(error) => return refused(error),
+        }
+    }
+    Ok(FileRead::TooLarge)
+}
+
+// Room for what one call reads.
+fn step_buffer(alloc: Global) -> Result<Vec<u8>, NoMemory>
+    ensures { IfOk result (λ buffer. vec_len buffer ≡ 65536) }
+{
+    Ok(vec![in alloc; 0; STEP]?)
+}
+
+fn refused(error: DeskError) -> Result<FileRead, NoMemory>
+    ensures { result ≡ refusal_of error }
+{
+    match error {
+        DeskError::Failed => Ok(FileRead::Fault),
+        DeskError::Missing => Ok(FileRead::Missing),
+        DeskError::NoMemory => Err(NoMemory),
+    }
+}
+
+// Reads on behind the bytes that were read so far, and says whether there was something to read.
+fn read_step<D: Desk>(
+    desk: &mut D,
+    name: &str,
+    bytes: &mut Vec<u8>,
+    buffer: &mut [u8],
+) -> Result<bool, DeskError>
+    requires { 0 < length buffer.old }
+    ensures step { IsStep (D.log desk.old) (D.log desk.new) name.now bytes.old.items bytes.new.items result }
+    ensures told { IfSome (D.files desk.old) (λ files. IsStepOf name.now bytes.old.items bytes.new.items files result) }
+    ensures files { D.files desk.new ≡ D.files desk.old }
+    ensures causes { HasCauses (D.counts desk.old) (D.counts desk.new) result }
+{
+    match desk.read_at(name, bytes.len() as u64, buffer) {
+        Ok(0) => Ok(false),
+        Ok(n) => match bytes.extend_from_slice(&buffer[..n]) {
+            Ok(()) => Ok(true),
+            Err(_) => Err(DeskError::NoMemory),
+        },
+        Err(error) => Err(error),
+    }
+}

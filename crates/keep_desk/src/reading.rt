@@ -1,0 +1,53 @@
+ghost use Rattle.std.specs.Prelude.{◌≡◌, IfSome};
+ghost use Rattle.keep_desk.specs.KeptDesks.{IsReadAs, IsKeptAt, IsKeptOf, HasKeptCauses};
+
+use crate::MOST_BYTES;
+use ann_key::NoMemory;
+use ann_outside::Desk;
+use chunk_log::NoteBook;
+use desk_file::{FileRead, read_file};
+use keep_text::{KeepError, read_keep};
+use reg_file::Registers;
+use std::alloc::Global;
+
+/// What a kept file hands on, or why it hands on nothing.
+#[derive(Drop)]
+pub enum KeptRead {
+    /// What its lines say.
+    Kept {
+        registers: Registers,
+        notes: NoteBook,
+    },
+    /// The number of the first line that may not stand there.
+    BadLine(u64),
+    /// It has more bytes than it may.
+    TooLarge,
+    /// A call of the desk failed, and was counted.
+    Fault,
+}
+
+/// What the file hands on. One that isn't there hands on what an empty one does.
+pub fn read_kept<D: Desk>(alloc: Global, desk: &mut D, name: &str) -> Result<KeptRead, NoMemory>
+    ensures read { IsReadAs (D.log desk.old) (D.log desk.new) name.now result }
+    ensures told { IfSome (D.files desk.old) (λ files. IsKeptAt name.now files result) }
+    ensures files { D.files desk.new ≡ D.files desk.old }
+    ensures causes { HasKeptCauses (D.counts desk.old) (D.counts desk.new) result }
+{
+    match read_file(alloc, desk, name, MOST_BYTES) {
+        Ok(FileRead::Text(text)) => kept_in(alloc, text.view()),
+        Ok(FileRead::Missing) => kept_in(alloc, &[]),
+        Ok(FileRead::TooLarge) => Ok(KeptRead::TooLarge),
+        Ok(FileRead::Fault) => Ok(KeptRead::Fault),
+        Err(NoMemory) => Err(NoMemory),
+    }
+}
+
+fn kept_in(alloc: Global, text: &[u8]) -> Result<KeptRead, NoMemory>
+    ensures { IsKeptOf text.now result }
+{
+    match read_keep(alloc, text) {
+        Ok((registers, notes)) => Ok(KeptRead::Kept { registers, notes }),
+        Err(KeepError::BadLine { line }) => Ok(KeptRead::BadLine(line)),
+        Err(KeepError::NoMemory) => Err(NoMemory),
+    }
+}
