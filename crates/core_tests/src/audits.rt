@@ -6,30 +6,46 @@ use journal_look::Journal;
 use journal_model::Entry;
 use std::alloc::Global;
 
-/// Keeps the entry's row behind the head; `new` begins another head.
-pub(crate) fn add_head(
-    alloc: Global,
-    head: &mut Vec<String>,
-    text: &str,
-) -> Result<String, NoMemory> {
-    if text == "new" {
-        head.clear();
-    } else {
-        head.push(String::from_str(alloc, text)?)?;
+/// The rows that journals begin with, and the tasks of their run.
+#[derive(Drop)]
+pub(crate) struct Head {
+    tasks: Vec<String>,
+    rows: Vec<String>,
+}
+
+impl Head {
+    pub(crate) fn new(alloc: Global) -> Head {
+        Head {
+            tasks: Vec::new(alloc),
+            rows: Vec::new(alloc),
+        }
     }
-    Ok(String::new(alloc))
+
+    /// Keeps the entry's row behind the head, or a task; `new` begins another head.
+    pub(crate) fn add(&mut self, alloc: Global, text: &str) -> Result<String, NoMemory> {
+        let (word, rest) = words::cut(text);
+        match word {
+            "new" => {
+                self.tasks.clear();
+                self.rows.clear();
+            }
+            "task" => self.tasks.push(String::from_str(alloc, rest)?)?,
+            _ => self.rows.push(String::from_str(alloc, text)?)?,
+        }
+        Ok(String::new(alloc))
+    }
 }
 
 /// What is found of the head's first entries, as many as are said, with those behind them that stand between bars.
-pub(crate) fn audited(alloc: Global, head: &[String], text: &str) -> Result<String, NoMemory> {
+pub(crate) fn audited(alloc: Global, head: &Head, text: &str) -> Result<String, NoMemory> {
     let (keep, tail) = words::cut(text);
     let mut list = Vec::new(alloc);
-    let kept = push_head(alloc, &mut list, head, words::number(keep))?;
+    let kept = push_head(alloc, &mut list, head.rows.as_slice(), words::number(keep))?;
     let added = push_tail(alloc, &mut list, tail)?;
     if !kept || !added {
         return words::told(alloc, "no entry");
     }
-    found(alloc, Journal::from_entries(list))
+    found(alloc, head, Journal::from_entries(list))
 }
 
 fn push_head(
@@ -56,8 +72,8 @@ fn push_tail(alloc: Global, list: &mut Vec<Entry>, tail: &str) -> Result<bool, N
     Ok(true)
 }
 
-fn found(alloc: Global, journal: Journal) -> Result<String, NoMemory> {
-    let opening = cores::one_check(alloc)?;
+fn found(alloc: Global, head: &Head, journal: Journal) -> Result<String, NoMemory> {
+    let opening = cores::opening_of(alloc, head.tasks.as_slice())?;
     let found = audit(alloc, &opening, &journal)?;
     words::named(alloc, "", &found)
 }

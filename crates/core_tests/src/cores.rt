@@ -11,10 +11,13 @@ use host_core::{Core, Event, Reply};
 use journal_model::Opening;
 use std::alloc::Global;
 
-/// What one check begins with.
-pub(crate) fn one_check(alloc: Global) -> Result<Opening, NoMemory>
+/// What a run of the tasks begins with, or one of one check where there are none.
+pub(crate) fn opening_of(alloc: Global, tasks: &[String]) -> Result<Opening, NoMemory>
     ensures { IfOk result MayBegin }
 {
+    if !tasks.is_empty() {
+        return opening(alloc, tasks);
+    }
     let line = String::from_str(alloc, CHECK)?;
     let lines = vec![in alloc; line]?;
     opening(alloc, lines.as_slice())
@@ -87,11 +90,7 @@ impl Stage {
     // A core with the tasks that were added since the last one, or with one check.
     fn renew(&mut self, alloc: Global) -> Result<String, NoMemory> {
         self.turn = Turn::FIRST;
-        let opening = if self.tasks.is_empty() {
-            one_check(alloc)?
-        } else {
-            opening(alloc, self.tasks.as_slice())?
-        };
+        let opening = opening_of(alloc, self.tasks.as_slice())?;
         self.tasks.clear();
         self.core = Some(Core::new(alloc, opening)?);
         Ok(String::new(alloc))

@@ -71,6 +71,14 @@ fn plain(word: &str, rest: &str) -> Option<What> {
         }),
         "nostart" => Some(What::NoStart { slot: 0 }),
         "claim" => Some(What::Claim { task: 1, child: 1 }),
+        "note" => {
+            let (chunk, count) = words::cut(rest);
+            Some(What::Note {
+                task: 1,
+                chunk: words::number(chunk),
+                count: words::number(count),
+            })
+        }
         "sent" => Some(What::Sent { child: 1 }),
         "mute" => Some(What::Mute { child: 1 }),
         "lost" => Some(What::Lost { child: 1, task: 1 }),

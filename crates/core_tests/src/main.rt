@@ -13,6 +13,7 @@ mod talks;
 mod words;
 
 use ann_key::NoMemory;
+use audits::Head;
 use cores::Stage;
 use std::alloc::Global;
 use std::io;
@@ -23,7 +24,7 @@ use talks::Talking;
 struct Scene {
     stage: Stage,
     talking: Talking,
-    head: Vec<String>,
+    head: Head,
 }
 
 // What is printed behind a row; nothing behind one that is no script's.
@@ -33,8 +34,8 @@ fn said(alloc: Global, scene: &mut Scene, word: &str, rest: &str) -> Result<Stri
         "talk" => scene.talking.begin(alloc, rest),
         "hear" => scene.talking.hear(alloc, rest),
         "heard" => talks::heard(alloc, rest),
-        "head" => audits::add_head(alloc, &mut scene.head, rest),
-        "audit" => audits::audited(alloc, scene.head.as_slice(), rest),
+        "head" => scene.head.add(alloc, rest),
+        "audit" => audits::audited(alloc, &scene.head, rest),
         "print" => answers::printed(alloc, rest),
         "answer" => answers::answered(alloc, rest),
         _ => Ok(String::new(alloc)),
@@ -53,7 +54,7 @@ fn print_rows(rt: &(impl Input + Print + AllocGlobal)) -> io::Result<()> {
     let mut scene = Scene {
         stage: Stage::new(rt.alloc()),
         talking: Talking::new(),
-        head: Vec::new(rt.alloc()),
+        head: Head::new(rt.alloc()),
     };
     for row in rt.lines(rt.alloc()) {
         print_row(rt, &mut scene, row?.as_str())?;

@@ -13,7 +13,8 @@ use reg_file::Registers;
 use std::alloc::Global;
 use task_text::{Task, TaskError, Tasks, read_task};
 
-pub(crate) const CHECK: &str = "check SHA256E-s0--e3b0c44298fc1c149afbf4c8996fb92427ae41e4649b934ca495991b7852b855";
+pub(crate) const CHECK: &str =
+    "check SHA256E-s0--e3b0c44298fc1c149afbf4c8996fb92427ae41e4649b934ca495991b7852b855";
 
 /// What a run of the tasks begins with that the lines spell.
 pub(crate) fn opening(alloc: Global, lines: &[String]) -> Result<Opening, NoMemory>
