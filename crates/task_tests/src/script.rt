@@ -123,6 +123,12 @@ impl Asker for ScriptAsker {
 
     ghost goes_on = { λ a b. Unit {0} };
 
+    ghost stays = { λ a h. tt };
+
+    ghost is_ready = { λ a b s. tt };
+
+    ghost goes_both = { λ a b d s r. tt };
+
     fn ask(&mut self, alloc: Global, number: u32, request: &Request) -> Result<Verdict, NoMemory> {
         let request = request.copy(alloc)?;
         self.asked.reserve(1)?;
