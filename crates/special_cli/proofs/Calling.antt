@@ -26,7 +26,9 @@ use Rattle.special_cli.specs.Commands.{ComesToNothing, EndsCheck, HasChecked, En
 use Rattle.special_cli.specs.Endings.{is_well, status_of, IsChecked, IsPrinted, IsTold, LacksMemory}
 use Rattle.special_cli.specs.Informs.{IsInformed, IsInfoTold, info_status}
 use Rattle.special_cli.specs.Left.{Left, OutsideValue, RanValue, TableValue, IsIdle}
-use Rattle.special_cli.specs.Objects.{AreWires, HaveMade, HaveStarted, Leaves, came, is_failed_start}
+use Rattle.child_end.specs.Wires.{AreWires, came}
+use Rattle.child_end.specs.Programs.{HaveStarted, Leaves, is_failed_start}
+use Rattle.special_cli.specs.Objects.{HaveMade}
 use Rattle.cli_words.specs.Refusals.{reason_refused, refusal_if, unless}
 use Rattle.special_cli.specs.Wishes.{taken_up}
 use Rattle.special_cli.proofs.Checked.{unstarted}

@@ -27,7 +27,7 @@ use Rattle.task_run.specs.TaskRuns.{came_of, failed_start, ended_answer, or_refu
 use Rattle.link_roles.specs.Asks.{lost_as}
 use Rattle.special_cli.specs.Causes.{HasCause}
 use Rattle.special_cli.specs.Endings.{start_in, starts_in}
-use Rattle.special_cli.specs.Objects.{is_failed_start}
+use Rattle.child_end.specs.Programs.{is_failed_start}
 use Rattle.special_cli.specs.Runs.{IsStart}
 use Rattle.special_cli.proofs.Ends.{ended_so}
 use Rattle.special_cli.proofs.Looking.{holds_in, any_through}

@@ -28,8 +28,10 @@ use Rattle.init_run.specs.declared.setup.Setup.TheVariants.{Initialized, Stopped
 use Rattle.init_run.specs.Setups.{IsTextOf, Begins, outcome_of}
 use Rattle.special_cli.specs.declared.end.End.{End}
 use Rattle.special_cli.specs.declared.end.End.TheVariants.{Memory, SetUp, NotSetUp}
-use Rattle.special_cli.specs.Left.{ProgramsValue, TableValue, WireValue}
-use Rattle.special_cli.specs.Objects.{Leaves}
+use Rattle.child_end.specs.Wires.{WireValue}
+use Rattle.child_end.specs.Programs.{ProgramsValue}
+use Rattle.special_cli.specs.Left.{TableValue}
+use Rattle.child_end.specs.Programs.{Leaves}
 use Rattle.special_cli.specs.Setups.{IsSetup, IsRunOf, IsAsBefore, HasFailed, IsKept, IsUnbegun, EndsInit, EndsKeep}
 use Rattle.special_cli.proofs.Leaving.{leaves_as}
 

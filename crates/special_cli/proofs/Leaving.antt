@@ -1,6 +1,6 @@
 -- What a run leaves of its programs and its child.
 use Rattle.std.proofs.Common.{◌≡◌, ◌⊎◌, inl, inr, ℕ, List, [], ◌∷◌, length, refl, sym, ap, subst, ◌∙◌, Bool, true, false, Some, None, Option, length-append}
-use Rattle.std.specs.Prelude.{IsTrue, filter_map, option_and_then, option_map}
+use Rattle.std.specs.Prelude.{IsTrue, map, filter_map, option_and_then, option_map}
 use Rattle.std.specs.List.{list_any}
 use Rattle.std.proofs.lemmas.List.{append-nil}
 use Rattle.ann_outside.specs.Starts.{Starts, IsNumbered}
@@ -19,8 +19,11 @@ use Rattle.journal_model.specs.Halves.{EarValue, MouthValue, LinkWired, IsSameEa
 use Rattle.journal_model.proofs.Ears.{halves_wire}
 use Rattle.child_start.specs.Greetings.{Greeted, IsRefused, HasEnded, IsUnsent, AreNumbered}
 use Rattle.special_cli.specs.Endings.{start_in, starts_in}
-use Rattle.special_cli.specs.Objects.{came_in, came, IsOfStart, IsWire, AreWires, OneIsLeft, told_in, told, AddsAll, HaveStarted, Leaves, is_failed_start}
-use Rattle.special_cli.specs.Left.{ProgramsValue, WireValue}
+use Rattle.child_end.specs.Wires.{came_in, came, IsOfStart, IsWire, AreWires, IsLaid}
+use Rattle.child_end.specs.Programs.{told_in, told, AddsAll, HaveStarted, Leaves, is_failed_start}
+use Rattle.special_cli.specs.Objects.{OneIsLeft}
+use Rattle.child_end.specs.Wires.{WireValue}
+use Rattle.child_end.specs.Programs.{ProgramsValue}
 use Rattle.special_cli.specs.Runs.{IsUnready}
 use Rattle.special_cli.proofs.Looking.{through, any_through}
 use Rattle.special_cli.proofs.Beginning.{begun_child}
@@ -94,6 +97,13 @@ fault_told : (program : List ℕ) (journal : List Entry) (old new : Option Start
 fault_told program journal old new h a = subst (AddsAll old new) (sym (told_of_starts program journal (NoStart 0) h)) (adds_all old new (program, false) a)
 
 -- ---- the wire
+
+-- the first wire that is laid is the only one
+pub one_laid : {A : Type 0} {f : A → WireValue} {ws : List A} {ear : EarValue} {mouth : MouthValue} {new : List WireValue} → ws ≡ [] → IsLaid ear mouth (map f ws) new → OneIsLeft ear mouth new
+one_laid {A} {f} {ws} {ear} {mouth} {new} none h = go (subst (λ (xs : List A). IsLaid ear mouth (map f xs) new) none h)
+  where
+    go : IsLaid ear mouth [] new → OneIsLeft ear mouth new
+    go laid = (laid.0, laid.1, laid.2)
 
 of_start : (old new : Option Starts) (x : List ℕ × Bool) (n : Option ℕ) → AddsOne old new x → IsNumbered new n → IsOfStart old 1 n
 of_start old new x None a h = tt

@@ -24,7 +24,7 @@ use Rattle.info_run.specs.Infos.{questions}
 use Rattle.info_run.specs.Askings.{line_to, asked_lines, is_of_asking, AsksFront, IsAnswered, HasFailed}
 use Rattle.special_cli.specs.Endings.{start_in, starts_in}
 use Rattle.special_cli.specs.Informs.{info_requests, is_of_task, IsAsked, IsComplete}
-use Rattle.special_cli.specs.Objects.{is_failed_start}
+use Rattle.child_end.specs.Programs.{is_failed_start}
 use Rattle.special_cli.specs.Runs.{main_entry}
 use Rattle.special_cli.specs.Interviews.{IsInterviewed}
 use Rattle.special_cli.proofs.Asked.{greeting_lines, is_early, begins}

@@ -4,7 +4,7 @@ use Rattle.journal_model.specs.declared.answer.Answer.{Answer}
 use Rattle.journal_model.specs.declared.answer.Answer.TheVariants.{Unsent, StartFault, Ended}
 use Rattle.journal_model.specs.declared.entry.Entry.{Entry}
 use Rattle.journal_model.specs.Journal.{any, is_mute, why_of}
-use Rattle.special_cli.specs.Objects.{is_failed_start}
+use Rattle.child_end.specs.Programs.{is_failed_start}
 
 -- a child ended so, a child is mute, or a start failed
 abbrev pub HasCause : List Entry → Answer → Type 0

@@ -7,7 +7,7 @@ use Rattle.cli_words.specs.declared.refusals.Reason.{Reason}
 use Rattle.special_cli.specs.Endings.{IsChecked, IsAnswered}
 use Rattle.special_cli.specs.Informs.{IsInformed, IsComplete}
 use Rattle.special_cli.specs.Left.{Left, OutsideValue, RanValue, IsIdle}
-use Rattle.special_cli.specs.Objects.{Leaves}
+use Rattle.child_end.specs.Programs.{Leaves}
 use Rattle.special_cli.specs.Setups.{HasSetUp}
 use Rattle.cli_words.specs.Refusals.{reason_refused, refusal_if}
 use Rattle.cli_words.specs.declared.command.Command.{Command}

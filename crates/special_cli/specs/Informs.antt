@@ -15,7 +15,7 @@ use Rattle.journal_model.specs.Shares.{is_closed}
 use Rattle.info_run.specs.Infos.{questions, info_lines, is_informed}
 use Rattle.info_run.specs.Askings.{asked_lines}
 use Rattle.special_cli.specs.Endings.{starts_in, IsPrinted}
-use Rattle.special_cli.specs.Objects.{is_failed_start}
+use Rattle.child_end.specs.Programs.{is_failed_start}
 use Rattle.special_cli.specs.Openings.{info_opening}
 
 -- ---- the journal

@@ -4,8 +4,8 @@ use Rattle.annex_model.specs.Lines.{text}
 use Rattle.journal_model.specs.Journal.{got_lines}
 use Rattle.journal_model.specs.declared.entry.Entry.{Entry}
 use Rattle.journal_model.specs.Rows.{sample_key, greeting, closed, check_present}
-use Rattle.special_cli.specs.Left.{WireValue}
-use Rattle.special_cli.specs.Objects.{AreWires, came}
+use Rattle.child_end.specs.Wires.{WireValue}
+use Rattle.child_end.specs.Wires.{AreWires, came}
 
 -- What the child of a check that found its key was asked and said. Its halves tell the first start, never failed and are
 -- closed.

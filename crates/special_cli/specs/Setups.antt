@@ -35,7 +35,7 @@ use Rattle.special_cli.specs.declared.end.End.{End as Ending}
 use Rattle.special_cli.specs.declared.end.End.TheVariants.{Memory, BadKept, KeptTooLarge, FileFailed, SetUp, NotSetUp}
 use Rattle.special_cli.specs.Endings.{starts_in}
 use Rattle.special_cli.specs.Left.{OutsideValue, RanValue, TableValue, IsIdle}
-use Rattle.special_cli.specs.Objects.{Leaves}
+use Rattle.child_end.specs.Programs.{Leaves}
 
 -- ---- the journal
 

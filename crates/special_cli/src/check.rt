@@ -9,7 +9,7 @@ ghost use Rattle.journal_model.specs.declared.answer.Answer.{Answer};
 ghost use Rattle.journal_model.specs.Legality.{Legal};
 ghost use Rattle.special_cli.specs.Commands.{EndsCheck, HasChecked, HasNoDesk, UnlessRefused};
 ghost use Rattle.special_cli.specs.declared.end.End.TheVariants.{Memory};
-ghost use Rattle.special_cli.specs.Objects.{Leaves};
+ghost use Rattle.child_end.specs.Programs.{Leaves};
 ghost use Rattle.special_cli.specs.Openings.{check_opening};
 ghost use Rattle.cli_words.specs.Refusals.{reason_refused};
 ghost use Rattle.special_cli.specs.Runs.{HasAnswered, HasOneTask};

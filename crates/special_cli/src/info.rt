@@ -7,7 +7,7 @@ ghost use Rattle.journal_model.specs.Legality.{Legal};
 ghost use Rattle.special_cli.specs.Commands.{EndsInfo, HasInformed, HasNoDesk, UnlessRefused};
 ghost use Rattle.special_cli.specs.declared.end.End.TheVariants.{Memory};
 ghost use Rattle.special_cli.specs.Informs.{IsAsked};
-ghost use Rattle.special_cli.specs.Objects.{Leaves};
+ghost use Rattle.child_end.specs.Programs.{Leaves};
 ghost use Rattle.special_cli.specs.Openings.{info_opening};
 ghost use Rattle.cli_words.specs.Refusals.{reason_refused, refusal_if};
 

@@ -8,8 +8,10 @@ ghost use Rattle.cli_words.specs.Identities.{IsFit};
 ghost use Rattle.cli_words.specs.declared.command.Command.TheVariants.{Init};
 ghost use Rattle.init_run.specs.Setups.{Begins};
 ghost use Rattle.special_cli.specs.declared.end.End.TheVariants.{Memory};
-ghost use Rattle.special_cli.specs.Left.{wire_value, programs_value, table_value};
-ghost use Rattle.special_cli.specs.Objects.{Leaves};
+ghost use Rattle.child_end.specs.Wires.{wire_value};
+ghost use Rattle.child_end.specs.Programs.{programs_value};
+ghost use Rattle.special_cli.specs.Left.{table_value};
+ghost use Rattle.child_end.specs.Programs.{Leaves};
 ghost use Rattle.special_cli.specs.Setups.{EndsInit, EndsKeep, HasSetUp};
 
 use crate::end::End;

@@ -7,7 +7,7 @@ ghost use Rattle.journal_model.specs.declared.entry.What.TheVariants.{Got};
 ghost use Rattle.journal_model.specs.Wires.{is_heard_in_turn};
 ghost use Rattle.journal_model.specs.Rows.{sample_key, by_main, greeting, check_present, not_closed, no_disk, away, out_of_disk};
 ghost use Rattle.special_cli.specs.Endings.{IsTold, LacksMemory};
-ghost use Rattle.special_cli.specs.Objects.{HaveStarted};
+ghost use Rattle.child_end.specs.Programs.{HaveStarted};
 ghost use Rattle.special_cli.specs.Rows.{present_wire, HasWires};
 
 /// A check that found its key is told by its one answer, whole, or cut off where a write failed; by no other answer and with no

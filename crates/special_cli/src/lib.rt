@@ -2,7 +2,6 @@
 #![tactic(auto)]
 
 mod check;
-mod child;
 mod closing;
 mod end;
 mod info;

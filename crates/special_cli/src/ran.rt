@@ -25,7 +25,8 @@ pub(crate) struct Ran<P: Programs, K: Desks> {
 
 impl<P: Programs, K: Desks> Model for Ran<P, K> {
     ghost use Rattle.std.specs.Prelude.{map};
-    ghost use Rattle.special_cli.specs.Left.{RanValue, wire_value, table_value};
+    ghost use Rattle.child_end.specs.Wires.{wire_value};
+    ghost use Rattle.special_cli.specs.Left.{RanValue, table_value};
 
     ghost Value = { RanValue };
 

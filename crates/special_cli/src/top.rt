@@ -9,8 +9,11 @@ ghost use Rattle.cli_words.specs.Identities.{IsFit};
 ghost use Rattle.cli_words.specs.Values.{texts_of};
 ghost use Rattle.special_cli.specs.Endings.{refused_in, check_in, info_in, init_in, run_in, IsChecked, IsTold, LacksMemory};
 ghost use Rattle.special_cli.specs.Informs.{IsInformed, IsInfoTold};
-ghost use Rattle.special_cli.specs.Left.{IsIdle, programs_value};
-ghost use Rattle.special_cli.specs.Objects.{AreWires, HaveStarted, HaveMade, came, is_failed_start};
+ghost use Rattle.child_end.specs.Programs.{programs_value};
+ghost use Rattle.special_cli.specs.Left.{IsIdle};
+ghost use Rattle.child_end.specs.Wires.{AreWires, came};
+ghost use Rattle.child_end.specs.Programs.{HaveStarted, is_failed_start};
+ghost use Rattle.special_cli.specs.Objects.{HaveMade};
 
 use crate::check::check;
 use crate::closing::Closing;

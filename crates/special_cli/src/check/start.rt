@@ -4,14 +4,15 @@ ghost use Rattle.annex_model.specs.Messages.{is_sent_key};
 ghost use Rattle.journal_model.specs.declared.answer.Answer.TheVariants.{NotPrepared};
 ghost use Rattle.child_start.specs.Cores.{IsSameCore};
 ghost use Rattle.task_run.specs.TaskRuns.{refused_at};
-ghost use Rattle.special_cli.specs.Left.{wire_value, programs_value};
-ghost use Rattle.special_cli.specs.Objects.{Leaves};
+ghost use Rattle.child_end.specs.Wires.{wire_value};
+ghost use Rattle.child_end.specs.Programs.{programs_value};
+ghost use Rattle.child_end.specs.Programs.{Leaves};
 ghost use Rattle.special_cli.specs.Runs.{HasAnswered, HasOneTask};
 
 use super::task;
-use crate::child::finish;
 use ann_key::{Key, NoMemory};
 use ann_outside::Programs;
+use child_end::finish;
 use child_start::{Greeting, Mode, greet};
 use host_core::Core;
 use journal_model::{Answer, Verdict};

@@ -13,9 +13,9 @@ ghost use Rattle.child_start.specs.Cores.{IsSameCore};
 ghost use Rattle.child_start.specs.Greetings.{Greeted, IsReady};
 ghost use Rattle.special_cli.specs.Runs.{main_entry, AsksFor, IsUnready, IsDone, IsRun, HasOneTask};
 
-use crate::child::close_child;
 use ann_key::{Key, NoMemory};
 use ann_outside::{Sink, Source};
+use child_end::close_child;
 use host_core::{Core, Event, Reply};
 use journal_model::{Answer, Verdict};
 use link_roles::{Lone, OwnDoor};

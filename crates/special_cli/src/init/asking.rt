@@ -6,13 +6,14 @@ ghost use Rattle.journal_model.specs.Halves.{LinkWired};
 ghost use Rattle.child_start.specs.Cores.{IsSameCore};
 ghost use Rattle.child_start.specs.Greetings.{AreNumbered};
 ghost use Rattle.init_run.specs.Setups.{outcome_of};
-ghost use Rattle.special_cli.specs.Left.{wire_value, programs_value};
-ghost use Rattle.special_cli.specs.Objects.{Leaves};
+ghost use Rattle.child_end.specs.Wires.{wire_value};
+ghost use Rattle.child_end.specs.Programs.{programs_value};
+ghost use Rattle.child_end.specs.Programs.{Leaves};
 ghost use Rattle.special_cli.specs.Setups.{IsSetup, Talked, IfTalked, TalkStarts};
 
-use crate::child::{close_child, finish};
 use ann_key::NoMemory;
 use ann_outside::{Programs, Sink, Source};
+use child_end::{close_child, finish};
 use child_start::{Greeting, Mode, greet};
 use host_core::Core;
 use init_run::{Setup, setup_for};

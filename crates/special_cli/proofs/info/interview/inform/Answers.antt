@@ -2,8 +2,8 @@ use Rattle.std.proofs.Common.{map, ap, refl}
 use Rattle.std.specs.Prelude.{option_map}
 use Rattle.ann_key.specs.KeyRefs.{text_of}
 use Rattle.special_cli.specs.Endings.{starts_in}
-use Rattle.special_cli.specs.Left.{programs_value}
-use Rattle.special_cli.proofs.Leaving.{leaves_child, leaves_failed, leaves_unstarted}
+use Rattle.child_end.specs.Programs.{programs_value}
+use Rattle.special_cli.proofs.Leaving.{leaves_child, leaves_failed, leaves_unstarted, one_laid}
 use Rattle.special_cli.proofs.Talking.{may_close, closed_asked, closed_complete, closed_starts, if_ok, unstarted_asked, unstarted_complete, nothing_asked}
 use Rattle.special_cli.proofs.info.interview.inform.Goals as goal
 
@@ -25,7 +25,7 @@ returns-in-Over-clause-leaves g c =
     c.close_child.new.core.journal c.in-Over.link.ear c.in-Over.link.mouth _
     (closed_starts (option_map text_of c.args.key) c.hold_interview.new.core.journal c.close_child.new.core.journal c.in-Over.link.ear.child c.in-Over.ensures.interviewed.0 c.close_child.ensures.closes)
     c.in-Over.ensures.starts c.finish.ensures.starts c.in-Over.ensures.numbers c.in-Over.ensures.interviewed.0.first c.in-Over.link.one_child
-    (c.close_child.ensures.wired c.in-Over.ensures.wired) c.finish.ensures.left
+    (c.close_child.ensures.wired c.in-Over.ensures.wired) (one_laid c.requires.none c.finish.ensures.laid)
 
 pub returns-in-StartFault-clause-asked : goal.returns-in-StartFault-clause-asked
 returns-in-StartFault-clause-asked g c = unstarted_asked (option_map text_of c.args.key) c.hold_interview.new.core.journal c.in-StartFault.ensures.interviewed

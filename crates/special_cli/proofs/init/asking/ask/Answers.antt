@@ -1,7 +1,7 @@
 use Rattle.std.proofs.Common.{◌∙◌, map, ap, refl}
 use Rattle.special_cli.specs.Endings.{starts_in}
-use Rattle.special_cli.specs.Left.{programs_value}
-use Rattle.special_cli.proofs.Leaving.{leaves_child, leaves_failed, leaves_unstarted}
+use Rattle.child_end.specs.Programs.{programs_value}
+use Rattle.special_cli.proofs.Leaving.{leaves_child, leaves_failed, leaves_unstarted, one_laid}
 use Rattle.special_cli.proofs.Settling.{may_close, closed_setup, closed_outcome, closed_starts, unstarted_setup, unstarted_outcome, nothing_setup}
 use Rattle.special_cli.proofs.init.asking.ask.Goals as goal
 
@@ -22,7 +22,7 @@ returns-in-Over-clause-leaves g c =
     c.close_child.new.core.journal c.in-Over.link.ear c.in-Over.link.mouth _
     (closed_starts c.hold_talk.new.core.journal c.close_child.new.core.journal c.in-Over.link.ear.child c.in-Over.setup c.in-Over.ensures.talked c.close_child.ensures.closes)
     c.in-Over.ensures.starts c.finish.ensures.starts c.in-Over.ensures.numbers c.in-Over.ensures.talked.first c.in-Over.link.one_child
-    (c.close_child.ensures.wired c.in-Over.ensures.wired) c.finish.ensures.left
+    (c.close_child.ensures.wired c.in-Over.ensures.wired) (one_laid c.requires.none c.finish.ensures.laid)
 
 pub returns-in-StartFault-clause-asked : goal.returns-in-StartFault-clause-asked
 returns-in-StartFault-clause-asked g c = unstarted_setup c.hold_talk.new.core.journal c.in-StartFault.ensures.talked

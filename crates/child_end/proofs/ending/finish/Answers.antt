@@ -1,12 +1,13 @@
 use Rattle.std.proofs.Common.{◌∙◌, [], ◌∷◌, ◌++◌, map, ap}
-use Rattle.special_cli.specs.Left.{wire_value}
-use Rattle.special_cli.proofs.child.finish.Goals as goal
+use Rattle.std.proofs.lemmas.List.{map-append}
+use Rattle.child_end.specs.Wires.{wire_value}
+use Rattle.child_end.proofs.ending.finish.Goals as goal
 
-pub returns-clause-left : goal.returns-clause-left
-returns-clause-left g c =
+pub returns-clause-laid : goal.returns-clause-laid
+returns-clause-laid g c =
     let value = wire_value g.P.Inlet.Sink.taken g.P.Inlet.Sink.faults g.P.Inlet.Sink.number g.P.Inlet.Sink.is_open g.P.Outlet.Source.given g.P.Outlet.Source.left g.P.Outlet.Source.faults g.P.Outlet.Source.number g.P.Outlet.Source.is_open in (
       value c.finish.result,
-      ap (map value) (c.push_reserved.ensures.items ∙ ap (λ ws. ws ++ c.finish.result ∷ []) c.requires.none),
+      ap (map value) c.push_reserved.ensures.items ∙ map-append value c.args.wires.now.items (c.finish.result ∷ []),
       record {
         child = c.finish.ensures.child;
         taken_is = c.finish.ensures.taken;

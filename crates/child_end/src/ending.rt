@@ -1,5 +1,5 @@
 // The end of a child: it is closed in the journal, its link's halves are closed, and its program is waited for.
-ghost use Rattle.std.specs.Prelude.{◌≡◌, ◌<◌, ◌≤◌, [], map, true, vec_len, vec_capacity};
+ghost use Rattle.std.specs.Prelude.{◌≡◌, ◌<◌, ◌≤◌, map, true, vec_len, vec_capacity};
 ghost use Rattle.ann_outside.specs.Causes.{Stays};
 ghost use Rattle.journal_model.specs.declared.verdict.Why.TheVariants.{Closed};
 ghost use Rattle.journal_model.specs.Journal.{is_started};
@@ -7,15 +7,14 @@ ghost use Rattle.journal_model.specs.Legality.{may_stop};
 ghost use Rattle.journal_model.specs.Halves.{LinkWired};
 ghost use Rattle.link_roles.specs.Alone.{Closes};
 ghost use Rattle.child_start.specs.Cores.{IsSameCore};
-ghost use Rattle.special_cli.specs.Left.{wire_value};
-ghost use Rattle.special_cli.specs.Objects.{OneIsLeft};
+ghost use Rattle.child_end.specs.Wires.{IsLaid, wire_value};
 
 use ann_outside::{Programs, Sink, Source};
 use host_core::Core;
 use link_roles::{Lone, OwnDoor, Wire};
 
-/// The child is closed.
-pub(crate) fn close_child<I: Sink, O: Source>(link: &Lone<I, O>, core: &mut Core)
+/// Closes the child in the journal, where it has not ended. No job of it is open, and no task is busy with it.
+pub fn close_child<I: Sink, O: Source>(link: &Lone<I, O>, core: &mut Core)
     requires started { is_started core.old.journal link.now.ear.child ≡ true }
     requires idle { may_stop core.old.journal link.now.ear.child Closed ≡ true }
     ensures closes { Closes 0 link.now.ear.child core.old.journal core.new.journal }
@@ -26,16 +25,15 @@ pub(crate) fn close_child<I: Sink, O: Source>(link: &Lone<I, O>, core: &mut Core
     link.close_alone(&mut door);
 }
 
-/// The link's halves are closed and kept as a wire, and the program is waited for.
-pub(crate) fn finish<P: Programs>(
+/// Closes the link's halves, keeps them as a wire behind the others, and waits for the program to end.
+pub fn finish<P: Programs>(
     programs: &mut P,
     link: Lone<P::Inlet, P::Outlet>,
     stub: P::Stub,
     wires: &mut Vec<Wire<P::Inlet, P::Outlet>>,
 )
     requires room { vec_len wires.old < vec_capacity wires.old }
-    requires none { wires.old.items ≡ [] }
-    ensures left { OneIsLeft link.ear link.mouth (map (wire_value P.Inlet.taken P.Inlet.faults P.Inlet.number P.Inlet.is_open P.Outlet.given P.Outlet.left P.Outlet.faults P.Outlet.number P.Outlet.is_open) wires.new.items) }
+    ensures laid { IsLaid link.ear link.mouth (map (wire_value P.Inlet.taken P.Inlet.faults P.Inlet.number P.Inlet.is_open P.Outlet.given P.Outlet.left P.Outlet.faults P.Outlet.number P.Outlet.is_open) wires.old.items) (map (wire_value P.Inlet.taken P.Inlet.faults P.Inlet.number P.Inlet.is_open P.Outlet.given P.Outlet.left P.Outlet.faults P.Outlet.number P.Outlet.is_open) wires.new.items) }
     ensures starts { Stays (P.starts programs.old) (P.starts programs.new) }
     ensures later { P.faults programs.old ≤ P.faults programs.new }
 {

@@ -1,0 +1,52 @@
+-- What programs tell of the starts that a run made, and what a run leaves of them and of its children's links.
+use Rattle.std.specs.Prelude.{ℕ, ◌≡◌, ◌⊎◌, Bool, true, false, List, [], ◌∷◌, ◌++◌, Option, Some, None}
+use Rattle.ann_outside.specs.Causes.{Rose}
+use Rattle.ann_outside.specs.Starts.{Starts}
+use Rattle.journal_model.specs.declared.entry.What.{What}
+use Rattle.journal_model.specs.declared.entry.What.TheVariants.{Start, NoStart}
+use Rattle.journal_model.specs.declared.entry.Entry.{Entry}
+use Rattle.journal_model.specs.Journal.{any, each_of}
+use Rattle.child_end.specs.Wires.{WireValue, AreWires, came}
+
+-- the starts that programs tell, and how often they failed
+pub record ProgramsValue : Type 0 where
+  pub starts : Option Starts
+  pub faults : ℕ
+
+abbrev pub programs_value : Option Starts → ℕ → ProgramsValue
+programs_value starts faults = record { starts = starts; faults = faults }
+
+-- what programs tell of the entry, where it is a start of this program
+abbrev pub told_in : List ℕ → What → Option (List ℕ × Bool)
+told_in program (Start child slot offer) = Some (program, true)
+told_in program (NoStart slot) = Some (program, false)
+told_in program _ = None
+
+-- what they tell of the journal
+abbrev pub told : List ℕ → List Entry → Starts
+told program journal = each_of (told_in program) journal
+
+-- a list that is told grows by these, and one that isn't told stays untold
+abbrev pub AddsAll : Option Starts → Option Starts → Starts → Type 0
+AddsAll None None more = Unit {0}
+AddsAll None (Some ys) more = ⊥
+AddsAll (Some xs) None more = ⊥
+AddsAll (Some xs) (Some ys) more = ys ≡ xs ++ more
+
+-- Where programs tell, their starts are the journal's, each of this program. Where memory was wanted, one more may follow
+-- them.
+abbrev pub HaveStarted : Type 0 → List ℕ → List Entry → Option Starts → Option Starts → Type 0
+HaveStarted wanted program journal old new =
+    AddsAll old new (told program journal)
+    ⊎ (wanted × ((b : Bool) × AddsAll old new (told program journal ++ (program, b) ∷ [])))
+
+abbrev pub is_failed_start : What → Bool
+is_failed_start (NoStart slot) = true
+is_failed_start _ = false
+
+-- Of the objects of a run there are left the wires of its children, the starts that its journal has, and a fault where one
+-- failed.
+pub record Leaves (wanted : Type 0) (program : List ℕ) (journal : List Entry) (before after : ProgramsValue) (wires : List WireValue) : Type 0 where
+  pub wired : AreWires before.starts journal 0 (came journal) wires
+  pub started : HaveStarted wanted program journal before.starts after.starts
+  pub fault : any is_failed_start journal ≡ true → Rose before.faults after.faults

@@ -1,0 +1,93 @@
+-- What is left of a child's link when it is over, and of all children of a run, in their order.
+use Rattle.std.specs.Prelude.{ℕ, ◌≡◌, ◌+◌, Bool, false, List, [], ◌∷◌, ◌++◌, length, Option, Some, None, IsTrue}
+use Rattle.ann_outside.specs.Starts.{Starts}
+use Rattle.journal_model.specs.declared.entry.What.{What}
+use Rattle.journal_model.specs.declared.entry.What.TheVariants.{Start, NoStart}
+use Rattle.journal_model.specs.declared.entry.Entry.{Entry}
+use Rattle.journal_model.specs.Journal.{each_of}
+use Rattle.journal_model.specs.Wires.{Wired, Caused, is_heard_in_turn}
+use Rattle.journal_model.specs.Halves.{EarValue, MouthValue}
+use Rattle.link_roles.specs.declared.wire.Wire.{Wire}
+
+-- ---- one wire
+
+-- a child's number, what its two halves tell, how often they failed, their start's number and whether they are open, and what
+-- was read and not fed
+pub record WireValue : Type 0 where
+  pub child : ℕ
+  pub taken : Option (List ℕ)
+  pub write_faults : ℕ
+  pub inlet_number : Option ℕ
+  pub is_inlet_open : Bool
+  pub given : Option (List ℕ)
+  pub left : Option (List ℕ)
+  pub read_faults : ℕ
+  pub outlet_number : Option ℕ
+  pub is_outlet_open : Bool
+  pub rest : List ℕ
+
+abbrev pub wire_value : {I O : Type 0} → (I → Option (List ℕ)) → (I → ℕ) → (I → Option ℕ) → (I → Bool) → (O → Option (List ℕ)) → (O → Option (List ℕ)) → (O → ℕ) → (O → Option ℕ) → (O → Bool)
+    → Wire I O → WireValue
+wire_value taken write_faults inlet_number is_inlet_open given left read_faults outlet_number is_outlet_open wire = record {
+  child = wire.child;
+  taken = taken wire.inlet;
+  write_faults = write_faults wire.inlet;
+  inlet_number = inlet_number wire.inlet;
+  is_inlet_open = is_inlet_open wire.inlet;
+  given = given wire.outlet;
+  left = left wire.outlet;
+  read_faults = read_faults wire.outlet;
+  outlet_number = outlet_number wire.outlet;
+  is_outlet_open = is_outlet_open wire.outlet;
+  rest = wire.rest;
+}
+
+-- ---- the wires of a run
+
+-- the child that a start gave, or none
+abbrev pub came_in : What → Option (Option ℕ)
+came_in (Start child slot offer) = Some (Some child)
+came_in (NoStart slot) = Some None
+came_in _ = None
+
+-- the children that the journal's starts gave, in order
+abbrev pub came : List Entry → List (Option ℕ)
+came journal = each_of came_in journal
+
+-- a half that tells its number tells that of the run's nth start, from 1, where the programs had told these starts before
+abbrev pub IsOfStart : Option Starts → ℕ → Option ℕ → Type 0
+IsOfStart starts n None = Unit {0}
+IsOfStart None n (Some number) = Unit {0}
+IsOfStart (Some xs) n (Some number) = number ≡ length xs + n
+
+-- The wire's bytes are the journal's lines, its child's end and mute have their causes, each line was fed in its turn, its
+-- halves are those that the nth start gave, and both are closed.
+pub record IsWire (starts : Option Starts) (journal : List Entry) (n : ℕ) (wire : WireValue) : Type 0 where
+  pub wired : Wired journal wire.child wire.given wire.taken wire.rest
+  pub caused : Caused journal wire.child wire.left wire.read_faults wire.write_faults
+  pub heard : IsTrue (is_heard_in_turn journal wire.child)
+  pub inlet : IsOfStart starts n wire.inlet_number
+  pub outlet : IsOfStart starts n wire.outlet_number
+  pub closed : (wire.is_inlet_open ≡ false) × (wire.is_outlet_open ≡ false)
+
+-- a wire for each child that a start gave, in order, where n starts stand before these
+abbrev pub AreWires : Option Starts → List Entry → ℕ → List (Option ℕ) → List WireValue → Type 0
+AreWires starts journal n [] [] = Unit {0}
+AreWires starts journal n (None ∷ cs) wires = AreWires starts journal (n + 1) cs wires
+AreWires starts journal n (Some c ∷ cs) (wire ∷ wires) = (wire.child ≡ c) × IsWire starts journal (n + 1) wire × AreWires starts journal (n + 1) cs wires
+AreWires starts journal n _ _ = ⊥
+
+-- the wire that a link's halves leave
+pub record IsLeft (ear : EarValue) (mouth : MouthValue) (wire : WireValue) : Type 0 where
+  pub child : wire.child ≡ ear.child
+  pub taken_is : wire.taken ≡ mouth.taken
+  pub given_is : wire.given ≡ ear.given
+  pub left_is : wire.left ≡ ear.left
+  pub faults : (wire.write_faults ≡ mouth.faults) × (wire.read_faults ≡ ear.faults)
+  pub numbers : (wire.inlet_number ≡ mouth.number) × (wire.outlet_number ≡ ear.number)
+  pub closed : (wire.is_inlet_open ≡ false) × (wire.is_outlet_open ≡ false)
+  pub rest : wire.rest ≡ ear.held
+
+-- such a wire was laid behind the others
+abbrev pub IsLaid : EarValue → MouthValue → List WireValue → List WireValue → Type 0
+IsLaid ear mouth old new = (wire : WireValue) × (new ≡ old ++ wire ∷ []) × IsLeft ear mouth wire

@@ -1,0 +1,97 @@
+-- What a run leaves that is made by one thread, over one child at a time.
+use Rattle.std.specs.Prelude.{ℕ, ◌≡◌, ◌⊎◌, ◌<◌, ◌==◌, ◌&&◌, ◌||◌, not, if◌then◌else◌, Bool, true, false, List, [], ◌∷◌, ◌++◌, map, All, Option, Some, None, Result, MatchResult}
+use Rattle.std.specs.List.{list_all, last_or}
+use Rattle.ann_key.specs.declared.bytes.NoMemory.{NoMemory}
+use Rattle.ann_outside.specs.Calls.{Gained}
+use Rattle.journal_model.specs.declared.verdict.Why.TheVariants.{Memory as ForMemory}
+use Rattle.journal_model.specs.declared.answer.Answer.{Answer}
+use Rattle.journal_model.specs.declared.answer.Answer.TheVariants.{Memory, NoChild}
+use Rattle.journal_model.specs.declared.entry.What.{What}
+use Rattle.journal_model.specs.declared.entry.What.TheVariants.{Start, NoStart, Claim, Ask, End, Answer as Answered}
+use Rattle.journal_model.specs.declared.entry.Entry.{Entry}
+use Rattle.journal_model.specs.declared.opening.Opening.{Opening}
+use Rattle.journal_model.specs.Journal.{any, each_of}
+use Rattle.journal_model.specs.Legality.{Legal, count}
+use Rattle.journal_model.specs.Output.{answers_in}
+use Rattle.journal_model.specs.Shares.{are_by}
+use Rattle.host_core.specs.Steps.{are_all_claimed}
+use Rattle.task_run.specs.declared.setup.Setup.{Setup}
+use Rattle.task_run.specs.TaskRuns.{failed_start}
+use Rattle.task_rounds.specs.JournalRuns.{PlainRun}
+use Rattle.child_start.specs.Greetings.{is_greeting_line}
+use Rattle.lone_work.specs.Works.{DeskTells, TaskDone, CausedInTurn, all_calls, claims_in}
+use Rattle.lone_rounds.specs.Starting.{AreStarts, AreSpent, AreEnded, is_any_start}
+
+-- ---- a task that no child takes
+
+-- What starts of slot 0 and claims come to, in turn: a start to its child or to none, which a claim takes up.
+abbrev pub turn_of : What → Option (Option (Option ℕ))
+turn_of (Start child slot offer) = if slot == 0 then Some (Some (Some child)) else None
+turn_of (NoStart slot) = if slot == 0 then Some (Some None) else None
+turn_of (Claim task child) = Some None
+turn_of w = None
+
+-- what the last start came to, where no task was claimed behind it
+abbrev pub start_untaken : List Entry → Option (Option ℕ)
+start_untaken past = last_or None (each_of turn_of past)
+
+-- a child ended for want of memory
+abbrev pub ends_for_memory : What → Bool
+ends_for_memory (End child ForMemory) = true
+ends_for_memory w = false
+
+-- how a task is answered that is left when no child can be started any more
+abbrev pub left_answer : List Entry → Answer
+left_answer past = if any ends_for_memory past then Memory else NoChild
+
+-- The start before it gave no child that is ready, and this is what came of it; or there is no such start, slot 0 has made all
+-- its starts, and each is spent.
+abbrev pub ZeroAnswers : ℕ → List Entry → Option Answer → Answer → Type 0
+ZeroAnswers limit past (Some failed) answer = answer ≡ failed
+ZeroAnswers limit past None answer = (count is_any_start past ≡ limit) × AreSpent past × (answer ≡ left_answer past)
+
+-- The task was claimed without a child and answered at once.
+pub record ZeroRun (limit : ℕ) (journal : List Entry) (t : ℕ) (answer : Answer) : Type 0 where
+  pub past : List Entry
+  pub rest : List Entry
+  pub is : journal ≡ past ++ record { by = 0; what = Claim t 0 } ∷ record { by = 0; what = Answered t answer } ∷ rest
+  pub answers : ZeroAnswers limit past (failed_start past (start_untaken past)) answer
+
+-- ---- a task
+
+-- It was claimed for a child, run over it in the plain layout, and answered so.
+pub record ChildRun (o : Opening) (setup : Setup) (journal : List Entry) (r : TaskDone) : Type 0 where
+  pub run : PlainRun o setup r.calls 0 r.task journal
+  pub child : 0 < run.run.child
+  pub answer : run.run.answer ≡ r.answer
+
+-- over a child, or without one and without a call of its desk
+abbrev pub HasRun : Opening → Setup → ℕ → List Entry → TaskDone → Type 0
+HasRun o setup limit journal r = ChildRun o setup journal r ⊎ (ZeroRun limit journal r.task r.answer × (r.calls ≡ []))
+
+-- ---- the run
+
+-- job 0 and job 1 are the greeting's, which ends by PREPARE, and each later one is a task's
+abbrev pub is_of_run : What → Bool
+is_of_run (Ask child job task line) = if is_greeting_line job line then task == 0 else not (job == 0 || (job == 1 || task == 0))
+is_of_run w = true
+
+-- The journal is legal and all its entries are the main thread's. Each child was started in its turn, and has ended. Each task
+-- that was claimed was run and then answered so, one behind the other, and the desk made the calls of these runs, in their
+-- order, and no others.
+pub record RanAlone (o : Opening) (setup : Setup) (limit : ℕ) (journal : List Entry) (desk desk' : DeskTells) : Type 0 where
+  pub legal : Legal o journal
+  pub main : are_by 0 journal ≡ true
+  pub starts : AreStarts limit journal
+  pub ended : AreEnded journal
+  pub asks : list_all (λ e. is_of_run e.what) journal ≡ true
+  pub done : List TaskDone
+  pub claimed : map (λ r. r.task) done ≡ claims_in journal
+  pub answered : map (λ r. (r.task, r.answer)) done ≡ answers_in journal
+  pub ran : All (HasRun o setup limit journal) done
+  pub log_is : Gained desk.log desk'.log (all_calls done)
+  pub caused : CausedInTurn desk.counts done desk'.counts
+
+-- all tasks were claimed, unless no memory was found to start a child
+abbrev pub IsWhole : Opening → List Entry → Result (Unit {0}) NoMemory → Type 0
+IsWhole o journal result = MatchResult result (λ _. are_all_claimed o journal ≡ true) (λ _. Unit {0})

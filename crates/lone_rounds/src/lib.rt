@@ -1,0 +1,8 @@
+// A whole run by one thread: children are started one after the other, and each does tasks until it is gone.
+#![tactic(auto)]
+
+mod plan;
+mod running;
+
+pub use plan::Plan;
+pub use running::run_alone;

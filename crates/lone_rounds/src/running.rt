@@ -1,0 +1,45 @@
+ghost use Rattle.std.specs.Prelude.{◌≡◌, ◌≤◌, ◌<◌, [], map, IsErr, vec_capacity};
+ghost use Rattle.annex_model.specs.Lines.{has_newline};
+ghost use Rattle.journal_model.specs.Legality.{Legal};
+ghost use Rattle.child_start.specs.Cores.{IsSameCore};
+ghost use Rattle.child_end.specs.Wires.{wire_value};
+ghost use Rattle.child_end.specs.Programs.{Leaves, programs_value};
+ghost use Rattle.lone_work.specs.Works.{AreTasks, desk_tells};
+ghost use Rattle.lone_rounds.specs.Rounds.{IsWhole, RanAlone};
+
+use crate::plan::Plan;
+use ann_key::NoMemory;
+use ann_outside::{Desk, Programs};
+use host_core::Core;
+use link_roles::Wire;
+use std::alloc::Global;
+use task_text::Task;
+
+/// Does all tasks over children that are started one after the other, and answers each. Where a child is lost the next one goes
+/// on; where no start is left, the tasks that are left are answered `nochild`. `NoMemory` is answered where no memory was found
+/// to start a child; what was done until then stands in the journal.
+pub fn run_alone<P: Programs, K: Desk>(
+    alloc: Global,
+    programs: &mut P,
+    plan: &Plan,
+    tasks: &[Task],
+    core: &mut Core,
+    desk: &mut K,
+    wires: &mut Vec<Wire<P::Inlet, P::Outlet>>,
+) -> Result<(), NoMemory>
+where
+    P::Inlet: Drop,
+    P::Outlet: Drop,
+    requires empty { core.old.journal ≡ [] }
+    requires tasks { (core.old.opening.tasks ≡ tasks.now) × AreTasks tasks.now }
+    requires starts { (0 < plan.now.starts) × (plan.now.starts ≤ 16) }
+    requires setup { (has_newline plan.now.setup.work ≡ false) × (plan.now.setup.chunk ≡ 0) }
+    requires room { plan.now.starts ≤ vec_capacity wires.old }
+    requires none { wires.old.items ≡ [] }
+    ensures ran { RanAlone core.old.opening plan.now.setup plan.now.starts core.new.journal (desk_tells (K.log desk.old) (K.counts desk.old)) (desk_tells (K.log desk.new) (K.counts desk.new)) }
+    ensures whole { IsWhole core.old.opening core.new.journal result }
+    ensures leaves { Leaves (IsErr result) plan.now.program core.new.journal (programs_value (P.starts programs.old) (P.faults programs.old)) (programs_value (P.starts programs.new) (P.faults programs.new)) (map (wire_value P.Inlet.taken P.Inlet.faults P.Inlet.number P.Inlet.is_open P.Outlet.given P.Outlet.left P.Outlet.faults P.Outlet.number P.Outlet.is_open) wires.new.items) }
+    ensures core { IsSameCore core.old core.new }
+{
+    Err(NoMemory)
+}
