@@ -25,10 +25,11 @@ use Rattle.special_cli.specs.Calls.{IsCalled}
 use Rattle.special_cli.specs.Commands.{ComesToNothing, EndsCheck, HasChecked, EndsInfo, HasInformed, UnlessRefused, Runs}
 use Rattle.special_cli.specs.Endings.{is_well, status_of, IsChecked, IsPrinted, IsTold, LacksMemory}
 use Rattle.special_cli.specs.Informs.{IsInformed, IsInfoTold, info_status}
-use Rattle.special_cli.specs.Left.{Left, OutsideValue, RanValue, TableValue, IsIdle}
+use Rattle.child_end.specs.Outsides.{OutsideValue, TableValue}
+use Rattle.special_cli.specs.Left.{Left, RanValue, IsIdle}
 use Rattle.child_end.specs.Wires.{AreWires, came}
 use Rattle.child_end.specs.Programs.{HaveStarted, Leaves, is_failed_start}
-use Rattle.special_cli.specs.Objects.{HaveMade}
+use Rattle.child_end.specs.Outsides.{HaveMade}
 use Rattle.cli_words.specs.Refusals.{reason_refused, refusal_if, unless}
 use Rattle.special_cli.specs.Wishes.{taken_up}
 use Rattle.special_cli.proofs.Checked.{unstarted}

@@ -30,7 +30,7 @@ use Rattle.special_cli.specs.declared.end.End.{End}
 use Rattle.special_cli.specs.declared.end.End.TheVariants.{Memory, SetUp, NotSetUp}
 use Rattle.child_end.specs.Wires.{WireValue}
 use Rattle.child_end.specs.Programs.{ProgramsValue}
-use Rattle.special_cli.specs.Left.{TableValue}
+use Rattle.child_end.specs.Outsides.{TableValue}
 use Rattle.child_end.specs.Programs.{Leaves}
 use Rattle.special_cli.specs.Setups.{IsSetup, IsRunOf, IsAsBefore, HasFailed, IsKept, IsUnbegun, EndsInit, EndsKeep}
 use Rattle.special_cli.proofs.Leaving.{leaves_as}

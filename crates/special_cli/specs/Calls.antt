@@ -5,10 +5,11 @@ use Rattle.journal_model.specs.Journal.{any}
 use Rattle.cli_words.specs.declared.command.Command.{Command}
 use Rattle.special_cli.specs.Endings.{refused_in, check_in, info_in, init_in, run_in, IsChecked, IsTold, LacksMemory}
 use Rattle.special_cli.specs.Informs.{IsInformed, IsInfoTold}
-use Rattle.special_cli.specs.Left.{Left, OutsideValue, IsIdle}
+use Rattle.child_end.specs.Outsides.{OutsideValue}
+use Rattle.special_cli.specs.Left.{Left, IsIdle}
 use Rattle.child_end.specs.Wires.{AreWires, came}
 use Rattle.child_end.specs.Programs.{HaveStarted, is_failed_start}
-use Rattle.special_cli.specs.Objects.{HaveMade}
+use Rattle.child_end.specs.Outsides.{HaveMade}
 use Rattle.special_cli.specs.Setups.{HasSetUp}
 use Rattle.special_cli.specs.Tells.{Flow, IsToldOf}
 use Rattle.special_cli.specs.declared.end.End.{End}

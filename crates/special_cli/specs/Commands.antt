@@ -6,7 +6,8 @@ use Rattle.special_cli.specs.declared.end.End.TheVariants.{Usage, Shown, Refused
 use Rattle.cli_words.specs.declared.refusals.Reason.{Reason}
 use Rattle.special_cli.specs.Endings.{IsChecked, IsAnswered}
 use Rattle.special_cli.specs.Informs.{IsInformed, IsComplete}
-use Rattle.special_cli.specs.Left.{Left, OutsideValue, RanValue, IsIdle}
+use Rattle.child_end.specs.Outsides.{OutsideValue}
+use Rattle.special_cli.specs.Left.{Left, RanValue, IsIdle}
 use Rattle.child_end.specs.Programs.{Leaves}
 use Rattle.special_cli.specs.Setups.{HasSetUp}
 use Rattle.cli_words.specs.Refusals.{reason_refused, refusal_if}

@@ -1,32 +1,10 @@
 -- What a command leaves, as contracts see it: what the objects tell, and not the objects.
-use Rattle.std.specs.Prelude.{ℕ, ◌≡◌, Bool, List, [], Option}
-use Rattle.ann_outside.specs.DeskCauses.{Counts}
-use Rattle.ann_outside.specs.Desks.{Made}
-use Rattle.ann_outside.specs.Files.{Files}
-use Rattle.ann_outside.specs.declared.file_desk.Call.{Call}
+use Rattle.std.specs.Prelude.{ℕ, ◌≡◌, List, []}
 use Rattle.journal_model.specs.declared.answer.Answer.{Answer}
 use Rattle.journal_model.specs.declared.entry.Entry.{Entry}
 use Rattle.child_end.specs.Wires.{WireValue}
-use Rattle.child_end.specs.Programs.{ProgramsValue}
+use Rattle.child_end.specs.Outsides.{OutsideValue, TableValue}
 use Rattle.special_cli.specs.declared.end.End.{End}
-
--- ---- the objects
-
--- what was handed in: the programs, and the desks that were made
-pub record OutsideValue : Type 0 where
-  pub programs : ProgramsValue
-  pub made : Option (List Made)
-
--- a desk's counts, its files and its log
-pub record TableValue : Type 0 where
-  pub counts : Counts
-  pub files : Option Files
-  pub log : Option (List Call)
-
-abbrev pub table_value : {D : Type 0} → (D → Counts) → (D → Option Files) → (D → Option (List Call)) → D → TableValue
-table_value counts files log desk = record { counts = counts desk; files = files desk; log = log desk }
-
--- ---- the command
 
 pub record Left : Type 0 where
   pub outside : OutsideValue

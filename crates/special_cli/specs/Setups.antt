@@ -34,7 +34,8 @@ use Rattle.special_cli.specs.Runs.{main_entry}
 use Rattle.special_cli.specs.declared.end.End.{End as Ending}
 use Rattle.special_cli.specs.declared.end.End.TheVariants.{Memory, BadKept, KeptTooLarge, FileFailed, SetUp, NotSetUp}
 use Rattle.special_cli.specs.Endings.{starts_in}
-use Rattle.special_cli.specs.Left.{OutsideValue, RanValue, TableValue, IsIdle}
+use Rattle.child_end.specs.Outsides.{OutsideValue, TableValue}
+use Rattle.special_cli.specs.Left.{RanValue, IsIdle}
 use Rattle.child_end.specs.Programs.{Leaves}
 
 -- ---- the journal

@@ -20,7 +20,8 @@ pub struct Closing<P: Programs, K: Desks> {
 impl<P: Programs, K: Desks> Model for Closing<P, K> {
     ghost use Rattle.std.specs.Prelude.{map};
     ghost use Rattle.child_end.specs.Wires.{wire_value};
-    ghost use Rattle.special_cli.specs.Left.{ClosingValue, table_value};
+    ghost use Rattle.child_end.specs.Outsides.{table_value};
+    ghost use Rattle.special_cli.specs.Left.{ClosingValue};
 
     ghost Value = { ClosingValue };
 

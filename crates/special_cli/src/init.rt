@@ -10,7 +10,7 @@ ghost use Rattle.init_run.specs.Setups.{Begins};
 ghost use Rattle.special_cli.specs.declared.end.End.TheVariants.{Memory};
 ghost use Rattle.child_end.specs.Wires.{wire_value};
 ghost use Rattle.child_end.specs.Programs.{programs_value};
-ghost use Rattle.special_cli.specs.Left.{table_value};
+ghost use Rattle.child_end.specs.Outsides.{table_value};
 ghost use Rattle.child_end.specs.Programs.{Leaves};
 ghost use Rattle.special_cli.specs.Setups.{EndsInit, EndsKeep, HasSetUp};
 

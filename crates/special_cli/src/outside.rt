@@ -9,7 +9,7 @@ pub(crate) struct Outside<P: Programs, K: Desks> {
 }
 
 impl<P: Programs, K: Desks> Model for Outside<P, K> {
-    ghost use Rattle.special_cli.specs.Left.{OutsideValue};
+    ghost use Rattle.child_end.specs.Outsides.{OutsideValue};
 
     ghost Value = { OutsideValue };
 

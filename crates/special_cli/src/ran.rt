@@ -26,7 +26,8 @@ pub(crate) struct Ran<P: Programs, K: Desks> {
 impl<P: Programs, K: Desks> Model for Ran<P, K> {
     ghost use Rattle.std.specs.Prelude.{map};
     ghost use Rattle.child_end.specs.Wires.{wire_value};
-    ghost use Rattle.special_cli.specs.Left.{RanValue, table_value};
+    ghost use Rattle.child_end.specs.Outsides.{table_value};
+    ghost use Rattle.special_cli.specs.Left.{RanValue};
 
     ghost Value = { RanValue };
 

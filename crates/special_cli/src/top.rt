@@ -13,7 +13,7 @@ ghost use Rattle.child_end.specs.Programs.{programs_value};
 ghost use Rattle.special_cli.specs.Left.{IsIdle};
 ghost use Rattle.child_end.specs.Wires.{AreWires, came};
 ghost use Rattle.child_end.specs.Programs.{HaveStarted, is_failed_start};
-ghost use Rattle.special_cli.specs.Objects.{HaveMade};
+ghost use Rattle.child_end.specs.Outsides.{HaveMade};
 
 use crate::check::check;
 use crate::closing::Closing;

@@ -1,5 +1,5 @@
 use Rattle.std.proofs.Common.{◌≡◌, ◌∙◌, [], ◌∷◌, ◌++◌, true, false, sym, ap}
-use Rattle.special_cli.specs.Left.{OutsideValue}
+use Rattle.child_end.specs.Outsides.{OutsideValue}
 use Rattle.special_cli.proofs.Checked.{answered}
 use Rattle.special_cli.proofs.Leaving.{leaves_as}
 use Rattle.special_cli.proofs.check.run_check.Goals as goal

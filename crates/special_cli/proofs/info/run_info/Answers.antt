@@ -2,7 +2,7 @@ use Rattle.std.proofs.Common.{◌≡◌, true, false, sym, ap, subst}
 use Rattle.std.specs.Prelude.{option_map}
 use Rattle.ann_key.specs.KeyRefs.{text_of}
 use Rattle.special_cli.specs.Informs.{IsComplete}
-use Rattle.special_cli.specs.Left.{OutsideValue}
+use Rattle.child_end.specs.Outsides.{OutsideValue}
 use Rattle.special_cli.proofs.Informed.{sent_if}
 use Rattle.special_cli.proofs.Leaving.{leaves_as}
 use Rattle.special_cli.proofs.info.run_info.Goals as goal

@@ -1,7 +1,7 @@
 use Rattle.std.proofs.Common.{◌∙◌, List, Option, [], ◌∷◌, ◌++◌, map, refl, sym, ap, subst, inr}
 use Rattle.ann_outside.specs.Causes.{AddsOne}
 use Rattle.ann_outside.specs.Desks.{Made}
-use Rattle.special_cli.specs.Left.{OutsideValue, table_value}
+use Rattle.child_end.specs.Outsides.{OutsideValue, table_value}
 use Rattle.special_cli.proofs.Leaving.{leaves_as}
 use Rattle.special_cli.proofs.init.at_desk.Goals as goal
 

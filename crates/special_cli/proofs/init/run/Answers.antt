@@ -4,7 +4,7 @@ use Rattle.std.proofs.lemmas.Grind.{common_steps}
 use Rattle.init_run.specs.declared.setup.Setup.TheVariants.{Initialized, Stopped}
 use Rattle.special_cli.specs.declared.end.End.TheVariants.{Memory}
 use Rattle.child_end.specs.Programs.{programs_value}
-use Rattle.special_cli.specs.Left.{table_value}
+use Rattle.child_end.specs.Outsides.{table_value}
 use Rattle.special_cli.proofs.Informed.{nothing_legal}
 use Rattle.special_cli.proofs.Keeping.{ends_set, ends_stopped, ends_wanting, outcome_ok, ok_err, leaves_named}
 use Rattle.special_cli.proofs.Leaving.{leaves_nothing}

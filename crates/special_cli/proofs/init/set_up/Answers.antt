@@ -1,6 +1,6 @@
 use Rattle.std.proofs.Common.{map, refl, ap}
 use Rattle.child_end.specs.Programs.{programs_value}
-use Rattle.special_cli.specs.Left.{table_value}
+use Rattle.child_end.specs.Outsides.{table_value}
 use Rattle.special_cli.proofs.Keeping.{same_files}
 use Rattle.special_cli.proofs.Leaving.{leaves_nothing}
 use Rattle.special_cli.proofs.init.set_up.Goals as goal

@@ -1,6 +1,6 @@
 use Rattle.cli_words.specs.Values.{texts_of}
 use Rattle.child_end.specs.Programs.{programs_value}
-use Rattle.special_cli.specs.Left.{OutsideValue}
+use Rattle.child_end.specs.Outsides.{OutsideValue}
 use Rattle.special_cli.specs.Wishes.{wish_of}
 use Rattle.special_cli.proofs.Calling.{called, few}
 use Rattle.special_cli.proofs.top.special.Goals as goal
