@@ -1,0 +1,186 @@
+-- What comes of a run, by its end.
+use Rattle.std.specs.Prelude.{ℕ, ◌≡◌, ◌⊎◌, ◌==◌, ◌≤◌, ◌<◌, if◌then◌else◌, true, List, [], ◌∷◌, ◌++◌, length, map, Option, Some, None, IfSome, Result, Ok, Err}
+use Rattle.std.specs.List.{range_with_len}
+use Rattle.ann_outside.specs.Causes.{Rose}
+use Rattle.ann_outside.specs.Calls.{IsLogBlank}
+use Rattle.ann_outside.specs.Desks.{Made, no_counts}
+use Rattle.ann_outside.specs.Files.{Files, WhereTold, OthersStay}
+use Rattle.ann_outside.specs.declared.file_desk.Call.{Call}
+use Rattle.desk_file.specs.Writes.{new_name, IsReplacedBy}
+use Rattle.task_text.specs.declared.task.Task.{Task}
+use Rattle.keep_text.specs.KeptFiles.{bad_line, kept_text}
+use Rattle.keep_desk.specs.declared.TheConstants.{MOST_BYTES}
+use Rattle.keep_desk.specs.declared.writing.KeptWritten.{KeptWritten}
+use Rattle.keep_desk.specs.declared.writing.KeptWritten.TheVariants as W
+use Rattle.cli_words.specs.declared.command.RunWords.{RunWords}
+use Rattle.cli_words.specs.declared.refusals.Reason.{Reason}
+use Rattle.task_input.specs.declared.error.InputError.TheVariants as input
+use Rattle.task_input.specs.declared.limits.TheConstants.{TASKS}
+use Rattle.journal_model.specs.declared.answer.Answer.{Answer}
+use Rattle.journal_model.specs.declared.entry.What.{What}
+use Rattle.journal_model.specs.declared.entry.What.TheVariants.{Answer as Answered}
+use Rattle.journal_model.specs.declared.entry.Entry.{Entry}
+use Rattle.journal_model.specs.declared.opening.Opening.{Opening}
+use Rattle.journal_model.specs.Due.{replies_at}
+use Rattle.journal_model.specs.Journal.{each_of, first_of}
+use Rattle.journal_model.specs.Legality.{numbers_of}
+use Rattle.journal_model.specs.Projection.{JobFits}
+use Rattle.host_core.specs.Books.{notes_after}
+use Rattle.host_core.specs.Settings.{registers_after}
+use Rattle.host_core.specs.Steps.{are_all_claimed}
+use Rattle.child_end.specs.Wires.{WireValue}
+use Rattle.child_end.specs.Programs.{Leaves}
+use Rattle.child_end.specs.Outsides.{OutsideValue, TableValue}
+use Rattle.lone_work.specs.Works.{desk_tells}
+use Rattle.lone_rounds.specs.Rounds.{RanAlone}
+use Rattle.run_tasks.specs.Inputs.{InputFlow, IsUnread, IsTaken, IsTextFor, IsRunOpening, run_setup}
+use Rattle.run_tasks.specs.declared.made.RunEnd.{RunEnd}
+use Rattle.run_tasks.specs.declared.made.RunEnd.TheVariants.{BadKept, KeptTooLarge, FileFailed, InputFailed, Refused, Memory, Done}
+
+-- what a run leaves, as contracts see it
+pub record MadeValue : Type 0 where
+  pub journal : List Entry
+  pub answers : List Answer
+  pub wires : List WireValue
+  pub tables : List TableValue
+  pub end : RunEnd
+
+-- ---- the answers
+
+-- what the entry answers the task
+abbrev pub answer_for : ℕ → What → Option Answer
+answer_for t (Answered task answer) = if task == t then Some answer else None
+answer_for t w = None
+
+-- the journal's answer of a task
+abbrev pub answer_of : List Entry → ℕ → Option Answer
+answer_of journal t = first_of (each_of (answer_for t) journal)
+
+-- there is one answer for each task, in their order: the journal's
+abbrev pub AreAnswers : Opening → List Entry → List Answer → Type 0
+AreAnswers o journal answers = map (λ answer. Some answer) answers ≡ map (answer_of journal) (numbers_of o)
+
+-- ---- the run
+
+-- From the opening that the words, the kept file, the input and the clock give, the tasks were done over one child at a time
+-- and by the first worker's desk, and each job's part fits.
+pub record IsRunOf (words : RunWords) (clock : Option ℕ) (told : Option Files) (flow : InputFlow) (workers : List TableValue) (journal : List Entry) : Type 0 where
+  pub stamp : ℕ
+  pub at : IfSome clock (λ n. stamp ≡ n)
+  pub kept : List ℕ
+  pub text : IsTextFor words told kept
+  pub right : bad_line kept ≡ None
+  pub tasks : List Task
+  pub input : IsTaken TASKS flow (Ok tasks)
+  pub opening : Opening
+  pub begins : IsRunOpening words kept tasks stamp opening
+  pub log : Option (List Call)
+  pub blank : IsLogBlank log
+  pub desk : TableValue
+  pub one : workers ≡ desk ∷ []
+  pub ran : RanAlone opening (run_setup words stamp) words.starts journal (desk_tells log no_counts) (desk_tells desk.log desk.counts)
+  pub parts : (c j : ℕ) → JobFits (replies_at opening journal) journal c j
+
+-- ---- the kept file
+
+-- the name of the file in which a kept file is made
+abbrev pub IsNewOf : Option (List ℕ) → List ℕ → Type 0
+IsNewOf None other = ⊥
+IsNewOf (Some name) other = other ≡ new_name name
+
+-- all files of the desk are as before but that one, where files are told
+abbrev pub IsAsBefore : RunWords → Option Files → TableValue → Type 0
+IsAsBefore words told table = WhereTold told table.files (OthersStay (IsNewOf words.keep))
+
+-- the desk counted a fault, or a missing file where it tells no files
+abbrev pub HasFailed : Option Files → TableValue → Type 0
+HasFailed told table = Rose 0 table.counts.faults ⊎ ((told ≡ None) × Rose 0 table.counts.missing)
+
+-- what is kept behind the run: the config that it began with, the other registers behind the journal, and the notes behind it
+abbrev pub kept_after : Opening → List Entry → List ℕ
+kept_after o journal = kept_text o.registers (registers_after o journal) (notes_after o journal)
+
+-- it was written in the place of the kept file, or that is as before
+abbrev pub IsKeptIn : RunWords → List ℕ → Option Files → TableValue → Opening → List Entry → KeptWritten → Type 0
+IsKeptIn words name told table o journal W.Done = WhereTold told table.files (IsReplacedBy name (kept_after o journal) (Ok tt))
+IsKeptIn words name told table o journal W.TooLarge = (MOST_BYTES < length (kept_after o journal)) × IsAsBefore words told table
+IsKeptIn words name told table o journal W.Fault = HasFailed told table × IsAsBefore words told table
+
+-- so it is, where the words name a kept file; and where they name none, nothing was kept
+abbrev pub IsKept : RunWords → Option Files → TableValue → Opening → List Entry → KeptWritten → Type 0
+IsKept words told table o journal written = go words.keep
+  where
+    go : Option (List ℕ) → Type 0
+    go None = (written ≡ W.Done) × IsAsBefore words told table
+    go (Some name) = IsKeptIn words name told table o journal written
+
+-- ---- its end
+
+-- no task was begun: nothing was started, no worker's desk was asked for, and the kept file is as before
+pub record IsUnbegun (words : RunWords) (told : Option Files) (table : TableValue) (workers : List TableValue) (made : MadeValue) : Type 0 where
+  pub journal : made.journal ≡ []
+  pub none : workers ≡ []
+  pub before : IsAsBefore words told table
+
+-- the text of the kept file was read before anything else, and this is what stands against it
+abbrev pub IsRefusedFor : RunWords → Option Files → (List ℕ → Type 0) → Type 0
+IsRefusedFor words told P = (kept : List ℕ) × IsTextFor words told kept × P kept
+
+-- the run is whole: each task was answered, these are the answers, and this came of keeping what is known
+pub record IsWholeRun (words : RunWords) (clock : Option ℕ) (told : Option Files) (flow : InputFlow) (table : TableValue) (workers : List TableValue) (made : MadeValue) (written : KeptWritten) : Type 0 where
+  pub run : IsRunOf words clock told flow workers made.journal
+  pub all : are_all_claimed run.opening made.journal ≡ true
+  pub answers : AreAnswers run.opening made.journal made.answers
+  pub kept : IsKept words told table run.opening made.journal written
+
+abbrev pub EndsRun : RunWords → Option ℕ → Option Files → InputFlow → TableValue → List TableValue → MadeValue → RunEnd → Type 0
+EndsRun words clock told flow table workers made (BadKept line) =
+    IsUnbegun words told table workers made × IsUnread flow × IsRefusedFor words told (λ kept. bad_line kept ≡ Some line)
+EndsRun words clock told flow table workers made KeptTooLarge =
+    IsUnbegun words told table workers made × IsUnread flow × IsRefusedFor words told (λ kept. MOST_BYTES < length kept)
+EndsRun words clock told flow table workers made FileFailed = IsUnbegun words told table workers made × IsUnread flow × Rose 0 table.counts.faults
+EndsRun words clock told flow table workers made InputFailed = IsUnbegun words told table workers made × Rose flow.faults flow.faults'
+EndsRun words clock told flow table workers made (Refused line reason) =
+    IsUnbegun words told table workers made × IsTaken TASKS flow (Err (input.Refused line reason))
+EndsRun words clock told flow table workers made Memory =
+    ((made.journal ≡ []) ⊎ IsRunOf words clock told flow workers made.journal) × IsAsBefore words told table
+EndsRun words clock told flow table workers made (Done written) = IsWholeRun words clock told flow table workers made written
+
+-- there are answers only where the run is whole
+abbrev pub IfUnwhole : RunEnd → Type 0 → Type 0
+IfUnwhole (Done written) P = Unit {0}
+IfUnwhole end P = P
+
+-- where desks tell which were asked for, these were, in this order
+abbrev pub AddsMade : Option (List Made) → Option (List Made) → List Made → Type 0
+AddsMade None None more = Unit {0}
+AddsMade None (Some ys) more = ⊥
+AddsMade (Some xs) None more = ⊥
+AddsMade (Some xs) (Some ys) more = ys ≡ xs ++ more
+
+-- desk 0 was asked for first, and then the first worker's at most, and this came of it
+pub record IsAtDesk (words : RunWords) (clock : Option ℕ) (before : OutsideValue) (flow : InputFlow) (after : OutsideValue) (made : MadeValue) : Type 0 where
+  pub told : Option Files
+  pub table : TableValue
+  pub workers : List TableValue
+  pub tables : made.tables ≡ table ∷ workers
+  pub few : length workers ≤ 1
+  pub more : List Made
+  pub desks : AddsMade before.made after.made (record { number = 0; files = told } ∷ more)
+  pub numbers : map (λ m. m.number) more ≡ range_with_len 1 (length workers)
+  pub ends : EndsRun words clock told flow table workers made made.end
+  pub none : IfUnwhole made.end (made.answers ≡ [])
+  pub objects : Leaves (made.end ≡ Memory) words.program made.journal before.programs after.programs made.wires
+
+-- nothing was asked of anything
+pub record IsIdle (before : OutsideValue) (flow : InputFlow) (after : OutsideValue) (made : MadeValue) : Type 0 where
+  pub outside : after ≡ before
+  pub unread : IsUnread flow
+  pub journal : made.journal ≡ []
+  pub answers : made.answers ≡ []
+  pub wires : made.wires ≡ []
+  pub tables : made.tables ≡ []
+
+-- so it is, or no memory was found for a desk
+abbrev pub HasDone : RunWords → Option ℕ → OutsideValue → InputFlow → OutsideValue → MadeValue → Type 0
+HasDone words clock before flow after made = ((made.end ≡ Memory) × IsIdle before flow after made) ⊎ IsAtDesk words clock before flow after made

@@ -1,0 +1,8 @@
+// The whole of a run: what it begins with, its tasks over one child at a time, and what is kept of it.
+#![tactic(auto)]
+
+mod doing;
+mod made;
+
+pub use doing::do_tasks;
+pub use made::{Made, RunEnd};
