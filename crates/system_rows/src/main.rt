@@ -31,8 +31,8 @@ fn said(alloc: Global, scene: &mut Scene, word: &str, rest: &str) -> Result<Stri
             Some(left) => left_text(alloc, left, word),
             None => Ok(String::new(alloc)),
         },
-        "kept" => match scene.left() {
-            Some(left) => kept(alloc, left, rest),
+        "kept" | "made" => match scene.left() {
+            Some(left) => content(alloc, left, word, rest),
             None => Ok(String::new(alloc)),
         },
         "words" => cli::command(alloc, scene::written_out(alloc, rest)?.as_str()),
@@ -46,9 +46,10 @@ fn said(alloc: Global, scene: &mut Scene, word: &str, rest: &str) -> Result<Stri
     }
 }
 
-// The text of the file of that name, as the last call left it.
-fn kept(alloc: Global, left: &Left, name: &str) -> Result<String, NoMemory> {
-    match left.tables.first() {
+// The text of the file of that name, as the last call left it: on desk 0, or on the worker's.
+fn content(alloc: Global, left: &Left, word: &str, name: &str) -> Result<String, NoMemory> {
+    let place = if word == "kept" { 0 } else { 1 };
+    match left.tables.get(place) {
         Some(desk) => match desk.content(name) {
             Some(bytes) => {
                 words::told(

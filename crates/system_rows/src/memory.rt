@@ -42,26 +42,24 @@ pub(crate) fn first_lines(alloc: Global, says: &str, count: usize) -> Result<Vec
     Ok(list)
 }
 
-/// One child that says these pieces, with reads and writes that fail.
-pub(crate) fn one_child(
+/// A child that says these pieces, with reads and writes that fail.
+pub(crate) fn child(
     alloc: Global,
     says: Vec<Bytes>,
     read_fails: &[u64],
     write_fails: &[u64],
-) -> Result<MemPrograms, NoMemory> {
-    let mut children = Vec::new(alloc);
-    children.push(MemChild {
+) -> Result<MemChild, NoMemory> {
+    Ok(MemChild {
         says,
         read_fails: Vec::from_slice(alloc, read_fails)?,
         write_fails: Vec::from_slice(alloc, write_fails)?,
-    })?;
-    Ok(MemPrograms::new(alloc, children, Vec::new(alloc)))
+    })
 }
 
-/// Programs whose first start fails.
-pub(crate) fn no_child(alloc: Global) -> Result<MemPrograms, NoMemory> {
-    let fails = Vec::from_slice(alloc, &[1])?;
-    Ok(MemPrograms::new(alloc, Vec::new(alloc), fails))
+/// A child that says this text at once.
+pub(crate) fn saying(alloc: Global, says: &str) -> Result<MemChild, NoMemory> {
+    let says = pieces(alloc, says, usize::MAX)?;
+    child(alloc, says, &[], &[])
 }
 
 /// The desk of a call: its files, each with its text, and which of its calls fail.
@@ -78,26 +76,37 @@ pub(crate) fn desk(
     MemDesk::new(alloc, list, Vec::from_slice(alloc, fails)?)
 }
 
-/// The call with the words between bars, where each write takes at most 7 bytes and those that are listed fail.
-pub(crate) fn run(
-    alloc: Global,
-    words: &str,
-    programs: MemPrograms,
-    desk: MemDesk,
-    out_fails: &[u64],
-) -> Result<Left, NoMemory> {
+/// The input of a call: its text, and which of its reads fail.
+pub(crate) fn input(alloc: Global, text: &str, fails: &[u64]) -> Result<MemSource, NoMemory> {
+    Ok(MemSource::new(pieces(alloc, text, 4096)?, Vec::from_slice(alloc, fails)?))
+}
+
+/// The objects of a call, where each write to out takes at most 7 bytes and those that are listed fail.
+#[derive(Drop)]
+pub(crate) struct Objects {
+    pub(crate) programs: MemPrograms,
+    pub(crate) desks: MemDesks,
+    pub(crate) input: MemSource,
+    pub(crate) out_fails: Vec<u64>,
+}
+
+/// The call with the words between bars.
+pub(crate) fn run(alloc: Global, words: &str, objects: Objects) -> Result<Left, NoMemory> {
     let words = words_of(alloc, words)?;
-    let mut input = MemSource::new(Vec::new(alloc), Vec::new(alloc));
-    let mut out = MemSink::new(alloc, 7, Vec::from_slice(alloc, out_fails)?);
+    let Objects {
+        programs,
+        desks,
+        mut input,
+        out_fails,
+    } = objects;
+    let mut out = MemSink::new(alloc, 7, out_fails);
     let mut err = MemSink::new(alloc, 7, Vec::new(alloc));
     let mut clock = MemClock::new(1_700_000_000_000_000);
-    let mut desks = Vec::new(alloc);
-    desks.push(desk)?;
     let closing = special(
         alloc,
         words.as_slice(),
         programs,
-        MemDesks::new(alloc, desks),
+        desks,
         &mut input,
         &mut out,
         &mut err,

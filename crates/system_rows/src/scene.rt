@@ -1,26 +1,34 @@
-// The child of the next call, and what the last call left.
-use crate::memory::{self, Left};
+// The objects of the next call, and what the last call left.
+use crate::memory::{self, Left, Objects};
 use crate::words;
 use ann_key::NoMemory;
-use ann_outside::MemPrograms;
+use ann_outside::{MemChild, MemDesks, MemPrograms};
 use std::alloc::Global;
 
 const KEY: &str = "SHA256E-s0--e3b0c44298fc1c149afbf4c8996fb92427ae41e4649b934ca495991b7852b855";
 
-/// The child of the next call: what it says, how much of it a read takes, and the calls that fail, by number.
+/// The objects of the next call. Of the first child what it says, how much of it a read takes, and the calls that fail, by
+/// number; of those behind it what they say.
 #[derive(Drop)]
 pub(crate) struct Scene {
     says: String,
+    more: Vec<String>,
     // Bytes a read; 0 for whole lines.
     bytes: usize,
     lines: usize,
-    starts: bool,
+    // The starts that fail; a child's end counts as well.
+    start_fails: Vec<u64>,
     read_fails: Vec<u64>,
     write_fails: Vec<u64>,
     out_fails: Vec<u64>,
     // The files of desk 0, and its calls that fail.
     files: Vec<(String, String)>,
     desk_fails: Vec<u64>,
+    // Those of the worker's desk.
+    worker_files: Vec<(String, String)>,
+    worker_fails: Vec<u64>,
+    input: String,
+    input_fails: Vec<u64>,
     left: Option<Left>,
 }
 
@@ -59,18 +67,30 @@ fn meant(letter: char) -> char {
     }
 }
 
+// A file: its name, a space, and its text.
+fn named_text(alloc: Global, rest: &str) -> Result<(String, String), NoMemory> {
+    let (name, text) = rest.split_once(' ').unwrap_or((rest, ""));
+    let name = String::from_str(alloc, name)?;
+    Ok((name, written_out(alloc, text)?))
+}
+
 impl Scene {
     pub(crate) fn new(alloc: Global) -> Scene {
         Scene {
             says: String::new(alloc),
+            more: Vec::new(alloc),
             bytes: usize::MAX,
             lines: usize::MAX,
-            starts: true,
+            start_fails: Vec::new(alloc),
             read_fails: Vec::new(alloc),
             write_fails: Vec::new(alloc),
             out_fails: Vec::new(alloc),
             files: Vec::new(alloc),
             desk_fails: Vec::new(alloc),
+            worker_files: Vec::new(alloc),
+            worker_fails: Vec::new(alloc),
+            input: String::new(alloc),
+            input_fails: Vec::new(alloc),
             left: None,
         }
     }
@@ -80,7 +100,7 @@ impl Scene {
         self.left.as_ref()
     }
 
-    /// Sets how the child is: `says` begins another.
+    /// Sets how the objects are: `says` begins another call, `then` another child of it.
     pub(crate) fn set(&mut self, alloc: Global, word: &str, rest: &str) -> Result<(), NoMemory> {
         match word {
             "says" => {
@@ -93,22 +113,19 @@ impl Scene {
                 self.bytes = 0;
                 self.lines = size(rest);
             }
-            "nostart" => self.starts = false,
+            "then" => self.more.push(written_out(alloc, rest)?)?,
+            "nostart" => self.start_fails.push(number(rest).max(1))?,
             "readfault" => self.read_fails.push(number(rest))?,
             "writefault" => self.write_fails.push(number(rest))?,
             "outfault" => self.out_fails.push(number(rest))?,
             "deskfault" => self.desk_fails.push(number(rest))?,
-            "file" => self.add_file(alloc, rest)?,
+            "file" => self.files.push(named_text(alloc, rest)?)?,
+            "worker" => self.worker_files.push(named_text(alloc, rest)?)?,
+            "workerfault" => self.worker_fails.push(number(rest))?,
+            "input" => self.input = written_out(alloc, rest)?,
+            "inputfault" => self.input_fails.push(number(rest))?,
             _ => {}
         }
-        Ok(())
-    }
-
-    // Puts a file on the desk: its name, a space, and its text.
-    fn add_file(&mut self, alloc: Global, rest: &str) -> Result<(), NoMemory> {
-        let (name, text) = rest.split_once(' ').unwrap_or((rest, ""));
-        let name = String::from_str(alloc, name)?;
-        self.files.push((name, written_out(alloc, text)?))?;
         Ok(())
     }
 
@@ -122,24 +139,43 @@ impl Scene {
     /// Calls the program with the words between bars, and tells its status and what it prints.
     pub(crate) fn call(&mut self, alloc: Global, words: &str) -> Result<String, NoMemory> {
         let words = written_out(alloc, words)?;
-        let programs = self.programs(alloc)?;
-        let desk = memory::desk(alloc, &self.files, &self.desk_fails)?;
-        let left = memory::run(alloc, words.as_str(), programs, desk, &self.out_fails)?;
+        let objects = Objects {
+            programs: self.programs(alloc)?,
+            desks: self.desks(alloc)?,
+            input: memory::input(alloc, self.input.as_str(), &self.input_fails)?,
+            out_fails: Vec::from_slice(alloc, &self.out_fails)?,
+        };
+        let left = memory::run(alloc, words.as_str(), objects)?;
         let said = said(alloc, &left)?;
         self.left = Some(left);
         Ok(said)
     }
 
-    fn programs(&self, alloc: Global) -> Result<MemPrograms, NoMemory> {
-        if !self.starts {
-            return memory::no_child(alloc);
-        }
+    // Desk 0 and the worker's.
+    fn desks(&self, alloc: Global) -> Result<MemDesks, NoMemory> {
+        let mut desks = Vec::new(alloc);
+        desks.push(memory::desk(alloc, &self.files, &self.desk_fails)?)?;
+        desks.push(memory::desk(alloc, &self.worker_files, &self.worker_fails)?)?;
+        Ok(MemDesks::new(alloc, desks))
+    }
+
+    fn first(&self, alloc: Global) -> Result<MemChild, NoMemory> {
         let says = if self.bytes == 0 {
             memory::first_lines(alloc, self.says.as_str(), self.lines)?
         } else {
             memory::pieces(alloc, self.says.as_str(), self.bytes)?
         };
-        memory::one_child(alloc, says, &self.read_fails, &self.write_fails)
+        memory::child(alloc, says, &self.read_fails, &self.write_fails)
+    }
+
+    fn programs(&self, alloc: Global) -> Result<MemPrograms, NoMemory> {
+        let mut children = Vec::new(alloc);
+        children.push(self.first(alloc)?)?;
+        for says in &self.more {
+            children.push(memory::saying(alloc, says.as_str())?)?;
+        }
+        let fails = Vec::from_slice(alloc, &self.start_fails)?;
+        Ok(MemPrograms::new(alloc, children, fails))
     }
 }
 

@@ -5,3 +5,5 @@
 mod real;
 #[cfg(test)]
 mod settings;
+#[cfg(test)]
+mod storing;
