@@ -48,6 +48,13 @@ pub(crate) fn edited(alloc: Global, text: &Text, edits: &str) -> Result<String, 
     found_of(alloc, bytes.as_slice(), 4096, 0)
 }
 
+/// What is found of the text with other lines.
+pub(crate) fn changed(alloc: Global, text: &Text, edits: &str) -> Result<String, NoMemory> {
+    let changed = text.changed(alloc, edits)?;
+    let bytes = changed.bytes(alloc, usize::MAX, false)?;
+    found_of(alloc, bytes.as_slice(), 4096, 0)
+}
+
 /// What is found of the first lines of the text, in pieces of a size, where a read fails.
 pub(crate) fn front(alloc: Global, text: &Text, rest: &str) -> Result<String, NoMemory> {
     let (count, rest) = words::cut(rest);

@@ -22,6 +22,7 @@ fn said(alloc: Global, text: &mut Text, word: &str, rest: &str) -> Result<String
             Ok(String::new(alloc))
         }
         "audit" => audits::edited(alloc, text, rest),
+        "lines" => audits::changed(alloc, text, rest),
         "front" => audits::front(alloc, text, rest),
         "within" => audits::within(alloc, text, rest),
         "tasks" => audits::tasks(alloc, rest),

@@ -32,22 +32,31 @@ impl Text {
         let first = self.first_entry();
         let _end = text.lines.pop();
         for edit in edits.split(" | ") {
-            text.edit(alloc, first, edit)?;
+            let (place, change) = words::cut(edit);
+            text.edit(alloc, first.saturating_add(words::size(place)), change)?;
         }
         let count = text.lines.len().saturating_sub(first);
         text.lines.push(format!(in alloc; "end {count}")?)?;
         Ok(text)
     }
 
-    fn edit(&mut self, alloc: Global, first: usize, edit: &str) -> Result<(), NoMemory> {
-        let (place, rest) = words::cut(edit);
-        let (sign, entry) = words::cut(rest);
-        let at = first.saturating_add(words::size(place));
+    /// The text with other lines, which are counted from 1. All else stays, its last line too.
+    pub(crate) fn changed(&self, alloc: Global, edits: &str) -> Result<Text, NoMemory> {
+        let mut text = self.copy(alloc)?;
+        for edit in edits.split(" | ") {
+            let (number, change) = words::cut(edit);
+            text.edit(alloc, words::size(number).saturating_sub(1), change)?;
+        }
+        Ok(text)
+    }
+
+    fn edit(&mut self, alloc: Global, at: usize, change: &str) -> Result<(), NoMemory> {
+        let (sign, line) = words::cut(change);
         if sign != "+" {
             self.take_out(at);
         }
         if sign == "+" || sign == "=" {
-            self.put_in(alloc, at, entry)?;
+            self.put_in(alloc, at, line)?;
         }
         Ok(())
     }
