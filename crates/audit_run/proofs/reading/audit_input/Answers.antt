@@ -13,7 +13,7 @@ returns-in_err-opening-clause-input g c =
       taken.0,
       taken.1,
       rw (p.1, p.2)
-      (fault_read limits taken.0 (g.S.Source.left c.args.source.now) (g.S.Source.left c.take_all.new.source) c.in_ok-intake.intake taken.2.0 taken.2.1 c.in_err-opening.field-0.0 (λ more m. c.in_err-opening.ensures limits taken.0 more taken.2.0 m)),
+          (fault_read limits taken.0 (g.S.Source.left c.args.source.now) (g.S.Source.left c.take_all.new.source) c.in_ok-intake.intake taken.2.0 taken.2.1 c.in_err-opening.field-0.0 (λ more m. c.in_err-opening.ensures limits taken.0 more taken.2.0 m)),
     )
 
 pub returns-in_err-opening-clause-told : goal.returns-in_err-opening-clause-told
@@ -46,7 +46,7 @@ returns-clause-input g c =
       taken.0,
       taken.1,
       found_read limits taken.0 (g.S.Source.left c.args.source.now) (g.S.Source.left c.take_all.new.source) c.in_ok-intake.intake taken.2.0 taken.2.1 c.in_ok-opening.opening c.in_ok-opening.journal c.in_ok-found.found (λ more m. comes limits taken.0 more taken.2.0 m)
-      c.in_ok-found.ensures.audit,
+          c.in_ok-found.ensures.audit,
     )
 
 pub returns-clause-told : goal.returns-clause-told
