@@ -1,0 +1,94 @@
+-- A run may begin with the opening of a text.
+use Rattle.std.proofs.Common.{◌≡◌, ℕ, zero, suc, ◌≤◌, Bool, true, false, not, cond, List, [], ◌∷◌, ◌++◌, Option, Some, None, length, get_or, refl, sym, ap, subst, ◌∙◌, arith}
+use mathlib.Core.Bool.{false≢true}
+use Rattle.std.specs.Prelude.{◌==◌, ◌||◌, All}
+use Rattle.std.specs.List.{list_any}
+use Rattle.std.specs.Str.{is_utf8}
+use Rattle.std.proofs.lemmas.Bool.{and_parts}
+use Rattle.std.proofs.lemmas.Bool.Decides.{nat_tests}
+use Rattle.std.proofs.lemmas.Option.{slice_get-get_or}
+use Rattle.uuid.specs.Text.{by_index, digit_place, hex_digit, hyphenated_text, is_hyphen_place, lower, nibble, parsed}
+use Rattle.annex_model.specs.Lines.{has_newline}
+use Rattle.reg_file.proofs.Tables.{same_bytes}
+use Rattle.task_text.specs.declared.task.Task.{Task}
+use Rattle.journal_model.specs.declared.entry.Entry.{Entry}
+use Rattle.journal_model.specs.declared.opening.Opening.{Opening}
+use Rattle.chunk_log.specs.ChunkLines.{IsWrittenUuid}
+use Rattle.task_text.specs.TaskLines.{IsTask}
+use Rattle.journal_model.specs.Beginnings.{MayBegin}
+use Rattle.journal_model.specs.Replies.{IsLineIdentity}
+use Rattle.journal_reader.specs.RunTexts.{is_text, is_uuid, is_written_uuid}
+use Rattle.audit_run.specs.Inputs.{IsTextOf}
+
+-- ---- a UUID as it is written
+
+abbrev no_end : ℕ → Bool
+no_end b = not (b == 10)
+
+hex_fits : (d : ℕ) → no_end (hex_digit lower d) ≡ true
+hex_fits d = grind (arith, nat_tests)
+
+one_more : (xs : List ℕ) (b : ℕ) → list_any (λ b. b == 10) xs ≡ false → no_end b ≡ true → list_any (λ b. b == 10) (xs ++ b ∷ []) ≡ false
+one_more [] b h end = go (b == 10) end
+  where
+    go : (s : Bool) → not s ≡ true → (s || false) ≡ false
+    go true h = absurd (false≢true h)
+    go false h = refl
+one_more (x ∷ xs) b h end = go (x == 10) h (λ rest. one_more xs b rest end)
+  where
+    go : (s : Bool) → (s || list_any (λ b. b == 10) xs) ≡ false → (list_any (λ b. b == 10) xs ≡ false → list_any (λ b. b == 10) (xs ++ b ∷ []) ≡ false)
+        → (s || list_any (λ b. b == 10) (xs ++ b ∷ [])) ≡ false
+    go true h rest = absurd (false≢true (sym h))
+    go false h rest = rest h
+
+index_fits : (n : ℕ) (f : ℕ → ℕ) → ((k : ℕ) → no_end (f k) ≡ true) → has_newline (by_index n f) ≡ false
+unfolding by_index
+index_fits zero f h = refl
+index_fits (suc n) f h = one_more (by_index n f) (f n) (index_fits n f h) (h n)
+
+uuid_fits : (bytes : List ℕ) → has_newline (hyphenated_text lower bytes) ≡ false
+uuid_fits bytes = index_fits 36 (λ k. cond (is_hyphen_place k) 45 (hex_digit lower (nibble bytes (digit_place k)))) (λ k. go (is_hyphen_place k) k)
+  where
+    go : (b : Bool) (k : ℕ) → no_end (cond b 45 (hex_digit lower (nibble bytes (digit_place k)))) ≡ true
+    go true k = refl
+    go false k = hex_fits (nibble bytes (digit_place k))
+
+written_fits : (text : List ℕ) (u : Option (List ℕ)) → is_written_uuid text u ≡ true → not (has_newline text) ≡ true
+written_fits text None h = absurd (false≢true h)
+written_fits text (Some u) h =
+    let same : hyphenated_text lower u ≡ text = same_bytes (hyphenated_text lower u) text h in
+    ap (λ (t : List ℕ). not (has_newline t)) (sym same) ∙ ap not (uuid_fits u)
+
+written_uuid : (text : List ℕ) (u : Option (List ℕ)) → parsed text ≡ u → is_written_uuid text u ≡ true → IsWrittenUuid text
+written_uuid text None e h = absurd (false≢true h)
+written_uuid text (Some u) e h = (u, e, sym (same_bytes (hyphenated_text lower u) text h))
+
+-- ---- the opening
+
+text_fits : (text : List ℕ) → is_text text ≡ true → not (has_newline text) ≡ true
+text_fits text h = (and_parts (is_utf8 text) (not (has_newline text)) h).1
+
+along : (a b : List ℕ) → a ≡ b → not (has_newline b) ≡ true → not (has_newline a) ≡ true
+along a b e h = ap (λ (t : List ℕ). not (has_newline t)) e ∙ h
+
+module _ (opening : Opening) (journal : List Entry) (lines : List (List ℕ)) (is : IsTextOf opening journal lines) where
+  few_tasks : length opening.tasks ≤ 65536
+  few_tasks = let same = ap (λ (ts : List Task). length ts) is.opening_is.tasks in let few = is.class.few in omega arith
+
+  all_tasks : All IsTask is.told.tasks
+  all_tasks k d below = is.class.tasks k (get_or is.told.tasks k d) (slice_get-get_or is.told.tasks k d below)
+
+  line_identity : IsLineIdentity opening.identity
+  line_identity = record {
+    uuid = along opening.identity.uuid is.told.uuid is.opening_is.uuid (written_fits is.told.uuid (parsed is.told.uuid) is.class.uuid);
+    name = along opening.identity.name is.told.name is.opening_is.name (text_fits is.told.name is.class.name);
+    gitdir = along opening.identity.gitdir is.told.gitdir is.opening_is.gitdir (text_fits is.told.gitdir is.class.gitdir);
+  }
+
+  pub may_begin : MayBegin opening
+  may_begin = record {
+    few = few_tasks;
+    tasks = subst (λ (ts : List Task). All IsTask ts) (sym is.opening_is.tasks) all_tasks;
+    lines = line_identity;
+    uuid = subst IsWrittenUuid (sym is.opening_is.uuid) (written_uuid is.told.uuid (parsed is.told.uuid) refl is.class.uuid);
+  }

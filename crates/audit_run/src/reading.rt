@@ -1,0 +1,79 @@
+// Reads an input and audits it.
+ghost use Rattle.std.specs.Prelude.{◌≡◌, ℕ, List, IfSome, true};
+ghost use Rattle.ann_outside.specs.Causes.{StaysUntold};
+ghost use Rattle.task_input.specs.Reads.{HasGiven};
+ghost use Rattle.audit_run.specs.Inputs.{ComesTo};
+ghost use Rattle.audit_run.specs.Reads.{IsCounted, IsRead};
+ghost use Rattle.audit_run.specs.Steps.{Holds, IsStep};
+
+use crate::error::AuditError;
+use crate::intake::Intake;
+use crate::limits::Limits;
+use ann_outside::{Failed, Source};
+use journal_audit::{Audit, audit};
+use std::alloc::Global;
+
+const STEP: usize = 4096;
+
+/// Reads the source to its end, or until it passes a limit, as the text of a run, and says of its journal whether it is legal.
+/// It takes memory for what the text tells, for one line, and for the audit.
+pub fn audit_input<S: Source>(
+    alloc: Global,
+    source: &mut S,
+    limits: &Limits,
+) -> Result<Audit, AuditError>
+    requires { S.is_open source.old ≡ true }
+    ensures input { (bytes : List ℕ) × HasGiven (S.given source.old) (S.given source.new) (S.left source.old) (S.left source.new) bytes × IsRead limits.now bytes (S.left source.new) result }
+    ensures told { IfSome (S.left source.old) (λ all. ComesTo limits.now all result) }
+    ensures faults { IsCounted (S.faults source.old) (S.faults source.new) result }
+    ensures silent { StaysUntold (S.given source.old) (S.given source.new) × StaysUntold (S.left source.old) (S.left source.new) }
+    ensures open { S.is_open source.new ≡ true }
+    ensures number { S.number source.new ≡ S.number source.old }
+{
+    let intake = take_all(alloc, source, limits)?;
+    let (opening, journal) = intake.finish()?;
+    let found = audit(alloc, &opening, &journal)?;
+    Ok(found)
+}
+
+// Takes what the source gives up to its end, or until a limit is passed.
+fn take_all<S: Source>(alloc: Global, source: &mut S, limits: &Limits) -> Result<Intake, AuditError>
+    requires { S.is_open source.old ≡ true }
+    ensures given { (bytes : List ℕ) × HasGiven (S.given source.old) (S.given source.new) (S.left source.old) (S.left source.new) bytes × Holds limits.now bytes (S.left source.new) result }
+    ensures faults { IsCounted (S.faults source.old) (S.faults source.new) result }
+    ensures silent { StaysUntold (S.given source.old) (S.given source.new) × StaysUntold (S.left source.old) (S.left source.new) }
+    ensures open { S.is_open source.new ≡ true }
+    ensures number { S.number source.new ≡ S.number source.old }
+{
+    let mut intake = Intake::new(alloc);
+    while !intake.past {
+        if !read_step(source, limits, &mut intake)? {
+            return Ok(intake);
+        }
+    }
+    Ok(intake)
+}
+
+// Reads once, and says whether there was something to read.
+fn read_step<S: Source>(
+    source: &mut S,
+    limits: &Limits,
+    intake: &mut Intake,
+) -> Result<bool, AuditError>
+    requires { S.is_open source.old ≡ true }
+    ensures given { (piece : List ℕ) × HasGiven (S.given source.old) (S.given source.new) (S.left source.old) (S.left source.new) piece × IsStep limits.now intake.old intake.new piece (S.left source.new) result }
+    ensures faults { IsCounted (S.faults source.old) (S.faults source.new) result }
+    ensures silent { StaysUntold (S.given source.old) (S.given source.new) × StaysUntold (S.left source.old) (S.left source.new) }
+    ensures open { S.is_open source.new ≡ true }
+    ensures number { S.number source.new ≡ S.number source.old }
+{
+    let mut piece = [0; STEP];
+    match source.read(&mut piece) {
+        Ok(0) => Ok(false),
+        Ok(n) => {
+            intake.take_piece(limits, &piece[..n])?;
+            Ok(true)
+        }
+        Err(Failed) => Err(AuditError::Failed),
+    }
+}
