@@ -2,4 +2,5 @@ pub mod Parsing
 pub mod Refusing
 pub mod Spelt
 pub mod Fits
+pub mod Ranging
 pub mod Numerals

@@ -3,6 +3,7 @@ pub mod Settings
 pub mod Grammar
 pub mod Words
 pub mod Identities
+pub mod Ranges
 pub mod Pages
 pub mod Refusals
 pub mod Texts

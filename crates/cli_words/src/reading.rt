@@ -1,6 +1,7 @@
 // Reads the words.
 ghost use Rattle.std.specs.Prelude.{◌≡◌, ◌<◌, IfOk, IfSome, length, option_map};
 ghost use Rattle.cli_words.specs.Identities.{IsFit};
+ghost use Rattle.cli_words.specs.Ranges.{HasRanges};
 ghost use Rattle.cli_words.specs.Values.{texts_of};
 ghost use Rattle.cli_words.specs.Words.{behind, check_of, command_of, info_of, init_of, is_help, of_command, page_alone, page_of, run_of};
 ghost use Rattle.cli_words.specs.declared.command.Command.TheVariants.{Run, Show};
@@ -18,6 +19,7 @@ use std::alloc::Global;
 pub fn command_of(alloc: Global, words: &[String]) -> Result<Option<Command>, NoMemory>
     ensures command { IfOk result (λ command. command ≡ command_of (texts_of words.now)) }
     ensures fit { IfOk result (λ command. IfSome command IsFit) }
+    ensures ranges { IfOk result (λ command. IfSome command HasRanges) }
 {
     command_in(alloc, words)
 }

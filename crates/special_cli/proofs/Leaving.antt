@@ -1,6 +1,6 @@
 -- What a run leaves of its programs and its child.
 use Rattle.std.proofs.Common.{◌≡◌, ◌⊎◌, inl, inr, ℕ, List, [], ◌∷◌, length, refl, sym, ap, subst, ◌∙◌, Bool, true, false, Some, None, Option, length-append}
-use Rattle.std.specs.Prelude.{IsTrue, map, filter_map, option_and_then, option_map}
+use Rattle.std.specs.Prelude.{IsTrue, filter_map, option_and_then, option_map}
 use Rattle.std.specs.List.{list_any}
 use Rattle.std.proofs.lemmas.List.{append-nil}
 use Rattle.ann_outside.specs.Starts.{Starts, IsNumbered}
@@ -99,11 +99,11 @@ fault_told program journal old new h a = subst (AddsAll old new) (sym (told_of_s
 -- ---- the wire
 
 -- the first wire that is laid is the only one
-pub one_laid : {A : Type 0} {f : A → WireValue} {ws : List A} {ear : EarValue} {mouth : MouthValue} {new : List WireValue} → ws ≡ [] → IsLaid ear mouth (map f ws) new → OneIsLeft ear mouth new
-one_laid {A} {f} {ws} {ear} {mouth} {new} none h = go (subst (λ (xs : List A). IsLaid ear mouth (map f xs) new) none h)
+pub one_laid : {ear : EarValue} {mouth : MouthValue} {old new : List WireValue} → IsLaid ear mouth old new → old ≡ [] → OneIsLeft ear mouth new
+one_laid {ear} {mouth} {old} {new} laid none = go (subst (λ (xs : List WireValue). IsLaid ear mouth xs new) none laid)
   where
     go : IsLaid ear mouth [] new → OneIsLeft ear mouth new
-    go laid = (laid.0, laid.1, laid.2)
+    go (wire, only, is) = (wire, only, is)
 
 of_start : (old new : Option Starts) (x : List ℕ × Bool) (n : Option ℕ) → AddsOne old new x → IsNumbered new n → IsOfStart old 1 n
 of_start old new x None a h = tt

@@ -22,7 +22,7 @@ returns-in-Over-clause-leaves g c =
     c.close_child.new.core.journal c.in-Over.link.ear c.in-Over.link.mouth _
     (closed_starts c.hold_talk.new.core.journal c.close_child.new.core.journal c.in-Over.link.ear.child c.in-Over.setup c.in-Over.ensures.talked c.close_child.ensures.closes)
     c.in-Over.ensures.starts c.finish.ensures.starts c.in-Over.ensures.numbers c.in-Over.ensures.talked.first c.in-Over.link.one_child
-    (c.close_child.ensures.wired c.in-Over.ensures.wired) (one_laid c.requires.none c.finish.ensures.laid)
+    (c.close_child.ensures.wired c.in-Over.ensures.wired) (one_laid c.finish.ensures.laid (ap (map _) c.requires.none))
 
 pub returns-in-StartFault-clause-asked : goal.returns-in-StartFault-clause-asked
 returns-in-StartFault-clause-asked g c = unstarted_setup c.hold_talk.new.core.journal c.in-StartFault.ensures.talked

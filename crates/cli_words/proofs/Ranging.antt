@@ -1,0 +1,128 @@
+-- The values of a run's words are in their ranges.
+use Rattle.std.proofs.Common.{◌≡◌, ◌≤◌, ℕ, Bool, true, false, not, cond, List, [], ◌∷◌, Option, Some, None, refl, arith}
+use mathlib.Core.Bool.{false≢true}
+use Rattle.std.specs.Prelude.{◌&&◌, nat_lt, length, option_map, codes, bytes_eq, IfSome}
+use Rattle.std.specs.List.{list_all}
+use Rattle.clap.specs.Kinds.{Kinds}
+use Rattle.clap.specs.Simple.{matches_of}
+use Rattle.clap.specs.Faults.{fault_of}
+use Rattle.clap.specs.Walk.{Row}
+use Rattle.annex_model.specs.Lines.{has_newline}
+use Rattle.cli_words.specs.Grammar.{is_without, run_grammar, value_at}
+use Rattle.cli_words.specs.Ranges.{HasRanges}
+use Rattle.cli_words.specs.Values.{has_end, is_text, is_word_of_command, number_in, uuid_in, IsNumberIn}
+use Rattle.cli_words.specs.Settings.{settings_in}
+use Rattle.cli_words.specs.Words.{are_texts, check_of, command_of, info_of, init_of, init_with, is_help, of_command, page_alone, page_of, run_from, run_of, run_with}
+use Rattle.cli_words.specs.declared.command.Command.{Command}
+use Rattle.cli_words.specs.declared.command.Command.TheVariants.{Run, Show}
+use Rattle.cli_words.specs.declared.command.Page.{Page}
+use Rattle.cli_words.specs.declared.settings.Setting.{Setting}
+use Rattle.cli_words.proofs.Numerals.{number_read}
+
+-- ---- a run
+
+both : (a b : Bool) → (a && b) ≡ true → (a ≡ true) × (b ≡ true)
+both true b h = (refl, h)
+both false b h = absurd (false≢true h)
+
+un_not : (b : Bool) → not b ≡ true → b ≡ false
+un_not true h = absurd (false≢true h)
+un_not false h = refl
+
+-- no line's end stands in a text
+text_whole : (text : List ℕ) → is_text text ≡ true → has_newline text ≡ false
+text_whole text h = un_not (has_newline text) (both (nat_lt 0 (length text)) (not (has_end text)) h).1
+
+abbrev Ranged : Option Command → Type 0
+Ranged o = IfSome o HasRanges
+
+-- the number that was read
+abbrev IsRead : ℕ → ℕ → Option ℕ → Type 0
+IsRead least most o = IfSome o (λ n. (least ≤ n) × (n ≤ most))
+
+read_in : (least most : ℕ) (text : List ℕ) → IsRead least most (number_in least most text)
+read_in least most text = go (number_in least most text) refl
+  where
+    go : (o : Option ℕ) → number_in least most text ≡ o → IsRead least most o
+    go None e = tt
+    go (Some n) e = let is : IsNumberIn least most text n = number_read least most text n e in (is.least_one, is.most_one)
+
+with_ranged : (rows : List Row) (uuid : Option (List ℕ)) (jobs chunk starts : Option ℕ) → IsRead 0 0 chunk → IsRead 1 16 starts
+    → has_newline (value_at rows (codes "work")) ≡ false → Ranged (option_map Run (run_with rows uuid jobs chunk starts))
+with_ranged rows (Some uuid) (Some jobs) (Some chunk) (Some starts) c s w =
+    let most = c.1 in
+    let least = s.0 in
+    record { whole = omega arith; some = omega arith; few = s.1; work = w }
+with_ranged rows (Some uuid) (Some jobs) (Some chunk) None c s w = tt
+with_ranged rows (Some uuid) (Some jobs) None starts c s w = tt
+with_ranged rows (Some uuid) None chunk starts c s w = tt
+with_ranged rows None jobs chunk starts c s w = tt
+
+from_ranged : (rows : List Row) → Ranged (option_map Run (run_from rows))
+from_ranged rows = go (are_texts rows) refl
+  where
+    go : (b : Bool) → are_texts rows ≡ b → Ranged (option_map Run (cond b (run_with rows (uuid_in (value_at rows (codes "uuid"))) (number_in 1 64 (value_at rows (codes "jobs")))
+        (number_in 0 0 (value_at rows (codes "chunk"))) (number_in 1 16 (value_at rows (codes "starts")))) None))
+    go false h = tt
+    go true h =
+        let behind_program = both (is_text (value_at rows (codes "program"))) _ h in
+        let behind_name = both (is_text (value_at rows (codes "name"))) _ behind_program.1 in
+        let behind_gitdir = both (is_text (value_at rows (codes "gitdir"))) _ behind_name.1 in
+        let work = both (is_text (value_at rows (codes "work"))) _ behind_gitdir.1 in
+        with_ranged rows (uuid_in (value_at rows (codes "uuid"))) (number_in 1 64 (value_at rows (codes "jobs"))) (number_in 0 0 (value_at rows (codes "chunk")))
+        (number_in 1 16 (value_at rows (codes "starts"))) (read_in 0 0 (value_at rows (codes "chunk"))) (read_in 1 16 (value_at rows (codes "starts")))
+        (text_whole (value_at rows (codes "work")) work.0)
+
+run_ranged : (words : List (List ℕ)) → Ranged (option_map Run (run_of words))
+unfolding run_of
+run_ranged words = go (fault_of run_grammar words) (matches_of run_grammar words)
+  where
+    go : (kinds : Kinds) (rows : List Row) → Ranged (option_map Run (cond (is_without kinds) (run_from rows) None))
+    go [] rows = from_ranged rows
+    go (k ∷ ks) rows = tt
+
+-- ---- commands
+
+either_ranged : (b : Bool) (x y : Option Command) → Ranged x → Ranged y → Ranged (cond b x y)
+either_ranged true x y p q = p
+either_ranged false x y p q = q
+
+show_ranged : (page : Option Page) → Ranged (option_map Show page)
+show_ranged None = tt
+show_ranged (Some page) = tt
+
+check_ranged : (words : List (List ℕ)) → Ranged (check_of words)
+check_ranged [] = tt
+check_ranged (program ∷ []) = tt
+check_ranged (program ∷ key ∷ []) = tt
+check_ranged (program ∷ key ∷ more ∷ words) = tt
+
+info_ranged : (words : List (List ℕ)) → Ranged (info_of words)
+info_ranged [] = tt
+info_ranged (program ∷ []) = tt
+info_ranged (program ∷ key ∷ []) = tt
+info_ranged (program ∷ key ∷ more ∷ words) = tt
+
+init_ranged : (words : List (List ℕ)) → Ranged (init_of words)
+init_ranged [] = tt
+init_ranged (program ∷ []) = tt
+init_ranged (program ∷ uuid ∷ []) = tt
+init_ranged (program ∷ uuid ∷ keep ∷ words) = go (uuid_in uuid) (settings_in words)
+  where
+    go : (written : Option (List ℕ)) (settings : Option (List Setting)) → Ranged (init_with program keep written settings)
+    go (Some uuid) (Some settings) = tt
+    go (Some uuid) None = tt
+    go None settings = tt
+
+pub command_ranged : (words : List (List ℕ)) → Ranged (command_of words)
+command_ranged [] = tt
+command_ranged (word ∷ []) = show_ranged (page_alone word)
+command_ranged (word ∷ next ∷ words) =
+    let rest : List (List ℕ) = next ∷ words in
+    either_ranged (is_help rest) (option_map Show (page_of word)) _ (show_ranged (page_of word))
+    (either_ranged (list_all is_word_of_command rest) (of_command word rest) None
+    (either_ranged (bytes_eq word (codes "check")) (check_of rest) _ (check_ranged rest)
+    (either_ranged (bytes_eq word (codes "info")) (info_of rest) _ (info_ranged rest)
+    (either_ranged (bytes_eq word (codes "init")) (init_of rest) _ (init_ranged rest)
+    (either_ranged (bytes_eq word (codes "run")) (option_map Run (run_of (word ∷ rest))) None (run_ranged (word ∷ rest)) tt))))
+    tt)

@@ -1,0 +1,18 @@
+-- In which ranges the values of a run's words are.
+use Rattle.std.specs.Prelude.{◌≡◌, ◌≤◌, ◌<◌, false}
+use Rattle.annex_model.specs.Lines.{has_newline}
+use Rattle.cli_words.specs.declared.command.Command.{Command}
+use Rattle.cli_words.specs.declared.command.Command.TheVariants.{Run}
+use Rattle.cli_words.specs.declared.command.RunWords.{RunWords}
+
+-- files are stored whole, a child may be started 1 to 16 times, and the folder's name holds no line's end
+pub record IsRanged (words : RunWords) : Type 0 where
+  pub whole : words.chunk ≡ 0
+  pub some : 0 < words.starts
+  pub few : words.starts ≤ 16
+  pub work : has_newline words.work ≡ false
+
+-- so it is, where the words are a run's
+abbrev pub HasRanges : Command → Type 0
+HasRanges (Run words) = IsRanged words
+HasRanges command = Unit {0}
