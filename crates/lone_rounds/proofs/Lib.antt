@@ -1,0 +1,12 @@
+pub mod Tests
+pub mod Apart
+pub mod Later
+pub mod Turns
+pub mod Zero
+pub mod Runs
+pub mod Stinting
+pub mod Unready
+pub mod Serving
+pub mod Growing
+pub mod Leaving
+pub mod Ending
