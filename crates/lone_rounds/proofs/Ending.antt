@@ -18,7 +18,9 @@ use Rattle.journal_model.specs.Wires.{Caused, Wired, is_heard_in_turn}
 use Rattle.journal_model.proofs.Ears.{halves_wire}
 use Rattle.journal_model.proofs.Looks.{any-append, each_of-append}
 use Rattle.journal_model.proofs.Testing.{all-each, all-join, neither}
+use Rattle.host_core.specs.CoreValue.{CoreValue}
 use Rattle.host_core.specs.Steps.{are_all_claimed, unclaimed}
+use Rattle.child_start.specs.Cores.{IsSameCore}
 use Rattle.task_run.specs.declared.setup.Setup.{Setup}
 use Rattle.task_run.specs.TaskRuns.{failed_start}
 use Rattle.lone_work.specs.Works.{DeskTells}
@@ -26,13 +28,14 @@ use Rattle.child_end.specs.Wires.{AreWires, IsWire, WireValue, came, came_in}
 use Rattle.child_end.specs.Programs.{AddsAll, HaveStarted as HaveStartedSo, Leaves, ProgramsValue, is_failed_start, told}
 use Rattle.lone_rounds.specs.Starting.{AllOffer, AreEnded, AreSpent, children, is_any_start, is_elsewhere, is_offered, is_ready_untagged, is_spent, started_in}
 use Rattle.lone_rounds.specs.Rounds.{RanAlone, ZeroAnswers, ends_for_memory, is_of_run, left_answer, start_untaken}
-use Rattle.lone_rounds.specs.Stints.{AnswersLeft, AreLinked, AreUpTo, Between, HasStarted, IsLinked, IsOver, Kept, KeptOr, MayHaveAsked, TasksDone, answered_so, ear_of, main_entry, mouth_of}
+use Rattle.lone_rounds.specs.Stints.{AnswersLeft, AreLinked, AreUpTo, Between, HasStarted, IsLinked, IsOver, Kept, KeptOr, MayHaveAsked, OneStart, Stint, TasksDone, answered_so, ear_of, main_entry, mouth_of}
 use Rattle.lone_rounds.proofs.Apart.{ended_on, ready_same, spent_on}
-use Rattle.lone_rounds.proofs.Leaving.{adds_both, adds_none, adds_one, kept_still, rose_on, stays_none}
+use Rattle.lone_rounds.proofs.Growing.{apart, between_next, starts_none}
+use Rattle.lone_rounds.proofs.Leaving.{adds_both, adds_none, adds_one, kept_next, kept_still, rose_on, stays_none}
 use Rattle.lone_rounds.proofs.Runs.{IsOfNoCall, all_runs, done_both, done_join, done_nothing, done_zero}
-use Rattle.lone_rounds.proofs.Tests.{any_same, children_up_to, count-append, count_none, no_children, none_came, none_left, offers_both, offers_none, or_false, some_left}
+use Rattle.lone_rounds.proofs.Tests.{any_same, children_up_to, count-append, count_fewer, count_none, no_children, none_came, none_left, offers_both, offers_none, or_false, some_left}
 use Rattle.lone_rounds.proofs.Turns.{claim_takes, none_fails}
-use Rattle.lone_rounds.proofs.Zero.{rests_one}
+use Rattle.lone_rounds.proofs.Zeros.{rests_one}
 
 -- ---- the begin
 
@@ -180,7 +183,7 @@ module _ {o : Opening} {setup : Setup} {limit made : ℕ} {offer : Bool} {old ne
       done_now = subst (λ (j : List Entry). TasksDone o setup limit j j desk0 desk) (sym a.is) (done_both o setup limit old more old more desk0 desk desk b.legal b.rest b.done its)
 
   pub kept_left : {program : List ℕ} {start after : ProgramsValue} {wires : List WireValue} → Kept program old start after wires → Kept program new start after wires
-  kept_left k = kept_still k b.few a.is none (left_apart (left_answer old) a.tasks)
+  kept_left k = kept_still k b.few new more a.is none (left_apart (left_answer old) a.tasks)
 
 -- ---- what a run leaves
 
@@ -251,3 +254,23 @@ over_spent {o} {setup} {limit} {made} {offer} {journal} b over left = (first ove
     second : AreSpent journal ⊎ (are_all_claimed o journal ≡ true) → AreSpent journal
     second (inl s) = s
     second (inr all) = absurd (let bad : true ≡ false = sym all ∙ left in cc)
+
+-- ---- in the run
+
+pub few_starts : {o : Opening} {setup : Setup} {limit made : ℕ} {offer : Bool} {journal : List Entry} {desk desk' : DeskTells} → Between o setup limit made offer journal desk desk' → made ≤ 16 → count is_start journal < 4294967295
+few_starts {journal = journal} b le = (let n = b.starts in let m = count_fewer is_start is_any_start starting journal in omega (arith, n, m, le))
+  where
+    starting : (w : What) → is_start w ≡ true → is_any_start w ≡ true
+    starting (Start child slot offers) h = refl
+    starting w h = absurd cc
+
+pub cores_both : {a b c : CoreValue} → IsSameCore a b → IsSameCore b c → IsSameCore a c
+cores_both h k = record { opening = k.opening ∙ h.opening; legal = λ l. k.legal (h.legal l) }
+
+-- one start more, of a core under another name
+pub next_start : (o p : Opening) (setup : Setup) (limit made : ℕ) (offer next : Bool) (program : List ℕ) (old new : List Entry) (desk0 desk desk' : DeskTells) (start before after : ProgramsValue) (wires wires' : List WireValue) → p ≡ o
+    → Between o setup limit made offer old desk0 desk → Kept program old start before wires → OneStart p setup limit offer next program old new desk desk' before after wires wires' → Legal o new
+    → Between o setup limit (made + 1) next new desk0 desk' × Kept program new start after wires'
+next_start o p setup limit made offer next program old new desk0 desk desk' start before after wires wires' same_opening b k (first, stint, objects) legal =
+    let s : Stint o setup limit offer next first old new desk desk' = subst (λ (q : Opening). Stint q setup limit offer next first old new desk desk') same_opening stint in
+    (between_next s b legal, kept_next k b.few new first s.later after wires' s.is (starts_none s) (apart s) objects)

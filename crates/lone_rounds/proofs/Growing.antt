@@ -1,5 +1,5 @@
 -- A run between two starts, and what one start more makes of it.
-use Rattle.std.proofs.Common.{◌≡◌, ◌≢◌, ◌⊎◌, ℕ, ◌+◌, ◌<◌, ◌≤◌, ◌-◌, ◌^◌, List, [], ◌∷◌, ◌++◌, refl, sym, ap, subst, ◌∙◌, append_assoc, append-nil, length, length-append, Bool, true, false, not, ◌==◌, cond, Some, None, Option, arith, inl, inr}
+use Rattle.std.proofs.Common.{◌≡◌, ◌≢◌, ◌⊎◌, ℕ, suc, ◌+◌, ◌<◌, ◌≤◌, ◌-◌, ◌^◌, List, [], ◌∷◌, ◌++◌, refl, sym, ap, subst, ◌∙◌, append_assoc, append-nil, length, length-append, Bool, true, false, not, ◌==◌, cond, Some, None, Option, arith, inl, inr}
 use Rattle.std.specs.Prelude.{◌&&◌, ◌||◌, filter}
 use Rattle.std.specs.List.{list_all, list_any, cons_option}
 use Rattle.std.proofs.lemmas.List.Folds.{list_any-append}
@@ -114,7 +114,7 @@ module _ {o : Opening} {setup : Setup} {limit : ℕ} {offer next : Bool} {first 
       ap (count is_any_start) s.is ∙ count-append is_any_start old tail ∙ ap (λ (n : ℕ). count is_any_start old + n) more
     where
       count_one : (b : Bool) → b ≡ true → length (cond b (main_entry first ∷ filter (λ (e : Entry). is_any_start e.what) s.later) (filter (λ (e : Entry). is_any_start e.what) s.later)) ≡ 1
-      count_one true e = (let none = count_none is_any_start s.later starts_none in ap (λ (n : ℕ). n + 1) none)
+      count_one true e = (let none = count_none is_any_start s.later starts_none in ap (λ (n : ℕ). suc n) none)
       count_one false e = absurd cc
 
   pub starts_are : count is_start new ≡ count is_start old + count is_start (main_entry first ∷ [])

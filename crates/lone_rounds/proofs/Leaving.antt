@@ -60,9 +60,14 @@ pub adds_both : (a b c : Option Starts) (xs ys : Starts) → AddsAll a b xs → 
 adds_both None None None xs ys h k = tt
 adds_both None None (Some zs) xs ys h k = absurd k
 adds_both None (Some bs) c xs ys h k = absurd h
-adds_both (Some as) None c xs ys h k = absurd h
-adds_both (Some as) (Some bs) None xs ys h k = absurd k
-adds_both (Some as) (Some bs) (Some cs) xs ys h k = k ∙ ap (λ (l : Starts). l ++ ys) h ∙ append_assoc as xs ys
+adds_both (Some us) None c xs ys h k = absurd h
+adds_both (Some us) (Some vs) None xs ys h k = absurd k
+adds_both (Some us) (Some vs) (Some ws) xs ys h k = k ∙ ap (λ (l : Starts). l ++ ys) h ∙ append_assoc us xs ys
+
+-- the program is named otherwise
+pub may_ask : {p q : List ℕ} (before after : ProgramsValue) → p ≡ q → Stays before.starts after.starts ⊎ ((b : Bool) × AddsOne before.starts after.starts (p, b)) → Stays before.starts after.starts ⊎ ((b : Bool) × AddsOne before.starts after.starts (q, b))
+may_ask before after e (inl s) = inl s
+may_ask before after e (inr (b, a)) = inr (b, subst (λ (x : List ℕ). AddsOne before.starts after.starts (x, b)) e a)
 
 -- ---- the numbers of starts
 
@@ -91,8 +96,8 @@ as_many program [] = refl
 as_many program (e ∷ journal) = go e.what (as_many program journal)
   where
     go : (w : What) → length (told program journal) ≡ length (came journal) → length (cons_option (told_in program w) (told program journal)) ≡ length (cons_option (came_in w) (came journal))
-    go (Start child slot offer) r = ap (λ (n : ℕ). n + 1) r
-    go (NoStart slot) r = ap (λ (n : ℕ). n + 1) r
+    go (Start child slot offer) r = ap (λ (n : ℕ). suc n) r
+    go (NoStart slot) r = ap (λ (n : ℕ). suc n) r
     go w r = r
 
 untold : (program : List ℕ) (w : What) → is_any_start w ≡ false → told_in program w ≡ None
@@ -135,12 +140,12 @@ pub linked_both : (starts : Option Starts) (journal : List Entry) (n : ℕ) (cs 
     → AreLinked starts journal n (cs ++ ds) (ws ++ vs)
 linked_both starts journal n [] ds [] vs h k = subst (λ (m : ℕ). AreLinked starts journal m ds vs) (let e : n + 0 ≡ n = omega arith in e) k
 linked_both starts journal n [] ds (w ∷ ws) vs h k = absurd h
-linked_both starts journal n (None ∷ cs) ds ws vs h k = linked_both starts journal (n + 1) cs ds ws vs h (subst (λ (m : ℕ). AreLinked starts journal m ds vs) (let e : n + (length cs + 1) ≡ (n + 1) + length cs = omega arith in e) k)
+linked_both starts journal n (None ∷ cs) ds ws vs h k = linked_both starts journal (n + 1) cs ds ws vs h (subst (λ (m : ℕ). AreLinked starts journal m ds vs) (let e : n + suc (length cs) ≡ (n + 1) + length cs = omega arith in e) k)
 linked_both starts journal n (Some c ∷ cs) ds [] vs h k = absurd h
 linked_both starts journal n (Some c ∷ cs) ds (w ∷ ws) vs h k = (
   h.0,
   h.1,
-  linked_both starts journal (n + 1) cs ds ws vs h.2 (subst (λ (m : ℕ). AreLinked starts journal m ds vs) (let e : n + (length cs + 1) ≡ (n + 1) + length cs = omega arith in e) k),
+  linked_both starts journal (n + 1) cs ds ws vs h.2 (subst (λ (m : ℕ). AreLinked starts journal m ds vs) (let e : n + suc (length cs) ≡ (n + 1) + length cs = omega arith in e) k),
 )
 
 -- ---- one start
@@ -195,11 +200,11 @@ starts_none program journal before after wires wires' adds rose le same = record
 
 -- ---- all that is kept
 
-module _ {program : List ℕ} {old : List Entry} {start before after : ProgramsValue} {wires : List WireValue} (k : Kept program old start before wires) (up_to : AreUpTo (count is_start old) (came old)) where
+module _ {program : List ℕ} {old : List Entry} {start before : ProgramsValue} {wires : List WireValue} (k : Kept program old start before wires) (up_to : AreUpTo (count is_start old) (came old)) where
   -- behind one start more
-  pub kept_next : {new : List Entry} {first : What} {later : List Entry} {wires' : List WireValue} → new ≡ old ++ main_entry first ∷ later → any is_any_start later ≡ false
+  pub kept_next : (new : List Entry) (first : What) (later : List Entry) (after : ProgramsValue) (wires' : List WireValue) → new ≡ old ++ main_entry first ∷ later → any is_any_start later ≡ false
       → ((d : ℕ) → d ≤ count is_start old → any (is_of_child d) (main_entry first ∷ later) ≡ false) → StartsOne program new first before after wires wires' → Kept program new start after wires'
-  kept_next {new} {first} {later} {wires'} is none apart s = record {
+  kept_next new first later after wires' is none apart s = record {
     linked = subst (AreLinked start.starts new 0 (came new)) (sym s.laid) (subst (λ (cs : List (Option ℕ)). AreLinked start.starts new 0 cs (wires ++ s.new)) (sym came_new)
         (linked_both start.starts new 0 (came old) (came (main_entry first ∷ [])) wires s.new earlier (here first s.new s.linked)));
     started = subst (AddsAll start.starts after.starts) (sym told_new) (adds_both start.starts before.starts after.starts (told program old) (told program (main_entry first ∷ [])) k.started s.adds);
@@ -256,8 +261,8 @@ module _ {program : List ℕ} {old : List Entry} {start before after : ProgramsV
               go true b d x y z = absurd cc
 
   -- behind entries that start nothing and are of no child
-  pub kept_still : {new more : List Entry} → new ≡ old ++ more → any is_any_start more ≡ false → ((d : ℕ) → any (is_of_child d) more ≡ false) → Kept program new start before wires
-  kept_still {new} {more} is none apart = record {
+  pub kept_still : (new more : List Entry) → new ≡ old ++ more → any is_any_start more ≡ false → ((d : ℕ) → any (is_of_child d) more ≡ false) → Kept program new start before wires
+  kept_still new more is none apart = record {
     linked = subst (λ (cs : List (Option ℕ)). AreLinked start.starts new 0 cs wires) (sym came_new)
         (subst (λ (j : List Entry). AreLinked start.starts j 0 (came old) wires) (sym is) (linked_on start.starts old more (count is_start old) (λ d le. apart d) 0 (came old) wires up_to k.linked));
     started = subst (AddsAll start.starts before.starts) (sym told_new) k.started;

@@ -2,11 +2,12 @@ pub mod Tests
 pub mod Apart
 pub mod Later
 pub mod Turns
-pub mod Zero
+pub mod Zeros
 pub mod Runs
 pub mod Stinting
 pub mod Unready
-pub mod Serving
+pub mod Served
 pub mod Growing
 pub mod Leaving
 pub mod Ending
+pub mod Scanning

@@ -13,7 +13,6 @@ use Rattle.journal_model.specs.declared.opening.Opening.{Opening}
 use Rattle.journal_model.specs.Legality.{Legal, is_busy}
 use Rattle.journal_model.specs.Output.{answer_in, answers_in}
 use Rattle.journal_model.proofs.Looks.{each_of-append}
-use Rattle.fetch_copy.proofs.CopyLaws.{gained_nothing, gained_more}
 use Rattle.task_run.specs.declared.setup.Setup.{Setup}
 use Rattle.task_run.specs.Ran.{HasTaskCauses, may_follow_refusal}
 use Rattle.task_run.specs.TaskRuns.{failed_start}
@@ -84,6 +83,14 @@ answers_both (r ∷ xs) ys = ap (λ (l : List (ℕ × Answer)). (r.task, r.answe
 caused_both : (a b d : Counts) (xs ys : List TaskDone) → CausedInTurn a xs b → CausedInTurn b ys d → CausedInTurn a (xs ++ ys) d
 caused_both a b d [] ys h k = subst (λ (w : Counts). CausedInTurn w ys d) h k
 caused_both a b d (r ∷ xs) ys h k = (h.0, caused_both r.counts b d xs ys h.1 k)
+
+gained_nothing : (log : Option (List Call)) → Gained log log []
+gained_nothing None = refl
+gained_nothing (Some calls) = ap (λ (l : List Call). Some l) (sym (append-nil calls))
+
+gained_more : (a b d : Option (List Call)) (xs ys : List Call) → Gained a b xs → Gained b d ys → Gained a d (xs ++ ys)
+gained_more None b d xs ys h k = k ∙ ap (λ (o : Option (List Call)). option_map (λ (log : List Call). log ++ ys) o) h
+gained_more (Some calls) b d xs ys h k = k ∙ ap (λ (o : Option (List Call)). option_map (λ (log : List Call). log ++ ys) o) h ∙ ap (λ (l : List Call). Some l) (append_assoc calls xs ys)
 
 -- ---- one stretch behind another
 

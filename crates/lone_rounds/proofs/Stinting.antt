@@ -18,13 +18,18 @@ use Rattle.journal_model.proofs.Looks.{any-append, both, same}
 use Rattle.journal_model.proofs.Testing.{all-join, or_left, or_right}
 use Rattle.journal_model.proofs.Working.{holder_apart}
 use Rattle.link_roles.specs.Alone.{Closes}
+use Rattle.link_roles.proofs.Linked.{link_apart}
 use Rattle.link_roles.proofs.Solo.{closed_over}
+use Rattle.child_start.proofs.Jobs.{idle_on}
+use Rattle.journal_model.specs.Halves.{EarValue, LinkWired, MouthValue}
+use Rattle.journal_model.specs.declared.answer.Answer.{Answer}
 use Rattle.child_start.specs.Greetings.{Greeted, IsReady, is_greeting_line, is_of_greeting}
 use Rattle.lone_work.specs.Works.{CanWork, by_worker, claimed_task, claims_in}
 use Rattle.lone_rounds.specs.Rounds.{is_of_run}
-use Rattle.lone_rounds.specs.Stints.{in_stint, main_entry, next_child}
+use Rattle.lone_rounds.specs.Stints.{AnswersOne, in_stint, main_entry, next_child}
 use Rattle.lone_rounds.proofs.Later.{all_work, greeting_asks, late}
 use Rattle.lone_rounds.proofs.Tests.{each_none, any_none}
+use Rattle.lone_rounds.proofs.Zeros.{rests_one}
 
 -- ---- a part
 
@@ -151,7 +156,7 @@ worker_part c xs only own later = record {
   asks = all_work c xs only later;
 }
 
-pub zero_part : (c t : ℕ) (answer : _) → Part c (main_entry (Claim t 0) ∷ main_entry (Answered t answer) ∷ [])
+pub zero_part : (c t : ℕ) (answer : Answer) → Part c (main_entry (Claim t 0) ∷ main_entry (Answered t answer) ∷ [])
 zero_part c t answer = record { within = refl; main = refl; asks = refl }
 
 -- ---- the closing
@@ -199,3 +204,18 @@ may_close past c idle rest = rw (idle, none (each_of (claimed_for c) past)) refl
     none : (ts : List ℕ) → list_any (is_busy_with past c) ts ≡ false
     none [] = refl
     none (t ∷ ts) = rw (unheld (holder past t) (rest t), none ts) refl
+
+-- ---- one task without a child
+
+module _ (o : Opening) (old mid : List Entry) (answer : Answer) where
+  pub one_idle : (c : ℕ) (b : Bool) → AnswersOne o old mid answer b → open_jobs old c ≡ [] → open_jobs mid c ≡ []
+  one_idle c true a idle = ap (λ (j : List Entry). open_jobs j c) a.2 ∙ idle_on old (main_entry (Claim a.0 0) ∷ main_entry (Answered a.0 answer) ∷ []) c refl idle
+  one_idle c false a idle = ap (λ (j : List Entry). open_jobs j c) a.0 ∙ idle
+
+  pub one_rests : (b : Bool) → AnswersOne o old mid answer b → ((t : ℕ) → is_busy old t ≡ false) → (t : ℕ) → is_busy mid t ≡ false
+  one_rests true a rest t = ap (λ (j : List Entry). is_busy j t) a.2 ∙ rests_one old a.0 answer rest t
+  one_rests false a rest t = ap (λ (j : List Entry). is_busy j t) a.0 ∙ rest t
+
+  pub one_wired : (e : EarValue) (m : MouthValue) → m.child ≡ e.child → (b : Bool) → AnswersOne o old mid answer b → LinkWired old e m → LinkWired mid e m
+  one_wired e m one true a w = subst (λ (j : List Entry). LinkWired j e m) (sym a.2) (link_apart old (main_entry (Claim a.0 0) ∷ main_entry (Answered a.0 answer) ∷ []) e m one refl refl w)
+  one_wired e m one false a w = subst (λ (j : List Entry). LinkWired j e m) (sym a.0) w

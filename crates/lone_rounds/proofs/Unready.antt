@@ -34,7 +34,7 @@ use Rattle.lone_rounds.proofs.Runs.{IsOfNoCall, done_same, done_zero}
 use Rattle.lone_rounds.proofs.Stinting.{Closing, Part, closing, closing_part, closing_rests, greeting_claims_none, greeting_gives_none, greeting_part, greeting_rests, greeting_takes_none, of_closing, part_both, zero_part}
 use Rattle.lone_rounds.proofs.Tests.{claimed_same, each_none}
 use Rattle.lone_rounds.proofs.Turns.{child_untaken, claim_takes, fault_untaken, none_fails}
-use Rattle.lone_rounds.proofs.Zero.{rests_one}
+use Rattle.lone_rounds.proofs.Zeros.{rests_one}
 
 pub and_true : (b : Bool) → b ≡ (b && true)
 and_true true = refl
@@ -188,7 +188,7 @@ module _ (o : Opening) (setup : Setup) (limit : ℕ) (offer : Bool) (old g new :
   fault_left : are_all_claimed o g ≡ false
   fault_left = ap (are_all_claimed o) failed ∙ claimed_same o old (main_entry (NoStart 0) ∷ []) (λ t. refl) ∙ left
 
-  fault_rests : (t : ℕ) → is_busy g t ≡ false
+  pub fault_rests : (t : ℕ) → is_busy g t ≡ false
   fault_rests t = ap (λ (j : List Entry). is_busy j t) failed ∙ closing_free t
     where
       closing_free : (u : ℕ) → is_busy (old ++ main_entry (NoStart 0) ∷ []) u ≡ false

@@ -25,7 +25,7 @@ use Rattle.lone_work.specs.Works.{CanWork, DeskTells, TaskDone, Worked, CausedIn
 use Rattle.child_end.specs.Wires.{WireValue, IsOfStart, came}
 use Rattle.child_end.specs.Programs.{ProgramsValue, AddsAll, is_failed_start, told}
 use Rattle.lone_rounds.specs.Starting.{AllOffer, AreEnded, AreSpent, children, is_any_start, is_elsewhere, is_offered, is_ready_untagged, is_spent, started_in}
-use Rattle.lone_rounds.specs.Rounds.{HasRun, is_of_run, start_untaken}
+use Rattle.lone_rounds.specs.Rounds.{HasRun, ends_for_memory, is_of_run, start_untaken}
 
 -- an entry of the main thread's own
 abbrev pub main_entry : What → Entry
@@ -42,6 +42,11 @@ ClaimsZero o old new None = (new ≡ old) × (are_all_claimed o old ≡ true)
 abbrev pub AnswersOne : Opening → List Entry → List Entry → Answer → Bool → Type 0
 AnswersOne o old new answer true = (t : ℕ) × (least_free o old ≡ Some t) × (new ≡ old ++ main_entry (Claim t 0) ∷ main_entry (Answered t answer) ∷ [])
 AnswersOne o old new answer false = (new ≡ old) × (are_all_claimed o old ≡ true)
+
+-- there is such an entry, which ends a child for want of memory
+abbrev pub is_memory_end : Option Entry → Bool
+is_memory_end None = false
+is_memory_end (Some e) = ends_for_memory e.what
 
 -- these tasks, one after the other
 abbrev pub answered_so : Answer → List ℕ → List Entry

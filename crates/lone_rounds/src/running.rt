@@ -1,6 +1,5 @@
-ghost use Rattle.std.specs.Prelude.{◌≡◌, ◌≤◌, ◌<◌, [], map, IsErr, vec_capacity};
+ghost use Rattle.std.specs.Prelude.{◌≡◌, ◌≤◌, ◌<◌, [], map, IsErr, vec_capacity, false};
 ghost use Rattle.annex_model.specs.Lines.{has_newline};
-ghost use Rattle.journal_model.specs.Legality.{Legal};
 ghost use Rattle.child_start.specs.Cores.{IsSameCore};
 ghost use Rattle.child_end.specs.Wires.{wire_value};
 ghost use Rattle.child_end.specs.Programs.{Leaves, programs_value};

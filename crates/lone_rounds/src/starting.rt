@@ -1,5 +1,5 @@
 // The starts of a run: one child after the other.
-ghost use Rattle.std.specs.Prelude.{◌≡◌, ◌≤◌, ◌<◌, ◌+◌, ℕ, [], map, Some, is_some, option_map, true, false, MatchResult, vec_len, vec_capacity};
+ghost use Rattle.std.specs.Prelude.{◌≡◌, ◌≤◌, ◌<◌, ◌+◌, ◌&&◌, ℕ, [], map, Some, is_some, option_map, true, false, MatchResult, vec_len, vec_capacity};
 ghost use Rattle.annex_model.specs.Lines.{has_newline};
 ghost use Rattle.journal_model.specs.declared.answer.Answer.TheVariants.{NotPrepared};
 ghost use Rattle.journal_model.specs.Legality.{Legal, count, is_busy, is_start};
@@ -33,6 +33,13 @@ fn not_prepared(verdict: Verdict) -> Answer
         Verdict::Failed { at } | Verdict::Unsupported { at } => Answer::NotPrepared { at },
         _ => unreachable!(),
     }
+}
+
+// Whether ASYNC is offered behind a child that is ready, tagged or not.
+fn is_offered(offer: bool, tagged: bool) -> bool
+    ensures { result ≡ (offer && tagged) }
+{
+    offer && tagged
 }
 
 // Starts one child and lets it do tasks. One task is answered by what came of a start that gave no child that is ready. Whether
@@ -72,7 +79,7 @@ where
         } => {
             serve(alloc, tasks, &plan.setup, &mut link, core, desk);
             finish(programs, link, stub, wires);
-            Ok(offer && tagged)
+            Ok(is_offered(offer, tagged))
         }
         Greeting::Refused {
             verdict,

@@ -1,16 +1,20 @@
 // Whether want of memory ended a child of a run.
-ghost use Rattle.std.specs.Prelude.{◌≡◌, ◌<◌, Some, None, option_map, true, false, length, slice_get};
+ghost use Rattle.std.specs.Prelude.{◌≡◌, option_map};
 ghost use Rattle.journal_model.specs.Journal.{any};
-ghost use Rattle.journal_look.specs.Shown.{what_shown};
+ghost use Rattle.journal_look.specs.Shown.{entry_shown};
 ghost use Rattle.lone_rounds.specs.Rounds.{ends_for_memory};
+ghost use Rattle.lone_rounds.specs.Stints.{is_memory_end};
 
-use journal_look::{Journal, WhatRef};
+use journal_look::{EntryRef, Journal, WhatRef};
 use journal_model::Why;
 
-fn ends_for_memory(what: WhatRef<'_>) -> bool
-    ensures { result ≡ ends_for_memory (what_shown what.entry) }
+fn is_memory_end(entry: Option<EntryRef<'_>>) -> bool
+    ensures { result ≡ is_memory_end (option_map entry_shown entry) }
 {
-    matches!(what, WhatRef::End { why: Why::Memory, .. })
+    match entry {
+        Some(entry) => matches!(entry.what, WhatRef::End { why: Why::Memory, .. }),
+        None => false,
+    }
 }
 
 /// Whether a child ended for want of memory.
@@ -18,10 +22,8 @@ pub(crate) fn is_starved(journal: &Journal) -> bool
     ensures { result ≡ any ends_for_memory journal.now.entries }
 {
     'entries: for at in 0..journal.len() {
-        if let Some(entry) = journal.entry(at) {
-            if ends_for_memory(entry.what) {
-                return true;
-            }
+        if is_memory_end(journal.entry(at)) {
+            return true;
         }
     }
     false

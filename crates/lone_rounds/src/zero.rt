@@ -1,7 +1,6 @@
 // Tasks that are claimed without a child, and answered at once.
 ghost use Rattle.std.specs.Prelude.{◌≡◌, ◌++◌, ◌∷◌, ℕ, [], true, false};
 ghost use Rattle.journal_model.specs.declared.entry.What.TheVariants.{Answer as Answered};
-ghost use Rattle.journal_model.specs.Journal.{any};
 ghost use Rattle.journal_model.specs.Legality.{Legal, is_busy};
 ghost use Rattle.host_core.specs.Steps.{may_answer};
 ghost use Rattle.child_start.specs.Cores.{IsSameCore};
@@ -12,6 +11,7 @@ ghost use Rattle.lone_rounds.specs.Stints.{AnswersLeft, AnswersOne, ClaimsZero, 
 use crate::starved::is_starved;
 use ann_key::NoMemory;
 use host_core::{Core, Event, Reply};
+use journal_look::Journal;
 use journal_model::Answer;
 
 fn task_in(reply: Reply) -> Option<u32>
@@ -59,6 +59,17 @@ pub(crate) fn answer_one(core: &mut Core, answer: Answer) -> bool
     }
 }
 
+// How a task is answered that is left when no child can be started any more.
+fn left_answer(journal: &Journal) -> Answer
+    ensures { result ≡ left_answer journal.now.entries }
+{
+    if is_starved(journal) {
+        Answer::Memory
+    } else {
+        Answer::NoChild
+    }
+}
+
 /// Answers all tasks that are left, where no child can be started any more.
 pub(crate) fn answer_left(core: &mut Core)
     requires legal { Legal core.old.opening core.old.journal }
@@ -66,11 +77,7 @@ pub(crate) fn answer_left(core: &mut Core)
     ensures answers { AnswersLeft core.old.opening core.old.journal core.new.journal (left_answer core.old.journal) }
     ensures core { IsSameCore core.old core.new }
 {
-    let answer = if is_starved(core.journal()) {
-        Answer::Memory
-    } else {
-        Answer::NoChild
-    };
+    let answer = left_answer(core.journal());
     'tasks: loop {
         if !answer_one(core, answer) {
             return;

@@ -106,7 +106,7 @@ all_unclosed p f (e ∷ xs) h =
     let t = both (p e.what) (list_all (λ (x : Entry). p x.what) xs) h in
     rw (f e.what t.0, all_unclosed p f xs t.1) refl
 
-module _ (o : Opening) (old xs : List Entry) (c : ℕ) (legal : Legal o old) (next : c ≡ count is_start old + 1) (open : list_all (λ (e : Entry). is_unclosed_end e.what) xs ≡ true) where
+module _ (o : Opening) (old xs : List Entry) (c : ℕ) (legal : Legal o old) (next : c ≡ count is_start old + 1) (unclosed : list_all (λ (e : Entry). is_unclosed_end e.what) xs ≡ true) where
   unseen : why_of old c ≡ None
   unseen = (fresh o old legal c (later_unstarted o old legal c (omega (arith, next)))).ends
 
@@ -115,7 +115,7 @@ module _ (o : Opening) (old xs : List Entry) (c : ℕ) (legal : Legal o old) (ne
   new_unclosed h =
       let live : is_ended old c ≡ false = sym (why_is_end old c) ∙ ap is_some unseen in
       let here : is_ended xs c ≡ true = sym (any-append (ends c) old xs ∙ ap (λ (b : Bool). b || is_ended xs c) live) ∙ h in
-      ap is_unclosed (why_of-append old xs c ∙ ap (λ (w : Option Why). option_or w (why_of xs c)) unseen) ∙ ended_unclosed c xs open here
+      ap is_unclosed (why_of-append old xs c ∙ ap (λ (w : Option Why). option_or w (why_of xs c)) unseen) ∙ ended_unclosed c xs unclosed here
 
 -- ---- the stint
 

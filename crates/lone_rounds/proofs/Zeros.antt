@@ -64,9 +64,6 @@ module _ (o : Opening) (old mid : List Entry) (t : ℕ) (legal : Legal o old) (l
       let shut : has_open_job claimed_now t ≡ false = jobs_stay_closed old (main_entry (Claim t 0) ∷ []) t refl unopened in
       ap (λ (j : List Entry). may_answer j 0 t) is ∙ (rw (held, shut) refl)
 
-pub gives : {old : List Entry} {s : Step} {new : List Entry} {g : List Entry} → new ≡ old ++ s.group → s.group ≡ g → new ≡ old ++ g
-gives {old} {s} {new} {g} is e = is ∙ ap (λ (x : List Entry). old ++ x) e
-
 -- one task
 pub answers_one : (o : Opening) (old mid new : List Entry) (t : ℕ) (answer : Answer) → least_free o old ≡ Some t → mid ≡ old ++ main_entry (Claim t 0) ∷ [] → new ≡ mid ++ main_entry (Answered t answer) ∷ []
     → AnswersOne o old new answer true
@@ -79,8 +76,8 @@ pub rests_one : (past : List Entry) (t : ℕ) (answer : Answer) → ((u : ℕ) �
 rests_one past t answer rest u = ap is_some (holder_append past (main_entry (Claim t 0) ∷ main_entry (Answered t answer) ∷ []) u) ∙ go (t == u) refl
   where
     go : (b : Bool) → (t == u) ≡ b → is_some (fold (turned u) (holder past u) (main_entry (Claim t 0) ∷ main_entry (Answered t answer) ∷ [])) ≡ false
-    go true e = rw e (rw e refl)
-    go false e = rw e (rw e (rest u))
+    go true e = rw e refl
+    go false e = rw e (rest u)
 
 -- ---- and fewer are left
 
