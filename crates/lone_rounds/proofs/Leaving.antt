@@ -245,14 +245,14 @@ module _ {program : List ℕ} {old : List Entry} {start before : ProgramsValue} 
 
       rose : any is_failed_start new ≡ true → Rose start.faults after.faults
       rose failed = by_either (any is_failed_start old)
-          (λ yes. rose_on start.faults before.faults after.faults (k.fault yes) s.later)
-          (λ no. rose_later start.faults before.faults after.faults k.later (s.fault (at_first no (sym (ap (any is_failed_start) is ∙ any-append is_failed_start old tail) ∙ failed))))
+          (λ some_old. rose_on start.faults before.faults after.faults (k.fault some_old) s.later)
+          (λ none_old. rose_later start.faults before.faults after.faults k.later (s.fault (at_first none_old (sym (ap (any is_failed_start) is ∙ any-append is_failed_start old tail) ∙ failed))))
         where
           later_none : any is_failed_start later ≡ false
           later_none = any_narrower is_failed_start is_any_start failed_start_is later none
 
           at_first : any is_failed_start old ≡ false → (any is_failed_start old || (is_failed_start first || any is_failed_start later)) ≡ true → is_failed_start first ≡ true
-          at_first no h = go (any is_failed_start old) (is_failed_start first) (any is_failed_start later) no later_none h
+          at_first none_old h = go (any is_failed_start old) (is_failed_start first) (any is_failed_start later) none_old later_none h
             where
               go : (a b d : Bool) → a ≡ false → d ≡ false → (a || (b || d)) ≡ true → b ≡ true
               go false true false x y z = refl

@@ -9,7 +9,7 @@ use journal_look::{EntryRef, Journal, WhatRef};
 use journal_model::Why;
 
 fn is_memory_end(entry: Option<EntryRef<'_>>) -> bool
-    ensures { result ≡ is_memory_end (option_map entry_shown entry) }
+    ensures { result ≡ is_memory_end (option_map entry_shown entry.entry) }
 {
     match entry {
         Some(entry) => matches!(entry.what, WhatRef::End { why: Why::Memory, .. }),
