@@ -19,14 +19,14 @@ returns-then-unclaimed-eq0-clause-started g c =
     )
 
 pub start_one-requires-clause-few : goal.start_one-requires-clause-few
-start_one-requires-clause-few g c = λ κs. (
+start_one-requires-clause-few g c = λ κs fresh. (
     let below = c.children-test.true in
     let end = c.children.auto.made-end in
     let most = c.requires.starts.1 in
     few_starts c.children.invariant.between (omega (arith, below, end, most)))
 
 pub start_one-requires-clause-left : goal.start_one-requires-clause-left
-start_one-requires-clause-left g c = λ κs. left_some c.children.core.opening c.children.core.journal c.unclaimed.result c.unclaimed.ensures c.if-unclaimed-eq0.false
+start_one-requires-clause-left g c = λ κs fresh. left_some c.children.core.opening c.children.core.journal c.unclaimed.result c.unclaimed.ensures c.if-unclaimed-eq0.false
 
 pub children-preserved : goal.children-preserved
 children-preserved g c =
