@@ -1,16 +1,16 @@
 -- What stays of a child while nothing is made of it, and what stands behind a start in its stint.
-use Rattle.std.proofs.Common.{◌≡◌, ℕ, ◌+◌, ◌≤◌, ◌<◌, List, [], ◌∷◌, ◌++◌, refl, sym, ap, subst, ◌∙◌, Bool, true, false, not, ◌==◌, cond, Some, None, Option, arith, inl, inr}
+use Rattle.std.proofs.Common.{◌≡◌, ℕ, List, [], ◌∷◌, ◌++◌, refl, ap, ◌∙◌, Bool, true, false, not, ◌==◌, Some, None, Option}
 use Rattle.std.specs.Prelude.{◌&&◌, ◌||◌, is_some, option_and_then}
-use Rattle.std.specs.List.{list_all, list_any, cons_option}
+use Rattle.std.specs.List.{list_all}
 use Rattle.std.specs.Option.{option_or}
 use Rattle.journal_model.specs.declared.verdict.Why.{Why}
 use Rattle.journal_model.specs.declared.verdict.Why.TheVariants.{Closed}
 use Rattle.journal_model.specs.declared.verdict.Verdict.{Verdict}
 use Rattle.journal_model.specs.declared.entry.What.{What}
-use Rattle.journal_model.specs.declared.entry.What.TheVariants.{Claim, Start, NoStart, Ask, Put, Sent, Mute, Got, End, Verdict as Settled, Lost, Answer as Answered, Note}
+use Rattle.journal_model.specs.declared.entry.What.TheVariants.{Start, NoStart, Ask, Put, Sent, Mute, Got, End, Verdict as Settled, Lost}
 use Rattle.journal_model.specs.declared.entry.Entry.{Entry}
 use Rattle.journal_model.specs.declared.opening.Opening.{Opening}
-use Rattle.journal_model.specs.Journal.{any, ends, mutes, offers, end_why, is_ended, is_mute, is_tagged, verdict_of, why_of}
+use Rattle.journal_model.specs.Journal.{any, ends, mutes, offers, is_ended, is_mute, is_tagged, verdict_of, why_of}
 use Rattle.journal_model.specs.Legality.{Legal, is_done, is_prepared, prepares, asks_prepare}
 use Rattle.journal_model.specs.Shares.{by_link, is_closed, is_of_child}
 use Rattle.journal_model.proofs.Looks.{any-append, both, or_none, same_number, settled_none, verdict_of-append}

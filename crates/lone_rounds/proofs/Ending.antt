@@ -1,20 +1,18 @@
 -- The begin of a run, the tasks that are left at its end, and what it leaves.
-use Rattle.std.proofs.Common.{◌≡◌, ◌⊎◌, ℕ, zero, suc, ◌+◌, ◌<◌, ◌≤◌, List, [], ◌∷◌, ◌++◌, refl, sym, ap, subst, ◌∙◌, append_assoc, append-nil, length, length-append, Bool, true, false, not, ◌==◌, cond, Some, None, Option, arith, inl, inr}
-use Rattle.std.specs.Prelude.{◌&&◌, ◌||◌, map, filter, IsTrue, Result, Ok, Err}
-use Rattle.std.specs.List.{list_all, list_any, cons_option}
-use Rattle.ann_key.specs.declared.bytes.NoMemory.{NoMemory}
+use Rattle.std.proofs.Common.{◌≡◌, ◌⊎◌, ℕ, ◌+◌, ◌<◌, ◌≤◌, List, [], ◌∷◌, ◌++◌, refl, sym, ap, subst, ◌∙◌, append_assoc, append-nil, length, Bool, true, false, not, ◌==◌, cond, Some, None, Option, arith, inl, inr}
+use Rattle.std.specs.Prelude.{◌||◌}
+use Rattle.std.specs.List.{list_all, list_any}
 use Rattle.ann_outside.specs.Starts.{Starts}
-use Rattle.ann_outside.specs.Causes.{AddsOne, Rose, Stays}
+use Rattle.ann_outside.specs.Causes.{AddsOne, Stays}
 use Rattle.journal_model.specs.declared.answer.Answer.{Answer}
 use Rattle.journal_model.specs.declared.answer.Answer.TheVariants.{Memory, NoChild}
 use Rattle.journal_model.specs.declared.entry.What.{What}
-use Rattle.journal_model.specs.declared.entry.What.TheVariants.{Claim, Start, NoStart, Answer as Answered}
+use Rattle.journal_model.specs.declared.entry.What.TheVariants.{Claim, Start, Answer as Answered}
 use Rattle.journal_model.specs.declared.entry.Entry.{Entry}
 use Rattle.journal_model.specs.declared.opening.Opening.{Opening}
-use Rattle.journal_model.specs.Journal.{any, each_of, is_ended, offers}
+use Rattle.journal_model.specs.Journal.{any, is_ended, offers}
 use Rattle.journal_model.specs.Legality.{Legal, count, is_busy, is_claimed, is_start, numbers_of}
 use Rattle.journal_model.specs.Shares.{are_by, is_of_child}
-use Rattle.journal_model.specs.Wires.{Caused, Wired, is_heard_in_turn}
 use Rattle.journal_model.proofs.Ears.{halves_wire}
 use Rattle.journal_model.proofs.Looks.{any-append, each_of-append}
 use Rattle.journal_model.proofs.Testing.{all-each, all-join, neither}
@@ -25,10 +23,10 @@ use Rattle.task_run.specs.declared.setup.Setup.{Setup}
 use Rattle.task_run.specs.TaskRuns.{failed_start}
 use Rattle.lone_work.specs.Works.{DeskTells}
 use Rattle.child_end.specs.Wires.{AreWires, IsWire, WireValue, came, came_in}
-use Rattle.child_end.specs.Programs.{AddsAll, HaveStarted as HaveStartedSo, Leaves, ProgramsValue, is_failed_start, told}
-use Rattle.lone_rounds.specs.Starting.{AllOffer, AreEnded, AreSpent, children, is_any_start, is_elsewhere, is_offered, is_ready_untagged, is_spent, started_in}
+use Rattle.child_end.specs.Programs.{AddsAll, HaveStarted as HaveStartedSo, Leaves, ProgramsValue, told}
+use Rattle.lone_rounds.specs.Starting.{AllOffer, AreSpent, children, is_any_start, is_elsewhere, is_offered, is_ready_untagged, is_spent, started_in}
 use Rattle.lone_rounds.specs.Rounds.{RanAlone, ZeroAnswers, ends_for_memory, is_of_run, left_answer, start_untaken}
-use Rattle.lone_rounds.specs.Stints.{AnswersLeft, AreLinked, AreUpTo, Between, HasStarted, IsLinked, IsOver, Kept, KeptOr, MayHaveAsked, OneStart, Stint, TasksDone, answered_so, ear_of, main_entry, mouth_of}
+use Rattle.lone_rounds.specs.Stints.{AnswersLeft, AreLinked, AreUpTo, Between, IsLinked, IsOver, Kept, MayHaveAsked, OneStart, Stint, TasksDone, answered_so, ear_of, main_entry, mouth_of}
 use Rattle.lone_rounds.proofs.Apart.{ended_on, ready_same, spent_on}
 use Rattle.lone_rounds.proofs.Growing.{apart, between_next, starts_none}
 use Rattle.lone_rounds.proofs.Leaving.{adds_both, adds_none, adds_one, kept_next, kept_still, rose_on, stays_none}

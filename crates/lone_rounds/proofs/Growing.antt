@@ -1,29 +1,28 @@
 -- A run between two starts, and what one start more makes of it.
-use Rattle.std.proofs.Common.{◌≡◌, ◌≢◌, ◌⊎◌, ℕ, suc, ◌+◌, ◌<◌, ◌≤◌, ◌-◌, ◌^◌, List, [], ◌∷◌, ◌++◌, refl, sym, ap, subst, ◌∙◌, append_assoc, append-nil, length, length-append, Bool, true, false, not, ◌==◌, cond, Some, None, Option, arith, inl, inr}
-use Rattle.std.specs.Prelude.{◌&&◌, ◌||◌, filter}
+use Rattle.std.proofs.Common.{◌≡◌, ◌⊎◌, ℕ, suc, ◌+◌, ◌≤◌, List, [], ◌∷◌, ◌++◌, refl, sym, ap, subst, ◌∙◌, length, Bool, true, false, not, ◌==◌, cond, None, Option, arith, inl, inr}
+use Rattle.std.specs.Prelude.{◌&&◌, filter}
 use Rattle.std.specs.List.{list_all, list_any, cons_option}
 use Rattle.std.proofs.lemmas.List.Folds.{list_any-append}
-use Rattle.ann_outside.specs.Causes.{Rose}
 use Rattle.journal_model.specs.declared.entry.What.{What}
 use Rattle.journal_model.specs.declared.entry.What.TheVariants.{Start, NoStart}
 use Rattle.journal_model.specs.declared.entry.Entry.{Entry}
 use Rattle.journal_model.specs.declared.opening.Opening.{Opening}
 use Rattle.journal_model.specs.Journal.{any, each_of, is_ended, offers}
-use Rattle.journal_model.specs.Legality.{Legal, count, is_busy, is_start}
+use Rattle.journal_model.specs.Legality.{Legal, count, is_start}
 use Rattle.journal_model.specs.Output.{answer_in}
 use Rattle.journal_model.specs.Shares.{are_by, is_of_child}
-use Rattle.journal_model.proofs.Looks.{any-append, differ, each_of-append, either_left, either_right}
+use Rattle.journal_model.proofs.Looks.{any-append, differ, each_of-append}
 use Rattle.journal_model.proofs.Testing.{all-each, all-join, neither}
 use Rattle.host_core.specs.Steps.{are_all_claimed}
 use Rattle.task_run.specs.declared.setup.Setup.{Setup}
 use Rattle.lone_work.specs.Works.{DeskTells, claimed_task}
 use Rattle.child_end.specs.Wires.{came, came_in}
-use Rattle.lone_rounds.specs.Starting.{AllOffer, AreEnded, AreSpent, OffersWell, children, is_any_start, is_elsewhere, is_offered, is_ready_untagged, is_spent, started_in}
+use Rattle.lone_rounds.specs.Starting.{AllOffer, AreSpent, OffersWell, children, is_any_start, is_elsewhere, is_offered, is_ready_untagged, is_spent, started_in}
 use Rattle.lone_rounds.specs.Rounds.{is_of_run}
 use Rattle.lone_rounds.specs.Stints.{AreUpTo, Between, IsStart, Stint, TasksDone, in_stint, main_entry, next_child}
 use Rattle.lone_rounds.proofs.Apart.{apart_in, ended_on, no_offer, no_start_in, ready_same, spent_on}
 use Rattle.lone_rounds.proofs.Runs.{done_both, done_same}
-use Rattle.lone_rounds.proofs.Tests.{any_none, any_same, children_up_to, claimed_on, count-append, count_none, neither_nor, no_children, none_came, offers_both, offers_none, or_false, up_to_both, up_to_more}
+use Rattle.lone_rounds.proofs.Tests.{any_none, any_same, children_up_to, claimed_on, count-append, count_none, neither_nor, no_children, none_came, offers_both, offers_none, up_to_both, up_to_more}
 
 -- ---- the start itself
 

@@ -1,22 +1,19 @@
 -- Behind a greeting each job that is asked is one of a task, which is neither job 0 nor job 1.
-use Rattle.std.proofs.Common.{◌≡◌, ℕ, ◌+◌, ◌≤◌, List, [], ◌∷◌, ◌++◌, refl, sym, ap, subst, ◌∙◌, Bool, true, false, not, ◌==◌, cond, Some, None, Option, arith, length, length-append, append_assoc, append-nil}
-use Rattle.std.specs.Prelude.{◌&&◌, ◌||◌, IsTrue}
+use Rattle.std.proofs.Common.{◌≡◌, ℕ, ◌≤◌, List, [], ◌∷◌, ◌++◌, refl, sym, ap, subst, ◌∙◌, Bool, true, false, not, ◌==◌, cond, Some, None, Option, arith, length, length-append, append_assoc, append-nil}
+use Rattle.std.specs.Prelude.{◌&&◌, ◌||◌}
 use Rattle.std.specs.List.{list_all, cons_option}
 use Rattle.std.proofs.lemmas.List.{append_cancel_left}
-use Rattle.journal_model.specs.declared.verdict.Why.{Why}
-use Rattle.journal_model.specs.declared.verdict.Verdict.{Verdict}
 use Rattle.journal_model.specs.declared.entry.What.{What}
-use Rattle.journal_model.specs.declared.entry.What.TheVariants.{Claim, Ask, Lost, Note, Answer as Answered}
+use Rattle.journal_model.specs.declared.entry.What.TheVariants.{Ask}
 use Rattle.journal_model.specs.declared.entry.Entry.{Entry}
 use Rattle.journal_model.specs.declared.opening.Opening.{Opening}
 use Rattle.journal_model.specs.Journal.{asks, asked_jobs, each_of}
 use Rattle.journal_model.specs.Due.{due_after}
 use Rattle.journal_model.specs.Legality.{Legal, may_come}
-use Rattle.journal_model.specs.Shares.{by_link}
 use Rattle.journal_model.proofs.Holding.{due_names}
 use Rattle.journal_model.proofs.Looks.{both, differ, each_of-append, entry, same_number}
 use Rattle.journal_model.proofs.Standing.{Legal-from}
-use Rattle.journal_model.proofs.Testing.{all-both, all-join, by_either, or_left, or_right}
+use Rattle.journal_model.proofs.Testing.{all-both, all-join, by_either, or_right}
 use Rattle.child_start.specs.Greetings.{is_greeting_line, is_of_greeting, asks_for}
 use Rattle.child_start.specs.declared.greeting.Mode.TheVariants.{Serve}
 use Rattle.lone_work.specs.Works.{by_worker}

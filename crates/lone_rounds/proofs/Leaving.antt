@@ -1,14 +1,13 @@
 -- The wires and the programs of a run, as its journal grows.
-use Rattle.std.proofs.Common.{◌≡◌, ◌⊎◌, ℕ, zero, suc, ◌+◌, ◌<◌, ◌≤◌, List, [], ◌∷◌, ◌++◌, refl, sym, ap, subst, ◌∙◌, append_assoc, append-nil, length, length-append, Bool, true, false, not, ◌==◌, cond, Some, None, Option, arith, inl, inr}
-use Rattle.std.specs.Prelude.{◌&&◌, ◌||◌, map}
-use Rattle.std.specs.List.{list_all, list_any, cons_option}
+use Rattle.std.proofs.Common.{◌≡◌, ◌⊎◌, ℕ, suc, ◌+◌, ◌≤◌, List, [], ◌∷◌, ◌++◌, refl, sym, ap, subst, ◌∙◌, append_assoc, append-nil, length, length-append, Bool, true, false, Some, None, Option, arith, inl, inr}
+use Rattle.std.specs.Prelude.{◌||◌}
+use Rattle.std.specs.List.{cons_option}
 use Rattle.ann_outside.specs.Starts.{Starts, IsNumbered}
 use Rattle.ann_outside.specs.Causes.{AddsOne, Rose, Stays}
 use Rattle.journal_model.specs.declared.entry.What.{What}
-use Rattle.journal_model.specs.declared.entry.What.TheVariants.{Start, NoStart, Got, End, Sent, Mute}
+use Rattle.journal_model.specs.declared.entry.What.TheVariants.{Start, NoStart}
 use Rattle.journal_model.specs.declared.entry.Entry.{Entry}
-use Rattle.journal_model.specs.declared.opening.Opening.{Opening}
-use Rattle.journal_model.specs.Journal.{any, each_of}
+use Rattle.journal_model.specs.Journal.{any}
 use Rattle.journal_model.specs.Legality.{count, is_start}
 use Rattle.journal_model.specs.Halves.{EarValue, MouthValue, LinkWired, IsSameEar, IsSameMouth}
 use Rattle.journal_model.specs.Shares.{is_heard, is_of_child, is_said}
@@ -19,7 +18,7 @@ use Rattle.child_start.specs.Greetings.{AreNumbered}
 use Rattle.child_end.specs.Wires.{IsLaid, IsLeft, IsOfStart, WireValue, came, came_in}
 use Rattle.child_end.specs.Programs.{AddsAll, ProgramsValue, is_failed_start, told, told_in}
 use Rattle.lone_rounds.specs.Starting.{is_any_start}
-use Rattle.lone_rounds.specs.Stints.{AreLinked, AreUpTo, IsLinked, Kept, MayHaveAsked, StartsOne, ear_of, main_entry, mouth_of}
+use Rattle.lone_rounds.specs.Stints.{AreLinked, AreUpTo, IsLinked, Kept, StartsOne, ear_of, main_entry, mouth_of}
 use Rattle.lone_rounds.proofs.Tests.{each_without, none_came}
 
 -- ---- counts of faults
@@ -169,12 +168,16 @@ starts_child program journal c offer before mid after faults ear mouth wires wir
   adds = adds_stays before.starts mid after.starts (program, true) adds stays;
   new = wire ∷ [];
   laid = laid;
-  linked = (is.child ∙ its, record {
-    linked = left_linked journal ear mouth wire one is linked;
-    inlet = subst (IsOfStart before.starts 1) (sym is.numbers.0) (of_start before.starts mid (program, true) mouth.number adds numbered.0);
-    outlet = subst (IsOfStart before.starts 1) (sym is.numbers.1) (of_start before.starts mid (program, true) ear.number adds numbered.1);
-    closed = is.closed;
-  }, tt);
+  linked = (
+    is.child ∙ its,
+    record {
+      linked = left_linked journal ear mouth wire one is linked;
+      inlet = subst (IsOfStart before.starts 1) (sym is.numbers.0) (of_start before.starts mid (program, true) mouth.number adds numbered.0);
+      outlet = subst (IsOfStart before.starts 1) (sym is.numbers.1) (of_start before.starts mid (program, true) ear.number adds numbered.1);
+      closed = is.closed;
+    },
+    tt,
+  );
   fault = λ failed. absurd (let bad : false ≡ true = failed in cc);
   later = omega arith;
 }

@@ -1,27 +1,27 @@
 -- A child that got ready: it does tasks until it is gone or all are claimed.
 use Rattle.std.proofs.Common.{◌≡◌, ◌⊎◌, ℕ, ◌+◌, ◌<◌, ◌≤◌, List, [], ◌∷◌, ◌++◌, refl, sym, ap, subst, ◌∙◌, append_assoc, append-nil, length, Bool, true, false, not, ◌==◌, cond, Some, None, Option, arith, inl, inr}
 use Rattle.std.specs.Prelude.{◌&&◌, ◌||◌, is_some, filter}
-use Rattle.std.specs.List.{list_all, list_any}
+use Rattle.std.specs.List.{list_all}
 use Rattle.std.specs.Option.{option_or}
 use Rattle.journal_model.specs.declared.verdict.Why.{Why}
 use Rattle.journal_model.specs.declared.verdict.Verdict.{Verdict}
 use Rattle.journal_model.specs.declared.verdict.Verdict.TheVariants.{Done as DoneAt}
 use Rattle.journal_model.specs.declared.answer.Answer.{Answer}
 use Rattle.journal_model.specs.declared.entry.What.{What}
-use Rattle.journal_model.specs.declared.entry.What.TheVariants.{Start, End, Ask, Lost, Claim, Note, Answer as Answered}
+use Rattle.journal_model.specs.declared.entry.What.TheVariants.{Start, End}
 use Rattle.journal_model.specs.declared.entry.Entry.{Entry}
 use Rattle.journal_model.specs.declared.opening.Opening.{Opening}
 use Rattle.annex_model.specs.Messages.{remote_reading}
 use Rattle.annex_model.specs.Tags.{names_async}
-use Rattle.journal_model.specs.Journal.{accepts_async, any, asked_jobs, each_of, ends, got_line, is_ended, is_mute, is_settled, is_tagged, offers, open_jobs, verdict_of, why_of}
+use Rattle.journal_model.specs.Journal.{accepts_async, any, asked_jobs, ends, got_line, is_ended, is_mute, is_settled, is_tagged, offers, open_jobs, verdict_of, why_of}
 use Rattle.journal_model.specs.Legality.{Legal, count, is_busy, is_done, is_prepared, is_start, prepares}
 use Rattle.journal_model.specs.Output.{answer_in, answers_in}
-use Rattle.journal_model.specs.Shares.{by_link, is_closed}
+use Rattle.journal_model.specs.Shares.{is_closed}
 use Rattle.journal_model.proofs.Fresh.{fresh}
 use Rattle.journal_model.proofs.Linking.{why_is_end, why_of-append}
 use Rattle.journal_model.proofs.Looks.{any-append, both, each_of-append, unsettled, verdict_of-append}
 use Rattle.journal_model.proofs.Projecting.{invariant}
-use Rattle.journal_model.proofs.Replying.{IsPlaced, slice_get-left}
+use Rattle.journal_model.proofs.Replying.{slice_get-left}
 use Rattle.journal_model.proofs.Testing.{all-join, or_left, or_right}
 use Rattle.host_core.specs.Steps.{are_all_claimed, is_gone}
 use Rattle.gathering.specs.Tasks.{IsThrough}
@@ -32,8 +32,8 @@ use Rattle.task_run.specs.TaskRuns.{failed_start, gone_answer, or_refusal, refus
 use Rattle.lone_work.specs.Works.{DeskTells, by_worker, claimed_task, claims_in}
 use Rattle.lone_rounds.specs.Starting.{is_ready_untagged, is_spent, is_unclosed}
 use Rattle.lone_rounds.specs.Rounds.{start_untaken}
-use Rattle.lone_rounds.specs.Stints.{HasServed, Stint, TasksDone, in_stint, main_entry, next_child}
-use Rattle.lone_rounds.proofs.Apart.{ended_unclosed, is_unclosed_end, link_unclosed, mute_on, no_offer, no_start_in, spent_on, unclosed_on}
+use Rattle.lone_rounds.specs.Stints.{HasServed, Stint, TasksDone, in_stint, main_entry}
+use Rattle.lone_rounds.proofs.Apart.{ended_unclosed, is_unclosed_end, no_offer, no_start_in, spent_on}
 use Rattle.lone_rounds.proofs.Later.{late_from}
 use Rattle.lone_rounds.proofs.Runs.{done_same, worker_runs}
 use Rattle.lone_rounds.proofs.Stinting.{Closing, Part, closing, closing_part, closing_rests, greeting_gives_none, greeting_part, greeting_takes_none, of_closing, part_both, worker_part}

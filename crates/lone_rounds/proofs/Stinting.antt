@@ -1,14 +1,14 @@
 -- The parts of a stint: its greeting, its tasks, its closing.
-use Rattle.std.proofs.Common.{◌≡◌, ◌⊎◌, ℕ, ◌+◌, ◌<◌, ◌≤◌, List, [], ◌∷◌, ◌++◌, refl, sym, ap, subst, ◌∙◌, append_assoc, append-nil, Bool, true, false, not, ◌==◌, cond, Some, None, Option, arith, inl, inr}
-use Rattle.std.specs.Prelude.{◌&&◌, ◌||◌, is_some}
+use Rattle.std.proofs.Common.{◌≡◌, ◌⊎◌, ℕ, List, [], ◌∷◌, ◌++◌, refl, sym, ap, subst, ◌∙◌, append-nil, Bool, true, false, not, ◌==◌, cond, Some, None, Option, arith, inl, inr}
+use Rattle.std.specs.Prelude.{◌&&◌, is_some}
 use Rattle.std.specs.List.{list_all, list_any}
 use Rattle.journal_model.specs.declared.verdict.Why.TheVariants.{Closed}
 use Rattle.journal_model.specs.declared.entry.What.{What}
-use Rattle.journal_model.specs.declared.entry.What.TheVariants.{Claim, Start, NoStart, Ask, Put, Sent, Mute, Got, End, Verdict as Settled, Lost, Answer as Answered, Note}
+use Rattle.journal_model.specs.declared.entry.What.TheVariants.{Claim, Start, Ask, Put, Sent, Mute, Got, End, Verdict as Settled, Lost, Answer as Answered, Note}
 use Rattle.journal_model.specs.declared.entry.Entry.{Entry}
 use Rattle.journal_model.specs.declared.opening.Opening.{Opening}
-use Rattle.journal_model.specs.Journal.{any, each_of, is_ended, is_live, is_started, open_jobs, starts}
-use Rattle.journal_model.specs.Legality.{Legal, claims, claimed_for, has_busy_task, is_busy, is_busy_with, is_claimed, is_held_for, holder, may_stop}
+use Rattle.journal_model.specs.Journal.{any, each_of, is_ended, is_started, open_jobs, starts}
+use Rattle.journal_model.specs.Legality.{Legal, claims, claimed_for, is_busy, is_busy_with, is_claimed, is_held_for, holder, may_stop}
 use Rattle.journal_model.specs.Makers.{is_of_task}
 use Rattle.journal_model.specs.Output.{answer_in, answers_in}
 use Rattle.journal_model.specs.Shares.{are_by, by_link, is_closed}
@@ -26,7 +26,7 @@ use Rattle.journal_model.specs.declared.answer.Answer.{Answer}
 use Rattle.child_start.specs.Greetings.{Greeted, IsReady, is_greeting_line, is_of_greeting}
 use Rattle.lone_work.specs.Works.{CanWork, by_worker, claimed_task, claims_in}
 use Rattle.lone_rounds.specs.Rounds.{is_of_run}
-use Rattle.lone_rounds.specs.Stints.{AnswersOne, in_stint, main_entry, next_child}
+use Rattle.lone_rounds.specs.Stints.{AnswersOne, in_stint, main_entry}
 use Rattle.lone_rounds.proofs.Later.{all_work, greeting_asks, late}
 use Rattle.lone_rounds.proofs.Tests.{each_none, any_none}
 use Rattle.lone_rounds.proofs.Zeros.{rests_one}

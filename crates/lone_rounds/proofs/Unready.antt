@@ -1,7 +1,7 @@
 -- A start that gave no child that is ready: one task is answered by what came of it.
-use Rattle.std.proofs.Common.{◌≡◌, ◌⊎◌, ℕ, ◌+◌, ◌<◌, ◌≤◌, List, [], ◌∷◌, ◌++◌, refl, sym, ap, subst, ◌∙◌, append_assoc, append-nil, Bool, true, false, not, ◌==◌, cond, Some, None, Option, arith, inl, inr}
-use Rattle.std.specs.Prelude.{◌&&◌, ◌||◌, is_some, option_and_then, option_map, map, Ok}
-use Rattle.std.specs.List.{list_all, list_any}
+use Rattle.std.proofs.Common.{◌≡◌, ◌⊎◌, ℕ, List, [], ◌∷◌, ◌++◌, refl, sym, ap, subst, ◌∙◌, append_assoc, Bool, true, false, not, Some, None, Option, inl, inr}
+use Rattle.std.specs.Prelude.{◌&&◌, ◌||◌, is_some, option_and_then, option_map}
+use Rattle.std.specs.List.{list_all}
 use Rattle.journal_model.specs.declared.verdict.Why.{Why}
 use Rattle.journal_model.specs.declared.verdict.Why.TheVariants.{Closed}
 use Rattle.journal_model.specs.declared.verdict.Verdict.{Verdict}
@@ -9,11 +9,11 @@ use Rattle.journal_model.specs.declared.verdict.Verdict.TheVariants.{Failed, Uns
 use Rattle.journal_model.specs.declared.answer.Answer.{Answer}
 use Rattle.journal_model.specs.declared.answer.Answer.TheVariants.{Unsent as UnsentAnswer, StartFault, NotPrepared, Ended as EndedAnswer}
 use Rattle.journal_model.specs.declared.entry.What.{What}
-use Rattle.journal_model.specs.declared.entry.What.TheVariants.{Claim, Start, NoStart, End, Answer as Answered}
+use Rattle.journal_model.specs.declared.entry.What.TheVariants.{Claim, Start, NoStart, Answer as Answered}
 use Rattle.journal_model.specs.declared.entry.Entry.{Entry}
 use Rattle.journal_model.specs.declared.opening.Opening.{Opening}
 use Rattle.journal_model.specs.Journal.{any, each_of, is_ended, is_mute, is_tagged, verdict_of, why_of}
-use Rattle.journal_model.specs.Legality.{is_busy, is_done, is_prepared, prepares}
+use Rattle.journal_model.specs.Legality.{is_busy, is_done, prepares}
 use Rattle.journal_model.specs.Output.{answer_in, answers_in}
 use Rattle.journal_model.specs.Shares.{is_closed}
 use Rattle.journal_model.proofs.Holding.{holder_append}
@@ -21,14 +21,13 @@ use Rattle.journal_model.proofs.Linking.{why_is_end}
 use Rattle.journal_model.proofs.Looks.{each_of-append, or_none, verdict_of-append}
 use Rattle.journal_model.proofs.Testing.{or_left, or_right}
 use Rattle.host_core.specs.Steps.{are_all_claimed}
-use Rattle.link_roles.specs.Alone.{Closes}
 use Rattle.child_start.specs.Greetings.{Greeted, HasEnded, IsRefused, IsUnsent, is_of_greeting, is_refusal}
 use Rattle.task_run.specs.declared.setup.Setup.{Setup}
 use Rattle.task_run.specs.TaskRuns.{ended_answer, failed_start, gone_answer, or_refusal, refusal_of, refused_at, unready_answer}
 use Rattle.lone_work.specs.Works.{DeskTells, claimed_task, claims_in}
 use Rattle.lone_rounds.specs.Starting.{is_ready_untagged, is_spent, is_unclosed}
 use Rattle.lone_rounds.specs.Rounds.{ZeroAnswers, start_untaken, turn_of}
-use Rattle.lone_rounds.specs.Stints.{AnswersOne, Stint, TasksDone, TurnsAway, in_stint, main_entry, next_child}
+use Rattle.lone_rounds.specs.Stints.{AnswersOne, Stint, TasksDone, TurnsAway, in_stint, main_entry}
 use Rattle.lone_rounds.proofs.Apart.{spent_on, why_unclosed}
 use Rattle.lone_rounds.proofs.Runs.{IsOfNoCall, done_same, done_zero}
 use Rattle.lone_rounds.proofs.Stinting.{Closing, Part, closing, closing_part, closing_rests, greeting_claims_none, greeting_gives_none, greeting_part, greeting_rests, greeting_takes_none, of_closing, part_both, zero_part}

@@ -1,16 +1,13 @@
 -- A task that is claimed without a child, and its answer.
-use Rattle.std.proofs.Common.{◌≡◌, ℕ, ◌+◌, ◌<◌, List, [], ◌∷◌, ◌++◌, refl, sym, ap, subst, ◌∙◌, append_assoc, append-nil, Bool, true, false, not, ◌==◌, cond, Some, None, Option, length, inl, inr}
-use Rattle.std.specs.Prelude.{◌&&◌, ◌||◌, is_some, fold, find, IsOk, Result, Ok, Err}
+use Rattle.std.proofs.Common.{◌≡◌, ℕ, ◌<◌, List, [], ◌∷◌, ◌++◌, refl, sym, ap, subst, ◌∙◌, append_assoc, append-nil, Bool, true, false, ◌==◌, Some, None, Option, length}
+use Rattle.std.specs.Prelude.{is_some, fold}
 use Rattle.std.specs.List.{list_any}
-use Rattle.ann_key.specs.declared.bytes.NoMemory.{NoMemory}
 use Rattle.journal_model.specs.declared.answer.Answer.{Answer}
 use Rattle.journal_model.specs.declared.entry.What.TheVariants.{Claim, Answer as Answered}
 use Rattle.journal_model.specs.declared.entry.Entry.{Entry}
-use Rattle.journal_model.specs.declared.holder.Holder.{Holder}
 use Rattle.journal_model.specs.declared.opening.Opening.{Opening}
-use Rattle.journal_model.specs.Journal.{any, each_of, is_open}
+use Rattle.journal_model.specs.Journal.{is_open}
 use Rattle.journal_model.specs.Legality.{Legal, claims, has_open_job, holder, is_busy, is_claimed, is_claimed_by, is_held_by, least_free, numbers_of, turned}
-use Rattle.journal_model.specs.Makers.{is_of_task}
 use Rattle.journal_model.proofs.Holding.{holder_append}
 use Rattle.journal_model.proofs.Idling.{claimed_positive}
 use Rattle.journal_model.proofs.Looks.{any-append, same}

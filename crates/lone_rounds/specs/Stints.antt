@@ -5,13 +5,12 @@ use Rattle.ann_key.specs.declared.bytes.NoMemory.{NoMemory}
 use Rattle.ann_outside.specs.Calls.{Gained}
 use Rattle.ann_outside.specs.Causes.{AddsOne, Rose, Stays}
 use Rattle.ann_outside.specs.Starts.{Starts}
-use Rattle.journal_model.specs.declared.verdict.Why.{Why}
 use Rattle.journal_model.specs.declared.answer.Answer.{Answer}
 use Rattle.journal_model.specs.declared.entry.What.{What}
 use Rattle.journal_model.specs.declared.entry.What.TheVariants.{Claim, Start, NoStart, Ask, Put, Sent, Mute, Got, End, Verdict as Settled, Lost, Answer as Answered, Note}
 use Rattle.journal_model.specs.declared.entry.Entry.{Entry}
 use Rattle.journal_model.specs.declared.opening.Opening.{Opening}
-use Rattle.journal_model.specs.Journal.{any, each_of, is_ended}
+use Rattle.journal_model.specs.Journal.{any, is_ended}
 use Rattle.journal_model.specs.Legality.{Legal, count, is_busy, is_start, least_free}
 use Rattle.journal_model.specs.Output.{answers_in}
 use Rattle.journal_model.specs.Shares.{are_by}
@@ -24,7 +23,7 @@ use Rattle.task_run.specs.TaskRuns.{failed_start}
 use Rattle.lone_work.specs.Works.{CanWork, DeskTells, TaskDone, Worked, CausedInTurn, all_calls, claims_in}
 use Rattle.child_end.specs.Wires.{WireValue, IsOfStart, came}
 use Rattle.child_end.specs.Programs.{ProgramsValue, AddsAll, is_failed_start, told}
-use Rattle.lone_rounds.specs.Starting.{AllOffer, AreEnded, AreSpent, children, is_any_start, is_elsewhere, is_offered, is_ready_untagged, is_spent, started_in}
+use Rattle.lone_rounds.specs.Starting.{AllOffer, AreEnded, AreSpent, children, is_any_start, is_elsewhere, is_offered, is_ready_untagged, is_spent}
 use Rattle.lone_rounds.specs.Rounds.{HasRun, ends_for_memory, is_of_run, start_untaken}
 
 -- an entry of the main thread's own

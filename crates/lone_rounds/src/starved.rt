@@ -12,7 +12,13 @@ fn is_memory_end(entry: Option<EntryRef<'_>>) -> bool
     ensures { result ≡ is_memory_end (option_map entry_shown entry.entry) }
 {
     match entry {
-        Some(entry) => matches!(entry.what, WhatRef::End { why: Why::Memory, .. }),
+        Some(entry) => matches!(
+            entry.what,
+            WhatRef::End {
+                why: Why::Memory,
+                ..
+            }
+        ),
         None => false,
     }
 }

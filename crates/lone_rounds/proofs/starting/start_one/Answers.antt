@@ -2,7 +2,6 @@ use Rattle.std.proofs.Common.{Bool, List, ℕ, false, refl, sym, subst, true}
 use Rattle.ann_outside.specs.Causes.{AddsOne}
 use Rattle.journal_model.specs.declared.answer.Answer.TheVariants.{Ended, StartFault, Unsent}
 use Rattle.journal_model.specs.declared.entry.What.TheVariants.{Start, NoStart}
-use Rattle.journal_model.specs.declared.entry.Entry.{Entry}
 use Rattle.journal_model.specs.declared.opening.Opening.{Opening}
 use Rattle.journal_model.specs.Legality.{Legal}
 use Rattle.child_end.specs.Programs.{programs_value}
@@ -42,13 +41,13 @@ returns-in-Ready-clause-starts g c =
     let link = c.serve.ensures.link in (
       Start child 0 c.args.offer,
       subst (λ (next : Bool). Stint o c.args.plan.now.setup c.args.plan.now.starts c.args.offer next (Start child 0 c.args.offer) old new tells tells') (sym c.is_offered.ensures)
-      (served_stint o c.args.plan.now.setup c.args.plan.now.starts c.args.offer c.in-Ready.tagged old mid new child tells tells' c.requires.legal c.in-Ready.ensures.tells.0
-      (subst (λ (w : Opening). Legal w mid) c.greet.ensures.core.opening (c.greet.ensures.core.legal c.requires.legal)) c.in-Ready.ensures.tells.1 c.in-Ready.ensures.tells.2
-      (subst (λ (w : Opening). HasServed w c.args.plan.now.setup child mid new tells tells') c.greet.ensures.core.opening c.serve.ensures.serves)),
+          (served_stint o c.args.plan.now.setup c.args.plan.now.starts c.args.offer c.in-Ready.tagged old mid new child tells tells' c.requires.legal c.in-Ready.ensures.tells.0
+          (subst (λ (w : Opening). Legal w mid) c.greet.ensures.core.opening (c.greet.ensures.core.legal c.requires.legal)) c.in-Ready.ensures.tells.1 c.in-Ready.ensures.tells.2
+          (subst (λ (w : Opening). HasServed w c.args.plan.now.setup child mid new tells tells') c.greet.ensures.core.opening c.serve.ensures.serves)),
       starts_kept c.args.plan.now.program new child c.args.offer (programs_value (g.P.Programs.starts c.args.programs.now) (g.P.Programs.faults c.args.programs.now)) (g.P.Programs.starts c.greet.new.programs)
-      (programs_value (g.P.Programs.starts c.finish.new.programs) (g.P.Programs.faults c.finish.new.programs)) (g.P.Programs.faults c.greet.new.programs)
-      c.in-Ready.link.ear c.serve.new.link.ear c.in-Ready.link.mouth c.serve.new.link.mouth _ _ (subst (λ (p : List ℕ). AddsOne (g.P.Programs.starts c.args.programs.now) (g.P.Programs.starts c.greet.new.programs) (p, true)) c.view-program.ensures c.in-Ready.ensures.starts) c.finish.ensures.starts c.in-Ready.ensures.later c.finish.ensures.later c.in-Ready.ensures.numbers
-      link.same_ear link.same_mouth refl c.serve.new.link.one_child (link.wired c.in-Ready.ensures.wired) c.finish.ensures.laid,
+          (programs_value (g.P.Programs.starts c.finish.new.programs) (g.P.Programs.faults c.finish.new.programs)) (g.P.Programs.faults c.greet.new.programs)
+          c.in-Ready.link.ear c.serve.new.link.ear c.in-Ready.link.mouth c.serve.new.link.mouth _ _ (subst (λ (p : List ℕ). AddsOne (g.P.Programs.starts c.args.programs.now) (g.P.Programs.starts c.greet.new.programs) (p, true)) c.view-program.ensures c.in-Ready.ensures.starts) c.finish.ensures.starts c.in-Ready.ensures.later c.finish.ensures.later c.in-Ready.ensures.numbers
+          link.same_ear link.same_mouth refl c.serve.new.link.one_child (link.wired c.in-Ready.ensures.wired) c.finish.ensures.laid,
     )
 
 pub returns-in-Refused-clause-starts : goal.returns-in-Refused-clause-starts
@@ -62,11 +61,11 @@ returns-in-Refused-clause-starts g c =
     let tells = desk_tells (g.K.Desk.log c.args.desk.now) (g.K.Desk.counts c.args.desk.now) in (
       Start child 0 c.args.offer,
       away_stint o c.args.plan.now.setup c.args.plan.now.starts c.args.offer old mid new child answer tells c.requires.left c.requires.rest c.in-Refused.ensures.tells.0 (unready_refused mid child c.in-Refused.verdict answer c.in-Refused.ensures.tells.1 c.not_prepared-answer.ensures)
-      (subst (λ (w : Opening). TurnsAway w child mid new answer) c.greet.ensures.core.opening c.turn_away.ensures.away),
+          (subst (λ (w : Opening). TurnsAway w child mid new answer) c.greet.ensures.core.opening c.turn_away.ensures.away),
       starts_child c.args.plan.now.program new child c.args.offer (programs_value (g.P.Programs.starts c.args.programs.now) (g.P.Programs.faults c.args.programs.now)) (g.P.Programs.starts c.greet.new.programs)
-      (programs_value (g.P.Programs.starts c.finish-in-Refused.new.programs) (g.P.Programs.faults c.finish-in-Refused.new.programs)) (g.P.Programs.faults c.greet.new.programs)
-      c.in-Refused.link.ear c.in-Refused.link.mouth _ _ (subst (λ (p : List ℕ). AddsOne (g.P.Programs.starts c.args.programs.now) (g.P.Programs.starts c.greet.new.programs) (p, true)) c.view-program.ensures c.in-Refused.ensures.starts) c.finish-in-Refused.ensures.starts c.in-Refused.ensures.later c.finish-in-Refused.ensures.later c.in-Refused.ensures.numbers refl c.in-Refused.link.one_child
-      (c.turn_away.ensures.wired c.in-Refused.ensures.wired) c.finish-in-Refused.ensures.laid,
+          (programs_value (g.P.Programs.starts c.finish-in-Refused.new.programs) (g.P.Programs.faults c.finish-in-Refused.new.programs)) (g.P.Programs.faults c.greet.new.programs)
+          c.in-Refused.link.ear c.in-Refused.link.mouth _ _ (subst (λ (p : List ℕ). AddsOne (g.P.Programs.starts c.args.programs.now) (g.P.Programs.starts c.greet.new.programs) (p, true)) c.view-program.ensures c.in-Refused.ensures.starts) c.finish-in-Refused.ensures.starts c.in-Refused.ensures.later c.finish-in-Refused.ensures.later c.in-Refused.ensures.numbers refl c.in-Refused.link.one_child
+          (c.turn_away.ensures.wired c.in-Refused.ensures.wired) c.finish-in-Refused.ensures.laid,
     )
 
 pub returns-in-Ended-clause-starts : goal.returns-in-Ended-clause-starts
@@ -80,11 +79,11 @@ returns-in-Ended-clause-starts g c =
     let tells = desk_tells (g.K.Desk.log c.args.desk.now) (g.K.Desk.counts c.args.desk.now) in (
       Start child 0 c.args.offer,
       away_stint o c.args.plan.now.setup c.args.plan.now.starts c.args.offer old mid new child answer tells c.requires.left c.requires.rest c.in-Ended.ensures.tells.0 (unready_ended mid child c.in-Ended.why c.in-Ended.ensures.tells.1)
-      (subst (λ (w : Opening). TurnsAway w child mid new answer) c.greet.ensures.core.opening c.turn_away-in-Ended.ensures.away),
+          (subst (λ (w : Opening). TurnsAway w child mid new answer) c.greet.ensures.core.opening c.turn_away-in-Ended.ensures.away),
       starts_child c.args.plan.now.program new child c.args.offer (programs_value (g.P.Programs.starts c.args.programs.now) (g.P.Programs.faults c.args.programs.now)) (g.P.Programs.starts c.greet.new.programs)
-      (programs_value (g.P.Programs.starts c.finish-in-Ended.new.programs) (g.P.Programs.faults c.finish-in-Ended.new.programs)) (g.P.Programs.faults c.greet.new.programs)
-      c.in-Ended.link.ear c.in-Ended.link.mouth _ _ (subst (λ (p : List ℕ). AddsOne (g.P.Programs.starts c.args.programs.now) (g.P.Programs.starts c.greet.new.programs) (p, true)) c.view-program.ensures c.in-Ended.ensures.starts) c.finish-in-Ended.ensures.starts c.in-Ended.ensures.later c.finish-in-Ended.ensures.later c.in-Ended.ensures.numbers refl c.in-Ended.link.one_child
-      (c.turn_away-in-Ended.ensures.wired c.in-Ended.ensures.wired) c.finish-in-Ended.ensures.laid,
+          (programs_value (g.P.Programs.starts c.finish-in-Ended.new.programs) (g.P.Programs.faults c.finish-in-Ended.new.programs)) (g.P.Programs.faults c.greet.new.programs)
+          c.in-Ended.link.ear c.in-Ended.link.mouth _ _ (subst (λ (p : List ℕ). AddsOne (g.P.Programs.starts c.args.programs.now) (g.P.Programs.starts c.greet.new.programs) (p, true)) c.view-program.ensures c.in-Ended.ensures.starts) c.finish-in-Ended.ensures.starts c.in-Ended.ensures.later c.finish-in-Ended.ensures.later c.in-Ended.ensures.numbers refl c.in-Ended.link.one_child
+          (c.turn_away-in-Ended.ensures.wired c.in-Ended.ensures.wired) c.finish-in-Ended.ensures.laid,
     )
 
 pub returns-in-Unsent-clause-starts : goal.returns-in-Unsent-clause-starts
@@ -98,11 +97,11 @@ returns-in-Unsent-clause-starts g c =
     let tells = desk_tells (g.K.Desk.log c.args.desk.now) (g.K.Desk.counts c.args.desk.now) in (
       Start child 0 c.args.offer,
       away_stint o c.args.plan.now.setup c.args.plan.now.starts c.args.offer old mid new child answer tells c.requires.left c.requires.rest c.in-Unsent.ensures.tells.0 (unready_unsent mid child c.in-Unsent.ensures.tells.1)
-      (subst (λ (w : Opening). TurnsAway w child mid new answer) c.greet.ensures.core.opening c.turn_away-in-Unsent.ensures.away),
+          (subst (λ (w : Opening). TurnsAway w child mid new answer) c.greet.ensures.core.opening c.turn_away-in-Unsent.ensures.away),
       starts_child c.args.plan.now.program new child c.args.offer (programs_value (g.P.Programs.starts c.args.programs.now) (g.P.Programs.faults c.args.programs.now)) (g.P.Programs.starts c.greet.new.programs)
-      (programs_value (g.P.Programs.starts c.finish-in-Unsent.new.programs) (g.P.Programs.faults c.finish-in-Unsent.new.programs)) (g.P.Programs.faults c.greet.new.programs)
-      c.in-Unsent.link.ear c.in-Unsent.link.mouth _ _ (subst (λ (p : List ℕ). AddsOne (g.P.Programs.starts c.args.programs.now) (g.P.Programs.starts c.greet.new.programs) (p, true)) c.view-program.ensures c.in-Unsent.ensures.starts) c.finish-in-Unsent.ensures.starts c.in-Unsent.ensures.later c.finish-in-Unsent.ensures.later c.in-Unsent.ensures.numbers refl c.in-Unsent.link.one_child
-      (c.turn_away-in-Unsent.ensures.wired c.in-Unsent.ensures.wired) c.finish-in-Unsent.ensures.laid,
+          (programs_value (g.P.Programs.starts c.finish-in-Unsent.new.programs) (g.P.Programs.faults c.finish-in-Unsent.new.programs)) (g.P.Programs.faults c.greet.new.programs)
+          c.in-Unsent.link.ear c.in-Unsent.link.mouth _ _ (subst (λ (p : List ℕ). AddsOne (g.P.Programs.starts c.args.programs.now) (g.P.Programs.starts c.greet.new.programs) (p, true)) c.view-program.ensures c.in-Unsent.ensures.starts) c.finish-in-Unsent.ensures.starts c.in-Unsent.ensures.later c.finish-in-Unsent.ensures.later c.in-Unsent.ensures.numbers refl c.in-Unsent.link.one_child
+          (c.turn_away-in-Unsent.ensures.wired c.in-Unsent.ensures.wired) c.finish-in-Unsent.ensures.laid,
     )
 
 pub returns-in-StartFault-clause-starts : goal.returns-in-StartFault-clause-starts
@@ -114,9 +113,9 @@ returns-in-StartFault-clause-starts g c =
     let tells = desk_tells (g.K.Desk.log c.args.desk.now) (g.K.Desk.counts c.args.desk.now) in (
       NoStart 0,
       fault_stint o c.args.plan.now.setup c.args.plan.now.starts c.args.offer old mid new tells c.requires.left c.requires.rest c.in-StartFault.ensures.tells c.answer_one.result
-      (subst (λ (w : Opening). AnswersOne w mid new StartFault c.answer_one.result) c.greet.ensures.core.opening c.answer_one.ensures.answers),
+          (subst (λ (w : Opening). AnswersOne w mid new StartFault c.answer_one.result) c.greet.ensures.core.opening c.answer_one.ensures.answers),
       starts_none c.args.plan.now.program new (programs_value (g.P.Programs.starts c.args.programs.now) (g.P.Programs.faults c.args.programs.now))
-      (programs_value (g.P.Programs.starts c.greet.new.programs) (g.P.Programs.faults c.greet.new.programs)) _ _ (subst (λ (p : List ℕ). AddsOne (g.P.Programs.starts c.args.programs.now) (g.P.Programs.starts c.greet.new.programs) (p, false)) c.view-program.ensures c.in-StartFault.ensures.starts) (c.in-StartFault.ensures.fault refl) c.in-StartFault.ensures.later refl,
+          (programs_value (g.P.Programs.starts c.greet.new.programs) (g.P.Programs.faults c.greet.new.programs)) _ _ (subst (λ (p : List ℕ). AddsOne (g.P.Programs.starts c.args.programs.now) (g.P.Programs.starts c.greet.new.programs) (p, false)) c.view-program.ensures c.in-StartFault.ensures.starts) (c.in-StartFault.ensures.fault refl) c.in-StartFault.ensures.later refl,
     )
 
 pub returns-in-NoMemory-clause-starts : goal.returns-in-NoMemory-clause-starts
