@@ -1,5 +1,5 @@
 // The end of a child: it is closed in the journal, its link's halves are closed, and its program is waited for.
-ghost use Rattle.std.specs.Prelude.{◌≡◌, ◌<◌, ◌≤◌, map, true, vec_len, vec_capacity};
+ghost use Rattle.std.specs.Prelude.{◌≡◌, ◌<◌, ◌≤◌, ◌+◌, map, true, vec_len, vec_capacity};
 ghost use Rattle.ann_outside.specs.Causes.{Stays};
 ghost use Rattle.journal_model.specs.declared.verdict.Why.TheVariants.{Closed};
 ghost use Rattle.journal_model.specs.Journal.{is_started};
@@ -34,6 +34,7 @@ pub fn finish<P: Programs>(
 )
     requires room { vec_len wires.old < vec_capacity wires.old }
     ensures laid { IsLaid link.ear link.mouth (map (wire_value P.Inlet.taken P.Inlet.faults P.Inlet.number P.Inlet.is_open P.Outlet.given P.Outlet.left P.Outlet.faults P.Outlet.number P.Outlet.is_open) wires.old.items) (map (wire_value P.Inlet.taken P.Inlet.faults P.Inlet.number P.Inlet.is_open P.Outlet.given P.Outlet.left P.Outlet.faults P.Outlet.number P.Outlet.is_open) wires.new.items) }
+    ensures room { (vec_len wires.new ≡ vec_len wires.old + 1) × (vec_capacity wires.new ≡ vec_capacity wires.old) }
     ensures starts { Stays (P.starts programs.old) (P.starts programs.new) }
     ensures later { P.faults programs.old ≤ P.faults programs.new }
 {

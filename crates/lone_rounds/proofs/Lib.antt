@@ -1,0 +1,13 @@
+pub mod Tests
+pub mod Apart
+pub mod Later
+pub mod Turns
+pub mod Zeros
+pub mod Runs
+pub mod Stinting
+pub mod Unready
+pub mod Served
+pub mod Growing
+pub mod Leaving
+pub mod Ending
+pub mod Scanning

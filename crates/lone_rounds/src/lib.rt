@@ -3,6 +3,10 @@
 
 mod plan;
 mod running;
+mod serving;
+mod starting;
+mod starved;
+mod zero;
 
 pub use plan::Plan;
 pub use running::run_alone;

@@ -1,6 +1,5 @@
-ghost use Rattle.std.specs.Prelude.{◌≡◌, ◌≤◌, ◌<◌, [], map, IsErr, vec_capacity};
+ghost use Rattle.std.specs.Prelude.{◌≡◌, ◌≤◌, ◌<◌, [], map, IsErr, vec_capacity, false};
 ghost use Rattle.annex_model.specs.Lines.{has_newline};
-ghost use Rattle.journal_model.specs.Legality.{Legal};
 ghost use Rattle.child_start.specs.Cores.{IsSameCore};
 ghost use Rattle.child_end.specs.Wires.{wire_value};
 ghost use Rattle.child_end.specs.Programs.{Leaves, programs_value};
@@ -8,6 +7,8 @@ ghost use Rattle.lone_work.specs.Works.{AreTasks, desk_tells};
 ghost use Rattle.lone_rounds.specs.Rounds.{IsWhole, RanAlone};
 
 use crate::plan::Plan;
+use crate::starting::start_children;
+use crate::zero::answer_left;
 use ann_key::NoMemory;
 use ann_outside::{Desk, Programs};
 use host_core::Core;
@@ -41,5 +42,13 @@ where
     ensures leaves { Leaves (IsErr result) plan.now.program core.new.journal (programs_value (P.starts programs.old) (P.faults programs.old)) (programs_value (P.starts programs.new) (P.faults programs.new)) (map (wire_value P.Inlet.taken P.Inlet.faults P.Inlet.number P.Inlet.is_open P.Outlet.given P.Outlet.left P.Outlet.faults P.Outlet.number P.Outlet.is_open) wires.new.items) }
     ensures core { IsSameCore core.old core.new }
 {
-    Err(NoMemory)
+    match start_children(alloc, programs, plan, tasks, core, desk, wires) {
+        Ok(()) => {
+            if core.unclaimed() > 0 {
+                answer_left(core);
+            }
+            Ok(())
+        }
+        Err(NoMemory) => Err(NoMemory),
+    }
 }

@@ -49,7 +49,7 @@ module _ (o : Opening) (past : List Entry) (rest : (t : ℕ) → is_busy past t 
   none_busy t [] = refl
   none_busy t (u ∷ us) = rw (rest u, none_busy t us) refl
 
-  claimed_all : (ts : List ℕ) → find (is_free o past) ts ≡ None → list_all (is_claimed past) ts ≡ true
+  pub claimed_all : (ts : List ℕ) → find (is_free o past) ts ≡ None → list_all (is_claimed past) ts ≡ true
   claimed_all [] h = refl
   claimed_all (t ∷ ts) h =
       go (is_claimed past t) refl (subst (λ (b : Bool). cond (not (is_claimed past t) && not b) (Some t) (find (is_free o past) ts) ≡ None) (none_busy t (numbers_of o)) h) (claimed_all ts)

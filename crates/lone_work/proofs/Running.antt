@@ -32,7 +32,7 @@ use Rattle.door_asker.specs.Servings.{HasTurn, Serves, ServesOn, by_server}
 use Rattle.door_asker.proofs.Noted.{notes_for, notings_from-append, notings_from-none, notings-unnoted}
 use Rattle.door_asker.proofs.Serving.{gives_none, held_on, idle_on, prepared_on, server_answers, server_claims}
 use Rattle.task_rounds.specs.JournalRuns.{PlainRun}
-use Rattle.lone_work.specs.Works.{Begun, CanWork, DeskTells, Does}
+use Rattle.lone_work.specs.Works.{Begun, CanWork, DeskTells, Does, RanFor}
 
 -- ---- entries of a task
 
@@ -116,15 +116,8 @@ module _ (o : Opening) (setup : Setup) (task : Task) (n c t : ℕ) (past within 
 
   pub plain_run : (asked : List Asking) (calls : List Call) (noted : List Noting) → askings came t ≡ askings begun t ++ asked
       → notings came t ≡ notings begun t ++ map (behind_more (length (askings begun t))) noted → TaskRun task t setup [] asked calls noted (answered result)
-      → has_open_job came t ≡ false → makes_only (by_server c t) n within ≡ true → are_by n within ≡ true → PlainRun o setup calls n t ended
-  plain_run asked calls noted pairs_are notes_are ran shut own by = record {
-    task = task;
-    is = is;
-    run = run;
-    by_it = refl;
-    ran = subst (λ (xs : List Asking). TaskRun task t setup [] xs calls (run_notings run) (answered result)) (sym its_askings)
-        (subst (λ (xs : List Noting). TaskRun task t setup [] asked calls xs (answered result)) (sym its_notings) ran);
-  }
+      → has_open_job came t ≡ false → makes_only (by_server c t) n within ≡ true → are_by n within ≡ true → RanFor o setup calls n c t (answered result) ended
+  plain_run asked calls noted pairs_are notes_are ran shut own by = record { run = plain; child = refl; answer_is = refl }
     where
       run : TaskStretch ended t
       run = record {
@@ -151,6 +144,16 @@ module _ (o : Opening) (setup : Setup) (task : Task) (n c t : ℕ) (past within 
           ∙ ap (λ (l : List Noting). l ++ map (behind_more (length (askings begun t))) noted) (notings_from-none begun t [] 0 begun unnoted)
           ∙ ap (λ (l : List Asking). map (behind_more (length l)) noted) none_before
           ∙ behind_none noted
+
+      plain : PlainRun o setup calls n t ended
+      plain = record {
+        task = task;
+        is = is;
+        run = run;
+        by_it = refl;
+        ran = subst (λ (xs : List Asking). TaskRun task t setup [] xs calls (run_notings run) (answered result)) (sym its_askings)
+            (subst (λ (xs : List Noting). TaskRun task t setup [] asked calls xs (answered result)) (sym its_notings) ran);
+      }
 
 -- ---- behind the answer
 
@@ -209,7 +212,7 @@ module _ (o : Opening) (setup : Setup) (task : Task) (n c t : ℕ) (old ran new 
     is = new_is;
     only = s.moved.own;
     own = s.moved.lone refl;
-    run = subst (PlainRun o setup r.calls n t) (sym (given ∙ ap (λ (x : List Entry). x ++ entry n (Answered t (answered result)) ∷ []) came)) whole;
+    run = subst (RanFor o setup r.calls n c t (answered result)) (sym (given ∙ ap (λ (x : List Entry). x ++ entry n (Answered t (answered result)) ∷ []) came)) whole;
     log_is = r.log_is;
     caused = causes_answered desk.counts desk'.counts result causes;
   }
@@ -228,7 +231,7 @@ module _ (o : Opening) (setup : Setup) (task : Task) (n c t : ℕ) (old ran new 
           ap (λ (x : List Entry). notings x t) (sym came) ∙ r.notes_are
           ∙ ap (λ (x : List Entry). notings x t ++ map (behind_more (length (askings x t))) r.noted) b.is
 
-      whole : PlainRun o setup r.calls n t (((b.past ++ entry n (Claim t c) ∷ []) ++ s.moved.more) ++ entry n (Answered t (answered result)) ∷ [])
+      whole : RanFor o setup r.calls n c t (answered result) (((b.past ++ entry n (Claim t c) ∷ []) ++ s.moved.more) ++ entry n (Answered t (answered result)) ∷ [])
       whole = plain_run o setup task n c t b.past s.moved.more result is b.fresh r.asked r.calls r.noted pairs notes r.run
           (subst (λ (x : List Entry). has_open_job x t ≡ false) came s.serves.at.shut) s.moved.own (s.moved.lone refl)
 

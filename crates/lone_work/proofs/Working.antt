@@ -24,8 +24,8 @@ use Rattle.fetch_copy.proofs.CopyLaws.{gained_nothing, gained_more}
 use Rattle.door_asker.specs.Servings.{by_server}
 use Rattle.door_asker.proofs.Serving.{gives_none}
 use Rattle.task_rounds.specs.JournalRuns.{PlainRun}
-use Rattle.task_rounds.proofs.Lasting.{plain_lasts}
-use Rattle.lone_work.specs.Works.{AllRan, CausedInTurn, DeskTells, Does, TaskDone, Worked, all_calls, by_worker, claimed_task, claims_in}
+use Rattle.task_rounds.proofs.Lasting.{plain_stays}
+use Rattle.lone_work.specs.Works.{AllRan, CausedInTurn, DeskTells, Does, RanFor, TaskDone, Worked, all_calls, by_worker, claimed_task, claims_in}
 use Rattle.lone_work.proofs.Claiming.{free_unclaimed}
 
 -- ---- lists
@@ -49,9 +49,9 @@ caused_both : (a b d : Counts) (xs ys : List TaskDone) → CausedInTurn a xs b �
 caused_both a b d [] ys h k = subst (λ (w : Counts). CausedInTurn w ys d) h k
 caused_both a b d (r ∷ xs) ys h k = (h.0, caused_both r.counts b d xs ys h.1 k)
 
-ran_both : (o : Opening) (setup : Setup) (n : ℕ) (journal : List Entry) (xs ys : List TaskDone) → AllRan o setup n journal xs → AllRan o setup n journal ys → AllRan o setup n journal (xs ++ ys)
-ran_both o setup n journal [] ys h k = k
-ran_both o setup n journal (r ∷ xs) ys h k = (h.0, ran_both o setup n journal xs ys h.1 k)
+ran_both : (o : Opening) (setup : Setup) (n c : ℕ) (journal : List Entry) (xs ys : List TaskDone) → AllRan o setup n c journal xs → AllRan o setup n c journal ys → AllRan o setup n c journal (xs ++ ys)
+ran_both o setup n c journal [] ys h k = k
+ran_both o setup n c journal (r ∷ xs) ys h k = (h.0, ran_both o setup n c journal xs ys h.1 k)
 
 -- ---- what stays
 
@@ -67,15 +67,22 @@ ran_claimed o setup calls n t journal r =
     (any-append (claims t) r.run.past (entry r.run.by (Claim t r.run.child) ∷ r.run.within)
     ∙ or_right (is_claimed r.run.past t) (is_claimed (entry r.run.by (Claim t r.run.child) ∷ r.run.within) t) begun)
 
--- the runs so far stay while no task is busy
-pub runs_last : (o : Opening) (setup : Setup) (n : ℕ) (past more : List Entry) (runs : List TaskDone) → Legal o past → ((t : ℕ) → is_busy past t ≡ false)
-    → AllRan o setup n past runs → AllRan o setup n (past ++ more) runs
-runs_last o setup n past more [] legal rest h = tt
-runs_last o setup n past more (r ∷ runs) legal rest h =
-    let pos : 0 < r.task = claimed_positive o past legal r.task (ran_claimed o setup r.calls n r.task past h.0) in (
-      plain_lasts o setup r.calls n r.task past more (idle_shut o past legal r.task pos (rest r.task)) h.0,
-      runs_last o setup n past more runs legal rest h.1,
-    )
+-- a run so far stays while no task is busy
+pub run_lasts : (o : Opening) (setup : Setup) (calls : List Call) (n c t : ℕ) (answer : Answer) (past more : List Entry) → Legal o past → ((t : ℕ) → is_busy past t ≡ false)
+    → RanFor o setup calls n c t answer past → RanFor o setup calls n c t answer (past ++ more)
+run_lasts o setup calls n c t answer past more legal rest h =
+    let pos : 0 < t = claimed_positive o past legal t (ran_claimed o setup calls n t past h.run) in
+    let still = plain_stays o setup calls n t past more (idle_shut o past legal t pos (rest t)) h.run in
+    record { run = still.0; child = still.1 ∙ h.child; answer_is = still.2 ∙ h.answer_is }
+
+-- and so does each
+pub runs_last : (o : Opening) (setup : Setup) (n c : ℕ) (past more : List Entry) (runs : List TaskDone) → Legal o past → ((t : ℕ) → is_busy past t ≡ false)
+    → AllRan o setup n c past runs → AllRan o setup n c (past ++ more) runs
+runs_last o setup n c past more [] legal rest h = tt
+runs_last o setup n c past more (r ∷ runs) legal rest h = (
+  run_lasts o setup r.calls n c r.task r.answer past more legal rest h.0,
+  runs_last o setup n c past more runs legal rest h.1,
+)
 
 -- ---- one thing behind another
 
@@ -106,7 +113,7 @@ module _ (o : Opening) (setup : Setup) (n c : ℕ) where
         ∙ ap (λ (l : List ℕ). claims_in s.more ++ l) k.claimed ∙ sym (each_of-append claimed_task s.more k.more);
     answered = answers_both s.done k.done ∙ ap (λ (l : List (ℕ × Answer)). l ++ map told k.done) s.answered
         ∙ ap (λ (l : List (ℕ × Answer)). answers_in s.more ++ l) k.answered ∙ sym (each_of-append answer_in s.more k.more);
-    ran = ran_both o setup n z s.done k.done (subst (λ (j : List Entry). AllRan o setup n j s.done) (sym k.is) (runs_last o setup n y k.more s.done legal rest s.ran)) k.ran;
+    ran = ran_both o setup n c z s.done k.done (subst (λ (j : List Entry). AllRan o setup n c j s.done) (sym k.is) (runs_last o setup n c y k.more s.done legal rest s.ran)) k.ran;
     log_is = subst (Gained a.log d.log) (sym (calls_both s.done k.done)) (gained_more a.log b.log d.log (all_calls s.done) (all_calls k.done) s.log_is k.log_is);
     caused = caused_both a.counts b.counts d.counts s.done k.done s.caused k.caused;
   }

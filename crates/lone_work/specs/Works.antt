@@ -96,10 +96,16 @@ by_worker c (Note task chunk count) = true
 by_worker c (Answered task answer) = true
 by_worker c w = by_link c w
 
--- the journal has a run of each of the tasks, with these calls
-abbrev pub AllRan : Opening → Setup → ℕ → List Entry → List TaskDone → Type 0
-AllRan o setup number journal [] = Unit {0}
-AllRan o setup number journal (r ∷ rs) = PlainRun o setup r.calls number r.task journal × AllRan o setup number journal rs
+-- the journal has a run of the task by this number, claimed for c, with these calls and this answer
+pub record RanFor (o : Opening) (setup : Setup) (calls : List Call) (number c t : ℕ) (answer : Answer) (journal : List Entry) : Type 0 where
+  pub run : PlainRun o setup calls number t journal
+  pub child : run.run.child ≡ c
+  pub answer_is : run.run.answer ≡ answer
+
+-- the journal has such a run of each of the tasks
+abbrev pub AllRan : Opening → Setup → ℕ → ℕ → List Entry → List TaskDone → Type 0
+AllRan o setup number c journal [] = Unit {0}
+AllRan o setup number c journal (r ∷ rs) = RanFor o setup r.calls number c r.task r.answer journal × AllRan o setup number c journal rs
 
 -- the calls of the tasks, one task behind the other
 abbrev pub all_calls : List TaskDone → List Call
@@ -121,7 +127,7 @@ pub record Worked (o : Opening) (setup : Setup) (number c : ℕ) (old new : List
   pub done : List TaskDone
   pub claimed : map (λ r. r.task) done ≡ claims_in more
   pub answered : map (λ r. (r.task, r.answer)) done ≡ answers_in more
-  pub ran : AllRan o setup number new done
+  pub ran : AllRan o setup number c new done
   pub log_is : Gained desk.log desk'.log (all_calls done)
   pub caused : CausedInTurn desk.counts done desk'.counts
 
@@ -135,6 +141,6 @@ pub record Does (o : Opening) (setup : Setup) (number c t : ℕ) (old new : List
   pub is : new ≡ (old ++ within) ++ record { by = number; what = Answered t answer } ∷ []
   pub only : makes_only (by_server c t) number within ≡ true
   pub own : are_by number within ≡ true
-  pub run : PlainRun o setup calls number t new
+  pub run : RanFor o setup calls number c t answer new
   pub log_is : Gained desk.log desk'.log calls
   pub caused : HasTaskCauses desk.counts desk'.counts (Ok answer)

@@ -152,5 +152,11 @@ plain_lasts o setup calls n t past more shut r = record {
       (subst (λ (xs : List Noting). TaskRun r.task t setup [] (run_askings r.run) calls xs r.run.answer) (sym (more_noted past more t r.run shut)) r.ran);
 }
 
+-- of the same child, and with the same answer
+pub plain_stays : (o : Opening) (setup : Setup) (calls : List Call) (n t : ℕ) (past more : List Entry) → has_open_job past t ≡ false
+    → (r : PlainRun o setup calls n t past) → (s : PlainRun o setup calls n t (past ++ more)) × (s.run.child ≡ r.run.child) × (s.run.answer ≡ r.run.answer)
+unfolding plain_lasts
+plain_stays o setup calls n t past more shut r = (plain_lasts o setup calls n t past more shut r, refl, refl)
+
 pub plain_is_whole : PlainIsWhole
 plain_is_whole o setup calls number t journal r known = record { task = r.task; is = r.is; run = r.run; by_it = r.by_it; layouts = []; known = known; ran = r.ran }

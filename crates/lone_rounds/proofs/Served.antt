@@ -1,0 +1,226 @@
+-- A child that got ready: it does tasks until it is gone or all are claimed.
+use Rattle.std.proofs.Common.{◌≡◌, ◌⊎◌, ℕ, ◌+◌, ◌<◌, ◌≤◌, List, [], ◌∷◌, ◌++◌, refl, sym, ap, subst, ◌∙◌, append_assoc, append-nil, length, Bool, true, false, not, ◌==◌, cond, Some, None, Option, arith, inl, inr}
+use Rattle.std.specs.Prelude.{◌&&◌, ◌||◌, is_some, filter}
+use Rattle.std.specs.List.{list_all}
+use Rattle.std.specs.Option.{option_or}
+use Rattle.journal_model.specs.declared.verdict.Why.{Why}
+use Rattle.journal_model.specs.declared.verdict.Verdict.{Verdict}
+use Rattle.journal_model.specs.declared.verdict.Verdict.TheVariants.{Done as DoneAt}
+use Rattle.journal_model.specs.declared.answer.Answer.{Answer}
+use Rattle.journal_model.specs.declared.entry.What.{What}
+use Rattle.journal_model.specs.declared.entry.What.TheVariants.{Start, End}
+use Rattle.journal_model.specs.declared.entry.Entry.{Entry}
+use Rattle.journal_model.specs.declared.opening.Opening.{Opening}
+use Rattle.annex_model.specs.Messages.{remote_reading}
+use Rattle.annex_model.specs.Tags.{names_async}
+use Rattle.journal_model.specs.Journal.{accepts_async, any, asked_jobs, ends, got_line, is_ended, is_mute, is_settled, is_tagged, offers, open_jobs, verdict_of, why_of}
+use Rattle.journal_model.specs.Legality.{Legal, count, is_busy, is_done, is_prepared, is_start, prepares}
+use Rattle.journal_model.specs.Output.{answer_in, answers_in}
+use Rattle.journal_model.specs.Shares.{is_closed}
+use Rattle.journal_model.proofs.Fresh.{fresh}
+use Rattle.journal_model.proofs.Linking.{why_is_end, why_of-append}
+use Rattle.journal_model.proofs.Looks.{any-append, both, each_of-append, unsettled, verdict_of-append}
+use Rattle.journal_model.proofs.Projecting.{invariant}
+use Rattle.journal_model.proofs.Replying.{slice_get-left}
+use Rattle.journal_model.proofs.Testing.{all-join, or_left, or_right}
+use Rattle.host_core.specs.Steps.{are_all_claimed, is_gone}
+use Rattle.gathering.specs.Tasks.{IsThrough}
+use Rattle.child_start.specs.Greetings.{Greeted, IsReady, is_of_greeting}
+use Rattle.child_start.proofs.Begun.{later_unstarted}
+use Rattle.task_run.specs.declared.setup.Setup.{Setup}
+use Rattle.task_run.specs.TaskRuns.{failed_start, gone_answer, or_refusal, refusal_of, unready_answer}
+use Rattle.lone_work.specs.Works.{DeskTells, by_worker, claimed_task, claims_in}
+use Rattle.lone_rounds.specs.Starting.{is_ready_untagged, is_spent, is_unclosed}
+use Rattle.lone_rounds.specs.Rounds.{start_untaken}
+use Rattle.lone_rounds.specs.Stints.{HasServed, Stint, TasksDone, in_stint, main_entry}
+use Rattle.lone_rounds.proofs.Apart.{ended_unclosed, is_unclosed_end, no_offer, no_start_in, spent_on}
+use Rattle.lone_rounds.proofs.Later.{late_from}
+use Rattle.lone_rounds.proofs.Runs.{done_same, worker_runs}
+use Rattle.lone_rounds.proofs.Stinting.{Closing, Part, closing, closing_part, closing_rests, greeting_gives_none, greeting_part, greeting_takes_none, of_closing, part_both, worker_part}
+use Rattle.lone_rounds.proofs.Tests.{any_none, claimed_on, or_false}
+use Rattle.lone_rounds.proofs.Turns.{ready_untaken}
+
+-- ---- a ready child stays so, and tagged or not
+
+done_more : (v w : Option Verdict) → is_done v ≡ true → is_done (option_or v w) ≡ true
+done_more None w h = absurd cc
+done_more (Some v) w h = h
+
+accepted : (past more : List Entry) (v : Option Verdict) → ((at : ℕ) → v ≡ Some (DoneAt at) → at < length past) → accepts_async (past ++ more) v ≡ accepts_async past v
+accepted past more None h = refl
+accepted past more (Some (DoneAt at)) h = ap (λ (e : Option Entry). names_async (remote_reading (got_line e))) (slice_get-left past more at (h at refl))
+accepted past more (Some v) h = refl
+
+module _ (o : Opening) (g more : List Entry) (c : ℕ) (legal : Legal o g) (ready : IsReady g c) (idle : open_jobs g c ≡ []) (within : list_all (λ (e : Entry). in_stint c e.what) more ≡ true) where
+  settled_first : is_settled g c 0 ≡ true
+  settled_first = go (is_settled g c 0) refl (sym (ap (filter (λ (j : ℕ). not (is_settled g c j))) ready.jobs) ∙ idle)
+    where
+      go : (b : Bool) → is_settled g c 0 ≡ b
+          → cond (not (is_settled g c 0)) (0 ∷ filter (λ (j : ℕ). not (is_settled g c j)) (1 ∷ [])) (filter (λ (j : ℕ). not (is_settled g c j)) (1 ∷ [])) ≡ [] → is_settled g c 0 ≡ true
+      go true e h = e
+      go false e h = absurd (let bad : 0 ∷ filter (λ (j : ℕ). not (is_settled g c j)) (1 ∷ []) ≡ [] = subst (λ (b : Bool). cond (not b) (0 ∷ filter (λ (j : ℕ). not (is_settled g c j)) (1 ∷ [])) (filter (λ (j : ℕ). not (is_settled g c j)) (1 ∷ [])) ≡ []) e h in cc)
+
+  first_same : verdict_of (g ++ more) c 0 ≡ verdict_of g c 0
+  first_same = verdict_of-append c 0 g more ∙ go (verdict_of g c 0) refl
+    where
+      go : (v : Option Verdict) → verdict_of g c 0 ≡ v → option_or v (verdict_of more c 0) ≡ v
+      go (Some v) e = refl
+      go None e = absurd (let bad : true ≡ false = sym settled_first ∙ unsettled g c 0 e in cc)
+
+  unoffered : any (offers c) (g ++ more) ≡ any (offers c) g
+  unoffered = any-append (offers c) g more ∙ ap (λ (b : Bool). any (offers c) g || b) (any_none (in_stint c) (offers c) (λ w h. no_offer c w (no_start_in c w h)) more within) ∙ or_false (any (offers c) g)
+
+  tag_same : is_tagged (g ++ more) c ≡ is_tagged g c
+  tag_same =
+      ap (λ (b : Bool). b && accepts_async (g ++ more) (verdict_of (g ++ more) c 0)) unoffered
+      ∙ ap (λ (v : Option Verdict). any (offers c) g && accepts_async (g ++ more) v) first_same
+      ∙ ap (λ (b : Bool). any (offers c) g && b) (accepted g more (verdict_of g c 0) ((invariant o g legal).placed c 0))
+
+  done_still : is_done (verdict_of (g ++ more) c 1) ≡ true
+  done_still = ap is_done (verdict_of-append c 1 g more) ∙ done_more (verdict_of g c 1) (verdict_of more c 1) (both (is_done (verdict_of g c 1)) (any (prepares c) g) ready.prepared).0
+
+  prepared_still : is_prepared (g ++ more) c ≡ true
+  prepared_still =
+      let asked : any (prepares c) (g ++ more) ≡ true = any-append (prepares c) g more ∙ or_left (any (prepares c) g) (any (prepares c) more) (both (is_done (verdict_of g c 1)) (any (prepares c) g) ready.prepared).1 in
+      rw (done_still, asked) refl
+
+  ready_now : is_ready_untagged (g ++ more) c ≡ not (is_tagged g c)
+  ready_now = ap (λ (b : Bool). b && not (is_tagged (g ++ more) c)) prepared_still ∙ ap not tag_same
+
+  answers_nothing : unready_answer (g ++ more) c ≡ None
+  answers_nothing = ap (λ (b : Bool). cond b None (or_refusal (gone_answer (g ++ more) c) (refusal_of (g ++ more) c))) done_still
+
+-- ---- what ends a child that works
+
+greeting_unclosed : (c : ℕ) (w : What) → is_of_greeting c w ≡ true → is_unclosed_end w ≡ true
+greeting_unclosed c (End child why) h = (both (child == c) (not (is_closed why)) h).1
+greeting_unclosed c w h = refl
+
+worker_unclosed : (c : ℕ) (w : What) → by_worker c w ≡ true → is_unclosed_end w ≡ true
+worker_unclosed c (End child why) h = (both (child == c) (not (is_closed why)) h).1
+worker_unclosed c w h = refl
+
+all_unclosed : (p : What → Bool) → ((w : What) → p w ≡ true → is_unclosed_end w ≡ true) → (xs : List Entry) → list_all (λ (e : Entry). p e.what) xs ≡ true → list_all (λ (e : Entry). is_unclosed_end e.what) xs ≡ true
+all_unclosed p f [] h = refl
+all_unclosed p f (e ∷ xs) h =
+    let t = both (p e.what) (list_all (λ (x : Entry). p x.what) xs) h in
+    rw (f e.what t.0, all_unclosed p f xs t.1) refl
+
+module _ (o : Opening) (old xs : List Entry) (c : ℕ) (legal : Legal o old) (next : c ≡ count is_start old + 1) (unclosed : list_all (λ (e : Entry). is_unclosed_end e.what) xs ≡ true) where
+  unseen : why_of old c ≡ None
+  unseen = (fresh o old legal c (later_unstarted o old legal c (omega (arith, next)))).ends
+
+  -- a new child that such entries end
+  pub new_unclosed : is_ended (old ++ xs) c ≡ true → is_unclosed (why_of (old ++ xs) c) ≡ true
+  new_unclosed h =
+      let live : is_ended old c ≡ false = sym (why_is_end old c) ∙ ap is_some unseen in
+      let here : is_ended xs c ≡ true = sym (any-append (ends c) old xs ∙ ap (λ (b : Bool). b || is_ended xs c) live) ∙ h in
+      ap is_unclosed (why_of-append old xs c ∙ ap (λ (w : Option Why). option_or w (why_of xs c)) unseen) ∙ ended_unclosed c xs unclosed here
+
+-- ---- the stint
+
+untagged : (a b : Bool) → (a && b) ≡ (a && not (not b || false))
+untagged true true = refl
+untagged true false = refl
+untagged false b = refl
+
+module _ (o : Opening) (setup : Setup) (limit : ℕ) (offer tagged : Bool) (old g new : List Entry) (c : ℕ) (desk desk' : DeskTells)
+    (legal : Legal o old) (greeted : Greeted old g 0 offer c) (legal' : Legal o g) (ready : IsReady g c) (tag : tagged ≡ is_tagged g c) (s : HasServed o setup c g new desk desk') where
+  abbrev first : Entry
+  first = main_entry (Start c 0 offer)
+
+  abbrev its : List Entry
+  its = s.worked.more
+
+  k : Closing c s.mid new
+  k = closing c s.mid new s.closes
+
+  abbrev later : List Entry
+  later = greeted.more ++ (its ++ k.tail)
+
+  behind : new ≡ g ++ (its ++ k.tail)
+  behind = k.is ∙ ap (λ (x : List Entry). x ++ k.tail) s.worked.is ∙ append_assoc g its k.tail
+
+  whole : new ≡ old ++ first ∷ later
+  whole = behind ∙ ap (λ (x : List Entry). x ++ (its ++ k.tail)) greeted.grown ∙ append_assoc old (first ∷ greeted.more) (its ++ k.tail)
+
+  two : 2 ≤ length (asked_jobs g c)
+  two = (let n = ap length ready.jobs in omega (arith, n))
+
+  worked_part : Part c its
+  worked_part = worker_part c its s.worked.only s.worked.own (late_from o c g its legal' (subst (Legal o) s.worked.is s.can.legal) two)
+
+  rest_part : Part c (its ++ k.tail)
+  rest_part = part_both c its k.tail worked_part (closing_part c k.tail k.one)
+
+  part : Part c later
+  part = part_both c greeted.more (its ++ k.tail) (greeting_part c greeted.more greeted.own greeted.main) rest_part
+
+  taken : claims_in later ≡ claims_in its
+  taken = each_of-append claimed_task greeted.more (its ++ k.tail) ∙ ap (λ (l : List ℕ). l ++ claims_in (its ++ k.tail)) (greeting_takes_none old g offer c greeted)
+      ∙ each_of-append claimed_task its k.tail ∙ ap (λ (l : List ℕ). claims_in its ++ l) (of_closing c k.tail k.one (λ (x : List Entry). claims_in x ≡ []) refl refl) ∙ append-nil (claims_in its)
+
+  given : answers_in later ≡ answers_in its
+  given = each_of-append answer_in greeted.more (its ++ k.tail) ∙ ap (λ (l : List (ℕ × Answer)). l ++ answers_in (its ++ k.tail)) (greeting_gives_none old g offer c greeted)
+      ∙ each_of-append answer_in its k.tail ∙ ap (λ (l : List (ℕ × Answer)). answers_in its ++ l) (of_closing c k.tail k.one (λ (x : List Entry). answers_in x ≡ []) refl refl) ∙ append-nil (answers_in its)
+
+  done : TasksDone o setup limit new later desk desk'
+  done =
+      let at_end : TasksDone o setup limit (s.mid ++ k.tail) its desk desk' = record {
+        done = s.worked.done;
+        claimed = s.worked.claimed;
+        answered = s.worked.answered;
+        ran = worker_runs o setup limit c s.mid k.tail s.worked.done s.can.number s.can.legal s.can.rest s.worked.ran;
+        log_is = s.worked.log_is;
+        caused = s.worked.caused;
+      } in
+      done_same o setup limit new its later desk desk' taken given (subst (λ (j : List Entry). TasksDone o setup limit j its desk desk') (sym k.is) at_end)
+
+  abbrev so_far : List Entry
+  so_far = (first ∷ greeted.more) ++ its
+
+  mid_is : s.mid ≡ old ++ so_far
+  mid_is = s.worked.is ∙ ap (λ (x : List Entry). x ++ its) greeted.grown ∙ append_assoc old (first ∷ greeted.more) its
+
+  gone_spent : is_gone s.mid c ≡ true → is_spent s.mid c ≡ true
+  gone_spent h = go (is_ended s.mid c) refl (is_mute s.mid c) refl h
+    where
+      go : (a : Bool) → is_ended s.mid c ≡ a → (b : Bool) → is_mute s.mid c ≡ b → (a || b) ≡ true → is_spent s.mid c ≡ true
+      go true x b y i =
+          let unclosed : is_unclosed (why_of s.mid c) ≡ true = subst (λ (j : List Entry). is_ended j c ≡ true → is_unclosed (why_of j c) ≡ true) (sym mid_is)
+          (new_unclosed o old so_far c legal greeted.next
+          (all-join (λ (e : Entry). is_unclosed_end e.what) (first ∷ greeted.more) its (all_unclosed (is_of_greeting c) (greeting_unclosed c) greeted.more greeted.own)
+          (all_unclosed (by_worker c) (worker_unclosed c) its s.worked.only))) x in
+          or_right (is_some (refusal_of s.mid c)) (is_mute s.mid c || is_unclosed (why_of s.mid c)) (or_right (is_mute s.mid c) (is_unclosed (why_of s.mid c)) unclosed)
+      go false x true y i = or_right (is_some (refusal_of s.mid c)) (is_mute s.mid c || is_unclosed (why_of s.mid c)) (or_left (is_mute s.mid c) (is_unclosed (why_of s.mid c)) y)
+      go false x false y i = absurd cc
+
+  over : (list_all (is_spent new) (c ∷ []) ≡ true) ⊎ (are_all_claimed o new ≡ true)
+  over = go s.through
+    where
+      go : IsThrough o s.mid c → (list_all (is_spent new) (c ∷ []) ≡ true) ⊎ (are_all_claimed o new ≡ true)
+      go (inl all) = inr (ap (are_all_claimed o) k.is ∙ claimed_on o s.mid k.tail all)
+      go (inr gone) = inl (ap (λ (b : Bool). b && true) (ap (λ (j : List Entry). is_spent j c) k.is ∙ spent_on s.mid k.tail c (gone_spent gone)))
+
+  unready_none : unready_answer new c ≡ None
+  unready_none = ap (λ (j : List Entry). unready_answer j c) behind ∙ answers_nothing o g (its ++ k.tail) c legal' ready greeted.idle rest_part.within
+
+  ready_said : is_ready_untagged new c ≡ not tagged
+  ready_said = ap (λ (j : List Entry). is_ready_untagged j c) behind ∙ ready_now o g (its ++ k.tail) c legal' ready greeted.idle rest_part.within ∙ ap not (sym tag)
+
+  pub served_stint : Stint o setup limit offer (offer && tagged) (Start c 0 offer) old new desk desk'
+  served_stint = record {
+    later = later;
+    is = whole;
+    start = inl (ap (λ (n : ℕ). Start n 0 offer) greeted.next);
+    within = subst (λ (n : ℕ). list_all (λ (e : Entry). in_stint n e.what) later ≡ true) greeted.next part.within;
+    main = part.main;
+    asks = part.asks;
+    done = done;
+    rest = λ u. ap (λ (j : List Entry). is_busy j u) k.is ∙ closing_rests c k.tail k.one s.mid s.can.rest u;
+    ended = ap (λ (b : Bool). b && true) k.ended;
+    spent = over;
+    untaken = subst (λ (j : List Entry). failed_start j (start_untaken j) ≡ None) (sym whole)
+        (ready_untaken old later c offer c part.within (subst (λ (j : List Entry). unready_answer j c ≡ None) whole unready_none));
+    offers = untagged offer tagged ∙ ap (λ (b : Bool). offer && not (b || false)) (sym ready_said);
+  }

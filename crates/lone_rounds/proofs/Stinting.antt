@@ -1,0 +1,221 @@
+-- The parts of a stint: its greeting, its tasks, its closing.
+use Rattle.std.proofs.Common.{◌≡◌, ◌⊎◌, ℕ, List, [], ◌∷◌, ◌++◌, refl, sym, ap, subst, ◌∙◌, append-nil, Bool, true, false, not, ◌==◌, cond, Some, None, Option, arith, inl, inr}
+use Rattle.std.specs.Prelude.{◌&&◌, is_some}
+use Rattle.std.specs.List.{list_all, list_any}
+use Rattle.journal_model.specs.declared.verdict.Why.TheVariants.{Closed}
+use Rattle.journal_model.specs.declared.entry.What.{What}
+use Rattle.journal_model.specs.declared.entry.What.TheVariants.{Claim, Start, Ask, Put, Sent, Mute, Got, End, Verdict as Settled, Lost, Answer as Answered, Note}
+use Rattle.journal_model.specs.declared.entry.Entry.{Entry}
+use Rattle.journal_model.specs.declared.opening.Opening.{Opening}
+use Rattle.journal_model.specs.Journal.{any, each_of, is_ended, is_started, open_jobs, starts}
+use Rattle.journal_model.specs.Legality.{Legal, claims, claimed_for, is_busy, is_busy_with, is_claimed, is_held_for, holder, may_stop}
+use Rattle.journal_model.specs.Makers.{is_of_task}
+use Rattle.journal_model.specs.Output.{answer_in, answers_in}
+use Rattle.journal_model.specs.Shares.{are_by, by_link, is_closed}
+use Rattle.journal_model.specs.declared.holder.Holder.{Holder}
+use Rattle.journal_model.proofs.Holding.{answered, claimed, holder_append, unturned}
+use Rattle.journal_model.proofs.Looks.{any-append, both, same}
+use Rattle.journal_model.proofs.Testing.{all-join, or_left, or_right}
+use Rattle.journal_model.proofs.Working.{holder_apart}
+use Rattle.link_roles.specs.Alone.{Closes}
+use Rattle.link_roles.proofs.Linked.{link_apart}
+use Rattle.link_roles.proofs.Solo.{closed_over}
+use Rattle.child_start.proofs.Jobs.{idle_on}
+use Rattle.journal_model.specs.Halves.{EarValue, LinkWired, MouthValue}
+use Rattle.journal_model.specs.declared.answer.Answer.{Answer}
+use Rattle.child_start.specs.Greetings.{Greeted, IsReady, is_greeting_line, is_of_greeting}
+use Rattle.lone_work.specs.Works.{CanWork, by_worker, claimed_task, claims_in}
+use Rattle.lone_rounds.specs.Rounds.{is_of_run}
+use Rattle.lone_rounds.specs.Stints.{AnswersOne, in_stint, main_entry}
+use Rattle.lone_rounds.proofs.Later.{all_work, greeting_asks, late}
+use Rattle.lone_rounds.proofs.Tests.{each_none, any_none}
+use Rattle.lone_rounds.proofs.Zeros.{rests_one}
+
+-- ---- a part
+
+pub record Part (c : ℕ) (xs : List Entry) : Type 0 where
+  pub within : list_all (λ e. in_stint c e.what) xs ≡ true
+  pub main : are_by 0 xs ≡ true
+  pub asks : list_all (λ e. is_of_run e.what) xs ≡ true
+
+pub part_both : (c : ℕ) (xs ys : List Entry) → Part c xs → Part c ys → Part c (xs ++ ys)
+part_both c xs ys h k = record {
+  within = all-join (λ (e : Entry). in_stint c e.what) xs ys h.within k.within;
+  main = all-join (λ (e : Entry). e.by == 0) xs ys h.main k.main;
+  asks = all-join (λ (e : Entry). is_of_run e.what) xs ys h.asks k.asks;
+}
+
+all_in : (p q : What → Bool) → ((w : What) → p w ≡ true → q w ≡ true) → (xs : List Entry) → list_all (λ (e : Entry). p e.what) xs ≡ true → list_all (λ (e : Entry). q e.what) xs ≡ true
+all_in p q f [] h = refl
+all_in p q f (e ∷ xs) h =
+    let t = both (p e.what) (list_all (λ (x : Entry). p x.what) xs) h in
+    rw (f e.what t.0, all_in p q f xs t.1) refl
+
+-- ---- the greeting
+
+link_in : (c : ℕ) (w : What) → by_link c w ≡ true → in_stint c w ≡ true
+link_in c (Put child job line) h = h
+link_in c (Sent child) h = h
+link_in c (Mute child) h = h
+link_in c (Got child line) h = h
+link_in c (End child why) h = (both (child == c) (not (is_closed why)) h).0
+link_in c (Settled child job verdict) h = h
+link_in c w h = absurd cc
+
+greeting_in : (c : ℕ) (w : What) → is_of_greeting c w ≡ true → in_stint c w ≡ true
+greeting_in c (Ask child job task line) h = (both (child == c) (task == 0 && is_greeting_line job line) h).0
+greeting_in c (Lost child task) h = (both (child == c) (task == 0) h).0
+greeting_in c (Put child job line) h = h
+greeting_in c (Sent child) h = h
+greeting_in c (Mute child) h = h
+greeting_in c (Got child line) h = h
+greeting_in c (End child why) h = (both (child == c) (not (is_closed why)) h).0
+greeting_in c (Settled child job verdict) h = h
+greeting_in c w h = absurd cc
+
+pub greeting_part : (c : ℕ) (xs : List Entry) → list_all (λ (e : Entry). is_of_greeting c e.what) xs ≡ true → are_by 0 xs ≡ true → Part c xs
+greeting_part c xs own main = record {
+  within = all_in (is_of_greeting c) (in_stint c) (greeting_in c) xs own;
+  main = main;
+  asks = all_in (is_of_greeting c) is_of_run (greeting_asks c) xs own;
+}
+
+greeting_claims : (c : ℕ) (w : What) → is_of_greeting c w ≡ true → claimed w ≡ None
+greeting_claims c (Claim task child) h = absurd cc
+greeting_claims c w h = refl
+
+greeting_answers : (c : ℕ) (w : What) → is_of_greeting c w ≡ true → answered w ≡ None
+greeting_answers c (Answered task answer) h = absurd cc
+greeting_answers c w h = refl
+
+greeting_takes : (c : ℕ) (w : What) → is_of_greeting c w ≡ true → claimed_task w ≡ None
+greeting_takes c (Claim task child) h = absurd cc
+greeting_takes c w h = refl
+
+greeting_gives : (c : ℕ) (w : What) → is_of_greeting c w ≡ true → answer_in w ≡ None
+greeting_gives c (Answered task answer) h = absurd cc
+greeting_gives c w h = refl
+
+greeting_unclaimed : (c t : ℕ) (w : What) → is_of_greeting c w ≡ true → claims t w ≡ false
+greeting_unclaimed c t (Claim task child) h = absurd cc
+greeting_unclaimed c t w h = refl
+
+module _ (old new : List Entry) (offer : Bool) (c : ℕ) (g : Greeted old new 0 offer c) where
+  abbrev first : Entry
+  first = main_entry (Start c 0 offer)
+
+  pub greeting_started : is_started new c ≡ true
+  greeting_started =
+      ap (λ (j : List Entry). is_started j c) g.grown ∙ any-append (starts c) old (first ∷ g.more) ∙ or_right (is_started old c) (is_started (first ∷ g.more) c) (or_left (c == c) (is_started g.more c) (same c))
+
+  pub greeting_takes_none : claims_in g.more ≡ []
+  greeting_takes_none = each_none claimed_task (is_of_greeting c) (greeting_takes c) g.more g.own
+
+  pub greeting_gives_none : answers_in g.more ≡ []
+  greeting_gives_none = each_none answer_in (is_of_greeting c) (greeting_gives c) g.more g.own
+
+  pub greeting_rests : ((t : ℕ) → is_busy old t ≡ false) → (t : ℕ) → is_busy new t ≡ false
+  greeting_rests rest t =
+      ap (λ (j : List Entry). is_busy j t) g.grown ∙ ap is_some (holder_append old (first ∷ g.more) t)
+      ∙ ap is_some (unturned t (holder old t) (first ∷ g.more) (each_none claimed (is_of_greeting c) (greeting_claims c) g.more g.own) (each_none answered (is_of_greeting c) (greeting_answers c) g.more g.own))
+      ∙ rest t
+
+  pub greeting_claims_none : (t : ℕ) → is_claimed (first ∷ g.more) t ≡ false
+  greeting_claims_none t = any_none (is_of_greeting c) (claims t) (greeting_unclaimed c t) g.more g.own
+
+  pub greeting_works : (o : Opening) → Legal o new → IsReady new c → ((t : ℕ) → is_busy old t ≡ false) → CanWork o c new
+  greeting_works o legal ready rest = record {
+    legal = legal;
+    number = (let n = g.next in omega (arith, n));
+    started = greeting_started;
+    prepared = ready.prepared;
+    idle = g.idle;
+    rest = greeting_rests rest;
+  }
+
+-- ---- tasks
+
+worker_in : (c : ℕ) (w : What) → by_worker c w ≡ true → in_stint c w ≡ true
+worker_in c (Claim task child) h = refl
+worker_in c (Ask child job task line) h = (both (child == c) (not (task == 0)) h).0
+worker_in c (Lost child task) h = (both (child == c) (not (task == 0)) h).0
+worker_in c (Note task chunk count) h = refl
+worker_in c (Answered task answer) h = refl
+worker_in c (Put child job line) h = h
+worker_in c (Sent child) h = h
+worker_in c (Mute child) h = h
+worker_in c (Got child line) h = h
+worker_in c (End child why) h = (both (child == c) (not (is_closed why)) h).0
+worker_in c (Settled child job verdict) h = h
+worker_in c w h = absurd cc
+
+pub worker_part : (c : ℕ) (xs : List Entry) → list_all (λ (e : Entry). by_worker c e.what) xs ≡ true → are_by 0 xs ≡ true → list_all (λ (e : Entry). late c e.what) xs ≡ true → Part c xs
+worker_part c xs only own later = record {
+  within = all_in (by_worker c) (in_stint c) (worker_in c) xs only;
+  main = own;
+  asks = all_work c xs only later;
+}
+
+pub zero_part : (c t : ℕ) (answer : Answer) → Part c (main_entry (Claim t 0) ∷ main_entry (Answered t answer) ∷ [])
+zero_part c t answer = record { within = refl; main = refl; asks = refl }
+
+-- ---- the closing
+
+-- what a closing appends
+pub record Closing (c : ℕ) (mid new : List Entry) : Type 0 where
+  pub tail : List Entry
+  pub is : new ≡ mid ++ tail
+  pub one : (tail ≡ []) ⊎ (tail ≡ main_entry (End c Closed) ∷ [])
+  pub ended : is_ended new c ≡ true
+
+pub closing : (c : ℕ) (mid new : List Entry) → Closes 0 c mid new → Closing c mid new
+closing c mid new h = go (is_ended mid c) h
+  where
+    over : is_ended new c ≡ true
+    over = closed_over 0 c mid new h
+
+    go : (b : Bool) → new ≡ cond b mid (mid ++ main_entry (End c Closed) ∷ []) → Closing c mid new
+    go true e = record { tail = []; is = e ∙ sym (append-nil mid); one = inl refl; ended = over }
+    go false e = record { tail = main_entry (End c Closed) ∷ []; is = e; one = inr refl; ended = over }
+
+module _ (c : ℕ) (tail : List Entry) (one : (tail ≡ []) ⊎ (tail ≡ main_entry (End c Closed) ∷ [])) where
+  -- what holds of nothing and of the end
+  pub of_closing : (P : List Entry → Type 0) → P [] → P (main_entry (End c Closed) ∷ []) → P tail
+  of_closing P n e = go one
+    where
+      go : (tail ≡ []) ⊎ (tail ≡ main_entry (End c Closed) ∷ []) → P tail
+      go (inl x) = subst P (sym x) n
+      go (inr x) = subst P (sym x) e
+
+  pub closing_part : Part c tail
+  closing_part = of_closing (Part c) (record { within = refl; main = refl; asks = refl }) (record { within = rw (same c) refl; main = refl; asks = refl })
+
+  pub closing_rests : (mid : List Entry) → ((t : ℕ) → is_busy mid t ≡ false) → (t : ℕ) → is_busy (mid ++ tail) t ≡ false
+  closing_rests mid rest t = ap is_some (holder_apart mid tail t (of_closing (λ (x : List Entry). any (is_of_task t) x ≡ false) refl refl)) ∙ rest t
+
+-- an idle child may be closed where no task is busy
+pub may_close : (past : List Entry) (c : ℕ) → open_jobs past c ≡ [] → ((t : ℕ) → is_busy past t ≡ false) → may_stop past c Closed ≡ true
+may_close past c idle rest = rw (idle, none (each_of (claimed_for c) past)) refl
+  where
+    unheld : (h : Option Holder) → is_some h ≡ false → is_held_for c h ≡ false
+    unheld None e = refl
+    unheld (Some h) e = absurd cc
+
+    none : (ts : List ℕ) → list_any (is_busy_with past c) ts ≡ false
+    none [] = refl
+    none (t ∷ ts) = rw (unheld (holder past t) (rest t), none ts) refl
+
+-- ---- one task without a child
+
+module _ (o : Opening) (old mid : List Entry) (answer : Answer) where
+  pub one_idle : (c : ℕ) (b : Bool) → AnswersOne o old mid answer b → open_jobs old c ≡ [] → open_jobs mid c ≡ []
+  one_idle c true a idle = ap (λ (j : List Entry). open_jobs j c) a.2 ∙ idle_on old (main_entry (Claim a.0 0) ∷ main_entry (Answered a.0 answer) ∷ []) c refl idle
+  one_idle c false a idle = ap (λ (j : List Entry). open_jobs j c) a.0 ∙ idle
+
+  pub one_rests : (b : Bool) → AnswersOne o old mid answer b → ((t : ℕ) → is_busy old t ≡ false) → (t : ℕ) → is_busy mid t ≡ false
+  one_rests true a rest t = ap (λ (j : List Entry). is_busy j t) a.2 ∙ rests_one old a.0 answer rest t
+  one_rests false a rest t = ap (λ (j : List Entry). is_busy j t) a.0 ∙ rest t
+
+  pub one_wired : (e : EarValue) (m : MouthValue) → m.child ≡ e.child → (b : Bool) → AnswersOne o old mid answer b → LinkWired old e m → LinkWired mid e m
+  one_wired e m one true a w = subst (λ (j : List Entry). LinkWired j e m) (sym a.2) (link_apart old (main_entry (Claim a.0 0) ∷ main_entry (Answered a.0 answer) ∷ []) e m one refl refl w)
+  one_wired e m one false a w = subst (λ (j : List Entry). LinkWired j e m) (sym a.0) w

@@ -1,0 +1,52 @@
+use Rattle.std.proofs.Common.{arith, inr, map, subst, sym, ap, ◌∙◌}
+use Rattle.journal_model.specs.declared.opening.Opening.{Opening}
+use Rattle.journal_model.specs.Legality.{Legal}
+use Rattle.host_core.specs.Steps.{are_all_claimed}
+use Rattle.child_end.specs.Wires.{wire_value}
+use Rattle.child_end.specs.Programs.{programs_value}
+use Rattle.lone_work.specs.Works.{desk_tells}
+use Rattle.lone_rounds.proofs.Ending.{cores_both, few_starts, left_nothing, left_some, next_start}
+use Rattle.lone_rounds.proofs.starting.start_children.Goals as goal
+
+pub returns-then-unclaimed-eq0-clause-started : goal.returns-then-unclaimed-eq0-clause-started
+returns-then-unclaimed-eq0-clause-started g c =
+    let same_opening = c.children.invariant.core.opening in (
+      c.children.made,
+      c.children.offer,
+      c.children.invariant.between,
+      (let below = c.children-test.true in let end = c.children.auto.made-end in omega (arith, below, end)),
+      inr (ap (λ (w : Opening). are_all_claimed w c.children.core.journal) (sym same_opening) ∙ left_nothing c.children.core.opening c.children.core.journal c.unclaimed.result c.unclaimed.ensures c.if-unclaimed-eq0.true),
+    )
+
+pub start_one-requires-clause-few : goal.start_one-requires-clause-few
+start_one-requires-clause-few g c = λ κs fresh. (
+    let below = c.children-test.true in
+    let end = c.children.auto.made-end in
+    let most = c.requires.starts.1 in
+    few_starts c.children.invariant.between (omega (arith, below, end, most)))
+
+pub start_one-requires-clause-left : goal.start_one-requires-clause-left
+start_one-requires-clause-left g c = λ κs fresh. left_some c.children.core.opening c.children.core.journal c.unclaimed.result c.unclaimed.ensures c.if-unclaimed-eq0.false
+
+pub children-preserved : goal.children-preserved
+children-preserved g c =
+    let o = c.args.core.now.opening in
+    let cur = c.children.core.journal in
+    let new = c.start_one.new.core.journal in
+    let same_opening = c.children.invariant.core.opening in
+    let legal : Legal o new = subst (λ (w : Opening). Legal w new) (c.start_one.ensures.core.opening ∙ same_opening) (c.start_one.ensures.core.legal (subst (λ (w : Opening). Legal w cur) (sym same_opening) c.children.invariant.between.legal)) in
+    let after = next_start o c.children.core.opening c.args.plan.now.setup c.args.plan.now.starts c.children.made c.children.offer c.in-Ok.next c.args.plan.now.program cur new
+    (desk_tells (g.K.Desk.log c.args.desk.now) (g.K.Desk.counts c.args.desk.now)) (desk_tells (g.K.Desk.log c.children.desk) (g.K.Desk.counts c.children.desk)) (desk_tells (g.K.Desk.log c.start_one.new.desk) (g.K.Desk.counts c.start_one.new.desk))
+    (programs_value (g.P.Programs.starts c.args.programs.now) (g.P.Programs.faults c.args.programs.now)) (programs_value (g.P.Programs.starts c.children.programs) (g.P.Programs.faults c.children.programs)) (programs_value (g.P.Programs.starts c.start_one.new.programs) (g.P.Programs.faults c.start_one.new.programs))
+    (map (wire_value g.P.Inlet.Sink.taken g.P.Inlet.Sink.faults g.P.Inlet.Sink.number g.P.Inlet.Sink.is_open g.P.Outlet.Source.given g.P.Outlet.Source.left g.P.Outlet.Source.faults g.P.Outlet.Source.number g.P.Outlet.Source.is_open) c.children.wires.items)
+    (map (wire_value g.P.Inlet.Sink.taken g.P.Inlet.Sink.faults g.P.Inlet.Sink.number g.P.Inlet.Sink.is_open g.P.Outlet.Source.given g.P.Outlet.Source.left g.P.Outlet.Source.faults g.P.Outlet.Source.number g.P.Outlet.Source.is_open) c.start_one.new.wires.items)
+    same_opening c.children.invariant.between c.children.invariant.kept c.in-Ok.ensures.starts legal in
+    record {
+      between = after.0;
+      kept = after.1;
+      core = cores_both c.children.invariant.core c.start_one.ensures.core;
+      room = (
+        (let was = c.children.invariant.room.0 in let now = c.start_one.ensures.room.0 in omega (arith, was, now)),
+        c.start_one.ensures.room.1 ∙ c.children.invariant.room.1,
+      );
+    }

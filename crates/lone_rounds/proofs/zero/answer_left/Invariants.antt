@@ -1,0 +1,19 @@
+use Rattle.std.proofs.Common.{◌≡◌, ℕ, false, length}
+use Rattle.journal_model.specs.Legality.{Legal, is_busy}
+use Rattle.host_core.specs.Steps.{unclaimed}
+use Rattle.child_start.specs.Cores.{IsSameCore}
+use Rattle.lone_rounds.specs.Rounds.{left_answer}
+use Rattle.lone_rounds.proofs.Zeros.{HasLeft}
+use Rattle.lone_rounds.proofs.zero.answer_left.Given as goal
+
+abbrev pub invariant-tasks : goal.invariant-tasks
+invariant-tasks l = record {
+  legal : Legal l.core.opening l.core.journal;
+  rest : (t : ℕ) → is_busy l.core.journal t ≡ false;
+  so_far : HasLeft l.initial.core.journal l.core.journal (left_answer l.initial.core.journal);
+  answer : l.answer ≡ left_answer l.initial.core.journal;
+  core : IsSameCore l.initial.core l.core;
+}
+
+abbrev pub decreases-tasks : goal.decreases-tasks
+decreases-tasks l = length (unclaimed l.core.opening l.core.journal)

@@ -1,0 +1,146 @@
+// The starts of a run: one child after the other.
+ghost use Rattle.std.specs.Prelude.{◌≡◌, ◌≤◌, ◌<◌, ◌+◌, ◌&&◌, ℕ, [], map, Some, is_some, option_map, true, false, MatchResult, vec_len, vec_capacity};
+ghost use Rattle.annex_model.specs.Lines.{has_newline};
+ghost use Rattle.journal_model.specs.declared.answer.Answer.TheVariants.{NotPrepared};
+ghost use Rattle.journal_model.specs.Legality.{Legal, count, is_busy, is_start};
+ghost use Rattle.host_core.specs.Steps.{are_all_claimed};
+ghost use Rattle.task_run.specs.TaskRuns.{refused_at};
+ghost use Rattle.child_start.specs.Cores.{IsSameCore};
+ghost use Rattle.child_end.specs.Wires.{wire_value};
+ghost use Rattle.child_end.specs.Programs.{programs_value};
+ghost use Rattle.lone_work.specs.Works.{AreTasks, desk_tells};
+ghost use Rattle.lone_rounds.specs.Stints.{HasStarted, KeptOr, OneStart, Unstarted};
+
+use crate::plan::Plan;
+use crate::serving::{serve, turn_away};
+use crate::zero::answer_one;
+use ann_key::NoMemory;
+use ann_outside::{Desk, Programs};
+use child_end::finish;
+use child_start::{Greeting, Mode, greet};
+use host_core::Core;
+use journal_model::{Answer, Verdict};
+use link_roles::Wire;
+use std::alloc::Global;
+use task_text::Task;
+
+// The answer where a line refused to get ready, with that line's place.
+fn not_prepared(verdict: Verdict) -> Answer
+    requires { is_some (refused_at verdict) ≡ true }
+    ensures { Some result ≡ option_map NotPrepared (refused_at verdict) }
+{
+    match verdict {
+        Verdict::Failed { at } | Verdict::Unsupported { at } => Answer::NotPrepared { at },
+        _ => unreachable!(),
+    }
+}
+
+// Whether ASYNC is offered behind a child that is ready, tagged or not.
+fn is_offered(offer: bool, tagged: bool) -> bool
+    ensures { result ≡ (offer && tagged) }
+{
+    offer && tagged
+}
+
+// Starts one child and lets it do tasks. One task is answered by what came of a start that gave no child that is ready. Whether
+// ASYNC is to be offered to the next one.
+fn start_one<P: Programs, K: Desk>(
+    alloc: Global,
+    programs: &mut P,
+    plan: &Plan,
+    tasks: &[Task],
+    offer: bool,
+    core: &mut Core,
+    desk: &mut K,
+    wires: &mut Vec<Wire<P::Inlet, P::Outlet>>,
+) -> Result<bool, NoMemory>
+where
+    P::Inlet: Drop,
+    P::Outlet: Drop,
+    requires legal { Legal core.old.opening core.old.journal }
+    requires rest { (t : ℕ) → is_busy core.old.journal t ≡ false }
+    requires few { count is_start core.old.journal < 4294967295 }
+    requires left { are_all_claimed core.old.opening core.old.journal ≡ false }
+    requires tasks { (core.old.opening.tasks ≡ tasks.now) × AreTasks tasks.now }
+    requires setup { (has_newline plan.now.setup.work ≡ false) × (plan.now.setup.chunk ≡ 0) }
+    requires room { vec_len wires.old < vec_capacity wires.old }
+    ensures starts { MatchResult result
+        (λ next. OneStart core.old.opening plan.now.setup plan.now.starts offer next plan.now.program core.old.journal core.new.journal (desk_tells (K.log desk.old) (K.counts desk.old)) (desk_tells (K.log desk.new) (K.counts desk.new)) (programs_value (P.starts programs.old) (P.faults programs.old)) (programs_value (P.starts programs.new) (P.faults programs.new)) (map (wire_value P.Inlet.taken P.Inlet.faults P.Inlet.number P.Inlet.is_open P.Outlet.given P.Outlet.left P.Outlet.faults P.Outlet.number P.Outlet.is_open) wires.old.items) (map (wire_value P.Inlet.taken P.Inlet.faults P.Inlet.number P.Inlet.is_open P.Outlet.given P.Outlet.left P.Outlet.faults P.Outlet.number P.Outlet.is_open) wires.new.items))
+        (λ _. Unstarted plan.now.program core.old.journal core.new.journal (desk_tells (K.log desk.old) (K.counts desk.old)) (desk_tells (K.log desk.new) (K.counts desk.new)) (programs_value (P.starts programs.old) (P.faults programs.old)) (programs_value (P.starts programs.new) (P.faults programs.new)) (map (wire_value P.Inlet.taken P.Inlet.faults P.Inlet.number P.Inlet.is_open P.Outlet.given P.Outlet.left P.Outlet.faults P.Outlet.number P.Outlet.is_open) wires.old.items) (map (wire_value P.Inlet.taken P.Inlet.faults P.Inlet.number P.Inlet.is_open P.Outlet.given P.Outlet.left P.Outlet.faults P.Outlet.number P.Outlet.is_open) wires.new.items)) }
+    ensures room { (vec_len wires.new ≤ vec_len wires.old + 1) × (vec_capacity wires.new ≡ vec_capacity wires.old) }
+    ensures core { IsSameCore core.old core.new }
+{
+    let program = plan.program.view();
+    match greet(alloc, programs, program, core, 0, offer, Mode::Serve) {
+        Greeting::Ready {
+            mut link,
+            stub,
+            tagged,
+        } => {
+            serve(alloc, tasks, &plan.setup, &mut link, core, desk);
+            finish(programs, link, stub, wires);
+            Ok(is_offered(offer, tagged))
+        }
+        Greeting::Refused {
+            verdict,
+            link,
+            stub,
+        } => {
+            let answer = not_prepared(verdict);
+            turn_away(&link, core, answer);
+            finish(programs, link, stub, wires);
+            Ok(offer)
+        }
+        Greeting::Ended { why, link, stub } => {
+            turn_away(&link, core, Answer::Ended { why });
+            finish(programs, link, stub, wires);
+            Ok(offer)
+        }
+        Greeting::Unsent { link, stub } => {
+            turn_away(&link, core, Answer::Unsent);
+            finish(programs, link, stub, wires);
+            Ok(offer)
+        }
+        Greeting::StartFault => {
+            answer_one(core, Answer::StartFault);
+            Ok(offer)
+        }
+        Greeting::NoMemory => Err(NoMemory),
+    }
+}
+
+/// Starts children, one after the other, until all starts are made or all tasks claimed, or no memory is found to start one.
+pub(crate) fn start_children<P: Programs, K: Desk>(
+    alloc: Global,
+    programs: &mut P,
+    plan: &Plan,
+    tasks: &[Task],
+    core: &mut Core,
+    desk: &mut K,
+    wires: &mut Vec<Wire<P::Inlet, P::Outlet>>,
+) -> Result<(), NoMemory>
+where
+    P::Inlet: Drop,
+    P::Outlet: Drop,
+    requires empty { core.old.journal ≡ [] }
+    requires tasks { (core.old.opening.tasks ≡ tasks.now) × AreTasks tasks.now }
+    requires starts { (0 < plan.now.starts) × (plan.now.starts ≤ 16) }
+    requires setup { (has_newline plan.now.setup.work ≡ false) × (plan.now.setup.chunk ≡ 0) }
+    requires room { plan.now.starts ≤ vec_capacity wires.old }
+    requires none { wires.old.items ≡ [] }
+    ensures started { HasStarted core.old.opening plan.now.setup plan.now.starts core.new.journal (desk_tells (K.log desk.old) (K.counts desk.old)) (desk_tells (K.log desk.new) (K.counts desk.new)) result }
+    ensures kept { KeptOr plan.now.program core.new.journal (programs_value (P.starts programs.old) (P.faults programs.old)) (programs_value (P.starts programs.new) (P.faults programs.new)) (map (wire_value P.Inlet.taken P.Inlet.faults P.Inlet.number P.Inlet.is_open P.Outlet.given P.Outlet.left P.Outlet.faults P.Outlet.number P.Outlet.is_open) wires.new.items) result }
+    ensures core { IsSameCore core.old core.new }
+{
+    let mut offer = true;
+    'children: for made in 0..plan.starts {
+        if core.unclaimed() == 0 {
+            return Ok(());
+        }
+        match start_one(alloc, programs, plan, tasks, offer, core, desk, wires) {
+            Ok(next) => offer = next,
+            Err(NoMemory) => return Err(NoMemory),
+        }
+    }
+    Ok(())
+}
