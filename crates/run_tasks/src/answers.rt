@@ -18,12 +18,14 @@ fn take_up(places: &mut [Option<Answer>], entry: EntryRef<'_>)
     let WhatRef::Answer { task, answer } = entry.what else {
         return;
     };
-    let Some(at) = (task as usize).checked_sub(1) else {
+    let task = task as usize;
+    if task == 0 || places.len() < task {
         return;
-    };
-    if at < places.len() && places[at].is_none() {
-        places[at] = Some(answer);
     }
+    if places[task - 1].is_some() {
+        return;
+    }
+    places[task - 1] = Some(answer);
 }
 
 // The first answer of each of so many tasks.
@@ -36,9 +38,10 @@ fn first_answers(
 {
     let mut places = vec![in alloc; None; tasks]?;
     for at in 0..journal.len() {
-        if let Some(entry) = journal.entry(at) {
-            take_up(places.as_mut_slice(), entry);
-        }
+        let Some(entry) = journal.entry(at) else {
+            unreachable!();
+        };
+        take_up(places.as_mut_slice(), entry);
     }
     Ok(places)
 }
