@@ -24,7 +24,7 @@ use Rattle.run_tasks.specs.Beginnings.{IsReady, BeginsRun}
 use Rattle.run_tasks.specs.Workings.{IsWorked, Finishes, EndsWork, IsStopped, GoesOn}
 use Rattle.run_tasks.specs.declared.made.RunEnd.{RunEnd}
 use Rattle.run_tasks.specs.declared.made.RunEnd.TheVariants.{BadKept, KeptTooLarge, FileFailed, InputFailed, Refused, Memory, Done}
-use Rattle.run_tasks.proofs.Keeping.{as_before}
+use Rattle.run_tasks.proofs.Kept.{as_before}
 
 -- ---- the tasks
 

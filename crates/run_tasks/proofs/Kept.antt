@@ -16,7 +16,7 @@ use Rattle.journal_model.specs.declared.opening.Opening.{Opening}
 use Rattle.child_end.specs.Outsides.{TableValue}
 use Rattle.run_tasks.specs.Runs.{IsNewOf, IsAsBefore, HasFailed, IsKept, IsKeptIn, kept_after}
 use Rattle.run_tasks.specs.Workings.{Keeps}
-use Rattle.run_tasks.proofs.Beginning.{with_keep}
+use Rattle.run_tasks.proofs.Begun.{with_keep}
 
 -- ---- files that stay
 
