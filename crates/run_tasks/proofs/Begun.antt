@@ -1,8 +1,8 @@
 -- From what was read to what a run begins with.
-use Rattle.std.proofs.Common.{◌≡◌, ℕ, ◌+◌, ◌<◌, ◌≤◌, List, [], ◌∷◌, length, replicate, refl, sym, ap, subst, ◌∙◌, arith, Bool, true, false, cond, Some, None, Option, Ok, Err, length-map}
+use Rattle.std.proofs.Common.{◌≡◌, ℕ, ◌+◌, ◌<◌, ◌≤◌, List, [], ◌∷◌, length, replicate, refl, sym, ap, subst, ◌∙◌, arith, Bool, true, false, cond, Some, None, Option, Ok, Err}
 use Rattle.std.specs.Prelude.{Result, IfOk, IfSome, All, nat_lt, map, take, option_and_then}
 use Rattle.std.proofs.lemmas.Bool.Decides.{nat_tests}
-use Rattle.std.proofs.lemmas.List.{length-replicate}
+use Rattle.std.proofs.lemmas.List.{length-map, length-replicate}
 use Rattle.std.proofs.lemmas.List.Elements.{All-head, All-tail}
 use Rattle.ann_key.specs.declared.bytes.NoMemory.{NoMemory}
 use Rattle.ann_outside.specs.Causes.{Rose}
@@ -26,12 +26,14 @@ use Rattle.cli_words.specs.declared.refusals.Reason.{Reason}
 use Rattle.task_input.specs.InputLines.{lines_of}
 use Rattle.cli_words.specs.declared.refusals.Reason.TheVariants.{Long, Many}
 use Rattle.task_input.specs.Inputs.{reason_for, reason_of, refused_or, first_refused, is_large, lines_within, or_large, refused_in, IsInput}
+use Rattle.task_input.specs.Reads.{HasGiven, IsCounted, ComesTo}
+use Rattle.task_input.specs.declared.error.InputError.{InputError}
 use Rattle.task_input.specs.declared.limits.Limits.{Limits}
-use Rattle.task_input.specs.declared.limits.TheConstants.{TASKS}
+use Rattle.task_input.specs.declared.limits.TheConstants.Limits.{TASKS}
 use Rattle.journal_model.specs.Beginnings.{MayBegin}
 use Rattle.journal_model.specs.declared.opening.Opening.{Opening}
 use Rattle.lone_work.specs.Works.{AreTasks}
-use Rattle.run_tasks.specs.Inputs.{InputFlow, IsTaken, IsTextFor, run_opening}
+use Rattle.run_tasks.specs.Inputs.{InputFlow, input_flow, IsTaken, IsTextFor, run_opening}
 use Rattle.run_tasks.specs.Runs.{IsRefusedFor}
 use Rattle.run_tasks.specs.Beginnings.{HandsOn, IsReady, BeginsRun}
 use Rattle.run_tasks.specs.declared.beginning.Kept.{Kept}
@@ -89,7 +91,7 @@ module _ (words : RunWords) (told : Option Files) (name : List ℕ) (named : wor
 
   -- where no files are told, some text is that large
   large : (most : ℕ) → (kept : List ℕ) × (most < length kept)
-  large most = (replicate (most + 1) 0, let long = length-replicate (most + 1) 0 in omega (arith, long))
+  large most = (replicate (most + 1) 0, let long = length-replicate {A = ℕ} (most + 1) 0 in omega (arith, long))
 
   pub is_too_large : IfSome told (λ files. IsKeptAt name files (Ok K.TooLarge)) → IsRefusedFor words told (λ kept. MOST_BYTES < length kept)
   is_too_large known = found (Ok K.TooLarge) (λ kept. MOST_BYTES < length kept) (λ files h. h) (large MOST_BYTES) known
@@ -101,6 +103,14 @@ unnamed_text words told e = with_keep (λ (w : RunWords). IsTextFor w told []) w
 
 pub hands_on_nothing : (words : RunWords) (told : Option Files) (k : Kept) → words.keep ≡ None → k.registers ≡ registers_of [] → CountsAs k.notes (notes_of []) → HandsOn words told k
 hands_on_nothing words told k e registers notes = record { kept = []; text = unnamed_text words told e; right = refl; registers = registers; notes = notes }
+
+-- ---- the input
+
+pub taken_as : (given given' left left' : Option (List ℕ)) (faults faults' : ℕ) (r r' : Result (List Task) InputError) → r ≡ r'
+    → (bytes : List ℕ) × HasGiven given given' left left' bytes × ComesTo TASKS bytes left' r → IfSome left (λ all. IsInput TASKS all r) → IsCounted faults faults' r
+    → IsTaken TASKS (input_flow given given' left left' faults faults') r'
+taken_as given given' left left' faults faults' r r' e h told counted =
+    subst (IsTaken TASKS (input_flow given given' left left' faults faults')) e record { bytes = h.0; gave = h.1; comes = h.2; told = told; counted = counted }
 
 -- ---- the opening
 
@@ -139,14 +149,16 @@ few_lines limits n (line ∷ lines) h within =
     let rest : n + 1 + length lines ≤ limits.lines + 1 = few_lines limits (n + 1) lines both.1 (omega (arith, here)) in
     omega (arith, rest)
 
+none_large : (large : Bool) (n : ℕ) (r : Option (ℕ × Reason)) → or_large large n r ≡ None → (large ≡ false) × (r ≡ None)
+none_large true n (Some x) h = absurd cc
+none_large true n None h = absurd cc
+none_large false n (Some x) h = absurd cc
+none_large false n None h = (refl, refl)
+
 none_refused : (limits : Limits) (bytes : List ℕ) → refused_in limits bytes ≡ None → first_refused limits 1 (lines_of true bytes) ≡ None
-none_refused limits bytes h = go (is_large limits bytes) refl (first_refused limits 1 (lines_within limits bytes)) refl h
-  where
-    go : (large : Bool) → is_large limits bytes ≡ large → (r : Option (ℕ × Reason)) → first_refused limits 1 (lines_within limits bytes) ≡ r
-        → or_large (is_large limits bytes) (length (lines_within limits bytes)) (first_refused limits 1 (lines_within limits bytes)) ≡ None → first_refused limits 1 (lines_of true bytes) ≡ None
-    go large e (Some x) f h = absurd (let bad : or_large large (length (lines_within limits bytes)) (Some x) ≡ None = rw (e, f) at h in cc)
-    go true e None f h = absurd (let bad : or_large true (length (lines_within limits bytes)) None ≡ None = rw (e, f) at h in cc)
-    go false e None f h = sym (ap (λ (b : Bool). first_refused limits 1 (cond {A = List (List ℕ)} b (lines_of false (take limits.bytes bytes)) (lines_of true bytes))) e) ∙ f
+none_refused limits bytes h =
+    let none = none_large (is_large limits bytes) (length (lines_within limits bytes)) (first_refused limits 1 (lines_within limits bytes)) h in
+    sym (ap (λ (b : Bool). first_refused limits 1 (cond {A = List (List ℕ)} b (lines_of false (take limits.bytes bytes)) (lines_of true bytes))) none.0) ∙ none.1
 
 few_tasks : (limits : Limits) (bytes : List ℕ) (tasks : List Task) → IsInput limits bytes (Ok tasks) → length tasks ≤ limits.lines
 few_tasks limits bytes tasks h =

@@ -7,7 +7,7 @@ use Rattle.keep_text.specs.KeptFiles.{bad_line, registers_of, notes_of, CountsAs
 use Rattle.keep_desk.specs.declared.TheConstants.{MOST_BYTES}
 use Rattle.cli_words.specs.declared.command.RunWords.{RunWords}
 use Rattle.task_input.specs.declared.error.InputError.TheVariants as input
-use Rattle.task_input.specs.declared.limits.TheConstants.{TASKS}
+use Rattle.task_input.specs.declared.limits.TheConstants.Limits.{TASKS}
 use Rattle.journal_model.specs.declared.opening.Opening.{Opening}
 use Rattle.run_tasks.specs.Inputs.{InputFlow, IsUnread, IsTaken, IsTextFor, IsRunOpening}
 use Rattle.run_tasks.specs.Runs.{IsRefusedFor}

@@ -13,7 +13,7 @@ use std::alloc::Global;
 
 // Takes the entry's answer up, where the place of its task has none yet.
 fn take_up(places: &mut [Option<Answer>], entry: EntryRef<'_>)
-    ensures { TakesUp (entry_shown entry) places.old places.new }
+    ensures { TakesUp (entry_shown entry.entry) places.old places.new }
 {
     let WhatRef::Answer { task, answer } = entry.what else {
         return;
