@@ -7,13 +7,17 @@ use Rattle.std.proofs.lemmas.Bool.Decides.{nat_tests}
 use Rattle.std.proofs.lemmas.List.{same_lists, get_or_default, get_or-set_same, get_or-set_other, get_or-replicate, length-replicate, take_more, map-append}
 use Rattle.std.proofs.lemmas.List.FromFn.{get_or-map-range_with_len, length-map-range_with_len}
 use Rattle.std.proofs.lemmas.List.Folds.{list_all_at}
-use Rattle.std.proofs.lemmas.Option.{slice_get_within, get_or_from_slice_get}
+use Rattle.std.proofs.lemmas.Option.{slice_get_within, slice_get-get_or, get_or_from_slice_get}
 use Rattle.journal_model.specs.declared.answer.Answer.{Answer}
 use Rattle.journal_model.specs.declared.entry.What.{What}
-use Rattle.journal_model.specs.declared.entry.What.TheVariants.{Claim, Start, NoStart, Ask, Put, Sent, Mute, Got, End, Verdict as Settled, Lost, Answer as Answered, Note as Noted}
+use Rattle.journal_model.specs.declared.entry.What.TheVariants.{Answer as Answered}
 use Rattle.journal_model.specs.declared.entry.Entry.{Entry}
 use Rattle.journal_model.specs.Journal.{first_of, each_of}
 use Rattle.journal_model.proofs.Looks.{first_of-append, each_of-append, or_none, differ}
+use Rattle.journal_look.specs.Shown.{what_shown, entry_shown}
+use Rattle.journal_look.specs.declared.entry.WhatRef.{WhatRef}
+use Rattle.journal_look.specs.declared.entry.WhatRef.TheVariants.{Claim as ClaimRef, Start as StartRef, NoStart as NoStartRef, Ask as AskRef, Put as PutRef, Sent as SentRef, Mute as MuteRef, Got as GotRef, End as EndRef, Verdict as VerdictRef, Lost as LostRef, Answer as AnswerRef, Note as NoteRef}
+use Rattle.journal_look.specs.declared.entry.EntryRef.{EntryRef}
 use Rattle.run_tasks.specs.Runs.{answer_for, answer_of}
 use Rattle.run_tasks.specs.Answering.{HoldsAnswers, TakesUp}
 
@@ -119,6 +123,19 @@ takes_first by task answer places some within empty =
         get_or-set_other places (task - 1) k (Some answer) None ne
         ∙ sym (or_none (get_or places k None) (answer_for (k + 1) (Answered task answer)) (other_task task (k + 1) answer not_task))
 
+-- ---- entries that are lent
+
+pub shown_answer : (e : EntryRef) (task : ℕ) (answer : Answer) → e.what ≡ AnswerRef task answer → entry_shown e ≡ record { by = e.by; what = Answered task answer }
+shown_answer e task answer h = ap (λ (w : WhatRef). record { by = e.by; what = what_shown w }) h
+
+quiet_what : (w : WhatRef) → ((task : ℕ) (answer : Answer) → w ≡ AnswerRef task answer → ⊥) → (t : ℕ) → answer_for t (what_shown w) ≡ None
+quiet_what (AnswerRef task answer) h t = absurd (h task answer refl)
+quiet_what w h t = refl
+
+-- an entry that is no answer
+pub takes_quiet : (e : EntryRef) (places : List (Option Answer)) → ((task : ℕ) (answer : Answer) → e.what ≡ AnswerRef task answer → ⊥) → TakesUp (entry_shown e) places places
+takes_quiet e places h = takes_none (entry_shown e) places (λ k within. quiet_what e.what h (k + 1))
+
 -- ---- the pass
 
 pub holds_none : (count : ℕ) → HoldsAnswers count [] (replicate count None)
@@ -132,19 +149,6 @@ holds_more count at entries e old new there takes h =
     take_at : (xs : List Entry) (i : ℕ) (x : Entry) → slice_get xs i ≡ Some x → take (i + 1) xs ≡ take i xs ++ x ∷ []
     take_at xs i x e = take_more xs i x (slice_get_within xs i x e) ∙ ap (λ (y : Entry). take i xs ++ y ∷ []) (get_or_from_slice_get xs i x x e)
 
--- ---- the answers of full places
-
-pub full_at : (places : List (Option Answer)) (k : ℕ) → list_all is_some places ≡ true → k < length places → is_some (get_or places k None) ≡ true
-full_at places k full within = go (is_some (get_or places k None)) refl
-  where
-    go : (b : Bool) → is_some (get_or places k None) ≡ b → is_some (get_or places k None) ≡ true
-    go true e = e
-    go false e = absurd (let bad : true ≡ false = sym full ∙ list_all_at is_some places k None within e in cc)
-
-pub taken_more : (places : List (Option Answer)) (answers : List Answer) (k : ℕ) (answer : Answer) → k < length places → get_or places k None ≡ Some answer
-    → map (λ (a : Answer). Some a) answers ≡ take k places → map (λ (a : Answer). Some a) (answers ++ answer ∷ []) ≡ take (k + 1) places
-taken_more places answers k answer within there h =
-    map-append (λ (a : Answer). Some a) answers (answer ∷ [])
-    ∙ ap (λ (xs : List (Option Answer)). xs ++ Some answer ∷ []) h
-    ∙ ap (λ (o : Option Answer). take k places ++ o ∷ []) (sym there)
-    ∙ sym (take_more places k None within)
+pub no_gap : (xs : List Entry) (i : ℕ) → i < length xs → None ≡ slice_get xs i → ⊥
+no_gap [] i within h = omega arith
+no_gap (x ∷ xs) i within h = absurd (let bad : None ≡ Some (get_or (x ∷ xs) i x) = h ∙ slice_get-get_or (x ∷ xs) i x within in cc)

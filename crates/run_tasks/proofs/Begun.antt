@@ -163,7 +163,7 @@ none_refused limits bytes h =
 few_tasks : (limits : Limits) (bytes : List ℕ) (tasks : List Task) → IsInput limits bytes (Ok tasks) → length tasks ≤ limits.lines
 few_tasks limits bytes tasks h =
     let few : 1 + length (lines_of true bytes) ≤ limits.lines + 1 = few_lines limits 1 (lines_of true bytes) (none_refused limits bytes h.0) (omega arith) in
-    let same : length (lines_of true bytes) ≡ length tasks = ap (λ (ls : List (List ℕ)). length ls) h.1.whole ∙ length-map line_of tasks in
+    let same : length (lines_of true bytes) ≡ length tasks = ap (λ (ls : List (List ℕ)). length ls) h.1.whole ∙ length-map tasks line_of in
     omega (arith, few, same)
 
 may_begin : (words : RunWords) (clock : Option ℕ) (told : Option Files) (flow : InputFlow) (opening : Opening) → IsFit (Run words) → IsWrittenUuid words.uuid
