@@ -1,7 +1,8 @@
 -- Each task that was claimed was answered.
-use Rattle.std.proofs.Common.{◌≡◌, ℕ, List, [], ◌∷◌, refl, sym, ap, ◌∙◌, Bool, true, false, cond, Some, None, Option}
+use Rattle.std.proofs.Common.{◌≡◌, ℕ, List, [], ◌∷◌, length, refl, sym, ap, ◌∙◌, Bool, true, false, cond, Some, None, Option}
 use Rattle.std.specs.Prelude.{◌==◌, ◌&&◌, ◌||◌, map, is_some, filter_map}
-use Rattle.std.specs.List.{list_all, list_any, cons_option}
+use Rattle.std.specs.List.{list_all, list_any, cons_option, range_with_len}
+use Rattle.std.proofs.lemmas.List.Folds.{list_all-map}
 use Rattle.journal_model.specs.declared.answer.Answer.{Answer}
 use Rattle.journal_model.specs.declared.entry.What.{What}
 use Rattle.journal_model.specs.declared.entry.What.TheVariants.{Claim, Answer as Answered}
@@ -13,7 +14,7 @@ use Rattle.journal_model.specs.Output.{answer_in, answers_in}
 use Rattle.host_core.specs.Steps.{are_all_claimed}
 use Rattle.lone_work.specs.Works.{TaskDone, claimed_task, claims_in}
 use Rattle.run_tasks.specs.Runs.{answer_for, answer_of}
-use Rattle.run_tasks.specs.Answering.{AreAllAnswered}
+use Rattle.run_tasks.specs.Answering.{AreAllAnswered, HoldsAnswers}
 
 any_map : {X Y : Type 0} (p : Y → Bool) (f : X → Y) (xs : List X) → list_any p (map f xs) ≡ list_any (λ x. p (f x)) xs
 any_map p f [] = refl
@@ -63,3 +64,13 @@ pub all_answered : (o : Opening) (journal : List Entry) (done : List TaskDone) �
     → map (λ (r : TaskDone). (r.task, r.answer)) done ≡ answers_in journal → are_all_claimed o journal ≡ true → AreAllAnswered o journal
 all_answered o journal done claimed answered all =
     sym (all_same (is_claimed journal) (λ (t : ℕ). is_some (answer_of journal t)) (claimed_is_answered journal done claimed answered) (numbers_of o)) ∙ all
+
+-- so each place holds an answer
+pub all_full : (o : Opening) (journal entries : List Entry) (count : ℕ) (places : List (Option Answer)) → entries ≡ journal → count ≡ length o.tasks → HoldsAnswers count entries places
+    → AreAllAnswered o journal → list_all is_some places ≡ true
+all_full o journal entries count places e n h all =
+    ap (list_all is_some) h
+    ∙ list_all-map is_some (answer_of entries) (range_with_len 1 count)
+    ∙ ap (λ (j : List Entry). list_all (λ (t : ℕ). is_some (answer_of j t)) (range_with_len 1 count)) e
+    ∙ ap (λ (k : ℕ). list_all (λ (t : ℕ). is_some (answer_of journal t)) (range_with_len 1 k)) n
+    ∙ all
