@@ -1,6 +1,6 @@
 -- Each task that was claimed was answered.
 use Rattle.std.proofs.Common.{◌≡◌, ℕ, List, [], ◌∷◌, length, refl, sym, ap, ◌∙◌, Bool, true, false, cond, Some, None, Option}
-use Rattle.std.specs.Prelude.{◌==◌, ◌&&◌, ◌||◌, map, is_some, filter_map}
+use Rattle.std.specs.Prelude.{◌==◌, ◌&&◌, ◌||◌, map, is_some}
 use Rattle.std.specs.List.{list_all, list_any, cons_option, range_with_len}
 use Rattle.std.proofs.lemmas.List.Folds.{list_all-map}
 use Rattle.journal_model.specs.declared.answer.Answer.{Answer}
@@ -8,7 +8,7 @@ use Rattle.journal_model.specs.declared.entry.What.{What}
 use Rattle.journal_model.specs.declared.entry.What.TheVariants.{Claim, Answer as Answered}
 use Rattle.journal_model.specs.declared.entry.Entry.{Entry}
 use Rattle.journal_model.specs.declared.opening.Opening.{Opening}
-use Rattle.journal_model.specs.Journal.{any, each_of, first_of}
+use Rattle.journal_model.specs.Journal.{each_of, first_of}
 use Rattle.journal_model.specs.Legality.{claims, is_claimed, numbers_of}
 use Rattle.journal_model.specs.Output.{answer_in, answers_in}
 use Rattle.host_core.specs.Steps.{are_all_claimed}

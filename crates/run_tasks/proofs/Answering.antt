@@ -1,22 +1,20 @@
 -- How the places of the tasks take up the answers of entries.
 use Rattle.std.proofs.Common.{◌≡◌, ◌≢◌, ℕ, ◌+◌, ◌-◌, ◌<◌, ◌≤◌, List, [], ◌∷◌, ◌++◌, length, get_or, set, take, replicate, refl, sym, ap, subst, ◌∙◌, arith, Bool, true, false, cond, Some, None, Option, length-set}
 use Rattle.std.specs.Prelude.{◌==◌, map, is_some, slice_get}
-use Rattle.std.specs.List.{range_with_len, cons_option, list_all}
+use Rattle.std.specs.List.{range_with_len, cons_option}
 use Rattle.std.specs.Option.{option_or}
 use Rattle.std.proofs.lemmas.Bool.Decides.{nat_tests}
-use Rattle.std.proofs.lemmas.List.{same_lists, get_or_default, get_or-set_same, get_or-set_other, get_or-replicate, length-replicate, take_more, map-append}
+use Rattle.std.proofs.lemmas.List.{same_lists, get_or_default, get_or-set_same, get_or-set_other, get_or-replicate, length-replicate, take_more}
 use Rattle.std.proofs.lemmas.List.FromFn.{get_or-map-range_with_len, length-map-range_with_len}
-use Rattle.std.proofs.lemmas.List.Folds.{list_all_at}
 use Rattle.std.proofs.lemmas.Option.{slice_get_within, slice_get-get_or, get_or_from_slice_get}
 use Rattle.journal_model.specs.declared.answer.Answer.{Answer}
-use Rattle.journal_model.specs.declared.entry.What.{What}
 use Rattle.journal_model.specs.declared.entry.What.TheVariants.{Answer as Answered}
 use Rattle.journal_model.specs.declared.entry.Entry.{Entry}
 use Rattle.journal_model.specs.Journal.{first_of, each_of}
 use Rattle.journal_model.proofs.Looks.{first_of-append, each_of-append, or_none, differ}
 use Rattle.journal_look.specs.Shown.{what_shown, entry_shown}
 use Rattle.journal_look.specs.declared.entry.WhatRef.{WhatRef}
-use Rattle.journal_look.specs.declared.entry.WhatRef.TheVariants.{Claim as ClaimRef, Start as StartRef, NoStart as NoStartRef, Ask as AskRef, Put as PutRef, Sent as SentRef, Mute as MuteRef, Got as GotRef, End as EndRef, Verdict as VerdictRef, Lost as LostRef, Answer as AnswerRef, Note as NoteRef}
+use Rattle.journal_look.specs.declared.entry.WhatRef.TheVariants.{Answer as AnswerRef}
 use Rattle.journal_look.specs.declared.entry.EntryRef.{EntryRef}
 use Rattle.run_tasks.specs.Runs.{answer_for, answer_of}
 use Rattle.run_tasks.specs.Answering.{HoldsAnswers, TakesUp}

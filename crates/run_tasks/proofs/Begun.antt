@@ -1,11 +1,10 @@
 -- From what was read to what a run begins with.
 use Rattle.std.proofs.Common.{◌≡◌, ℕ, ◌+◌, ◌<◌, ◌≤◌, List, [], ◌∷◌, length, replicate, refl, sym, ap, subst, ◌∙◌, arith, Bool, true, false, cond, Some, None, Option, Ok, Err}
-use Rattle.std.specs.Prelude.{Result, IfOk, IfSome, All, nat_lt, map, take, option_and_then}
+use Rattle.std.specs.Prelude.{Result, IfOk, IfSome, All, nat_lt, take, option_and_then}
 use Rattle.std.proofs.lemmas.Bool.Decides.{nat_tests}
 use Rattle.std.proofs.lemmas.List.{length-map, length-replicate}
 use Rattle.std.proofs.lemmas.List.Elements.{All-head, All-tail}
 use Rattle.ann_key.specs.declared.bytes.NoMemory.{NoMemory}
-use Rattle.ann_outside.specs.Causes.{Rose}
 use Rattle.ann_outside.specs.Files.{Files}
 use Rattle.ann_outside.specs.declared.file_desk.Call.{Call}
 use Rattle.task_text.specs.TaskLines.{fault_of, line_of, IsTask}

@@ -1,6 +1,6 @@
 -- What comes of keeping what is known.
-use Rattle.std.proofs.Common.{◌≡◌, ◌⊎◌, ◌+◌, ◌-◌, ◌^◌, ◌≤◌, min, ℕ, List, refl, sym, ap, subst, arith, inl, inr, Some, None, Option, Ok, Err}
-use Rattle.std.specs.Prelude.{Result, MatchResult}
+use Rattle.std.proofs.Common.{◌≡◌, ◌⊎◌, ℕ, List, refl, sym, ap, subst, arith, inl, inr, Some, None, Option, Ok, Err}
+use Rattle.std.specs.Prelude.{Result}
 use Rattle.ann_key.specs.declared.bytes.NoMemory.{NoMemory}
 use Rattle.ann_outside.specs.Causes.{Rose}
 use Rattle.ann_outside.specs.DeskCauses.{Counts}

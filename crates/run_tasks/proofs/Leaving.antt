@@ -1,6 +1,6 @@
 -- What is left of a run's programs, and which desks were asked for.
-use Rattle.std.proofs.Common.{◌≡◌, ◌⊎◌, ◌+◌, ◌≤◌, inl, inr, ℕ, List, [], ◌∷◌, ◌++◌, length, append_assoc, lit≤, refl, sym, ap, subst, ◌∙◌, arith, true, false, Some, None, Option, Ok, Err}
-use Rattle.std.specs.Prelude.{Result, IsErr, map}
+use Rattle.std.proofs.Common.{◌≡◌, inl, inr, ℕ, List, [], ◌∷◌, ◌++◌, length, append_assoc, lit≤, refl, sym, ap, subst, ◌∙◌, arith, true, false, Some, None, Option, Ok}
+use Rattle.std.specs.Prelude.{Result, IsErr}
 use Rattle.std.specs.List.{range_with_len}
 use Rattle.std.proofs.lemmas.List.{append-nil}
 use Rattle.ann_outside.specs.Starts.{Starts}

@@ -1,5 +1,5 @@
 -- From what a run begins with and what was worked to its end.
-use Rattle.std.proofs.Common.{◌≡◌, ◌⊎◌, ℕ, List, [], ◌∷◌, refl, sym, ap, subst, ◌∙◌, inl, inr, true, Some, None, Option, Ok, Err}
+use Rattle.std.proofs.Common.{◌≡◌, ◌⊎◌, ℕ, List, [], ◌∷◌, sym, ap, subst, ◌∙◌, inl, inr, true, Option, Ok, Err}
 use Rattle.std.specs.Prelude.{Result}
 use Rattle.ann_outside.specs.Calls.{IsLogBlank}
 use Rattle.ann_outside.specs.Causes.{Rose}
@@ -8,7 +8,6 @@ use Rattle.ann_outside.specs.Desks.{no_counts}
 use Rattle.ann_outside.specs.Files.{Files}
 use Rattle.ann_outside.specs.declared.file_desk.Call.{Call}
 use Rattle.cli_words.specs.declared.command.RunWords.{RunWords}
-use Rattle.cli_words.specs.declared.refusals.Reason.{Reason}
 use Rattle.journal_model.specs.declared.answer.Answer.{Answer}
 use Rattle.journal_model.specs.declared.entry.Entry.{Entry}
 use Rattle.journal_model.specs.declared.opening.Opening.{Opening}
@@ -16,10 +15,10 @@ use Rattle.journal_model.proofs.Projecting.{parts_fit}
 use Rattle.host_core.specs.Steps.{are_all_claimed}
 use Rattle.task_run.specs.declared.setup.Setup.{Setup}
 use Rattle.child_end.specs.Outsides.{TableValue}
-use Rattle.lone_work.specs.Works.{DeskTells, desk_tells}
+use Rattle.lone_work.specs.Works.{desk_tells}
 use Rattle.lone_rounds.specs.Rounds.{RanAlone}
 use Rattle.run_tasks.specs.Inputs.{InputFlow, run_setup}
-use Rattle.run_tasks.specs.Runs.{MadeValue, IsRunOf, IsAsBefore, IsUnbegun, IsWholeRun, EndsRun, IfUnwhole}
+use Rattle.run_tasks.specs.Runs.{MadeValue, IsRunOf, IsUnbegun, EndsRun, IfUnwhole}
 use Rattle.run_tasks.specs.Beginnings.{IsReady, BeginsRun}
 use Rattle.run_tasks.specs.Workings.{IsWorked, Finishes, EndsWork, IsStopped, GoesOn}
 use Rattle.run_tasks.specs.declared.made.RunEnd.{RunEnd}

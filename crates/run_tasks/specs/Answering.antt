@@ -1,5 +1,5 @@
 -- How the answers are taken from the journal: one place for each task, which takes the first answer that comes.
-use Rattle.std.specs.Prelude.{ℕ, ◌≡◌, ◌++◌, ◌∷◌, [], Bool, true, List, length, map, Option, is_some}
+use Rattle.std.specs.Prelude.{ℕ, ◌≡◌, ◌++◌, ◌∷◌, [], true, List, map, Option, is_some}
 use Rattle.std.specs.List.{list_all, range_with_len}
 use Rattle.journal_model.specs.declared.answer.Answer.{Answer}
 use Rattle.journal_model.specs.declared.entry.Entry.{Entry}

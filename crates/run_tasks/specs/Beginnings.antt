@@ -13,7 +13,7 @@ use Rattle.run_tasks.specs.Inputs.{InputFlow, IsUnread, IsTaken, IsTextFor, IsRu
 use Rattle.run_tasks.specs.Runs.{IsRefusedFor}
 use Rattle.run_tasks.specs.declared.beginning.Kept.{Kept}
 use Rattle.run_tasks.specs.declared.made.RunEnd.{RunEnd}
-use Rattle.run_tasks.specs.declared.made.RunEnd.TheVariants.{BadKept, KeptTooLarge, FileFailed, InputFailed, Refused, Memory, Done}
+use Rattle.run_tasks.specs.declared.made.RunEnd.TheVariants.{BadKept, KeptTooLarge, FileFailed, InputFailed, Refused, Memory}
 
 -- ---- the kept file
 

@@ -1,7 +1,6 @@
-use Rattle.std.proofs.Common.{◌≡◌, ◌-◌, ◌+◌, ◌<◌, ◌≤◌, ◌≢◌, ◌∙◌, ℕ, Bool, true, false, List, Some, None, Option, length, get_or, set, sym, ap, subst, arith}
+use Rattle.std.proofs.Common.{◌≡◌, ◌-◌, ◌+◌, ◌<◌, ◌≤◌, ◌≢◌, ◌∙◌, ℕ, true, false, Some, None, length, get_or, set, sym, ap, subst, arith}
 use Rattle.std.specs.Prelude.{is_some}
 use Rattle.std.proofs.lemmas.List.{get_or_default}
-use Rattle.journal_model.specs.declared.answer.Answer.{Answer}
 use Rattle.journal_model.specs.declared.entry.Entry.{Entry}
 use Rattle.run_tasks.specs.Answering.{TakesUp}
 use Rattle.run_tasks.proofs.Answering.{shown_answer, takes_quiet, takes_outside, takes_again, takes_first}

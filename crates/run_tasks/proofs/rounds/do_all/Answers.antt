@@ -1,4 +1,4 @@
-use Rattle.std.proofs.Common.{◌≡◌, ◌∙◌, [], ◌∷◌, refl, sym, subst}
+use Rattle.std.proofs.Common.{◌∙◌, [], ◌∷◌, refl, sym, subst}
 use Rattle.journal_model.specs.declared.opening.Opening.{Opening}
 use Rattle.child_end.specs.Outsides.{table_value}
 use Rattle.lone_work.specs.Works.{AreTasks}
