@@ -1,0 +1,6 @@
+pub mod Answering
+pub mod Answered
+pub mod Begun
+pub mod Kept
+pub mod Working
+pub mod Leaving

@@ -1,5 +1,5 @@
 -- What a run was given: its input, and what the words, the kept file and the clock make of it.
-use Rattle.std.specs.Prelude.{ℕ, ◌≡◌, List, [], Option, Some, None, IfSome, Result, Ok}
+use Rattle.std.specs.Prelude.{ℕ, ◌≡◌, List, [], Option, Some, None, IfSome, Result}
 use Rattle.ann_outside.specs.Files.{Files}
 use Rattle.task_text.specs.declared.task.Task.{Task}
 use Rattle.reg_file.specs.Registers.{RegisterFile}

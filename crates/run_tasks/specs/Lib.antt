@@ -1,2 +1,5 @@
 pub mod Inputs
 pub mod Runs
+pub mod Beginnings
+pub mod Workings
+pub mod Answering

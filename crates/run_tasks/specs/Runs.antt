@@ -1,5 +1,5 @@
 -- What comes of a run, by its end.
-use Rattle.std.specs.Prelude.{ℕ, ◌≡◌, ◌⊎◌, ◌==◌, ◌≤◌, ◌<◌, if◌then◌else◌, true, List, [], ◌∷◌, ◌++◌, length, map, Option, Some, None, IfSome, Result, Ok, Err}
+use Rattle.std.specs.Prelude.{ℕ, ◌≡◌, ◌⊎◌, ◌==◌, ◌≤◌, ◌<◌, if◌then◌else◌, true, List, [], ◌∷◌, ◌++◌, length, map, Option, Some, None, IfSome, Ok, Err}
 use Rattle.std.specs.List.{range_with_len}
 use Rattle.ann_outside.specs.Causes.{Rose}
 use Rattle.ann_outside.specs.Calls.{IsLogBlank}
@@ -13,9 +13,8 @@ use Rattle.keep_desk.specs.declared.TheConstants.{MOST_BYTES}
 use Rattle.keep_desk.specs.declared.writing.KeptWritten.{KeptWritten}
 use Rattle.keep_desk.specs.declared.writing.KeptWritten.TheVariants as W
 use Rattle.cli_words.specs.declared.command.RunWords.{RunWords}
-use Rattle.cli_words.specs.declared.refusals.Reason.{Reason}
 use Rattle.task_input.specs.declared.error.InputError.TheVariants as input
-use Rattle.task_input.specs.declared.limits.TheConstants.{TASKS}
+use Rattle.task_input.specs.declared.limits.TheConstants.Limits.{TASKS}
 use Rattle.journal_model.specs.declared.answer.Answer.{Answer}
 use Rattle.journal_model.specs.declared.entry.What.{What}
 use Rattle.journal_model.specs.declared.entry.What.TheVariants.{Answer as Answered}

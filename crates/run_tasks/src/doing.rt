@@ -1,4 +1,5 @@
-ghost use Rattle.std.specs.Prelude.{◌≡◌, ◌≤◌, ◌<◌, false, true};
+// A run: its desks, what it begins with, and its tasks.
+ghost use Rattle.std.specs.Prelude.{◌≡◌, ◌≤◌, ◌<◌, ◌∷◌, [], IfOk, false, true, vec_len, vec_capacity};
 ghost use Rattle.annex_model.specs.Lines.{has_newline};
 ghost use Rattle.chunk_log.specs.ChunkLines.{IsWrittenUuid};
 ghost use Rattle.child_end.specs.Outsides.{OutsideValue};
@@ -7,12 +8,73 @@ ghost use Rattle.cli_words.specs.Identities.{IsFit};
 ghost use Rattle.cli_words.specs.declared.command.Command.TheVariants.{Run};
 ghost use Rattle.run_tasks.specs.Inputs.{input_flow};
 ghost use Rattle.run_tasks.specs.Runs.{HasDone};
+ghost use Rattle.run_tasks.specs.Workings.{listed};
+ghost use Rattle.run_tasks.specs.declared.made.RunEnd.TheVariants.{Memory};
 
+use crate::beginning::begin;
 use crate::made::{Made, RunEnd};
+use crate::rounds::go_on;
+use ann_key::NoMemory;
 use ann_outside::{Clock, Desks, Programs, Source};
 use cli_words::RunWords;
 use journal_look::Journal;
+use link_roles::Wire;
 use std::alloc::Global;
+
+// Room for what a run leaves of its objects.
+#[derive(Drop)]
+struct Room<P: Programs, K: Desks> {
+    wires: Vec<Wire<P::Inlet, P::Outlet>>,
+    tables: Vec<K::Desk>,
+}
+
+// Room for a wire of each start, and for two desks.
+fn take_room<P: Programs, K: Desks>(alloc: Global, starts: u32) -> Result<Room<P, K>, NoMemory>
+where
+    P::Inlet: Drop,
+    P::Outlet: Drop,
+    K::Desk: Drop,
+    ensures none { IfOk result (λ r. (r.wires.items ≡ []) × (r.tables.items ≡ []) × (vec_len r.tables ≡ 0)) }
+    ensures room { IfOk result (λ r. (starts ≤ vec_capacity r.wires) × (2 ≤ vec_capacity r.tables)) }
+{
+    let wires = Vec::with_capacity(alloc, starts as usize)?;
+    let tables = Vec::with_capacity(alloc, 2)?;
+    Ok(Room { wires, tables })
+}
+
+// No memory was found before anything was asked for.
+fn nothing_made<P: Programs, K: Desks>(alloc: Global) -> Made<P, K>
+where
+    P::Inlet: Drop,
+    P::Outlet: Drop,
+    K::Desk: Drop,
+    ensures { result ≡ record { journal = []; answers = []; wires = []; tables = []; end = Memory } }
+{
+    Made {
+        journal: Journal::new(alloc),
+        answers: Vec::new(alloc),
+        wires: Vec::new(alloc),
+        tables: Vec::new(alloc),
+        end: RunEnd::Memory,
+    }
+}
+
+// Both desks, within the room that was taken for them.
+fn both<D>(tables: Vec<D>, first: D, worker: Option<D>) -> Vec<D>
+    requires none { (tables.items ≡ []) × (vec_len tables ≡ 0) }
+    requires room { 2 ≤ vec_capacity tables }
+    ensures { result.items ≡ first ∷ listed worker }
+{
+    let mut tables = tables;
+    tables.push_reserved(first);
+    match worker {
+        Some(worker) => {
+            tables.push_reserved(worker);
+            tables
+        }
+        None => tables,
+    }
+}
 
 /// Does the tasks of the input. The kept file is read first, where the words name one, then the input to its end, then the
 /// clock; after the tasks the kept file is written.
@@ -36,11 +98,20 @@ where
     requires input { I.is_open input.old ≡ true }
     ensures { HasDone words.now (C.answer clock.old) (record { programs = programs_value (P.starts programs.old) (P.faults programs.old); made = K.made desks.old }) (input_flow (I.given input.old) (I.given input.new) (I.left input.old) (I.left input.new) (I.faults input.old) (I.faults input.new)) (record { programs = programs_value (P.starts programs.new) (P.faults programs.new); made = K.made desks.new }) result }
 {
+    let Ok(room) = take_room::<P, K>(alloc, words.starts) else {
+        return nothing_made(alloc);
+    };
+    let Room { mut wires, tables } = room;
+    let Ok(mut desk) = desks.desk(0) else {
+        return nothing_made(alloc);
+    };
+    let begun = begin(alloc, words, &mut desk, input, clock);
+    let worked = go_on(alloc, words, begun, programs, desks, &mut desk, &mut wires);
     Made {
-        journal: Journal::new(alloc),
-        answers: Vec::new(alloc),
-        wires: Vec::new(alloc),
-        tables: Vec::new(alloc),
-        end: RunEnd::Memory,
+        journal: worked.journal,
+        answers: worked.answers,
+        wires,
+        tables: both(tables, desk, worked.worker),
+        end: worked.end,
     }
 }

@@ -1,8 +1,12 @@
 // The whole of a run: what it begins with, its tasks over one child at a time, and what is kept of it.
 #![tactic(auto)]
 
+mod answers;
+mod beginning;
 mod doing;
+mod keeping;
 mod made;
+mod rounds;
 
 pub use doing::do_tasks;
 pub use made::{Made, RunEnd};

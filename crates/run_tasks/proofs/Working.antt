@@ -1,0 +1,160 @@
+-- From what a run begins with and what was worked to its end.
+use Rattle.std.proofs.Common.{◌≡◌, ◌⊎◌, ℕ, List, [], ◌∷◌, sym, ap, subst, ◌∙◌, inl, inr, true, Option, Ok, Err}
+use Rattle.std.specs.Prelude.{Result}
+use Rattle.ann_outside.specs.Calls.{IsLogBlank}
+use Rattle.ann_outside.specs.Causes.{Rose}
+use Rattle.ann_outside.specs.DeskCauses.{Counts}
+use Rattle.ann_outside.specs.Desks.{no_counts}
+use Rattle.ann_outside.specs.Files.{Files}
+use Rattle.ann_outside.specs.declared.file_desk.Call.{Call}
+use Rattle.cli_words.specs.declared.command.RunWords.{RunWords}
+use Rattle.journal_model.specs.declared.answer.Answer.{Answer}
+use Rattle.journal_model.specs.declared.entry.Entry.{Entry}
+use Rattle.journal_model.specs.declared.opening.Opening.{Opening}
+use Rattle.journal_model.proofs.Projecting.{parts_fit}
+use Rattle.host_core.specs.Steps.{are_all_claimed}
+use Rattle.task_run.specs.declared.setup.Setup.{Setup}
+use Rattle.child_end.specs.Outsides.{TableValue}
+use Rattle.lone_work.specs.Works.{desk_tells}
+use Rattle.lone_rounds.specs.Rounds.{RanAlone}
+use Rattle.run_tasks.specs.Inputs.{InputFlow, run_setup}
+use Rattle.run_tasks.specs.Runs.{MadeValue, IsRunOf, IsUnbegun, EndsRun, IfUnwhole}
+use Rattle.run_tasks.specs.Beginnings.{IsReady, BeginsRun}
+use Rattle.run_tasks.specs.Workings.{IsWorked, Finishes, EndsWork, IsStopped, GoesOn}
+use Rattle.run_tasks.specs.declared.made.RunEnd.{RunEnd}
+use Rattle.run_tasks.specs.declared.made.RunEnd.TheVariants.{BadKept, KeptTooLarge, FileFailed, InputFailed, Refused, Memory, Done}
+use Rattle.run_tasks.proofs.Kept.{as_before}
+
+-- ---- the tasks
+
+pub is_worked : (words : RunWords) (opening : Opening) (workers : List TableValue) (journal : List Entry) (log : Option (List Call)) (counts : Counts) (desk : TableValue) (setup : Setup) (limit : ℕ)
+    → workers ≡ desk ∷ [] → counts ≡ no_counts → IsLogBlank log → setup ≡ run_setup words opening.stamp → limit ≡ words.starts
+    → RanAlone opening setup limit journal (desk_tells log counts) (desk_tells desk.log desk.counts) → IsWorked words opening workers journal
+is_worked words opening workers journal log counts desk setup limit one fresh blank setup_is limit_is ran = record {
+  log = log;
+  blank = blank;
+  desk = desk;
+  one = one;
+  ran =
+      subst (λ (n : ℕ). RanAlone opening (run_setup words opening.stamp) n journal (desk_tells log no_counts) (desk_tells desk.log desk.counts)) limit_is
+      (subst (λ (s : Setup). RanAlone opening s limit journal (desk_tells log no_counts) (desk_tells desk.log desk.counts)) setup_is
+      (subst (λ (n : Counts). RanAlone opening setup limit journal (desk_tells log n) (desk_tells desk.log desk.counts)) fresh ran));
+  parts = parts_fit opening journal ran.legal;
+}
+
+finished : (words : RunWords) (told : Option Files) (table : TableValue) (o : Opening) (workers : List TableValue) (journal : List Entry) (answers : List Answer) (end : RunEnd)
+    → IsWorked words o workers journal → are_all_claimed o journal ≡ true → Finishes words told table o journal answers end → EndsWork words told table o workers journal answers end
+finished words told table o workers journal answers Memory worked all h = (inr worked, h.0, h.1)
+finished words told table o workers journal answers (Done written) worked all h = record { worked = worked; all = all; finished = h }
+finished words told table o workers journal answers (BadKept line) worked all h = absurd h
+finished words told table o workers journal answers KeptTooLarge worked all h = absurd h
+finished words told table o workers journal answers FileFailed worked all h = absurd h
+finished words told table o workers journal answers InputFailed worked all h = absurd h
+finished words told table o workers journal answers (Refused line reason) worked all h = absurd h
+
+-- all were done
+pub ends_finished : (words : RunWords) (told : Option Files) (table : TableValue) (o o' : Opening) (workers : List TableValue) (journal journal' : List Entry) (answers : List Answer) (end : RunEnd)
+    → o' ≡ o → journal' ≡ journal → IsWorked words o workers journal → are_all_claimed o journal ≡ true → Finishes words told table o' journal answers end → EndsWork words told table o workers journal' answers end
+ends_finished words told table o o' workers journal journal' answers end e j worked all h =
+    subst (λ (x : List Entry). EndsWork words told table o workers x answers end) (sym j)
+    (finished words told table o workers journal answers end worked all (subst (λ (x : Opening). Finishes words told table x journal answers end) e h))
+
+-- or no memory was found to start a child
+pub ends_wanting : (words : RunWords) (told : Option Files) (table : TableValue) (o : Opening) (workers : List TableValue) (journal journal' : List Entry) (answers : List Answer)
+    → journal' ≡ journal → answers ≡ [] → table.files ≡ told → IsWorked words o workers journal → EndsWork words told table o workers journal' answers Memory
+ends_wanting words told table o workers journal journal' answers j none same worked =
+    subst (λ (x : List Entry). EndsWork words told table o workers x answers Memory) (sym j) (inr worked, none, as_before words told table same)
+
+-- or before anything was done
+pub ends_before : (words : RunWords) (told : Option Files) (table : TableValue) (o : Opening) (workers : List TableValue) (journal : List Entry) (answers : List Answer) (end : RunEnd)
+    → journal ≡ [] → answers ≡ [] → end ≡ Memory → table.files ≡ told → EndsWork words told table o workers journal answers end
+ends_before words told table o workers journal answers end j none e same =
+    subst (EndsWork words told table o workers journal answers) (sym e) (inl j, none, as_before words told table same)
+
+-- ---- the run
+
+module _ (words : RunWords) (clock : Option ℕ) (told : Option Files) (flow : InputFlow) where
+  run_of : (opening : Opening) (workers : List TableValue) (journal : List Entry) → IsReady words clock told flow opening → IsWorked words opening workers journal → IsRunOf words clock told flow workers journal
+  run_of opening workers journal ready worked = record {
+    stamp = ready.stamp;
+    at = ready.at;
+    kept = ready.kept;
+    text = ready.text;
+    right = ready.right;
+    tasks = ready.tasks;
+    input = ready.input;
+    opening = opening;
+    begins = ready.begins;
+    log = worked.log;
+    blank = worked.blank;
+    desk = worked.desk;
+    one = worked.one;
+    ran =
+        subst (λ (n : ℕ). RanAlone opening (run_setup words n) words.starts journal (desk_tells worked.log no_counts) (desk_tells worked.desk.log worked.desk.counts)) (ap (λ (o : Opening). o.stamp) ready.begins.is)
+        worked.ran;
+    parts = worked.parts;
+  }
+
+  from_work : (opening : Opening) (table : TableValue) (workers : List TableValue) (made : MadeValue) (end : RunEnd) → IsReady words clock told flow opening
+      → EndsWork words told table opening workers made.journal made.answers end → EndsRun words clock told flow table workers made end
+  unfolding run_of
+  from_work opening table workers made Memory ready h = (either h.0, h.2)
+    where
+      either : (made.journal ≡ []) ⊎ IsWorked words opening workers made.journal → (made.journal ≡ []) ⊎ IsRunOf words clock told flow workers made.journal
+      either (inl none) = inl none
+      either (inr worked) = inr (run_of opening workers made.journal ready worked)
+  from_work opening table workers made (Done written) ready h =
+      record { run = run_of opening workers made.journal ready h.worked; all = h.all; answers = h.finished.answers_are; kept = h.finished.kept }
+  from_work opening table workers made (BadKept line) ready h = absurd h
+  from_work opening table workers made KeptTooLarge ready h = absurd h
+  from_work opening table workers made FileFailed ready h = absurd h
+  from_work opening table workers made InputFailed ready h = absurd h
+  from_work opening table workers made (Refused line reason) ready h = absurd h
+
+  unbegun : (before after : TableValue) (workers : List TableValue) (made : MadeValue) (why end : RunEnd) → before.files ≡ told
+      → IsStopped before after workers made.journal made.answers why end → IsUnbegun words told after workers made
+  unbegun before after workers made why end same stopped =
+      record { journal = stopped.no_journal; none = stopped.no_workers; before = as_before words told after (ap (λ (t : TableValue). t.files) stopped.table_is ∙ same) }
+
+  rose_from : (faults : ℕ) (before after : TableValue) → faults ≡ 0 → after ≡ before → Rose faults before.counts.faults → Rose 0 after.counts.faults
+  rose_from faults before after zero e h =
+      subst (λ (t : TableValue). Rose 0 t.counts.faults) (sym e) (subst (λ (n : ℕ). Rose n before.counts.faults) zero h)
+
+  from_stop : (faults : ℕ) (before after : TableValue) (workers : List TableValue) (made : MadeValue) (why end : RunEnd) → before.files ≡ told → faults ≡ 0
+      → BeginsRun words clock told flow faults before.counts.faults (Err why) → IsStopped before after workers made.journal made.answers why end → EndsRun words clock told flow after workers made why
+  from_stop faults before after workers made (BadKept line) end same zero h stopped = (unbegun before after workers made (BadKept line) end same stopped, h.0, h.1)
+  from_stop faults before after workers made KeptTooLarge end same zero h stopped = (unbegun before after workers made KeptTooLarge end same stopped, h.0, h.1)
+  from_stop faults before after workers made FileFailed end same zero h stopped =
+      (unbegun before after workers made FileFailed end same stopped, h.0, rose_from faults before after zero stopped.table_is h.1)
+  from_stop faults before after workers made InputFailed end same zero h stopped = (unbegun before after workers made InputFailed end same stopped, h)
+  from_stop faults before after workers made (Refused line reason) end same zero h stopped = (unbegun before after workers made (Refused line reason) end same stopped, h)
+  from_stop faults before after workers made Memory end same zero h stopped =
+      (inl stopped.no_journal, as_before words told after (ap (λ (t : TableValue). t.files) stopped.table_is ∙ same))
+  from_stop faults before after workers made (Done written) end same zero h stopped = absurd h
+
+  pub ends_run : (faults : ℕ) (before after : TableValue) (workers : List TableValue) (made : MadeValue) (begun : Result Opening RunEnd) → before.files ≡ told → faults ≡ 0
+      → BeginsRun words clock told flow faults before.counts.faults begun → GoesOn words before after workers made.journal made.answers begun made.end → EndsRun words clock told flow after workers made made.end
+  ends_run faults before after workers made (Ok opening) same zero h goes =
+      from_work opening after workers made made.end h (subst (λ (t : Option Files). EndsWork words t after opening workers made.journal made.answers made.end) same goes)
+  ends_run faults before after workers made (Err why) same zero h goes =
+      subst (EndsRun words clock told flow after workers made) (sym goes.end_is) (from_stop faults before after workers made why made.end same zero h goes)
+
+unwhole : (words : RunWords) (told : Option Files) (table : TableValue) (o : Opening) (workers : List TableValue) (journal : List Entry) (answers : List Answer) (end : RunEnd)
+    → EndsWork words told table o workers journal answers end → IfUnwhole end (answers ≡ [])
+unwhole words told table o workers journal answers Memory h = h.1
+unwhole words told table o workers journal answers (Done written) h = tt
+unwhole words told table o workers journal answers (BadKept line) h = absurd h
+unwhole words told table o workers journal answers KeptTooLarge h = absurd h
+unwhole words told table o workers journal answers FileFailed h = absurd h
+unwhole words told table o workers journal answers InputFailed h = absurd h
+unwhole words told table o workers journal answers (Refused line reason) h = absurd h
+
+if_unwhole : {P : Type 0} (end : RunEnd) → P → IfUnwhole end P
+if_unwhole (Done written) p = tt
+if_unwhole end p = p
+
+-- there are answers only where the run is whole
+pub no_answers : (words : RunWords) (before after : TableValue) (workers : List TableValue) (journal : List Entry) (answers : List Answer) (begun : Result Opening RunEnd) (end : RunEnd)
+    → GoesOn words before after workers journal answers begun end → IfUnwhole end (answers ≡ [])
+no_answers words before after workers journal answers (Ok opening) end h = unwhole words before.files after opening workers journal answers end h
+no_answers words before after workers journal answers (Err why) end h = if_unwhole end h.no_answers

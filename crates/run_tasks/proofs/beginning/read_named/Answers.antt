@@ -1,0 +1,16 @@
+use Rattle.std.proofs.Common.{Ok, subst}
+use Rattle.std.specs.Prelude.{IfSome}
+use Rattle.keep_desk.specs.declared.reading.KeptRead.{KeptRead}
+use Rattle.keep_desk.specs.KeptDesks.{IsReadAs, IsKeptAt}
+use Rattle.run_tasks.proofs.Begun.{hands_on}
+use Rattle.run_tasks.proofs.beginning.read_named.Goals as goal
+
+pub returns-in-Ok-Kept-clause-kept : goal.returns-in-Ok-Kept-clause-kept
+returns-in-Ok-Kept-clause-kept g c =
+    let told = g.D.Desk.files c.args.desk.now in
+    let old = g.D.Desk.log c.args.desk.now in
+    let new = g.D.Desk.log c.read_kept.new.desk in
+    let name = c.args.name.now in
+    hands_on c.args.words.now told name c.requires.named old new c.in-Ok-Kept.registers c.in-Ok-Kept.notes
+    (subst (λ (k : KeptRead). IsReadAs old new name (Ok k)) c.in-Ok-Kept.field-0-is c.in-Ok-Kept.ensures.read)
+    (subst (λ (k : KeptRead). IfSome told (λ files. IsKeptAt name files (Ok k))) c.in-Ok-Kept.field-0-is c.in-Ok-Kept.ensures.told)

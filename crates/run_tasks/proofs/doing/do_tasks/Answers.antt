@@ -1,0 +1,56 @@
+use Rattle.std.proofs.Common.{map, ap, inr}
+use Rattle.ann_outside.specs.DeskCauses.{Counts}
+use Rattle.child_end.specs.Outsides.{table_value}
+use Rattle.child_end.specs.Wires.{wire_value}
+use Rattle.run_tasks.specs.Inputs.{input_flow}
+use Rattle.run_tasks.specs.Runs.{MadeValue}
+use Rattle.run_tasks.specs.Workings.{listed}
+use Rattle.run_tasks.proofs.Begun.{may_begin_all}
+use Rattle.run_tasks.proofs.Leaving.{made_first}
+use Rattle.run_tasks.proofs.Working.{ends_run, no_answers}
+use Rattle.run_tasks.proofs.doing.do_tasks.Goals as goal
+
+pub go_on-worked-requires-clause-may : goal.go_on-worked-requires-clause-may
+go_on-worked-requires-clause-may g c κs within =
+    let old = c.args.input.now in
+    let new = c.begin-begun.new.input in
+    let flow = input_flow (g.I.Source.given old) (g.I.Source.given new) (g.I.Source.left old) (g.I.Source.left new) (g.I.Source.faults old) (g.I.Source.faults new) in
+    may_begin_all c.args.words.now (g.C.Clock.answer c.args.clock.now) (g.K.Desk.Desk.files c.in-Ok-desk.desk) flow (g.K.Desk.Desk.counts c.in-Ok-desk.desk).faults (g.K.Desk.Desk.counts c.begin-begun.new.desk).faults
+    c.begin-begun.result c.requires.fit c.requires.uuid c.begin-begun.ensures.begins
+
+pub returns : goal.returns
+returns g c =
+    let words = c.args.words.now in
+    let old = c.args.input.now in
+    let new = c.begin-begun.new.input in
+    let flow = input_flow (g.I.Source.given old) (g.I.Source.given new) (g.I.Source.left old) (g.I.Source.left new) (g.I.Source.faults old) (g.I.Source.faults new) in
+    let value = table_value g.K.Desk.Desk.counts g.K.Desk.Desk.files g.K.Desk.Desk.log in
+    let told = g.K.Desk.Desk.files c.in-Ok-desk.desk in
+    let before = value c.begin-begun.new.desk in
+    let table = value c.go_on-worked.new.desk in
+    let workers = map value (listed c.go_on-worked.result.worker) in
+    let adds = c.go_on-worked.ensures.desks in
+    let made : MadeValue = record {
+      journal = c.go_on-worked.result.journal.entries;
+      answers = c.go_on-worked.result.answers.items;
+      wires =
+          map (wire_value g.P.Inlet.Sink.taken g.P.Inlet.Sink.faults g.P.Inlet.Sink.number g.P.Inlet.Sink.is_open g.P.Outlet.Source.given g.P.Outlet.Source.left g.P.Outlet.Source.faults g.P.Outlet.Source.number g.P.Outlet.Source.is_open)
+          c.go_on-worked.new.wires.items;
+      tables = map value c.both.result.items;
+      end = c.go_on-worked.result.end;
+    } in
+    inr record {
+      told = told;
+      table = table;
+      workers = workers;
+      tables = ap (map value) c.both.ensures;
+      few = adds.few;
+      more = adds.more;
+      desks = made_first (g.K.Desks.made c.args.desks.now) (g.K.Desks.made c.desk.new.self) (g.K.Desks.made c.go_on-worked.new.desks) (record { number = 0; files = told }) adds.more c.in-Ok-desk.ensures.made adds.desks;
+      numbers = adds.numbers;
+      ends =
+          ends_run words (g.C.Clock.answer c.args.clock.now) told flow (g.K.Desk.Desk.counts c.in-Ok-desk.desk).faults before table workers made c.begin-begun.result c.begin-begun.ensures.files
+          (ap (λ (n : Counts). n.faults) c.in-Ok-desk.ensures.fresh.0) c.begin-begun.ensures.begins c.go_on-worked.ensures.goes_on;
+      none = no_answers words before table workers made.journal made.answers c.begin-begun.result made.end c.go_on-worked.ensures.goes_on;
+      objects = c.go_on-worked.ensures.leaves;
+    }

@@ -1,0 +1,99 @@
+-- What comes of the tasks of an opening, and of keeping what is known.
+use Rattle.std.specs.Prelude.{ℕ, ◌≡◌, ◌⊎◌, ◌≤◌, true, List, [], ◌∷◌, length, map, Option, Some, None, Result, Ok, Err, MatchResult}
+use Rattle.std.specs.List.{range_with_len}
+use Rattle.ann_key.specs.declared.bytes.NoMemory.{NoMemory}
+use Rattle.ann_outside.specs.Calls.{IsLogBlank}
+use Rattle.ann_outside.specs.Desks.{Made, no_counts}
+use Rattle.ann_outside.specs.Files.{Files}
+use Rattle.ann_outside.specs.declared.file_desk.Call.{Call}
+use Rattle.keep_desk.specs.declared.writing.KeptWritten.{KeptWritten}
+use Rattle.cli_words.specs.declared.command.RunWords.{RunWords}
+use Rattle.journal_model.specs.declared.answer.Answer.{Answer}
+use Rattle.journal_model.specs.declared.entry.Entry.{Entry}
+use Rattle.journal_model.specs.declared.opening.Opening.{Opening}
+use Rattle.journal_model.specs.Due.{replies_at}
+use Rattle.journal_model.specs.Projection.{JobFits}
+use Rattle.host_core.specs.Steps.{are_all_claimed}
+use Rattle.child_end.specs.Outsides.{TableValue}
+use Rattle.lone_work.specs.Works.{desk_tells}
+use Rattle.lone_rounds.specs.Rounds.{RanAlone}
+use Rattle.run_tasks.specs.Inputs.{run_setup}
+use Rattle.run_tasks.specs.Runs.{AreAnswers, IsAsBefore, IsKept, AddsMade}
+use Rattle.run_tasks.specs.declared.made.RunEnd.{RunEnd}
+use Rattle.run_tasks.specs.declared.made.RunEnd.TheVariants.{Memory, Done}
+use Rattle.run_tasks.specs.declared.rounds.Ready.{Ready}
+
+-- what there is, as a list
+abbrev pub listed : {A : Type 0} → Option A → List A
+listed None = []
+listed (Some x) = x ∷ []
+
+-- all is ready for the tasks of the core's opening
+pub record IsPrepared (words : RunWords) (r : Ready) : Type 0 where
+  pub empty : r.core.journal ≡ []
+  pub program : r.plan.program ≡ words.program
+  pub starts : r.plan.starts ≡ words.starts
+  pub setup : r.plan.setup ≡ run_setup words r.core.opening.stamp
+  pub tasks : r.tasks ≡ r.core.opening.tasks
+
+-- ---- the tasks
+
+-- the tasks of the opening were done over one child at a time and by the first worker's desk, and each job's part fits
+pub record IsWorked (words : RunWords) (opening : Opening) (workers : List TableValue) (journal : List Entry) : Type 0 where
+  pub log : Option (List Call)
+  pub blank : IsLogBlank log
+  pub desk : TableValue
+  pub one : workers ≡ desk ∷ []
+  pub ran : RanAlone opening (run_setup words opening.stamp) words.starts journal (desk_tells log no_counts) (desk_tells desk.log desk.counts)
+  pub parts : (c j : ℕ) → JobFits (replies_at opening journal) journal c j
+
+-- these are the answers, and this came of keeping what is known
+pub record IsFinished (words : RunWords) (told : Option Files) (table : TableValue) (opening : Opening) (journal : List Entry) (answers : List Answer) (written : KeptWritten) : Type 0 where
+  pub answers_are : AreAnswers opening journal answers
+  pub kept : IsKept words told table opening journal written
+
+-- so it is, or no memory was found and the kept file is as before
+abbrev pub Finishes : RunWords → Option Files → TableValue → Opening → List Entry → List Answer → RunEnd → Type 0
+Finishes words told table opening journal answers Memory = (answers ≡ []) × IsAsBefore words told table
+Finishes words told table opening journal answers (Done written) = IsFinished words told table opening journal answers written
+Finishes words told table opening journal answers end = ⊥
+
+-- what is known was kept, or no memory was found and the kept file is as before
+abbrev pub Keeps : RunWords → Option Files → TableValue → Opening → List Entry → Result KeptWritten NoMemory → Type 0
+Keeps words told table opening journal result =
+    MatchResult result (λ written. IsKept words told table opening journal written) (λ _. IsAsBefore words told table)
+
+-- the tasks were done, and all of it was kept
+pub record IsWhole (words : RunWords) (told : Option Files) (table : TableValue) (opening : Opening) (workers : List TableValue) (journal : List Entry) (answers : List Answer) (written : KeptWritten) : Type 0 where
+  pub worked : IsWorked words opening workers journal
+  pub all : are_all_claimed opening journal ≡ true
+  pub finished : IsFinished words told table opening journal answers written
+
+-- so it is, or no memory was found
+abbrev pub EndsWork : RunWords → Option Files → TableValue → Opening → List TableValue → List Entry → List Answer → RunEnd → Type 0
+EndsWork words told table opening workers journal answers Memory =
+    ((journal ≡ []) ⊎ IsWorked words opening workers journal) × (answers ≡ []) × IsAsBefore words told table
+EndsWork words told table opening workers journal answers (Done written) = IsWhole words told table opening workers journal answers written
+EndsWork words told table opening workers journal answers end = ⊥
+
+-- ---- behind what a run begins with
+
+-- nothing was done, and this is why
+pub record IsStopped (before after : TableValue) (workers : List TableValue) (journal : List Entry) (answers : List Answer) (why end : RunEnd) : Type 0 where
+  pub end_is : end ≡ why
+  pub table_is : after ≡ before
+  pub no_workers : workers ≡ []
+  pub no_journal : journal ≡ []
+  pub no_answers : answers ≡ []
+
+-- the tasks were done, or nothing was where a run doesn't begin
+abbrev pub GoesOn : RunWords → TableValue → TableValue → List TableValue → List Entry → List Answer → Result Opening RunEnd → RunEnd → Type 0
+GoesOn words before after workers journal answers (Ok opening) end = EndsWork words before.files after opening workers journal answers end
+GoesOn words before after workers journal answers (Err why) end = IsStopped before after workers journal answers why end
+
+-- one worker's desk was asked for at most, and where desks tell they tell it
+pub record AddsWorkers (old new : Option (List Made)) (workers : List TableValue) : Type 0 where
+  pub few : length workers ≤ 1
+  pub more : List Made
+  pub desks : AddsMade old new more
+  pub numbers : map (λ m. m.number) more ≡ range_with_len 1 (length workers)
