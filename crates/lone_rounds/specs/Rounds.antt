@@ -1,5 +1,5 @@
 -- What a run leaves that is made by one thread, over one child at a time.
-use Rattle.std.specs.Prelude.{ℕ, ◌≡◌, ◌⊎◌, ◌<◌, ◌==◌, ◌&&◌, ◌||◌, not, if◌then◌else◌, Bool, true, false, List, [], ◌∷◌, ◌++◌, map, All, Option, Some, None, Result, MatchResult}
+use Rattle.std.specs.Prelude.{ℕ, ◌≡◌, ◌⊎◌, ◌<◌, ◌==◌, ◌&&◌, ◌||◌, not, if◌then◌else◌, Bool, true, false, List, [], ◌∷◌, ◌++◌, map, All, Option, Some, None, option_and_then, Result, MatchResult}
 use Rattle.std.specs.List.{list_all, last_or}
 use Rattle.ann_key.specs.declared.bytes.NoMemory.{NoMemory}
 use Rattle.ann_outside.specs.Calls.{Gained}
@@ -33,7 +33,7 @@ turn_of w = None
 
 -- what the last start came to, where no task was claimed behind it
 abbrev pub start_untaken : List Entry → Option (Option ℕ)
-start_untaken past = last_or None (each_of turn_of past)
+start_untaken past = option_and_then (λ turn. turn) (last_or None (each_of turn_of past))
 
 -- a child ended for want of memory
 abbrev pub ends_for_memory : What → Bool

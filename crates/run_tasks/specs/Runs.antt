@@ -15,7 +15,7 @@ use Rattle.keep_desk.specs.declared.writing.KeptWritten.TheVariants as W
 use Rattle.cli_words.specs.declared.command.RunWords.{RunWords}
 use Rattle.cli_words.specs.declared.refusals.Reason.{Reason}
 use Rattle.task_input.specs.declared.error.InputError.TheVariants as input
-use Rattle.task_input.specs.declared.limits.TheConstants.{TASKS}
+use Rattle.task_input.specs.declared.limits.TheConstants.Limits.{TASKS}
 use Rattle.journal_model.specs.declared.answer.Answer.{Answer}
 use Rattle.journal_model.specs.declared.entry.What.{What}
 use Rattle.journal_model.specs.declared.entry.What.TheVariants.{Answer as Answered}
