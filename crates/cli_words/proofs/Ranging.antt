@@ -16,6 +16,7 @@ use Rattle.cli_words.specs.Words.{are_texts, check_of, command_of, info_of, init
 use Rattle.cli_words.specs.declared.command.Command.{Command}
 use Rattle.cli_words.specs.declared.command.Command.TheVariants.{Run, Show}
 use Rattle.cli_words.specs.declared.command.Page.{Page}
+use Rattle.cli_words.specs.declared.command.RunWords.{RunWords}
 use Rattle.cli_words.specs.declared.settings.Setting.{Setting}
 use Rattle.cli_words.proofs.Numerals.{number_read}
 
@@ -79,6 +80,37 @@ run_ranged words = go (fault_of run_grammar words) (matches_of run_grammar words
   where
     go : (kinds : Kinds) (rows : List Row) → Ranged (option_map Run (cond (is_without kinds) (run_from rows) None))
     go [] rows = from_ranged rows
+    go (k ∷ ks) rows = tt
+
+-- ---- its UUID
+
+-- it was read of a text
+abbrev IsOfText : Option RunWords → Type 0
+IsOfText o = IfSome o (λ words. (text : List ℕ) × (uuid_in text ≡ Some words.uuid))
+
+with_uuid : (rows : List Row) (text : List ℕ) (uuid : Option (List ℕ)) (jobs chunk starts : Option ℕ) → uuid_in text ≡ uuid → IsOfText (run_with rows uuid jobs chunk starts)
+with_uuid rows text (Some uuid) (Some jobs) (Some chunk) (Some starts) e = (text, e)
+with_uuid rows text (Some uuid) (Some jobs) (Some chunk) None e = tt
+with_uuid rows text (Some uuid) (Some jobs) None starts e = tt
+with_uuid rows text (Some uuid) None chunk starts e = tt
+with_uuid rows text None jobs chunk starts e = tt
+
+from_uuid : (rows : List Row) → IsOfText (run_from rows)
+from_uuid rows = go (are_texts rows)
+  where
+    go : (b : Bool) → IsOfText (cond b (run_with rows (uuid_in (value_at rows (codes "uuid"))) (number_in 1 64 (value_at rows (codes "jobs")))
+        (number_in 0 0 (value_at rows (codes "chunk"))) (number_in 1 16 (value_at rows (codes "starts")))) None)
+    go false = tt
+    go true =
+        with_uuid rows (value_at rows (codes "uuid")) (uuid_in (value_at rows (codes "uuid"))) (number_in 1 64 (value_at rows (codes "jobs")))
+        (number_in 0 0 (value_at rows (codes "chunk"))) (number_in 1 16 (value_at rows (codes "starts"))) refl
+
+pub run_uuid : (words : List (List ℕ)) → IfSome (run_of words) (λ run. (text : List ℕ) × (uuid_in text ≡ Some run.uuid))
+unfolding run_of
+run_uuid words = go (fault_of run_grammar words) (matches_of run_grammar words)
+  where
+    go : (kinds : Kinds) (rows : List Row) → IsOfText (cond (is_without kinds) (run_from rows) None)
+    go [] rows = from_uuid rows
     go (k ∷ ks) rows = tt
 
 -- ---- commands

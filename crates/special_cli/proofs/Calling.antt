@@ -1,8 +1,8 @@
 -- What is told of a call, from what came of its command and how that was told.
 use Rattle.std.proofs.Common.{◌≡◌, ◌⊎◌, ◌∙◌, ◌==◌, ◌≤◌, ℕ, List, [], ◌∷◌, length, Bool, true, false, cond, Option, Some, None, refl, sym, ap, subst, inl, inr, arith}
-use Rattle.std.specs.Prelude.{◌||◌, IfSome, IsSome}
+use Rattle.std.specs.Prelude.{◌||◌, map, IfSome, IsSome}
 use Rattle.std.specs.Io.KnownBytes.{Appends}
-use Rattle.std.specs.List.{list_all, list_any}
+use Rattle.std.specs.List.{list_all, list_any, range_with_len}
 use Rattle.std.proofs.lemmas.List.{append-nil}
 use Rattle.ann_outside.specs.Causes.{AddsOne, Rose, Stays}
 use Rattle.ann_outside.specs.Desks.{Made}
@@ -14,12 +14,18 @@ use Rattle.journal_model.proofs.Looks.{same_number}
 use Rattle.journal_model.specs.Output.{answer_line}
 use Rattle.info_run.specs.Infos.{info_lines, is_informed}
 use Rattle.special_cli.specs.declared.end.End.{End}
-use Rattle.special_cli.specs.declared.end.End.TheVariants.{Usage, Shown, Refused, Memory, Answered, Informed, BadKept, KeptTooLarge, FileFailed, SetUp, NotSetUp}
+use Rattle.special_cli.specs.declared.end.End.TheVariants.{Usage, Shown, Refused, Memory, Answered, Informed, BadKept, KeptTooLarge, FileFailed, InputFailed, SetUp, NotSetUp, Done}
 use Rattle.cli_words.specs.declared.refusals.Reason.{Reason}
 use Rattle.cli_words.specs.declared.command.Page.{Page}
 use Rattle.ann_outside.specs.Files.{Files}
 use Rattle.keep_desk.specs.declared.writing.KeptWritten.TheVariants as W
 use Rattle.cli_words.specs.declared.command.InitWords.{InitWords}
+use Rattle.cli_words.specs.declared.command.RunWords.{RunWords}
+use Rattle.run_tasks.specs.Inputs.{InputFlow, IsUnread}
+use Rattle.run_tasks.specs.Runs.{HasDone, AddsMade, IsAtDesk as IsRunAtDesk}
+use Rattle.run_tasks.specs.declared.made.RunEnd.{RunEnd}
+use Rattle.run_tasks.specs.declared.made.RunEnd.TheVariants as R
+use Rattle.special_cli.specs.Doings.{end_of, made_in, HasRun}
 use Rattle.special_cli.specs.Setups.{EndsInit, IsAtDesk, HasSetUp}
 use Rattle.special_cli.specs.Calls.{IsCalled}
 use Rattle.special_cli.specs.Commands.{ComesToNothing, EndsCheck, HasChecked, EndsInfo, HasInformed, UnlessRefused, Runs}
@@ -31,11 +37,11 @@ use Rattle.child_end.specs.Wires.{AreWires, came}
 use Rattle.child_end.specs.Programs.{HaveStarted, Leaves, is_failed_start}
 use Rattle.child_end.specs.Outsides.{HaveMade}
 use Rattle.cli_words.specs.Refusals.{reason_refused, refusal_if, unless}
-use Rattle.special_cli.specs.Wishes.{taken_up}
 use Rattle.special_cli.proofs.Checked.{unstarted}
+use Rattle.special_cli.proofs.Few.{few_done}
 use Rattle.special_cli.proofs.Informed.{nothing_informed}
-use Rattle.special_cli.proofs.Leaving.{leaves_nothing}
-use Rattle.special_cli.specs.Tells.{Flow, IsSilent, IsWritten, IsPrintedOr, IsSaidThen, IsToldOf, answer_lines, answers_status}
+use Rattle.special_cli.proofs.Leaving.{leaves_as, leaves_nothing}
+use Rattle.special_cli.specs.Tells.{Flow, IsSilent, IsWritten, IsPrintedOr, IsSaidThen, IsUnkeptTold, IsToldOf, answer_lines, answers_status}
 use Rattle.cli_words.specs.declared.command.Command.{Command}
 use Rattle.cli_words.specs.declared.command.Command.TheVariants.{Check, Info, Init, Run, Show}
 
@@ -48,13 +54,15 @@ never e = absurd cc
 wanted_of : End → List ℕ
 wanted_of Usage = 2 ∷ []
 wanted_of (Shown page) = 0 ∷ []
-wanted_of (Refused reason) = 3 ∷ 7 ∷ []
+wanted_of (Refused line reason) = 3 ∷ 7 ∷ []
 wanted_of Memory = 7 ∷ []
 wanted_of Answered = 0 ∷ 1 ∷ 7 ∷ []
 wanted_of (Informed key) = 0 ∷ 1 ∷ 7 ∷ []
 wanted_of (BadKept line) = 6 ∷ 7 ∷ []
 wanted_of KeptTooLarge = 6 ∷ []
 wanted_of FileFailed = 6 ∷ []
+wanted_of InputFailed = 4 ∷ []
+wanted_of (Done written) = 0 ∷ 1 ∷ 7 ∷ 6 ∷ []
 wanted_of (SetUp written) = 0 ∷ 6 ∷ []
 wanted_of (NotSetUp answer) = 1 ∷ 7 ∷ []
 
@@ -75,33 +83,43 @@ unfolding EndsWith
 on_err ws w written status out err h (inl whole) = inr (at ws status w whole.status_is h)
 on_err ws w written status out err h (inr cut) = inl (cut.status_is, inr cut.rose)
 
-low : (b : Bool) → list_any (λ v. v == cond {A = ℕ} b 0 1) (0 ∷ 1 ∷ 7 ∷ []) ≡ true
-low true = refl
-low false = refl
+low : (ws : List ℕ) (b : Bool) → list_any (λ v. v == cond {A = ℕ} b 0 1) (0 ∷ 1 ∷ 7 ∷ ws) ≡ true
+low ws true = refl
+low ws false = refl
 
-on_both : (first second : List ℕ) (status : ℕ) (out err : Flow) → IsSaidThen 6 first second status out err → EndsWith (0 ∷ 6 ∷ []) status out err
+on_either : (ws : List ℕ) (b : Bool) (written : List ℕ) (status : ℕ) (out err : Flow) → IsPrintedOr (cond b 0 1) written status out err → EndsWith (0 ∷ 1 ∷ 7 ∷ ws) status out err
+on_either ws b written status out err (inl said) = on_out (0 ∷ 1 ∷ 7 ∷ ws) (cond b 0 1) written status out err (low ws b) said.0
+on_either ws b written status out err (inr said) = on_err (0 ∷ 1 ∷ 7 ∷ ws) 7 _ status out err refl said.0
+
+on_both : (ws : List ℕ) (first second : List ℕ) (status : ℕ) (out err : Flow) → list_any (λ v. v == 6) ws ≡ true → IsSaidThen 6 first second status out err → EndsWith ws status out err
 unfolding EndsWith
-on_both first second status out err (inl (cut, silent)) = inl (cut.status_is, inl cut.rose)
-on_both first second status out err (inr (appended, written)) = on_err (0 ∷ 6 ∷ []) 6 second status out err refl written
+on_both ws first second status out err h (inl (cut, silent)) = inl (cut.status_is, inl cut.rose)
+on_both ws first second status out err h (inr (appended, written)) = on_err ws 6 second status out err h written
+
+on_unkept : (journal : List Entry) (answers : List Answer) (cause : List ℕ) (status : ℕ) (out err : Flow) → IsUnkeptTold journal answers cause status out err → EndsWith (0 ∷ 1 ∷ 7 ∷ 6 ∷ []) status out err
+on_unkept journal answers cause status out err (inl both) = on_both (0 ∷ 1 ∷ 7 ∷ 6 ∷ []) _ cause status out err refl both
+on_unkept journal answers cause status out err (inr said) = on_err (0 ∷ 1 ∷ 7 ∷ 6 ∷ []) 7 _ status out err refl said.0
 
 ends_with : (left : Left) (status : ℕ) (out err : Flow) (end : End) → IsToldOf left status out err end → EndsWith (wanted_of end) status out err
 unfolding wanted_of
 ends_with left status out err Usage told = on_err (2 ∷ []) 2 _ status out err refl told.0
 ends_with left status out err (Shown page) told = on_out (0 ∷ []) 0 told.0 status out err refl told.1.0
-ends_with left status out err (Refused reason) (inl w, silent) = on_err (3 ∷ 7 ∷ []) 3 _ status out err refl w
-ends_with left status out err (Refused reason) (inr w, silent) = on_err (3 ∷ 7 ∷ []) 7 _ status out err refl w
+ends_with left status out err (Refused line reason) (inl w, silent) = on_err (3 ∷ 7 ∷ []) 3 _ status out err refl w
+ends_with left status out err (Refused line reason) (inr w, silent) = on_err (3 ∷ 7 ∷ []) 7 _ status out err refl w
 ends_with left status out err Memory told = on_err (7 ∷ []) 7 _ status out err refl told.0
-ends_with left status out err Answered (inl said) = on_out (0 ∷ 1 ∷ 7 ∷ []) (answers_status left.answers) _ status out err (low (list_all is_well left.answers)) said.0
-ends_with left status out err Answered (inr said) = on_err (0 ∷ 1 ∷ 7 ∷ []) 7 _ status out err refl said.0
-ends_with left status out err (Informed key) (inl said) = on_out (0 ∷ 1 ∷ 7 ∷ []) (info_status left.journal key) _ status out err (low (is_informed left.journal 1 key)) said.0
-ends_with left status out err (Informed key) (inr said) = on_err (0 ∷ 1 ∷ 7 ∷ []) 7 _ status out err refl said.0
+ends_with left status out err Answered told = on_either [] (list_all is_well left.answers) _ status out err told
+ends_with left status out err (Informed key) told = on_either [] (is_informed left.journal 1 key) _ status out err told
+ends_with left status out err InputFailed told = on_err (4 ∷ []) 4 _ status out err refl told.0
+ends_with left status out err (Done W.Done) told = on_either (6 ∷ []) (list_all is_well left.answers) _ status out err told
+ends_with left status out err (Done W.TooLarge) told = on_unkept left.journal left.answers _ status out err told
+ends_with left status out err (Done W.Fault) told = on_unkept left.journal left.answers _ status out err told
 ends_with left status out err (BadKept line) (inl w, silent) = on_err (6 ∷ 7 ∷ []) 6 _ status out err refl w
 ends_with left status out err (BadKept line) (inr w, silent) = on_err (6 ∷ 7 ∷ []) 7 _ status out err refl w
 ends_with left status out err KeptTooLarge told = on_err (6 ∷ []) 6 _ status out err refl told.0
 ends_with left status out err FileFailed told = on_err (6 ∷ []) 6 _ status out err refl told.0
 ends_with left status out err (SetUp W.Done) told = on_out (0 ∷ 6 ∷ []) 0 _ status out err refl told.0
-ends_with left status out err (SetUp W.TooLarge) told = on_both _ _ status out err told
-ends_with left status out err (SetUp W.Fault) told = on_both _ _ status out err told
+ends_with left status out err (SetUp W.TooLarge) told = on_both (0 ∷ 6 ∷ []) _ _ status out err refl told
+ends_with left status out err (SetUp W.Fault) told = on_both (0 ∷ 6 ∷ []) _ _ status out err refl told
 ends_with left status out err (NotSetUp answer) (inl said) = on_out (1 ∷ 7 ∷ []) 1 _ status out err refl said.0
 ends_with left status out err (NotSetUp answer) (inr said) = on_err (1 ∷ 7 ∷ []) 7 _ status out err refl said.0
 
@@ -122,13 +140,15 @@ none_five : (end : End) → list_any (λ w. w == 5) (wanted_of end) ≡ false
 unfolding wanted_of
 none_five Usage = refl
 none_five (Shown page) = refl
-none_five (Refused reason) = refl
+none_five (Refused line reason) = refl
 none_five Memory = refl
 none_five Answered = refl
 none_five (Informed key) = refl
 none_five (BadKept line) = refl
 none_five KeptTooLarge = refl
 none_five FileFailed = refl
+none_five InputFailed = refl
+none_five (Done written) = refl
 none_five (SetUp written) = refl
 none_five (NotSetUp answer) = refl
 
@@ -251,6 +271,18 @@ init_wanted words told table journal (NotSetUp answer) ends = (refl, refl)
 init_wanted words told table journal Memory ends = (refl, refl)
 init_wanted words told table journal end ends = absurd ends
 
+-- ---- run
+
+run_wanted : (end : RunEnd) → list_any (λ w. w == 2) (wanted_of (end_of end)) ≡ false
+unfolding wanted_of
+run_wanted (R.BadKept line) = refl
+run_wanted R.KeptTooLarge = refl
+run_wanted R.FileFailed = refl
+run_wanted R.InputFailed = refl
+run_wanted (R.Refused line reason) = refl
+run_wanted R.Memory = refl
+run_wanted (R.Done written) = refl
+
 -- ---- the objects
 
 made_none : (xs : Option (List Made)) → HaveMade xs xs []
@@ -270,6 +302,17 @@ made_one old new m table tables zero a e = subst (λ (x : List TableValue). Have
     go (Some xs) None a = absurd a
     go (Some xs) (Some ys) a = (m ∷ [], a, ap (λ (n : ℕ). n ∷ []) zero)
 
+-- desk 0 was asked for, and then those of the workers
+made_more : (old new : Option (List Made)) (told : Option Files) (table : TableValue) (workers : List TableValue) (more : List Made) (tables : List TableValue) → tables ≡ table ∷ workers
+    → AddsMade old new (record { number = 0; files = told } ∷ more) → map (λ (m : Made). m.number) more ≡ range_with_len 1 (length workers) → HaveMade old new tables
+made_more old new told table workers more tables e a numbers = subst (λ (x : List TableValue). HaveMade old new x) (sym e) (go old new a)
+  where
+    go : (old new : Option (List Made)) → AddsMade old new (record { number = 0; files = told } ∷ more) → HaveMade old new (table ∷ workers)
+    go None None a = tt
+    go None (Some ys) a = absurd a
+    go (Some xs) None a = absurd a
+    go (Some xs) (Some ys) a = (record { number = 0; files = told } ∷ more, a, ap (λ (ns : List ℕ). 0 ∷ ns) numbers)
+
 wanting : (left : Left) (status : ℕ) (out err : Flow) (end : End) → IsToldOf left status out err end → end ≡ Memory → LacksMemory status (Rose err.faults err.faults')
 wanting left status out err end told e = lacks status _ err (subst (λ (x : End). IsToldOf left status out err x) e told).0
 
@@ -281,15 +324,27 @@ started left status out err end program before told (inr more) = inr (wanting le
 
 -- ---- the call
 
+-- of a key that isn't refused this is said, and of one that is nothing
+if_fit : {X : Type 0} (P : X → Type 0) (o : Option Reason) (x : X) → o ≡ None → P x → IfSome (unless o x) P
+if_fit P None x e p = p
+if_fit P (Some reason) x e p = absurd cc
+
+if_unfit : {X : Type 0} (P : X → Type 0) (o : Option Reason) (x : X) (reason : Reason) → o ≡ Some reason → IfSome (unless o x) P
+if_unfit P None x reason e = absurd cc
+if_unfit P (Some r) x reason e = tt
+
 no_reason : {A : Type 0} (o : Option Reason) → o ≡ None → IsSome o → A
 no_reason o e some = never (subst (λ (x : Option Reason). IsSome x) e some)
+
+some_reason : (o : Option Reason) (reason : Reason) → o ≡ Some reason → IsSome o
+some_reason o reason e = subst (λ (x : Option Reason). IsSome x) (sym e) refl
 
 run_at_all : {A : Type 0} (o : Option Reason) (program : List ℕ) → o ≡ None → unless o program ≡ None → A
 run_at_all None program e none = absurd cc
 run_at_all (Some reason) program e none = absurd cc
 
-asked_for : {A : Type 0} (wish : Command) → Some wish ≡ None → A
-asked_for wish e = absurd cc
+some_none : {A X : Type 0} (x : X) → Some x ≡ None → A
+some_none x e = absurd cc
 
 two_five_seven : (status : ℕ) (out err : Flow) → EndsWith (7 ∷ 2 ∷ []) status out err → (status ≡ 2) ⊎ (status ≡ 5) ⊎ (status ≡ 7)
 unfolding EndsWith
@@ -311,7 +366,7 @@ three_five_seven status out err (inr h) = go (7 == status) (3 == status) refl re
     go false true e f h = inl (sym (same_number 3 status f))
     go false false e f h = never h
 
-module _ (clock : Option ℕ) (before : OutsideValue) (left : Left) (end : End) (status : ℕ) (out err : Flow) (told : IsToldOf left status out err end) where
+module _ (clock : Option ℕ) (before : OutsideValue) (input : InputFlow) (left : Left) (end : End) (status : ℕ) (out err : Flow) (told : IsToldOf left status out err end) where
   abbrev whole : RanValue
   whole = record { left = left; end = end }
 
@@ -330,7 +385,13 @@ module _ (clock : Option ℕ) (before : OutsideValue) (left : Left) (end : End) 
   idle_desks : IsIdle before left → HaveMade before.made left.outside.made left.tables
   idle_desks idle = made_still before.made left.outside.made left.tables (ap (λ (o : OutsideValue). o.made) idle.outside) idle.tables
 
-  pub called_unknown : ComesToNothing before whole Usage → IsCalled clock before None out err status left
+  idle_leaves : (program : List ℕ) → IsIdle before left → Leaves (end ≡ Memory) program left.journal before.programs left.outside.programs left.wires
+  idle_leaves program idle = leaves_nothing _ before.programs left.outside.programs program left.journal left.wires (ap (λ (o : OutsideValue). o.programs) idle.outside) idle.journal idle.wires
+
+  abbrev Called : Option Command → Type 0
+  Called wish = IsCalled clock before input wish out err status left
+
+  pub called_unknown : ComesToNothing before whole Usage → Called None
   unfolding wanted_of
   called_unknown h = record {
     usage = λ s. refl;
@@ -344,17 +405,18 @@ module _ (clock : Option ℕ) (before : OutsideValue) (left : Left) (end : End) 
     informed = tt;
     info_told = tt;
     init = tt;
+    run = tt;
     wires = tt;
     starts = tt;
     fault = tt;
     desks = idle_desks h.idle;
   }
 
-  pub called_text : (page : Page) → ComesToNothing before whole (Shown page) → IsCalled clock before (Some (Show page)) out err status left
+  pub called_text : (page : Page) → ComesToNothing before whole (Shown page) → Called (Some (Show page))
   unfolding wanted_of
   called_text page h = record {
     usage = λ s. apart (7 ∷ 0 ∷ []) status 2 out err (ends_as (Shown page) h.end_is) refl refl s;
-    words = λ none. asked_for (Show page) none;
+    words = λ none. some_none (Show page) none;
     refused = λ s. apart (7 ∷ 0 ∷ []) status 3 out err (ends_as (Shown page) h.end_is) refl refl s;
     key = λ some. never some;
     early = λ none. h.idle;
@@ -364,117 +426,123 @@ module _ (clock : Option ℕ) (before : OutsideValue) (left : Left) (end : End) 
     informed = tt;
     info_told = tt;
     init = tt;
+    run = tt;
     wires = tt;
     starts = tt;
     fault = tt;
     desks = idle_desks h.idle;
   }
 
-  pub called_check : (program key : List ℕ) → Runs clock before (Some (Check program key)) whole → IsCalled clock before (Some (Check program key)) out err status left
+  pub called_check : (program key : List ℕ) → UnlessRefused (reason_refused key) before whole (HasChecked clock program key before whole) → Called (Some (Check program key))
   unfolding wanted_of NeitherIn
   called_check program key h = go (reason_refused key) refl h
     where
-      go : (r : Option Reason) → reason_refused key ≡ r → UnlessRefused r before whole (HasChecked clock program key before whole) → IsCalled clock before (Some (Check program key)) out err status left
+      go : (r : Option Reason) → reason_refused key ≡ r → UnlessRefused r before whole (HasChecked clock program key before whole) → Called (Some (Check program key))
       go None e h =
           let none = check_wanted key left end h.ends in
           record {
             usage = λ s. apart (wanted_of end) status 2 out err ends refl none.0 s;
-            words = λ no. asked_for (Check program key) no;
+            words = λ no. some_none (Check program key) no;
             refused = λ s. apart (wanted_of end) status 3 out err ends refl none.1 s;
             key = λ some. no_reason (reason_refused key) e some;
             early = λ no. run_at_all (reason_refused key) program e no;
             output = output;
-            checked = subst (λ (o : Option Reason). IfSome {T = List ℕ × List ℕ} (unless o (program, key)) (λ c. IsChecked clock c.1 left.journal)) (sym e) h.checked;
-            told = subst (λ (o : Option Reason). IfSome {T = List ℕ × List ℕ} (unless o (program, key)) (λ c. IsTold status (Rose err.faults err.faults') out.taken out.taken' c.1 left.journal left.answers)) (sym e) (check_told key left status out err end h.ends told);
+            checked = if_fit _ (reason_refused key) (program, key) e h.checked;
+            told = if_fit _ (reason_refused key) (program, key) e (check_told key left status out err end h.ends told);
             informed = tt;
             info_told = tt;
             init = tt;
-            wires = subst (λ (o : Option Reason). IfSome (unless o program) (λ p. AreWires before.programs.starts left.journal 0 (came left.journal) left.wires)) (sym e) h.objects.wired;
-            starts = subst (λ (o : Option Reason). IfSome (unless o program) (λ p. HaveStarted (LacksMemory status (Rose err.faults err.faults')) p left.journal before.programs.starts left.outside.programs.starts)) (sym e) (started left status out err end program before told h.objects.started);
-            fault = subst (λ (o : Option Reason). IfSome (unless o program) (λ p. any is_failed_start left.journal ≡ true → Rose before.programs.faults left.outside.programs.faults)) (sym e) h.objects.fault;
+            run = tt;
+            wires = if_fit _ (reason_refused key) program e h.objects.wired;
+            starts = if_fit _ (reason_refused key) program e (started left status out err end program before told h.objects.started);
+            fault = if_fit _ (reason_refused key) program e h.objects.fault;
             desks = made_still before.made left.outside.made left.tables h.desks.made h.desks.tables;
           }
       go (Some reason) e h =
-          let refused_so = ends_as (Refused reason) h.end_is in
+          let refused_so = ends_as (Refused 1 reason) h.end_is in
           record {
             usage = λ s. apart (7 ∷ 3 ∷ 7 ∷ []) status 2 out err refused_so refl refl s;
-            words = λ no. asked_for (Check program key) no;
-            refused = λ s. subst (λ (o : Option Reason). IsSome o) (sym e) refl;
+            words = λ no. some_none (Check program key) no;
+            refused = λ s. inl (some_reason (reason_refused key) reason e);
             key = λ some. three_five_seven status out err refused_so;
             early = λ none. h.idle;
             output = output;
-            checked = subst (λ (o : Option Reason). IfSome {T = List ℕ × List ℕ} (unless o (program, key)) (λ c. IsChecked clock c.1 left.journal)) (sym e) tt;
-            told = subst (λ (o : Option Reason). IfSome {T = List ℕ × List ℕ} (unless o (program, key)) (λ c. IsTold status (Rose err.faults err.faults') out.taken out.taken' c.1 left.journal left.answers)) (sym e) tt;
+            checked = if_unfit _ (reason_refused key) (program, key) reason e;
+            told = if_unfit _ (reason_refused key) (program, key) reason e;
             informed = tt;
             info_told = tt;
             init = tt;
-            wires = subst (λ (o : Option Reason). IfSome (unless o program) (λ p. AreWires before.programs.starts left.journal 0 (came left.journal) left.wires)) (sym e) tt;
-            starts = subst (λ (o : Option Reason). IfSome (unless o program) (λ p. HaveStarted (LacksMemory status (Rose err.faults err.faults')) p left.journal before.programs.starts left.outside.programs.starts)) (sym e) tt;
-            fault = subst (λ (o : Option Reason). IfSome (unless o program) (λ p. any is_failed_start left.journal ≡ true → Rose before.programs.faults left.outside.programs.faults)) (sym e) tt;
+            run = tt;
+            wires = if_unfit _ (reason_refused key) program reason e;
+            starts = if_unfit _ (reason_refused key) program reason e;
+            fault = if_unfit _ (reason_refused key) program reason e;
             desks = idle_desks h.idle;
           }
 
-  pub called_info : (program : List ℕ) (key : Option (List ℕ)) → Runs clock before (Some (Info program key)) whole → IsCalled clock before (Some (Info program key)) out err status left
+  pub called_info : (program : List ℕ) (key : Option (List ℕ)) → UnlessRefused (refusal_if key) before whole (HasInformed program key before whole) → Called (Some (Info program key))
   unfolding wanted_of NeitherIn
   called_info program key h = go (refusal_if key) refl h
     where
-      go : (r : Option Reason) → refusal_if key ≡ r → UnlessRefused r before whole (HasInformed program key before whole) → IsCalled clock before (Some (Info program key)) out err status left
+      go : (r : Option Reason) → refusal_if key ≡ r → UnlessRefused r before whole (HasInformed program key before whole) → Called (Some (Info program key))
       go None e h =
           let none = info_wanted key left end h.ends in
           record {
             usage = λ s. apart (wanted_of end) status 2 out err ends refl none.0 s;
-            words = λ no. asked_for (Info program key) no;
+            words = λ no. some_none (Info program key) no;
             refused = λ s. apart (wanted_of end) status 3 out err ends refl none.1 s;
             key = λ some. no_reason (refusal_if key) e some;
             early = λ no. run_at_all (refusal_if key) program e no;
             output = output;
             checked = tt;
             told = tt;
-            informed = subst (λ (o : Option Reason). IfSome {T = List ℕ × Option (List ℕ)} (unless o (program, key)) (λ c. IsInformed c.1 left.journal)) (sym e) h.informed;
-            info_told = subst (λ (o : Option Reason). IfSome {T = List ℕ × Option (List ℕ)} (unless o (program, key)) (λ c. IsInfoTold status out.taken out.taken' c.1 left.journal × (left.answers ≡ []))) (sym e) (info_told key left status out err end h.ends told, h.none);
+            informed = if_fit _ (refusal_if key) (program, key) e h.informed;
+            info_told = if_fit _ (refusal_if key) (program, key) e (info_told key left status out err end h.ends told, h.none);
             init = tt;
-            wires = subst (λ (o : Option Reason). IfSome (unless o program) (λ p. AreWires before.programs.starts left.journal 0 (came left.journal) left.wires)) (sym e) h.objects.wired;
-            starts = subst (λ (o : Option Reason). IfSome (unless o program) (λ p. HaveStarted (LacksMemory status (Rose err.faults err.faults')) p left.journal before.programs.starts left.outside.programs.starts)) (sym e) (started left status out err end program before told h.objects.started);
-            fault = subst (λ (o : Option Reason). IfSome (unless o program) (λ p. any is_failed_start left.journal ≡ true → Rose before.programs.faults left.outside.programs.faults)) (sym e) h.objects.fault;
+            run = tt;
+            wires = if_fit _ (refusal_if key) program e h.objects.wired;
+            starts = if_fit _ (refusal_if key) program e (started left status out err end program before told h.objects.started);
+            fault = if_fit _ (refusal_if key) program e h.objects.fault;
             desks = made_still before.made left.outside.made left.tables h.desks.made h.desks.tables;
           }
       go (Some reason) e h =
-          let refused_so = ends_as (Refused reason) h.end_is in
+          let refused_so = ends_as (Refused 1 reason) h.end_is in
           record {
             usage = λ s. apart (7 ∷ 3 ∷ 7 ∷ []) status 2 out err refused_so refl refl s;
-            words = λ no. asked_for (Info program key) no;
-            refused = λ s. subst (λ (o : Option Reason). IsSome o) (sym e) refl;
+            words = λ no. some_none (Info program key) no;
+            refused = λ s. inl (some_reason (refusal_if key) reason e);
             key = λ some. three_five_seven status out err refused_so;
             early = λ none. h.idle;
             output = output;
             checked = tt;
             told = tt;
-            informed = subst (λ (o : Option Reason). IfSome {T = List ℕ × Option (List ℕ)} (unless o (program, key)) (λ c. IsInformed c.1 left.journal)) (sym e) tt;
-            info_told = subst (λ (o : Option Reason). IfSome {T = List ℕ × Option (List ℕ)} (unless o (program, key)) (λ c. IsInfoTold status out.taken out.taken' c.1 left.journal × (left.answers ≡ []))) (sym e) tt;
+            informed = if_unfit _ (refusal_if key) (program, key) reason e;
+            info_told = if_unfit _ (refusal_if key) (program, key) reason e;
             init = tt;
-            wires = subst (λ (o : Option Reason). IfSome (unless o program) (λ p. AreWires before.programs.starts left.journal 0 (came left.journal) left.wires)) (sym e) tt;
-            starts = subst (λ (o : Option Reason). IfSome (unless o program) (λ p. HaveStarted (LacksMemory status (Rose err.faults err.faults')) p left.journal before.programs.starts left.outside.programs.starts)) (sym e) tt;
-            fault = subst (λ (o : Option Reason). IfSome (unless o program) (λ p. any is_failed_start left.journal ≡ true → Rose before.programs.faults left.outside.programs.faults)) (sym e) tt;
+            run = tt;
+            wires = if_unfit _ (refusal_if key) program reason e;
+            starts = if_unfit _ (refusal_if key) program reason e;
+            fault = if_unfit _ (refusal_if key) program reason e;
             desks = idle_desks h.idle;
           }
 
-  called_init : (words : InitWords) → HasSetUp words before whole → IsCalled clock before (Some (Init words)) out err status left
+  called_init : (words : InitWords) → HasSetUp words before whole → Called (Some (Init words))
   unfolding wanted_of NeitherIn
   called_init words h =
       let none = neither h in
       let objects = left_of h in
       record {
         usage = λ s. apart (wanted_of end) status 2 out err ends refl none.0 s;
-        words = λ no. asked_for (Init words) no;
+        words = λ no. some_none (Init words) no;
         refused = λ s. apart (wanted_of end) status 3 out err ends refl none.1 s;
         key = λ some. never some;
-        early = λ no. (let bad : Some words.program ≡ None = no in absurd cc);
+        early = λ no. some_none words.program no;
         output = output;
         checked = tt;
         told = tt;
         informed = tt;
         info_told = tt;
         init = (end, h, told);
+        run = tt;
         wires = objects.wired;
         starts = started left status out err end words.program before told objects.started;
         fault = objects.fault;
@@ -486,25 +554,55 @@ module _ (clock : Option ℕ) (before : OutsideValue) (left : Left) (end : End) 
       neither (inr d) = init_wanted words d.told d.table left.journal end d.ends
 
       left_of : HasSetUp words before whole → Leaves (end ≡ Memory) words.program left.journal before.programs left.outside.programs left.wires
-      left_of (inl (e, idle)) = leaves_nothing _ before.programs left.outside.programs words.program left.journal left.wires (ap (λ (o : OutsideValue). o.programs) idle.outside) idle.journal idle.wires
+      left_of (inl (e, idle)) = idle_leaves words.program idle
       left_of (inr d) = d.objects
 
       desks : HasSetUp words before whole → HaveMade before.made left.outside.made left.tables
       desks (inl (e, idle)) = idle_desks idle
       desks (inr d) = made_one before.made left.outside.made (record { number = 0; files = d.told }) d.table left.tables refl d.made d.tables
 
-  called_left : (wish : Option Command) → Runs clock before wish whole → IsCalled clock before wish out err status left
+  called_run : (words : RunWords) → HasRun words clock before input whole → Called (Some (Run words))
+  called_run words (e, h, same) =
+      let objects = left_of h in
+      record {
+        usage = λ s. apart (wanted_of end) status 2 out err ends refl (subst (λ (x : End). list_any (λ w. w == 2) (wanted_of x) ≡ false) (sym same) (run_wanted e)) s;
+        words = λ no. some_none (Run words) no;
+        refused = λ s. inr refl;
+        key = λ some. never some;
+        early = λ no. some_none words.program no;
+        output = output;
+        checked = tt;
+        told = tt;
+        informed = tt;
+        info_told = tt;
+        init = tt;
+        run = (e, h, subst (λ (x : End). IsToldOf left status out err x) same told);
+        wires = objects.wired;
+        starts = started left status out err end words.program before told objects.started;
+        fault = objects.fault;
+        desks = desks h;
+      }
+    where
+      left_of : HasDone words clock before input left.outside (made_in left e) → Leaves (end ≡ Memory) words.program left.journal before.programs left.outside.programs left.wires
+      left_of (inl (memory, idle)) = leaves_nothing _ before.programs left.outside.programs words.program left.journal left.wires (ap (λ (o : OutsideValue). o.programs) idle.outside) idle.journal idle.wires
+      left_of (inr d) = leaves_as (λ (memory : e ≡ R.Memory). same ∙ ap end_of memory) refl refl d.objects
+
+      desks : HasDone words clock before input left.outside (made_in left e) → HaveMade before.made left.outside.made left.tables
+      desks (inl (memory, idle)) = made_still before.made left.outside.made left.tables (ap (λ (o : OutsideValue). o.made) idle.outside) idle.tables
+      desks (inr d) = made_more before.made left.outside.made d.told d.table d.workers d.more left.tables d.tables d.desks d.numbers
+
+  called_left : (wish : Option Command) → Runs clock before input wish whole → Called wish
   called_left None h = called_unknown h
   called_left (Some (Show page)) h = called_text page h
   called_left (Some (Check program key)) h = called_check program key h
   called_left (Some (Info program key)) h = called_info program key h
   called_left (Some (Init words)) h = called_init words h
-  called_left (Some (Run words)) h = absurd h
+  called_left (Some (Run words)) h = called_run words h
 
-pub called : (clock : Option ℕ) (before : OutsideValue) (wish : Option Command) (ran : RanValue) (left : Left) (status : ℕ) (out err : Flow) → left ≡ ran.left → Runs clock before wish ran
-    → IsToldOf ran.left status out err ran.end → IsCalled clock before wish out err status left
-called clock before wish ran left status out err e runs told =
-    (subst (λ (l : Left). IsCalled clock before wish out err status l) (sym e) (called_left clock before ran.left ran.end status out err told wish runs))
+pub called : (clock : Option ℕ) (before : OutsideValue) (input : InputFlow) (wish : Option Command) (ran : RanValue) (left : Left) (status : ℕ) (out err : Flow) → left ≡ ran.left → Runs clock before input wish ran
+    → IsToldOf ran.left status out err ran.end → IsCalled clock before input wish out err status left
+called clock before input wish ran left status out err e runs told =
+    (subst (λ (l : Left). IsCalled clock before input wish out err status l) (sym e) (called_left clock before input ran.left ran.end status out err told wish runs))
 
 -- ---- the answers are few
 
@@ -516,22 +614,22 @@ answered_few key left Answered (answer, is) = let e : length left.answers ≡ 1 
 answered_few key left Memory none = none_few left none
 answered_few key left end ends = absurd ends
 
-pub few : (clock : Option ℕ) (before : OutsideValue) (wish : Option Command) (ran : RanValue) → Runs clock before wish ran → length ran.left.answers ≤ 65536
-few clock before None ran h = none_few ran.left h.idle.answers
-few clock before (Some (Show page)) ran h = none_few ran.left h.idle.answers
-few clock before (Some (Check program key)) ran h = go (reason_refused key) h
+pub few : (clock : Option ℕ) (before : OutsideValue) (input : InputFlow) (wish : Option Command) (ran : RanValue) → Runs clock before input wish ran → length ran.left.answers ≤ 65536
+few clock before input None ran h = none_few ran.left h.idle.answers
+few clock before input (Some (Show page)) ran h = none_few ran.left h.idle.answers
+few clock before input (Some (Check program key)) ran h = go (reason_refused key) h
   where
     go : (r : Option Reason) → UnlessRefused r before ran (HasChecked clock program key before ran) → length ran.left.answers ≤ 65536
     go None h = answered_few key ran.left ran.end h.ends
     go (Some reason) h = none_few ran.left h.idle.answers
-few clock before (Some (Init words)) ran (inl h) = none_few ran.left h.1.answers
-few clock before (Some (Init words)) ran (inr h) = none_few ran.left h.none
-few clock before (Some (Run words)) ran h = absurd h
-few clock before (Some (Info program key)) ran h = go (refusal_if key) h
+few clock before input (Some (Info program key)) ran h = go (refusal_if key) h
   where
     go : (r : Option Reason) → UnlessRefused r before ran (HasInformed program key before ran) → length ran.left.answers ≤ 65536
     go None h = none_few ran.left h.none
     go (Some reason) h = none_few ran.left h.idle.answers
+few clock before input (Some (Init words)) ran (inl h) = none_few ran.left h.1.answers
+few clock before input (Some (Init words)) ran (inr h) = none_few ran.left h.none
+few clock before input (Some (Run words)) ran (end, h, same) = few_done words clock before input ran.left.outside (made_in ran.left end) h
 
 -- ---- no memory was found for the words
 
@@ -556,23 +654,28 @@ nothing_informed_of program key before ran e idle = record {
   desks = record { made = ap (λ (o : OutsideValue). o.made) idle.outside; tables = idle.tables };
 }
 
-pub runs_nothing : (clock : Option ℕ) (before : OutsideValue) (command : Option Command) (ran : RanValue) → ran.end ≡ Memory → IsIdle before ran.left → Runs clock before (taken_up command) ran
-runs_nothing clock before None ran e idle = record { end_is = inr e; idle = idle }
-runs_nothing clock before (Some (Show page)) ran e idle = record { end_is = inr e; idle = idle }
-runs_nothing clock before (Some (Check program key)) ran e idle = go (reason_refused key)
+pub runs_nothing : (clock : Option ℕ) (before : OutsideValue) (input : InputFlow) (command : Option Command) (ran : RanValue) → ran.end ≡ Memory → IsIdle before ran.left → IsUnread input
+    → Runs clock before input command ran
+runs_nothing clock before input None ran e idle unread = record { end_is = inr e; idle = idle }
+runs_nothing clock before input (Some (Show page)) ran e idle unread = record { end_is = inr e; idle = idle }
+runs_nothing clock before input (Some (Check program key)) ran e idle unread = go (reason_refused key)
   where
     go : (r : Option Reason) → UnlessRefused r before ran (HasChecked clock program key before ran)
     go None = nothing_checked clock program key before ran e idle
     go (Some reason) = record { end_is = inr e; idle = idle }
-runs_nothing clock before (Some (Info program key)) ran e idle = go (refusal_if key)
+runs_nothing clock before input (Some (Info program key)) ran e idle unread = go (refusal_if key)
   where
     go : (r : Option Reason) → UnlessRefused r before ran (HasInformed program key before ran)
     go None = nothing_informed_of program key before ran e idle
     go (Some reason) = record { end_is = inr e; idle = idle }
-runs_nothing clock before (Some (Init words)) ran e idle = inl (e, idle)
-runs_nothing clock before (Some (Run words)) ran e idle = record { end_is = inr e; idle = idle }
+runs_nothing clock before input (Some (Init words)) ran e idle unread = inl (e, idle)
+runs_nothing clock before input (Some (Run words)) ran e idle unread =
+    (R.Memory, inl (refl, record { outside = idle.outside; unread = unread; journal = idle.journal; answers = idle.answers; wires = idle.wires; tables = idle.tables }), e)
 
--- ---- an info is told
+-- ---- an end is told
+
+pub told_as : (ran : RanValue) (end e : End) (status : ℕ) (out err : Flow) → end ≡ ran.end → end ≡ e → IsToldOf ran.left status out err e → IsToldOf ran.left status out err ran.end
+told_as ran end e status out err same is told = subst (λ (x : End). IsToldOf ran.left status out err x) (sym is ∙ same) told
 
 pub told_informed : (ran : RanValue) (end : End) (journal : List Entry) (key k : Option (List ℕ)) (status : ℕ) (out err : Flow) → end ≡ ran.end → journal ≡ ran.left.journal → end ≡ Informed key → k ≡ key
     → IsPrintedOr (info_status journal k) (text (info_lines journal k)) status out err → IsToldOf ran.left status out err ran.end

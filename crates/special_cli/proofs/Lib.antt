@@ -5,6 +5,7 @@ pub mod Causing
 pub mod Checked
 pub mod Doing
 pub mod Ends
+pub mod Few
 pub mod Finishing
 pub mod Informed
 pub mod Leaving

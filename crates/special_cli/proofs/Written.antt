@@ -1,4 +1,4 @@
--- The UUID that the words of a setup hold is in its written form.
+-- The UUID that the words of a setup or a run hold is in its written form.
 use Rattle.std.proofs.Common.{◌≡◌, ℕ, ◌+◌, ◌*◌, ◌<◌, Bool, true, false, cond, List, [], ◌∷◌, length, get_or, slice_index, All, Option, Some, None, refl, sym, ap, subst, ◌∙◌, arith, inl}
 use Rattle.std.specs.Prelude.{◌==◌, ◌&&◌, option_map, codes, bytes_eq, take, drop, IfSome}
 use Rattle.std.specs.List.{list_all}
@@ -9,6 +9,7 @@ use Rattle.uuid.specs.Text.{by_index, byte_of_digits, close_brace, digits_of, ha
 use Rattle.uuid.proofs.TextLemmas.{by_index_length, by_index_at}
 use Rattle.uuid.proofs.RoundTrips.{parses_hyphenated}
 use Rattle.chunk_log.specs.ChunkLines.{IsWrittenUuid}
+use Rattle.cli_words.proofs.Ranging.{run_uuid}
 use Rattle.cli_words.specs.Settings.{settings_in}
 use Rattle.cli_words.specs.Values.{is_word_of_command, uuid_in}
 use Rattle.cli_words.specs.Words.{check_of, command_of, info_of, init_of, init_with, is_help, of_command, page_alone, page_of, run_of}
@@ -125,9 +126,12 @@ init_written (program ∷ uuid ∷ keep ∷ words) = go (uuid_in uuid) (settings
     go None (Some settings) w = tt
     go None None w = tt
 
-run_written : (words : Option RunWords) → HasWrittenUuid (option_map Run words)
-run_written None = tt
-run_written (Some words) = tt
+run_written : (words : List (List ℕ)) → HasWrittenUuid (option_map Run (run_of words))
+run_written words = go (run_of words) (run_uuid words)
+  where
+    go : (o : Option RunWords) → IfSome o (λ run. (text : List ℕ) × (uuid_in text ≡ Some run.uuid)) → HasWrittenUuid (option_map Run o)
+    go None h = tt
+    go (Some run) (text, e) = subst (λ (o : Option (List ℕ)). IfSome o IsWrittenUuid) e (written text)
 
 pub command_written : (words : List (List ℕ)) → HasWrittenUuid (command_of words)
 command_written [] = tt
@@ -139,7 +143,7 @@ command_written (word ∷ next ∷ words) =
     (either_written (bytes_eq word (codes "check")) (check_of rest) _ (check_written rest)
     (either_written (bytes_eq word (codes "info")) (info_of rest) _ (info_written rest)
     (either_written (bytes_eq word (codes "init")) (init_of rest) _ (init_written rest)
-    (either_written (bytes_eq word (codes "run")) (option_map Run (run_of (word ∷ rest))) None (run_written (run_of (word ∷ rest))) tt))))
+    (either_written (bytes_eq word (codes "run")) (option_map Run (run_of (word ∷ rest))) None (run_written (word ∷ rest)) tt))))
     tt)
 
 pub words_written : (words : List (List ℕ)) (command : Option Command) → command ≡ command_of words → HasWrittenUuid command

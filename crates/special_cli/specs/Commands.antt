@@ -10,9 +10,11 @@ use Rattle.child_end.specs.Outsides.{OutsideValue}
 use Rattle.special_cli.specs.Left.{Left, RanValue, IsIdle}
 use Rattle.child_end.specs.Programs.{Leaves}
 use Rattle.special_cli.specs.Setups.{HasSetUp}
+use Rattle.special_cli.specs.Doings.{HasRun}
+use Rattle.run_tasks.specs.Inputs.{InputFlow}
 use Rattle.cli_words.specs.Refusals.{reason_refused, refusal_if}
 use Rattle.cli_words.specs.declared.command.Command.{Command}
-use Rattle.cli_words.specs.declared.command.Command.TheVariants.{Check, Info, Init, Show}
+use Rattle.cli_words.specs.declared.command.Command.TheVariants.{Check, Info, Init, Run, Show}
 
 -- nothing came of it but what is to be told: this, or want of memory
 pub record ComesToNothing (before : OutsideValue) (ran : RanValue) (end : End) : Type 0 where
@@ -58,13 +60,13 @@ pub record HasInformed (program : List ℕ) (key : Option (List ℕ)) (before : 
 -- a key that is refused ends a command before anything is started
 abbrev pub UnlessRefused : Option Reason → OutsideValue → RanValue → Type 0 → Type 0
 UnlessRefused None before ran P = P
-UnlessRefused (Some reason) before ran P = ComesToNothing before ran (Refused reason)
+UnlessRefused (Some reason) before ran P = ComesToNothing before ran (Refused 1 reason)
 
 -- what comes of what the words ask for
-abbrev pub Runs : Option ℕ → OutsideValue → Option Command → RanValue → Type 0
-Runs clock before None ran = ComesToNothing before ran Usage
-Runs clock before (Some (Show page)) ran = ComesToNothing before ran (Shown page)
-Runs clock before (Some (Check program key)) ran = UnlessRefused (reason_refused key) before ran (HasChecked clock program key before ran)
-Runs clock before (Some (Info program key)) ran = UnlessRefused (refusal_if key) before ran (HasInformed program key before ran)
-Runs clock before (Some (Init words)) ran = HasSetUp words before ran
-Runs clock before (Some command) ran = ⊥
+abbrev pub Runs : Option ℕ → OutsideValue → InputFlow → Option Command → RanValue → Type 0
+Runs clock before input None ran = ComesToNothing before ran Usage
+Runs clock before input (Some (Show page)) ran = ComesToNothing before ran (Shown page)
+Runs clock before input (Some (Check program key)) ran = UnlessRefused (reason_refused key) before ran (HasChecked clock program key before ran)
+Runs clock before input (Some (Info program key)) ran = UnlessRefused (refusal_if key) before ran (HasInformed program key before ran)
+Runs clock before input (Some (Init words)) ran = HasSetUp words before ran
+Runs clock before input (Some (Run words)) ran = HasRun words clock before input ran

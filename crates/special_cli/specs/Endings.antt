@@ -17,8 +17,9 @@ use Rattle.journal_model.specs.Projection.{JobFits}
 use Rattle.task_run.specs.TaskRuns.{CheckTask}
 use Rattle.special_cli.specs.Causes.{HasCause}
 use Rattle.cli_words.specs.declared.command.Command.{Command}
-use Rattle.cli_words.specs.declared.command.Command.TheVariants.{Check, Info, Init}
+use Rattle.cli_words.specs.declared.command.Command.TheVariants.{Check, Info, Init, Run}
 use Rattle.cli_words.specs.declared.command.InitWords.{InitWords}
+use Rattle.cli_words.specs.declared.command.RunWords.{RunWords}
 use Rattle.cli_words.specs.Refusals.{reason_refused, refusal_if, unless}
 use Rattle.special_cli.specs.Openings.{check_opening}
 use Rattle.cli_words.specs.declared.refusals.Reason.{Reason}
@@ -44,11 +45,17 @@ abbrev pub init_in : Option Command → Option InitWords
 init_in (Some (Init words)) = Some words
 init_in wish = None
 
--- the program of such a check or info, or of an init
+-- the words of a run
+abbrev pub tasks_in : Option Command → Option RunWords
+tasks_in (Some (Run words)) = Some words
+tasks_in wish = None
+
+-- the program of such a check or info, of an init, or of a run
 abbrev pub run_in : Option Command → Option (List ℕ)
 run_in (Some (Check program key)) = unless (reason_refused key) program
 run_in (Some (Info program key)) = unless (refusal_if key) program
 run_in (Some (Init words)) = Some words.program
+run_in (Some (Run words)) = Some words.program
 run_in wish = None
 
 -- ---- the journal

@@ -1,6 +1,7 @@
 pub mod Calls
 pub mod Causes
 pub mod Commands
+pub mod Doings
 pub mod Endings
 pub mod Informs
 pub mod Left

@@ -13,11 +13,11 @@ use Rattle.init_run.specs.declared.setup.Setup.TheVariants.{Stopped}
 use Rattle.keep_desk.specs.declared.writing.KeptWritten.{KeptWritten}
 use Rattle.keep_desk.specs.declared.writing.KeptWritten.TheVariants as W
 use Rattle.special_cli.specs.declared.end.End.{End}
-use Rattle.special_cli.specs.declared.end.End.TheVariants.{Usage, Shown, Refused, Memory, Answered, Informed, BadKept, KeptTooLarge, FileFailed, SetUp, NotSetUp}
+use Rattle.special_cli.specs.declared.end.End.TheVariants.{Usage, Shown, Refused, Memory, Answered, Informed, BadKept, KeptTooLarge, FileFailed, InputFailed, SetUp, NotSetUp, Done}
 use Rattle.special_cli.specs.Endings.{is_well}
 use Rattle.special_cli.specs.Informs.{info_status}
 use Rattle.special_cli.specs.Left.{Left}
-use Rattle.cli_words.specs.Texts.{usage_line, memory_line, refused_line, bad_kept_line, keep_large_line, file_line}
+use Rattle.cli_words.specs.Texts.{usage_line, memory_line, refused_line, bad_kept_line, keep_large_line, file_line, input_line}
 
 -- what a sink counted and took, before and after
 pub record Flow : Type 0 where
@@ -73,6 +73,17 @@ answer_lines journal task (answer ∷ answers) = answer_line journal task answer
 abbrev pub answers_status : List Answer → ℕ
 answers_status answers = if list_all is_well answers then 0 else 1
 
+-- the answers are printed, and then why what is known was not kept; or no memory was found for the answers
+abbrev pub IsUnkeptTold : List Entry → List Answer → List ℕ → ℕ → Flow → Flow → Type 0
+IsUnkeptTold journal answers cause status out err =
+    IsSaidThen 6 (answer_lines journal 1 answers) cause status out err ⊎ IsSaid 7 memory_line status err out
+
+-- each task was answered, and what is known was kept or not
+abbrev pub IsDoneTold : List Entry → List Answer → KeptWritten → ℕ → Flow → Flow → Type 0
+IsDoneTold journal answers W.Done status out err = IsPrintedOr (answers_status answers) (answer_lines journal 1 answers) status out err
+IsDoneTold journal answers W.TooLarge status out err = IsUnkeptTold journal answers keep_large_line status out err
+IsDoneTold journal answers W.Fault status out err = IsUnkeptTold journal answers file_line status out err
+
 -- ---- a setup
 
 -- the remote is set up, and what is set was kept or not
@@ -86,12 +97,14 @@ IsSetUpTold W.Fault status out err = IsSaidThen 6 (codes "initialized" ++ 10 ∷
 abbrev pub IsToldOf : Left → ℕ → Flow → Flow → End → Type 0
 IsToldOf left status out err Usage = IsSaid 2 usage_line status err out
 IsToldOf left status out err (Shown page) = (written : List ℕ) × IsSaid 0 written status out err
-IsToldOf left status out err (Refused reason) = (IsWritten 3 (refused_line 1 reason) status err ⊎ IsWritten 7 memory_line status err) × IsSilent out
+IsToldOf left status out err (Refused line reason) = (IsWritten 3 (refused_line line reason) status err ⊎ IsWritten 7 memory_line status err) × IsSilent out
 IsToldOf left status out err Memory = IsSaid 7 memory_line status err out
 IsToldOf left status out err Answered = IsPrintedOr (answers_status left.answers) (answer_lines left.journal 1 left.answers) status out err
 IsToldOf left status out err (Informed key) = IsPrintedOr (info_status left.journal key) (text (info_lines left.journal key)) status out err
 IsToldOf left status out err (BadKept line) = (IsWritten 6 (bad_kept_line line) status err ⊎ IsWritten 7 memory_line status err) × IsSilent out
 IsToldOf left status out err KeptTooLarge = IsSaid 6 keep_large_line status err out
 IsToldOf left status out err FileFailed = IsSaid 6 file_line status err out
+IsToldOf left status out err InputFailed = IsSaid 4 input_line status err out
 IsToldOf left status out err (SetUp written) = IsSetUpTold written status out err
+IsToldOf left status out err (Done written) = IsDoneTold left.journal left.answers written status out err
 IsToldOf left status out err (NotSetUp answer) = IsPrintedOr 1 (setup_text left.journal (Stopped answer)) status out err

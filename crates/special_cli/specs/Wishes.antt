@@ -1,22 +1,16 @@
 -- What the words ask for.
-use Rattle.std.specs.Prelude.{ℕ, List, Option, Some, None}
+use Rattle.std.specs.Prelude.{ℕ, List, Option, Some}
 use Rattle.chunk_log.specs.ChunkLines.{IsWrittenUuid}
 use Rattle.cli_words.specs.declared.command.Command.{Command}
-use Rattle.cli_words.specs.declared.command.Command.TheVariants.{Check, Info, Init, Show}
+use Rattle.cli_words.specs.declared.command.Command.TheVariants.{Init, Run}
 use Rattle.cli_words.specs.Words.{command_of}
 
--- `run` isn't taken up yet
-abbrev pub taken_up : Option Command → Option Command
-taken_up (Some (Check program key)) = Some (Check program key)
-taken_up (Some (Info program key)) = Some (Info program key)
-taken_up (Some (Init words)) = Some (Init words)
-taken_up (Some (Show page)) = Some (Show page)
-taken_up command = None
-
+-- each command is taken up
 abbrev pub wish_of : List (List ℕ) → Option Command
-wish_of words = taken_up (command_of words)
+wish_of words = command_of words
 
--- the UUID of a setup is in its written form
+-- the UUID of a setup or a run is in its written form
 abbrev pub HasWrittenUuid : Option Command → Type 0
 HasWrittenUuid (Some (Init words)) = IsWrittenUuid words.uuid
+HasWrittenUuid (Some (Run words)) = IsWrittenUuid words.uuid
 HasWrittenUuid command = Unit {0}

@@ -50,14 +50,14 @@ where
     ensures none { IfOk result (λ r. (r.answers.items ≡ []) × (r.wires.items ≡ [])) }
     ensures room { IfOk result (λ r. (vec_len r.answers < vec_capacity r.answers) × (vec_len r.wires < vec_capacity r.wires)) }
 {
-    let opening = check_opening(alloc, key, stamp)?;
-    let core = Core::new(alloc, opening)?;
-    let key = Key::copy(alloc, key)?;
     let answers = Vec::with_capacity(alloc, 1)?;
     let wires = Vec::with_capacity(alloc, 1)?;
+    let own_key = Key::copy(alloc, key)?;
+    let opening = check_opening(alloc, key, stamp)?;
+    let core = Core::new(alloc, opening)?;
     Ok(Ready {
         core,
-        key,
+        key: own_key,
         answers,
         wires,
     })
@@ -79,7 +79,7 @@ where
 {
     let bytes = key.as_bytes();
     if let Some(reason) = refusal(bytes) {
-        return Ran::nothing(alloc, outside, End::Refused(reason));
+        return Ran::nothing(alloc, outside, End::Refused { line: 1, reason });
     }
     match KeyRef::read(bytes) {
         Ok(key) => check_key(alloc, program, key, outside, clock),

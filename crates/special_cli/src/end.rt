@@ -10,8 +10,8 @@ pub(crate) enum End {
     Usage,
     /// A text was asked for.
     Shown(Page),
-    /// The key, which is line 1 of the input, is refused.
-    Refused(Reason),
+    /// The line of that number of the input is refused; of a check or an info, line 1 is the key.
+    Refused { line: u64, reason: Reason },
     /// No memory was found.
     Memory,
     /// The answers of the tasks.
@@ -24,8 +24,12 @@ pub(crate) enum End {
     KeptTooLarge,
     /// The kept file couldn't be read.
     FileFailed,
+    /// The input couldn't be read.
+    InputFailed,
     /// The remote is set up, and this came of keeping what is set.
     SetUp(KeptWritten),
+    /// Each task was answered, and this came of keeping what is known of the remote.
+    Done(KeptWritten),
     /// The remote isn't set up.
     NotSetUp(Answer),
 }

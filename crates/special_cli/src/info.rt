@@ -51,10 +51,10 @@ where
     ensures none { IfOk result (λ r. r.wires.items ≡ []) }
     ensures room { IfOk result (λ r. vec_len r.wires < vec_capacity r.wires) }
 {
+    let wires = Vec::with_capacity(alloc, 1)?;
+    let key = copied(alloc, key)?;
     let opening = info_opening(alloc)?;
     let core = Core::new(alloc, opening)?;
-    let key = copied(alloc, key)?;
-    let wires = Vec::with_capacity(alloc, 1)?;
     Ok(Ready { core, key, wires })
 }
 
@@ -62,14 +62,14 @@ where
 pub(crate) fn info<P: Programs, K: Desks>(
     alloc: Global,
     program: &str,
-    key: Option<Text>,
+    key: &Option<Text>,
     outside: Outside<P, K>,
 ) -> Ran<P, K>
 where
     P::Inlet: Drop,
     P::Outlet: Drop,
     K::Desk: Drop,
-    ensures { UnlessRefused (refusal_if key) outside result (HasInformed program.now key outside result) }
+    ensures { UnlessRefused (refusal_if key.now) outside result (HasInformed program.now key.now outside result) }
 {
     match key {
         Some(text) => info_of(alloc, program, text.view(), outside),
@@ -92,7 +92,7 @@ where
 {
     let bytes = key.as_bytes();
     if let Some(reason) = refusal(bytes) {
-        return Ran::nothing(alloc, outside, End::Refused(reason));
+        return Ran::nothing(alloc, outside, End::Refused { line: 1, reason });
     }
     match KeyRef::read(bytes) {
         Ok(key) => info_key(alloc, program, Some(key), outside),

@@ -11,6 +11,7 @@ pub mod laws;
 mod openings;
 mod outside;
 mod ran;
+mod run;
 mod telling;
 mod top;
 

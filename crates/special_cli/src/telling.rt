@@ -9,7 +9,7 @@ ghost use Rattle.init_run.specs.Setups.{setup_text};
 ghost use Rattle.init_run.specs.declared.setup.Setup.TheVariants.{Stopped};
 ghost use Rattle.special_cli.specs.Endings.{is_well};
 ghost use Rattle.special_cli.specs.Informs.{info_status};
-ghost use Rattle.special_cli.specs.Tells.{flow, IsWritten, IsPrintedOr, IsSaidThen, IsSetUpTold, IsToldOf, answer_lines, answers_status};
+ghost use Rattle.special_cli.specs.Tells.{flow, IsWritten, IsPrintedOr, IsSaidThen, IsDoneTold, IsSetUpTold, IsToldOf, IsUnkeptTold, answer_lines, answers_status};
 ghost use Rattle.cli_words.specs.Texts.{memory_line, refused_line, bad_kept_line};
 
 use crate::closing::Closing;
@@ -18,7 +18,8 @@ use crate::ran::Ran;
 use ann_key::{Bytes, Key, KeyRef, NoMemory};
 use ann_outside::{Desks, Failed, Programs, Sink, write_all};
 use cli_words::{
-    Reason, bad_kept_line, file_line, keep_large_line, memory_line, refused_line, usage_line,
+    Reason, bad_kept_line, file_line, input_line, keep_large_line, memory_line, refused_line,
+    usage_line,
 };
 use info_run::{is_informed, print_info};
 use journal_look::Journal;
@@ -59,14 +60,16 @@ fn told<P: Programs, K: Desks, O: Sink, E: Sink>(
     match &ran.end {
         End::Usage => write(err, usage_line(), 2),
         End::Shown(page) => write(out, page.text().as_bytes(), 0),
-        End::Refused(reason) => tell_refused(alloc, *reason, err),
+        End::Refused { line, reason } => tell_refused(alloc, *line, *reason, err),
         End::Memory => write(err, memory_line(), 7),
         End::Answered => tell_answers(alloc, &ran.journal, &ran.answers, out, err),
         End::Informed(key) => tell_info(alloc, &ran.journal, lent(key), out, err),
         End::BadKept(line) => tell_bad_kept(alloc, *line, err),
         End::KeptTooLarge => write(err, keep_large_line(), 6),
         End::FileFailed => write(err, file_line(), 6),
+        End::InputFailed => write(err, input_line(), 4),
         End::SetUp(written) => tell_set_up(*written, out, err),
+        End::Done(written) => tell_done(alloc, &ran.journal, &ran.answers, *written, out, err),
         End::NotSetUp(answer) => tell_not_set_up(alloc, &ran.journal, answer, out, err),
     }
 }
@@ -82,12 +85,12 @@ fn write<S: Sink>(sink: &mut S, text: &[u8], status: u8) -> u8
     }
 }
 
-fn tell_refused<E: Sink>(alloc: Global, reason: Reason, err: &mut E) -> u8
+fn tell_refused<E: Sink>(alloc: Global, line: u64, reason: Reason, err: &mut E) -> u8
     requires { E.is_open err.old ≡ true }
-    ensures { IsWritten 3 (refused_line 1 reason) result (flow (E.faults err.old) (E.faults err.new) (E.taken err.old) (E.taken err.new)) ⊎ IsWritten 7 memory_line result (flow (E.faults err.old) (E.faults err.new) (E.taken err.old) (E.taken err.new)) }
+    ensures { IsWritten 3 (refused_line line reason) result (flow (E.faults err.old) (E.faults err.new) (E.taken err.old) (E.taken err.new)) ⊎ IsWritten 7 memory_line result (flow (E.faults err.old) (E.faults err.new) (E.taken err.old) (E.taken err.new)) }
 {
-    match refused_line(alloc, 1, reason) {
-        Ok(line) => write(err, line.view(), 3),
+    match refused_line(alloc, line, reason) {
+        Ok(text) => write(err, text.view(), 3),
         Err(NoMemory) => write(err, memory_line(), 7),
     }
 }
@@ -106,6 +109,46 @@ fn tell_answers<O: Sink, E: Sink>(
 {
     match print_answers(alloc, journal, answers) {
         Ok(lines) => write(out, lines.view(), answers_status(answers)),
+        Err(NoMemory) => write(err, memory_line(), 7),
+    }
+}
+
+fn tell_done<O: Sink, E: Sink>(
+    alloc: Global,
+    journal: &Journal,
+    answers: &[Answer],
+    written: KeptWritten,
+    out: &mut O,
+    err: &mut E,
+) -> u8
+    requires out { O.is_open out.old ≡ true }
+    requires err { E.is_open err.old ≡ true }
+    requires few { length answers.now ≤ 65536 }
+    ensures { IsDoneTold journal.now.entries answers.now written result (flow (O.faults out.old) (O.faults out.new) (O.taken out.old) (O.taken out.new)) (flow (E.faults err.old) (E.faults err.new) (E.taken err.old) (E.taken err.new)) }
+{
+    match written {
+        KeptWritten::Done => tell_answers(alloc, journal, answers, out, err),
+        KeptWritten::TooLarge => tell_unkept(alloc, journal, answers, keep_large_line(), out, err),
+        KeptWritten::Fault => tell_unkept(alloc, journal, answers, file_line(), out, err),
+    }
+}
+
+// The answers are printed though what is known was not kept.
+fn tell_unkept<O: Sink, E: Sink>(
+    alloc: Global,
+    journal: &Journal,
+    answers: &[Answer],
+    cause: &[u8],
+    out: &mut O,
+    err: &mut E,
+) -> u8
+    requires out { O.is_open out.old ≡ true }
+    requires err { E.is_open err.old ≡ true }
+    requires few { length answers.now ≤ 65536 }
+    ensures { IsUnkeptTold journal.now.entries answers.now cause.now result (flow (O.faults out.old) (O.faults out.new) (O.taken out.old) (O.taken out.new)) (flow (E.faults err.old) (E.faults err.new) (E.taken err.old) (E.taken err.new)) }
+{
+    match print_answers(alloc, journal, answers) {
+        Ok(lines) => write_then(out, lines.view(), err, cause, 6),
         Err(NoMemory) => write(err, memory_line(), 7),
     }
 }

@@ -1,13 +1,15 @@
 ghost use Rattle.std.specs.Prelude.{◌≡◌, ◌⊎◌, [], None, IfSome, IsSome, true};
 ghost use Rattle.journal_model.specs.Journal.{any};
 ghost use Rattle.ann_outside.specs.Causes.{Rose};
-ghost use Rattle.special_cli.specs.Calls.{IsInitCalled};
+ghost use Rattle.special_cli.specs.Calls.{IsInitCalled, IsRunCalled};
 ghost use Rattle.special_cli.specs.Commands.{Runs};
 ghost use Rattle.special_cli.specs.Tells.{flow};
-ghost use Rattle.special_cli.specs.Wishes.{wish_of, taken_up, HasWrittenUuid};
+ghost use Rattle.special_cli.specs.Wishes.{wish_of, HasWrittenUuid};
 ghost use Rattle.cli_words.specs.Identities.{IsFit};
+ghost use Rattle.cli_words.specs.Ranges.{HasRanges};
+ghost use Rattle.run_tasks.specs.Inputs.{input_flow};
 ghost use Rattle.cli_words.specs.Values.{texts_of};
-ghost use Rattle.special_cli.specs.Endings.{refused_in, check_in, info_in, init_in, run_in, IsChecked, IsTold, LacksMemory};
+ghost use Rattle.special_cli.specs.Endings.{refused_in, check_in, info_in, init_in, run_in, tasks_in, IsChecked, IsTold, LacksMemory};
 ghost use Rattle.special_cli.specs.Informs.{IsInformed, IsInfoTold};
 ghost use Rattle.child_end.specs.Programs.{programs_value};
 ghost use Rattle.special_cli.specs.Left.{IsIdle};
@@ -22,6 +24,7 @@ use crate::info::info;
 use crate::init::init;
 use crate::outside::Outside;
 use crate::ran::Ran;
+use crate::run::run;
 use crate::telling::tell;
 use ann_key::NoMemory;
 use ann_outside::{Clock, Desks, Programs, Sink, Source};
@@ -31,14 +34,15 @@ use std::alloc::Global;
 /// Does all that the program does: reads the words behind its name, starts what they ask for, prints what comes of it to
 /// `out` or why there is nothing to `err`, and leaves the status to end with.
 ///
-/// 0: all is well. 1: the answer isn't `present`, or not all was answered. 2: the words aren't in the grammar. 3: the key is refused. 5: a write to
-/// `out` or `err` failed. 7: no memory was found.
+/// 0: all is well. 1: an answer isn't the one that was hoped for, or not all was answered. 2: the words aren't in the
+/// grammar. 3: the key or a line of the input is refused. 4: the input couldn't be read. 5: a write to `out` or `err` failed.
+/// 6: the kept file may not be as it is, or couldn't be read or written. 7: no memory was found.
 pub fn special<P: Programs, K: Desks, I: Source, O: Sink, E: Sink, C: Clock>(
     alloc: Global,
     words: &[String],
     programs: P,
     desks: K,
-    _input: &mut I,
+    input: &mut I,
     out: &mut O,
     err: &mut E,
     clock: &mut C,
@@ -47,11 +51,12 @@ where
     P::Inlet: Drop,
     P::Outlet: Drop,
     K::Desk: Drop,
+    requires input { I.is_open input.old ≡ true }
     requires out { O.is_open out.old ≡ true }
     requires err { E.is_open err.old ≡ true }
     ensures usage { result.status ≡ 2 → wish_of (texts_of words.now) ≡ None }
     ensures words { wish_of (texts_of words.now) ≡ None → (result.status ≡ 2) ⊎ (result.status ≡ 5) ⊎ (result.status ≡ 7) }
-    ensures refused { result.status ≡ 3 → IsSome (refused_in (wish_of (texts_of words.now))) }
+    ensures refused { result.status ≡ 3 → IsSome (refused_in (wish_of (texts_of words.now))) ⊎ IsSome (tasks_in (wish_of (texts_of words.now))) }
     ensures key { IsSome (refused_in (wish_of (texts_of words.now))) → (result.status ≡ 3) ⊎ (result.status ≡ 5) ⊎ (result.status ≡ 7) }
     ensures early { run_in (wish_of (texts_of words.now)) ≡ None → IsIdle (record { programs = programs_value (P.starts programs) (P.faults programs); made = K.made desks }) result.left }
     ensures output { result.status ≡ 5 → Rose (O.faults out.old) (O.faults out.new) ⊎ Rose (E.faults err.old) (E.faults err.new) }
@@ -60,57 +65,64 @@ where
     ensures informed { IfSome (info_in (wish_of (texts_of words.now))) (λ c. IsInformed c.1 result.left.journal) }
     ensures info_told { IfSome (info_in (wish_of (texts_of words.now))) (λ c. IsInfoTold result.status (O.taken out.old) (O.taken out.new) c.1 result.left.journal × (result.left.answers ≡ [])) }
     ensures init { IfSome (init_in (wish_of (texts_of words.now))) (λ w. IsInitCalled w (record { programs = programs_value (P.starts programs) (P.faults programs); made = K.made desks }) result.status (flow (O.faults out.old) (O.faults out.new) (O.taken out.old) (O.taken out.new)) (flow (E.faults err.old) (E.faults err.new) (E.taken err.old) (E.taken err.new)) result.left) }
+    ensures run { IfSome (tasks_in (wish_of (texts_of words.now))) (λ w. IsRunCalled w (C.answer clock.old) (record { programs = programs_value (P.starts programs) (P.faults programs); made = K.made desks }) (input_flow (I.given input.old) (I.given input.new) (I.left input.old) (I.left input.new) (I.faults input.old) (I.faults input.new)) result.status (flow (O.faults out.old) (O.faults out.new) (O.taken out.old) (O.taken out.new)) (flow (E.faults err.old) (E.faults err.new) (E.taken err.old) (E.taken err.new)) result.left) }
     ensures wires { IfSome (run_in (wish_of (texts_of words.now))) (λ program. AreWires (P.starts programs) result.left.journal 0 (came result.left.journal) result.left.wires) }
     ensures starts { IfSome (run_in (wish_of (texts_of words.now))) (λ program. HaveStarted (LacksMemory result.status (Rose (E.faults err.old) (E.faults err.new))) program result.left.journal (P.starts programs) result.left.outside.programs.starts) }
     ensures fault { IfSome (run_in (wish_of (texts_of words.now))) (λ program. any is_failed_start result.left.journal ≡ true → Rose (P.faults programs) result.left.outside.programs.faults) }
     ensures desks { HaveMade (K.made desks) result.left.outside.made result.left.tables }
 {
     let outside = Outside { programs, desks };
-    let ran = run_words(alloc, words, outside, clock);
+    let ran = do_words(alloc, words, outside, input, clock);
     tell(alloc, ran, out, err)
 }
 
 // Reads the words, and does what they ask for.
-fn run_words<P: Programs, K: Desks, C: Clock>(
+fn do_words<P: Programs, K: Desks, I: Source, C: Clock>(
     alloc: Global,
     words: &[String],
     outside: Outside<P, K>,
+    input: &mut I,
     clock: &mut C,
 ) -> Ran<P, K>
 where
     P::Inlet: Drop,
     P::Outlet: Drop,
     K::Desk: Drop,
-    ensures { Runs (C.answer clock.old) outside (wish_of (texts_of words.now)) result }
+    requires input { I.is_open input.old ≡ true }
+    ensures { Runs (C.answer clock.old) outside (input_flow (I.given input.old) (I.given input.new) (I.left input.old) (I.left input.new) (I.faults input.old) (I.faults input.new)) (wish_of (texts_of words.now)) result }
 {
     match command_of(alloc, words) {
-        Ok(command) => run(alloc, command, outside, clock),
+        Ok(command) => do_command(alloc, &command, outside, input, clock),
         Err(NoMemory) => Ran::nothing(alloc, outside, End::Memory),
     }
 }
 
 // Does what was asked for.
-fn run<P: Programs, K: Desks, C: Clock>(
+fn do_command<P: Programs, K: Desks, I: Source, C: Clock>(
     alloc: Global,
-    command: Option<Command>,
+    command: &Option<Command>,
     outside: Outside<P, K>,
+    input: &mut I,
     clock: &mut C,
 ) -> Ran<P, K>
 where
     P::Inlet: Drop,
     P::Outlet: Drop,
     K::Desk: Drop,
-    requires fit { IfSome command IsFit }
-    requires uuid { HasWrittenUuid command }
-    ensures { Runs (C.answer clock.old) outside (taken_up command) result }
+    requires fit { IfSome command.now IsFit }
+    requires uuid { HasWrittenUuid command.now }
+    requires ranges { IfSome command.now HasRanges }
+    requires input { I.is_open input.old ≡ true }
+    ensures { Runs (C.answer clock.old) outside (input_flow (I.given input.old) (I.given input.new) (I.left input.old) (I.left input.new) (I.faults input.old) (I.faults input.new)) command.now result }
 {
     match command {
-        Some(Command::Show(page)) => Ran::nothing(alloc, outside, End::Shown(page)),
+        Some(Command::Show(page)) => Ran::nothing(alloc, outside, End::Shown(*page)),
         Some(Command::Check { program, key }) => {
             check(alloc, program.view(), key.view(), outside, clock)
         }
         Some(Command::Info { program, key }) => info(alloc, program.view(), key, outside),
-        Some(Command::Init(words)) => init(alloc, &words, outside),
-        Some(Command::Run(_)) | None => Ran::nothing(alloc, outside, End::Usage),
+        Some(Command::Init(words)) => init(alloc, words, outside),
+        Some(Command::Run(words)) => run(alloc, words, outside, input, clock),
+        None => Ran::nothing(alloc, outside, End::Usage),
     }
 }

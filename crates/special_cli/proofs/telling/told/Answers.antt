@@ -1,8 +1,14 @@
-use Rattle.std.proofs.Common.{ap}
+use Rattle.std.proofs.Common.{ap, refl}
 use Rattle.special_cli.specs.Left.{RanValue}
 use Rattle.special_cli.specs.Tells.{flow}
-use Rattle.special_cli.proofs.Calling.{told_informed}
+use Rattle.special_cli.specs.declared.end.End.TheVariants.{Refused}
+use Rattle.special_cli.proofs.Calling.{told_as, told_informed}
 use Rattle.special_cli.proofs.telling.told.Goals as goal
+
+pub returns-in-Refused : goal.returns-in-Refused
+returns-in-Refused g c =
+    told_as c.args.ran.now c.ran.inside.end (Refused c.in-Refused.line c.in-Refused.reason) c.tell_refused.result _ _ (ap (λ (r : RanValue). r.end) c.ran.view_is) c.in-Refused.is
+    (c.tell_refused.ensures, record { faults = refl; taken = refl })
 
 pub returns-in-Informed : goal.returns-in-Informed
 returns-in-Informed g c =

@@ -8,11 +8,11 @@ use Rattle.special_cli.proofs.top.special.Goals as goal
 pub tell-requires-clause-few : goal.tell-requires-clause-few
 tell-requires-clause-few g c = λ κs lives.
     let before : OutsideValue = record { programs = programs_value (g.P.Programs.starts c.args.programs) (g.P.Programs.faults c.args.programs); made = g.K.Desks.made c.args.desks } in
-    few (g.C.Clock.answer c.args.clock.now) before (wish_of (texts_of c.args.words.now)) c.run_words-ran.result c.run_words-ran.ensures
+    few (g.C.Clock.answer c.args.clock.now) before _ (wish_of (texts_of c.args.words.now)) c.do_words-ran.result c.do_words-ran.ensures
 
 pub returns : goal.returns
 returns g c =
-    let all = called _ _ _ _ _ _ _ _ c.tell.ensures.left c.run_words-ran.ensures c.tell.ensures.told in
+    let all = called _ _ _ _ _ _ _ _ _ c.tell.ensures.left c.do_words-ran.ensures c.tell.ensures.told in
     record {
       usage = all.usage;
       words = all.words;
@@ -25,6 +25,7 @@ returns g c =
       informed = all.informed;
       info_told = all.info_told;
       init = all.init;
+      run = all.run;
       wires = all.wires;
       starts = all.starts;
       fault = all.fault;

@@ -1,0 +1,86 @@
+-- A run has no more answers than its input may have lines.
+use Rattle.std.proofs.Common.{◌≡◌, ◌∙◌, ◌+◌, ◌≤◌, ℕ, Bool, true, false, cond, List, [], ◌∷◌, length, take, Option, Some, None, Ok, refl, sym, ap, subst, inl, inr, arith}
+use Rattle.std.specs.Prelude.{map, nat_lt, option_and_then, if◌then◌else◌}
+use Rattle.std.proofs.lemmas.Bool.Decides.{nat_tests}
+use Rattle.std.proofs.lemmas.List.{length-map}
+use Rattle.std.proofs.lemmas.List.FromFn.{length-range_with_len}
+use Rattle.ann_outside.specs.Files.{Files}
+use Rattle.keep_desk.specs.declared.writing.KeptWritten.{KeptWritten}
+use Rattle.task_text.specs.declared.task.Task.{Task}
+use Rattle.task_text.specs.TaskLines.{fault_of, line_of}
+use Rattle.task_input.specs.InputLines.{lines_of}
+use Rattle.task_input.specs.Inputs.{reason_for, reason_of, refused_or, first_refused, or_large, is_large, lines_within, IsInput}
+use Rattle.task_input.specs.declared.limits.Limits.{Limits}
+use Rattle.task_input.specs.declared.limits.TheConstants.Limits.{TASKS}
+use Rattle.cli_words.specs.declared.command.RunWords.{RunWords}
+use Rattle.cli_words.specs.declared.refusals.Reason.{Reason}
+use Rattle.cli_words.specs.declared.refusals.Reason.TheVariants.{Many, Long}
+use Rattle.journal_model.specs.declared.answer.Answer.{Answer}
+use Rattle.journal_model.specs.declared.opening.Opening.{Opening}
+use Rattle.journal_model.specs.Legality.{numbers_of}
+use Rattle.child_end.specs.Outsides.{OutsideValue, TableValue}
+use Rattle.run_tasks.specs.Inputs.{InputFlow}
+use Rattle.run_tasks.specs.Runs.{MadeValue, HasDone, IsWholeRun, IfUnwhole, EndsRun, answer_of}
+use Rattle.run_tasks.specs.declared.made.RunEnd.{RunEnd}
+use Rattle.run_tasks.specs.declared.made.RunEnd.TheVariants.{Done}
+
+-- ---- an input
+
+-- a line that is not refused has a number within the limit
+within : (limits : Limits) (n : ℕ) (line : List ℕ) → reason_of limits n line ≡ None → n ≤ limits.lines
+within limits n line h = go (nat_lt limits.lines n) refl h
+  where
+    go : (b : Bool) → nat_lt limits.lines n ≡ b → cond b (Some Many) (cond (nat_lt limits.line (length line)) (Some Long) (option_and_then reason_for (fault_of line))) ≡ None → n ≤ limits.lines
+    go true e h = absurd cc
+    go false e h = grind (arith, nat_tests)
+
+neither : (r : Option Reason) (n : ℕ) (next : Option (ℕ × Reason)) → refused_or n r next ≡ None → (r ≡ None) × (next ≡ None)
+neither None n next h = (refl, h)
+neither (Some reason) n next h = absurd cc
+
+few_lines : (limits : Limits) (lines : List (List ℕ)) (n : ℕ) → n ≤ limits.lines + 1 → first_refused limits n lines ≡ None → n + length lines ≤ limits.lines + 1
+few_lines limits [] n small none = omega (arith, small)
+few_lines limits (line ∷ lines) n small none =
+    let t = neither (reason_of limits n line) n (first_refused limits (n + 1) lines) none in
+    let here : n ≤ limits.lines = within limits n line t.0 in
+    let rest : (n + 1) + length lines ≤ limits.lines + 1 = few_lines limits lines (n + 1) (omega arith) t.1 in
+    omega (arith, rest)
+
+unrefused : (large : Bool) (before : ℕ) (o : Option (ℕ × Reason)) → or_large large before o ≡ None → (large ≡ false) × (o ≡ None)
+unrefused large before (Some refused) h = absurd cc
+unrefused true before None h = absurd cc
+unrefused false before None h = (refl, refl)
+
+few_tasks : (limits : Limits) (bytes : List ℕ) (tasks : List Task) → IsInput limits bytes (Ok tasks) → length tasks ≤ limits.lines
+few_tasks limits bytes tasks (none, are) =
+    let t = unrefused (is_large limits bytes) (length (lines_within limits bytes)) (first_refused limits 1 (lines_within limits bytes)) none in
+    let all : first_refused limits 1 (lines_of true bytes) ≡ None =
+    subst (λ (b : Bool). first_refused limits 1 (cond b (lines_of false (take limits.bytes bytes)) (lines_of true bytes)) ≡ None) t.0 t.1 in
+    let few : 1 + length (lines_of true bytes) ≤ limits.lines + 1 = few_lines limits (lines_of true bytes) 1 (omega arith) all in
+    let same : length (lines_of true bytes) ≡ length tasks = ap (λ (ls : List (List ℕ)). length ls) are.whole ∙ length-map tasks line_of in
+    omega (arith, few, same)
+
+-- ---- a run
+
+few_whole : (words : RunWords) (clock : Option ℕ) (told : Option Files) (input : InputFlow) (table : TableValue) (workers : List TableValue) (made : MadeValue) (written : KeptWritten)
+    → IsWholeRun words clock told input table workers made written → length made.answers ≤ 65536
+few_whole words clock told input table workers made written w =
+    let few : length w.run.tasks ≤ TASKS.lines = few_tasks TASKS w.run.input.bytes w.run.tasks w.run.input.comes.1 in
+    let limit : TASKS.lines ≡ 65536 = refl in
+    let own : length w.run.opening.tasks ≡ length w.run.tasks = ap (λ (o : Opening). length o.tasks) w.run.begins.is in
+    let numbers : length (numbers_of w.run.opening) ≡ length w.run.opening.tasks = length-range_with_len 1 (length w.run.opening.tasks) in
+    let answers : length made.answers ≡ length (numbers_of w.run.opening) =
+    sym (length-map made.answers (λ (a : Answer). Some a)) ∙ ap (λ (os : List (Option Answer)). length os) w.answers ∙ length-map (numbers_of w.run.opening) (answer_of made.journal) in
+    omega (arith, few, limit, own, numbers, answers)
+
+none_few : (answers : List Answer) → answers ≡ [] → length answers ≤ 65536
+none_few answers e = let z : length answers ≡ 0 = ap (λ (xs : List Answer). length xs) e in omega (arith, z)
+
+pub few_done : (words : RunWords) (clock : Option ℕ) (before : OutsideValue) (input : InputFlow) (after : OutsideValue) (made : MadeValue) → HasDone words clock before input after made
+    → length made.answers ≤ 65536
+few_done words clock before input after made (inl h) = none_few made.answers h.1.answers
+few_done words clock before input after made (inr d) = go made.end d.ends d.none
+  where
+    go : (end : RunEnd) → EndsRun words clock d.told input d.table d.workers made end → IfUnwhole end (made.answers ≡ []) → length made.answers ≤ 65536
+    go (Done written) ends none = few_whole words clock d.told input d.table d.workers made written ends
+    go end ends none = none_few made.answers none

@@ -1,0 +1,1 @@
+use Rattle.special_cli.proofs.run.run.Goals as goal

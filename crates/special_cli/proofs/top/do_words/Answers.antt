@@ -1,0 +1,18 @@
+use Rattle.std.proofs.Common.{refl}
+use Rattle.cli_words.specs.Values.{texts_of}
+use Rattle.cli_words.specs.Words.{command_of}
+use Rattle.run_tasks.specs.Inputs.{input_flow}
+use Rattle.special_cli.proofs.Calling.{runs_nothing}
+use Rattle.special_cli.proofs.Written.{words_written}
+use Rattle.special_cli.proofs.top.do_words.Goals as goal
+
+pub returns-in-Err : goal.returns-in-Err
+returns-in-Err g c =
+    let given = g.I.Source.given c.args.input.now in
+    let left = g.I.Source.left c.args.input.now in
+    let faults = g.I.Source.faults c.args.input.now in
+    runs_nothing (g.C.Clock.answer c.args.clock.now) c.args.outside (input_flow given given left left faults faults) (command_of (texts_of c.args.words.now)) c.nothing.result c.nothing.ensures.end
+    c.nothing.ensures.idle (record { given = refl; left = refl; faults = refl })
+
+pub do_command-requires-clause-uuid : goal.do_command-requires-clause-uuid
+do_command-requires-clause-uuid g c = λ κs lives. words_written (texts_of c.args.words.now) c.in-Ok.command c.in-Ok.ensures.command
