@@ -1,4 +1,4 @@
-use Rattle.std.proofs.Common.{◌≡◌, ℕ, Bool, true, false, List, ◌++◌, Ok, subst, ◌∙◌}
+use Rattle.std.proofs.Common.{Bool, true, false, ◌++◌, Ok, subst, ◌∙◌}
 use Rattle.std.proofs.lemmas.Result.{err_from_is_err_and}
 use Rattle.task_input.proofs.Given.{given_both}
 use Rattle.audit_run.specs.Steps.{IsStep}

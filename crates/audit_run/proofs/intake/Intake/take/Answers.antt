@@ -1,4 +1,4 @@
-use Rattle.std.proofs.Common.{◌≡◌, ◌+◌, ◌<◌, ◌≤◌, refl, arith}
+use Rattle.std.proofs.Common.{◌+◌, ◌≤◌, refl, arith}
 use Rattle.std.proofs.lemmas.Result.{on_ok_weaker}
 use Rattle.audit_run.specs.declared.intake.Intake.{Intake}
 use Rattle.audit_run.proofs.Taking.{took_on, took_past_bytes, took_past_lines, took_byte, took_end}
