@@ -1,16 +1,16 @@
 -- How a file grows line by line, and what a refusal leaves of it.
-use Rattle.std.proofs.Common.{◌≡◌, ◌≢◌, ◌∙◌, ℕ, zero, suc, ◌+◌, ◌<◌, ◌≤◌, List, [], ◌∷◌, ◌++◌, length, map, refl, sym, ap, subst, arith, append_assoc, append-nil, take, drop, add-one}
+use Rattle.std.proofs.Common.{◌≡◌, ◌∙◌, ℕ, zero, suc, ◌+◌, ◌<◌, ◌≤◌, List, [], ◌∷◌, ◌++◌, length, refl, sym, ap, subst, arith, append_assoc, append-nil, take, drop, add-one}
 use Rattle.std.specs.Prelude.{Option, Some, None, option_map, Result, Ok, Err}
 use Rattle.std.specs.List.{slice_get}
 use Rattle.std.proofs.lemmas.List.{take_all}
 use Rattle.ann_outside.specs.Calls.{Gained, logged}
-use Rattle.ann_outside.specs.Files.{Files, content, WhereTold, OthersStay, CreateDoes, AppendDoes}
+use Rattle.ann_outside.specs.Files.{Files, content, WhereTold, CreateDoes, AppendDoes}
 use Rattle.ann_outside.specs.declared.file_desk.DeskError.{DeskError}
 use Rattle.ann_outside.specs.declared.file_desk.DeskError.TheVariants as E
 use Rattle.ann_outside.specs.declared.file_desk.Call.{Call}
 use Rattle.ann_outside.specs.declared.file_desk.Call.TheVariants.{Create, Append}
 use Rattle.annex_model.specs.Lines.{text}
-use Rattle.desk_file.specs.Writes.{IsRefusal, IsStopped, Makes, HasGrown, GrowsBy}
+use Rattle.desk_file.specs.Writes.{IsRefusal, Makes, HasGrown, GrowsBy}
 use Rattle.desk_file.proofs.Logs.{gained_nothing, gained_more, gained_call, gained_without}
 use Rattle.journal_desk.specs.JournalDesks.{with_end, line_appends, line_calls, IsMadeAs}
 

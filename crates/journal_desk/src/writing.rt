@@ -80,8 +80,8 @@ fn line_count(opening: &Opening, counts: Counts, journal: &Journal) -> Result<u6
     given.checked_add(entries).ok_or(NoMemory)
 }
 
-// Adds each line at the end of the file. No line is asked for past the last, since the want of memory for one that isn't there
-// would look like a call that was left out.
+// Adds each line at the end of the file. The lines are counted before, and none past the last is asked for: want of memory for
+// it would come behind the last call, and an error says that some call was not made.
 fn append_lines<D: Desk>(
     alloc: Global,
     desk: &mut D,
@@ -109,7 +109,7 @@ fn append_lines<D: Desk>(
     Ok(())
 }
 
-// A line of the text with its end.
+// A line of the text with its end. There is such a line, so any other answer is want of memory.
 fn ended_line(
     alloc: Global,
     opening: &Opening,

@@ -1,4 +1,4 @@
-use Rattle.std.proofs.Common.{◌≡◌, ◌∙◌, ◌≤◌, ◌+◌, ◌<◌, Ok, Err, Some, [], List, ℕ, take, length, refl, arith, subst, sym, ap}
+use Rattle.std.proofs.Common.{◌∙◌, ◌≤◌, ◌+◌, ◌<◌, Ok, Err, Some, [], ℕ, take, length, refl, arith, subst, ap}
 use Rattle.annex_model.specs.Lines.{text}
 use Rattle.ann_outside.specs.Files.{AppendDoes}
 use Rattle.ann_outside.specs.declared.file_desk.DeskError.TheVariants as E
