@@ -9,7 +9,6 @@ use Rattle.ann_outside.specs.Desks.{Made}
 use Rattle.annex_model.specs.Lines.{text}
 use Rattle.journal_model.specs.declared.answer.Answer.{Answer}
 use Rattle.journal_model.specs.declared.entry.Entry.{Entry}
-use Rattle.journal_model.specs.Journal.{any}
 use Rattle.journal_model.proofs.Looks.{same_number}
 use Rattle.journal_model.specs.Output.{answer_line}
 use Rattle.info_run.specs.Infos.{info_lines, is_informed}
@@ -22,19 +21,18 @@ use Rattle.keep_desk.specs.declared.writing.KeptWritten.TheVariants as W
 use Rattle.cli_words.specs.declared.command.InitWords.{InitWords}
 use Rattle.cli_words.specs.declared.command.RunWords.{RunWords}
 use Rattle.run_tasks.specs.Inputs.{InputFlow, IsUnread}
-use Rattle.run_tasks.specs.Runs.{HasDone, AddsMade, IsAtDesk as IsRunAtDesk}
+use Rattle.run_tasks.specs.Runs.{HasDone, AddsMade}
 use Rattle.run_tasks.specs.declared.made.RunEnd.{RunEnd}
 use Rattle.run_tasks.specs.declared.made.RunEnd.TheVariants as R
 use Rattle.special_cli.specs.Doings.{end_of, made_in, HasRun}
-use Rattle.special_cli.specs.Setups.{EndsInit, IsAtDesk, HasSetUp}
+use Rattle.special_cli.specs.Setups.{EndsInit, HasSetUp}
 use Rattle.special_cli.specs.Calls.{IsCalled}
 use Rattle.special_cli.specs.Commands.{ComesToNothing, EndsCheck, HasChecked, EndsInfo, HasInformed, UnlessRefused, Runs}
 use Rattle.special_cli.specs.Endings.{is_well, status_of, IsChecked, IsPrinted, IsTold, LacksMemory}
-use Rattle.special_cli.specs.Informs.{IsInformed, IsInfoTold, info_status}
+use Rattle.special_cli.specs.Informs.{IsInfoTold, info_status}
 use Rattle.child_end.specs.Outsides.{OutsideValue, TableValue}
 use Rattle.special_cli.specs.Left.{Left, RanValue, IsIdle}
-use Rattle.child_end.specs.Wires.{AreWires, came}
-use Rattle.child_end.specs.Programs.{HaveStarted, Leaves, is_failed_start}
+use Rattle.child_end.specs.Programs.{HaveStarted, Leaves}
 use Rattle.child_end.specs.Outsides.{HaveMade}
 use Rattle.cli_words.specs.Refusals.{reason_refused, refusal_if, unless}
 use Rattle.special_cli.proofs.Checked.{unstarted}

@@ -1,38 +1,30 @@
 -- What a setup comes to at its desk: from what was read of the kept file to what was written.
-use Rattle.std.proofs.Common.{◌≡◌, ◌∙◌, ◌+◌, ◌^◌, ◌-◌, ◌≤◌, ◌<◌, min, ℕ, List, [], ◌∷◌, ◌++◌, length, refl, sym, ap, subst, arith, inl, inr, Some, None, Option, Ok, Err}
+use Rattle.std.proofs.Common.{◌≡◌, ◌∙◌, ℕ, List, refl, sym, ap, subst, inr, Some, None, Option, Ok}
 use Rattle.std.specs.Prelude.{Result, IfOk, IsErr, true, false}
 use Rattle.ann_key.specs.declared.bytes.NoMemory.{NoMemory}
-use Rattle.ann_outside.specs.Causes.{Rose, Stays, AddsOne}
-use Rattle.ann_outside.specs.Desks.{Made, no_counts}
 use Rattle.ann_outside.specs.DeskCauses.{Counts}
-use Rattle.ann_outside.specs.Files.{Files, WhereTold, OthersStay, content}
+use Rattle.ann_outside.specs.Files.{Files, WhereTold, OthersStay}
 use Rattle.ann_outside.specs.declared.file_desk.Call.{Call}
-use Rattle.reg_file.specs.Registers.{RegisterFile}
-use Rattle.chunk_log.specs.declared.note.Note.{Note}
-use Rattle.desk_file.specs.Writes.{new_name, IsReplacedBy}
-use Rattle.keep_text.specs.KeptFiles.{bad_line, kept_text}
-use Rattle.keep_desk.specs.declared.TheConstants.{MOST_BYTES}
+use Rattle.desk_file.specs.Writes.{new_name}
 use Rattle.keep_desk.specs.declared.writing.KeptWritten.{KeptWritten}
 use Rattle.keep_desk.specs.declared.writing.KeptWritten.TheVariants as W
-use Rattle.keep_desk.specs.KeptDesks.{IsWrittenBy, IsWrittenIn, HasWriteCauses}
 use Rattle.cli_words.specs.declared.command.InitWords.{InitWords}
 use Rattle.journal_model.specs.declared.answer.Answer.{Answer}
 use Rattle.journal_model.specs.declared.entry.Entry.{Entry}
 use Rattle.journal_model.specs.declared.opening.Opening.{Opening}
 use Rattle.journal_model.specs.Legality.{Legal}
 use Rattle.journal_model.proofs.Projecting.{parts_fit}
-use Rattle.host_core.specs.Settings.{registers_after}
 use Rattle.init_run.specs.declared.beginning.Begun.TheVariants.{Ready}
 use Rattle.init_run.specs.declared.setup.Setup.{Setup}
 use Rattle.init_run.specs.declared.setup.Setup.TheVariants.{Initialized, Stopped}
-use Rattle.init_run.specs.Setups.{IsTextOf, Begins, outcome_of}
+use Rattle.init_run.specs.Setups.{Begins, outcome_of}
 use Rattle.special_cli.specs.declared.end.End.{End}
 use Rattle.special_cli.specs.declared.end.End.TheVariants.{Memory, SetUp, NotSetUp}
 use Rattle.child_end.specs.Wires.{WireValue}
 use Rattle.child_end.specs.Programs.{ProgramsValue}
 use Rattle.child_end.specs.Outsides.{TableValue}
 use Rattle.child_end.specs.Programs.{Leaves}
-use Rattle.special_cli.specs.Setups.{IsSetup, IsRunOf, IsAsBefore, HasFailed, IsKept, IsUnbegun, EndsInit, EndsKeep}
+use Rattle.special_cli.specs.Setups.{IsSetup, IsRunOf, IsAsBefore, IsKept, EndsInit, EndsKeep}
 use Rattle.special_cli.proofs.Leaving.{leaves_as}
 
 -- ---- files that stay

@@ -1,8 +1,8 @@
 -- From a greeting by INITREMOTE to what a setup comes to, and the closing of its child.
-use Rattle.std.proofs.Common.{◌≡◌, ◌⊎◌, ℕ, List, [], ◌∷◌, ◌++◌, refl, sym, ap, subst, ◌∙◌, Bool, true, false, not, ◌==◌, cond, Some, None, Option, inl, inr, append-nil}
+use Rattle.std.proofs.Common.{◌≡◌, ◌⊎◌, ℕ, List, [], ◌∷◌, ◌++◌, refl, sym, ap, subst, ◌∙◌, Bool, true, false, not, cond, Some, None, Option, inl, inr, append-nil}
 use Rattle.std.specs.Prelude.{◌&&◌, ◌||◌, is_some}
 use Rattle.std.specs.Option.{option_or}
-use Rattle.std.specs.List.{list_all, list_any, cons_option}
+use Rattle.std.specs.List.{list_all, list_any}
 use Rattle.std.proofs.lemmas.List.Folds.{list_all-append}
 use Rattle.journal_model.specs.declared.verdict.Why.{Why}
 use Rattle.journal_model.specs.declared.verdict.Why.TheVariants.{Closed}
@@ -12,7 +12,7 @@ use Rattle.journal_model.specs.declared.answer.Answer.TheVariants as answer
 use Rattle.journal_model.specs.declared.entry.What.{What}
 use Rattle.journal_model.specs.declared.entry.What.TheVariants.{Claim, Start, NoStart, End, Answer as Answered, Note as Noted}
 use Rattle.journal_model.specs.declared.entry.Entry.{Entry}
-use Rattle.journal_model.specs.Journal.{any, each_of, starts, ends, mutes, is_started, is_ended, is_mute, open_jobs, verdict_of, why_of}
+use Rattle.journal_model.specs.Journal.{any, starts, ends, mutes, is_started, is_ended, is_mute, open_jobs, verdict_of, why_of}
 use Rattle.journal_model.specs.Legality.{is_done, is_busy_with, has_busy_task, may_stop}
 use Rattle.journal_model.proofs.Looks.{both, same, any-append, each_of-append, verdict_of-append}
 use Rattle.journal_model.proofs.Linking.{why_of-append, why_is_end}
@@ -29,7 +29,7 @@ use Rattle.special_cli.specs.Endings.{start_in, starts_in}
 use Rattle.special_cli.specs.Informs.{is_of_task}
 use Rattle.special_cli.specs.Runs.{main_entry}
 use Rattle.special_cli.specs.Setups.{is_of_setup, IsSetup, IsTalked}
-use Rattle.special_cli.proofs.Looking.{or_true, all_weaken, any_none}
+use Rattle.special_cli.proofs.Looking.{all_weaken, any_none}
 use Rattle.special_cli.proofs.Talking.{no_claims, closing_of, closed_so, IsStill, closing_still, over_or, off}
 
 -- ---- the entries

@@ -1,5 +1,5 @@
 -- The UUID that the words of a setup or a run hold is in its written form.
-use Rattle.std.proofs.Common.{◌≡◌, ℕ, ◌+◌, ◌*◌, ◌<◌, Bool, true, false, cond, List, [], ◌∷◌, length, get_or, slice_index, All, Option, Some, None, refl, sym, ap, subst, ◌∙◌, arith, inl}
+use Rattle.std.proofs.Common.{◌≡◌, ℕ, ◌+◌, ◌*◌, ◌<◌, Bool, true, false, cond, List, [], ◌∷◌, length, get_or, slice_index, All, Option, Some, None, refl, sym, subst, ◌∙◌, arith, inl}
 use Rattle.std.specs.Prelude.{◌==◌, ◌&&◌, option_map, codes, bytes_eq, take, drop, IfSome}
 use Rattle.std.specs.List.{list_all}
 use Rattle.std.proofs.lemmas.Bool.Decides.{nat_tests}

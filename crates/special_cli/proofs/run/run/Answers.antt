@@ -1,1 +1,0 @@
-use Rattle.special_cli.proofs.run.run.Goals as goal
