@@ -1,7 +1,10 @@
-//! Reads texts of runs line by line, and prints what was read again.
+//! Reads texts of runs line by line, and prints what was read again, straight or by way of a desk.
 #![tactic(auto)]
 
+mod desks;
+
 use ann_key::NoMemory;
+use desks::print_desks;
 use journal_lines::{counts_of, print_counted};
 use journal_look::Journal;
 use journal_model::Opening;
@@ -44,6 +47,16 @@ fn print_end(
     }
 }
 
+fn print_written(
+    rt: &(impl Print + AllocGlobal),
+    outcome: Result<(Opening, Journal), JournalError>,
+) -> io::Result<()> {
+    match outcome {
+        Ok((opening, journal)) => print_desks(rt, &opening, &journal),
+        Err(error) => println!(rt; "{error}"),
+    }
+}
+
 fn print_push(rt: &impl Print, outcome: Result<(), JournalError>) -> io::Result<()> {
     match outcome {
         Ok(()) => Ok(()),
@@ -51,7 +64,7 @@ fn print_push(rt: &impl Print, outcome: Result<(), JournalError>) -> io::Result<
     }
 }
 
-// `> LINE` is a line of a text, `=` its end; any other row is a heading.
+// `> LINE` is a line of a text, `=` its end, `= desk` the end of one that is written to desks; any other row is a heading.
 fn play(rt: &(impl Print + AllocGlobal), reader: &mut Reader, row: &str) -> io::Result<()> {
     if let Some(line) = row.strip_prefix("> ") {
         return print_push(rt, reader.push(line.as_bytes()));
@@ -59,6 +72,10 @@ fn play(rt: &(impl Print + AllocGlobal), reader: &mut Reader, row: &str) -> io::
     if row == "=" {
         let whole = mem::replace(reader, Reader::new(rt.alloc()));
         return print_end(rt, whole.finish());
+    }
+    if row == "= desk" {
+        let whole = mem::replace(reader, Reader::new(rt.alloc()));
+        return print_written(rt, whole.finish());
     }
     println!(rt; "{row}")
 }
