@@ -76,17 +76,14 @@ pub(crate) fn desk(
     MemDesk::new(alloc, list, Vec::from_slice(alloc, fails)?)
 }
 
-/// The input of a call: its text, and which of its reads fail.
-pub(crate) fn input(alloc: Global, text: &str, fails: &[u64]) -> Result<MemSource, NoMemory> {
-    Ok(MemSource::new(pieces(alloc, text, 4096)?, Vec::from_slice(alloc, fails)?))
-}
-
-/// The objects of a call, where each write to out takes at most 7 bytes and those that are listed fail.
+/// The objects of a call: what its input gives, and which reads of it fail; each write to out takes at most 7 bytes, and those
+/// that are listed fail.
 #[derive(Drop)]
 pub(crate) struct Objects {
     pub(crate) programs: MemPrograms,
     pub(crate) desks: MemDesks,
-    pub(crate) input: MemSource,
+    pub(crate) given: Vec<Bytes>,
+    pub(crate) input_fails: Vec<u64>,
     pub(crate) out_fails: Vec<u64>,
 }
 
@@ -96,9 +93,11 @@ pub(crate) fn run(alloc: Global, words: &str, objects: Objects) -> Result<Left, 
     let Objects {
         programs,
         desks,
-        mut input,
+        given,
+        input_fails,
         out_fails,
     } = objects;
+    let mut input = MemSource::new(given, input_fails);
     let mut out = MemSink::new(alloc, 7, out_fails);
     let mut err = MemSink::new(alloc, 7, Vec::new(alloc));
     let mut clock = MemClock::new(1_700_000_000_000_000);

@@ -142,7 +142,8 @@ impl Scene {
         let objects = Objects {
             programs: self.programs(alloc)?,
             desks: self.desks(alloc)?,
-            input: memory::input(alloc, self.input.as_str(), &self.input_fails)?,
+            given: memory::pieces(alloc, self.input.as_str(), 4096)?,
+            input_fails: Vec::from_slice(alloc, &self.input_fails)?,
             out_fails: Vec::from_slice(alloc, &self.out_fails)?,
         };
         let left = memory::run(alloc, words.as_str(), objects)?;
