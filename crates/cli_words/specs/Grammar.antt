@@ -23,6 +23,7 @@ run_options =
     ∷ with_value (codes "name") (codes "remote")
     ∷ with_value (codes "gitdir") (codes ".git")
     ∷ optional (codes "keep")
+    ∷ optional (codes "journal")
     ∷ with_value (codes "work") (codes ".")
     ∷ with_value (codes "starts") (codes "3")
     ∷ []

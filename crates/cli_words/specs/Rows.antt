@@ -32,6 +32,7 @@ least_run = record {
   name = codes "remote";
   gitdir = codes ".git";
   keep = None;
+  journal = None;
   work = codes ".";
   starts = 3;
 }

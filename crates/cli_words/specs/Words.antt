@@ -59,7 +59,8 @@ init_of words = None
 abbrev pub are_texts : List Row → Bool
 are_texts rows =
     is_text (value_at rows (codes "program")) && (is_text (value_at rows (codes "name")) && (is_text (value_at rows (codes "gitdir"))
-    && (is_text (value_at rows (codes "work")) && option_map_or is_text (first_of (codes "keep") rows) true)))
+    && (is_text (value_at rows (codes "work")) && (option_map_or is_text (first_of (codes "keep") rows) true
+    && option_map_or is_text (first_of (codes "journal") rows) true))))
 
 abbrev pub run_with : List Row → Option (List ℕ) → Option ℕ → Option ℕ → Option ℕ → Option RunWords
 run_with rows (Some uuid) (Some jobs) (Some chunk) (Some starts) = Some (record {
@@ -70,6 +71,7 @@ run_with rows (Some uuid) (Some jobs) (Some chunk) (Some starts) = Some (record 
   name = value_at rows (codes "name");
   gitdir = value_at rows (codes "gitdir");
   keep = first_of (codes "keep") rows;
+  journal = first_of (codes "journal") rows;
   work = value_at rows (codes "work");
   starts = starts;
 })

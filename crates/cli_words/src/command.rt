@@ -53,6 +53,8 @@ pub struct RunWords {
     pub gitdir: Text,
     /// The name of the kept file, where one is kept.
     pub keep: Option<Text>,
+    /// The name of the journal file, where one is written.
+    pub journal: Option<Text>,
     /// The folder for files that the run makes.
     pub work: Text,
     /// How often a child may be started in the first place, all rounds together.

@@ -58,6 +58,7 @@ pub(super) fn run_grammar<'a>(alloc: Global) -> Result<Command<'a>, NoMemory>
     let command = with_value(alloc, command, "name", "remote")?;
     let command = with_value(alloc, command, "gitdir", ".git")?;
     let command = with_optional(alloc, command, "keep")?;
+    let command = with_optional(alloc, command, "journal")?;
     let command = with_value(alloc, command, "work", ".")?;
     with_value(alloc, command, "starts", "3")
 }

@@ -86,7 +86,9 @@ pub fn worked_runs()
     ensures dash_in_one { command_of (run_words (codes "--work=-x" ∷ [])) ≡ Some (Run (record least_run { work = codes "-x" })) }
     ensures starts { command_of (run_words (codes "--starts" ∷ codes "16" ∷ [])) ≡ Some (Run (record least_run { starts = 16 })) }
     ensures more_starts { command_of (run_words (codes "--starts" ∷ codes "17" ∷ [])) ≡ None }
-    ensures unknown { command_of (run_words (codes "--journal" ∷ codes "f" ∷ [])) ≡ None }
+    ensures journal { command_of (run_words (codes "--journal" ∷ codes "f" ∷ [])) ≡ Some (Run (record least_run { journal = Some (codes "f") })) }
+    ensures empty_journal { command_of (run_words (codes "--journal=" ∷ [])) ≡ None }
+    ensures unknown { command_of (run_words (codes "--kept" ∷ codes "f" ∷ [])) ≡ None }
     ensures positional { command_of (run_words (codes "x" ∷ [])) ≡ None }
     ensures help { command_of (run_words (codes "--help" ∷ [])) ≡ None }
     ensures no_program { command_of (codes "run" ∷ codes "--uuid" ∷ sample_uuid ∷ []) ≡ None }

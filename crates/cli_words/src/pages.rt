@@ -55,6 +55,7 @@ const RUN: &str = "special run --program PROGRAM --uuid UUID [OPTIONS]\n\
     --name NAME        the remote's name (default remote)\n\
     --gitdir FOLDER    the repository's git directory (default .git)\n\
     --keep FILE        the kept file, which is read before the tasks and written after them (default: none)\n\
+    --journal FILE     the file in which the journal of the run is written after the tasks (default: none)\n\
     --work FOLDER      the folder for files that the run makes (default .)\n\
     --starts NUMBER    how often a child may be started in the first place, 1 to 16 (default 3)\n\
     \n\

@@ -53,6 +53,7 @@ fn are_texts(matches: &ArgMatches<'_>) -> bool
         && is_text(value_at(matches, "gitdir"))
         && is_text(value_at(matches, "work"))
         && is_text_or_none(given(matches, "keep"))
+        && is_text_or_none(given(matches, "journal"))
 }
 
 fn is_text_or_none(value: Option<&str>) -> bool
@@ -105,6 +106,7 @@ fn run_from(alloc: Global, matches: &ArgMatches<'_>) -> Result<Option<RunWords>,
         name: copy_at(alloc, matches, "name")?,
         gitdir: copy_at(alloc, matches, "gitdir")?,
         keep: copy_given(alloc, matches, "keep")?,
+        journal: copy_given(alloc, matches, "journal")?,
         work: copy_at(alloc, matches, "work")?,
         starts: starts as u32,
     }))

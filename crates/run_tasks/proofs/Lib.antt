@@ -4,3 +4,4 @@ pub mod Begun
 pub mod Kept
 pub mod Working
 pub mod Leaving
+pub mod Journaled

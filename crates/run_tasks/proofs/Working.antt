@@ -18,9 +18,9 @@ use Rattle.child_end.specs.Outsides.{TableValue}
 use Rattle.lone_work.specs.Works.{desk_tells}
 use Rattle.lone_rounds.specs.Rounds.{RanAlone}
 use Rattle.run_tasks.specs.Inputs.{InputFlow, run_setup}
-use Rattle.run_tasks.specs.Runs.{MadeValue, IsRunOf, IsUnbegun, EndsRun, IfUnwhole}
+use Rattle.run_tasks.specs.Runs.{MadeValue, IsAsBefore, IsRunOf, IsUnbegun, LacksJournal, EndsRun, IfUnwhole}
 use Rattle.run_tasks.specs.Beginnings.{IsReady, BeginsRun}
-use Rattle.run_tasks.specs.Workings.{IsWorked, Finishes, EndsWork, IsStopped, GoesOn}
+use Rattle.run_tasks.specs.Workings.{IsWorked, IsUnjournaled, Finishes, EndsWork, IsStopped, GoesOn}
 use Rattle.run_tasks.specs.declared.made.RunEnd.{RunEnd}
 use Rattle.run_tasks.specs.declared.made.RunEnd.TheVariants.{BadKept, KeptTooLarge, FileFailed, InputFailed, Refused, Memory, Done}
 use Rattle.run_tasks.proofs.Kept.{as_before}
@@ -44,7 +44,7 @@ is_worked words opening workers journal log counts desk setup limit one fresh bl
 
 finished : (words : RunWords) (told : Option Files) (table : TableValue) (o : Opening) (workers : List TableValue) (journal : List Entry) (answers : List Answer) (end : RunEnd)
     → IsWorked words o workers journal → are_all_claimed o journal ≡ true → Finishes words told table o journal answers end → EndsWork words told table o workers journal answers end
-finished words told table o workers journal answers Memory worked all h = (inr worked, h.0, h.1)
+finished words told table o workers journal answers Memory worked all h = (elim h.1 [ inl before ↦ inl (inr worked, before) | inr cut ↦ inr record { worked = worked; all = all; files = cut } ], h.0)
 finished words told table o workers journal answers (Done written) worked all h = record { worked = worked; all = all; finished = h }
 finished words told table o workers journal answers (BadKept line) worked all h = absurd h
 finished words told table o workers journal answers KeptTooLarge worked all h = absurd h
@@ -63,13 +63,13 @@ ends_finished words told table o o' workers journal journal' answers end e j wor
 pub ends_wanting : (words : RunWords) (told : Option Files) (table : TableValue) (o : Opening) (workers : List TableValue) (journal journal' : List Entry) (answers : List Answer)
     → journal' ≡ journal → answers ≡ [] → table.files ≡ told → IsWorked words o workers journal → EndsWork words told table o workers journal' answers Memory
 ends_wanting words told table o workers journal journal' answers j none same worked =
-    subst (λ (x : List Entry). EndsWork words told table o workers x answers Memory) (sym j) (inr worked, none, as_before words told table same)
+    subst (λ (x : List Entry). EndsWork words told table o workers x answers Memory) (sym j) (inl (inr worked, as_before words told table same), none)
 
 -- or before anything was done
 pub ends_before : (words : RunWords) (told : Option Files) (table : TableValue) (o : Opening) (workers : List TableValue) (journal : List Entry) (answers : List Answer) (end : RunEnd)
     → journal ≡ [] → answers ≡ [] → end ≡ Memory → table.files ≡ told → EndsWork words told table o workers journal answers end
 ends_before words told table o workers journal answers end j none e same =
-    subst (EndsWork words told table o workers journal answers) (sym e) (inl j, none, as_before words told table same)
+    subst (EndsWork words told table o workers journal answers) (sym e) (inl (inl j, as_before words told table same), none)
 
 -- ---- the run
 
@@ -98,13 +98,18 @@ module _ (words : RunWords) (clock : Option ℕ) (told : Option Files) (flow : I
   from_work : (opening : Opening) (table : TableValue) (workers : List TableValue) (made : MadeValue) (end : RunEnd) → IsReady words clock told flow opening
       → EndsWork words told table opening workers made.journal made.answers end → EndsRun words clock told flow table workers made end
   unfolding run_of
-  from_work opening table workers made Memory ready h = (either h.0, h.2)
+  from_work opening table workers made Memory ready h = either h.0
     where
-      either : (made.journal ≡ []) ⊎ IsWorked words opening workers made.journal → (made.journal ≡ []) ⊎ IsRunOf words clock told flow workers made.journal
-      either (inl none) = inl none
-      either (inr worked) = inr (run_of opening workers made.journal ready worked)
+      begun : (made.journal ≡ []) ⊎ IsWorked words opening workers made.journal → (made.journal ≡ []) ⊎ IsRunOf words clock told flow workers made.journal
+      begun (inl none) = inl none
+      begun (inr worked) = inr (run_of opening workers made.journal ready worked)
+
+      either : (((made.journal ≡ []) ⊎ IsWorked words opening workers made.journal) × IsAsBefore words told table) ⊎ IsUnjournaled words told table opening workers made.journal
+          → (((made.journal ≡ []) ⊎ IsRunOf words clock told flow workers made.journal) × IsAsBefore words told table) ⊎ LacksJournal words clock told flow table workers made
+      either (inl before) = inl (begun before.0, before.1)
+      either (inr cut) = inr record { run = run_of opening workers made.journal ready cut.worked; all = cut.all; files = cut.files }
   from_work opening table workers made (Done written) ready h =
-      record { run = run_of opening workers made.journal ready h.worked; all = h.all; answers = h.finished.answers_are; kept = h.finished.kept }
+      record { run = run_of opening workers made.journal ready h.worked; all = h.all; answers = h.finished.answers_are; files = h.finished.files }
   from_work opening table workers made (BadKept line) ready h = absurd h
   from_work opening table workers made KeptTooLarge ready h = absurd h
   from_work opening table workers made FileFailed ready h = absurd h
@@ -129,7 +134,7 @@ module _ (words : RunWords) (clock : Option ℕ) (told : Option Files) (flow : I
   from_stop faults before after workers made InputFailed end same zero h stopped = (unbegun before after workers made InputFailed end same stopped, h)
   from_stop faults before after workers made (Refused line reason) end same zero h stopped = (unbegun before after workers made (Refused line reason) end same stopped, h)
   from_stop faults before after workers made Memory end same zero h stopped =
-      (inl stopped.no_journal, as_before words told after (ap (λ (t : TableValue). t.files) stopped.table_is ∙ same))
+      inl (inl stopped.no_journal, as_before words told after (ap (λ (t : TableValue). t.files) stopped.table_is ∙ same))
   from_stop faults before after workers made (Done written) end same zero h stopped = absurd h
 
   pub ends_run : (faults : ℕ) (before after : TableValue) (workers : List TableValue) (made : MadeValue) (begun : Result Opening RunEnd) → before.files ≡ told → faults ≡ 0

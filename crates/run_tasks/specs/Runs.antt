@@ -1,6 +1,7 @@
 -- What comes of a run, by its end.
-use Rattle.std.specs.Prelude.{ℕ, ◌≡◌, ◌⊎◌, ◌==◌, ◌≤◌, ◌<◌, if◌then◌else◌, true, List, [], ◌∷◌, ◌++◌, length, map, Option, Some, None, IfSome, Ok, Err}
+use Rattle.std.specs.Prelude.{ℕ, ◌≡◌, ◌⊎◌, ◌==◌, ◌≤◌, ◌<◌, if◌then◌else◌, true, List, [], ◌∷◌, ◌++◌, length, map, Option, Some, None, IfSome, Result, Ok, Err}
 use Rattle.std.specs.List.{range_with_len}
+use Rattle.ann_key.specs.declared.bytes.NoMemory.{NoMemory}
 use Rattle.ann_outside.specs.Causes.{Rose}
 use Rattle.ann_outside.specs.Calls.{IsLogBlank}
 use Rattle.ann_outside.specs.Desks.{Made, no_counts}
@@ -12,6 +13,9 @@ use Rattle.keep_text.specs.KeptFiles.{bad_line, kept_text}
 use Rattle.keep_desk.specs.declared.TheConstants.{MOST_BYTES}
 use Rattle.keep_desk.specs.declared.writing.KeptWritten.{KeptWritten}
 use Rattle.keep_desk.specs.declared.writing.KeptWritten.TheVariants as W
+use Rattle.journal_desk.specs.JournalDesks.{HasWriteCauses, IsWrittenIn, journal_text}
+use Rattle.journal_desk.specs.declared.writing.JournalWritten.{JournalWritten}
+use Rattle.journal_desk.specs.declared.writing.JournalWritten.TheVariants as J
 use Rattle.cli_words.specs.declared.command.RunWords.{RunWords}
 use Rattle.task_input.specs.declared.error.InputError.TheVariants as input
 use Rattle.task_input.specs.declared.limits.TheConstants.Limits.{TASKS}
@@ -113,6 +117,40 @@ IsKept words told table o journal written = go words.keep
     go None = (written ≡ W.Done) × IsAsBefore words told table
     go (Some name) = IsKeptIn words name told table o journal written
 
+-- ---- the journal file
+
+-- where the words name a journal file, the text of the run was written in it, or a call failed or no memory was found; and
+-- where they name none, nothing changed
+abbrev pub IsJournaled : RunWords → TableValue → TableValue → Opening → List Entry → Result JournalWritten NoMemory → Type 0
+IsJournaled words before after o journal result = go words.journal
+  where
+    go : Option (List ℕ) → Type 0
+    go None = (result ≡ Ok J.Done) × (after ≡ before)
+    go (Some name) =
+        WhereTold before.files after.files (IsWrittenIn name (journal_text o journal) result) × HasWriteCauses before.files before.counts after.counts result
+
+-- what is told of both files: what came of the kept file, or that the journal file failed where only that did
+abbrev pub told_of : KeptWritten → JournalWritten → KeptWritten
+told_of W.Done J.Fault = W.Fault
+told_of kept journal = kept
+
+-- the kept file was written first and the journal file then, with the desk as `mid` between, and this is told of both
+pub record AreWritten (words : RunWords) (told : Option Files) (table : TableValue) (o : Opening) (journal : List Entry) (written : KeptWritten) : Type 0 where
+  pub mid : TableValue
+  pub of_kept : KeptWritten
+  pub kept : IsKept words told mid o journal of_kept
+  pub of_journal : JournalWritten
+  pub journaled : IsJournaled words mid table o journal (Ok of_journal)
+  pub told_is : written ≡ told_of of_kept of_journal
+
+-- the kept file was written, and then no memory was found for the journal file
+pub record IsCutShort (words : RunWords) (told : Option Files) (table : TableValue) (o : Opening) (journal : List Entry) : Type 0 where
+  pub mid : TableValue
+  pub of_kept : KeptWritten
+  pub kept : IsKept words told mid o journal of_kept
+  pub want : NoMemory
+  pub journaled : IsJournaled words mid table o journal (Err want)
+
 -- ---- its end
 
 -- no task was begun: nothing was started, no worker's desk was asked for, and the kept file is as before
@@ -125,12 +163,18 @@ pub record IsUnbegun (words : RunWords) (told : Option Files) (table : TableValu
 abbrev pub IsRefusedFor : RunWords → Option Files → (List ℕ → Type 0) → Type 0
 IsRefusedFor words told P = (kept : List ℕ) × IsTextFor words told kept × P kept
 
--- the run is whole: each task was answered, these are the answers, and this came of keeping what is known
+-- the run is whole: each task was answered, these are the answers, and this came of the kept file and the journal file
 pub record IsWholeRun (words : RunWords) (clock : Option ℕ) (told : Option Files) (flow : InputFlow) (table : TableValue) (workers : List TableValue) (made : MadeValue) (written : KeptWritten) : Type 0 where
   pub run : IsRunOf words clock told flow workers made.journal
   pub all : are_all_claimed run.opening made.journal ≡ true
   pub answers : AreAnswers run.opening made.journal made.answers
-  pub kept : IsKept words told table run.opening made.journal written
+  pub files : AreWritten words told table run.opening made.journal written
+
+-- all tasks were done, and no memory was found for the journal file
+pub record LacksJournal (words : RunWords) (clock : Option ℕ) (told : Option Files) (flow : InputFlow) (table : TableValue) (workers : List TableValue) (made : MadeValue) : Type 0 where
+  pub run : IsRunOf words clock told flow workers made.journal
+  pub all : are_all_claimed run.opening made.journal ≡ true
+  pub files : IsCutShort words told table run.opening made.journal
 
 abbrev pub EndsRun : RunWords → Option ℕ → Option Files → InputFlow → TableValue → List TableValue → MadeValue → RunEnd → Type 0
 EndsRun words clock told flow table workers made (BadKept line) =
@@ -142,7 +186,8 @@ EndsRun words clock told flow table workers made InputFailed = IsUnbegun words t
 EndsRun words clock told flow table workers made (Refused line reason) =
     IsUnbegun words told table workers made × IsTaken TASKS flow (Err (input.Refused line reason))
 EndsRun words clock told flow table workers made Memory =
-    ((made.journal ≡ []) ⊎ IsRunOf words clock told flow workers made.journal) × IsAsBefore words told table
+    (((made.journal ≡ []) ⊎ IsRunOf words clock told flow workers made.journal) × IsAsBefore words told table)
+    ⊎ LacksJournal words clock told flow table workers made
 EndsRun words clock told flow table workers made (Done written) = IsWholeRun words clock told flow table workers made written
 
 -- there are answers only where the run is whole

@@ -18,7 +18,7 @@ use Rattle.child_end.specs.Outsides.{TableValue}
 use Rattle.lone_work.specs.Works.{desk_tells}
 use Rattle.lone_rounds.specs.Rounds.{RanAlone}
 use Rattle.run_tasks.specs.Inputs.{run_setup}
-use Rattle.run_tasks.specs.Runs.{AreAnswers, IsAsBefore, IsKept, AddsMade}
+use Rattle.run_tasks.specs.Runs.{AreAnswers, AreWritten, IsAsBefore, IsCutShort, IsKept, AddsMade}
 use Rattle.run_tasks.specs.declared.made.RunEnd.{RunEnd}
 use Rattle.run_tasks.specs.declared.made.RunEnd.TheVariants.{Memory, Done}
 use Rattle.run_tasks.specs.declared.rounds.Ready.{Ready}
@@ -47,14 +47,18 @@ pub record IsWorked (words : RunWords) (opening : Opening) (workers : List Table
   pub ran : RanAlone opening (run_setup words opening.stamp) words.starts journal (desk_tells log no_counts) (desk_tells desk.log desk.counts)
   pub parts : (c j : ℕ) → JobFits (replies_at opening journal) journal c j
 
--- these are the answers, and this came of keeping what is known
+-- these are the answers, and this came of the kept file and the journal file
 pub record IsFinished (words : RunWords) (told : Option Files) (table : TableValue) (opening : Opening) (journal : List Entry) (answers : List Answer) (written : KeptWritten) : Type 0 where
   pub answers_are : AreAnswers opening journal answers
-  pub kept : IsKept words told table opening journal written
+  pub files : AreWritten words told table opening journal written
 
--- so it is, or no memory was found and the kept file is as before
+-- no memory was found, and the kept file is as before; or that was written, and no memory was found for the journal file
+abbrev pub IsWanting : RunWords → Option Files → TableValue → Opening → List Entry → Type 0
+IsWanting words told table opening journal = IsAsBefore words told table ⊎ IsCutShort words told table opening journal
+
+-- so it is, or no memory was found
 abbrev pub Finishes : RunWords → Option Files → TableValue → Opening → List Entry → List Answer → RunEnd → Type 0
-Finishes words told table opening journal answers Memory = (answers ≡ []) × IsAsBefore words told table
+Finishes words told table opening journal answers Memory = (answers ≡ []) × IsWanting words told table opening journal
 Finishes words told table opening journal answers (Done written) = IsFinished words told table opening journal answers written
 Finishes words told table opening journal answers end = ⊥
 
@@ -63,16 +67,28 @@ abbrev pub Keeps : RunWords → Option Files → TableValue → Opening → List
 Keeps words told table opening journal result =
     MatchResult result (λ written. IsKept words told table opening journal written) (λ _. IsAsBefore words told table)
 
+-- both files were written, or no memory was found
+abbrev pub Writes : RunWords → Option Files → TableValue → Opening → List Entry → Result KeptWritten NoMemory → Type 0
+Writes words told table opening journal result =
+    MatchResult result (λ written. AreWritten words told table opening journal written) (λ _. IsWanting words told table opening journal)
+
 -- the tasks were done, and all of it was kept
 pub record IsWhole (words : RunWords) (told : Option Files) (table : TableValue) (opening : Opening) (workers : List TableValue) (journal : List Entry) (answers : List Answer) (written : KeptWritten) : Type 0 where
   pub worked : IsWorked words opening workers journal
   pub all : are_all_claimed opening journal ≡ true
   pub finished : IsFinished words told table opening journal answers written
 
--- so it is, or no memory was found
+-- the tasks were done, and no memory was found for the journal file
+pub record IsUnjournaled (words : RunWords) (told : Option Files) (table : TableValue) (opening : Opening) (workers : List TableValue) (journal : List Entry) : Type 0 where
+  pub worked : IsWorked words opening workers journal
+  pub all : are_all_claimed opening journal ≡ true
+  pub files : IsCutShort words told table opening journal
+
+-- the tasks were done, or no memory was found
 abbrev pub EndsWork : RunWords → Option Files → TableValue → Opening → List TableValue → List Entry → List Answer → RunEnd → Type 0
 EndsWork words told table opening workers journal answers Memory =
-    ((journal ≡ []) ⊎ IsWorked words opening workers journal) × (answers ≡ []) × IsAsBefore words told table
+    ((((journal ≡ []) ⊎ IsWorked words opening workers journal) × IsAsBefore words told table) ⊎ IsUnjournaled words told table opening workers journal)
+    × (answers ≡ [])
 EndsWork words told table opening workers journal answers (Done written) = IsWhole words told table opening workers journal answers written
 EndsWork words told table opening workers journal answers end = ⊥
 

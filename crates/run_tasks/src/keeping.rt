@@ -1,7 +1,9 @@
 // What is kept behind the tasks.
+ghost use Rattle.std.specs.Prelude.{◌≡◌};
 ghost use Rattle.child_end.specs.Outsides.{table_value};
 ghost use Rattle.run_tasks.specs.Answering.{AreAllAnswered};
-ghost use Rattle.run_tasks.specs.Workings.{Finishes, Keeps};
+ghost use Rattle.run_tasks.specs.Runs.{IsJournaled, told_of};
+ghost use Rattle.run_tasks.specs.Workings.{Finishes, Keeps, Writes};
 
 use crate::answers::answers_of;
 use crate::made::RunEnd;
@@ -9,6 +11,7 @@ use ann_key::NoMemory;
 use ann_outside::Desk;
 use cli_words::RunWords;
 use host_core::Core;
+use journal_desk::{JournalWritten, write_journal};
 use journal_model::Answer;
 use keep_desk::{KeptWritten, write_kept};
 use std::alloc::Global;
@@ -43,7 +46,46 @@ fn keep<D: Desk>(
     }
 }
 
-/// Takes the answers of all tasks from the journal, and keeps what is known of the remote.
+// Writes the text of the run into the journal file, where the words name one.
+fn write_text<D: Desk>(
+    alloc: Global,
+    words: &RunWords,
+    desk: &mut D,
+    core: &Core,
+) -> Result<JournalWritten, NoMemory>
+    ensures { IsJournaled words.now (table_value D.counts D.files D.log desk.old) (table_value D.counts D.files D.log desk.new) core.now.opening core.now.journal result }
+{
+    match &words.journal {
+        Some(name) => write_journal(alloc, desk, name.view(), core.opening(), core.journal()),
+        None => Ok(JournalWritten::Done),
+    }
+}
+
+// What is told of both files.
+fn told_of(kept: KeptWritten, journal: JournalWritten) -> KeptWritten
+    ensures { result ≡ told_of kept journal }
+{
+    match (kept, journal) {
+        (KeptWritten::Done, JournalWritten::Fault) => KeptWritten::Fault,
+        (kept, _) => kept,
+    }
+}
+
+// Writes the kept file, and then the journal file, also where the kept file could not be written.
+fn write_both<D: Desk>(
+    alloc: Global,
+    words: &RunWords,
+    desk: &mut D,
+    core: &Core,
+) -> Result<KeptWritten, NoMemory>
+    ensures { Writes words.now (D.files desk.old) (table_value D.counts D.files D.log desk.new) core.now.opening core.now.journal result }
+{
+    let kept = keep(alloc, words, desk, core)?;
+    let journal = write_text(alloc, words, desk, core)?;
+    Ok(told_of(kept, journal))
+}
+
+/// Takes the answers of all tasks from the journal, and writes the kept file and the journal file.
 pub(crate) fn finish<D: Desk>(
     alloc: Global,
     words: &RunWords,
@@ -59,7 +101,7 @@ pub(crate) fn finish<D: Desk>(
             end: RunEnd::Memory,
         };
     };
-    match keep(alloc, words, desk, core) {
+    match write_both(alloc, words, desk, core) {
         Ok(written) => Finished {
             answers,
             end: RunEnd::Done(written),

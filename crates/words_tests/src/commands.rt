@@ -86,7 +86,7 @@ fn run_said(alloc: Global, run: &RunWords) -> Result<String, NoMemory> {
     let keep = or_none(alloc, &run.keep)?;
     let work = words::quoted(alloc, run.work.view())?;
     let numbers = numbers_said(alloc, run)?;
-    words::joined(
+    let mut said = words::joined(
         alloc,
         &[
             "run",
@@ -96,7 +96,13 @@ fn run_said(alloc: Global, run: &RunWords) -> Result<String, NoMemory> {
             keep.as_str(),
             work.as_str(),
         ],
-    )
+    )?;
+    if let Some(name) = &run.journal {
+        let name = words::quoted(alloc, name.view())?;
+        said.push_str(" journal ")?;
+        said.push_str(name.as_str())?;
+    }
+    Ok(said)
 }
 
 fn numbers_said(alloc: Global, run: &RunWords) -> Result<String, NoMemory> {

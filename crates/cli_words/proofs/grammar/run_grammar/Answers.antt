@@ -9,5 +9,5 @@ and x y z r more known = more ∙ ap (λ a. with_rule a r) known
 
 pub returns : goal.returns
 returns c = IfOk-weaker c.with_value-6.result _ _
-    (λ last starts. and _ _ _ _ starts (and _ _ _ _ c.in_ok-command-8.ensures (and _ _ _ _ c.in_ok-command-7.ensures (and _ _ _ _ c.in_ok-command-6.ensures (and _ _ _ _ c.in_ok-command-5.ensures (and _ _ _ _ c.in_ok-command-4.ensures (and _ _ _ _ c.in_ok-command-3.ensures (and _ _ _ _ c.in_ok-command-2.ensures (and _ _ _ _ c.in_ok-command.ensures c.new-command.ensures.app)))))))))
+    (λ last starts. and _ _ _ _ starts (and _ _ _ _ c.in_ok-command-9.ensures (and _ _ _ _ c.in_ok-command-8.ensures (and _ _ _ _ c.in_ok-command-7.ensures (and _ _ _ _ c.in_ok-command-6.ensures (and _ _ _ _ c.in_ok-command-5.ensures (and _ _ _ _ c.in_ok-command-4.ensures (and _ _ _ _ c.in_ok-command-3.ensures (and _ _ _ _ c.in_ok-command-2.ensures (and _ _ _ _ c.in_ok-command.ensures c.new-command.ensures.app))))))))))
     c.with_value-6.ensures
