@@ -1,4 +1,4 @@
-use Rattle.std.proofs.Common.{◌∙◌, map, ap, refl}
+use Rattle.std.proofs.Common.{map, ap, refl}
 use Rattle.special_cli.specs.Endings.{starts_in}
 use Rattle.child_end.specs.Programs.{programs_value}
 use Rattle.special_cli.proofs.Leaving.{leaves_child, leaves_failed, leaves_unstarted, one_laid}
