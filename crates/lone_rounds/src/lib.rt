@@ -10,3 +10,4 @@ mod zero;
 
 pub use plan::Plan;
 pub use running::run_alone;
+pub use zero::left_answer;

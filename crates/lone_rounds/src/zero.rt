@@ -59,8 +59,8 @@ pub(crate) fn answer_one(core: &mut Core, answer: Answer) -> bool
     }
 }
 
-// How a task is answered that is left when no child can be started any more.
-fn left_answer(journal: &Journal) -> Answer
+/// How a task is answered that is left when no child can be started any more.
+pub fn left_answer(journal: &Journal) -> Answer
     ensures { result ≡ left_answer journal.now.entries }
 {
     if is_starved(journal) {

@@ -85,6 +85,7 @@ begun_child journal c g =
       unasked = askings_from-none (main_entry (Start 1 0 false) ∷ g.more) 1 [] (main_entry (Start 1 0 false) ∷ g.more) (any_none (is_of_greeting c) (asks_for 1) (greeting_asks_none c) g.more g.own);
       jobs = greeting_says_none (job_for 1) no_jobs c g.more g.own;
       tasked = tasked;
+      main = g.main;
     }
 
 pub first_child : (journal : List Entry) (c : ℕ) → Greeted [] journal 0 false c → c ≡ 1
@@ -93,7 +94,7 @@ first_child journal c g = g.next
 -- behind a start that failed
 pub begun_none : (journal : List Entry) → journal ≡ main_entry (NoStart 0) ∷ [] → IsBegun (NoStart 0) journal
 begun_none journal grown =
-    subst (IsBegun (NoStart 0)) (sym grown) record { is_start = inr refl; starts = refl; unclaimed = refl; silent = refl; unasked = refl; jobs = refl; tasked = refl }
+    subst (IsBegun (NoStart 0)) (sym grown) record { is_start = inr refl; starts = refl; unclaimed = refl; silent = refl; unasked = refl; jobs = refl; tasked = refl; main = refl }
 
 -- ---- claims
 

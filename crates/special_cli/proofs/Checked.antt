@@ -23,6 +23,7 @@ use Rattle.journal_model.specs.declared.entry.What.TheVariants.{Start, NoStart}
 use Rattle.journal_model.specs.declared.entry.Entry.{Entry}
 use Rattle.journal_model.specs.declared.opening.Opening.{Opening}
 use Rattle.journal_model.specs.Legality.{Legal}
+use Rattle.journal_model.specs.Shares.{are_by}
 use Rattle.journal_model.proofs.Projecting.{parts_fit}
 use Rattle.special_cli.specs.Openings.{check_opening, info_opening}
 use Rattle.special_cli.specs.Endings.{starts_in, is_for_task, IsAnswered, IsChecked}
@@ -76,6 +77,7 @@ checked clock key stamp o journal clock_is same legal ran =
       parts = parts_fit (check_opening key stamp) journal l;
       once = inl (ap starts_in none);
       tasked = ap (list_all (λ e. is_for_task e.what)) none;
+      main = ap (are_by 0) none;
     }
     go l (inr (answer, (first, run))) = record {
       stamp = stamp;
@@ -84,6 +86,7 @@ checked clock key stamp o journal clock_is same legal ran =
       parts = parts_fit (check_opening key stamp) journal l;
       once = by_start journal first run.is_start run.starts;
       tasked = run.tasked;
+      main = run.main;
     }
 
 pub unstarted : (clock : Option ℕ) (key : List ℕ) (stamp : ℕ) (journal : List Entry) → IfSome clock (λ n. stamp ≡ n) → journal ≡ [] → IsChecked clock key journal

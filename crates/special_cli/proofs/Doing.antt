@@ -1,6 +1,6 @@
 -- From a run that has begun to a task that is done.
 use Rattle.std.proofs.Common.{◌≡◌, ◌⊎◌, ◌<◌, ◌^◌, ℕ, List, [], ◌∷◌, ◌++◌, length, refl, sym, ap, subst, ◌∙◌, append_assoc, arith, Bool, true, false, ◌==◌, cond, Some, None, Option, inl, inr}
-use Rattle.std.specs.Prelude.{◌||◌, nat_lt, filter_map, option_and_then, option_map, is_some}
+use Rattle.std.specs.Prelude.{◌||◌, nat_lt, option_and_then, option_map, is_some}
 use Rattle.std.specs.List.{list_all, list_any, last_or}
 use Rattle.journal_model.specs.declared.verdict.Why.{Why}
 use Rattle.journal_model.specs.declared.verdict.Why.TheVariants.{Closed}
@@ -9,46 +9,42 @@ use Rattle.journal_model.specs.declared.verdict.Verdict.TheVariants.{Failed, Uns
 use Rattle.annex_model.specs.Messages.{HostMessage, Checkpresent, host_line, host_reading, is_sent_key}
 use Rattle.annex_model.proofs.Readings.{canonical_read}
 use Rattle.journal_model.specs.declared.answer.Answer.{Answer}
-use Rattle.journal_model.specs.declared.answer.Answer.TheVariants.{Memory, Unsent as UnsentAnswer, StartFault, NotPrepared, Ended as EndedAnswer}
+use Rattle.journal_model.specs.declared.answer.Answer.TheVariants.{Memory, NoChild, Unsent as UnsentAnswer, StartFault, NotPrepared, Ended as EndedAnswer}
 use Rattle.journal_model.specs.declared.entry.What.{What}
-use Rattle.journal_model.specs.declared.entry.What.TheVariants.{Claim, Start, NoStart, Ask, Lost}
+use Rattle.journal_model.specs.declared.entry.What.TheVariants.{Claim, Start, NoStart, Ask, Lost, Answer as Answered}
 use Rattle.journal_model.specs.declared.entry.Entry.{Entry}
 use Rattle.journal_model.specs.declared.opening.Opening.{Opening}
 use Rattle.journal_model.specs.Output.{answer_in}
 use Rattle.journal_model.specs.Journal.{any, each_of, addressed, asks, starts, is_ended, is_open, is_started, is_tagged, on_wire, open_jobs, asked_jobs, verdict_of, why_of}
-use Rattle.journal_model.specs.Legality.{prepares, holder, is_held_by, is_held_for, is_busy_with, is_claimed_by, has_open_job, job_for, is_greeted, may_work, may_ask, is_prepared, is_done, is_empty}
+use Rattle.journal_model.specs.Legality.{prepares, holder, is_held_by, is_held_for, is_busy_with, is_claimed_by, has_open_job, count, job_for, is_greeted, may_work, may_ask, is_prepared, is_done, is_empty}
 use Rattle.journal_model.proofs.Holding.{holder_append}
 use Rattle.journal_model.proofs.Looks.{both, same, each_of-append, any-append, verdict_of-append}
 use Rattle.journal_model.proofs.Linking.{why_is_end}
 use Rattle.host_core.specs.Steps.{next_job, may_request}
 use Rattle.host_core.proofs.Wiring.{wired_text}
-use Rattle.task_run.specs.TaskRuns.{Asking, askings, came_of, failed_start, ended_answer, refused_at, refusal_of, or_refusal, gone_answer, unready_answer, check_answer, lost_verdict, ChildZero, CheckOver, CheckRun}
+use Rattle.task_run.specs.TaskRuns.{Asking, askings, came_of, failed_start, ended_answer, refused_at, refusal_of, or_refusal, gone_answer, unready_answer, check_answer, lost_verdict, CheckRun}
 use Rattle.task_run.proofs.Askings.{asks_for, askings-unasked, askings-ask, askings-lost}
-use Rattle.journal_model.specs.Shares.{is_closed, by_link}
+use Rattle.journal_model.specs.Shares.{are_by, is_closed, by_link}
 use Rattle.link_roles.specs.Asks.{lost_as}
 use Rattle.link_roles.specs.Alone.{AskedAlone, IsSettled, IsLost}
 use Rattle.std.specs.Option.{option_or}
 use Rattle.std.proofs.lemmas.List.{append-nil}
 use Rattle.child_start.proofs.Jobs.{idle_on, idle_asked}
+use Rattle.child_start.proofs.Requests.{main_both}
 use Rattle.child_start.specs.Greetings.{is_refusal, IsReady, IsRefused, HasEnded, IsUnsent}
 use Rattle.journal_model.specs.Legality.{Legal}
 use Rattle.special_cli.specs.Causes.{HasCause}
 use Rattle.special_cli.proofs.Causing.{cause_grows, cause_of_verdict, cause_of_lost, cause_of_start}
 use Rattle.special_cli.specs.Endings.{start_in, starts_in, is_for_task}
+use Rattle.special_cli.specs.CheckRuns.{RunsOver}
 use Rattle.special_cli.specs.Runs.{main_entry, claim_in, AsksFor, IsBegun, IsDone}
-use Rattle.special_cli.proofs.Looking.{or_true, link_says_none, through, all_both, all_weaken, any_none}
+use Rattle.lone_rounds.specs.Starting.{AreSpent, is_any_start}
+use Rattle.lone_rounds.specs.Rounds.{ZeroAnswers, ZeroRun, ends_for_memory, left_answer, start_untaken}
+use Rattle.special_cli.proofs.Spent.{untaken_now, counts_one, last_came}
+use Rattle.special_cli.proofs.Looking.{or_true, link_says_none, all_both, all_weaken, any_none}
 use Rattle.special_cli.proofs.Beginning.{no_starts, no_claims, no_answers, no_jobs, link_for_task, link_asks_none, first_claim, own_holder}
 
 -- ---- claimed without a child
-
-came_is : (w : What) → came_of 0 w ≡ option_and_then (came_of 0) (start_in w)
-came_is (Start child slot offer) = refl
-came_is (NoStart slot) = refl
-came_is w = refl
-
--- what the one start came to
-pub last_came : (first : What) (journal : List Entry) → starts_in journal ≡ first ∷ [] → last_or None (each_of (came_of 0) journal) ≡ last_or None (filter_map (came_of 0) (first ∷ []))
-last_came first journal h = ap (last_or None) (through (came_of 0) start_in (came_of 0) came_is journal ∙ ap (filter_map (came_of 0)) h)
 
 module _ (key : List ℕ) (first : What) (past journal : List Entry) (answer : Answer) (begun : IsBegun first past) where
   abbrev claim : Entry
@@ -57,14 +53,18 @@ module _ (key : List ℕ) (first : What) (past journal : List Entry) (answer : A
   alone : has_open_job past 1 ≡ false
   alone = ap (list_any (λ (q : ℕ × ℕ). is_open past q.0 q.1)) begun.jobs
 
-  -- the answer is free, or the start's
-  pub done_alone : journal ≡ past ++ claim ∷ [] → (answer ≡ Memory) ⊎ (failed_start past (last_or None (each_of (came_of 0) past)) ≡ Some answer) → IsDone key first journal answer
-  done_alone grown why =
+  -- this is the answer of such a task
+  pub done_alone : journal ≡ past ++ claim ∷ [] → ZeroAnswers 1 past (failed_start past (start_untaken past)) answer → HasCause past answer → IsDone key first journal answer
+  done_alone grown answers because =
       let all : List Entry = past ++ claim ∷ [] in
+      let answered : Entry = main_entry (Answered 1 answer) in
+      let given : List Entry = all ++ answered ∷ [] in
       let claimed : each_of claim_in all ≡ (1, 0) ∷ [] = each_of-append claim_in past (claim ∷ []) ∙ ap (λ (xs : List (ℕ × ℕ)). xs ++ (1, 0) ∷ []) begun.unclaimed in
+      let claimed_still : each_of claim_in given ≡ (1, 0) ∷ [] = each_of-append claim_in all (answered ∷ []) ∙ ap (λ (xs : List (ℕ × ℕ)). xs ++ []) claimed in
       let jobs : each_of (job_for 1) all ≡ [] = each_of-append (job_for 1) past (claim ∷ []) ∙ ap (λ (xs : List (ℕ × ℕ)). xs ++ []) begun.jobs in
-      let unasked : askings all 1 ≡ [] = askings-unasked past (claim ∷ []) 1 alone refl ∙ begun.unasked in
-      let zero_run : (answer ≡ Memory) ⊎ ChildZero all 1 answer = by_why why in
+      let closed : has_open_job all 1 ≡ false = ap (list_any (λ (q : ℕ × ℕ). is_open all q.0 q.1)) jobs in
+      let unasked : askings given 1 ≡ [] = askings-unasked all (answered ∷ []) 1 closed refl ∙ askings-unasked past (claim ∷ []) 1 alone refl ∙ begun.unasked in
+      let zero_run : ZeroRun 1 given 1 answer = record { past = past; rest = []; is = append_assoc past (claim ∷ []) (answered ∷ []); answers = answers } in
       subst (λ (j : List Entry). IsDone key first j answer) (sym grown) record {
         is_start = begun.is_start;
         starts = each_of-append start_in past (claim ∷ []) ∙ ap (λ (xs : List What). xs ++ []) begun.starts;
@@ -72,19 +72,29 @@ module _ (key : List ℕ) (first : What) (past journal : List Entry) (answer : A
         claims = claimed;
         own = ap (is_held_by 0) (holder_append past (claim ∷ []) 1);
         silent = each_of-append answer_in past (claim ∷ []) ∙ ap (λ (xs : List (ℕ × Answer)). xs ++ []) begun.silent;
-        idle = ap (list_any (λ (q : ℕ × ℕ). is_open all q.0 q.1)) jobs;
-        run = subst (CheckOver key all 1 answer) (sym (first_claim all 0 claimed)) (unasked, zero_run);
-        cause = cause_grows past (claim ∷ []) answer (by_cause why);
+        idle = closed;
+        run = subst (RunsOver key given answer) (sym (first_claim given 0 claimed_still)) (unasked, zero_run);
+        cause = cause_grows past (claim ∷ []) answer because;
         tasked = all_both is_for_task past (claim ∷ []) begun.tasked refl;
+        main = main_both 0 past (claim ∷ []) begun.main refl;
       }
-    where
-      by_cause : (answer ≡ Memory) ⊎ (failed_start past (last_or None (each_of (came_of 0) past)) ≡ Some answer) → HasCause past answer
-      by_cause (inl e) = subst (HasCause past) (sym e) tt
-      by_cause (inr e) = cause_of_start first past answer begun.is_start begun.starts (last_came first past begun.starts) e
 
-      by_why : (answer ≡ Memory) ⊎ (failed_start past (last_or None (each_of (came_of 0) past)) ≡ Some answer) → (answer ≡ Memory) ⊎ ChildZero (past ++ claim ∷ []) 1 answer
-      by_why (inl e) = inl e
-      by_why (inr e) = inr record { past = past; rest = []; by = 0; claim = refl; why = e }
+  -- it is what the start came to
+  pub done_failed : journal ≡ past ++ claim ∷ [] → failed_start past (last_or None (each_of (came_of 0) past)) ≡ Some answer → IsDone key first journal answer
+  done_failed grown why =
+      let said : failed_start past (start_untaken past) ≡ Some answer = ap (failed_start past) (untaken_now first past begun) ∙ why in
+      done_alone grown (subst (λ (x : Option Answer). ZeroAnswers 1 past x answer) (sym said) refl)
+      (cause_of_start first past answer begun.is_start begun.starts (last_came first past begun.starts) why)
+
+  -- the start gave a child that got ready and is spent
+  pub done_left : journal ≡ past ++ claim ∷ [] → failed_start past (start_untaken past) ≡ None → AreSpent past → answer ≡ left_answer past → IsDone key first journal answer
+  done_left grown ready spent is =
+      let one : count is_any_start past ≡ 1 = counts_one first past begun in
+      done_alone grown (subst (λ (x : Option Answer). ZeroAnswers 1 past x answer) (sym ready) (one, spent, is)) (subst (HasCause past) (sym is) (by_end (any ends_for_memory past)))
+    where
+      by_end : (b : Bool) → HasCause past (cond b Memory NoChild)
+      by_end true = tt
+      by_end false = tt
 
 kept_answer : (why : Why) → is_closed why ≡ false → ended_answer (Some why) ≡ Some (EndedAnswer why)
 kept_answer Closed h = absurd cc
@@ -203,12 +213,16 @@ module _ (o : Opening) (first : What) (past : List Entry) (c : ℕ) (begun : IsB
     Later more answer =
         (each_of start_in more ≡ []) × (each_of claim_in more ≡ []) × (each_of answer_in more ≡ [])
         × (has_open_job (claimed ++ more) 1 ≡ false) × (list_all (λ (e : Entry). is_for_task e.what) more ≡ true)
-        × CheckRun key (askings (claimed ++ more) 1) answer × HasCause (claimed ++ more) answer
+        × CheckRun key (askings (claimed ++ more) 1) answer × HasCause (claimed ++ more) answer × (are_by 0 more ≡ true)
 
     done_later : (more : List Entry) (answer : Answer) → Later more answer → IsDone key first (claimed ++ more) answer
     done_later more answer h =
         let whole : claimed ++ more ≡ past ++ main_entry (Claim 1 c) ∷ more = append_assoc past (main_entry (Claim 1 c) ∷ []) more in
         let all : each_of claim_in (claimed ++ more) ≡ (1, c) ∷ [] = each_of-append claim_in claimed more ∙ (rw (task, h.1) refl) in
+        let answered : List Entry = main_entry (Answered 1 answer) ∷ [] in
+        let given : List Entry = (claimed ++ more) ++ answered in
+        let still : each_of claim_in given ≡ (1, c) ∷ [] = each_of-append claim_in (claimed ++ more) answered ∙ ap (λ (xs : List (ℕ × ℕ)). xs ++ []) all in
+        let run : CheckRun key (askings given 1) answer = subst (λ (xs : List Asking). CheckRun key xs answer) (sym (askings-unasked (claimed ++ more) answered 1 h.3 refl)) h.5 in
         record {
           is_start = begun.is_start;
           starts = each_of-append start_in claimed more ∙ ap (λ (xs : List What). xs ++ each_of start_in more) (each_of-append start_in past (main_entry (Claim 1 c) ∷ [])) ∙ (rw (begun.starts, h.0) refl);
@@ -217,8 +231,9 @@ module _ (o : Opening) (first : What) (past : List Entry) (c : ℕ) (begun : IsB
           own = ap (is_held_by 0) (own_holder past c more h.1 h.2);
           silent = each_of-append answer_in claimed more ∙ ap (λ (xs : List (ℕ × Answer)). xs ++ each_of answer_in more) (each_of-append answer_in past (main_entry (Claim 1 c) ∷ [])) ∙ (rw (begun.silent, h.2) refl);
           idle = h.3;
-          run = subst (CheckOver key (claimed ++ more) 1 answer) (sym (first_claim (claimed ++ more) c all)) (subst (λ (k : ℕ). CheckOver key (claimed ++ more) 1 answer (Some k)) (sym one) h.5);
+          run = subst (RunsOver key given answer) (sym (first_claim given c still)) (subst (λ (k : ℕ). RunsOver key given answer (Some k)) (sym one) run);
           cause = h.6;
+          main = main_both 0 claimed more (main_both 0 past (main_entry (Claim 1 c) ∷ []) begun.main refl) h.7;
           tasked = all_both is_for_task claimed more (all_both is_for_task past (main_entry (Claim 1 c) ∷ []) begun.tasked refl) h.4;
         }
 
@@ -235,6 +250,7 @@ module _ (o : Opening) (first : What) (past : List Entry) (c : ℕ) (begun : IsB
           refl,
           subst (λ (xs : List Asking). CheckRun key xs Memory) (sym (ap (λ (j : List Entry). askings j 1) still ∙ unasked)) refl,
           tt,
+          refl,
         ))
 
     small : next_job claimed c < 2 ^ 64
@@ -275,6 +291,7 @@ module _ (o : Opening) (first : What) (past : List Entry) (c : ℕ) (begun : IsB
           tasked,
           subst (λ (xs : List Asking). CheckRun key xs answer) (sym pairs) run,
           subst (λ (j : List Entry). HasCause j answer) grown (cause_of_verdict o'' journal c (next_job claimed c) verdict answer legal s.settled says),
+          s.goes.own,
         ))
 
     lost_fits : (why : Option Why) (answer : Answer) → check_answer (lost_as why) ≡ Some answer → CheckRun key (record { request = None; verdict = lost_verdict why } ∷ []) answer
@@ -298,6 +315,7 @@ module _ (o : Opening) (first : What) (past : List Entry) (c : ℕ) (begun : IsB
           refl,
           subst (λ (xs : List Asking). CheckRun key xs answer) (sym pairs) (lost_fits (why_of claimed c) answer (ap check_answer (sym l.lost) ∙ says)),
           cause_grows claimed more answer (cause_of_lost claimed c answer l.gone (why_of claimed c) refl (ap check_answer (sym l.lost) ∙ says)),
+          refl,
         ))
 
     pub done_asked : (o' o'' : Opening) (journal : List Entry) (verdict : Verdict) (answer : Answer) → is_sent_key key ≡ true → open_jobs journal c ≡ [] → Legal o'' journal

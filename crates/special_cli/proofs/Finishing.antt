@@ -1,10 +1,9 @@
 -- From a task that is done to the end of the run.
-use Rattle.std.proofs.Common.{◌≡◌, ◌⊎◌, ℕ, zero, suc, List, [], ◌∷◌, ◌++◌, refl, sym, ap, subst, ◌∙◌, append_assoc, Bool, true, false, ◌==◌, cond, Some, None, Option, inl, inr}
+use Rattle.std.proofs.Common.{◌≡◌, ℕ, zero, suc, List, [], ◌∷◌, ◌++◌, refl, sym, ap, subst, ◌∙◌, append_assoc, Bool, true, false, ◌==◌, cond, Some, None, Option}
 use Rattle.std.specs.Prelude.{◌||◌, filter_map, option_and_then}
 use Rattle.std.specs.List.{list_all, list_any, cons_option}
 use Rattle.journal_model.specs.declared.verdict.Why.TheVariants.{Closed}
 use Rattle.journal_model.specs.declared.answer.Answer.{Answer}
-use Rattle.journal_model.specs.declared.answer.Answer.TheVariants.{Memory}
 use Rattle.journal_model.specs.declared.entry.What.{What}
 use Rattle.journal_model.specs.declared.entry.What.TheVariants.{Claim, End, Answer as Answered}
 use Rattle.journal_model.specs.declared.entry.Entry.{Entry}
@@ -16,7 +15,9 @@ use Rattle.journal_model.proofs.Holding.{holder_append}
 use Rattle.journal_model.proofs.Looks.{same, each_of-append, any-append}
 use Rattle.journal_model.proofs.Heard.{heard_on}
 use Rattle.host_core.specs.Steps.{may_answer}
-use Rattle.task_run.specs.TaskRuns.{Asking, ChildZero, CheckOver, CheckRun}
+use Rattle.journal_model.specs.Shares.{are_by}
+use Rattle.journal_model.proofs.Working.{jobs_stay_closed}
+use Rattle.task_run.specs.TaskRuns.{Asking, CheckRun}
 use Rattle.task_run.proofs.Askings.{asks_for, askings-unasked}
 use Rattle.journal_model.specs.Halves.{EarValue, MouthValue, LinkWired}
 use Rattle.journal_model.proofs.Ears.{ear_apart}
@@ -24,6 +25,9 @@ use Rattle.journal_model.proofs.Mouths.{mouth_apart}
 use Rattle.link_roles.specs.Alone.{Closes}
 use Rattle.child_start.specs.Greetings.{Greeted}
 use Rattle.child_start.proofs.Jobs.{idle_on}
+use Rattle.child_start.proofs.Requests.{main_both}
+use Rattle.lone_rounds.specs.Rounds.{ZeroRun}
+use Rattle.special_cli.specs.CheckRuns.{RunsOver}
 use Rattle.special_cli.specs.Endings.{start_in, is_for_task, closing}
 use Rattle.special_cli.specs.Runs.{main_entry, claim_in, IsDone, IsRun}
 use Rattle.special_cli.proofs.Causing.{cause_grows}
@@ -71,18 +75,17 @@ module _ (key : List ℕ) (first : What) (past journal : List Entry) (answer : A
 -- ---- the run is over
 
 over_grows : (key : List ℕ) (past more : List Entry) (answer : Answer) (child : ℕ) → has_open_job past 1 ≡ false → any (asks_for 1) more ≡ false
-    → CheckOver key past 1 answer (Some child) → CheckOver key (past ++ more) 1 answer (Some child)
-over_grows key past more answer zero idle none h = (askings-unasked past more 1 idle none ∙ h.0, go h.1)
-  where
-    go : (answer ≡ Memory) ⊎ ChildZero past 1 answer → (answer ≡ Memory) ⊎ ChildZero (past ++ more) 1 answer
-    go (inl e) = inl e
-    go (inr z) = inr record {
-      past = z.past;
-      rest = z.rest ++ more;
-      by = z.by;
-      claim = ap (λ (j : List Entry). j ++ more) z.claim ∙ append_assoc z.past (record { by = z.by; what = Claim 1 0 } ∷ z.rest) more;
-      why = z.why;
-    }
+    → RunsOver key past answer (Some child) → RunsOver key (past ++ more) answer (Some child)
+over_grows key past more answer zero idle none h =
+    let z : ZeroRun 1 past 1 answer = h.1 in (
+      askings-unasked past more 1 idle none ∙ h.0,
+      record {
+        past = z.past;
+        rest = z.rest ++ more;
+        is = ap (λ (j : List Entry). j ++ more) z.is ∙ append_assoc z.past (main_entry (Claim 1 0) ∷ main_entry (Answered 1 answer) ∷ z.rest) more;
+        answers = z.answers;
+      },
+    )
 over_grows key past more answer (suc child) idle none h = subst (λ (xs : List Asking). CheckRun key xs answer) (sym (askings-unasked past more 1 idle none)) h
 
 -- the closing asks, claims, starts and answers nothing
@@ -92,13 +95,14 @@ record IsQuiet (more : List Entry) : Type 0 where
   starts : each_of start_in more ≡ []
   answers : each_of answer_in more ≡ []
   tasked : list_all (λ (e : Entry). is_for_task e.what) more ≡ true
+  main : are_by 0 more ≡ true
 
 closing_quiet : (past : List Entry) → IsQuiet (closing past)
 closing_quiet past = go (is_live past 1)
   where
     go : (b : Bool) → IsQuiet (cond b (main_entry (End 1 Closed) ∷ []) [])
-    go true = record { unasked = refl; claims = refl; starts = refl; answers = refl; tasked = refl }
-    go false = record { unasked = refl; claims = refl; starts = refl; answers = refl; tasked = refl }
+    go true = record { unasked = refl; claims = refl; starts = refl; answers = refl; tasked = refl; main = refl }
+    go false = record { unasked = refl; claims = refl; starts = refl; answers = refl; tasked = refl; main = refl }
 
 -- behind the answer stands the closing
 pub run_done : (key : List ℕ) (first : What) (past journal : List Entry) (answer : Answer) → IsDone key first past answer
@@ -108,17 +112,22 @@ run_done key first past journal answer d grown =
     let q : IsQuiet more = closing_quiet past in
     let rest : List Entry = main_entry (Answered 1 answer) ∷ more in
     let claims : each_of claim_in (past ++ rest) ≡ (1, d.child) ∷ [] = each_of-append claim_in past rest ∙ (rw (d.claims, q.claims) refl) in
-    let before : CheckOver key past 1 answer (Some d.child) = subst (CheckOver key past 1 answer) (first_claim past d.child d.claims) d.run in
-    let after : CheckOver key (past ++ rest) 1 answer (Some d.child) = over_grows key past rest answer d.child d.idle q.unasked before in
+    let answered : List Entry = main_entry (Answered 1 answer) ∷ [] in
+    let given : List Entry = past ++ answered in
+    let claims_given : each_of claim_in given ≡ (1, d.child) ∷ [] = each_of-append claim_in past answered ∙ ap (λ (xs : List (ℕ × ℕ)). xs ++ []) d.claims in
+    let before : RunsOver key given answer (Some d.child) = subst (RunsOver key given answer) (first_claim given d.child claims_given) d.run in
+    let grows : RunsOver key (given ++ more) answer (Some d.child) = over_grows key given more answer d.child (jobs_stay_closed past answered 1 refl d.idle) q.unasked before in
+    let after : RunsOver key (past ++ rest) answer (Some d.child) = subst (λ (j : List Entry). RunsOver key j answer (Some d.child)) (append_assoc past answered more) grows in
     subst (λ (j : List Entry). IsRun key first j answer) (sym grown) record {
       is_start = d.is_start;
       starts = each_of-append start_in past rest ∙ (rw (d.starts, q.starts) refl);
       claims = (d.child, claims);
       given = each_of-append answer_in past rest ∙ (rw (d.silent, q.answers) refl);
-      run = subst (CheckOver key (past ++ rest) 1 answer) (sym (first_claim (past ++ rest) d.child claims)) after;
+      run = subst (RunsOver key (past ++ rest) answer) (sym (first_claim (past ++ rest) d.child claims)) after;
       cause = cause_grows past rest answer d.cause;
       closed = (past, refl);
       tasked = all_both is_for_task past rest d.tasked q.tasked;
+      main = main_both 0 past rest d.main q.main;
     }
 
 -- the one child is closed behind the answer

@@ -14,4 +14,5 @@ pub mod Talking
 pub mod Alone
 pub mod Keeping
 pub mod Settling
+pub mod Spent
 pub mod Written

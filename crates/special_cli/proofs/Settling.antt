@@ -17,11 +17,12 @@ use Rattle.journal_model.specs.Legality.{is_done, is_busy_with, has_busy_task, m
 use Rattle.journal_model.proofs.Looks.{both, same, any-append, each_of-append, verdict_of-append}
 use Rattle.journal_model.proofs.Linking.{why_of-append, why_is_end}
 use Rattle.journal_look.specs.Looks.{is_no_start}
-use Rattle.journal_model.specs.Shares.{is_closed}
+use Rattle.journal_model.specs.Shares.{are_by, is_closed}
 use Rattle.link_roles.specs.Alone.{Closes}
 use Rattle.child_start.specs.declared.greeting.Mode.TheVariants.{Init}
 use Rattle.child_start.specs.Greetings.{GreetedFor, IsSetUp, IsRefused, HasEnded, IsUnsent, is_of_greeting_for, is_refusal}
 use Rattle.child_start.proofs.Jobs.{idle_on}
+use Rattle.child_start.proofs.Requests.{main_both}
 use Rattle.init_run.specs.declared.setup.Setup.{Setup}
 use Rattle.init_run.specs.declared.setup.Setup.TheVariants.{Initialized, Stopped}
 use Rattle.init_run.specs.Setups.{setup_for, mute_outcome, gone_outcome, verdict_outcome, outcome_of}
@@ -121,6 +122,7 @@ module _ (old journal : List Entry) (c : ℕ) (none : old ≡ []) (greeted : Gre
       subst (λ (k : ℕ). verdict_outcome (verdict_of journal k 1) (why_of journal k) (is_mute journal k) ≡ Some setup) one said in
       let there : is_started journal 1 ≡ true = subst (λ (k : ℕ). is_started journal k ≡ true) one begun in
       record {
+        main = ap (are_by 0) g.grown ∙ g.main;
         first = one;
         started = begun;
         starts = started_once;
@@ -205,6 +207,10 @@ module _ (past journal : List Entry) (c : ℕ) (setup : Setup) (t : IsTalked pas
   grown : journal ≡ past ++ closing_of (is_ended past 1) 1
   grown = closed_so 1 past journal (subst (λ (x : ℕ). Closes 0 x past journal) t.first closes)
 
+  main_closing : (b : Bool) → are_by 0 (closing_of b 1) ≡ true
+  main_closing true = refl
+  main_closing false = refl
+
   own_closing : (b : Bool) → list_all (λ (e : Entry). is_of_setup e.what) (closing_of b 1) ≡ true
   own_closing true = refl
   own_closing false = refl
@@ -219,6 +225,7 @@ module _ (past journal : List Entry) (c : ℕ) (setup : Setup) (t : IsTalked pas
       let own : list_all (λ (e : Entry). is_of_setup e.what) (past ++ closing_of (is_ended past 1) 1) ≡ true =
       list_all-append (λ (e : Entry). is_of_setup e.what) past (closing_of (is_ended past 1) 1) ∙ (rw (t.own, own_closing (is_ended past 1)) refl) in
       record {
+        main = ap (are_by 0) grown ∙ main_both 0 past (closing_of (is_ended past 1) 1) t.main (main_closing (is_ended past 1));
         once = inr (inl closed_starts);
         own = ap (list_all (λ (e : Entry). is_of_setup e.what)) grown ∙ own;
         settled = ap (λ (j : List Entry). open_jobs j 1) grown ∙ idle_on past (closing_of (is_ended past 1) 1) 1 still.jobs idle;
@@ -235,10 +242,10 @@ module _ (past journal : List Entry) (c : ℕ) (setup : Setup) (t : IsTalked pas
 -- ---- no child
 
 pub unstarted_setup : (journal : List Entry) → journal ≡ main_entry (NoStart 0) ∷ [] → IsSetup journal
-unstarted_setup journal e = subst IsSetup (sym e) record { once = inr (inr refl); own = refl; settled = refl; ended = refl }
+unstarted_setup journal e = subst IsSetup (sym e) record { main = refl; once = inr (inr refl); own = refl; settled = refl; ended = refl }
 
 pub unstarted_outcome : (journal : List Entry) → journal ≡ main_entry (NoStart 0) ∷ [] → outcome_of journal ≡ Some (Stopped answer.StartFault)
 unstarted_outcome journal e = ap outcome_of e
 
 pub nothing_setup : (journal : List Entry) → journal ≡ [] → IsSetup journal
-nothing_setup journal e = subst IsSetup (sym e) record { once = inl refl; own = refl; settled = refl; ended = refl }
+nothing_setup journal e = subst IsSetup (sym e) record { main = refl; once = inl refl; own = refl; settled = refl; ended = refl }

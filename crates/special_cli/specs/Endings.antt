@@ -14,7 +14,8 @@ use Rattle.journal_model.specs.Journal.{each_of, is_live}
 use Rattle.journal_model.specs.Due.{replies_at}
 use Rattle.journal_model.specs.Legality.{Legal}
 use Rattle.journal_model.specs.Projection.{JobFits}
-use Rattle.task_run.specs.TaskRuns.{CheckTask}
+use Rattle.journal_model.specs.Shares.{are_by}
+use Rattle.special_cli.specs.CheckRuns.{IsCheckRun}
 use Rattle.special_cli.specs.Causes.{HasCause}
 use Rattle.cli_words.specs.declared.command.Command.{Command}
 use Rattle.cli_words.specs.declared.command.Command.TheVariants.{Check, Info, Init, Run}
@@ -75,7 +76,8 @@ is_for_task (Ask child job task line) = nat_lt job 2 || not (task == 0)
 is_for_task _ = true
 
 -- From the opening that the words and the clock give, where it tells, the journal is legal, and each job's part fits. There is
--- one start at most, in slot 0, and ASYNC is not offered; requests behind the greeting are the task's.
+-- one start at most, in slot 0, and ASYNC is not offered; requests behind the greeting are the task's. All entries are the main
+-- thread's.
 pub record IsChecked (told : Option ℕ) (key : List ℕ) (journal : List Entry) : Type 0 where
   pub stamp : ℕ
   pub clock : IfSome told (λ n. stamp ≡ n)
@@ -83,6 +85,7 @@ pub record IsChecked (told : Option ℕ) (key : List ℕ) (journal : List Entry)
   pub parts : (c j : ℕ) → JobFits (replies_at (check_opening key stamp) journal) journal c j
   pub once : (starts_in journal ≡ []) ⊎ (starts_in journal ≡ Start 1 0 false ∷ []) ⊎ (starts_in journal ≡ NoStart 0 ∷ [])
   pub tasked : list_all (λ e. is_for_task e.what) journal ≡ true
+  pub main : are_by 0 journal ≡ true
 
 -- ---- the answer
 
@@ -111,7 +114,7 @@ IsClosed journal answer = (past : List Entry) × (journal ≡ past ++ record { b
 pub record IsAnswered (key : List ℕ) (journal : List Entry) (answers : List Answer) (answer : Answer) : Type 0 where
   pub one : answers ≡ answer ∷ []
   pub given : answers_in journal ≡ (1, answer) ∷ []
-  pub run : CheckTask key journal 1 answer
+  pub run : IsCheckRun key journal answer
   pub cause : HasCause journal answer
   pub closed : IsClosed journal answer
 

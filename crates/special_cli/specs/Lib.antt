@@ -1,5 +1,6 @@
 pub mod Calls
 pub mod Causes
+pub mod CheckRuns
 pub mod Commands
 pub mod Doings
 pub mod Endings

@@ -1,9 +1,11 @@
--- The wire of a worked check, and an info that asks nothing.
+-- The wire of a worked check, checks without a child, and an info that asks nothing.
 use Rattle.std.specs.Prelude.{List, [], ◌∷◌, ◌++◌, Some, codes, false}
 use Rattle.annex_model.specs.Lines.{text}
 use Rattle.journal_model.specs.Journal.{got_lines}
+use Rattle.journal_model.specs.declared.answer.Answer.TheVariants.{Memory, NoChild}
+use Rattle.journal_model.specs.declared.entry.What.TheVariants.{Claim, Mute, Answer as Answered}
 use Rattle.journal_model.specs.declared.entry.Entry.{Entry}
-use Rattle.journal_model.specs.Rows.{sample_key, greeting, closed, check_present}
+use Rattle.journal_model.specs.Rows.{sample_key, by_main, greeting, closed, check_present}
 use Rattle.child_end.specs.Wires.{WireValue}
 use Rattle.child_end.specs.Wires.{AreWires, came}
 
@@ -27,6 +29,14 @@ present_wire = record {
 -- the wires of that check, where the programs had been asked for nothing before
 abbrev pub HasWires : List WireValue → Type 0
 HasWires wires = AreWires (Some []) check_present 0 (came check_present) wires
+
+-- the child got ready and became mute, and the task was answered without it
+abbrev pub gone_early : List Entry
+gone_early = greeting ++ by_main (Mute 1) ∷ by_main (Claim 1 0) ∷ by_main (Answered 1 NoChild) ∷ closed ∷ []
+
+-- nothing was started, and the task was answered
+abbrev pub unstarted : List Entry
+unstarted = by_main (Claim 1 0) ∷ by_main (Answered 1 Memory) ∷ []
 
 -- the child got ready, and was closed before it was asked about itself
 abbrev pub unasked : List Entry

@@ -19,6 +19,7 @@ use Rattle.journal_model.specs.Journal.{is_live, is_started, open_jobs}
 use Rattle.journal_model.specs.Due.{replies_at}
 use Rattle.journal_model.specs.Legality.{Legal}
 use Rattle.journal_model.specs.Projection.{JobFits}
+use Rattle.journal_model.specs.Shares.{are_by}
 use Rattle.host_core.specs.Settings.{registers_after}
 use Rattle.child_start.specs.declared.greeting.Mode.TheVariants.{Init}
 use Rattle.child_start.specs.Greetings.{is_of_greeting_for}
@@ -48,8 +49,10 @@ is_of_setup (End child why) = true
 is_of_setup w = is_of_greeting_for Init 1 w
 
 -- There is one start at most, in slot 0, and ASYNC is not offered. The child was asked EXTENSIONS and then INITREMOTE, as far as
--- it came, and nothing else; no job of it is open, and it has ended. No task is claimed or answered.
+-- it came, and nothing else; no job of it is open, and it has ended. No task is claimed or answered. All entries are the main
+-- thread's.
 pub record IsSetup (journal : List Entry) : Type 0 where
+  pub main : are_by 0 journal ≡ true
   pub once : (starts_in journal ≡ []) ⊎ (starts_in journal ≡ Start 1 0 false ∷ []) ⊎ (starts_in journal ≡ NoStart 0 ∷ [])
   pub own : list_all (λ e. is_of_setup e.what) journal ≡ true
   pub settled : open_jobs journal 1 ≡ []
@@ -129,6 +132,7 @@ EndsKeep words told told' counts o journal end = ⊥
 
 -- the child is the first, its jobs are settled, and it comes to this
 pub record IsTalked (journal : List Entry) (c : ℕ) (setup : Setup) : Type 0 where
+  pub main : are_by 0 journal ≡ true
   pub first : c ≡ 1
   pub started : is_started journal c ≡ true
   pub starts : starts_in journal ≡ Start 1 0 false ∷ []

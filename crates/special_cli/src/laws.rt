@@ -2,13 +2,13 @@
 ghost use Rattle.std.specs.Prelude.{ℕ, ◌≡◌, ◌++◌, List, [], ◌∷◌, Option, Some, None, codes, true, false};
 ghost use Rattle.journal_model.specs.declared.verdict.Why.TheVariants.{Error};
 ghost use Rattle.journal_model.specs.declared.answer.Answer.{Answer};
-ghost use Rattle.journal_model.specs.declared.answer.Answer.TheVariants.{Present, Absent, Unknown, NotPrepared, Ended};
+ghost use Rattle.journal_model.specs.declared.answer.Answer.TheVariants.{Present, Absent, Unknown, NotPrepared, Ended, NoChild};
 ghost use Rattle.journal_model.specs.declared.entry.What.TheVariants.{Got};
 ghost use Rattle.journal_model.specs.Wires.{is_heard_in_turn};
 ghost use Rattle.journal_model.specs.Rows.{sample_key, by_main, greeting, check_present, not_closed, no_disk, away, out_of_disk};
 ghost use Rattle.special_cli.specs.Endings.{IsTold, LacksMemory};
 ghost use Rattle.child_end.specs.Programs.{HaveStarted};
-ghost use Rattle.special_cli.specs.Rows.{present_wire, HasWires};
+ghost use Rattle.special_cli.specs.Rows.{gone_early, unstarted, present_wire, HasWires};
 
 /// A check that found its key is told by its one answer, whole, or cut off where a write failed; by no other answer and with no
 /// other status, and neither where nothing was started nor where the child was not closed.
@@ -38,6 +38,13 @@ pub fn unknown_is_told()
 pub fn error_is_told()
     ensures told { IsTold 1 ⊥ (Some []) (Some (codes "1 ended error out of disk" ++ 10 ∷ [])) sample_key out_of_disk (Ended (Error 13) ∷ []) }
     ensures alone { (status : ℕ) (out : Option (List ℕ)) (answer : Answer) → IsTold status ⊥ (Some []) out sample_key out_of_disk (answer ∷ []) → answer ≡ Ended (Error 13) }
+{}
+
+/// A check whose child got ready, and became mute before the task was claimed for it, is told by `nochild`. One that starts
+/// nothing is told by no answer.
+pub fn nochild_is_told()
+    ensures told { IsTold 1 ⊥ (Some []) (Some (codes "1 nochild" ++ 10 ∷ [])) sample_key gone_early (NoChild ∷ []) }
+    ensures unstarted { (status : ℕ) (out : Option (List ℕ)) (answer : Answer) → IsTold status ⊥ (Some []) out sample_key unstarted (answer ∷ []) → ⊥ }
 {}
 
 /// The wire of that first check has what the child said and what it was asked. There is one, with the halves of the first start.

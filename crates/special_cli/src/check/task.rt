@@ -6,7 +6,7 @@ ghost use Rattle.journal_model.specs.declared.entry.What.{What};
 ghost use Rattle.journal_model.specs.Journal.{is_started, open_jobs};
 ghost use Rattle.journal_model.specs.Legality.{Legal, least_free, is_prepared};
 ghost use Rattle.journal_model.specs.Projection.{IsNamed};
-ghost use Rattle.host_core.specs.Steps.{may_answer, may_request};
+ghost use Rattle.host_core.specs.Steps.{is_gone, may_answer, may_request};
 ghost use Rattle.journal_model.specs.Halves.{LinkWired};
 ghost use Rattle.link_roles.specs.Alone.{AskedAlone, KeepsLink};
 ghost use Rattle.child_start.specs.Cores.{IsSameCore};
@@ -19,6 +19,7 @@ use child_end::close_child;
 use host_core::{Core, Event, Reply};
 use journal_model::{Answer, Verdict};
 use link_roles::{Lone, OwnDoor};
+use lone_rounds::left_answer;
 use talk_serial::Request;
 use task_run::check_answer;
 
@@ -38,6 +39,7 @@ fn claim(core: &mut Core, child: u32) -> bool
     requires ready { (is_started core.old.journal child ≡ true) × (is_prepared core.old.journal child ≡ true) }
     requires number { child ≡ 1 }
     ensures claimed { core.new.journal ≡ (if result then core.old.journal ++ main_entry (Claim 1 child) ∷ [] else core.old.journal) }
+    ensures gone { result ≡ false → is_gone core.old.journal child ≡ true }
     ensures opening { core.new.opening ≡ core.old.opening }
     ensures legal { Legal core.new.opening core.new.journal }
 {
@@ -91,8 +93,8 @@ fn answer_of<I: Sink, O: Source>(link: &mut Lone<I, O>, core: &mut Core, key: Ke
     }
 }
 
-// The task is done over a child that is ready: claimed for it, and asked. A child that is gone although it got ready was ended
-// for want of memory.
+// The task is done over a child that is ready: claimed for it, and asked. Where the child is gone although it got ready, no child
+// is left for the task.
 fn do_task<I: Sink, O: Source>(link: &mut Lone<I, O>, core: &mut Core, key: Key) -> Answer
     requires one { HasOneTask core.old.opening }
     requires key { is_sent_key key ≡ true }
@@ -108,8 +110,9 @@ fn do_task<I: Sink, O: Source>(link: &mut Lone<I, O>, core: &mut Core, key: Key)
     if claim(core, child) {
         answer_of(link, core, key)
     } else {
+        let answer = left_answer(core.journal());
         claim_alone(core);
-        Answer::Memory
+        answer
     }
 }
 

@@ -1,10 +1,10 @@
-use Rattle.std.proofs.Common.{◌≡◌, ◌++◌, List, [], ◌∷◌, refl, sym, inl, inr}
+use Rattle.std.proofs.Common.{◌≡◌, ◌++◌, List, [], ◌∷◌, refl, sym, inl}
 use Rattle.std.specs.Prelude.{codes}
 use Rattle.std.specs.Fmt.{digits}
 use Rattle.journal_model.specs.declared.verdict.Verdict.TheVariants.{Failed}
 use Rattle.journal_model.specs.declared.answer.Answer.TheVariants.{NotPrepared}
 use Rattle.journal_model.specs.declared.entry.Entry.{Entry}
-use Rattle.journal_model.specs.declared.entry.What.TheVariants.{Claim, Got, Verdict as Settled, Answer as Answered}
+use Rattle.journal_model.specs.declared.entry.What.TheVariants.{Claim, Got, Verdict as Settled}
 use Rattle.journal_model.specs.Output.{answer_line}
 use Rattle.journal_model.specs.Rows.{sample_key, by_main, introduced, closed, no_disk}
 use Rattle.special_cli.proofs.Alone.{told_alone}
@@ -21,7 +21,7 @@ abbrev before : List Entry
 before = refused ++ by_main (Claim 1 0) ∷ []
 
 pub returns-clause-told : goal.returns-clause-told
-returns-clause-told c = inl (NotPrepared 8, record { one = refl; given = refl; run = (refl, inr record { past = refused; rest = by_main (Answered 1 (NotPrepared 8)) ∷ closed ∷ []; by = 0; claim = refl; why = refl }); cause = tt; closed = (before, refl) }, inl (refl, sym printed))
+returns-clause-told c = inl (NotPrepared 8, record { one = refl; given = refl; run = (refl, record { past = refused; rest = closed ∷ []; is = refl; answers = refl }); cause = tt; closed = (before, refl) }, inl (refl, sym printed))
 
 pub returns-clause-alone : goal.returns-clause-alone
 returns-clause-alone c = λ status out answer told. told_alone status out sample_key no_disk (NotPrepared 8) answer refl told

@@ -1,11 +1,11 @@
-use Rattle.std.proofs.Common.{◌∙◌, false, List, [], ◌∷◌, refl, ap, inr}
+use Rattle.std.proofs.Common.{◌∙◌, false, List, [], ◌∷◌, refl, ap}
 use Rattle.journal_model.specs.declared.entry.Entry.{Entry}
 use Rattle.journal_model.specs.declared.entry.What.TheVariants.{Claim, Start}
 use Rattle.journal_model.specs.Journal.{open_jobs}
 use Rattle.child_start.proofs.Jobs.{idle_on}
 use Rattle.special_cli.specs.Runs.{main_entry}
 use Rattle.special_cli.proofs.Beginning.{free_one}
-use Rattle.special_cli.proofs.Doing.{done_alone}
+use Rattle.special_cli.proofs.Doing.{done_failed}
 use Rattle.special_cli.proofs.Finishing.{links_claim}
 use Rattle.special_cli.proofs.check.task.answer_unready.Goals as goal
 
@@ -14,7 +14,7 @@ claim_alone-requires g c = record { free = free_one c.args.core.now.opening c.ar
 
 pub end-requires-clause-done : goal.end-requires-clause-done
 end-requires-clause-done g c =
-    ([], Start 1 0 false, done_alone [] (Start 1 0 false) c.args.core.now.journal c.claim_alone.new.core.journal c.args.answer c.requires.unready.begun c.claim_alone.ensures.claimed (inr c.requires.unready.why))
+    ([], Start 1 0 false, done_failed [] (Start 1 0 false) c.args.core.now.journal c.claim_alone.new.core.journal c.args.answer c.requires.unready.begun c.claim_alone.ensures.claimed c.requires.unready.why)
 
 pub end-requires-clause-idle : goal.end-requires-clause-idle
 end-requires-clause-idle g c =
@@ -23,7 +23,7 @@ end-requires-clause-idle g c =
 
 pub returns-clause-run : goal.returns-clause-run
 returns-clause-run g c = λ key.
-    c.end.ensures.run key (Start 1 0 false) (done_alone key (Start 1 0 false) c.args.core.now.journal c.claim_alone.new.core.journal c.args.answer c.requires.unready.begun c.claim_alone.ensures.claimed (inr c.requires.unready.why))
+    c.end.ensures.run key (Start 1 0 false) (done_failed key (Start 1 0 false) c.args.core.now.journal c.claim_alone.new.core.journal c.args.answer c.requires.unready.begun c.claim_alone.ensures.claimed c.requires.unready.why)
 
 pub returns-clause-wired : goal.returns-clause-wired
 returns-clause-wired g c = λ before.

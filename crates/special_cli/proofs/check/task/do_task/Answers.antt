@@ -1,16 +1,17 @@
-use Rattle.std.proofs.Common.{◌∙◌, false, List, [], ◌∷◌, ◌++◌, refl, ap, inl}
-use Rattle.journal_model.specs.declared.answer.Answer.TheVariants.{Memory}
+use Rattle.std.proofs.Common.{◌≡◌, ◌∙◌, true, false, List, [], ◌∷◌, ◌++◌, refl, sym, ap}
 use Rattle.journal_model.specs.declared.entry.Entry.{Entry}
 use Rattle.journal_model.specs.declared.entry.What.TheVariants.{Claim, Start}
 use Rattle.journal_model.specs.Journal.{open_jobs, is_started}
 use Rattle.journal_model.specs.Legality.{is_prepared, least_free}
 use Rattle.annex_model.specs.Messages.{Checkpresent}
-use Rattle.host_core.specs.Steps.{may_request}
+use Rattle.host_core.specs.Steps.{is_gone, may_request}
+use Rattle.lone_rounds.specs.Rounds.{left_answer}
 use Rattle.link_roles.proofs.Solo.{keeps_own}
 use Rattle.child_start.proofs.Jobs.{idle_on}
 use Rattle.special_cli.specs.Runs.{main_entry}
 use Rattle.special_cli.proofs.Beginning.{begun_child, free_one}
-use Rattle.special_cli.proofs.Doing.{may_now, done_alone, done_answer, then_claimed, else_same}
+use Rattle.special_cli.proofs.Doing.{may_now, done_left, done_answer, then_claimed, else_same}
+use Rattle.special_cli.proofs.Spent.{no_answer, are_spent}
 use Rattle.special_cli.proofs.Finishing.{links_claim, greeted_started}
 use Rattle.special_cli.proofs.check.task.do_task.Goals as goal
 
@@ -65,9 +66,13 @@ returns-then-claim-clause-link g c = record {
 
 pub returns-else-claim-clause-done : goal.returns-else-claim-clause-done
 returns-else-claim-clause-done g c =
-    done_alone c.args.key (Start 1 0 false) c.args.core.now.journal c.claim_alone.new.core.journal Memory (begun_child c.args.core.now.journal c.args.link.now.ear.child c.requires.greeted)
-    (c.claim_alone.ensures.claimed ∙ ap (λ (j : List Entry). j ++ main_entry (Claim 1 0) ∷ []) (else_same c.args.core.now.journal c.claim.new.core.journal c.child-child.result c.claim.result c.claim.ensures.claimed c.if-claim.false))
-    (inl refl)
+    let same_journal = else_same c.args.core.now.journal c.claim.new.core.journal c.child-child.result c.claim.result c.claim.ensures.claimed c.if-claim.false in
+    let gone : is_gone c.args.core.now.journal c.args.link.now.ear.child ≡ true = ap (is_gone c.args.core.now.journal) (sym c.child-child.ensures) ∙ c.claim.ensures.gone c.if-claim.false in
+    done_left c.args.key (Start 1 0 false) c.args.core.now.journal c.claim_alone.new.core.journal c.left_answer-answer.result (begun_child c.args.core.now.journal c.args.link.now.ear.child c.requires.greeted)
+    (c.claim_alone.ensures.claimed ∙ ap (λ (j : List Entry). j ++ main_entry (Claim 1 0) ∷ []) same_journal)
+    (no_answer c.args.core.now.journal c.args.link.now.ear.child c.requires.greeted c.requires.ready)
+    (are_spent c.args.core.now.journal c.args.link.now.ear.child c.requires.greeted gone)
+    (c.left_answer-answer.ensures ∙ ap left_answer (c.journal.ensures ∙ same_journal))
 
 pub returns-else-claim-clause-idle : goal.returns-else-claim-clause-idle
 returns-else-claim-clause-idle g c =
