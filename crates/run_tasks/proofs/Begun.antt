@@ -33,7 +33,7 @@ use Rattle.journal_model.specs.Beginnings.{MayBegin}
 use Rattle.journal_model.specs.declared.opening.Opening.{Opening}
 use Rattle.lone_work.specs.Works.{AreTasks}
 use Rattle.run_tasks.specs.Inputs.{InputFlow, input_flow, IsTaken, IsTextFor, run_opening}
-use Rattle.run_tasks.specs.Runs.{IsRefusedFor}
+use Rattle.run_tasks.specs.Runs.{HasText}
 use Rattle.run_tasks.specs.Beginnings.{HandsOn, IsReady, BeginsRun}
 use Rattle.run_tasks.specs.declared.beginning.Kept.{Kept}
 use Rattle.run_tasks.specs.declared.made.RunEnd.{RunEnd}
@@ -54,10 +54,10 @@ named_text words told name kept e h = with_keep (λ (w : RunWords). IsTextFor w 
 -- some text was read, and where files are told it is the file's
 module _ (words : RunWords) (told : Option Files) (name : List ℕ) (named : words.keep ≡ Some name) where
   found : (result : Result KeptRead NoMemory) (P : List ℕ → Type 0) → ((files : Files) → IsKeptAt name files result → P (text_at name files))
-      → (kept : List ℕ) × P kept → IfSome told (λ files. IsKeptAt name files result) → IsRefusedFor words told P
+      → (kept : List ℕ) × P kept → IfSome told (λ files. IsKeptAt name files result) → HasText words told P
   found result P at read known = go told refl known
     where
-      go : (t : Option Files) → told ≡ t → IfSome t (λ files. IsKeptAt name files result) → IsRefusedFor words told P
+      go : (t : Option Files) → told ≡ t → IfSome t (λ files. IsKeptAt name files result) → HasText words told P
       go None e h = (read.0, named_text words told name read.0 named (subst (λ (x : Option Files). IfSome x (λ files. read.0 ≡ text_at name files)) (sym e) tt), read.1)
       go (Some files) e h =
           (text_at name files, named_text words told name (text_at name files) named (subst (λ (x : Option Files). IfSome x (λ files'. text_at name files ≡ text_at name files')) (sym e) refl), at files h)
@@ -84,7 +84,7 @@ module _ (words : RunWords) (told : Option Files) (name : List ℕ) (named : wor
       record { kept = f.0; text = f.1; right = f.2.0; registers = f.2.1; notes = f.2.2 }
 
   pub has_bad_line : (old new : Option (List Call)) (line : ℕ) → IsReadAs old new name (Ok (K.BadLine line))
-      → IfSome told (λ files. IsKeptAt name files (Ok (K.BadLine line))) → IsRefusedFor words told (λ kept. bad_line kept ≡ Some line)
+      → IfSome told (λ files. IsKeptAt name files (Ok (K.BadLine line))) → HasText words told (λ kept. bad_line kept ≡ Some line)
   has_bad_line old new line read known =
       found (Ok (K.BadLine line)) (λ kept. bad_line kept ≡ Some line) (λ files h. h) (bad_text old new line read) known
 
@@ -92,7 +92,7 @@ module _ (words : RunWords) (told : Option Files) (name : List ℕ) (named : wor
   large : (most : ℕ) → (kept : List ℕ) × (most < length kept)
   large most = (replicate (most + 1) 0, let long = length-replicate {A = ℕ} (most + 1) 0 in omega (arith, long))
 
-  pub is_too_large : IfSome told (λ files. IsKeptAt name files (Ok K.TooLarge)) → IsRefusedFor words told (λ kept. MOST_BYTES < length kept)
+  pub is_too_large : IfSome told (λ files. IsKeptAt name files (Ok K.TooLarge)) → HasText words told (λ kept. MOST_BYTES < length kept)
   is_too_large known = found (Ok K.TooLarge) (λ kept. MOST_BYTES < length kept) (λ files h. h) (large MOST_BYTES) known
 
 -- ---- where none is named

@@ -131,8 +131,8 @@ module _ (words : RunWords) (clock : Option ℕ) (told : Option Files) (flow : I
   from_stop faults before after workers made KeptTooLarge end same zero h stopped = (unbegun before after workers made KeptTooLarge end same stopped, h.0, h.1)
   from_stop faults before after workers made FileFailed end same zero h stopped =
       (unbegun before after workers made FileFailed end same stopped, h.0, rose_from faults before after zero stopped.table_is h.1)
-  from_stop faults before after workers made InputFailed end same zero h stopped = (unbegun before after workers made InputFailed end same stopped, h)
-  from_stop faults before after workers made (Refused line reason) end same zero h stopped = (unbegun before after workers made (Refused line reason) end same stopped, h)
+  from_stop faults before after workers made InputFailed end same zero h stopped = (unbegun before after workers made InputFailed end same stopped, h.0, h.1)
+  from_stop faults before after workers made (Refused line reason) end same zero h stopped = (unbegun before after workers made (Refused line reason) end same stopped, h.0, h.1)
   from_stop faults before after workers made Memory end same zero h stopped =
       inl (inl stopped.no_journal, as_before words told after (ap (λ (t : TableValue). t.files) stopped.table_is ∙ same))
   from_stop faults before after workers made (Done written) end same zero h stopped = absurd h

@@ -10,7 +10,7 @@ use Rattle.task_input.specs.declared.error.InputError.TheVariants as input
 use Rattle.task_input.specs.declared.limits.TheConstants.Limits.{TASKS}
 use Rattle.journal_model.specs.declared.opening.Opening.{Opening}
 use Rattle.run_tasks.specs.Inputs.{InputFlow, IsUnread, IsTaken, IsTextFor, IsRunOpening}
-use Rattle.run_tasks.specs.Runs.{IsRefusedFor}
+use Rattle.run_tasks.specs.Runs.{HasText}
 use Rattle.run_tasks.specs.declared.beginning.Kept.{Kept}
 use Rattle.run_tasks.specs.declared.made.RunEnd.{RunEnd}
 use Rattle.run_tasks.specs.declared.made.RunEnd.TheVariants.{BadKept, KeptTooLarge, FileFailed, InputFailed, Refused, Memory}
@@ -27,8 +27,8 @@ pub record HandsOn (words : RunWords) (told : Option Files) (k : Kept) : Type 0 
 
 -- this stands against it, where the desk counted so many faults before and behind
 abbrev pub StopsKept : RunWords → Option Files → ℕ → ℕ → RunEnd → Type 0
-StopsKept words told faults faults' (BadKept line) = IsRefusedFor words told (λ kept. bad_line kept ≡ Some line)
-StopsKept words told faults faults' KeptTooLarge = IsRefusedFor words told (λ kept. MOST_BYTES < length kept)
+StopsKept words told faults faults' (BadKept line) = HasText words told (λ kept. bad_line kept ≡ Some line)
+StopsKept words told faults faults' KeptTooLarge = HasText words told (λ kept. MOST_BYTES < length kept)
 StopsKept words told faults faults' FileFailed = Rose faults faults'
 StopsKept words told faults faults' Memory = Unit {0}
 StopsKept words told faults faults' end = ⊥
@@ -65,11 +65,13 @@ pub record IsReady (words : RunWords) (clock : Option ℕ) (told : Option Files)
   pub input : IsTaken TASKS flow (Ok tasks)
   pub begins : IsRunOpening words kept tasks stamp opening
 
--- the kept file was read before the input, and this stands against one of them
+-- the kept file was read before the input, which is read only where that is right, and this stands against one of them
 abbrev pub StopsRun : RunWords → Option Files → InputFlow → ℕ → ℕ → RunEnd → Type 0
 StopsRun words told flow faults faults' (BadKept line) = IsUnread flow × StopsKept words told faults faults' (BadKept line)
 StopsRun words told flow faults faults' KeptTooLarge = IsUnread flow × StopsKept words told faults faults' KeptTooLarge
 StopsRun words told flow faults faults' FileFailed = IsUnread flow × StopsKept words told faults faults' FileFailed
+StopsRun words told flow faults faults' InputFailed = StopsInput flow InputFailed × HasText words told (λ kept. bad_line kept ≡ None)
+StopsRun words told flow faults faults' (Refused line reason) = StopsInput flow (Refused line reason) × HasText words told (λ kept. bad_line kept ≡ None)
 StopsRun words told flow faults faults' end = StopsInput flow end
 
 -- what a run begins with, or what stands against it

@@ -159,9 +159,9 @@ pub record IsUnbegun (words : RunWords) (told : Option Files) (table : TableValu
   pub none : workers ≡ []
   pub before : IsAsBefore words told table
 
--- the text of the kept file was read before anything else, and this is what stands against it
-abbrev pub IsRefusedFor : RunWords → Option Files → (List ℕ → Type 0) → Type 0
-IsRefusedFor words told P = (kept : List ℕ) × IsTextFor words told kept × P kept
+-- the text of the kept file, which was read before anything else, is so
+abbrev pub HasText : RunWords → Option Files → (List ℕ → Type 0) → Type 0
+HasText words told P = (kept : List ℕ) × IsTextFor words told kept × P kept
 
 -- the run is whole: each task was answered, these are the answers, and this came of the kept file and the journal file
 pub record IsWholeRun (words : RunWords) (clock : Option ℕ) (told : Option Files) (flow : InputFlow) (table : TableValue) (workers : List TableValue) (made : MadeValue) (written : KeptWritten) : Type 0 where
@@ -178,13 +178,14 @@ pub record LacksJournal (words : RunWords) (clock : Option ℕ) (told : Option F
 
 abbrev pub EndsRun : RunWords → Option ℕ → Option Files → InputFlow → TableValue → List TableValue → MadeValue → RunEnd → Type 0
 EndsRun words clock told flow table workers made (BadKept line) =
-    IsUnbegun words told table workers made × IsUnread flow × IsRefusedFor words told (λ kept. bad_line kept ≡ Some line)
+    IsUnbegun words told table workers made × IsUnread flow × HasText words told (λ kept. bad_line kept ≡ Some line)
 EndsRun words clock told flow table workers made KeptTooLarge =
-    IsUnbegun words told table workers made × IsUnread flow × IsRefusedFor words told (λ kept. MOST_BYTES < length kept)
+    IsUnbegun words told table workers made × IsUnread flow × HasText words told (λ kept. MOST_BYTES < length kept)
 EndsRun words clock told flow table workers made FileFailed = IsUnbegun words told table workers made × IsUnread flow × Rose 0 table.counts.faults
-EndsRun words clock told flow table workers made InputFailed = IsUnbegun words told table workers made × Rose flow.faults flow.faults'
+EndsRun words clock told flow table workers made InputFailed =
+    IsUnbegun words told table workers made × Rose flow.faults flow.faults' × HasText words told (λ kept. bad_line kept ≡ None)
 EndsRun words clock told flow table workers made (Refused line reason) =
-    IsUnbegun words told table workers made × IsTaken TASKS flow (Err (input.Refused line reason))
+    IsUnbegun words told table workers made × IsTaken TASKS flow (Err (input.Refused line reason)) × HasText words told (λ kept. bad_line kept ≡ None)
 EndsRun words clock told flow table workers made Memory =
     (((made.journal ≡ []) ⊎ IsRunOf words clock told flow workers made.journal) × IsAsBefore words told table)
     ⊎ LacksJournal words clock told flow table workers made
