@@ -2,7 +2,7 @@
 ghost use Rattle.std.specs.Prelude.{◌≡◌, ◌<◌, IfOk, IfSome, length, option_map};
 ghost use Rattle.cli_words.specs.Identities.{IsFit};
 ghost use Rattle.cli_words.specs.Values.{texts_of};
-ghost use Rattle.cli_words.specs.Words.{behind, check_of, command_of, info_of, init_of, is_help, of_command, page_alone, page_of, run_of};
+ghost use Rattle.cli_words.specs.Words.{alone, behind, check_of, command_of, info_of, init_of, is_help, of_command, page_alone, page_of, run_of};
 ghost use Rattle.cli_words.specs.declared.command.Command.TheVariants.{Run, Show};
 
 use crate::command::{Command, InitWords, Page};
@@ -27,8 +27,19 @@ fn command_in(alloc: Global, words: &[String]) -> Result<Option<Command>, NoMemo
 {
     match words {
         [] => Ok(None),
-        [word] => Ok(show(page_alone(word.as_str()))),
+        [word] => Ok(alone(word.as_str())),
         [_, _, ..] => behind(alloc, words),
+    }
+}
+
+// The only word.
+fn alone(word: &str) -> Option<Command>
+    ensures { result ≡ alone word.now }
+{
+    if word == "audit" {
+        Some(Command::Audit)
+    } else {
+        show(page_alone(word))
     }
 }
 
@@ -64,6 +75,8 @@ fn page_of(word: &str) -> Option<Page>
         Some(Page::Init)
     } else if word == "run" {
         Some(Page::Run)
+    } else if word == "audit" {
+        Some(Page::Audit)
     } else {
         None
     }
