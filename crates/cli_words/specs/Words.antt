@@ -104,6 +104,11 @@ behind word rest =
     else if list_all is_word_of_command rest then of_command word rest
     else None
 
+-- the first word, and those behind it
+abbrev pub all_behind : List (List ℕ) → Option Command
+all_behind [] = None
+all_behind (word ∷ rest) = behind word rest
+
 -- the only word: `audit` takes no others
 abbrev pub alone : List ℕ → Option Command
 alone word = if bytes_eq word (codes "audit") then Some Audit else option_map Show (page_alone word)
@@ -112,4 +117,4 @@ alone word = if bytes_eq word (codes "audit") then Some Audit else option_map Sh
 abbrev pub command_of : List (List ℕ) → Option Command
 command_of [] = None
 command_of (word ∷ []) = alone word
-command_of (word ∷ rest) = behind word rest
+command_of words = all_behind words

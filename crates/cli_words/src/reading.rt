@@ -2,7 +2,7 @@
 ghost use Rattle.std.specs.Prelude.{◌≡◌, ◌<◌, IfOk, IfSome, length, option_map};
 ghost use Rattle.cli_words.specs.Identities.{IsFit};
 ghost use Rattle.cli_words.specs.Values.{texts_of};
-ghost use Rattle.cli_words.specs.Words.{alone, behind, check_of, command_of, info_of, init_of, is_help, of_command, page_alone, page_of, run_of};
+ghost use Rattle.cli_words.specs.Words.{all_behind, alone, check_of, command_of, info_of, init_of, is_help, of_command, page_alone, page_of, run_of};
 ghost use Rattle.cli_words.specs.declared.command.Command.TheVariants.{Run, Show};
 
 use crate::command::{Command, InitWords, Page};
@@ -94,7 +94,7 @@ fn is_help(words: &[String]) -> bool
 // The first word, with words behind it.
 fn behind(alloc: Global, words: &[String]) -> Result<Option<Command>, NoMemory>
     requires { 1 < length words.now }
-    ensures { IfOk result (λ command. command ≡ command_of (texts_of words.now)) }
+    ensures { IfOk result (λ command. command ≡ all_behind (texts_of words.now)) }
 {
     let word = words[0].as_str();
     let rest = &words[1..];
