@@ -85,14 +85,12 @@ impl Text {
 
     // Where the entries begin.
     fn first_entry(&self) -> usize {
-        let mut first = 0;
-        for line in &self.lines {
+        for (at, line) in self.lines.iter().enumerate() {
             if line.as_str() == "begin" {
-                break;
+                return at.saturating_add(1);
             }
-            first += 1;
         }
-        first.min(self.lines.len().saturating_sub(1)) + 1
+        self.lines.len()
     }
 
     /// The bytes of its first lines; of the last one of these the end is left out where that is asked for.

@@ -17,7 +17,7 @@ use Rattle.chunk_log.specs.ChunkLines.{IsWrittenUuid}
 use Rattle.task_text.specs.TaskLines.{IsTask}
 use Rattle.journal_model.specs.Beginnings.{MayBegin}
 use Rattle.journal_model.specs.Replies.{IsLineIdentity}
-use Rattle.journal_reader.specs.RunTexts.{is_text, is_uuid, is_written_uuid}
+use Rattle.journal_reader.specs.RunTexts.{is_text, is_written_uuid}
 use Rattle.audit_run.specs.Inputs.{IsTextOf}
 
 -- ---- a UUID as it is written

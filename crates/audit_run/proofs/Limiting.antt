@@ -1,14 +1,13 @@
 -- Where an input passes a limit, whatever follows; and that it passes none.
-use Rattle.std.proofs.Common.{◌≡◌, ℕ, ◌+◌, ◌-◌, ◌<◌, ◌≤◌, Bool, true, false, cond, List, [], ◌∷◌, ◌++◌, take, length, refl, sym, ap, subst, ◌∙◌, arith, append_assoc, append-nil, length-append}
-use Rattle.std.specs.Prelude.{◌||◌, nat_lt, IsTrue, not}
-use Rattle.std.specs.List.{list_all}
+use Rattle.std.proofs.Common.{◌≡◌, ℕ, ◌+◌, ◌-◌, ◌<◌, ◌≤◌, Bool, true, false, cond, List, [], ◌∷◌, ◌++◌, take, length, refl, sym, ap, ◌∙◌, arith, append-nil, length-append}
+use Rattle.std.specs.Prelude.{◌||◌, nat_lt}
 use Rattle.std.proofs.Math.Seq.{take-append-add, take-append_seam}
 use Rattle.std.proofs.lemmas.Bool.Decides.{nat_tests}
-use Rattle.std.proofs.lemmas.List.{take_all, take-append-le}
+use Rattle.std.proofs.lemmas.List.{take_all}
 use Rattle.annex_model.specs.Lines.{text, has_newline, Cut}
 use Rattle.task_input.specs.InputLines.{is_end, lines_of, with_byte, with_rest}
 use Rattle.task_input.proofs.Cuts.{behind, ended_lines, all_lines}
-use Rattle.audit_run.specs.Inputs.{is_large, passes, lines_ended, lines_within}
+use Rattle.audit_run.specs.Inputs.{is_large, passes, lines_within}
 use Rattle.audit_run.specs.declared.limits.Limits.{Limits}
 
 less : (a b : ℕ) → a < b → nat_lt a b ≡ true

@@ -1,5 +1,5 @@
 -- What reading piece by piece keeps, and what it comes to.
-use Rattle.std.proofs.Common.{◌≡◌, ℕ, ◌+◌, ◌-◌, ◌<◌, ◌≤◌, Bool, true, false, cond, List, [], ◌∷◌, ◌++◌, Option, Some, None, Result, Ok, Err, length, refl, sym, ap, subst, ◌∙◌, arith, append-nil, length-append}
+use Rattle.std.proofs.Common.{◌≡◌, ℕ, ◌+◌, ◌-◌, ◌<◌, Bool, true, false, cond, List, [], ◌∷◌, ◌++◌, Option, Some, None, Result, Ok, Err, length, refl, sym, ap, subst, ◌∙◌, arith, append-nil, length-append}
 use Rattle.std.specs.Prelude.{IfSome}
 use Rattle.std.specs.Io.KnownBytes.{Consumes, IsAtEnd}
 use Rattle.journal_look.specs.declared.journal.Journal.{Journal}
@@ -7,7 +7,7 @@ use Rattle.journal_model.specs.declared.opening.Opening.{Opening}
 use Rattle.journal_audit.specs.Audits.{IsAudit}
 use Rattle.journal_audit.specs.declared.found.Audit.{Audit}
 use Rattle.audit_run.specs.Inputs.{passes, ComesTo}
-use Rattle.audit_run.specs.Intakes.{IsWithin, IsPast, Took, TookBy}
+use Rattle.audit_run.specs.Intakes.{IsWithin, IsPast, Took}
 use Rattle.audit_run.specs.Reads.{IsCounted, IsRead}
 use Rattle.audit_run.specs.Steps.{Comes, Holds, IsStep}
 use Rattle.audit_run.specs.declared.intake.Intake.{Intake}
@@ -60,26 +60,7 @@ step_fails limits old new piece bytes left (Cut line) h = absurd h
 step_fails limits old new piece bytes left Failed h = tt
 step_fails limits old new piece bytes left NoMemory h = tt
 
-pub unread : (limits : Limits) (bytes : List ℕ) (left : Option (List ℕ)) (fault : AuditError) → Holds limits bytes left (Err fault) → IsRead limits bytes left (Err fault)
-unread limits bytes left (Entry line) h = absurd h
-unread limits bytes left (Cut line) h = absurd h
-unread limits bytes left Failed h = tt
-unread limits bytes left NoMemory h = tt
-
-pub told_unread : (limits : Limits) (bytes : List ℕ) (left from : Option (List ℕ)) (fault : AuditError) → Holds limits bytes left (Err fault) → IfSome from (λ all. ComesTo limits all (Err fault))
-told_unread limits bytes left None fault h = tt
-told_unread limits bytes left (Some all) (Entry line) h = absurd h
-told_unread limits bytes left (Some all) (Cut line) h = absurd h
-told_unread limits bytes left (Some all) Failed h = tt
-told_unread limits bytes left (Some all) NoMemory h = tt
-
 -- ---- the count of faults
-
-pub counted_on : (A B : Type 0) (before now : ℕ) (fault : AuditError) → IsCounted {T = A} before now (Err fault) → IsCounted {T = B} before now (Err fault)
-counted_on A B before now (Entry line) h = h
-counted_on A B before now (Cut line) h = h
-counted_on A B before now Failed h = h
-counted_on A B before now NoMemory h = h
 
 -- what is refused of a text isn't a read that failed
 pub counted_end : (B : Type 0) (before now : ℕ) (limits : Limits) (bytes : List ℕ) (fault : AuditError) → Comes limits bytes (Err fault) → now ≡ before → IsCounted {T = B} before now (Err fault)

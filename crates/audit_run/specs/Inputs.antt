@@ -74,6 +74,7 @@ pub record IsFound (limits : Limits) (bytes : List ℕ) (found : Audit) : Type 0
   pub text : IsTextOf opening journal (lines_of true bytes)
   pub audit : IsAudit opening journal found
 
+-- what an input comes to; nothing is said of it where a read failed or memory was wanting
 abbrev pub ComesTo : Limits → List ℕ → Result Audit AuditError → Type 0
 ComesTo limits bytes (Ok found) = IsFound limits bytes found
 ComesTo limits bytes (Err (BadEntry line)) = IsRefused (lines_within limits bytes) (passes limits bytes) line

@@ -26,6 +26,7 @@ pub record IsPast (limits : Limits) (bytes : List ℕ) (k : Intake) : Type 0 whe
   pub passed : (more : List ℕ) → passes limits (bytes ++ more) ≡ true
   pub refused : (more : List ℕ) → IsRefused (lines_within limits (bytes ++ more)) true number
 
+-- by whether a limit was passed
 abbrev pub TookBy : Bool → Limits → List ℕ → Intake → Type 0
 TookBy false limits bytes k = IsWithin limits bytes k
 TookBy true limits bytes k = IsPast limits bytes k

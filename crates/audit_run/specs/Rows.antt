@@ -6,6 +6,7 @@ use Rattle.audit_run.specs.declared.limits.Limits.{Limits}
 abbrev pub small : Limits
 small = record { lines = 2; bytes = 20 }
 
+-- a line of 8 bytes, and one of 2
 abbrev pub one : List ℕ
 one = codes "abcdefgh"
 

@@ -10,5 +10,6 @@ abbrev pub StandsBy : List (List ℕ) → List ℕ → Reading → List ℕ → 
 StandsBy lines rest reader held None = Reads start lines reader × (held ≡ rest)
 StandsBy lines rest reader held (Some number) = IsRefused lines false number
 
+-- so they stand in what is kept of them
 abbrev pub Stands : List (List ℕ) → List ℕ → Lines → Type 0
 Stands lines rest k = StandsBy lines rest k.reader k.held.items k.bad

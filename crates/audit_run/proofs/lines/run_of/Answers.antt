@@ -1,4 +1,4 @@
-use Rattle.std.proofs.Common.{◌≡◌, subst}
+use Rattle.std.proofs.Common.{subst}
 use Rattle.journal_reader.specs.Readings.{IsEndAs}
 use Rattle.journal_reader.specs.declared.error.JournalError.{JournalError}
 use Rattle.audit_run.proofs.Ending.{text_read, never_bad, text_cut}

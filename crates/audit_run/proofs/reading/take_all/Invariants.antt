@@ -1,4 +1,4 @@
-use Rattle.std.proofs.Common.{◌≡◌, ℕ, ◌+◌, ◌-◌, cond, length, true, List}
+use Rattle.std.proofs.Common.{◌≡◌, ℕ, ◌+◌, ◌-◌, cond, true, List}
 use Rattle.ann_outside.specs.Causes.{StaysUntold}
 use Rattle.task_input.specs.Reads.{HasGiven}
 use Rattle.audit_run.specs.Intakes.{Took}

@@ -6,4 +6,4 @@ returns-then-self c = λ limits bytes more t e. ends_past limits bytes more c.ar
 
 pub returns : goal.returns
 returns c = λ limits bytes more t e.
-    ends_within limits bytes more c.args.self _ _ c.if-self.false t c.in_ok-end_input.ensures c.finish.ensures.ends (e c.if-self.false)
+    ends_within limits bytes more c.args.self c.end_input.new.self _ c.if-self.false t c.in_ok-end_input.ensures c.finish-2.ensures.ends (e c.if-self.false)

@@ -8,4 +8,4 @@ returns-in-Some c = λ lines rest h.
 
 pub returns-in_ok-push-in-None : goal.returns-in_ok-push-in-None
 returns-in_ok-push-in-None c = λ lines rest h.
-    byte_held lines rest c.args.self.now.reader c.args.self.now.held.items c.args.self.now.bad _ c.args.byte c.in-None.is c.in_ok-push.ensures.items h
+    byte_held lines rest c.args.self.now.reader c.args.self.now.held.items c.args.self.now.bad _ c.args.byte c.in-None.is c.in_ok-push-in-None.ensures.items h

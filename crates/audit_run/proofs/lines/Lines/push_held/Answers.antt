@@ -1,7 +1,7 @@
-use Rattle.std.proofs.Common.{◌≡◌, ℕ, List, [], ◌∷◌, ◌++◌, Some, None, subst}
+use Rattle.std.proofs.Common.{ℕ, List, subst}
 use Rattle.journal_reader.specs.Readings.{Follows, IsFault}
 use Rattle.journal_reader.specs.declared.error.JournalError.{JournalError}
-use Rattle.journal_reader.specs.declared.error.JournalError.TheVariants.{BadLine, Cut}
+use Rattle.journal_reader.specs.declared.error.JournalError.TheVariants.{BadLine}
 use Rattle.audit_run.proofs.Refusing.{line_taken, line_refused}
 use Rattle.audit_run.proofs.lines.Lines.push_held.Goals as goal
 
