@@ -1,6 +1,7 @@
 // The program: what its words ask for, what it prints, and its run.
 #![tactic(auto)]
 
+mod audit;
 mod check;
 mod closing;
 mod end;

@@ -1,0 +1,44 @@
+-- An audit that found no memory before it began, and what it makes of the words and the statuses.
+use Rattle.std.proofs.Common.{◌≡◌, ◌∙◌, ℕ, Bool, true, false, List, [], Option, Some, None, Err, refl, sym, ap, subst}
+use Rattle.std.specs.Prelude.{IfSome, Result}
+use Rattle.audit_run.specs.Inputs.{ComesTo, audit_limits}
+use Rattle.audit_run.specs.declared.error.AuditError.{AuditError}
+use Rattle.audit_run.specs.declared.error.AuditError.TheVariants.{NoMemory}
+use Rattle.child_end.specs.Outsides.{OutsideValue}
+use Rattle.cli_words.specs.declared.command.Command.{Command}
+use Rattle.cli_words.specs.declared.command.Command.TheVariants.{Audit as AuditWord}
+use Rattle.journal_audit.specs.declared.found.Audit.{Audit}
+use Rattle.run_tasks.specs.Inputs.{InputFlow, IsUnread}
+use Rattle.special_cli.specs.Audits.{IsAuditOf, HasAudited}
+use Rattle.special_cli.specs.Left.{RanValue, IsIdle}
+use Rattle.special_cli.specs.declared.end.End.TheVariants.{Memory}
+use Rattle.task_input.proofs.Given.{given_none}
+use Rattle.task_input.specs.Reads.{HasGiven}
+
+-- ---- the words
+
+abbrev pub is_audit : Option Command → Bool
+is_audit (Some AuditWord) = true
+is_audit wish = false
+
+pub other_words : {A : Type 0} (wish : Option Command) → is_audit wish ≡ false → wish ≡ Some AuditWord → A
+other_words wish other e = absurd (let bad : false ≡ true = sym other ∙ ap is_audit e in cc)
+
+-- ---- nothing was read
+
+unread : (input : InputFlow) → IsUnread input → IsAuditOf input (Err NoMemory)
+unread input h = record {
+  bytes = [];
+  gave = subst (λ (g : Option (List ℕ)). HasGiven input.given g input.left input.left' []) (sym h.given)
+      (subst (λ (l : Option (List ℕ)). HasGiven input.given input.given input.left l []) (sym h.left) (given_none input.given input.left));
+  read = tt;
+  told = of_all input.left;
+  counted = h.faults;
+}
+  where
+    of_all : (left : Option (List ℕ)) → IfSome left (λ all. ComesTo audit_limits all (Err NoMemory))
+    of_all None = tt
+    of_all (Some all) = tt
+
+pub nothing_audited : (before : OutsideValue) (input : InputFlow) (ran : RanValue) → ran.end ≡ Memory → IsIdle before ran.left → IsUnread input → HasAudited before input ran
+nothing_audited before input ran e idle h = record { outcome = Err NoMemory; audit = unread input h; idle = idle; end_is = e }
