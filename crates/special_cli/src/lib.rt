@@ -2,6 +2,7 @@
 #![tactic(auto)]
 
 mod audit;
+pub mod audit_laws;
 mod check;
 mod closing;
 mod end;
