@@ -17,7 +17,7 @@ use Rattle.cli_words.specs.Settings.{is_setting, setting_at, settings_in, spells
 use Rattle.cli_words.specs.Values.{has_end, is_text, is_word_of_command, number_in, uuid_in}
 use Rattle.cli_words.specs.Words.{are_texts, check_of, command_of, info_of, init_of, init_with, is_help, of_command, page_alone, page_of, run_from, run_of, run_with}
 use Rattle.cli_words.specs.declared.command.Command.{Command}
-use Rattle.cli_words.specs.declared.command.Command.TheVariants.{Run, Show}
+use Rattle.cli_words.specs.declared.command.Command.TheVariants.{Run, Audit, Show}
 use Rattle.cli_words.specs.declared.command.Page.{Page}
 use Rattle.cli_words.specs.declared.settings.Setting.{Setting}
 
@@ -159,7 +159,8 @@ run_fits words = go (fault_of run_grammar words) (matches_of run_grammar words)
 
 pub command_fits : (words : List (List ℕ)) → IfSome (command_of words) IsFit
 command_fits [] = tt
-command_fits (word ∷ []) = show_fits (page_alone word)
+command_fits (word ∷ []) =
+    either_fits (bytes_eq word (codes "audit")) (Some Audit) (option_map Show (page_alone word)) (record { settings = refl; identity = nobody_fits }) (show_fits (page_alone word))
 command_fits (word ∷ next ∷ words) =
     let rest : List (List ℕ) = next ∷ words in
     either_fits (is_help rest) (option_map Show (page_of word)) _ (show_fits (page_of word))

@@ -14,7 +14,7 @@ use Rattle.cli_words.specs.Values.{has_end, is_text, is_word_of_command, number_
 use Rattle.cli_words.specs.Settings.{settings_in}
 use Rattle.cli_words.specs.Words.{are_texts, check_of, command_of, info_of, init_of, init_with, is_help, of_command, page_alone, page_of, run_from, run_of, run_with}
 use Rattle.cli_words.specs.declared.command.Command.{Command}
-use Rattle.cli_words.specs.declared.command.Command.TheVariants.{Run, Show}
+use Rattle.cli_words.specs.declared.command.Command.TheVariants.{Run, Audit, Show}
 use Rattle.cli_words.specs.declared.command.Page.{Page}
 use Rattle.cli_words.specs.declared.command.RunWords.{RunWords}
 use Rattle.cli_words.specs.declared.settings.Setting.{Setting}
@@ -148,7 +148,7 @@ init_ranged (program ∷ uuid ∷ keep ∷ words) = go (uuid_in uuid) (settings_
 
 pub command_ranged : (words : List (List ℕ)) → Ranged (command_of words)
 command_ranged [] = tt
-command_ranged (word ∷ []) = show_ranged (page_alone word)
+command_ranged (word ∷ []) = either_ranged (bytes_eq word (codes "audit")) (Some Audit) (option_map Show (page_alone word)) tt (show_ranged (page_alone word))
 command_ranged (word ∷ next ∷ words) =
     let rest : List (List ℕ) = next ∷ words in
     either_ranged (is_help rest) (option_map Show (page_of word)) _ (show_ranged (page_of word))

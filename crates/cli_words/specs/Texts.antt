@@ -1,7 +1,7 @@
 -- The lines that say why a call ended.
 use Rattle.std.specs.Prelude.{ℕ, List, [], ◌∷◌, ◌++◌, codes, decimal}
 use Rattle.cli_words.specs.declared.refusals.Reason.{Reason}
-use Rattle.cli_words.specs.declared.refusals.Reason.TheVariants.{Word, Key, Unsendable, ChunkKey, File, Long, Many, Large}
+use Rattle.cli_words.specs.declared.refusals.Reason.TheVariants.{Word, Key, Unsendable, ChunkKey, File, Long, Many, Large, Entry, Cut}
 
 abbrev pub usage_line : List ℕ
 usage_line = codes "special: usage" ++ 10 ∷ []
@@ -31,6 +31,8 @@ reason_word File = codes "file"
 reason_word Long = codes "long"
 reason_word Many = codes "many"
 reason_word Large = codes "large"
+reason_word Entry = codes "entry"
+reason_word Cut = codes "cut"
 
 -- the input's line of that number is refused
 abbrev pub refused_line : ℕ → Reason → List ℕ

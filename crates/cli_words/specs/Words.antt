@@ -9,9 +9,9 @@ use Rattle.cli_words.specs.Values.{is_text, is_word_of_command, number_in, uuid_
 use Rattle.cli_words.specs.Settings.{settings_in}
 use Rattle.cli_words.specs.Grammar.{is_without, run_grammar, value_at}
 use Rattle.cli_words.specs.declared.command.Command.{Command}
-use Rattle.cli_words.specs.declared.command.Command.TheVariants.{Check, Info, Init, Run, Show}
+use Rattle.cli_words.specs.declared.command.Command.TheVariants.{Check, Info, Init, Run, Audit, Show}
 use Rattle.cli_words.specs.declared.command.Page.{Page}
-use Rattle.cli_words.specs.declared.command.Page.TheVariants.{Overview, Check as CheckPage, Info as InfoPage, Init as InitPage, Run as RunPage, Version}
+use Rattle.cli_words.specs.declared.command.Page.TheVariants.{Overview, Check as CheckPage, Info as InfoPage, Init as InitPage, Run as RunPage, Audit as AuditPage, Version}
 use Rattle.cli_words.specs.declared.command.RunWords.{RunWords}
 use Rattle.cli_words.specs.declared.settings.Setting.{Setting}
 
@@ -29,6 +29,7 @@ page_of word =
     else if bytes_eq word (codes "info") then Some InfoPage
     else if bytes_eq word (codes "init") then Some InitPage
     else if bytes_eq word (codes "run") then Some RunPage
+    else if bytes_eq word (codes "audit") then Some AuditPage
     else None
 
 abbrev pub is_help : List (List ℕ) → Bool
@@ -105,8 +106,17 @@ behind word rest =
     else if list_all is_word_of_command rest then of_command word rest
     else None
 
+-- the first word, and those behind it
+abbrev pub all_behind : List (List ℕ) → Option Command
+all_behind [] = None
+all_behind (word ∷ rest) = behind word rest
+
+-- the only word: `audit` takes no others
+abbrev pub alone : List ℕ → Option Command
+alone word = if bytes_eq word (codes "audit") then Some Audit else option_map Show (page_alone word)
+
 -- what the words behind the program's name ask for, if they are in the grammar
 abbrev pub command_of : List (List ℕ) → Option Command
 command_of [] = None
-command_of (word ∷ []) = option_map Show (page_alone word)
-command_of (word ∷ rest) = behind word rest
+command_of (word ∷ []) = alone word
+command_of words = all_behind words

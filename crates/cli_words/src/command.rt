@@ -12,6 +12,8 @@ pub enum Command {
     Init(InitWords),
     /// Does the tasks of the input.
     Run(RunWords),
+    /// Checks the text of a run, which is the input.
+    Audit,
     /// Prints a text.
     Show(Page),
 }
@@ -25,6 +27,7 @@ pub enum Page {
     Info,
     Init,
     Run,
+    Audit,
     Version,
 }
 

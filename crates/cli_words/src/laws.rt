@@ -5,10 +5,10 @@ ghost use Rattle.cli_words.specs.Rows.{braced_uuid, init_words, least_run, plain
 ghost use Rattle.cli_words.specs.Settings.{set_all, settings_in};
 ghost use Rattle.cli_words.specs.Values.{number_in, uuid_in, IsNumberIn};
 ghost use Rattle.cli_words.specs.Words.{command_of};
-ghost use Rattle.cli_words.specs.declared.command.Command.TheVariants.{Check, Info, Init, Run, Show};
-ghost use Rattle.cli_words.specs.declared.command.Page.TheVariants.{Overview, Version, Check as CheckPage, Run as RunPage};
+ghost use Rattle.cli_words.specs.declared.command.Command.TheVariants.{Audit, Check, Info, Init, Run, Show};
+ghost use Rattle.cli_words.specs.declared.command.Page.TheVariants.{Overview, Version, Check as CheckPage, Run as RunPage, Audit as AuditPage};
 
-/// The words of `check` and `info`.
+/// The words of `check`, `info` and `audit`.
 pub fn worked_words()
     ensures check { command_of (codes "check" ∷ codes "p" ∷ codes "k" ∷ []) ≡ Some (Check (codes "p") (codes "k")) }
     ensures any_key { command_of (codes "check" ∷ codes "p" ∷ codes "not a key" ∷ []) ≡ Some (Check (codes "p") (codes "not a key")) }
@@ -20,6 +20,8 @@ pub fn worked_words()
     ensures info_key { command_of (codes "info" ∷ codes "p" ∷ codes "k" ∷ []) ≡ Some (Info (codes "p") (Some (codes "k"))) }
     ensures nothing { command_of [] ≡ None }
     ensures alone { command_of (codes "info" ∷ []) ≡ None }
+    ensures audit { command_of (codes "audit" ∷ []) ≡ Some Audit }
+    ensures audit_of { command_of (codes "audit" ∷ codes "f" ∷ []) ≡ None }
     ensures other { command_of (codes "chek" ∷ codes "p" ∷ codes "k" ∷ []) ≡ None }
 {}
 
@@ -29,6 +31,7 @@ pub fn worked_requests()
     ensures version { command_of (codes "--version" ∷ []) ≡ Some (Show Version) }
     ensures check { command_of (codes "check" ∷ codes "--help" ∷ []) ≡ Some (Show CheckPage) }
     ensures run { command_of (codes "run" ∷ codes "--help" ∷ []) ≡ Some (Show RunPage) }
+    ensures audit { command_of (codes "audit" ∷ codes "--help" ∷ []) ≡ Some (Show AuditPage) }
     ensures second { command_of (codes "check" ∷ codes "--help" ∷ codes "k" ∷ []) ≡ None }
     ensures third { command_of (codes "info" ∷ codes "p" ∷ codes "--help" ∷ []) ≡ None }
     ensures of_check { command_of (codes "info" ∷ codes "--version" ∷ []) ≡ None }

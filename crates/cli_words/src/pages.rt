@@ -10,6 +10,7 @@ const OVERVIEW: &str = "special asks external special remotes of git-annex.\n\
     special info PROGRAM [KEY]                          ask a remote about itself, and where it has KEY\n\
     special init PROGRAM UUID KEEP [NAME=VALUE ..]      set a remote up\n\
     special run --program PROGRAM --uuid UUID [OPTIONS] store, get, check and drop by the lines of the input\n\
+    special audit                                       check the text of a run, which is the input\n\
     special COMMAND --help                              more on that command\n\
     special --help                                      this text\n\
     special --version                                   the version\n\
@@ -61,6 +62,13 @@ const RUN: &str = "special run --program PROGRAM --uuid UUID [OPTIONS]\n\
     \n\
     The status is 0 where each answer is stored, got, present or dropped.\n";
 
+const AUDIT: &str = "special audit\n\
+    \n\
+    Reads the text of a run, its opening and its journal, from the input, and checks it. One line is printed: legal, or\n\
+    wrong with the place of the first entry that may not stand there, counted from 0, and the number of its kind; or,\n\
+    where entries are missing at the end, the number of entries and 0.\n\
+    The status is 0 where the journal is legal. A line that can't stand in such a text is refused with status 3.\n";
+
 const VERSION: &str = "special 0.1.0\n";
 
 impl Page {
@@ -74,6 +82,7 @@ impl Page {
             Page::Info => INFO,
             Page::Init => INIT,
             Page::Run => RUN,
+            Page::Audit => AUDIT,
             Page::Version => VERSION,
         }
     }

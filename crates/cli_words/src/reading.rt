@@ -3,7 +3,7 @@ ghost use Rattle.std.specs.Prelude.{◌≡◌, ◌<◌, IfOk, IfSome, length, op
 ghost use Rattle.cli_words.specs.Identities.{IsFit};
 ghost use Rattle.cli_words.specs.Ranges.{HasRanges};
 ghost use Rattle.cli_words.specs.Values.{texts_of};
-ghost use Rattle.cli_words.specs.Words.{behind, check_of, command_of, info_of, init_of, is_help, of_command, page_alone, page_of, run_of};
+ghost use Rattle.cli_words.specs.Words.{all_behind, alone, check_of, command_of, info_of, init_of, is_help, of_command, page_alone, page_of, run_of};
 ghost use Rattle.cli_words.specs.declared.command.Command.TheVariants.{Run, Show};
 
 use crate::command::{Command, InitWords, Page};
@@ -29,8 +29,19 @@ fn command_in(alloc: Global, words: &[String]) -> Result<Option<Command>, NoMemo
 {
     match words {
         [] => Ok(None),
-        [word] => Ok(show(page_alone(word.as_str()))),
+        [word] => Ok(alone(word.as_str())),
         [_, _, ..] => behind(alloc, words),
+    }
+}
+
+// The only word.
+fn alone(word: &str) -> Option<Command>
+    ensures { result ≡ alone word.now }
+{
+    if word == "audit" {
+        Some(Command::Audit)
+    } else {
+        show(page_alone(word))
     }
 }
 
@@ -66,6 +77,8 @@ fn page_of(word: &str) -> Option<Page>
         Some(Page::Init)
     } else if word == "run" {
         Some(Page::Run)
+    } else if word == "audit" {
+        Some(Page::Audit)
     } else {
         None
     }
@@ -83,7 +96,7 @@ fn is_help(words: &[String]) -> bool
 // The first word, with words behind it.
 fn behind(alloc: Global, words: &[String]) -> Result<Option<Command>, NoMemory>
     requires { 1 < length words.now }
-    ensures { IfOk result (λ command. command ≡ command_of (texts_of words.now)) }
+    ensures { IfOk result (λ command. command ≡ all_behind (texts_of words.now)) }
 {
     let word = words[0].as_str();
     let rest = &words[1..];

@@ -25,6 +25,10 @@ pub enum Reason {
     Many,
     /// In it the input passes its limit.
     Large,
+    /// It can't stand in the text of a run, or in it that text passes a limit.
+    Entry,
+    /// Behind it the end of the text of a run is missing; it is 0 where the input is empty.
+    Cut,
 }
 
 impl Reason {
@@ -41,6 +45,8 @@ impl Reason {
             Reason::Long => "long",
             Reason::Many => "many",
             Reason::Large => "large",
+            Reason::Entry => "entry",
+            Reason::Cut => "cut",
         }
     }
 }

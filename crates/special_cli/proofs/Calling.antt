@@ -1,6 +1,6 @@
 -- What is told of a call, from what came of its command and how that was told.
-use Rattle.std.proofs.Common.{◌≡◌, ◌⊎◌, ◌∙◌, ◌==◌, ◌≤◌, ℕ, List, [], ◌∷◌, length, Bool, true, false, cond, Option, Some, None, refl, sym, ap, subst, inl, inr, arith}
-use Rattle.std.specs.Prelude.{◌||◌, map, IfSome, IsSome}
+use Rattle.std.proofs.Common.{◌≡◌, ◌⊎◌, ◌∙◌, ◌==◌, ◌≤◌, ℕ, List, [], ◌∷◌, length, Bool, true, false, cond, Option, Some, None, Ok, Err, refl, sym, ap, subst, inl, inr, arith}
+use Rattle.std.specs.Prelude.{◌||◌, map, IfSome, IsSome, Result}
 use Rattle.std.specs.Io.KnownBytes.{Appends}
 use Rattle.std.specs.List.{list_all, list_any, range_with_len}
 use Rattle.std.proofs.lemmas.List.{append-nil}
@@ -13,7 +13,7 @@ use Rattle.journal_model.proofs.Looks.{same_number}
 use Rattle.journal_model.specs.Output.{answer_line}
 use Rattle.info_run.specs.Infos.{info_lines, is_informed}
 use Rattle.special_cli.specs.declared.end.End.{End}
-use Rattle.special_cli.specs.declared.end.End.TheVariants.{Usage, Shown, Refused, Memory, Answered, Informed, BadKept, KeptTooLarge, FileFailed, InputFailed, SetUp, NotSetUp, Done}
+use Rattle.special_cli.specs.declared.end.End.TheVariants.{Usage, Shown, Refused, Memory, Answered, Informed, BadKept, KeptTooLarge, FileFailed, InputFailed, SetUp, NotSetUp, Done, Audited}
 use Rattle.cli_words.specs.declared.refusals.Reason.{Reason}
 use Rattle.cli_words.specs.declared.command.Page.{Page}
 use Rattle.ann_outside.specs.Files.{Files}
@@ -25,6 +25,12 @@ use Rattle.run_tasks.specs.Runs.{HasDone, AddsMade}
 use Rattle.run_tasks.specs.declared.made.RunEnd.{RunEnd}
 use Rattle.run_tasks.specs.declared.made.RunEnd.TheVariants as R
 use Rattle.special_cli.specs.Doings.{end_of, made_in, HasRun}
+use Rattle.audit_run.specs.declared.error.AuditError.{AuditError}
+use Rattle.audit_run.specs.declared.error.AuditError.TheVariants as A
+use Rattle.journal_audit.specs.declared.found.Audit.{Audit}
+use Rattle.journal_audit.specs.declared.found.Audit.TheVariants.{Legal, Wrong}
+use Rattle.special_cli.specs.Audits.{HasAudited, end_of_audit}
+use Rattle.special_cli.proofs.Audited.{is_audit, other_words, nothing_audited}
 use Rattle.special_cli.specs.Setups.{EndsInit, HasSetUp}
 use Rattle.special_cli.specs.Calls.{IsCalled}
 use Rattle.special_cli.specs.Commands.{ComesToNothing, EndsCheck, HasChecked, EndsInfo, HasInformed, UnlessRefused, Runs}
@@ -41,7 +47,7 @@ use Rattle.special_cli.proofs.Informed.{nothing_informed}
 use Rattle.special_cli.proofs.Leaving.{leaves_as, leaves_nothing}
 use Rattle.special_cli.specs.Tells.{Flow, IsSilent, IsWritten, IsPrintedOr, IsSaidThen, IsUnkeptTold, IsToldOf, answer_lines, answers_status}
 use Rattle.cli_words.specs.declared.command.Command.{Command}
-use Rattle.cli_words.specs.declared.command.Command.TheVariants.{Check, Info, Init, Run, Show}
+use Rattle.cli_words.specs.declared.command.Command.TheVariants.{Check, Info, Init, Run, Audit as AuditWord, Show}
 
 -- ---- the statuses
 
@@ -63,6 +69,7 @@ wanted_of InputFailed = 4 ∷ []
 wanted_of (Done written) = 0 ∷ 1 ∷ 7 ∷ 6 ∷ []
 wanted_of (SetUp written) = 0 ∷ 6 ∷ []
 wanted_of (NotSetUp answer) = 1 ∷ 7 ∷ []
+wanted_of (Audited found) = 0 ∷ 1 ∷ 7 ∷ []
 
 -- it is one of these, or 5 behind a write that failed
 EndsWith : List ℕ → ℕ → Flow → Flow → Type 0
@@ -120,6 +127,8 @@ ends_with left status out err (SetUp W.TooLarge) told = on_both (0 ∷ 6 ∷ [])
 ends_with left status out err (SetUp W.Fault) told = on_both (0 ∷ 6 ∷ []) _ _ status out err refl told
 ends_with left status out err (NotSetUp answer) (inl said) = on_out (1 ∷ 7 ∷ []) 1 _ status out err refl said.0
 ends_with left status out err (NotSetUp answer) (inr said) = on_err (1 ∷ 7 ∷ []) 7 _ status out err refl said.0
+ends_with left status out err (Audited Legal) told = on_either [] true _ status out err told
+ends_with left status out err (Audited (Wrong entry kind)) told = on_either [] false _ status out err told
 
 -- another status isn't met
 apart : {A : Type 0} (ws : List ℕ) (status k : ℕ) (out err : Flow) → EndsWith ws status out err → (5 == k) ≡ false → list_any (λ w. w == k) ws ≡ false → status ≡ k → A
@@ -149,6 +158,7 @@ none_five InputFailed = refl
 none_five (Done written) = refl
 none_five (SetUp written) = refl
 none_five (NotSetUp answer) = refl
+none_five (Audited found) = refl
 
 or_seven : (ws : List ℕ) (status : ℕ) (out err : Flow) → EndsWith ws status out err → EndsWith (7 ∷ ws) status out err
 unfolding EndsWith
@@ -281,6 +291,16 @@ run_wanted (R.Refused line reason) = refl
 run_wanted R.Memory = refl
 run_wanted (R.Done written) = refl
 
+-- ---- audit
+
+audit_wanted : (outcome : Result Audit AuditError) → list_any (λ w. w == 2) (wanted_of (end_of_audit outcome)) ≡ false
+unfolding wanted_of
+audit_wanted (Ok found) = refl
+audit_wanted (Err (A.Entry line)) = refl
+audit_wanted (Err (A.Cut line)) = refl
+audit_wanted (Err A.Failed) = refl
+audit_wanted (Err A.NoMemory) = refl
+
 -- ---- the objects
 
 made_none : (xs : Option (List Made)) → HaveMade xs xs []
@@ -404,6 +424,7 @@ module _ (clock : Option ℕ) (before : OutsideValue) (input : InputFlow) (left 
     info_told = tt;
     init = tt;
     run = tt;
+    audit = λ same. other_words None refl same;
     wires = tt;
     starts = tt;
     fault = tt;
@@ -425,6 +446,7 @@ module _ (clock : Option ℕ) (before : OutsideValue) (input : InputFlow) (left 
     info_told = tt;
     init = tt;
     run = tt;
+    audit = λ same. other_words (Some (Show page)) refl same;
     wires = tt;
     starts = tt;
     fault = tt;
@@ -451,6 +473,7 @@ module _ (clock : Option ℕ) (before : OutsideValue) (input : InputFlow) (left 
             info_told = tt;
             init = tt;
             run = tt;
+            audit = λ same. other_words (Some (Check program key)) refl same;
             wires = if_fit _ (reason_refused key) program e h.objects.wired;
             starts = if_fit _ (reason_refused key) program e (started left status out err end program before told h.objects.started);
             fault = if_fit _ (reason_refused key) program e h.objects.fault;
@@ -471,6 +494,7 @@ module _ (clock : Option ℕ) (before : OutsideValue) (input : InputFlow) (left 
             info_told = tt;
             init = tt;
             run = tt;
+            audit = λ same. other_words (Some (Check program key)) refl same;
             wires = if_unfit _ (reason_refused key) program reason e;
             starts = if_unfit _ (reason_refused key) program reason e;
             fault = if_unfit _ (reason_refused key) program reason e;
@@ -497,6 +521,7 @@ module _ (clock : Option ℕ) (before : OutsideValue) (input : InputFlow) (left 
             info_told = if_fit _ (refusal_if key) (program, key) e (info_told key left status out err end h.ends told, h.none);
             init = tt;
             run = tt;
+            audit = λ same. other_words (Some (Info program key)) refl same;
             wires = if_fit _ (refusal_if key) program e h.objects.wired;
             starts = if_fit _ (refusal_if key) program e (started left status out err end program before told h.objects.started);
             fault = if_fit _ (refusal_if key) program e h.objects.fault;
@@ -517,6 +542,7 @@ module _ (clock : Option ℕ) (before : OutsideValue) (input : InputFlow) (left 
             info_told = if_unfit _ (refusal_if key) (program, key) reason e;
             init = tt;
             run = tt;
+            audit = λ same. other_words (Some (Info program key)) refl same;
             wires = if_unfit _ (refusal_if key) program reason e;
             starts = if_unfit _ (refusal_if key) program reason e;
             fault = if_unfit _ (refusal_if key) program reason e;
@@ -541,6 +567,7 @@ module _ (clock : Option ℕ) (before : OutsideValue) (input : InputFlow) (left 
         info_told = tt;
         init = (end, h, told);
         run = tt;
+        audit = λ same. other_words (Some (Init words)) refl same;
         wires = objects.wired;
         starts = started left status out err end words.program before told objects.started;
         fault = objects.fault;
@@ -565,7 +592,7 @@ module _ (clock : Option ℕ) (before : OutsideValue) (input : InputFlow) (left 
       record {
         usage = λ s. apart (wanted_of end) status 2 out err ends refl (subst (λ (x : End). list_any (λ w. w == 2) (wanted_of x) ≡ false) (sym same) (run_wanted e)) s;
         words = λ no. some_none (Run words) no;
-        refused = λ s. inr refl;
+        refused = λ s. inr (inl refl);
         key = λ some. never some;
         early = λ no. some_none words.program no;
         output = output;
@@ -575,6 +602,7 @@ module _ (clock : Option ℕ) (before : OutsideValue) (input : InputFlow) (left 
         info_told = tt;
         init = tt;
         run = (e, h, subst (λ (x : End). IsToldOf left status out err x) same told);
+        audit = λ same. other_words (Some (Run words)) refl same;
         wires = objects.wired;
         starts = started left status out err end words.program before told objects.started;
         fault = objects.fault;
@@ -589,6 +617,27 @@ module _ (clock : Option ℕ) (before : OutsideValue) (input : InputFlow) (left 
       desks (inl (memory, idle)) = made_still before.made left.outside.made left.tables (ap (λ (o : OutsideValue). o.made) idle.outside) idle.tables
       desks (inr d) = made_more before.made left.outside.made d.told d.table d.workers d.more left.tables d.tables d.desks d.numbers
 
+  called_audit : HasAudited before input whole → Called (Some AuditWord)
+  called_audit h = record {
+    usage = λ s. apart (wanted_of end) status 2 out err ends refl (subst (λ (x : End). list_any (λ w. w == 2) (wanted_of x) ≡ false) (sym h.end_is) (audit_wanted h.outcome)) s;
+    words = λ no. some_none AuditWord no;
+    refused = λ s. inr (inr refl);
+    key = λ some. never some;
+    early = λ none. h.idle;
+    output = output;
+    checked = tt;
+    told = tt;
+    informed = tt;
+    info_told = tt;
+    init = tt;
+    run = tt;
+    audit = λ same. (h.outcome, h.audit, h.idle, subst (λ (x : End). IsToldOf left status out err x) h.end_is told);
+    wires = tt;
+    starts = tt;
+    fault = tt;
+    desks = idle_desks h.idle;
+  }
+
   called_left : (wish : Option Command) → Runs clock before input wish whole → Called wish
   called_left None h = called_unknown h
   called_left (Some (Show page)) h = called_text page h
@@ -596,6 +645,7 @@ module _ (clock : Option ℕ) (before : OutsideValue) (input : InputFlow) (left 
   called_left (Some (Info program key)) h = called_info program key h
   called_left (Some (Init words)) h = called_init words h
   called_left (Some (Run words)) h = called_run words h
+  called_left (Some AuditWord) h = called_audit h
 
 pub called : (clock : Option ℕ) (before : OutsideValue) (input : InputFlow) (wish : Option Command) (ran : RanValue) (left : Left) (status : ℕ) (out err : Flow) → left ≡ ran.left → Runs clock before input wish ran
     → IsToldOf ran.left status out err ran.end → IsCalled clock before input wish out err status left
@@ -628,6 +678,7 @@ few clock before input (Some (Info program key)) ran h = go (refusal_if key) h
 few clock before input (Some (Init words)) ran (inl h) = none_few ran.left h.1.answers
 few clock before input (Some (Init words)) ran (inr h) = none_few ran.left h.none
 few clock before input (Some (Run words)) ran (end, h, same) = few_done words clock before input ran.left.outside (made_in ran.left end) h
+few clock before input (Some AuditWord) ran h = none_few ran.left h.idle.answers
 
 -- ---- no memory was found for the words
 
@@ -669,6 +720,7 @@ runs_nothing clock before input (Some (Info program key)) ran e idle unread = go
 runs_nothing clock before input (Some (Init words)) ran e idle unread = inl (e, idle)
 runs_nothing clock before input (Some (Run words)) ran e idle unread =
     (R.Memory, inl (refl, record { outside = idle.outside; unread = unread; journal = idle.journal; answers = idle.answers; wires = idle.wires; tables = idle.tables }), e)
+runs_nothing clock before input (Some AuditWord) ran e idle unread = nothing_audited before input ran e idle unread
 
 -- ---- an end is told
 

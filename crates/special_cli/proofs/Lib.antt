@@ -1,4 +1,5 @@
 pub mod Asked
+pub mod Audited
 pub mod Beginning
 pub mod Calling
 pub mod Causing

@@ -14,7 +14,7 @@ use Rattle.cli_words.specs.Settings.{settings_in}
 use Rattle.cli_words.specs.Values.{is_word_of_command, uuid_in}
 use Rattle.cli_words.specs.Words.{check_of, command_of, info_of, init_of, init_with, is_help, of_command, page_alone, page_of, run_of}
 use Rattle.cli_words.specs.declared.command.Command.{Command}
-use Rattle.cli_words.specs.declared.command.Command.TheVariants.{Run, Show}
+use Rattle.cli_words.specs.declared.command.Command.TheVariants.{Run, Audit, Show}
 use Rattle.cli_words.specs.declared.command.Page.{Page}
 use Rattle.cli_words.specs.declared.command.RunWords.{RunWords}
 use Rattle.cli_words.specs.declared.settings.Setting.{Setting}
@@ -135,7 +135,7 @@ run_written words = go (run_of words) (run_uuid words)
 
 pub command_written : (words : List (List ℕ)) → HasWrittenUuid (command_of words)
 command_written [] = tt
-command_written (word ∷ []) = show_written (page_alone word)
+command_written (word ∷ []) = either_written (bytes_eq word (codes "audit")) (Some Audit) (option_map Show (page_alone word)) tt (show_written (page_alone word))
 command_written (word ∷ next ∷ words) =
     let rest : List (List ℕ) = next ∷ words in
     either_written (is_help rest) (option_map Show (page_of word)) _ (show_written (page_of word))

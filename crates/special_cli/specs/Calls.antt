@@ -1,8 +1,11 @@
 -- All that is told of a call, in one record.
-use Rattle.std.specs.Prelude.{ℕ, ◌≡◌, ◌⊎◌, true, [], Option, None, IfSome, IsSome}
+use Rattle.std.specs.Prelude.{ℕ, ◌≡◌, ◌⊎◌, true, [], Option, Some, None, IfSome, IsSome, Result}
 use Rattle.ann_outside.specs.Causes.{Rose}
 use Rattle.journal_model.specs.Journal.{any}
+use Rattle.audit_run.specs.declared.error.AuditError.{AuditError}
+use Rattle.journal_audit.specs.declared.found.Audit.{Audit}
 use Rattle.cli_words.specs.declared.command.Command.{Command}
+use Rattle.cli_words.specs.declared.command.Command.TheVariants.{Audit as AuditWord}
 use Rattle.special_cli.specs.Endings.{refused_in, check_in, info_in, init_in, run_in, tasks_in, IsChecked, IsTold, LacksMemory}
 use Rattle.special_cli.specs.Informs.{IsInformed, IsInfoTold}
 use Rattle.child_end.specs.Outsides.{OutsideValue}
@@ -12,6 +15,7 @@ use Rattle.child_end.specs.Programs.{HaveStarted, is_failed_start}
 use Rattle.child_end.specs.Outsides.{HaveMade}
 use Rattle.special_cli.specs.Setups.{HasSetUp}
 use Rattle.special_cli.specs.Doings.{end_of, made_in}
+use Rattle.special_cli.specs.Audits.{IsAuditOf, end_of_audit}
 use Rattle.run_tasks.specs.Inputs.{InputFlow}
 use Rattle.run_tasks.specs.Runs.{HasDone}
 use Rattle.run_tasks.specs.declared.made.RunEnd.{RunEnd}
@@ -29,10 +33,15 @@ abbrev pub IsRunCalled : RunWords → Option ℕ → OutsideValue → InputFlow 
 IsRunCalled words clock before input status out err left =
     (end : RunEnd) × HasDone words clock before input left.outside (made_in left end) × IsToldOf left status out err (end_of end)
 
+-- the input was audited, nothing is left but as before, and what came of it was told so
+abbrev pub IsAuditCalled : OutsideValue → InputFlow → ℕ → Flow → Flow → Left → Type 0
+IsAuditCalled before input status out err left =
+    (outcome : Result Audit AuditError) × IsAuditOf input outcome × IsIdle before left × IsToldOf left status out err (end_of_audit outcome)
+
 pub record IsCalled (clock : Option ℕ) (before : OutsideValue) (input : InputFlow) (wish : Option Command) (out err : Flow) (status : ℕ) (left : Left) : Type 0 where
   pub usage : status ≡ 2 → wish ≡ None
   pub words : wish ≡ None → (status ≡ 2) ⊎ (status ≡ 5) ⊎ (status ≡ 7)
-  pub refused : status ≡ 3 → IsSome (refused_in wish) ⊎ IsSome (tasks_in wish)
+  pub refused : status ≡ 3 → IsSome (refused_in wish) ⊎ IsSome (tasks_in wish) ⊎ (wish ≡ Some AuditWord)
   pub key : IsSome (refused_in wish) → (status ≡ 3) ⊎ (status ≡ 5) ⊎ (status ≡ 7)
   pub early : run_in wish ≡ None → IsIdle before left
   pub output : status ≡ 5 → Rose out.faults out.faults' ⊎ Rose err.faults err.faults'
@@ -42,6 +51,7 @@ pub record IsCalled (clock : Option ℕ) (before : OutsideValue) (input : InputF
   pub info_told : IfSome (info_in wish) (λ c. IsInfoTold status out.taken out.taken' c.1 left.journal × (left.answers ≡ []))
   pub init : IfSome (init_in wish) (λ words. IsInitCalled words before status out err left)
   pub run : IfSome (tasks_in wish) (λ words. IsRunCalled words clock before input status out err left)
+  pub audit : wish ≡ Some AuditWord → IsAuditCalled before input status out err left
   pub wires : IfSome (run_in wish) (λ program. AreWires before.programs.starts left.journal 0 (came left.journal) left.wires)
   pub starts : IfSome (run_in wish) (λ program. HaveStarted (LacksMemory status (Rose err.faults err.faults')) program left.journal before.programs.starts left.outside.programs.starts)
   pub fault : IfSome (run_in wish) (λ program. any is_failed_start left.journal ≡ true → Rose before.programs.faults left.outside.programs.faults)

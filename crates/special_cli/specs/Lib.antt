@@ -1,3 +1,4 @@
+pub mod Audits
 pub mod Calls
 pub mod Causes
 pub mod CheckRuns

@@ -12,8 +12,9 @@ use Rattle.init_run.specs.Setups.{setup_text}
 use Rattle.init_run.specs.declared.setup.Setup.TheVariants.{Stopped}
 use Rattle.keep_desk.specs.declared.writing.KeptWritten.{KeptWritten}
 use Rattle.keep_desk.specs.declared.writing.KeptWritten.TheVariants as W
+use Rattle.special_cli.specs.Audits.{found_line, found_status}
 use Rattle.special_cli.specs.declared.end.End.{End}
-use Rattle.special_cli.specs.declared.end.End.TheVariants.{Usage, Shown, Refused, Memory, Answered, Informed, BadKept, KeptTooLarge, FileFailed, InputFailed, SetUp, NotSetUp, Done}
+use Rattle.special_cli.specs.declared.end.End.TheVariants.{Usage, Shown, Refused, Memory, Answered, Informed, BadKept, KeptTooLarge, FileFailed, InputFailed, SetUp, NotSetUp, Done, Audited}
 use Rattle.special_cli.specs.Endings.{is_well}
 use Rattle.special_cli.specs.Informs.{info_status}
 use Rattle.special_cli.specs.Left.{Left}
@@ -108,3 +109,4 @@ IsToldOf left status out err InputFailed = IsSaid 4 input_line status err out
 IsToldOf left status out err (SetUp written) = IsSetUpTold written status out err
 IsToldOf left status out err (Done written) = IsDoneTold left.journal left.answers written status out err
 IsToldOf left status out err (NotSetUp answer) = IsPrintedOr 1 (setup_text left.journal (Stopped answer)) status out err
+IsToldOf left status out err (Audited found) = IsPrintedOr (found_status found) (found_line found) status out err

@@ -1,5 +1,6 @@
 use ann_key::Key;
 use cli_words::{Page, Reason};
+use journal_audit::Audit;
 use journal_model::Answer;
 use keep_desk::KeptWritten;
 
@@ -10,7 +11,7 @@ pub(crate) enum End {
     Usage,
     /// A text was asked for.
     Shown(Page),
-    /// The line of that number of the input is refused; of a check or an info, line 1 is the key.
+    /// The line of that number of the input is refused, or the input is cut behind it; of a check or an info, line 1 is the key.
     Refused { line: u64, reason: Reason },
     /// No memory was found.
     Memory,
@@ -32,4 +33,6 @@ pub(crate) enum End {
     Done(KeptWritten),
     /// The remote isn't set up.
     NotSetUp(Answer),
+    /// What was found of the journal of the input.
+    Audited(Audit),
 }

@@ -1,6 +1,8 @@
 // The program: what its words ask for, what it prints, and its run.
 #![tactic(auto)]
 
+mod audit;
+pub mod audit_laws;
 mod check;
 mod closing;
 mod end;

@@ -7,6 +7,7 @@ ghost use Rattle.annex_model.specs.Lines.{text};
 ghost use Rattle.info_run.specs.Infos.{info_lines};
 ghost use Rattle.init_run.specs.Setups.{setup_text};
 ghost use Rattle.init_run.specs.declared.setup.Setup.TheVariants.{Stopped};
+ghost use Rattle.special_cli.specs.Audits.{found_line, found_status};
 ghost use Rattle.special_cli.specs.Endings.{is_well};
 ghost use Rattle.special_cli.specs.Informs.{info_status};
 ghost use Rattle.special_cli.specs.Tells.{flow, IsWritten, IsPrintedOr, IsSaidThen, IsDoneTold, IsSetUpTold, IsToldOf, IsUnkeptTold, answer_lines, answers_status};
@@ -22,6 +23,7 @@ use cli_words::{
     usage_line,
 };
 use info_run::{is_informed, print_info};
+use journal_audit::Audit;
 use journal_look::Journal;
 use journal_model::Answer;
 use journal_text::{print_answer, print_words};
@@ -71,6 +73,7 @@ fn told<P: Programs, K: Desks, O: Sink, E: Sink>(
         End::SetUp(written) => tell_set_up(*written, out, err),
         End::Done(written) => tell_done(alloc, &ran.journal, &ran.answers, *written, out, err),
         End::NotSetUp(answer) => tell_not_set_up(alloc, &ran.journal, answer, out, err),
+        End::Audited(found) => tell_found(alloc, *found, out, err),
     }
 }
 
@@ -289,6 +292,39 @@ fn tell_not_set_up<O: Sink, E: Sink>(
 {
     match print_line(alloc, answer, journal) {
         Ok(line) => write(out, line.view(), 1),
+        Err(NoMemory) => write(err, memory_line(), 7),
+    }
+}
+
+// What was found of a journal, as a line.
+fn found_line(alloc: Global, found: Audit) -> Result<Bytes, NoMemory>
+    ensures { IfOk result (λ line. line ≡ found_line found) }
+{
+    match found {
+        Audit::Legal => Ok(Bytes::copy(alloc, b"legal\n")?),
+        Audit::Wrong { entry, kind } => {
+            let text = format!(in alloc; "wrong {entry} {kind}\n")?;
+            Ok(Bytes::copy(alloc, text.as_bytes())?)
+        }
+    }
+}
+
+fn found_status(found: Audit) -> u8
+    ensures { result ≡ found_status found }
+{
+    match found {
+        Audit::Legal => 0,
+        Audit::Wrong { .. } => 1,
+    }
+}
+
+fn tell_found<O: Sink, E: Sink>(alloc: Global, found: Audit, out: &mut O, err: &mut E) -> u8
+    requires out { O.is_open out.old ≡ true }
+    requires err { E.is_open err.old ≡ true }
+    ensures { IsPrintedOr (found_status found) (found_line found) result (flow (O.faults out.old) (O.faults out.new) (O.taken out.old) (O.taken out.new)) (flow (E.faults err.old) (E.faults err.new) (E.taken err.old) (E.taken err.new)) }
+{
+    match found_line(alloc, found) {
+        Ok(line) => write(out, line.view(), found_status(found)),
         Err(NoMemory) => write(err, memory_line(), 7),
     }
 }

@@ -1,12 +1,13 @@
-ghost use Rattle.std.specs.Prelude.{◌≡◌, ◌⊎◌, [], None, IfSome, IsSome, true};
+ghost use Rattle.std.specs.Prelude.{◌≡◌, ◌⊎◌, [], Some, None, IfSome, IsSome, true};
 ghost use Rattle.journal_model.specs.Journal.{any};
 ghost use Rattle.ann_outside.specs.Causes.{Rose};
-ghost use Rattle.special_cli.specs.Calls.{IsInitCalled, IsRunCalled};
+ghost use Rattle.special_cli.specs.Calls.{IsAuditCalled, IsInitCalled, IsRunCalled};
 ghost use Rattle.special_cli.specs.Commands.{Runs};
 ghost use Rattle.special_cli.specs.Tells.{flow};
 ghost use Rattle.special_cli.specs.Wishes.{wish_of, HasWrittenUuid};
 ghost use Rattle.cli_words.specs.Identities.{IsFit};
 ghost use Rattle.cli_words.specs.Ranges.{HasRanges};
+ghost use Rattle.cli_words.specs.declared.command.Command.TheVariants.{Audit};
 ghost use Rattle.run_tasks.specs.Inputs.{input_flow};
 ghost use Rattle.cli_words.specs.Values.{texts_of};
 ghost use Rattle.special_cli.specs.Endings.{refused_in, check_in, info_in, init_in, run_in, tasks_in, IsChecked, IsTold, LacksMemory};
@@ -17,6 +18,7 @@ ghost use Rattle.child_end.specs.Wires.{AreWires, came};
 ghost use Rattle.child_end.specs.Programs.{HaveStarted, is_failed_start};
 ghost use Rattle.child_end.specs.Outsides.{HaveMade};
 
+use crate::audit::audit;
 use crate::check::check;
 use crate::closing::Closing;
 use crate::end::End;
@@ -34,9 +36,10 @@ use std::alloc::Global;
 /// Does all that the program does: reads the words behind its name, starts what they ask for, prints what comes of it to
 /// `out` or why there is nothing to `err`, and leaves the status to end with.
 ///
-/// 0: all is well. 1: an answer isn't the one that was hoped for, or not all was answered. 2: the words aren't in the
-/// grammar. 3: the key or a line of the input is refused. 4: the input couldn't be read. 5: a write to `out` or `err` failed.
-/// 6: the kept file may not be as it is, or couldn't be read or written. 7: no memory was found.
+/// 0: all is well. 1: an answer isn't the one that was hoped for, not all was answered, or a journal isn't legal. 2: the words
+/// aren't in the grammar. 3: the key or a line of the input is refused, or the input is cut. 4: the input couldn't be read.
+/// 5: a write to `out` or `err` failed. 6: the kept file may not be as it is, or couldn't be read or written. 7: no memory was
+/// found.
 pub fn special<P: Programs, K: Desks, I: Source, O: Sink, E: Sink, C: Clock>(
     alloc: Global,
     words: &[String],
@@ -56,7 +59,7 @@ where
     requires err { E.is_open err.old ≡ true }
     ensures usage { result.status ≡ 2 → wish_of (texts_of words.now) ≡ None }
     ensures words { wish_of (texts_of words.now) ≡ None → (result.status ≡ 2) ⊎ (result.status ≡ 5) ⊎ (result.status ≡ 7) }
-    ensures refused { result.status ≡ 3 → IsSome (refused_in (wish_of (texts_of words.now))) ⊎ IsSome (tasks_in (wish_of (texts_of words.now))) }
+    ensures refused { result.status ≡ 3 → IsSome (refused_in (wish_of (texts_of words.now))) ⊎ IsSome (tasks_in (wish_of (texts_of words.now))) ⊎ (wish_of (texts_of words.now) ≡ Some Audit) }
     ensures key { IsSome (refused_in (wish_of (texts_of words.now))) → (result.status ≡ 3) ⊎ (result.status ≡ 5) ⊎ (result.status ≡ 7) }
     ensures early { run_in (wish_of (texts_of words.now)) ≡ None → IsIdle (record { programs = programs_value (P.starts programs) (P.faults programs); made = K.made desks }) result.left }
     ensures output { result.status ≡ 5 → Rose (O.faults out.old) (O.faults out.new) ⊎ Rose (E.faults err.old) (E.faults err.new) }
@@ -66,6 +69,7 @@ where
     ensures info_told { IfSome (info_in (wish_of (texts_of words.now))) (λ c. IsInfoTold result.status (O.taken out.old) (O.taken out.new) c.1 result.left.journal × (result.left.answers ≡ [])) }
     ensures init { IfSome (init_in (wish_of (texts_of words.now))) (λ w. IsInitCalled w (record { programs = programs_value (P.starts programs) (P.faults programs); made = K.made desks }) result.status (flow (O.faults out.old) (O.faults out.new) (O.taken out.old) (O.taken out.new)) (flow (E.faults err.old) (E.faults err.new) (E.taken err.old) (E.taken err.new)) result.left) }
     ensures run { IfSome (tasks_in (wish_of (texts_of words.now))) (λ w. IsRunCalled w (C.answer clock.old) (record { programs = programs_value (P.starts programs) (P.faults programs); made = K.made desks }) (input_flow (I.given input.old) (I.given input.new) (I.left input.old) (I.left input.new) (I.faults input.old) (I.faults input.new)) result.status (flow (O.faults out.old) (O.faults out.new) (O.taken out.old) (O.taken out.new)) (flow (E.faults err.old) (E.faults err.new) (E.taken err.old) (E.taken err.new)) result.left) }
+    ensures audit { wish_of (texts_of words.now) ≡ Some Audit → IsAuditCalled (record { programs = programs_value (P.starts programs) (P.faults programs); made = K.made desks }) (input_flow (I.given input.old) (I.given input.new) (I.left input.old) (I.left input.new) (I.faults input.old) (I.faults input.new)) result.status (flow (O.faults out.old) (O.faults out.new) (O.taken out.old) (O.taken out.new)) (flow (E.faults err.old) (E.faults err.new) (E.taken err.old) (E.taken err.new)) result.left }
     ensures wires { IfSome (run_in (wish_of (texts_of words.now))) (λ program. AreWires (P.starts programs) result.left.journal 0 (came result.left.journal) result.left.wires) }
     ensures starts { IfSome (run_in (wish_of (texts_of words.now))) (λ program. HaveStarted (LacksMemory result.status (Rose (E.faults err.old) (E.faults err.new))) program result.left.journal (P.starts programs) result.left.outside.programs.starts) }
     ensures fault { IfSome (run_in (wish_of (texts_of words.now))) (λ program. any is_failed_start result.left.journal ≡ true → Rose (P.faults programs) result.left.outside.programs.faults) }
@@ -123,6 +127,7 @@ where
         Some(Command::Info { program, key }) => info(alloc, program.view(), key, outside),
         Some(Command::Init(words)) => init(alloc, words, outside),
         Some(Command::Run(words)) => run(alloc, words, outside, input, clock),
+        Some(Command::Audit) => audit(alloc, outside, input),
         None => Ran::nothing(alloc, outside, End::Usage),
     }
 }

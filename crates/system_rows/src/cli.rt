@@ -23,6 +23,7 @@ fn asked(alloc: Global, command: &Command) -> Result<String, NoMemory> {
         },
         Command::Init(init) => named(alloc, "init", &[&init.program, &init.uuid, &init.keep]),
         Command::Run(run) => named(alloc, "run", &[&run.program, &run.uuid]),
+        Command::Audit => words::told(alloc, "audit"),
         Command::Show(page) => show(alloc, *page),
     }
 }

@@ -36,6 +36,7 @@ pub(crate) fn said(alloc: Global, text: &str) -> Result<String, NoMemory> {
         }
         Some(Command::Init(init)) => init_said(alloc, &init),
         Some(Command::Run(run)) => run_said(alloc, &run),
+        Some(Command::Audit) => words::joined(alloc, &["audit"]),
         Some(Command::Show(page)) => page_said(alloc, page),
     }
 }

@@ -2,7 +2,7 @@
 use crate::words;
 use ann_key::NoMemory;
 use cli_words::{
-    Page, bad_kept_line, file_line, input_line, keep_large_line, memory_line, refusal,
+    Page, Reason, bad_kept_line, file_line, input_line, keep_large_line, memory_line, refusal,
     refused_line, usage_line,
 };
 use std::alloc::Global;
@@ -22,6 +22,7 @@ fn page(alloc: Global, name: &str) -> Result<String, NoMemory> {
         "info" => Page::Info,
         "init" => Page::Init,
         "run" => Page::Run,
+        "audit" => Page::Audit,
         "version" => Page::Version,
         _ => Page::Overview,
     };
@@ -42,15 +43,23 @@ fn line(alloc: Global, name: &str) -> Result<String, NoMemory> {
     words::joined(alloc, &[words::shown(line)])
 }
 
-// The lines with a number: of a kept file, or of an input with a key as its reason.
+// The lines with a number: of a kept file, or of an input with a key as its reason, or with a reason of `audit`.
 fn numbered(alloc: Global, name: &str) -> Result<String, NoMemory> {
     let (word, rest) = words::cut(name);
     let number = words::number(word);
-    let line = match refusal(rest.as_bytes()) {
+    let line = match reason(rest) {
         Some(reason) => refused_line(alloc, number, reason)?,
         None => bad_kept_line(alloc, number)?,
     };
     words::joined(alloc, &[words::shown(line.view())])
+}
+
+fn reason(name: &str) -> Option<Reason> {
+    match name {
+        "@entry" => Some(Reason::Entry),
+        "@cut" => Some(Reason::Cut),
+        _ => refusal(name.as_bytes()),
+    }
 }
 
 fn key(alloc: Global, text: &str) -> Result<String, NoMemory> {

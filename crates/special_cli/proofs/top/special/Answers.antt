@@ -26,6 +26,7 @@ returns g c =
       info_told = all.info_told;
       init = all.init;
       run = all.run;
+      audit = all.audit;
       wires = all.wires;
       starts = all.starts;
       fault = all.fault;
