@@ -255,8 +255,8 @@ over_spent {o} {setup} {limit} {made} {offer} {journal} b over left = (first ove
 
 -- ---- in the run
 
-pub few_starts : {o : Opening} {setup : Setup} {limit made : ℕ} {offer : Bool} {journal : List Entry} {desk desk' : DeskTells} → Between o setup limit made offer journal desk desk' → made ≤ 16 → count is_start journal < 4294967295
-few_starts {journal = journal} b le = (let n = b.starts in let m = count_fewer is_start is_any_start starting journal in omega (arith, n, m, le))
+pub few_starts : (journal : List Entry) (made : ℕ) → count is_any_start journal ≡ made → made ≤ 16 → count is_start journal < 4294967295
+few_starts journal made all le = (let m = count_fewer is_start is_any_start starting journal in omega (arith, all, m, le))
   where
     starting : (w : What) → is_start w ≡ true → is_any_start w ≡ true
     starting (Start child slot offers) h = refl

@@ -1,4 +1,4 @@
-use Rattle.std.proofs.Common.{arith, inr, map, subst, sym, ap, ◌∙◌}
+use Rattle.std.proofs.Common.{arith, inl, inr, map, subst, sym, ap, ◌∙◌}
 use Rattle.journal_model.specs.declared.opening.Opening.{Opening}
 use Rattle.journal_model.specs.Legality.{Legal}
 use Rattle.host_core.specs.Steps.{are_all_claimed}
@@ -23,7 +23,7 @@ start_one-requires-clause-few g c = λ κs fresh. (
     let below = c.children-test.true in
     let end = c.children.auto.made-end in
     let most = c.requires.starts.1 in
-    few_starts c.children.invariant.between (omega (arith, below, end, most)))
+    few_starts c.children.core.journal c.children.made c.children.invariant.between.starts (omega (arith, below, end, most)))
 
 pub start_one-requires-clause-left : goal.start_one-requires-clause-left
 start_one-requires-clause-left g c = λ κs fresh. left_some c.children.core.opening c.children.core.journal c.unclaimed.result c.unclaimed.ensures c.if-unclaimed-eq0.false
@@ -50,3 +50,18 @@ children-preserved g c =
         c.start_one.ensures.room.1 ∙ c.children.invariant.room.1,
       );
     }
+
+pub returns-clause-started : goal.returns-clause-started
+returns-clause-started g c = (
+  c.children.made,
+  c.children.offer,
+  c.children.invariant.between,
+  (let end = c.children.auto.made-end in omega (arith, end)),
+  inl (let over = c.children-test.false in let end = c.children.auto.made-end in omega (arith, over, end)),
+)
+
+pub returns-clause-kept : goal.returns-clause-kept
+returns-clause-kept g c = c.children.invariant.kept
+
+pub returns-then-unclaimed-eq0-clause-kept : goal.returns-then-unclaimed-eq0-clause-kept
+returns-then-unclaimed-eq0-clause-kept g c = c.children.invariant.kept

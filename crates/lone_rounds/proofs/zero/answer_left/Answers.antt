@@ -1,14 +1,24 @@
-use Rattle.std.proofs.Common.{◌<◌, length, subst, sym}
+use Rattle.std.proofs.Common.{◌<◌, false, length, subst, sym}
 use Rattle.journal_model.specs.declared.answer.Answer.{Answer}
 use Rattle.journal_model.specs.declared.opening.Opening.{Opening}
 use Rattle.host_core.specs.Steps.{unclaimed}
 use Rattle.lone_rounds.specs.Rounds.{left_answer}
-use Rattle.lone_rounds.specs.Stints.{AnswersOne}
+use Rattle.lone_rounds.specs.Stints.{AnswersLeft, AnswersOne}
 use Rattle.lone_rounds.proofs.Ending.{cores_both}
 use Rattle.lone_rounds.proofs.Stinting.{one_rests}
-use Rattle.lone_rounds.proofs.Zeros.{fewer_now, left_then}
+use Rattle.lone_rounds.proofs.Zeros.{fewer_now, left_over, left_then}
 use Rattle.std.proofs.Common.{true}
 use Rattle.lone_rounds.proofs.zero.answer_left.Goals as goal
+
+pub returns-then-not-answer_one-clause-answers : goal.returns-then-not-answer_one-clause-answers
+returns-then-not-answer_one-clause-answers c =
+    let o = c.args.core.now.opening in
+    let p = c.tasks.core.opening in
+    let mid = c.tasks.core.journal in
+    let new = c.answer_one.new.core.journal in
+    let so = left_answer c.args.core.now.journal in
+    subst (λ (w : Opening). AnswersLeft w c.args.core.now.journal new so) c.tasks.invariant.core.opening
+    (left_over p c.args.core.now.journal mid new so c.tasks.invariant.so_far (subst (λ (x : Answer). AnswersOne p mid new x false) c.tasks.invariant.answer c.if-not-answer_one.ensures.answers))
 
 pub tasks-smaller : goal.tasks-smaller
 tasks-smaller c =
