@@ -143,7 +143,7 @@ pub record AreWritten (words : RunWords) (told : Option Files) (table : TableVal
   pub journaled : IsJournaled words mid table o journal (Ok of_journal)
   pub told_is : written ≡ told_of of_kept of_journal
 
--- the kept file was written, and then no memory was found for the journal file
+-- this came of the kept file, and then no memory was found for the journal file
 pub record IsCutShort (words : RunWords) (told : Option Files) (table : TableValue) (o : Opening) (journal : List Entry) : Type 0 where
   pub mid : TableValue
   pub of_kept : KeptWritten

@@ -52,7 +52,7 @@ pub record IsFinished (words : RunWords) (told : Option Files) (table : TableVal
   pub answers_are : AreAnswers opening journal answers
   pub files : AreWritten words told table opening journal written
 
--- no memory was found, and the kept file is as before; or that was written, and no memory was found for the journal file
+-- no memory was found, and the kept file is as before; or only for the journal file no memory was found
 abbrev pub IsWanting : RunWords → Option Files → TableValue → Opening → List Entry → Type 0
 IsWanting words told table opening journal = IsAsBefore words told table ⊎ IsCutShort words told table opening journal
 

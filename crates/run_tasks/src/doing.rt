@@ -77,7 +77,7 @@ fn both<D>(tables: Vec<D>, first: D, worker: Option<D>) -> Vec<D>
 }
 
 /// Does the tasks of the input. The kept file is read first, where the words name one, then the input to its end, then the
-/// clock; after the tasks the kept file is written.
+/// clock; after the tasks the kept file is written, and then the journal file.
 pub fn do_tasks<P: Programs, K: Desks, I: Source, C: Clock>(
     alloc: Global,
     words: &RunWords,

@@ -1,4 +1,4 @@
-// What is kept behind the tasks.
+// What is written behind the tasks.
 ghost use Rattle.std.specs.Prelude.{◌≡◌};
 ghost use Rattle.child_end.specs.Outsides.{table_value};
 ghost use Rattle.run_tasks.specs.Answering.{AreAllAnswered};

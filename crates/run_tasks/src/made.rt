@@ -21,7 +21,7 @@ pub enum RunEnd {
     Refused { line: u64, reason: Reason },
     /// No memory was found.
     Memory,
-    /// Each task was answered, and this came of keeping what is known of the remote.
+    /// Each task was answered, and this came of the kept file; or a fault of the journal file, where only that failed.
     Done(KeptWritten),
 }
 
