@@ -5,7 +5,7 @@ use Rattle.std.specs.List.{list_all, cons_option}
 use Rattle.std.proofs.lemmas.List.Elements.{filter-append}
 use Rattle.journal_model.specs.declared.verdict.Verdict.TheVariants.{Ended}
 use Rattle.journal_model.specs.declared.entry.What.{What}
-use Rattle.journal_model.specs.declared.entry.What.TheVariants.{Start, Mute, Got, End}
+use Rattle.journal_model.specs.declared.entry.What.TheVariants.{Start, Mute, Got, End, Lost}
 use Rattle.journal_model.specs.declared.entry.Entry.{Entry}
 use Rattle.journal_model.specs.declared.opening.Opening.{Opening}
 use Rattle.journal_model.specs.Journal.{any, starts, ends, offers, got_from, line_from, is_started, is_ended, has_spoken, got_lines, open_jobs}
@@ -22,6 +22,7 @@ use Rattle.journal_model.specs.Halves.{EarValue, MouthValue, LinkWired}
 use Rattle.journal_model.proofs.Heard.{heard_on}
 use Rattle.journal_model.proofs.Projecting.{invariant}
 use Rattle.annex_model.specs.Extensions.{names_of}
+use Rattle.child_start.specs.Greetings.{loses}
 use Rattle.child_start.specs.Stages.{HasBegun}
 use Rattle.child_start.proofs.Jobs.{or_true, or_false}
 
@@ -104,6 +105,49 @@ later_unstarted o journal l =
         let fewer : count is_start past < c = omega (arith, few, count-append past more) in
         any-append (starts c) past more ∙ neither (is_started past c) (is_started more c) (before c fewer) (group_starts o past c by w may few)
 
+-- ---- of a child that was not started no request is lost
+
+soft_unlost : (c : ℕ) (more : List Entry) → list_all (λ (e : Entry). is_soft e.what) more ≡ true → any (loses c) more ≡ false
+soft_unlost c [] h = refl
+soft_unlost c (e ∷ more) h =
+    let t : (is_soft e.what ≡ true) × (list_all (λ (e : Entry). is_soft e.what) more ≡ true) = both (is_soft e.what) (list_all (λ (e : Entry). is_soft e.what) more) h in
+    step e.what t.0 (soft_unlost c more t.1)
+  where
+    step : (w : What) → is_soft w ≡ true → any (loses c) more ≡ false → (loses c w || any (loses c) more) ≡ false
+    step (Lost child task) s r = absurd cc
+    step w s r = r
+
+group_unlost : (o : Opening) (past : List Entry) (c by : ℕ) (w : What) → may_come o past by w ≡ true → is_started past c ≡ false
+    → any (loses c) (entry by w ∷ due_after o past (entry by w)) ≡ false
+group_unlost o past c by (Lost child task) may none = go (child == c) refl
+  where
+    go : (b : Bool) → (child == c) ≡ b → (b || false) ≡ false
+    go false e = refl
+    go true e =
+        let was : is_started past child ≡ true = (both (is_started past child) _ (both _ _ may).0).0 in
+        let bad : true ≡ false = sym was ∙ ap (is_started past) (same_number child c e) ∙ none in
+        absurd cc
+group_unlost o past c by (Got child line) may none = soft_unlost c (due_after o past (entry by (Got child line))) (due_soft o past by (Got child line))
+group_unlost o past c by (End child why) may none = soft_unlost c (due_after o past (entry by (End child why))) (due_soft o past by (End child why))
+group_unlost o past c by (Mute child) may none = soft_unlost c (due_after o past (entry by (Mute child))) (due_soft o past by (Mute child))
+group_unlost o past c by w may none = refl
+
+unstarted_unlost : (o : Opening) (journal : List Entry) → Legal o journal → (c : ℕ) → is_started journal c ≡ false → any (loses c) journal ≡ false
+unstarted_unlost o journal l =
+    Legal-induction o (λ past. (c : ℕ) → is_started past c ≡ false → any (loses c) past ≡ false) (λ c none. refl)
+    (λ past e legal before may. step past e.by e.what before may) journal l
+  where
+    earlier : (a b : Bool) → (a || b) ≡ false → a ≡ false
+    earlier false b h = refl
+    earlier true b h = absurd cc
+
+    step : (past : List Entry) (by : ℕ) (w : What) → ((c : ℕ) → is_started past c ≡ false → any (loses c) past ≡ false) → may_come o past by w ≡ true
+        → (c : ℕ) → is_started (past ++ entry by w ∷ due_after o past (entry by w)) c ≡ false → any (loses c) (past ++ entry by w ∷ due_after o past (entry by w)) ≡ false
+    step past by w before may c none =
+        let more : List Entry = entry by w ∷ due_after o past (entry by w) in
+        let was : is_started past c ≡ false = earlier (is_started past c) (is_started more c) (sym (any-append (starts c) past more) ∙ none) in
+        any-append (loses c) past more ∙ neither (any (loses c) past) (any (loses c) more) (before c was) (group_unlost o past c by w may was)
+
 -- ---- a child that was started just now
 
 silent_said : (past : List Entry) (c : ℕ) → got_lines past c ≡ [] → has_spoken past c ≡ false
@@ -167,6 +211,7 @@ module _ (o : Opening) (old new : List Entry) (c slot : ℕ) (offer : Bool) (num
     live = live;
     silent = silent;
     jobs = (invariant o new legal).silent c silent;
+    unlost = ap (any (loses c)) is ∙ any-append (loses c) old one ∙ ap (λ (b : Bool). b || false) (unstarted_unlost o old before c unstarted);
     names = ap names_of offered;
   }
 

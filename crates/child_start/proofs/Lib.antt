@@ -1,5 +1,6 @@
 pub mod Begun
 pub mod Jobs
+pub mod Losing
 pub mod Preparing
 pub mod Requests
 pub mod Telling

@@ -21,9 +21,10 @@ use Rattle.child_start.specs.declared.starting.RequestOutcome.{RequestOutcome}
 use Rattle.child_start.specs.declared.starting.RequestOutcome.TheVariants.{Done, Refused, Gone}
 use Rattle.child_start.specs.declared.greeting.Mode.{Mode}
 use Rattle.child_start.specs.declared.greeting.Mode.TheVariants.{Serve, Init}
-use Rattle.child_start.specs.Greetings.{is_greeting_line, is_of_greeting, is_of_greeting_for, is_refusal, IsReadyFor, HasEnded, IsUnsent}
+use Rattle.child_start.specs.Greetings.{is_greeting_line, is_of_greeting, is_of_greeting_for, is_refusal, loses, IsReadyFor, HasEnded, IsUnsent}
 use Rattle.child_start.specs.Stages.{is_greeting, is_asked_for, last_request, HasBegun, IsMain, MayAsk, GreetsOn, IsGoneNext, AsksNext, IsGoneUnready, Prepares}
 use Rattle.child_start.proofs.Jobs.{goes_jobs, goes_names, verdict_settled, or_true}
+use Rattle.child_start.proofs.Losing.{links_unlost, unlost_more, unlost_on}
 use Rattle.child_start.proofs.Requests.{none_later, greets_goes, greets_both}
 
 two_true : (a b : Bool) → a ≡ true → b ≡ true → (a && b) ≡ true
@@ -132,6 +133,15 @@ module _ (old mid : List Entry) (c : ℕ) (none : asked_jobs old c ≡ []) where
         go (Refused verdict) here n = n.jobs
         go Gone here n = absurd (here refl)
 
+    -- no request was lost
+    pub unlost_first : any (loses c) mid ≡ any (loses c) old
+    unlost_first = go a here n
+      where
+        go : (a : RequestOutcome) → (a ≡ Gone → ⊥) → AsksNext old mid c a → any (loses c) mid ≡ any (loses c) old
+        go Done here n = n.unlost
+        go (Refused verdict) here n = n.unlost
+        go Gone here n = absurd (here refl)
+
     settled : is_settled mid c 0 ≡ true
     settled = go a here n
       where
@@ -162,22 +172,22 @@ module _ (old mid : List Entry) (c : ℕ) (none : asked_jobs old c ≡ []) where
         ap (λ (k : ℕ). may_request mid by 0 k q) e ∙ two_true _ (is_askable q) three (askable mode)
 
     -- PREPARE was asked
-    pub prepared_second : (mode : Mode) (new : List Entry) (b : RequestOutcome) → GreetsOn mode mid new c → AsksNext mid new c b → Prepares mode new c b
-    prepared_second mode new Done g a =
+    pub prepared_second : (mode : Mode) (new : List Entry) (b : RequestOutcome) → any (loses c) old ≡ false → GreetsOn mode mid new c → AsksNext mid new c b → Prepares mode new c b
+    prepared_second mode new Done clean g a =
         let done : is_done (verdict_of new c 1) ≡ true = ap (λ (ks : List ℕ). is_done (verdict_of new c (length ks))) (sym one_job) ∙ a.done in
         let jobs : asked_jobs new c ≡ 0 ∷ 1 ∷ [] = a.jobs ∙ ap (λ (ks : List ℕ). ks ++ length ks ∷ []) one_job in
-        ready mode done jobs g
+        ready mode done jobs (a.unlost ∙ unlost_first ∙ clean) g
       where
-        ready : (mode : Mode) → is_done (verdict_of new c 1) ≡ true → asked_jobs new c ≡ 0 ∷ 1 ∷ [] → GreetsOn mode mid new c → IsReadyFor mode new c
-        ready Init done jobs g = record { done = done; jobs = jobs }
-        ready Serve done jobs g =
+        ready : (mode : Mode) → is_done (verdict_of new c 1) ≡ true → asked_jobs new c ≡ 0 ∷ 1 ∷ [] → any (loses c) new ≡ false → GreetsOn mode mid new c → IsReadyFor mode new c
+        ready Init done jobs unlost g = record { done = done; jobs = jobs; unlost = unlost }
+        ready Serve done jobs unlost g =
             let later : (0 ∷ []) ++ asked_jobs g.more c ≡ 0 ∷ 1 ∷ [] =
             sym (ap (λ (x : List Entry). asked_jobs x c) g.is ∙ each_of-append (asks c) mid g.more ∙ ap (λ (ks : List ℕ). ks ++ asked_jobs g.more c) one_job) ∙ jobs in
             let second : list_any (λ k. k == 1) (asked_jobs g.more c) ≡ true = ap (list_any (λ k. k == 1)) later in
             let asked : any (prepares c) new ≡ true =
             ap (any (prepares c)) g.is ∙ any-append (prepares c) mid g.more ∙ ap (λ (b : Bool). any (prepares c) mid || b) (second_prepares c g.more g.own second) ∙ or_true (any (prepares c) mid) in
-            record { prepared = rw (done, asked) refl; jobs = jobs }
-    prepared_second mode new (Refused verdict) g a =
+            record { prepared = rw (done, asked) refl; jobs = jobs; unlost = unlost }
+    prepared_second mode new (Refused verdict) clean g a =
         let told : verdict_of new c 1 ≡ Some verdict = ap (λ (ks : List ℕ). verdict_of new c (length ks)) (sym one_job) ∙ a.settled in
         record {
           undone = ap is_done told ∙ refused_undone verdict a.place a.refusal;
@@ -186,7 +196,7 @@ module _ (old mid : List Entry) (c : ℕ) (none : asked_jobs old c ≡ []) where
           refusal = a.refusal;
           jobs = a.jobs ∙ ap (λ (ks : List ℕ). ks ++ length ks ∷ []) one_job;
         }
-    prepared_second mode new Gone g a = record {
+    prepared_second mode new Gone clean g a = record {
       gone = a.gone;
       undone = ap (λ (ks : List ℕ). is_done (verdict_of new c (length ks))) (sym one_job) ∙ a.undone;
       unrefused = ap (λ (ks : List ℕ). is_refusal (verdict_of new c (length ks))) (sym one_job) ∙ a.unrefused;
@@ -200,6 +210,7 @@ may_ask_first old mid c d offer e h g said = record {
   started = started_after old mid c d e g h.started;
   version = ap (said_version mid) e ∙ said;
   jobs = ap (asked_jobs mid) e ∙ goes_jobs old mid c g ∙ h.jobs;
+  unlost = ap (λ (k : ℕ). any (loses k) mid) e ∙ unlost_on c old mid g.more g.is (links_unlost c c g.more g.quiet) ∙ h.unlost;
   names = ap (offered_names mid) e ∙ goes_names old mid c g ∙ h.names;
 }
 
@@ -277,5 +288,6 @@ greets_as {mode} old new c d e g = subst (λ (k : ℕ). GreetsOn mode old new k)
 -- behind the version stands the rest of the greeting
 pub greets_heard : {mode : Mode} {n : ℕ} (old mid new last : List Entry) (c d : ℕ) (offer : Bool) → n ≡ 0 → d ≡ c → HasBegun old c offer → GoesOn n c old mid → GreetsOn mode mid new d → last ≡ new → GreetsOn mode old last c
 greets_heard {mode} old mid new last c d offer first e h g more l =
-    subst (λ (x : List Entry). GreetsOn mode old x c) (sym l)
-    (greets_both old mid new c (greets_goes old mid c first g (unasked_idle old c h.jobs)) (greets_as mid new c d e more))
+    let heard : GreetsOn mode old mid c = greets_goes old mid c first g (unasked_idle old c h.jobs) in
+    let unlost : any (loses c) heard.more ≡ false = unlost_more c old mid heard.more heard.is (unlost_on c old mid g.more g.is (links_unlost c c g.more g.quiet)) h.unlost in
+    subst (λ (x : List Entry). GreetsOn mode old x c) (sym l) (greets_both old mid new c heard (greets_as mid new c d e more) unlost)

@@ -16,8 +16,8 @@ use Rattle.journal_model.specs.declared.entry.What.{What}
 use Rattle.journal_model.specs.declared.entry.What.TheVariants.{Ask, Lost}
 use Rattle.journal_model.specs.declared.entry.Entry.{Entry}
 use Rattle.journal_model.specs.declared.opening.Opening.{Opening}
-use Rattle.journal_model.specs.Journal.{ends, mutes, is_started, is_ended, is_mute, asked_jobs, open_jobs, verdict_of, is_tagged, on_wire, why_of}
-use Rattle.journal_model.specs.Legality.{Legal, is_prepare, asks_prepare, is_done, is_in_turn, may_ask, offered_names}
+use Rattle.journal_model.specs.Journal.{any, ends, mutes, is_started, is_ended, is_mute, asked_jobs, open_jobs, verdict_of, is_tagged, on_wire, why_of}
+use Rattle.journal_model.specs.Legality.{Legal, count, is_prepare, asks_prepare, is_done, is_in_turn, may_ask, offered_names}
 use Rattle.journal_model.specs.Projection.{IsNamed, final_in}
 use Rattle.journal_model.proofs.Looks.{both, same, same_number, any-append}
 use Rattle.journal_model.proofs.Projecting.{invariant}
@@ -28,9 +28,10 @@ use Rattle.link_roles.specs.Asks.{lost_as}
 use Rattle.link_roles.specs.Alone.{GoesOn, AskedAlone, IsSettled, IsLost}
 use Rattle.child_start.specs.declared.greeting.Mode.{Mode}
 use Rattle.child_start.specs.declared.greeting.Mode.TheVariants.{Serve, Init}
-use Rattle.child_start.specs.Greetings.{is_greeting_line_for, is_of_greeting_for, is_initremote, asks_for, is_refusal}
+use Rattle.child_start.specs.Greetings.{is_greeting_line_for, is_of_greeting_for, is_initremote, asks_for, is_refusal, loses}
 use Rattle.child_start.specs.Stages.{asked_as, is_greeting, is_asked_for, GreetsOn, IsGoneNext, AsksNext}
 use Rattle.child_start.proofs.Jobs.{goes_jobs, goes_idle, jobs_settled, jobs_lost, idle_asked, or_true}
+use Rattle.child_start.proofs.Losing.{count_behind, count_none, links_unlost, unlost_on}
 
 -- ---- the greeting goes on
 
@@ -55,13 +56,15 @@ own_both mode c xs ys h k = all_both (λ (e : Entry). is_of_greeting_for mode c 
 pub main_both : (n : ℕ) (xs ys : List Entry) → are_by n xs ≡ true → are_by n ys ≡ true → are_by n (xs ++ ys) ≡ true
 main_both n xs ys h k = all_both (λ (e : Entry). e.by == n) xs ys h k
 
-pub greets_both : {mode : Mode} (a b d : List Entry) (c : ℕ) → GreetsOn mode a b c → GreetsOn mode b d c → GreetsOn mode a d c
-greets_both {mode} a b d c x y = record {
+-- no request was lost in the first
+pub greets_both : {mode : Mode} (a b d : List Entry) (c : ℕ) (x : GreetsOn mode a b c) → GreetsOn mode b d c → any (loses c) x.more ≡ false → GreetsOn mode a d c
+greets_both {mode} a b d c x y none = record {
   more = x.more ++ y.more;
   is = y.is ∙ ap (λ (l : List Entry). l ++ y.more) x.is ∙ append_assoc a x.more y.more;
   own = own_both mode c x.more y.more x.own y.own;
   main = main_both 0 x.more y.more x.main y.main;
   idle = y.idle;
+  lost = omega (arith, count_behind c x.more y.more none, y.lost);
 }
 
 -- a link's own entries, by the main thread
@@ -72,6 +75,7 @@ greets_goes {mode} old new c first g idle = record {
   own = own_links mode c g.more g.quiet;
   main = subst (λ (k : ℕ). are_by k g.more ≡ true) first g.own;
   idle = goes_idle old new c g idle;
+  lost = omega (arith, count_none c g.more (links_unlost c c g.more g.quiet));
 }
 
 -- the line of a request of its own reads as that request, with its tag or without
@@ -126,16 +130,19 @@ greets_asked {mode} o old new by c q verdict first idle early (inl s) =
       own = own_both mode c asked s.goes.more (rw (same c, early) refl) (own_links mode c s.goes.more s.goes.quiet);
       main = subst (λ (k : ℕ). are_by k (asked ++ s.goes.more) ≡ true) first (main_both by asked s.goes.more (rw (same by) refl) s.goes.own);
       idle = idle_asked o old new by c 0 q verdict idle (inl s);
+      lost = omega (arith, count_behind c asked s.goes.more refl, count_none c s.goes.more (links_unlost c c s.goes.more s.goes.quiet));
     }
 greets_asked {mode} o old new by c q verdict first idle early (inr l) =
     let lost : List Entry = group_of o old by (Lost c 0) in
     let own : are_by by lost ≡ true = rw (same by) refl in
+    let one : count (loses c) lost ≡ 1 = rw (same c) refl in
     record {
       more = lost;
       is = l.made;
       own = rw (same c) refl;
       main = subst (λ (k : ℕ). are_by k lost ≡ true) first own;
       idle = idle_asked o old new by c 0 q verdict idle (inr l);
+      lost = omega (arith, one);
     }
 
 -- ---- the next job
@@ -222,14 +229,19 @@ module _ (o o' : Opening) (old new : List Entry) (by c : ℕ) (q : HostMessage) 
     jobs = inr (jobs_settled o old new by c 0 q verdict s);
   }
 
+  settled_unlost : (verdict : Verdict) → IsSettled o old new by c 0 q verdict → any (loses c) new ≡ any (loses c) old
+  settled_unlost verdict s =
+      let asked : List Entry = group_of o old by (Ask c (next_job old c) 0 (on_wire old c (next_job old c) (host_line q))) in
+      unlost_on c (old ++ asked) new s.goes.more s.goes.is (links_unlost c c s.goes.more s.goes.quiet) ∙ unlost_on c old (old ++ asked) asked refl refl
+
   -- the request was asked, and settled so
   pub asked_next : (verdict : Verdict) → Legal o' new → is_greeting q ≡ true → IsNamed q verdict → AskedAlone o old new by c 0 q verdict
       → AsksNext old new c (asked_as verdict)
-  asked_next (DoneAt at) legal kind n (inl s) = record { done = ap is_done s.settled; jobs = jobs_settled o old new by c 0 q (DoneAt at) s }
+  asked_next (DoneAt at) legal kind n (inl s) = record { done = ap is_done s.settled; jobs = jobs_settled o old new by c 0 q (DoneAt at) s; unlost = settled_unlost (DoneAt at) s }
   asked_next (DoneAt at) legal kind n (inr l) = not_lost (DoneAt at) (why_of old c) refl l.lost
-  asked_next (FailedAt at) legal kind n (inl s) = record { settled = s.settled; place = at; refusal = inl refl; jobs = jobs_settled o old new by c 0 q (FailedAt at) s }
+  asked_next (FailedAt at) legal kind n (inl s) = record { settled = s.settled; place = at; refusal = inl refl; jobs = jobs_settled o old new by c 0 q (FailedAt at) s; unlost = settled_unlost (FailedAt at) s }
   asked_next (FailedAt at) legal kind n (inr l) = not_lost (FailedAt at) (why_of old c) refl l.lost
-  asked_next (UnsupportedAt at) legal kind n (inl s) = record { settled = s.settled; place = at; refusal = inr refl; jobs = jobs_settled o old new by c 0 q (UnsupportedAt at) s }
+  asked_next (UnsupportedAt at) legal kind n (inl s) = record { settled = s.settled; place = at; refusal = inr refl; jobs = jobs_settled o old new by c 0 q (UnsupportedAt at) s; unlost = settled_unlost (UnsupportedAt at) s }
   asked_next (UnsupportedAt at) legal kind n (inr l) = not_lost (UnsupportedAt at) (why_of old c) refl l.lost
   asked_next (AbsentAt at) legal kind n h = never_said q n.0 Absent kind refl n.1
   asked_next (UnknownAt at) legal kind n h = never_said q n.0 Unknown kind refl n.1

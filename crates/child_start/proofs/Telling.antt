@@ -33,6 +33,7 @@ module _ (mode : Mode) (old mid new : List Entry) (slot : ℕ) (offer : Bool) (c
     own = on.own;
     main = on.main;
     idle = on.idle;
+    lost = on.lost;
   }
 
   pub tells_whole : {I O S : Type 0} {sinks : SinkGhosts I} {sources : SourceGhosts O} (greeting : Greeting I O S sinks sources) → TellsOf mode new c greeting → TellsFor mode old new slot offer greeting

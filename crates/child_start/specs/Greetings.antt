@@ -1,6 +1,6 @@
 -- What a greeting leaves: in the journal, in the link, and of the programs.
 -- https://git-annex.branchable.com/design/external_special_remote_protocol/
-use Rattle.std.specs.Prelude.{ℕ, ◌≡◌, ◌⊎◌, ◌+◌, ◌==◌, ◌&&◌, ◌||◌, Bool, true, false, List, [], ◌∷◌, ◌++◌, Option, Some}
+use Rattle.std.specs.Prelude.{ℕ, ◌≡◌, ◌⊎◌, ◌≤◌, ◌+◌, ◌==◌, ◌&&◌, ◌||◌, Bool, true, false, List, [], ◌∷◌, ◌++◌, Option, Some}
 use Rattle.std.specs.List.{list_all}
 use Rattle.ann_outside.specs.declared.Sink.{Ghosts as SinkGhosts}
 use Rattle.ann_outside.specs.declared.Source.{Ghosts as SourceGhosts}
@@ -14,7 +14,7 @@ use Rattle.journal_model.specs.declared.entry.What.TheVariants.{Start, NoStart, 
 use Rattle.journal_model.specs.declared.entry.Entry.{Entry}
 use Rattle.annex_model.specs.Messages.{HostMessage, Initremote, host_reading}
 use Rattle.annex_model.specs.Tags.{untag, without_tag}
-use Rattle.journal_model.specs.Journal.{is_ended, is_mute, is_tagged, why_of, verdict_of, asked_jobs, open_jobs}
+use Rattle.journal_model.specs.Journal.{any, is_ended, is_mute, is_tagged, why_of, verdict_of, asked_jobs, open_jobs}
 use Rattle.journal_model.specs.Legality.{count, is_start, is_done, asks_prepare, is_prepared}
 use Rattle.journal_model.specs.Shares.{are_by, by_link, is_closed}
 use Rattle.journal_model.specs.Halves.{EarValue, MouthValue}
@@ -43,8 +43,13 @@ is_of_greeting_for mode c (Ask child job task line) = child == c && (task == 0 &
 is_of_greeting_for mode c (Lost child task) = child == c && task == 0
 is_of_greeting_for mode c w = by_link c w
 
+-- the entry says that a request to c was lost
+abbrev pub loses : ℕ → What → Bool
+loses c (Lost child task) = child == c
+loses c w = false
+
 -- the child was started in that slot, and behind its start stands its greeting alone, the main thread's own, with each of its
--- jobs settled
+-- jobs settled, and at most one request lost
 pub record GreetedFor (mode : Mode) (old new : List Entry) (slot : ℕ) (offer : Bool) (c : ℕ) : Type 0 where
   pub next : c ≡ count is_start old + 1
   pub more : List Entry
@@ -52,6 +57,7 @@ pub record GreetedFor (mode : Mode) (old new : List Entry) (slot : ℕ) (offer :
   pub own : list_all (λ e. is_of_greeting_for mode c e.what) more ≡ true
   pub main : are_by 0 more ≡ true
   pub idle : open_jobs new c ≡ []
+  pub lost : count (loses c) more ≤ 1
 
 -- the same of a child that is to serve
 abbrev pub is_greeting_line : ℕ → List ℕ → Bool
@@ -63,15 +69,18 @@ is_of_greeting c w = is_of_greeting_for Serve c w
 abbrev pub Greeted : List Entry → List Entry → ℕ → Bool → ℕ → Type 0
 Greeted old new slot offer c = GreetedFor Serve old new slot offer c
 
--- the child is prepared, after EXTENSIONS and PREPARE alone
+-- the child is prepared, after EXTENSIONS and PREPARE alone, and no request to it was lost
 pub record IsReady (journal : List Entry) (c : ℕ) : Type 0 where
   pub prepared : is_prepared journal c ≡ true
   pub jobs : asked_jobs journal c ≡ 0 ∷ 1 ∷ []
+  pub unlost : any (loses c) journal ≡ false
 
--- the child's job 1 is done, after jobs 0 and 1 alone. That it asked INITREMOTE is its greeting's to say
+-- the child's job 1 is done, after jobs 0 and 1 alone, and no request to it was lost. That it asked INITREMOTE is its greeting's
+-- to say
 pub record IsSetUp (journal : List Entry) (c : ℕ) : Type 0 where
   pub done : is_done (verdict_of journal c 1) ≡ true
   pub jobs : asked_jobs journal c ≡ 0 ∷ 1 ∷ []
+  pub unlost : any (loses c) journal ≡ false
 
 abbrev pub IsReadyFor : Mode → List Entry → ℕ → Type 0
 IsReadyFor Serve journal c = IsReady journal c

@@ -1,5 +1,5 @@
 -- What each stage of a greeting leaves.
-use Rattle.std.specs.Prelude.{ℕ, ◌≡◌, ◌⊎◌, Bool, true, false, List, [], ◌∷◌, ◌++◌, Option, Some, None}
+use Rattle.std.specs.Prelude.{ℕ, ◌≡◌, ◌⊎◌, ◌≤◌, Bool, true, false, List, [], ◌∷◌, ◌++◌, Option, Some, None}
 use Rattle.std.specs.List.{list_all}
 use Rattle.ann_outside.specs.declared.Sink.{Ghosts as SinkGhosts}
 use Rattle.ann_outside.specs.declared.Source.{Ghosts as SourceGhosts}
@@ -7,8 +7,8 @@ use Rattle.journal_model.specs.declared.verdict.Verdict.{Verdict}
 use Rattle.journal_model.specs.declared.verdict.Verdict.TheVariants.{Done as DoneAt, Failed as FailedAt, Unsupported as UnsupportedAt}
 use Rattle.annex_model.specs.Messages.{HostMessage, AskExtensions, Prepare, Initremote}
 use Rattle.journal_model.specs.declared.entry.Entry.{Entry}
-use Rattle.journal_model.specs.Journal.{is_started, is_ended, has_spoken, is_tagged, verdict_of, asked_jobs, open_jobs}
-use Rattle.journal_model.specs.Legality.{said_version, offered_names, is_done}
+use Rattle.journal_model.specs.Journal.{any, is_started, is_ended, has_spoken, is_tagged, verdict_of, asked_jobs, open_jobs}
+use Rattle.journal_model.specs.Legality.{count, said_version, offered_names, is_done}
 use Rattle.annex_model.specs.Extensions.{names_of}
 use Rattle.host_core.specs.declared.event.Reply.{Reply}
 use Rattle.host_core.specs.declared.event.Reply.TheVariants.{Child}
@@ -22,7 +22,7 @@ use Rattle.child_start.specs.declared.starting.RequestOutcome.{RequestOutcome}
 use Rattle.child_start.specs.declared.starting.RequestOutcome.TheVariants.{Done, Refused, Gone}
 use Rattle.child_start.specs.declared.starting.Came.{Came}
 use Rattle.child_start.specs.declared.starting.Came.TheVariants.{Prepared, Refused as RefusedToPrepare, Over, Mute}
-use Rattle.child_start.specs.Greetings.{is_of_greeting_for, is_refusal, IsReadyFor, IsRefused, HasEnded, IsUnsent}
+use Rattle.child_start.specs.Greetings.{is_of_greeting_for, is_refusal, loses, IsReadyFor, IsRefused, HasEnded, IsUnsent}
 
 -- the child that the core numbers
 abbrev pub child_of : Reply → Option ℕ
@@ -55,12 +55,14 @@ asked_as (FailedAt at) = Refused (FailedAt at)
 asked_as (UnsupportedAt at) = Refused (UnsupportedAt at)
 asked_as v = Gone
 
--- the child was started and has not ended, has said nothing and was asked nothing; ASYNC is offered to it or not
+-- the child was started and has not ended, has said nothing and was asked nothing, and no request to it was lost; ASYNC is offered
+-- to it or not
 pub record HasBegun (journal : List Entry) (c : ℕ) (offer : Bool) : Type 0 where
   pub started : is_started journal c ≡ true
   pub live : is_ended journal c ≡ false
   pub silent : has_spoken journal c ≡ false
   pub jobs : asked_jobs journal c ≡ []
+  pub unlost : any (loses c) journal ≡ false
   pub names : offered_names journal c ≡ names_of offer
 
 -- the child has said its version, and may be asked for its extensions
@@ -68,6 +70,7 @@ pub record MayAsk (journal : List Entry) (c : ℕ) (offer : Bool) : Type 0 where
   pub started : is_started journal c ≡ true
   pub version : said_version journal c ≡ true
   pub jobs : asked_jobs journal c ≡ []
+  pub unlost : any (loses c) journal ≡ false
   pub names : offered_names journal c ≡ names_of offer
 
 -- it is the main thread's way to a core that nobody else steps
@@ -82,25 +85,29 @@ pub record MayGreet (journal : List Entry) (number c : ℕ) (q : HostMessage) : 
   pub kind : is_greeting q ≡ true
   pub idle : open_jobs journal c ≡ []
 
--- what was seen before is followed by the child's greeting alone, the main thread's own, and none of its jobs is open
+-- what was seen before is followed by the child's greeting alone, the main thread's own, none of its jobs is open, and at most one
+-- request was lost
 pub record GreetsOn (mode : Mode) (old new : List Entry) (c : ℕ) : Type 0 where
   pub more : List Entry
   pub is : new ≡ old ++ more
   pub own : list_all (λ e. is_of_greeting_for mode c e.what) more ≡ true
   pub main : are_by 0 more ≡ true
   pub idle : open_jobs new c ≡ []
+  pub lost : count (loses c) more ≤ 1
 
--- the child's next job is done
+-- the child's next job is done, and no request was lost
 pub record IsDoneNext (old new : List Entry) (c : ℕ) : Type 0 where
   pub done : is_done (verdict_of new c (next_job old c)) ≡ true
   pub jobs : asked_jobs new c ≡ asked_jobs old c ++ next_job old c ∷ []
+  pub unlost : any (loses c) new ≡ any (loses c) old
 
--- a line refused the child's next job
+-- a line refused the child's next job, and no request was lost
 pub record IsRefusedNext (old new : List Entry) (c : ℕ) (verdict : Verdict) : Type 0 where
   pub settled : verdict_of new c (next_job old c) ≡ Some verdict
   pub place : ℕ
   pub refusal : (verdict ≡ FailedAt place) ⊎ (verdict ≡ UnsupportedAt place)
   pub jobs : asked_jobs new c ≡ asked_jobs old c ++ next_job old c ∷ []
+  pub unlost : any (loses c) new ≡ any (loses c) old
 
 -- the child is gone, and its next job was not asked, or no line settled it
 pub record IsGoneNext (old new : List Entry) (c : ℕ) : Type 0 where

@@ -1,5 +1,5 @@
 -- From a child that is ready over its answers to all, or to its end.
-use Rattle.std.proofs.Common.{◌≡◌, ◌⊎◌, inl, inr, ◌∙◌, ℕ, zero, suc, ◌+◌, List, [], ◌∷◌, ◌++◌, refl, sym, ap, subst, Bool, true, false, not, cond, ◌==◌, Option, Some, None, append_assoc, append-nil, length, map, take, get_or, ◌<◌, arith, length-append}
+use Rattle.std.proofs.Common.{◌≡◌, ◌⊎◌, inl, inr, ◌∙◌, ℕ, zero, suc, ◌+◌, List, [], ◌∷◌, ◌++◌, refl, sym, ap, subst, Bool, true, false, not, cond, ◌==◌, Option, Some, None, append_assoc, append-nil, length, map, take, get_or, ◌<◌, ◌≤◌, arith, length-append}
 use Rattle.std.specs.Prelude.{◌&&◌, ◌||◌, IsTrue, nat_lt, find, option_and_then, is_some}
 use Rattle.std.specs.List.{list_all, cons_option}
 use Rattle.std.specs.Option.{option_or}
@@ -15,7 +15,7 @@ use Rattle.journal_model.specs.declared.entry.What.TheVariants.{Start, Ask, End,
 use Rattle.journal_model.specs.declared.entry.Entry.{Entry}
 use Rattle.journal_model.specs.declared.opening.Opening.{Opening}
 use Rattle.journal_model.specs.Journal.{any, each_of, starts, ends, mutes, end_why, offers, is_started, is_ended, is_mute, is_tagged, on_wire, open_jobs, asked_jobs, verdict_of, why_of}
-use Rattle.journal_model.specs.Legality.{Legal, prepares, is_prepared, is_done, is_empty, is_greeted, is_in_turn, may_work}
+use Rattle.journal_model.specs.Legality.{Legal, count, prepares, is_prepared, is_done, is_empty, is_greeted, is_in_turn, may_work}
 use Rattle.journal_model.specs.Projection.{final_in}
 use Rattle.journal_model.proofs.Looks.{both, same, any-append, each_of-append, verdict_of-append}
 use Rattle.journal_model.proofs.Linking.{why_is_end}
@@ -26,7 +26,8 @@ use Rattle.host_core.specs.Steps.{group_of, next_job, may_request}
 use Rattle.journal_model.specs.Shares.{are_by, by_link, is_closed}
 use Rattle.link_roles.specs.Asks.{lost_as}
 use Rattle.link_roles.specs.Alone.{AskedAlone, IsSettled, IsLost}
-use Rattle.child_start.specs.Greetings.{is_of_greeting, Greeted, IsReady}
+use Rattle.child_start.specs.Greetings.{is_of_greeting, loses, Greeted, IsReady}
+use Rattle.child_start.proofs.Losing.{count_behind, count_none, links_unlost}
 use Rattle.child_start.proofs.Jobs.{idle_asked, jobs_settled, or_true}
 use Rattle.child_start.proofs.Requests.{main_both}
 use Rattle.info_run.specs.Infos.{is_answered, are_answered}
@@ -102,7 +103,9 @@ may_begin journal c g r =
         main = refl;
         lines = sym (append-nil (asked_lines journal c));
         idle = g.idle;
+        lost = none_yet;
       };
+      unlost = refl;
       started = ap (λ (x : List Entry). is_started x c) g.grown ∙ ap (λ (b : Bool). b || is_started g.more c) (same c);
       prepared = r.prepared;
       plain =
@@ -112,6 +115,9 @@ may_begin journal c g r =
       jobs = ap length r.jobs;
       answers = refl;
     }
+  where
+    none_yet : count (loses c) [] ≤ 1
+    none_yet = let none : count (loses c) [] ≡ 0 = refl in omega (arith, none)
 
 -- ---- the next question may be asked
 
@@ -232,6 +238,9 @@ module _ (o : Opening) (asked : List HostMessage) (old mid new : List Entry) (c 
         ∙ append_assoc (asked_lines old c) (map host_line asked) (host_line q ∷ [])
         ∙ ap (λ (ls : List (List ℕ)). asked_lines old c ++ ls) (sym (map-append host_line asked (q ∷ [])))
 
+    own_unlost : any (loses c) more ≡ false
+    own_unlost = any-append (loses c) request s.goes.more ∙ links_unlost c c s.goes.more s.goes.quiet
+
     pub asks_settled : Asks (asked ++ q ∷ []) old new c
     asks_settled = record {
       more = m.asks.more ++ more;
@@ -240,13 +249,16 @@ module _ (o : Opening) (asked : List HostMessage) (old mid new : List Entry) (c 
       main = main_both 0 m.asks.more more m.asks.main main;
       lines = lines;
       idle = idle_asked o mid new by c 0 q v m.asks.idle (inl s);
+      lost = omega (arith, count_behind c m.asks.more more m.unlost, count_none c more own_unlost);
     }
 
     pub goes_settled : is_some (final_in v) ≡ true → MayGoOn (asked ++ q ∷ []) old new c
+    unfolding asks_settled
     goes_settled final =
         let here : is_answered (mid ++ more) c (length asked + 2) ≡ true = ap (is_answered (mid ++ more) c) (sym m.jobs) ∙ ap (λ (x : List Entry). is_answered x c (next_job mid c)) (sym grown) ∙ settled in
         record {
           asks = asks_settled;
+          unlost = any-append (loses c) m.asks.more more ∙ (rw (m.unlost, own_unlost) refl);
           started = ap (λ (x : List Entry). is_started x c) grown ∙ any-append (starts c) mid more ∙ ap (λ (b : Bool). b || is_started more c) m.started;
           prepared = ap (λ (x : List Entry). is_prepared x c) grown ∙ prepared_on mid more c m.prepared;
           plain = ap (any (offers c)) grown ∙ any-append (offers c) mid more ∙ ap (λ (b : Bool). b || any (offers c) more) m.plain ∙ none_so (is_of_asking c) (offers c) (asking_offers c c) more own;
@@ -272,6 +284,7 @@ module _ (o : Opening) (asked : List HostMessage) (old mid new : List Entry) (c 
   asks_lost v l =
       let lost : List Entry = group_of o mid by (Lost c 0) in
       let by_main : are_by by lost ≡ true = rw (same by) refl in
+      let one : count (loses c) lost ≡ 1 = rw (same c) refl in
       record {
         more = m.asks.more ++ lost;
         is = l.made ∙ ap (λ (x : List Entry). x ++ lost) m.asks.is ∙ append_assoc old m.asks.more lost;
@@ -279,6 +292,7 @@ module _ (o : Opening) (asked : List HostMessage) (old mid new : List Entry) (c 
         main = main_both 0 m.asks.more lost m.asks.main (subst (λ (k : ℕ). are_by k lost ≡ true) first by_main);
         lines = ap (λ (x : List Entry). asked_lines x c) l.made ∙ each_of-append (line_to c) mid lost ∙ append-nil (asked_lines mid c) ∙ m.asks.lines;
         idle = idle_asked o mid new by c 0 q v m.asks.idle (inr l);
+        lost = omega (arith, count_behind c m.asks.more lost m.unlost, one);
       }
 
 -- ---- the child has failed

@@ -7,8 +7,6 @@ use Rattle.annex_model.specs.Talks.{Item, said}
 use Rattle.journal_model.specs.declared.entry.Entry.{Entry}
 use Rattle.journal_model.specs.Parts.{item_of, part_from, part, item_at, part_by_places}
 use Rattle.host_core.proofs.Replaying.{said-append}
-use Rattle.info_run.specs.Infos.{lost_of, losts_from}
-use Rattle.info_run.specs.Tellings.{lost_at}
 
 -- ---- what stands before a place, at it, and behind it
 
@@ -77,43 +75,3 @@ pub said_end : (journal : List Entry) (c j at : ℕ) → length journal ≤ at �
 said_end journal c j at h =
     let none : length journal - at ≡ 0 = omega arith in
     ap (λ (n : ℕ). said (filter_map (item_at journal c j) (range_with_len at n))) none
-
--- ---- what was lost from a place on
-
--- the entry at a place, with what stands before it and behind it
-record Place (journal : List Entry) (at : ℕ) : Type 0 where
-  entry : Entry
-  here : slice_get journal at ≡ Some entry
-  behind : drop at journal ≡ entry ∷ drop (at + 1) journal
-  before : take (at + 1) journal ≡ take at journal ++ entry ∷ []
-
-place : (journal : List Entry) (at : ℕ) → at < length journal → Place journal at
-place [] at h = absurd (omega arith)
-place (e ∷ es) zero h = record { entry = e; here = refl; behind = refl; before = refl }
-place (e ∷ es) (suc at) h =
-    let later = place es at (omega arith) in
-    let next : suc at + 1 ≡ suc (at + 1) = omega arith in
-    record {
-      entry = later.entry;
-      here = later.here;
-      behind = rw next later.behind;
-      before = rw next (ap (λ (k : List Entry). e ∷ k) later.before);
-    }
-
-pub losts_next : (journal : List Entry) (c at : ℕ) → at < length journal
-    → losts_from c (take at journal) (drop at journal)
-    ≡ cons_option (lost_at c journal at) (losts_from c (take (at + 1) journal) (drop (at + 1) journal))
-losts_next journal c at h =
-    let p = place journal at h in
-    ap (losts_from c (take at journal)) p.behind
-    ∙ ap (λ (k : List Entry). cons_option (lost_of c (take at journal) p.entry.what) (losts_from c k (drop (at + 1) journal))) (sym p.before)
-    ∙ ap (λ (o : Option Entry). cons_option (option_and_then (λ e. lost_of c (take at journal) e.what) o) (losts_from c (take (at + 1) journal) (drop (at + 1) journal))) (sym p.here)
-
-pub losts_end : (journal : List Entry) (c at : ℕ) → length journal ≤ at → losts_from c (take at journal) (drop at journal) ≡ []
-losts_end journal c at h = ap (losts_from c (take at journal)) (none journal at h)
-  where
-    none : (es : List Entry) (n : ℕ) → length es ≤ n → drop n es ≡ []
-    none [] zero h = refl
-    none [] (suc n) h = refl
-    none (e ∷ es) zero h = absurd (omega arith)
-    none (e ∷ es) (suc n) h = none es n (omega arith)

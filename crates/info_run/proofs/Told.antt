@@ -15,9 +15,8 @@ use Rattle.journal_model.specs.Output.{text_at}
 use Rattle.task_run.specs.TaskRuns.{refusal_of}
 use Rattle.wire_msg.specs.declared.host.HostMsg.{HostMsg}
 use Rattle.wire_msg.specs.Shown.{host_shown}
-use Rattle.info_run.specs.Infos.{lines_from, lines_of, failed_words, losts_from, questions_from, unready_lines}
-use Rattle.info_run.specs.Tellings.{lost_at}
-use Rattle.info_run.proofs.Places.{said_from, said_next, losts_next}
+use Rattle.info_run.specs.Infos.{lines_from, lines_of, questions_from, unready_lines}
+use Rattle.info_run.proofs.Places.{said_from, said_next}
 
 pub text-append : (xs ys : List (List ℕ)) → text (xs ++ ys) ≡ text xs ++ text ys
 text-append [] ys = refl
@@ -53,25 +52,6 @@ place_told journal c j at q a b d f g h before step =
     before
     ∙ ap (λ (ms : List (Option RemoteMessage)). b ++ text (lines_from q f ms)) (said_next journal c j at h)
     ∙ step (said_from journal c j (at + 1))
-
-abbrev losses : List Entry → ℕ → ℕ → List Verdict
-losses journal c at = losts_from c (take at journal) (drop at journal)
-
-pub loss_told : (journal : List Entry) (c at : ℕ) (v : Verdict) (a b d : List ℕ) → at < length journal → Some v ≡ lost_at c journal at
-    → a ≡ b ++ text (map (failed_words journal) (losses journal c at)) → d ≡ b ++ text (failed_words journal v ∷ [])
-    → a ≡ d ++ text (map (failed_words journal) (losses journal c (at + 1)))
-loss_told journal c at v a b d h here before step =
-    let later = losses journal c (at + 1) in
-    before
-    ∙ ap (λ (vs : List Verdict). b ++ text (map (failed_words journal) vs)) (losts_next journal c at h ∙ ap (λ (o : Option Verdict). cons_option o later) (sym here))
-    ∙ joined (failed_words journal v ∷ []) (map (failed_words journal) later) b d step
-
-pub nothing_lost : (journal : List Entry) (c at : ℕ) (a b : List ℕ) → at < length journal → None ≡ lost_at c journal at
-    → a ≡ b ++ text (map (failed_words journal) (losses journal c at))
-    → a ≡ b ++ text (map (failed_words journal) (losses journal c (at + 1)))
-nothing_lost journal c at a b h here before =
-    before
-    ∙ ap (λ (vs : List Verdict). b ++ text (map (failed_words journal) vs)) (losts_next journal c at h ∙ ap (λ (o : Option Verdict). cons_option o (losses journal c (at + 1))) (sym here))
 
 -- ---- job by job
 

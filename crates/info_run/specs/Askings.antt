@@ -1,5 +1,5 @@
 -- What asking a remote about itself leaves in the journal.
-use Rattle.std.specs.Prelude.{ℕ, ◌≡◌, ◌⊎◌, ◌+◌, ◌==◌, ◌&&◌, not, if◌then◌else◌, Bool, true, false, List, [], ◌++◌, length, map, take, Option, Some, None}
+use Rattle.std.specs.Prelude.{ℕ, ◌≡◌, ◌⊎◌, ◌≤◌, ◌+◌, ◌==◌, ◌&&◌, not, if◌then◌else◌, Bool, true, false, List, [], ◌++◌, length, map, take, Option, Some, None}
 use Rattle.std.specs.List.{list_all}
 use Rattle.journal_model.specs.declared.verdict.Why.{Why}
 use Rattle.annex_model.specs.Messages.{HostMessage, Listconfigs, Getcost, Getavailability, Getinfo, Whereis, host_line, is_sent_key}
@@ -7,9 +7,10 @@ use Rattle.journal_model.specs.declared.entry.What.{What}
 use Rattle.journal_model.specs.declared.entry.What.TheVariants.{Ask, End, Lost}
 use Rattle.journal_model.specs.declared.entry.Entry.{Entry}
 use Rattle.journal_model.specs.Journal.{any, each_of, offers, is_started, is_mute, why_of, open_jobs}
-use Rattle.journal_model.specs.Legality.{is_prepared}
+use Rattle.journal_model.specs.Legality.{count, is_prepared}
 use Rattle.host_core.specs.Steps.{next_job}
 use Rattle.journal_model.specs.Shares.{are_by, by_link, is_closed}
+use Rattle.child_start.specs.Greetings.{loses}
 use Rattle.info_run.specs.Infos.{are_answered}
 
 -- ---- what is appended
@@ -29,7 +30,8 @@ line_to c _ = None
 abbrev pub asked_lines : List Entry → ℕ → List (List ℕ)
 asked_lines journal c = each_of (line_to c) journal
 
--- Behind old stand such entries alone, the main thread's own. They ask these questions in order, and leave no job of c open.
+-- Behind old stand such entries alone, the main thread's own. They ask these questions in order, and leave no job of c open. At
+-- most one request was lost.
 pub record Asks (asked : List HostMessage) (old new : List Entry) (c : ℕ) : Type 0 where
   pub more : List Entry
   pub is : new ≡ old ++ more
@@ -37,6 +39,7 @@ pub record Asks (asked : List HostMessage) (old new : List Entry) (c : ℕ) : Ty
   pub main : are_by 0 more ≡ true
   pub lines : asked_lines new c ≡ asked_lines old c ++ map host_line asked
   pub idle : open_jobs new c ≡ []
+  pub lost : count (loses c) more ≤ 1
 
 -- the first of the questions were asked so
 abbrev pub AsksFront : List HostMessage → List Entry → List Entry → ℕ → Type 0
@@ -68,9 +71,10 @@ abbrev pub is_kept : What → Bool
 is_kept (End child why) = not (is_closed why)
 is_kept _ = true
 
--- these questions were asked and answered, and c, which has no tags, may be asked the next
+-- these questions were asked and answered, none was lost, and c, which has no tags, may be asked the next
 pub record MayGoOn (asked : List HostMessage) (old new : List Entry) (c : ℕ) : Type 0 where
   pub asks : Asks asked old new c
+  pub unlost : any (loses c) asks.more ≡ false
   pub started : is_started new c ≡ true
   pub prepared : is_prepared new c ≡ true
   pub plain : any (offers c) new ≡ false

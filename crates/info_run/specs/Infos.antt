@@ -1,7 +1,6 @@
 -- What a remote is asked about itself, and what is printed of its answers.
 -- https://git-annex.branchable.com/design/external_special_remote_protocol/
-use Rattle.std.specs.Prelude.{ℕ, ◌+◌, ◌==◌, ◌&&◌, Bool, true, false, if◌then◌else◌, List, [], ◌∷◌, ◌++◌, map, Option, Some, None, codes, decimal, is_some}
-use Rattle.std.specs.List.{cons_option}
+use Rattle.std.specs.Prelude.{ℕ, ◌+◌, ◌&&◌, Bool, true, false, if◌then◌else◌, List, [], ◌∷◌, ◌++◌, map, Option, Some, None, codes, decimal, is_some}
 use Rattle.journal_model.specs.declared.verdict.Why.{Why}
 use Rattle.journal_model.specs.declared.verdict.Why.TheVariants.{Closed}
 use Rattle.journal_model.specs.declared.verdict.Verdict.{Verdict}
@@ -9,8 +8,6 @@ use Rattle.journal_model.specs.declared.verdict.Verdict.TheVariants.{Ended}
 use Rattle.annex_model.specs.declared.final_line.Final.{Final}
 use Rattle.annex_model.specs.Messages.{RemoteMessage, UnsupportedRequest, Config, Cost, Availability, Infofield, Infovalue, WhereisSuccess, WhereisFailure, HostMessage, Listconfigs, Getcost, Getavailability, Getinfo, Whereis}
 use Rattle.annex_model.specs.Talks.{said}
-use Rattle.journal_model.specs.declared.entry.What.{What}
-use Rattle.journal_model.specs.declared.entry.What.TheVariants.{Lost}
 use Rattle.journal_model.specs.declared.entry.Entry.{Entry}
 use Rattle.journal_model.specs.Journal.{any, verdict_of, why_of, is_mute, is_started}
 use Rattle.journal_model.specs.Parts.{part}
@@ -18,7 +15,7 @@ use Rattle.journal_model.specs.Legality.{is_prepared}
 use Rattle.journal_model.specs.Projection.{final_in}
 use Rattle.journal_model.specs.Output.{why_words, text_at}
 use Rattle.journal_look.specs.Looks.{is_no_start}
-use Rattle.task_run.specs.TaskRuns.{lost_verdict, refusal_of}
+use Rattle.task_run.specs.TaskRuns.{refusal_of}
 
 -- ---- what is asked, as jobs 2, 3 and so on
 
@@ -89,36 +86,9 @@ job_lines journal c q j v = by_final (final_in v)
     by_final None = failed_words journal v ∷ []
     by_final (Some f) = lines_of q (said (part journal c j))
 
--- what a request that was not asked stands for: the child's end, or else its mute
-abbrev pub lost_of : ℕ → List Entry → What → Option Verdict
-lost_of c past (Lost child task) = some (child == c) (lost_verdict (why_of past c))
-  where
-    some : Bool → Verdict → Option Verdict
-    some true v = Some v
-    some false v = None
-lost_of c past _ = None
-
-abbrev pub losts_from : ℕ → List Entry → List Entry → List Verdict
-losts_from c past [] = []
-losts_from c past (e ∷ rest) = cons_option (lost_of c past e.what) (losts_from c (past ++ e ∷ []) rest)
-
-abbrev pub lost_lines : List Entry → ℕ → List (List ℕ)
-lost_lines journal c = map (failed_words journal) (losts_from c [] journal)
-
--- the lines of these requests, asked as this job and on; a request without an answer is the last that is told
-abbrev pub questions_from : List Entry → ℕ → List HostMessage → ℕ → List (List ℕ)
-questions_from journal c [] j = []
-questions_from journal c (q ∷ qs) j = by_verdict (questions_from journal c qs (j + 1)) (verdict_of journal c j)
-  where
-    by_verdict : List (List ℕ) → Option Verdict → List (List ℕ)
-    by_verdict later None = lost_lines journal c
-    by_verdict later (Some v) = job_lines journal c q j v ++ (if is_some (final_in v) then later else [])
-
--- ---- a child that did not get ready
-
--- its refusal, or else its end, or else its mute. A child that was closed has not ended by itself
-abbrev pub unready_lines : List Entry → ℕ → List (List ℕ)
-unready_lines journal c = by_refusal (refusal_of journal c)
+-- the child's end, or else its mute. A child that was closed has not ended by itself
+abbrev pub gone_lines : List Entry → ℕ → List (List ℕ)
+gone_lines journal c = by_end (why_of journal c)
   where
     by_mute : Bool → List (List ℕ)
     by_mute true = codes "unsent" ∷ []
@@ -129,8 +99,24 @@ unready_lines journal c = by_refusal (refusal_of journal c)
     by_end (Some Closed) = by_mute (is_mute journal c)
     by_end (Some why) = why_words journal why ∷ []
 
+-- The lines of these requests, asked as this job and on; a request without an answer is the last that is told. Where it was not
+-- asked, that the child is gone is told in its place.
+abbrev pub questions_from : List Entry → ℕ → List HostMessage → ℕ → List (List ℕ)
+questions_from journal c [] j = []
+questions_from journal c (q ∷ qs) j = by_verdict (questions_from journal c qs (j + 1)) (verdict_of journal c j)
+  where
+    by_verdict : List (List ℕ) → Option Verdict → List (List ℕ)
+    by_verdict later None = gone_lines journal c
+    by_verdict later (Some v) = job_lines journal c q j v ++ (if is_some (final_in v) then later else [])
+
+-- ---- a child that did not get ready
+
+-- its refusal, or else its end or its mute
+abbrev pub unready_lines : List Entry → ℕ → List (List ℕ)
+unready_lines journal c = by_refusal (refusal_of journal c)
+  where
     by_refusal : Option ℕ → List (List ℕ)
-    by_refusal None = by_end (why_of journal c)
+    by_refusal None = gone_lines journal c
     by_refusal (Some at) = (codes "notprepared " ++ text_at journal at) ∷ []
 
 -- what is printed of a child

@@ -28,9 +28,13 @@ foul_cost =
     ∷ by_main (Settled 1 3 (Ended (Foul 17)))
     ∷ []
 
--- the child ends behind its configs, and the next request is lost
+-- the child ends behind its configs, and the next request is not asked
+abbrev pub ended_early : List Entry
+ended_early = greeting ++ configs ++ by_main (End 1 Eof) ∷ []
+
+-- or it is lost
 abbrev pub lost_cost : List Entry
-lost_cost = greeting ++ configs ++ by_main (End 1 Eof) ∷ by_main (Lost 1 0) ∷ []
+lost_cost = ended_early ++ by_main (Lost 1 0) ∷ []
 
 -- a child was asked to get ready, and knows no request but the first: the verdicts. The lines that gave them are left out
 abbrev pub answered : List Entry

@@ -1,11 +1,10 @@
 -- What telling some of an answer adds to what is printed.
-use Rattle.std.specs.Prelude.{ℕ, ◌≡◌, ◌+◌, ◌++◌, Bool, if◌then◌else◌, List, [], ◌∷◌, Option, codes, take, slice_get, option_and_then}
-use Rattle.journal_model.specs.declared.verdict.Verdict.{Verdict}
+use Rattle.std.specs.Prelude.{ℕ, ◌≡◌, ◌+◌, ◌++◌, Bool, if◌then◌else◌, List, [], ◌∷◌, Option, codes}
 use Rattle.annex_model.specs.Lines.{text}
 use Rattle.annex_model.specs.Messages.{RemoteMessage, HostMessage}
 use Rattle.journal_model.specs.declared.entry.Entry.{Entry}
 use Rattle.journal_model.specs.Journal.{is_mute}
-use Rattle.info_run.specs.Infos.{lines_from, lost_of, questions_from}
+use Rattle.info_run.specs.Infos.{lines_from, questions_from}
 use Rattle.info_run.specs.declared.telling.InfoText.{InfoText}
 
 -- these lines are printed
@@ -24,10 +23,6 @@ HasAnswered journal c q j more before after =
     (qs : List HostMessage)
     → before.printed.items ++ text (questions_from journal c (q ∷ qs) j)
     ≡ after.printed.items ++ (if more then text (questions_from journal c qs (j + 1)) else [])
-
--- what the request stands for that was lost at the place, if one was
-abbrev pub lost_at : ℕ → List Entry → ℕ → Option Verdict
-lost_at c journal at = option_and_then (λ e. lost_of c (take at journal) e.what) (slice_get journal at)
 
 abbrev pub mute_lines : List Entry → ℕ → List (List ℕ)
 mute_lines journal c = if is_mute journal c then codes "unsent" ∷ [] else []

@@ -2,7 +2,7 @@
 ghost use Rattle.std.specs.Prelude.{◌≡◌, [], ◌∷◌, Some, None, codes, true, false};
 ghost use Rattle.annex_model.specs.Messages.{UnsupportedRequest, Config, Configend, Cost, Availability, Infofield, Infovalue, Infoend, WhereisSuccess, WhereisFailure, Listconfigs, Getcost, Getavailability, Getinfo, Whereis};
 ghost use Rattle.info_run.specs.Infos.{lines_of, child_lines, is_informed, info_lines};
-ghost use Rattle.info_run.specs.Rows.{foul_cost, lost_cost, answered, not_started};
+ghost use Rattle.info_run.specs.Rows.{foul_cost, ended_early, lost_cost, answered, not_started};
 
 /// What is printed of an answer.
 pub fn worked_answers()
@@ -25,10 +25,12 @@ pub fn a_foul_cost()
     ensures not_informed { is_informed foul_cost 1 None ≡ false }
 {}
 
-/// A child that is gone before its second request.
+/// A child that is gone before its second request: its end is printed in place of the answer, whether the request was lost or not
+/// asked at all.
 pub fn a_lost_cost()
     ensures lines { info_lines lost_cost None ≡ codes "config directory where" ∷ codes "ended eof" ∷ [] }
     ensures not_informed { is_informed lost_cost 1 None ≡ false }
+    ensures not_asked { info_lines ended_early None ≡ codes "config directory where" ∷ codes "ended eof" ∷ [] }
 {}
 
 /// What was asked is answered, where each job was settled by a line; a key asks one more.

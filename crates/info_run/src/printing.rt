@@ -8,9 +8,9 @@ ghost use Rattle.annex_model.specs.Talks.{said};
 ghost use Rattle.wire_msg.specs.Shown.{host_shown};
 ghost use Rattle.journal_model.specs.Parts.{part, item_at};
 ghost use Rattle.journal_model.specs.Output.{why_words};
-ghost use Rattle.task_run.specs.TaskRuns.{refusal_of, lost_verdict};
-ghost use Rattle.info_run.specs.Infos.{questions, lines_of, job_lines, questions_from, failed_words, lost_lines, unready_lines, child_lines, info_lines};
-ghost use Rattle.info_run.specs.Tellings.{HasTold, HasPrinted, HasAnswered, lost_at, mute_lines};
+ghost use Rattle.task_run.specs.TaskRuns.{refusal_of};
+ghost use Rattle.info_run.specs.Infos.{questions, lines_of, job_lines, questions_from, failed_words, gone_lines, unready_lines, child_lines, info_lines};
+ghost use Rattle.info_run.specs.Tellings.{HasTold, HasPrinted, HasAnswered, mute_lines};
 
 use crate::informed::is_final;
 use crate::questions::questions;
@@ -18,8 +18,7 @@ use crate::telling::InfoText;
 use crate::words::{text_at, why_words};
 use ann_key::{Bytes, KeyRef, NoMemory};
 use journal_look::{
-    Journal, WhatRef, has_no_start, is_mute, is_prepared, is_started, said_at, verdict_of,
-    why_before, why_of,
+    Journal, has_no_start, is_mute, is_prepared, is_started, said_at, verdict_of, why_of,
 };
 use journal_model::{Verdict, Why};
 use std::alloc::Global;
@@ -85,38 +84,6 @@ fn push_failed(told: &mut InfoText, journal: &Journal, verdict: Verdict) -> Resu
     }
 }
 
-fn lost_verdict(why: Option<Why>) -> Verdict
-    ensures { result ≡ lost_verdict why }
-{
-    match why {
-        Some(why) => Verdict::Ended { why },
-        None => Verdict::Unsent,
-    }
-}
-
-// What the request stands for that was lost at the place, if one was.
-fn lost_at(journal: &Journal, c: u32, at: u64) -> Option<Verdict>
-    ensures { result ≡ lost_at c journal.now.entries at }
-{
-    let entry = journal.entry(at)?;
-    match entry.what {
-        WhatRef::Lost { child, .. } if child == c => Some(lost_verdict(why_before(journal, at, c))),
-        _ => None,
-    }
-}
-
-// The requests of the child that were lost.
-fn push_losts(told: &mut InfoText, journal: &Journal, child: u32) -> Result<(), NoMemory>
-    ensures { IfOk result (λ _. HasPrinted (lost_lines journal.now.entries child) told.old told.new) }
-{
-    for at in 0..journal.len() {
-        if let Some(verdict) = lost_at(journal, child, at) {
-            push_failed(told, journal, verdict)?;
-        }
-    }
-    Ok(())
-}
-
 fn refusal_of(journal: &Journal, child: u32) -> Option<u64>
     ensures { result ≡ refusal_of journal.now.entries child }
 {
@@ -136,6 +103,16 @@ fn push_mute(told: &mut InfoText, journal: &Journal, child: u32) -> Result<(), N
     }
 }
 
+// That the child is gone: its end, or else its mute.
+fn push_gone(told: &mut InfoText, journal: &Journal, child: u32) -> Result<(), NoMemory>
+    ensures { IfOk result (λ _. HasPrinted (gone_lines journal.now.entries child) told.old told.new) }
+{
+    match why_of(journal, child) {
+        Some(Why::Closed) | None => push_mute(told, journal, child),
+        Some(why) => push_why(told, journal, why),
+    }
+}
+
 // A child that isn't ready.
 fn push_unready(told: &mut InfoText, journal: &Journal, child: u32) -> Result<(), NoMemory>
     ensures { IfOk result (λ _. HasPrinted (unready_lines journal.now.entries child) told.old told.new) }
@@ -143,10 +120,7 @@ fn push_unready(told: &mut InfoText, journal: &Journal, child: u32) -> Result<()
     if let Some(at) = refusal_of(journal, child) {
         return told.push_line(b"notprepared ", text_at(journal, at));
     }
-    match why_of(journal, child) {
-        Some(Why::Closed) | None => push_mute(told, journal, child),
-        Some(why) => push_why(told, journal, why),
-    }
+    push_gone(told, journal, child)
 }
 
 // ---- a child that is ready
@@ -171,7 +145,7 @@ fn push_job(
             Ok(false)
         }
         None => {
-            push_losts(told, journal, child)?;
+            push_gone(told, journal, child)?;
             Ok(false)
         }
     }

@@ -1,5 +1,5 @@
 -- From a greeting to a child that was asked about itself, and its closing.
-use Rattle.std.proofs.Common.{◌≡◌, ◌⊎◌, ℕ, zero, suc, List, [], ◌∷◌, ◌++◌, length, refl, sym, ap, subst, ◌∙◌, Bool, true, false, not, ◌==◌, cond, Some, None, Option, inl, inr, append-nil}
+use Rattle.std.proofs.Common.{◌≡◌, ◌⊎◌, ℕ, zero, suc, List, [], ◌∷◌, ◌++◌, length, refl, sym, ap, subst, ◌∙◌, ◌≤◌, arith, Bool, true, false, not, ◌==◌, cond, Some, None, Option, inl, inr, append-nil}
 use Rattle.std.specs.Prelude.{◌&&◌, ◌||◌, take, map, codes, option_and_then, IsSome, IfOk, Result, Ok, Err}
 use Rattle.std.specs.Option.{option_or}
 use Rattle.std.specs.List.{list_all, list_any, cons_option}
@@ -13,13 +13,16 @@ use Rattle.journal_model.specs.declared.entry.What.TheVariants.{Claim, Start, No
 use Rattle.journal_model.specs.declared.entry.Entry.{Entry}
 use Rattle.journal_model.specs.declared.opening.Opening.{Opening}
 use Rattle.journal_model.specs.Journal.{any, each_of, starts, ends, mutes, offers, is_started, is_ended, is_mute, asked_jobs, open_jobs, verdict_of, why_of}
-use Rattle.journal_model.specs.Legality.{Legal, claimed_for, is_busy_with, has_busy_task, may_stop}
+use Rattle.journal_model.specs.Shares.{are_by}
+use Rattle.journal_model.specs.Legality.{Legal, count, claimed_for, is_busy_with, has_busy_task, may_stop}
 use Rattle.journal_model.proofs.Looks.{both, any-append, each_of-append, verdict_of-append}
 use Rattle.journal_model.proofs.Linking.{why_of-append}
 use Rattle.task_run.specs.TaskRuns.{refused_at}
 use Rattle.link_roles.specs.Alone.{Closes}
-use Rattle.child_start.specs.Greetings.{Greeted, IsReady, IsRefused, HasEnded, IsUnsent, is_greeting_line, is_of_greeting}
+use Rattle.child_start.specs.Greetings.{Greeted, IsReady, IsRefused, HasEnded, IsUnsent, is_greeting_line, is_of_greeting, loses}
 use Rattle.child_start.proofs.Jobs.{idle_on}
+use Rattle.child_start.proofs.Losing.{count_behind, count_before}
+use Rattle.child_start.proofs.Requests.{main_both}
 use Rattle.info_run.specs.Infos.{questions}
 use Rattle.info_run.specs.Askings.{line_to, asked_lines, is_of_asking, AsksFront, IsAnswered, HasFailed}
 use Rattle.special_cli.specs.Endings.{start_in, starts_in}
@@ -67,6 +70,9 @@ greeted_taskless : (journal : List Entry) (c : ℕ) → Greeted [] journal 0 fal
 greeted_taskless journal c g =
     ap (any is_of_task) g.grown ∙ any_none (is_of_greeting c) is_of_task (taskless_greeting c) g.more g.own
 
+greeted_main : (journal : List Entry) (c : ℕ) → Greeted [] journal 0 false c → are_by 0 journal ≡ true
+greeted_main journal c g = ap (are_by 0) g.grown ∙ g.main
+
 take_nothing : (n : ℕ) → take {A = List ℕ} n [] ≡ []
 take_nothing zero = refl
 take_nothing (suc n) = refl
@@ -89,8 +95,10 @@ unready_talked o key old journal c none legal greeted =
       started = greeted_started journal c g;
       starts = (begun_child journal c g).starts;
       asked = (f.0, greeted_lines o journal c legal g ∙ f.1);
+      lost = subst (λ (j : List Entry). count (loses c) j ≤ 1) (sym g.grown) g.lost;
       settled = g.idle;
       taskless = greeted_taskless journal c g;
+      main = greeted_main journal c g;
     }
 
 some_refused : (v : Verdict) (at : ℕ) → (v ≡ FailedAt at) ⊎ (v ≡ UnsupportedAt at) → IsSome (refused_at v)
@@ -155,9 +163,11 @@ ready_talked o key old mid journal c d none legal greeted ready (n, a) same_chil
       started = ap (λ (j : List Entry). is_started j c) a.is ∙ any-append (starts c) mid a.more ∙ ap (λ (b : Bool). b || any (starts c) a.more) (greeted_started mid c g);
       starts = ap starts_in a.is ∙ each_of-append start_in mid a.more ∙ (rw ((begun_child mid c g).starts, no_more_starts c a.more a.own) refl);
       asked = (suc (suc n), lines);
+      lost = omega (arith, ap (count (loses c)) a.is ∙ count_behind c mid a.more ready.unlost, a.lost);
       settled = a.idle;
       taskless = ap (any is_of_task) a.is ∙ any-append is_of_task mid a.more
           ∙ either (any is_of_task mid) (any is_of_task a.more) (greeted_taskless mid c g) (any_none (is_of_asking c) is_of_task (taskless_asking c) a.more a.own);
+      main = ap (are_by 0) a.is ∙ main_both 0 mid a.more (greeted_main mid c g) a.main;
     }
 
 pub ready_complete : (o : Opening) (key : Option (List ℕ)) (old mid journal : List Entry) (c : ℕ) → old ≡ [] → Legal o mid → Greeted old mid 0 false c → IsReady mid c
@@ -207,10 +217,12 @@ pub record IsStill (more : List Entry) : Type 0 where
   pub lines : asked_lines more 1 ≡ []
   pub jobs : asked_jobs more 1 ≡ []
   pub taskless : any is_of_task more ≡ false
+  pub unlost : any (loses 1) more ≡ false
+  pub main : are_by 0 more ≡ true
 
 pub closing_still : (b : Bool) → IsStill (closing_of b 1)
-closing_still true = record { starts = refl; lines = refl; jobs = refl; taskless = refl }
-closing_still false = record { starts = refl; lines = refl; jobs = refl; taskless = refl }
+closing_still true = record { starts = refl; lines = refl; jobs = refl; taskless = refl; unlost = refl; main = refl }
+closing_still false = record { starts = refl; lines = refl; jobs = refl; taskless = refl; unlost = refl; main = refl }
 
 pub over_or : (b : Bool) → (b || any (ends 1) (closing_of b 1)) ≡ true
 over_or true = refl
@@ -225,12 +237,15 @@ closed_asked key past journal c t closes =
     let before : asked_lines past 1 ≡ take asked.0 (info_requests key) = subst (λ (x : ℕ). asked_lines past x ≡ take asked.0 (info_requests key)) t.first asked.1 in
     let idle : open_jobs past 1 ≡ [] = subst (λ (x : ℕ). open_jobs past x ≡ []) t.first t.settled in
     let ended : is_ended (past ++ more) 1 ≡ true = any-append (ends 1) past more ∙ over_or (is_ended past 1) in
+    let few : count (loses 1) past ≤ 1 = subst (λ (x : ℕ). count (loses x) past ≤ 1) t.first t.lost in
     subst (IsAsked key) (sym grown) record {
       once = inr (inl (each_of-append start_in past more ∙ (rw (t.starts, s.starts) refl)));
       asked = (asked.0, each_of-append (line_to 1) past more ∙ ap (λ (ls : List (List ℕ)). asked_lines past 1 ++ ls) s.lines ∙ append-nil (asked_lines past 1) ∙ before);
+      lost = omega (arith, count_before 1 past more s.unlost, few);
       settled = idle_on past more 1 s.jobs idle;
       ended = rw ended (off (is_started (past ++ more) 1));
       taskless = any-append is_of_task past more ∙ either (any is_of_task past) (any is_of_task more) t.taskless s.taskless;
+      main = main_both 0 past more t.main s.main;
     }
 
 refused_on : (v w : Option Verdict) → IsSome (option_and_then refused_at v) → IsSome (option_and_then refused_at (option_or v w))
@@ -253,16 +268,19 @@ closed_complete key past journal c t closes h =
 
 -- ---- no child
 
+no_more_than : (journal : List Entry) → count (loses 1) journal ≡ 0 → count (loses 1) journal ≤ 1
+no_more_than journal none = omega (arith, none)
+
 pub unstarted_asked : (key : Option (List ℕ)) (journal : List Entry) → journal ≡ main_entry (NoStart 0) ∷ [] → IsAsked key journal
 unstarted_asked key journal e =
-    subst (IsAsked key) (sym e) record { once = inr (inr refl); asked = (0, refl); settled = refl; ended = refl; taskless = refl }
+    subst (IsAsked key) (sym e) record { once = inr (inr refl); asked = (0, refl); lost = no_more_than (main_entry (NoStart 0) ∷ []) refl; settled = refl; ended = refl; taskless = refl; main = refl }
 
 pub unstarted_complete : (key : Option (List ℕ)) (journal : List Entry) → journal ≡ main_entry (NoStart 0) ∷ [] → IsComplete key journal
 unstarted_complete key journal e = inr (inl (ap (any is_failed_start) e))
 
 pub nothing_asked : (key : Option (List ℕ)) (journal : List Entry) → journal ≡ [] → IsAsked key journal
 nothing_asked key journal e =
-    subst (IsAsked key) (sym e) record { once = inl refl; asked = (0, refl); settled = refl; ended = refl; taskless = refl }
+    subst (IsAsked key) (sym e) record { once = inl refl; asked = (0, refl); lost = no_more_than [] refl; settled = refl; ended = refl; taskless = refl; main = refl }
 
 pub if_ok : {T E : Type 0} (r : Result T E) (P Q : Type 0) → (P → Q) → IfOk r (λ _. P) → IfOk r (λ _. Q)
 if_ok (Ok x) P Q f h = f h

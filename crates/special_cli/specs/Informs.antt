@@ -1,5 +1,5 @@
 -- What is told of an info: what its child was asked, and what is printed of its answers.
-use Rattle.std.specs.Prelude.{ℕ, ◌≡◌, ◌⊎◌, if◌then◌else◌, Bool, true, false, List, [], ◌∷◌, take, map, codes, Option, Some, IsSome}
+use Rattle.std.specs.Prelude.{ℕ, ◌≡◌, ◌⊎◌, ◌≤◌, if◌then◌else◌, Bool, true, false, List, [], ◌∷◌, take, map, codes, Option, Some, IsSome}
 use Rattle.journal_model.specs.declared.verdict.Why.{Why}
 use Rattle.annex_model.specs.Lines.{text}
 use Rattle.annex_model.specs.Messages.{host_line}
@@ -8,10 +8,11 @@ use Rattle.journal_model.specs.declared.entry.What.TheVariants.{Claim, Start, No
 use Rattle.journal_model.specs.declared.entry.Entry.{Entry}
 use Rattle.journal_model.specs.Journal.{any, is_live, is_mute, open_jobs, why_of}
 use Rattle.journal_model.specs.Due.{replies_at}
-use Rattle.journal_model.specs.Legality.{Legal}
+use Rattle.journal_model.specs.Legality.{Legal, count}
 use Rattle.journal_model.specs.Projection.{JobFits}
 use Rattle.task_run.specs.TaskRuns.{refusal_of}
-use Rattle.journal_model.specs.Shares.{is_closed}
+use Rattle.journal_model.specs.Shares.{are_by, is_closed}
+use Rattle.child_start.specs.Greetings.{loses}
 use Rattle.info_run.specs.Infos.{questions, info_lines, is_informed}
 use Rattle.info_run.specs.Askings.{asked_lines}
 use Rattle.special_cli.specs.Endings.{starts_in, IsPrinted}
@@ -31,13 +32,16 @@ is_of_task (Noted task chunk count) = true
 is_of_task _ = false
 
 -- There is one start at most, in slot 0, and ASYNC is not offered. The child was asked the first of the requests, in order, and
--- nothing else; no job of it is open, and it has ended. No task is claimed or answered.
+-- nothing else; at most one request to it was lost, no job of it is open, and it has ended. No task is claimed or answered. All
+-- entries are the main thread's.
 pub record IsAsked (key : Option (List ℕ)) (journal : List Entry) : Type 0 where
   pub once : (starts_in journal ≡ []) ⊎ (starts_in journal ≡ Start 1 0 false ∷ []) ⊎ (starts_in journal ≡ NoStart 0 ∷ [])
   pub asked : (n : ℕ) × (asked_lines journal 1 ≡ take n (info_requests key))
+  pub lost : count (loses 1) journal ≤ 1
   pub settled : open_jobs journal 1 ≡ []
   pub ended : is_live journal 1 ≡ false
   pub taskless : any is_of_task journal ≡ false
+  pub main : are_by 0 journal ≡ true
 
 -- so it is, the journal is legal, and each job's part fits
 pub record IsInformed (key : Option (List ℕ)) (journal : List Entry) : Type 0 where

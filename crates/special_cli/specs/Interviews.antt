@@ -1,5 +1,5 @@
 -- How far an info has come, by its journal.
-use Rattle.std.specs.Prelude.{ℕ, ◌≡◌, ◌⊎◌, Bool, true, false, List, [], ◌∷◌, take, Option, IfOk}
+use Rattle.std.specs.Prelude.{ℕ, ◌≡◌, ◌⊎◌, ◌≤◌, Bool, true, false, List, [], ◌∷◌, take, Option, IfOk}
 use Rattle.ann_outside.specs.declared.Sink.{Ghosts as SinkGhosts}
 use Rattle.ann_outside.specs.declared.Source.{Ghosts as SourceGhosts}
 use Rattle.ann_outside.specs.Starts.{Starts}
@@ -8,6 +8,9 @@ use Rattle.journal_model.specs.declared.entry.What.TheVariants.{Start, NoStart}
 use Rattle.journal_model.specs.declared.entry.Entry.{Entry}
 use Rattle.journal_model.specs.Journal.{any, is_started, open_jobs}
 use Rattle.journal_model.specs.Halves.{EarValue, MouthValue}
+use Rattle.journal_model.specs.Legality.{count}
+use Rattle.journal_model.specs.Shares.{are_by}
+use Rattle.child_start.specs.Greetings.{loses}
 use Rattle.info_run.specs.Askings.{asked_lines}
 use Rattle.special_cli.specs.declared.info.interview.Interview.{Interview}
 use Rattle.special_cli.specs.declared.info.interview.Interview.TheVariants.{Over, StartFault, NoMemory}
@@ -15,14 +18,16 @@ use Rattle.special_cli.specs.Endings.{starts_in}
 use Rattle.special_cli.specs.Informs.{info_requests, is_of_task, IsComplete}
 use Rattle.special_cli.specs.Runs.{main_entry}
 
--- the one child was asked the first of the requests, and no job of it is open
+-- the one child was asked the first of the requests, at most one was lost, and no job of it is open
 pub record IsInterviewed (key : Option (List ℕ)) (journal : List Entry) (c : ℕ) : Type 0 where
   pub first : c ≡ 1
   pub started : is_started journal c ≡ true
   pub starts : starts_in journal ≡ Start 1 0 false ∷ []
   pub asked : (n : ℕ) × (asked_lines journal c ≡ take n (info_requests key))
+  pub lost : count (loses c) journal ≤ 1
   pub settled : open_jobs journal c ≡ []
   pub taskless : any is_of_task journal ≡ false
+  pub main : are_by 0 journal ≡ true
 
 -- what the journal says of an interview
 abbrev pub Interviewed : {I O S : Type 0} {sinks : SinkGhosts I} {sources : SourceGhosts O} → Option (List ℕ) → List Entry → Interview I O S sinks sources → Type 0

@@ -4,7 +4,8 @@ use Rattle.link_roles.proofs.Roles.{same_both}
 use Rattle.link_roles.proofs.Solo.{keeps_both}
 use Rattle.child_start.specs.Stages.{AsksNext}
 use Rattle.child_start.proofs.Requests.{greets_both}
-use Rattle.child_start.proofs.Preparing.{main_on, asked_for, kind_of, unprepared_first, greets_started, may_prepare, prepared_second, greets_as}
+use Rattle.child_start.proofs.Preparing.{main_on, asked_for, kind_of, unprepared_first, greets_started, may_prepare, prepared_second, greets_as, unlost_first}
+use Rattle.child_start.proofs.Losing.{unlost_more}
 use Rattle.child_start.proofs.starting.ask_both.Goals as goal
 
 pub returns-in-Gone-clause-prepares : goal.returns-in-Gone-clause-prepares
@@ -31,13 +32,15 @@ returns-clause-on g c =
     let seen = g.D.Door.seen c.args.door.now in
     let mid = g.D.Door.seen c.ask_one.new.door in
     let new = g.D.Door.seen c.ask_one-2.new.door in
-    greets_both seen mid new c.args.link.now.ear.child (c.ask_one.ensures.on c.args.mode refl) (greets_as mid new c.args.link.now.ear.child c.ask_one.new.link.ear.child c.ask_one.ensures.link.same_ear.0 (c.ask_one-2.ensures.on c.args.mode (asked_for _ c.args.mode c.last_request.ensures)))
+    let first = c.ask_one.ensures.on c.args.mode refl in
+    greets_both seen mid new c.args.link.now.ear.child first (greets_as mid new c.args.link.now.ear.child c.ask_one.new.link.ear.child c.ask_one.ensures.link.same_ear.0 (c.ask_one-2.ensures.on c.args.mode (asked_for _ c.args.mode c.last_request.ensures)))
+    (unlost_more c.args.link.now.ear.child seen mid first.more first.is (unlost_first seen mid c.args.link.now.ear.child c.requires.asks.jobs c.ask_one.result c.in_default.not-Gone c.ask_one.ensures.asks) c.requires.asks.unlost)
 
 pub returns-clause-prepares : goal.returns-clause-prepares
 returns-clause-prepares g c =
     let mid = g.D.Door.seen c.ask_one.new.door in
     let new = g.D.Door.seen c.ask_one-2.new.door in
-    prepared_second (g.D.Door.seen c.args.door.now) mid c.args.link.now.ear.child c.requires.asks.jobs c.ask_one.result c.in_default.not-Gone c.ask_one.ensures.asks c.args.mode new c.ask_one-2.result
+    prepared_second (g.D.Door.seen c.args.door.now) mid c.args.link.now.ear.child c.requires.asks.jobs c.ask_one.result c.in_default.not-Gone c.ask_one.ensures.asks c.args.mode new c.ask_one-2.result c.requires.asks.unlost
     (greets_as mid new c.args.link.now.ear.child c.ask_one.new.link.ear.child c.ask_one.ensures.link.same_ear.0 (c.ask_one-2.ensures.on c.args.mode (asked_for _ c.args.mode c.last_request.ensures)))
     (subst (λ (k : ℕ). AsksNext mid new k c.ask_one-2.result) c.ask_one.ensures.link.same_ear.0 c.ask_one-2.ensures.asks)
 
