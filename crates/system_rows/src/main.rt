@@ -27,6 +27,7 @@ fn print_row(rt: &(impl Print + AllocGlobal), scene: &mut Scene, row: &str) -> i
 fn said(alloc: Global, scene: &mut Scene, word: &str, rest: &str) -> Result<String, NoMemory> {
     match word {
         "special" => scene.call(alloc, rest),
+        "audited" => scene.audit(alloc, rest),
         "journal" | "asked" | "rest" | "restlength" => match scene.left() {
             Some(left) => left_text(alloc, left, word),
             None => Ok(String::new(alloc)),

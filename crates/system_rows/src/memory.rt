@@ -76,6 +76,17 @@ pub(crate) fn desk(
     MemDesk::new(alloc, list, Vec::from_slice(alloc, fails)?)
 }
 
+/// The text of the file of that name on the first desk; empty where there is none.
+pub(crate) fn text_on(alloc: Global, tables: &[MemDesk], name: &str) -> Result<String, NoMemory> {
+    let Some(desk) = tables.first() else {
+        return Ok(String::new(alloc));
+    };
+    match desk.content(name) {
+        Some(bytes) => Ok(String::from_str(alloc, shown(bytes.view()))?),
+        None => Ok(String::new(alloc)),
+    }
+}
+
 /// The objects of a call: what its input gives, and which reads of it fail; each write to out takes at most 7 bytes, and those
 /// that are listed fail.
 #[derive(Drop)]

@@ -152,6 +152,17 @@ impl Scene {
         Ok(said)
     }
 
+    /// Audits the file of that name as the last call left it on desk 0: its text is the input.
+    pub(crate) fn audit(&mut self, alloc: Global, name: &str) -> Result<String, NoMemory> {
+        let text = match self.left() {
+            Some(left) => memory::text_on(alloc, &left.tables, name)?,
+            None => String::new(alloc),
+        };
+        *self = Scene::new(alloc);
+        self.input = text;
+        self.call(alloc, "audit")
+    }
+
     // Desk 0 and the worker's.
     fn desks(&self, alloc: Global) -> Result<MemDesks, NoMemory> {
         let mut desks = Vec::new(alloc);
