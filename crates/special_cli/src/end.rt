@@ -29,7 +29,7 @@ pub(crate) enum End {
     InputFailed,
     /// The remote is set up, and this came of keeping what is set.
     SetUp(KeptWritten),
-    /// Each task was answered, and this came of keeping what is known of the remote.
+    /// Each task was answered, and this came of the kept file and the journal file.
     Done(KeptWritten),
     /// The remote isn't set up.
     NotSetUp(Answer),
