@@ -1,13 +1,11 @@
 -- A run may begin with the opening of a text.
-use Rattle.std.proofs.Common.{◌≡◌, ℕ, zero, suc, ◌≤◌, Bool, true, false, not, cond, List, [], ◌∷◌, ◌++◌, Option, Some, None, length, get_or, refl, sym, ap, subst, ◌∙◌, arith}
+use Rattle.std.proofs.Common.{◌≡◌, ℕ, ◌≤◌, true, false, not, List, Option, Some, None, length, get_or, refl, sym, ap, subst, ◌∙◌, arith}
 use mathlib.Core.Bool.{false≢true}
-use Rattle.std.specs.Prelude.{◌==◌, ◌||◌, All}
-use Rattle.std.specs.List.{list_any}
+use Rattle.std.specs.Prelude.{All}
 use Rattle.std.specs.Str.{is_utf8}
 use Rattle.std.proofs.lemmas.Bool.{and_parts}
-use Rattle.std.proofs.lemmas.Bool.Decides.{nat_tests}
 use Rattle.std.proofs.lemmas.Option.{slice_get-get_or}
-use Rattle.uuid.specs.Text.{by_index, digit_place, hex_digit, hyphenated_text, is_hyphen_place, lower, nibble, parsed}
+use Rattle.uuid.specs.Text.{hyphenated_text, lower, parsed}
 use Rattle.annex_model.specs.Lines.{has_newline}
 use Rattle.reg_file.proofs.Tables.{same_bytes}
 use Rattle.task_text.specs.declared.task.Task.{Task}
@@ -18,40 +16,10 @@ use Rattle.task_text.specs.TaskLines.{IsTask}
 use Rattle.journal_model.specs.Beginnings.{MayBegin}
 use Rattle.journal_model.specs.Replies.{IsLineIdentity}
 use Rattle.journal_reader.specs.RunTexts.{is_text, is_written_uuid}
+use Rattle.cli_words.proofs.Fits.{uuid_fits}
 use Rattle.audit_run.specs.Inputs.{IsTextOf}
 
 -- ---- a UUID as it is written
-
-abbrev no_end : ℕ → Bool
-no_end b = not (b == 10)
-
-hex_fits : (d : ℕ) → no_end (hex_digit lower d) ≡ true
-hex_fits d = grind (arith, nat_tests)
-
-one_more : (xs : List ℕ) (b : ℕ) → list_any (λ b. b == 10) xs ≡ false → no_end b ≡ true → list_any (λ b. b == 10) (xs ++ b ∷ []) ≡ false
-one_more [] b h end = go (b == 10) end
-  where
-    go : (s : Bool) → not s ≡ true → (s || false) ≡ false
-    go true h = absurd (false≢true h)
-    go false h = refl
-one_more (x ∷ xs) b h end = go (x == 10) h (λ rest. one_more xs b rest end)
-  where
-    go : (s : Bool) → (s || list_any (λ b. b == 10) xs) ≡ false → (list_any (λ b. b == 10) xs ≡ false → list_any (λ b. b == 10) (xs ++ b ∷ []) ≡ false)
-        → (s || list_any (λ b. b == 10) (xs ++ b ∷ [])) ≡ false
-    go true h rest = absurd (false≢true (sym h))
-    go false h rest = rest h
-
-index_fits : (n : ℕ) (f : ℕ → ℕ) → ((k : ℕ) → no_end (f k) ≡ true) → has_newline (by_index n f) ≡ false
-unfolding by_index
-index_fits zero f h = refl
-index_fits (suc n) f h = one_more (by_index n f) (f n) (index_fits n f h) (h n)
-
-uuid_fits : (bytes : List ℕ) → has_newline (hyphenated_text lower bytes) ≡ false
-uuid_fits bytes = index_fits 36 (λ k. cond (is_hyphen_place k) 45 (hex_digit lower (nibble bytes (digit_place k)))) (λ k. go (is_hyphen_place k) k)
-  where
-    go : (b : Bool) (k : ℕ) → no_end (cond b 45 (hex_digit lower (nibble bytes (digit_place k)))) ≡ true
-    go true k = refl
-    go false k = hex_fits (nibble bytes (digit_place k))
 
 written_fits : (text : List ℕ) (u : Option (List ℕ)) → is_written_uuid text u ≡ true → not (has_newline text) ≡ true
 written_fits text None h = absurd (false≢true h)

@@ -47,7 +47,7 @@ unfolding by_index
 index_fits zero f h = refl
 index_fits (suc n) f h = one_more (by_index n f) (f n) (index_fits n f h) (h n)
 
-uuid_fits : (bytes : List ℕ) → has_newline (hyphenated_text lower bytes) ≡ false
+pub uuid_fits : (bytes : List ℕ) → has_newline (hyphenated_text lower bytes) ≡ false
 uuid_fits bytes = index_fits 36 (λ k. cond (is_hyphen_place k) 45 (hex_digit lower (nibble bytes (digit_place k)))) (λ k. go (is_hyphen_place k) k)
   where
     go : (b : Bool) (k : ℕ) → no_end (cond b 45 (hex_digit lower (nibble bytes (digit_place k)))) ≡ true
