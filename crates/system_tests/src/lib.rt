@@ -2,6 +2,10 @@
 #![tactic(auto)]
 
 #[cfg(test)]
+mod asides;
+#[cfg(test)]
+mod calls;
+#[cfg(test)]
 mod real;
 #[cfg(test)]
 mod settings;

@@ -1,12 +1,8 @@
 // `special check` over real programs.
-use ann_os::OsPrograms;
-use ann_outside::{MemClock, MemDesks, MemSink, MemSource};
-use special_cli::special;
-use std::alloc::AllocError;
-use std::fs::Permissions;
-use std::os::unix::fs::PermissionsExt;
+use crate::calls::{call, write_script};
+use ann_key::NoMemory;
+use std::fs;
 use std::test::Fail;
-use std::{fs, io};
 
 const REMOTE: &str = "#!/bin/sh\n\
     echo \"VERSION 1\"\n\
@@ -35,35 +31,6 @@ const DEAF: &str = "#!/bin/sh\n\
 const LONG: &str = "#!/bin/sh\n\
     head -c 65537 /dev/zero | tr '\\0' a\n";
 
-fn write_script(rt: &HostRuntime, name: &str, text: &str) -> io::Result<()> {
-    fs::write(rt, name, text)?;
-    fs::set_permissions(rt, name, Permissions::from_mode(0o755))
-}
-
-// The status, and what was printed.
-fn check(rt: &HostRuntime, program: &str, key: &str) -> Result<(u8, Vec<u8>), AllocError> {
-    let alloc = rt.alloc();
-    let mut words = Vec::new(alloc);
-    for word in ["check", program, key] {
-        words.push(String::from_str(alloc, word)?)?;
-    }
-    let mut input = MemSource::new(Vec::new(alloc), Vec::new(alloc));
-    let mut out = MemSink::new(alloc, 4096, Vec::new(alloc));
-    let mut err = MemSink::new(alloc, 4096, Vec::new(alloc));
-    let mut clock = MemClock::new(0);
-    let closing = special(
-        alloc,
-        words.as_slice(),
-        OsPrograms::new(rt),
-        MemDesks::new(alloc, Vec::new(alloc)),
-        &mut input,
-        &mut out,
-        &mut err,
-        &mut clock,
-    );
-    Ok((closing.status, Vec::from_slice(alloc, out.taken())?))
-}
-
 // Whether the program, asked for the key, is told so and ends with the status.
 fn is_told(
     rt: &HostRuntime,
@@ -71,9 +38,8 @@ fn is_told(
     key: &str,
     out: &str,
     status: u8,
-) -> Result<bool, AllocError> {
-    let (ended, printed) = check(rt, program, key)?;
-    Ok(printed.as_slice() == out.as_bytes() && ended == status)
+) -> Result<bool, NoMemory> {
+    Ok(call(rt, &["check", program, key], "")?.is(status, out, ""))
 }
 
 // Whether a script that breaks off is told so.

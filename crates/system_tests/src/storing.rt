@@ -1,13 +1,9 @@
 // `special run` over real programs and real files.
-use ann_key::{Bytes, NoMemory};
-use ann_os::{OsDesks, OsPrograms};
-use ann_outside::{MemClock, MemSink, MemSource};
-use special_cli::special;
+use crate::calls::{Told, UUID, call, write_script};
+use ann_key::NoMemory;
 use std::alloc::Global;
-use std::fs::Permissions;
-use std::os::unix::fs::PermissionsExt;
+use std::fs;
 use std::test::Fail;
-use std::{fs, io};
 
 const KEYS: u32 = 200;
 
@@ -56,61 +52,19 @@ const LYING: &str = "#!/bin/sh\n\
     esac\n\
     done\n";
 
-// The status, and what was printed to out and to err.
-#[derive(Drop)]
-struct Told {
-    status: u8,
-    out: Vec<u8>,
-    err: Vec<u8>,
-}
-
 fn run(rt: &HostRuntime, program: &str, starts: &str, input: &str) -> Result<Told, NoMemory> {
-    let alloc = rt.alloc();
-    let uuid = "6f9619ff-8b86-d011-b42d-00cf4fc964ff";
-    let mut words = Vec::new(alloc);
-    for word in [
+    let words = [
         "run",
         "--program",
         program,
         "--uuid",
-        uuid,
+        UUID,
         "--starts",
         starts,
         "--work",
         "work",
-    ] {
-        words.push(String::from_str(alloc, word)?)?;
-    }
-    let mut pieces = Vec::new(alloc);
-    pieces.push(Bytes::copy(alloc, input.as_bytes())?)?;
-    let mut input = MemSource::new(pieces, Vec::new(alloc));
-    let mut out = MemSink::new(alloc, 4096, Vec::new(alloc));
-    let mut err = MemSink::new(alloc, 4096, Vec::new(alloc));
-    let mut clock = MemClock::new(0);
-    let closing = special(
-        alloc,
-        words.as_slice(),
-        OsPrograms::new(rt),
-        OsDesks::new(rt),
-        &mut input,
-        &mut out,
-        &mut err,
-        &mut clock,
-    );
-    Ok(Told {
-        status: closing.status,
-        out: Vec::from_slice(alloc, out.taken())?,
-        err: Vec::from_slice(alloc, err.taken())?,
-    })
-}
-
-fn is_told(told: &Told, status: u8, out: &str) -> bool {
-    told.status == status && told.out.as_slice() == out.as_bytes() && told.err.is_empty()
-}
-
-fn write_script(rt: &HostRuntime, name: &str, text: &str) -> io::Result<()> {
-    fs::write(rt, name, text)?;
-    fs::set_permissions(rt, name, Permissions::from_mode(0o755))
+    ];
+    call(rt, &words, input)
 }
 
 // A task line for each of so many keys, and the lines of their answers. With a letter each task names the file of that letter.
@@ -143,7 +97,7 @@ fn all_are(
 ) -> Result<bool, NoMemory> {
     let (tasks, answers) = lines(rt.alloc(), work, letter, answer)?;
     let told = run(rt, "./keeper.sh", "1", tasks.as_str())?;
-    Ok(is_told(&told, status, answers.as_str()))
+    Ok(told.is(status, answers.as_str(), ""))
 }
 
 // The content of a key: as many bytes as its number says, each its last digit.
@@ -202,17 +156,17 @@ fn a_second_start_goes_on_where_a_real_child_died(rt: HostRuntime) -> Result<(),
     let one = run(&rt, "./dying.sh", "1", CHECKS)?;
     fs::remove_file(&rt, "./dying.sh")?;
     assert!(rt;
-        is_told(
-            &two,
+        two.is(
             1,
-            "1 present\n2 present\n3 ended eof\n4 present\n5 present\n"
+            "1 present\n2 present\n3 ended eof\n4 present\n5 present\n",
+            ""
         )
     );
     assert!(rt;
-        is_told(
-            &one,
+        one.is(
             1,
-            "1 present\n2 present\n3 ended eof\n4 nochild\n5 nochild\n"
+            "1 present\n2 present\n3 ended eof\n4 nochild\n5 nochild\n",
+            ""
         )
     );
     Ok(())
@@ -233,10 +187,10 @@ fn a_real_remote_that_says_success_is_not_believed_without_the_content(
     fs::remove_dir_all(&rt, "work")?;
     let any = fs::exists(&rt, "o1")? || fs::exists(&rt, "o2")? || fs::exists(&rt, "o3")?;
     assert!(rt;
-        is_told(
-            &told,
+        told.is(
             1,
-            "1 nofile\n2 hash acbd18db4cc2f85cedef654fccc4a4d8\n3 size 2\n"
+            "1 nofile\n2 hash acbd18db4cc2f85cedef654fccc4a4d8\n3 size 2\n",
+            ""
         )
     );
     assert!(rt; !any);
