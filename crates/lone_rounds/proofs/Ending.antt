@@ -21,11 +21,12 @@ use Rattle.host_core.specs.Steps.{are_all_claimed, unclaimed}
 use Rattle.child_start.specs.Cores.{IsSameCore}
 use Rattle.task_run.specs.declared.setup.Setup.{Setup}
 use Rattle.task_run.specs.TaskRuns.{failed_start}
-use Rattle.lone_work.specs.Works.{DeskTells}
+use Rattle.lone_work.specs.Works.{DeskTells, ends_answered}
+use Rattle.lone_work.proofs.Working.{ends_behind}
 use Rattle.child_end.specs.Wires.{AreWires, IsWire, WireValue, came, came_in}
 use Rattle.child_end.specs.Programs.{AddsAll, HaveStarted as HaveStartedSo, Leaves, ProgramsValue, told}
 use Rattle.lone_rounds.specs.Starting.{AllOffer, AreSpent, children, is_any_start, is_elsewhere, is_offered, is_ready_untagged, is_spent, started_in}
-use Rattle.lone_rounds.specs.Rounds.{RanAlone, ZeroAnswers, ends_for_memory, is_of_run, left_answer, start_untaken}
+use Rattle.lone_rounds.specs.Rounds.{EndsClosed, RanAlone, ZeroAnswers, ends_for_memory, is_of_run, left_answer, start_untaken}
 use Rattle.lone_rounds.specs.Stints.{AnswersLeft, AreLinked, AreUpTo, Between, IsLinked, IsOver, Kept, MayHaveAsked, OneStart, Stint, TasksDone, answered_so, ear_of, main_entry, mouth_of}
 use Rattle.lone_rounds.proofs.Apart.{ended_on, ready_same, spent_on}
 use Rattle.lone_rounds.proofs.Growing.{apart, between_next, starts_none}
@@ -124,6 +125,11 @@ module _ (answer : Answer) where
       (left_done o setup limit journal desk quiet (past ++ one t) ts (is ∙ behind_one past t ts) (same_count past (one t) refl ∙ all) (still_spent past (one t) refl spent)
       (says ∙ sym (same_left past (one t) refl)) (one_untaken past t))
 
+-- an answer is the last of them
+left_ends : (answer : Answer) (t : ℕ) (ts : List ℕ) → ends_answered (answered_so answer (t ∷ ts)) ≡ true
+left_ends answer t [] = refl
+left_ends answer t (u ∷ ts) = left_ends answer u ts
+
 left_quiet : (past : List Entry) → IsOfNoCall (left_answer past)
 left_quiet past = go (any ends_for_memory past)
   where
@@ -131,7 +137,7 @@ left_quiet past = go (any ends_for_memory past)
     go true = refl
     go false = refl
 
-module _ {o : Opening} {setup : Setup} {limit made : ℕ} {offer : Bool} {old new : List Entry} {desk0 desk : DeskTells} (b : Between o setup limit made offer old desk0 desk)
+module _ {o : Opening} {setup : Setup} {may : Bool} {limit made : ℕ} {offer : Bool} {old new : List Entry} {desk0 desk : DeskTells} (b : Between o setup may limit made offer old desk0 desk)
     (all : made ≡ limit) (spent : AreSpent old) (a : AnswersLeft o old new (left_answer old)) (legal : Legal o new) where
   abbrev more : List Entry
   more = answered_so (left_answer old) a.tasks
@@ -150,24 +156,35 @@ module _ {o : Opening} {setup : Setup} {limit made : ℕ} {offer : Bool} {old ne
       ∙ ready_same old more d (left_apart (left_answer old) a.tasks d) o b.legal (left_none (left_answer old) (offers d) (λ t. refl) (λ t. refl) a.tasks))
       (children old) (children_up_to (count is_start old) old b.few))
 
-  pub between_left : Between o setup limit made offer new desk0 desk
+  pub between_left : Between o setup may limit made offer new desk0 desk
   between_left = record {
     legal = legal;
     main = ap (are_by 0) a.is ∙ all-join (λ (e : Entry). e.by == 0) old more b.main (left_main (left_answer old) a.tasks);
     slots = ap (any is_elsewhere) a.is ∙ any-append is_elsewhere old more ∙ neither (any is_elsewhere old) (any is_elsewhere more) b.slots (left_none (left_answer old) is_elsewhere (λ t. refl) (λ t. refl) a.tasks);
     starts = ap (count is_any_start) a.is ∙ same_count (left_answer old) old more none ∙ b.starts;
-    offers = subst (AllOffer []) (sym a.is) (offers_both [] old more b.offers (offers_none old more none));
-    offered = b.offered ∙ sym offered_still;
+    offers = subst (AllOffer may []) (sym a.is) (offers_both may [] old more b.offers (offers_none may old more none));
+    offered = b.offered ∙ ap (λ (x : Bool). may && x) (sym offered_still);
     ended = ap (list_all (is_ended new)) children_are
         ∙ all-each (is_ended old) (is_ended new) (λ d k. ap (λ (j : List Entry). is_ended j d) a.is ∙ ended_on old more d k) (children old) b.ended;
     asks = ap (list_all (λ (e : Entry). is_of_run e.what)) a.is ∙ all-join (λ (e : Entry). is_of_run e.what) old more b.asks (left_all (left_answer old) is_of_run (λ t. refl) (λ t. refl) a.tasks);
     done = done_now;
     rest = λ u. ap (λ (j : List Entry). is_busy j u) a.is ∙ left_rests (left_answer old) old a.tasks b.rest u;
     spent = inl (subst AreSpent (sym a.is) (still_spent (left_answer old) old more none spent));
+    last = λ claimed. last_now a.tasks a.is claimed;
     untaken = subst (λ (j : List Entry). failed_start j (start_untaken j) ≡ None) (sym a.is) (left_untaken (left_answer old) old a.tasks b.untaken);
     few = subst (λ (n : ℕ). AreUpTo n (came new)) (sym starts_same) (subst (AreUpTo (count is_start old)) (sym came_same) b.few);
   }
     where
+      last_now : (ts : List ℕ) → new ≡ old ++ answered_so (left_answer old) ts → are_all_claimed o new ≡ true → EndsClosed new
+      last_now [] is claimed = (let same : new ≡ old = is ∙ append-nil old in subst EndsClosed (sym same) (b.last (sym (ap (are_all_claimed o) same) ∙ claimed)))
+      last_now (t ∷ ts) is claimed = record {
+        past = old ++ answered_so (left_answer old) (t ∷ ts);
+        closings = [];
+        is = is ∙ sym (append-nil (old ++ answered_so (left_answer old) (t ∷ ts)));
+        answered = ends_behind old (main_entry (Claim t 0)) (main_entry (Answered t (left_answer old)) ∷ answered_so (left_answer old) ts) (left_ends (left_answer old) t ts);
+        closed = refl;
+      }
+
       came_same : came new ≡ came old
       came_same = ap came a.is ∙ each_of-append came_in old more ∙ ap (λ (cs : List (Option ℕ)). came old ++ cs) (none_came more none) ∙ append-nil (came old)
 
@@ -185,8 +202,8 @@ module _ {o : Opening} {setup : Setup} {limit made : ℕ} {offer : Bool} {old ne
 
 -- ---- what a run leaves
 
-pub ran_alone : {o : Opening} {setup : Setup} {limit made : ℕ} {offer : Bool} {journal : List Entry} {desk desk' : DeskTells} → made ≤ limit → Between o setup limit made offer journal desk desk' → RanAlone o setup limit journal desk desk'
-ran_alone {o} {setup} {limit} {made} {offer} {journal} le b = record {
+pub ran_alone : {o : Opening} {setup : Setup} {may : Bool} {limit made : ℕ} {offer : Bool} {journal : List Entry} {desk desk' : DeskTells} → made ≤ limit → Between o setup may limit made offer journal desk desk' → RanAlone o setup may limit journal desk desk'
+ran_alone {o} {setup} {may} {limit} {made} {offer} {journal} le b = record {
   legal = b.legal;
   main = b.main;
   starts = record { slots = b.slots; few = (let n = b.starts in omega (arith, n, le)); offers = b.offers };
@@ -241,9 +258,9 @@ pub left_nothing : (o : Opening) (journal : List Entry) (n : ℕ) → n ≡ leng
 left_nothing o journal n is z = none_left (is_claimed journal) (numbers_of o) (sym is ∙ z)
 
 -- where tasks are left behind all starts, each child is spent
-pub over_spent : {o : Opening} {setup : Setup} {limit made : ℕ} {offer : Bool} {journal : List Entry} {desk desk' : DeskTells} → Between o setup limit made offer journal desk desk' → IsOver o limit made journal → are_all_claimed o journal ≡ false
+pub over_spent : {o : Opening} {setup : Setup} {may : Bool} {limit made : ℕ} {offer : Bool} {journal : List Entry} {desk desk' : DeskTells} → Between o setup may limit made offer journal desk desk' → IsOver o limit made journal → are_all_claimed o journal ≡ false
     → (made ≡ limit) × AreSpent journal
-over_spent {o} {setup} {limit} {made} {offer} {journal} b over left = (first over, second b.spent)
+over_spent {o} {setup} {may} {limit} {made} {offer} {journal} b over left = (first over, second b.spent)
   where
     first : IsOver o limit made journal → made ≡ limit
     first (inl e) = e
@@ -266,9 +283,9 @@ pub cores_both : {a b c : CoreValue} → IsSameCore a b → IsSameCore b c → I
 cores_both h k = record { opening = k.opening ∙ h.opening; legal = λ l. k.legal (h.legal l) }
 
 -- one start more, of a core under another name
-pub next_start : (o p : Opening) (setup : Setup) (limit made : ℕ) (offer next : Bool) (program : List ℕ) (old new : List Entry) (desk0 desk desk' : DeskTells) (start before after : ProgramsValue) (wires wires' : List WireValue) → p ≡ o
-    → Between o setup limit made offer old desk0 desk → Kept program old start before wires → OneStart p setup limit offer next program old new desk desk' before after wires wires' → Legal o new
-    → Between o setup limit (made + 1) next new desk0 desk' × Kept program new start after wires'
-next_start o p setup limit made offer next program old new desk0 desk desk' start before after wires wires' same_opening b k (first, stint, objects) legal =
+pub next_start : (o p : Opening) (setup : Setup) (may : Bool) (limit made : ℕ) (offer next : Bool) (program : List ℕ) (old new : List Entry) (desk0 desk desk' : DeskTells) (start before after : ProgramsValue) (wires wires' : List WireValue) → p ≡ o
+    → Between o setup may limit made offer old desk0 desk → Kept program old start before wires → OneStart p setup limit offer next program old new desk desk' before after wires wires' → Legal o new
+    → Between o setup may limit (made + 1) next new desk0 desk' × Kept program new start after wires'
+next_start o p setup may limit made offer next program old new desk0 desk desk' start before after wires wires' same_opening b k (first, stint, objects) legal =
     let s : Stint o setup limit offer next first old new desk desk' = subst (λ (q : Opening). Stint q setup limit offer next first old new desk desk') same_opening stint in
     (between_next s b legal, kept_next k b.few new first s.later after wires' s.is (starts_none s) (apart s) objects)

@@ -22,7 +22,7 @@ use Rattle.lone_rounds.specs.Rounds.{is_of_run}
 use Rattle.lone_rounds.specs.Stints.{AreUpTo, Between, IsStart, Stint, TasksDone, in_stint, main_entry, next_child}
 use Rattle.lone_rounds.proofs.Apart.{apart_in, ended_on, no_offer, no_start_in, ready_same, spent_on}
 use Rattle.lone_rounds.proofs.Runs.{done_both, done_same}
-use Rattle.lone_rounds.proofs.Tests.{any_none, any_same, children_up_to, claimed_on, count-append, count_none, neither_nor, no_children, none_came, offers_both, offers_none, up_to_both, up_to_more}
+use Rattle.lone_rounds.proofs.Tests.{and_behind, any_none, any_same, children_up_to, claimed_on, count-append, count_none, neither_nor, no_children, none_came, offers_both, offers_none, up_to_both, up_to_more}
 
 -- ---- the start itself
 
@@ -31,7 +31,7 @@ pub record SaysStart (past : List Entry) (offer : Bool) (first : What) : Type 0 
   pub any_start : is_any_start first ≡ true
   pub here : is_elsewhere first ≡ false
   pub asks : is_of_run first ≡ true
-  pub offers_well : offer ≡ is_offered past → OffersWell past first
+  pub offers_well : (may : Bool) → offer ≡ (may && is_offered past) → OffersWell may past first
   pub of_none : (d : ℕ) → is_of_child d first ≡ false
   pub offers_next : (d : ℕ) → (next_child past == d) ≡ false → offers d first ≡ false
   pub up_to : AreUpTo (count is_start past + count is_start (main_entry first ∷ [])) (came (main_entry first ∷ []))
@@ -41,7 +41,7 @@ says_start past offer first (inl e) = subst (SaysStart past offer) (sym e) recor
   any_start = refl;
   here = refl;
   asks = refl;
-  offers_well = λ h. h;
+  offers_well = λ may h. h;
   of_none = λ d. refl;
   offers_next = λ d other. ap (λ (b : Bool). b && offer) other;
   up_to = (omega arith, tt);
@@ -50,7 +50,7 @@ says_start past offer first (inr e) = subst (SaysStart past offer) (sym e) recor
   any_start = refl;
   here = refl;
   asks = refl;
-  offers_well = λ h. tt;
+  offers_well = λ may h. tt;
   of_none = λ d. refl;
   offers_next = λ d other. refl;
   up_to = tt;
@@ -123,21 +123,23 @@ module _ {o : Opening} {setup : Setup} {limit : ℕ} {offer next : Bool} {first 
 
   -- ---- between two starts
 
-  module _ {made : ℕ} {desk0 : DeskTells} (b : Between o setup limit made offer old desk0 desk) (legal : Legal o new) where
+  module _ {may : Bool} {made : ℕ} {desk0 : DeskTells} (b : Between o setup may limit made offer old desk0 desk) (legal : Legal o new) where
     earlier_same : list_any (is_ready_untagged new) (children old) ≡ list_any (is_ready_untagged old) (children old)
     earlier_same =
         any_same (count is_start old) (is_ready_untagged new) (is_ready_untagged old)
         (λ d le. ap (λ (j : List Entry). is_ready_untagged j d) s.is ∙ ready_same old tail d (apart d le) o b.legal (unoffered d le))
         (children old) (children_up_to (count is_start old) old b.few)
 
-    offered_now : next ≡ is_offered new
+    offered_now : next ≡ (may && is_offered new)
     offered_now =
         let its_own : Bool = list_any (is_ready_untagged new) (children (main_entry first ∷ [])) in
         s.offers
-        ∙ ap (λ (x : Bool). x && not its_own) (b.offered ∙ ap not (sym earlier_same))
-        ∙ sym (neither_nor (list_any (is_ready_untagged new) (children old)) its_own)
+        ∙ ap (λ (x : Bool). x && not its_own) (b.offered ∙ ap (λ (x : Bool). may && not x) (sym earlier_same))
+        ∙ and_behind may (not (list_any (is_ready_untagged new) (children old))) (not its_own)
+        ∙ ap (λ (x : Bool). may && x)
+        (sym (neither_nor (list_any (is_ready_untagged new) (children old)) its_own)
         ∙ ap not (sym (list_any-append (is_ready_untagged new) (children old) (children (main_entry first ∷ []))))
-        ∙ ap (λ (ds : List ℕ). not (list_any (is_ready_untagged new) ds)) (sym children_are)
+        ∙ ap (λ (ds : List ℕ). not (list_any (is_ready_untagged new) ds)) (sym children_are))
 
     earlier : (p : List Entry → ℕ → Bool) → ((d : ℕ) → p old d ≡ true → p (old ++ tail) d ≡ true) → list_all (p old) (children old) ≡ true → list_all (p new) (children (main_entry first ∷ [])) ≡ true
         → list_all (p new) (children new) ≡ true
@@ -152,19 +154,20 @@ module _ {o : Opening} {setup : Setup} {limit : ℕ} {offer next : Bool} {first 
     spent_now (inr all) (inl k) = inr (ap (are_all_claimed o) s.is ∙ claimed_on o old tail all)
     spent_now (inl h) (inl k) = inl (earlier is_spent (λ d x. spent_on old tail d x) h k)
 
-    pub between_next : Between o setup limit (made + 1) next new desk0 desk'
+    pub between_next : Between o setup may limit (made + 1) next new desk0 desk'
     between_next = record {
       legal = legal;
       main = ap (are_by 0) s.is ∙ all-join (λ (e : Entry). e.by == 0) old tail b.main s.main;
       slots = ap (any is_elsewhere) s.is ∙ any-append is_elsewhere old tail ∙ neither (any is_elsewhere old) (any is_elsewhere tail) b.slots (neither (is_elsewhere first) (any is_elsewhere s.later) its.here elsewhere_none);
       starts = one_start ∙ ap (λ (n : ℕ). n + 1) b.starts;
-      offers = subst (AllOffer []) (sym s.is) (offers_both [] old tail b.offers (its.offers_well b.offered, offers_none (old ++ main_entry first ∷ []) s.later starts_none));
+      offers = subst (AllOffer may []) (sym s.is) (offers_both may [] old tail b.offers (its.offers_well may b.offered, offers_none may (old ++ main_entry first ∷ []) s.later starts_none));
       offered = offered_now;
       ended = earlier is_ended (λ d x. ended_on old tail d x) b.ended s.ended;
       asks = ap (list_all (λ (e : Entry). is_of_run e.what)) s.is ∙ all-join (λ (e : Entry). is_of_run e.what) old tail b.asks (rw (its.asks, s.asks) refl);
       done = done_now;
       rest = s.rest;
       spent = spent_now b.spent s.spent;
+      last = s.last;
       untaken = s.untaken;
       few = subst (λ (n : ℕ). AreUpTo n (came new)) (sym starts_are) (subst (AreUpTo (count is_start old + count is_start (main_entry first ∷ []))) (sym came_are)
           (up_to_both (count is_start old + count is_start (main_entry first ∷ [])) (came old) (came (main_entry first ∷ []))

@@ -29,15 +29,15 @@ use Rattle.child_start.specs.Greetings.{Greeted, IsReady, is_of_greeting}
 use Rattle.child_start.proofs.Begun.{later_unstarted}
 use Rattle.task_run.specs.declared.setup.Setup.{Setup}
 use Rattle.task_run.specs.TaskRuns.{failed_start, gone_answer, or_refusal, refusal_of, unready_answer}
-use Rattle.lone_work.specs.Works.{DeskTells, by_worker, claimed_task, claims_in}
+use Rattle.lone_work.specs.Works.{DeskTells, by_worker, claimed_task, claims_in, ends_answered}
 use Rattle.lone_rounds.specs.Starting.{is_ready_untagged, is_spent, is_unclosed}
-use Rattle.lone_rounds.specs.Rounds.{start_untaken}
+use Rattle.lone_rounds.specs.Rounds.{EndsClosed, start_untaken}
 use Rattle.lone_rounds.specs.Stints.{HasServed, Stint, TasksDone, in_stint, main_entry}
 use Rattle.lone_rounds.proofs.Apart.{ended_unclosed, is_unclosed_end, no_offer, no_start_in, spent_on}
 use Rattle.lone_rounds.proofs.Later.{late_from}
 use Rattle.lone_rounds.proofs.Runs.{done_same, worker_runs}
-use Rattle.lone_rounds.proofs.Stinting.{Closing, Part, closing, closing_part, closing_rests, greeting_gives_none, greeting_part, greeting_takes_none, of_closing, part_both, worker_part}
-use Rattle.lone_rounds.proofs.Tests.{any_none, claimed_on, or_false}
+use Rattle.lone_rounds.proofs.Stinting.{Closing, Part, closing, closing_claims, closing_ends, closing_part, closing_rests, greeting_claims_none, greeting_gives_none, greeting_part, greeting_takes_none, of_closing, part_both, worker_part}
+use Rattle.lone_rounds.proofs.Tests.{any_none, claimed_on, claimed_same, or_false}
 use Rattle.lone_rounds.proofs.Turns.{ready_untaken}
 
 -- ---- a ready child stays so, and tagged or not
@@ -125,7 +125,7 @@ untagged true false = refl
 untagged false b = refl
 
 module _ (o : Opening) (setup : Setup) (limit : ℕ) (offer tagged : Bool) (old g new : List Entry) (c : ℕ) (desk desk' : DeskTells)
-    (legal : Legal o old) (greeted : Greeted old g 0 offer c) (legal' : Legal o g) (ready : IsReady g c) (tag : tagged ≡ is_tagged g c) (s : HasServed o setup c g new desk desk') where
+    (legal : Legal o old) (left : are_all_claimed o old ≡ false) (greeted : Greeted old g 0 offer c) (legal' : Legal o g) (ready : IsReady g c) (tag : tagged ≡ is_tagged g c) (s : HasServed o setup c g new desk desk') where
   abbrev first : Entry
   first = main_entry (Start c 0 offer)
 
@@ -202,6 +202,19 @@ module _ (o : Opening) (setup : Setup) (limit : ℕ) (offer tagged : Bool) (old 
       go (inl all) = inr (ap (are_all_claimed o) k.is ∙ claimed_on o s.mid k.tail all)
       go (inr gone) = inl (ap (λ (b : Bool). b && true) (ap (λ (j : List Entry). is_spent j c) k.is ∙ spent_on s.mid k.tail c (gone_spent gone)))
 
+  -- where all are claimed then, a task was: the worker's last entry is an answer
+  ends_now : are_all_claimed o new ≡ true → EndsClosed new
+  ends_now all = go its refl s.worked.last
+    where
+      unworked : its ≡ [] → are_all_claimed o new ≡ false
+      unworked none =
+          ap (are_all_claimed o) k.is ∙ closing_claims c k.tail k.one o s.mid ∙ ap (are_all_claimed o) (s.worked.is ∙ ap (λ (x : List Entry). g ++ x) none ∙ append-nil g)
+          ∙ ap (are_all_claimed o) greeted.grown ∙ claimed_same o old (first ∷ greeted.more) (greeting_claims_none old g offer c greeted) ∙ left
+
+      go : (xs : List Entry) → its ≡ xs → ends_answered xs ≡ true → EndsClosed new
+      go [] is h = absurd (let bad : true ≡ false = sym all ∙ unworked is in cc)
+      go (x ∷ xs) is h = closing_ends c k.tail k.one g new x xs (k.is ∙ ap (λ (y : List Entry). y ++ k.tail) (s.worked.is ∙ ap (λ (y : List Entry). g ++ y) is)) h
+
   unready_none : unready_answer new c ≡ None
   unready_none = ap (λ (j : List Entry). unready_answer j c) behind ∙ answers_nothing o g (its ++ k.tail) c legal' ready greeted.idle rest_part.within
 
@@ -220,6 +233,7 @@ module _ (o : Opening) (setup : Setup) (limit : ℕ) (offer tagged : Bool) (old 
     rest = λ u. ap (λ (j : List Entry). is_busy j u) k.is ∙ closing_rests c k.tail k.one s.mid s.can.rest u;
     ended = ap (λ (b : Bool). b && true) k.ended;
     spent = over;
+    last = ends_now;
     untaken = subst (λ (j : List Entry). failed_start j (start_untaken j) ≡ None) (sym whole)
         (ready_untaken old later c offer c part.within (subst (λ (j : List Entry). unready_answer j c ≡ None) whole unready_none));
     offers = untagged offer tagged ∙ ap (λ (b : Bool). offer && not (b || false)) (sym ready_said);

@@ -17,6 +17,7 @@ use Rattle.journal_model.proofs.Holding.{answered, claimed, holder_append, untur
 use Rattle.journal_model.proofs.Looks.{any-append, both, same}
 use Rattle.journal_model.proofs.Testing.{all-join, or_left, or_right}
 use Rattle.journal_model.proofs.Working.{holder_apart}
+use Rattle.host_core.specs.Steps.{are_all_claimed}
 use Rattle.link_roles.specs.Alone.{Closes}
 use Rattle.link_roles.proofs.Linked.{link_apart}
 use Rattle.link_roles.proofs.Solo.{closed_over}
@@ -24,11 +25,12 @@ use Rattle.child_start.proofs.Jobs.{idle_on}
 use Rattle.journal_model.specs.Halves.{EarValue, LinkWired, MouthValue}
 use Rattle.journal_model.specs.declared.answer.Answer.{Answer}
 use Rattle.child_start.specs.Greetings.{Greeted, IsReady, is_greeting_line, is_of_greeting}
-use Rattle.lone_work.specs.Works.{CanWork, by_worker, claimed_task, claims_in}
-use Rattle.lone_rounds.specs.Rounds.{is_of_run}
+use Rattle.lone_work.specs.Works.{CanWork, by_worker, claimed_task, claims_in, ends_answered}
+use Rattle.lone_work.proofs.Working.{ends_behind}
+use Rattle.lone_rounds.specs.Rounds.{EndsClosed, is_closing, is_of_run}
 use Rattle.lone_rounds.specs.Stints.{AnswersOne, in_stint, main_entry}
 use Rattle.lone_rounds.proofs.Later.{all_work, greeting_asks, late}
-use Rattle.lone_rounds.proofs.Tests.{each_none, any_none}
+use Rattle.lone_rounds.proofs.Tests.{each_none, any_none, claimed_same}
 use Rattle.lone_rounds.proofs.Zeros.{rests_one}
 
 -- ---- a part
@@ -189,6 +191,22 @@ module _ (c : ℕ) (tail : List Entry) (one : (tail ≡ []) ⊎ (tail ≡ main_e
 
   pub closing_part : Part c tail
   closing_part = of_closing (Part c) (record { within = refl; main = refl; asks = refl }) (record { within = rw (same c) refl; main = refl; asks = refl })
+
+  pub closing_closes : list_all (λ (e : Entry). is_closing e.what) tail ≡ true
+  closing_closes = of_closing (λ (x : List Entry). list_all (λ (e : Entry). is_closing e.what) x ≡ true) refl refl
+
+  -- behind entries of which an answer is the last
+  pub closing_ends : (past new : List Entry) (x : Entry) (xs : List Entry) → new ≡ (past ++ x ∷ xs) ++ tail → ends_answered (x ∷ xs) ≡ true → EndsClosed new
+  closing_ends past new x xs is h = record {
+    past = past ++ x ∷ xs;
+    closings = tail;
+    is = is;
+    answered = ends_behind past x xs h;
+    closed = closing_closes;
+  }
+
+  pub closing_claims : (o : Opening) (past : List Entry) → are_all_claimed o (past ++ tail) ≡ are_all_claimed o past
+  closing_claims o past = claimed_same o past tail (λ t. of_closing (λ (x : List Entry). is_claimed x t ≡ false) refl refl)
 
   pub closing_rests : (mid : List Entry) → ((t : ℕ) → is_busy mid t ≡ false) → (t : ℕ) → is_busy (mid ++ tail) t ≡ false
   closing_rests mid rest t = ap is_some (holder_apart mid tail t (of_closing (λ (x : List Entry). any (is_of_task t) x ≡ false) refl refl)) ∙ rest t

@@ -61,15 +61,15 @@ any_none p q apart (e ∷ xs) h =
 
 -- ---- offers of ASYNC
 
-pub offers_both : (past xs ys : List Entry) → AllOffer past xs → AllOffer (past ++ xs) ys → AllOffer past (xs ++ ys)
-offers_both past [] ys h k = subst (λ (p : List Entry). AllOffer p ys) (append-nil past) k
-offers_both past (e ∷ xs) ys h k = (h.0, offers_both (past ++ e ∷ []) xs ys h.1 (subst (λ (p : List Entry). AllOffer p ys) (sym (append_assoc past (e ∷ []) xs)) k))
+pub offers_both : (may : Bool) (past xs ys : List Entry) → AllOffer may past xs → AllOffer may (past ++ xs) ys → AllOffer may past (xs ++ ys)
+offers_both may past [] ys h k = subst (λ (p : List Entry). AllOffer may p ys) (append-nil past) k
+offers_both may past (e ∷ xs) ys h k = (h.0, offers_both may (past ++ e ∷ []) xs ys h.1 (subst (λ (p : List Entry). AllOffer may p ys) (sym (append_assoc past (e ∷ []) xs)) k))
 
-pub offers_none : (past xs : List Entry) → any is_any_start xs ≡ false → AllOffer past xs
-offers_none past [] h = tt
-offers_none past (e ∷ xs) h = (one e.what (either_left (is_any_start e.what) (any is_any_start xs) h), offers_none (past ++ e ∷ []) xs (either_right (is_any_start e.what) (any is_any_start xs) h))
+pub offers_none : (may : Bool) (past xs : List Entry) → any is_any_start xs ≡ false → AllOffer may past xs
+offers_none may past [] h = tt
+offers_none may past (e ∷ xs) h = (one e.what (either_left (is_any_start e.what) (any is_any_start xs) h), offers_none may (past ++ e ∷ []) xs (either_right (is_any_start e.what) (any is_any_start xs) h))
   where
-    one : (w : What) → is_any_start w ≡ false → OffersWell past w
+    one : (w : What) → is_any_start w ≡ false → OffersWell may past w
     one (Start child slot offer) k = absurd cc
     one (NoStart slot) k = tt
     one w k = tt
@@ -154,6 +154,10 @@ none_left p (t ∷ ts) h = go (p t) h (none_left p ts)
     go false k r = absurd (let bad : ⊥ = omega (arith, k) in bad)
 
 -- ---- numbers
+
+pub and_behind : (a b c : Bool) → ((a && b) && c) ≡ (a && (b && c))
+and_behind true b c = refl
+and_behind false b c = refl
 
 pub neither_nor : (a b : Bool) → not (a || b) ≡ (not a && not b)
 neither_nor true b = refl

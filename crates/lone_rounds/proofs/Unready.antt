@@ -1,5 +1,5 @@
 -- A start that gave no child that is ready: one task is answered by what came of it.
-use Rattle.std.proofs.Common.{◌≡◌, ◌⊎◌, ℕ, List, [], ◌∷◌, ◌++◌, refl, sym, ap, subst, ◌∙◌, append_assoc, Bool, true, false, not, Some, None, Option, inl, inr}
+use Rattle.std.proofs.Common.{◌≡◌, ◌⊎◌, ℕ, List, [], ◌∷◌, ◌++◌, refl, sym, ap, subst, ◌∙◌, append_assoc, append-nil, Bool, true, false, not, Some, None, Option, inl, inr}
 use Rattle.std.specs.Prelude.{◌&&◌, ◌||◌, is_some, option_and_then, option_map}
 use Rattle.std.specs.List.{list_all}
 use Rattle.journal_model.specs.declared.verdict.Why.{Why}
@@ -28,9 +28,10 @@ use Rattle.lone_work.specs.Works.{DeskTells, claimed_task, claims_in}
 use Rattle.lone_rounds.specs.Starting.{is_ready_untagged, is_spent, is_unclosed}
 use Rattle.lone_rounds.specs.Rounds.{ZeroAnswers, start_untaken, turn_of}
 use Rattle.lone_rounds.specs.Stints.{AnswersOne, Stint, TasksDone, TurnsAway, in_stint, main_entry}
+use Rattle.lone_work.proofs.Working.{ends_behind}
 use Rattle.lone_rounds.proofs.Apart.{spent_on, why_unclosed}
 use Rattle.lone_rounds.proofs.Runs.{IsOfNoCall, done_same, done_zero}
-use Rattle.lone_rounds.proofs.Stinting.{Closing, Part, closing, closing_part, closing_rests, greeting_claims_none, greeting_gives_none, greeting_part, greeting_rests, greeting_takes_none, of_closing, part_both, zero_part}
+use Rattle.lone_rounds.proofs.Stinting.{Closing, Part, closing, closing_ends, closing_part, closing_rests, greeting_claims_none, greeting_gives_none, greeting_part, greeting_rests, greeting_takes_none, of_closing, part_both, zero_part}
 use Rattle.lone_rounds.proofs.Tests.{claimed_same, each_none}
 use Rattle.lone_rounds.proofs.Turns.{child_untaken, claim_takes, fault_untaken, none_fails}
 use Rattle.lone_rounds.proofs.Zeros.{rests_one}
@@ -171,6 +172,7 @@ module _ (o : Opening) (setup : Setup) (limit : ℕ) (offer : Bool) (old g new :
       rest = λ u. ap (λ (j : List Entry). is_busy j u) (k.is ∙ ap (λ (x : List Entry). x ++ k.tail) is)
           ∙ closing_rests c k.tail k.one (g ++ zero) (rests_one g t answer (greeting_rests old g offer c greeted rest)) u;
       ended = ap (λ (b : Bool). b && true) k.ended;
+      last = λ all. closing_ends c k.tail k.one g new (main_entry (Claim t 0)) (main_entry (Answered t answer) ∷ []) (k.is ∙ ap (λ (x : List Entry). x ++ k.tail) is) refl;
       spent = inl (ap (λ (b : Bool). b && true) (ap (λ (j : List Entry). is_spent j c) behind ∙ spent_on g (zero ++ k.tail) c unready.spent));
       untaken = none_fails new (ap start_untaken behind ∙ claim_takes g k.tail t answer (of_closing c k.tail k.one (λ (x : List Entry). each_of turn_of x ≡ []) refl refl));
       offers = and_true offer ∙ ap (λ (b : Bool). offer && not (b || false)) (sym unprepared);
@@ -209,6 +211,13 @@ module _ (o : Opening) (setup : Setup) (limit : ℕ) (offer : Bool) (old g new :
     rest = λ u. ap (λ (j : List Entry). is_busy j u) is ∙ rests_one g t StartFault fault_rests u;
     ended = refl;
     spent = inl refl;
+    last = λ all. record {
+      past = g ++ main_entry (Claim t 0) ∷ main_entry (Answered t StartFault) ∷ [];
+      closings = [];
+      is = is ∙ sym (append-nil (g ++ main_entry (Claim t 0) ∷ main_entry (Answered t StartFault) ∷ []));
+      answered = ends_behind g (main_entry (Claim t 0)) (main_entry (Answered t StartFault) ∷ []) refl;
+      closed = refl;
+    };
     untaken = none_fails new (ap start_untaken is ∙ claim_takes g [] t StartFault refl);
     offers = and_true offer;
   }

@@ -13,13 +13,13 @@ use Rattle.journal_model.specs.declared.opening.Opening.{Opening}
 use Rattle.journal_model.specs.Journal.{any, each_of}
 use Rattle.journal_model.specs.Legality.{Legal, count}
 use Rattle.journal_model.specs.Output.{answers_in}
-use Rattle.journal_model.specs.Shares.{are_by}
+use Rattle.journal_model.specs.Shares.{are_by, is_closed}
 use Rattle.host_core.specs.Steps.{are_all_claimed}
 use Rattle.task_run.specs.declared.setup.Setup.{Setup}
 use Rattle.task_run.specs.TaskRuns.{failed_start}
 use Rattle.task_rounds.specs.JournalRuns.{PlainRun}
 use Rattle.child_start.specs.Greetings.{is_greeting_line}
-use Rattle.lone_work.specs.Works.{DeskTells, TaskDone, CausedInTurn, all_calls, claims_in}
+use Rattle.lone_work.specs.Works.{DeskTells, TaskDone, CausedInTurn, all_calls, claims_in, ends_answered}
 use Rattle.lone_rounds.specs.Starting.{AreStarts, AreSpent, AreEnded, is_any_start}
 
 -- ---- a task that no child takes
@@ -79,10 +79,10 @@ is_of_run w = true
 -- The journal is legal and all its entries are the main thread's. Each child was started in its turn, and has ended. Each task
 -- that was claimed was run and then answered so, one behind the other, and the desk made the calls of these runs, in their
 -- order, and no others.
-pub record RanAlone (o : Opening) (setup : Setup) (limit : ℕ) (journal : List Entry) (desk desk' : DeskTells) : Type 0 where
+pub record RanAlone (o : Opening) (setup : Setup) (may : Bool) (limit : ℕ) (journal : List Entry) (desk desk' : DeskTells) : Type 0 where
   pub legal : Legal o journal
   pub main : are_by 0 journal ≡ true
-  pub starts : AreStarts limit journal
+  pub starts : AreStarts may limit journal
   pub ended : AreEnded journal
   pub asks : list_all (λ e. is_of_run e.what) journal ≡ true
   pub done : List TaskDone
@@ -91,6 +91,19 @@ pub record RanAlone (o : Opening) (setup : Setup) (limit : ℕ) (journal : List 
   pub ran : All (HasRun o setup limit journal) done
   pub log_is : Gained desk.log desk'.log (all_calls done)
   pub caused : CausedInTurn desk.counts done desk'.counts
+
+-- a closing of a child
+abbrev pub is_closing : What → Bool
+is_closing (End child why) = is_closed why
+is_closing w = false
+
+-- behind the last answer children were closed, and nothing else was done
+pub record EndsClosed (journal : List Entry) : Type 0 where
+  pub past : List Entry
+  pub closings : List Entry
+  pub is : journal ≡ past ++ closings
+  pub answered : ends_answered past ≡ true
+  pub closed : list_all (λ e. is_closing e.what) closings ≡ true
 
 -- all tasks were claimed, unless no memory was found to start a child
 abbrev pub IsWhole : Opening → List Entry → Result (Unit {0}) NoMemory → Type 0

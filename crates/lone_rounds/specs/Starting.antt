@@ -43,21 +43,21 @@ is_ready_untagged past c = is_prepared past c && not (is_tagged past c)
 abbrev pub is_offered : List Entry → Bool
 is_offered past = not (list_any (is_ready_untagged past) (children past))
 
--- a start behind past offers ASYNC exactly then
-abbrev pub OffersWell : List Entry → What → Type 0
-OffersWell past (Start child slot offer) = offer ≡ is_offered past
-OffersWell past w = Unit {0}
+-- a start behind past offers ASYNC exactly then, in a run that offers it at all
+abbrev pub OffersWell : Bool → List Entry → What → Type 0
+OffersWell may past (Start child slot offer) = offer ≡ (may && is_offered past)
+OffersWell may past w = Unit {0}
 
 -- so does each start of the entries, which stand behind past
-abbrev pub AllOffer : List Entry → List Entry → Type 0
-AllOffer past [] = Unit {0}
-AllOffer past (e ∷ rest) = OffersWell past e.what × AllOffer (past ++ e ∷ []) rest
+abbrev pub AllOffer : Bool → List Entry → List Entry → Type 0
+AllOffer may past [] = Unit {0}
+AllOffer may past (e ∷ rest) = OffersWell may past e.what × AllOffer may (past ++ e ∷ []) rest
 
 -- All starts are in slot 0, at most so many, and each offers ASYNC exactly where it is to.
-pub record AreStarts (limit : ℕ) (journal : List Entry) : Type 0 where
+pub record AreStarts (may : Bool) (limit : ℕ) (journal : List Entry) : Type 0 where
   pub slots : any is_elsewhere journal ≡ false
   pub few : count is_any_start journal ≤ limit
-  pub offers : AllOffer [] journal
+  pub offers : AllOffer may [] journal
 
 -- ---- what spends a start
 

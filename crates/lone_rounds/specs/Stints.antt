@@ -24,7 +24,7 @@ use Rattle.lone_work.specs.Works.{CanWork, DeskTells, TaskDone, Worked, CausedIn
 use Rattle.child_end.specs.Wires.{WireValue, IsOfStart, came}
 use Rattle.child_end.specs.Programs.{ProgramsValue, AddsAll, is_failed_start, told}
 use Rattle.lone_rounds.specs.Starting.{AllOffer, AreEnded, AreSpent, children, is_any_start, is_elsewhere, is_offered, is_ready_untagged, is_spent}
-use Rattle.lone_rounds.specs.Rounds.{HasRun, ends_for_memory, is_of_run, start_untaken}
+use Rattle.lone_rounds.specs.Rounds.{EndsClosed, HasRun, ends_for_memory, is_of_run, start_untaken}
 
 -- an entry of the main thread's own
 abbrev pub main_entry : What → Entry
@@ -127,6 +127,7 @@ pub record Stint (o : Opening) (setup : Setup) (limit : ℕ) (offer next : Bool)
   pub rest : (t : ℕ) → is_busy new t ≡ false
   pub ended : list_all (is_ended new) (children (main_entry first ∷ [])) ≡ true
   pub spent : (list_all (is_spent new) (children (main_entry first ∷ [])) ≡ true) ⊎ (are_all_claimed o new ≡ true)
+  pub last : are_all_claimed o new ≡ true → EndsClosed new
   pub untaken : failed_start new (start_untaken new) ≡ None
   pub offers : next ≡ (offer && not (list_any (is_ready_untagged new) (children (main_entry first ∷ []))))
 
@@ -189,18 +190,19 @@ AreUpTo n (Some c ∷ cs) = (c ≤ n) × AreUpTo n cs
 
 -- So many starts were made. Their children have ended, and are spent unless all tasks are claimed; each task that was claimed is
 -- done, and no start is left for one to take.
-pub record Between (o : Opening) (setup : Setup) (limit made : ℕ) (offer : Bool) (journal : List Entry) (desk desk' : DeskTells) : Type 0 where
+pub record Between (o : Opening) (setup : Setup) (may : Bool) (limit made : ℕ) (offer : Bool) (journal : List Entry) (desk desk' : DeskTells) : Type 0 where
   pub legal : Legal o journal
   pub main : are_by 0 journal ≡ true
   pub slots : any is_elsewhere journal ≡ false
   pub starts : count is_any_start journal ≡ made
-  pub offers : AllOffer [] journal
-  pub offered : offer ≡ is_offered journal
+  pub offers : AllOffer may [] journal
+  pub offered : offer ≡ (may && is_offered journal)
   pub ended : AreEnded journal
   pub asks : list_all (λ e. is_of_run e.what) journal ≡ true
   pub done : TasksDone o setup limit journal journal desk desk'
   pub rest : (t : ℕ) → is_busy journal t ≡ false
   pub spent : AreSpent journal ⊎ (are_all_claimed o journal ≡ true)
+  pub last : are_all_claimed o journal ≡ true → EndsClosed journal
   pub untaken : failed_start journal (start_untaken journal) ≡ None
   pub few : AreUpTo (count is_start journal) (came journal)
 
@@ -223,6 +225,6 @@ abbrev pub IsOver : Opening → ℕ → ℕ → List Entry → Type 0
 IsOver o limit made journal = (made ≡ limit) ⊎ (are_all_claimed o journal ≡ true)
 
 -- The children were started, one after the other, until that, or until no memory was found to start one.
-abbrev pub HasStarted : Opening → Setup → ℕ → List Entry → DeskTells → DeskTells → Result (Unit {0}) NoMemory → Type 0
-HasStarted o setup limit journal desk desk' result =
-    (made : ℕ) × (offer : Bool) × Between o setup limit made offer journal desk desk' × (made ≤ limit) × MatchResult result (λ _. IsOver o limit made journal) (λ _. Unit {0})
+abbrev pub HasStarted : Opening → Setup → Bool → ℕ → List Entry → DeskTells → DeskTells → Result (Unit {0}) NoMemory → Type 0
+HasStarted o setup may limit journal desk desk' result =
+    (made : ℕ) × (offer : Bool) × Between o setup may limit made offer journal desk desk' × (made ≤ limit) × MatchResult result (λ _. IsOver o limit made journal) (λ _. Unit {0})

@@ -8,5 +8,7 @@ pub struct Plan {
     pub program: Text,
     /// How often it may be started, 1 to 16.
     pub starts: u32,
+    /// Whether ASYNC is offered, until a child was ready untagged.
+    pub offers: bool,
     pub setup: Setup,
 }

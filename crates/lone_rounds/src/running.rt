@@ -1,10 +1,10 @@
-ghost use Rattle.std.specs.Prelude.{◌≡◌, ◌≤◌, ◌<◌, [], map, IsErr, vec_capacity, false};
+ghost use Rattle.std.specs.Prelude.{◌≡◌, ◌≤◌, ◌<◌, [], map, IfOk, IsErr, vec_capacity, false};
 ghost use Rattle.annex_model.specs.Lines.{has_newline};
 ghost use Rattle.child_start.specs.Cores.{IsSameCore};
 ghost use Rattle.child_end.specs.Wires.{wire_value};
 ghost use Rattle.child_end.specs.Programs.{Leaves, programs_value};
 ghost use Rattle.lone_work.specs.Works.{AreTasks, desk_tells};
-ghost use Rattle.lone_rounds.specs.Rounds.{IsWhole, RanAlone};
+ghost use Rattle.lone_rounds.specs.Rounds.{EndsClosed, IsWhole, RanAlone};
 
 use crate::plan::Plan;
 use crate::starting::start_children;
@@ -37,7 +37,8 @@ where
     requires setup { (has_newline plan.now.setup.work ≡ false) × (plan.now.setup.chunk ≡ 0) }
     requires room { plan.now.starts ≤ vec_capacity wires.old }
     requires none { wires.old.items ≡ [] }
-    ensures ran { RanAlone core.old.opening plan.now.setup plan.now.starts core.new.journal (desk_tells (K.log desk.old) (K.counts desk.old)) (desk_tells (K.log desk.new) (K.counts desk.new)) }
+    ensures ran { RanAlone core.old.opening plan.now.setup plan.now.offers plan.now.starts core.new.journal (desk_tells (K.log desk.old) (K.counts desk.old)) (desk_tells (K.log desk.new) (K.counts desk.new)) }
+    ensures last { IfOk result (λ _. EndsClosed core.new.journal) }
     ensures whole { IsWhole core.old.opening core.new.journal result }
     ensures leaves { Leaves (IsErr result) plan.now.program core.new.journal (programs_value (P.starts programs.old) (P.faults programs.old)) (programs_value (P.starts programs.new) (P.faults programs.new)) (map (wire_value P.Inlet.taken P.Inlet.faults P.Inlet.number P.Inlet.is_open P.Outlet.given P.Outlet.left P.Outlet.faults P.Outlet.number P.Outlet.is_open) wires.new.items) }
     ensures core { IsSameCore core.old core.new }

@@ -128,11 +128,11 @@ where
     requires setup { (has_newline plan.now.setup.work ≡ false) × (plan.now.setup.chunk ≡ 0) }
     requires room { plan.now.starts ≤ vec_capacity wires.old }
     requires none { wires.old.items ≡ [] }
-    ensures started { HasStarted core.old.opening plan.now.setup plan.now.starts core.new.journal (desk_tells (K.log desk.old) (K.counts desk.old)) (desk_tells (K.log desk.new) (K.counts desk.new)) result }
+    ensures started { HasStarted core.old.opening plan.now.setup plan.now.offers plan.now.starts core.new.journal (desk_tells (K.log desk.old) (K.counts desk.old)) (desk_tells (K.log desk.new) (K.counts desk.new)) result }
     ensures kept { KeptOr plan.now.program core.new.journal (programs_value (P.starts programs.old) (P.faults programs.old)) (programs_value (P.starts programs.new) (P.faults programs.new)) (map (wire_value P.Inlet.taken P.Inlet.faults P.Inlet.number P.Inlet.is_open P.Outlet.given P.Outlet.left P.Outlet.faults P.Outlet.number P.Outlet.is_open) wires.new.items) result }
     ensures core { IsSameCore core.old core.new }
 {
-    let mut offer = true;
+    let mut offer = plan.offers;
     'children: for made in 0..plan.starts {
         if core.unclaimed() == 0 {
             return Ok(());

@@ -25,7 +25,7 @@ use Rattle.door_asker.specs.Servings.{by_server}
 use Rattle.door_asker.proofs.Serving.{gives_none}
 use Rattle.task_rounds.specs.JournalRuns.{PlainRun}
 use Rattle.task_rounds.proofs.Lasting.{plain_stays}
-use Rattle.lone_work.specs.Works.{AllRan, CausedInTurn, DeskTells, Does, RanFor, TaskDone, Worked, all_calls, by_worker, claimed_task, claims_in}
+use Rattle.lone_work.specs.Works.{AllRan, CausedInTurn, DeskTells, Does, RanFor, TaskDone, Worked, all_calls, by_worker, claimed_task, claims_in, ends_answered}
 use Rattle.lone_work.proofs.Claiming.{free_unclaimed}
 
 -- ---- lists
@@ -44,6 +44,16 @@ told r = (r.task, r.answer)
 answers_both : (xs ys : List TaskDone) → map told (xs ++ ys) ≡ map told xs ++ map told ys
 answers_both [] ys = refl
 answers_both (r ∷ xs) ys = ap (λ (l : List (ℕ × Answer)). (r.task, r.answer) ∷ l) (answers_both xs ys)
+
+-- an answer is the last of what stands behind others
+pub ends_behind : (xs : List Entry) (y : Entry) (ys : List Entry) → ends_answered (y ∷ ys) ≡ true → ends_answered (xs ++ y ∷ ys) ≡ true
+ends_behind [] y ys h = h
+ends_behind (x ∷ []) y ys h = h
+ends_behind (x ∷ z ∷ xs) y ys h = ends_behind (z ∷ xs) y ys h
+
+ends_both : (xs ys : List Entry) → ends_answered xs ≡ true → ends_answered ys ≡ true → ends_answered (xs ++ ys) ≡ true
+ends_both xs [] h k = ap ends_answered (append-nil xs) ∙ h
+ends_both xs (y ∷ ys) h k = ends_behind xs y ys k
 
 caused_both : (a b d : Counts) (xs ys : List TaskDone) → CausedInTurn a xs b → CausedInTurn b ys d → CausedInTurn a (xs ++ ys) d
 caused_both a b d [] ys h k = subst (λ (w : Counts). CausedInTurn w ys d) h k
@@ -93,6 +103,7 @@ module _ (o : Opening) (setup : Setup) (n c : ℕ) where
     is = sym (append-nil seen);
     only = refl;
     own = refl;
+    last = refl;
     done = [];
     claimed = refl;
     answered = refl;
@@ -108,6 +119,7 @@ module _ (o : Opening) (setup : Setup) (n c : ℕ) where
     is = k.is ∙ ap (λ (l : List Entry). l ++ k.more) s.is ∙ append_assoc x s.more k.more;
     only = all-join (λ (e : Entry). by_worker c e.what) s.more k.more s.only k.only;
     own = all-join (λ (e : Entry). e.by == n) s.more k.more s.own k.own;
+    last = ends_both s.more k.more s.last k.last;
     done = s.done ++ k.done;
     claimed = tasks_both s.done k.done ∙ ap (λ (l : List ℕ). l ++ map (λ (r : TaskDone). r.task) k.done) s.claimed
         ∙ ap (λ (l : List ℕ). claims_in s.more ++ l) k.claimed ∙ sym (each_of-append claimed_task s.more k.more);
@@ -169,6 +181,7 @@ module _ (o : Opening) (setup : Setup) (n c t : ℕ) (past old new : List Entry)
     is = d.is ∙ ap (λ (x : List Entry). (x ++ d.within) ++ last) is ∙ append_assoc (past ++ one) d.within last ∙ append_assoc past one (d.within ++ last);
     only = rw (same c) (all-join (λ (e : Entry). by_worker c e.what) d.within last (all_made (by_server c t) (by_worker c) (server_works c t some) n d.within d.only d.own) refl);
     own = rw (same n) (all-join (λ (e : Entry). e.by == n) d.within last d.own (rw (same n) refl));
+    last = ends_behind (one ++ d.within) (entry n (Answered t d.answer)) [] refl;
     done = record { task = t; calls = d.calls; answer = d.answer; counts = desk'.counts } ∷ [];
     claimed = sym (ap (λ (l : List ℕ). t ∷ l) (each_of-append claimed_task d.within last ∙ ap (λ (l : List ℕ). l ++ []) (gives_none (by_server c t) claimed_task (server_claims_none c t) n d.within d.only d.own)));
     answered = sym (each_of-append answer_in d.within last ∙ ap (λ (l : List (ℕ × Answer)). l ++ (t, d.answer) ∷ []) (gives_none (by_server c t) answer_in (server_answers_none c t) n d.within d.only d.own));

@@ -1,5 +1,5 @@
 -- How a worker stands between two tasks and in one, and what it leaves.
-use Rattle.std.specs.Prelude.{ℕ, ◌≡◌, ◌<◌, ◌==◌, ◌&&◌, not, Bool, true, false, List, [], ◌∷◌, ◌++◌, map, Option, Some, None, Ok}
+use Rattle.std.specs.Prelude.{ℕ, ◌≡◌, ◌<◌, ◌==◌, ◌&&◌, not, Bool, true, false, List, [], ◌∷◌, ◌++◌, map, Option, Some, None, is_some, Ok}
 use Rattle.std.specs.List.{list_all}
 use Rattle.task_text.specs.declared.task.Task.{Task}
 use Rattle.task_text.specs.TaskLines.{IsTask}
@@ -14,7 +14,7 @@ use Rattle.journal_model.specs.declared.opening.Opening.{Opening}
 use Rattle.journal_model.specs.Journal.{any, each_of, is_started, open_jobs}
 use Rattle.journal_model.specs.Legality.{Legal, is_busy, is_prepared, least_free, numbers_of}
 use Rattle.journal_model.specs.Makers.{is_of_task}
-use Rattle.journal_model.specs.Output.{answers_in}
+use Rattle.journal_model.specs.Output.{answer_in, answers_in}
 use Rattle.journal_model.specs.Shares.{are_by, by_link, makes_only}
 use Rattle.host_core.specs.declared.event.Reply.{Reply}
 use Rattle.host_core.specs.declared.event.Reply.TheVariants.{Task as TaskReply}
@@ -117,13 +117,20 @@ abbrev pub CausedInTurn : Counts → List TaskDone → Counts → Type 0
 CausedInTurn old [] new = new ≡ old
 CausedInTurn old (r ∷ rs) new = HasTaskCauses old r.counts (Ok r.answer) × CausedInTurn r.counts rs new
 
--- The journal has grown by what a worker of c makes, by this number. Each task that was claimed was run and then answered so,
--- in turn, and the desk made the calls of these runs, in their order, and no others.
+-- the last of the entries, where there are any, is an answer
+abbrev pub ends_answered : List Entry → Bool
+ends_answered [] = true
+ends_answered (e ∷ []) = is_some (answer_in e.what)
+ends_answered (e ∷ f ∷ more) = ends_answered (f ∷ more)
+
+-- The journal has grown by what a worker of c makes, by this number, of which an answer is the last. Each task that was claimed
+-- was run and then answered so, in turn, and the desk made the calls of these runs, in their order, and no others.
 pub record Worked (o : Opening) (setup : Setup) (number c : ℕ) (old new : List Entry) (desk desk' : DeskTells) : Type 0 where
   pub more : List Entry
   pub is : new ≡ old ++ more
   pub only : list_all (λ e. by_worker c e.what) more ≡ true
   pub own : are_by number more ≡ true
+  pub last : ends_answered more ≡ true
   pub done : List TaskDone
   pub claimed : map (λ r. r.task) done ≡ claims_in more
   pub answered : map (λ r. (r.task, r.answer)) done ≡ answers_in more

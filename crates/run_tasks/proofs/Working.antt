@@ -27,18 +27,19 @@ use Rattle.run_tasks.proofs.Kept.{as_before}
 
 -- ---- the tasks
 
-pub is_worked : (words : RunWords) (opening : Opening) (workers : List TableValue) (journal : List Entry) (log : Option (List Call)) (counts : Counts) (desk : TableValue) (setup : Setup) (limit : ℕ)
-    → workers ≡ desk ∷ [] → counts ≡ no_counts → IsLogBlank log → setup ≡ run_setup words opening.stamp → limit ≡ words.starts
-    → RanAlone opening setup limit journal (desk_tells log counts) (desk_tells desk.log desk.counts) → IsWorked words opening workers journal
-is_worked words opening workers journal log counts desk setup limit one fresh blank setup_is limit_is ran = record {
+pub is_worked : (words : RunWords) (opening : Opening) (workers : List TableValue) (journal : List Entry) (log : Option (List Call)) (counts : Counts) (desk : TableValue) (setup : Setup) (may : Bool) (limit : ℕ)
+    → workers ≡ desk ∷ [] → counts ≡ no_counts → IsLogBlank log → setup ≡ run_setup words opening.stamp → may ≡ true → limit ≡ words.starts
+    → RanAlone opening setup may limit journal (desk_tells log counts) (desk_tells desk.log desk.counts) → IsWorked words opening workers journal
+is_worked words opening workers journal log counts desk setup may limit one fresh blank setup_is may_is limit_is ran = record {
   log = log;
   blank = blank;
   desk = desk;
   one = one;
   ran =
-      subst (λ (n : ℕ). RanAlone opening (run_setup words opening.stamp) n journal (desk_tells log no_counts) (desk_tells desk.log desk.counts)) limit_is
-      (subst (λ (s : Setup). RanAlone opening s limit journal (desk_tells log no_counts) (desk_tells desk.log desk.counts)) setup_is
-      (subst (λ (n : Counts). RanAlone opening setup limit journal (desk_tells log n) (desk_tells desk.log desk.counts)) fresh ran));
+      subst (λ (n : ℕ). RanAlone opening (run_setup words opening.stamp) true n journal (desk_tells log no_counts) (desk_tells desk.log desk.counts)) limit_is
+      (subst (λ (b : Bool). RanAlone opening (run_setup words opening.stamp) b limit journal (desk_tells log no_counts) (desk_tells desk.log desk.counts)) may_is
+      (subst (λ (s : Setup). RanAlone opening s may limit journal (desk_tells log no_counts) (desk_tells desk.log desk.counts)) setup_is
+      (subst (λ (n : Counts). RanAlone opening setup may limit journal (desk_tells log n) (desk_tells desk.log desk.counts)) fresh ran)));
   parts = parts_fit opening journal ran.legal;
 }
 
@@ -90,7 +91,7 @@ module _ (words : RunWords) (clock : Option ℕ) (told : Option Files) (flow : I
     desk = worked.desk;
     one = worked.one;
     ran =
-        subst (λ (n : ℕ). RanAlone opening (run_setup words n) words.starts journal (desk_tells worked.log no_counts) (desk_tells worked.desk.log worked.desk.counts)) (ap (λ (o : Opening). o.stamp) ready.begins.is)
+        subst (λ (n : ℕ). RanAlone opening (run_setup words n) true words.starts journal (desk_tells worked.log no_counts) (desk_tells worked.desk.log worked.desk.counts)) (ap (λ (o : Opening). o.stamp) ready.begins.is)
         worked.ran;
     parts = worked.parts;
   }

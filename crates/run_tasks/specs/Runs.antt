@@ -81,7 +81,7 @@ pub record IsRunOf (words : RunWords) (clock : Option ℕ) (told : Option Files)
   pub blank : IsLogBlank log
   pub desk : TableValue
   pub one : workers ≡ desk ∷ []
-  pub ran : RanAlone opening (run_setup words stamp) words.starts journal (desk_tells log no_counts) (desk_tells desk.log desk.counts)
+  pub ran : RanAlone opening (run_setup words stamp) true words.starts journal (desk_tells log no_counts) (desk_tells desk.log desk.counts)
   pub parts : (c j : ℕ) → JobFits (replies_at opening journal) journal c j
 
 -- ---- the kept file

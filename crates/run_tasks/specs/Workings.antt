@@ -33,6 +33,7 @@ pub record IsPrepared (words : RunWords) (r : Ready) : Type 0 where
   pub empty : r.core.journal ≡ []
   pub program : r.plan.program ≡ words.program
   pub starts : r.plan.starts ≡ words.starts
+  pub offers : r.plan.offers ≡ true
   pub setup : r.plan.setup ≡ run_setup words r.core.opening.stamp
   pub tasks : r.tasks ≡ r.core.opening.tasks
 
@@ -44,7 +45,7 @@ pub record IsWorked (words : RunWords) (opening : Opening) (workers : List Table
   pub blank : IsLogBlank log
   pub desk : TableValue
   pub one : workers ≡ desk ∷ []
-  pub ran : RanAlone opening (run_setup words opening.stamp) words.starts journal (desk_tells log no_counts) (desk_tells desk.log desk.counts)
+  pub ran : RanAlone opening (run_setup words opening.stamp) true words.starts journal (desk_tells log no_counts) (desk_tells desk.log desk.counts)
   pub parts : (c j : ℕ) → JobFits (replies_at opening journal) journal c j
 
 -- these are the answers, and this came of the kept file and the journal file

@@ -62,7 +62,7 @@ fn all_of(alloc: Global, places: &[Option<Answer>]) -> Result<Vec<Answer>, NoMem
 }
 
 /// The answers of all tasks, in their order. Each was answered.
-pub(crate) fn answers_of(alloc: Global, core: &Core) -> Result<Vec<Answer>, NoMemory>
+pub fn answers_of(alloc: Global, core: &Core) -> Result<Vec<Answer>, NoMemory>
     requires { AreAllAnswered core.now.opening core.now.journal }
     ensures { IfOk result (λ answers. AreAnswers core.now.opening core.now.journal answers.items) }
 {

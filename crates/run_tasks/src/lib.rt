@@ -8,5 +8,6 @@ mod keeping;
 mod made;
 mod rounds;
 
+pub use answers::answers_of;
 pub use doing::do_tasks;
 pub use made::{Made, RunEnd};

@@ -75,6 +75,7 @@ fn prepare(alloc: Global, words: &RunWords, opening: Opening) -> Result<Ready, N
     let plan = Plan {
         program,
         starts: words.starts,
+        offers: true,
         setup,
     };
     let core = Core::new(alloc, opening)?;

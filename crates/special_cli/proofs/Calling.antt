@@ -216,9 +216,9 @@ one_status answers answer e = ap answers_status e ∙ go (is_well answer) refl
     go true h = rw h refl
     go false h = rw h refl
 
-check_told : (key : List ℕ) (left : Left) (status : ℕ) (out err : Flow) (end : End) → EndsCheck key left end → IsToldOf left status out err end
-    → IsTold status (Rose err.faults err.faults') out.taken out.taken' key left.journal left.answers
-check_told key left status out err Answered (answer, is) told =
+check_told : (left : Left) (status : ℕ) (out err : Flow) (end : End) → EndsCheck left end → IsToldOf left status out err end
+    → IsTold status (Rose err.faults err.faults') out.taken out.taken' left.journal left.answers
+check_told left status out err Answered (answer, is) told =
     inl (
       answer,
       is,
@@ -226,19 +226,19 @@ check_told key left status out err Answered (answer, is) told =
           (subst (λ (w : ℕ). IsPrinted status out.taken out.taken' (answer_lines left.journal 1 left.answers) w) (one_status left.answers answer is.one)
           (printed (answers_status left.answers) (answer_lines left.journal 1 left.answers) status out err told)),
     )
-check_told key left status out err Memory none (written, silent) =
+check_told left status out err Memory none (written, silent) =
     inr record { none = none; silent = subst (λ (t : Option (List ℕ)). Stays out.taken t) (sym silent.taken) (stays out.taken); status_is = lacks status _ err written }
-check_told key left status out err end ends told = absurd ends
+check_told left status out err end ends told = absurd ends
 
 -- neither status 2 nor 3
 NeitherIn : List ℕ → Type 0
 NeitherIn ws = (list_any (λ w. w == 2) ws ≡ false) × (list_any (λ w. w == 3) ws ≡ false)
 
-check_wanted : (key : List ℕ) (left : Left) (end : End) → EndsCheck key left end → NeitherIn (wanted_of end)
+check_wanted : (left : Left) (end : End) → EndsCheck left end → NeitherIn (wanted_of end)
 unfolding wanted_of NeitherIn
-check_wanted key left Answered ends = (refl, refl)
-check_wanted key left Memory ends = (refl, refl)
-check_wanted key left end ends = absurd ends
+check_wanted left Answered ends = (refl, refl)
+check_wanted left Memory ends = (refl, refl)
+check_wanted left end ends = absurd ends
 
 -- ---- info
 
@@ -459,7 +459,7 @@ module _ (clock : Option ℕ) (before : OutsideValue) (input : InputFlow) (left 
     where
       go : (r : Option Reason) → reason_refused key ≡ r → UnlessRefused r before whole (HasChecked clock program key before whole) → Called (Some (Check program key))
       go None e h =
-          let none = check_wanted key left end h.ends in
+          let none = check_wanted left end h.ends in
           record {
             usage = λ s. apart (wanted_of end) status 2 out err ends refl none.0 s;
             words = λ no. some_none (Check program key) no;
@@ -468,7 +468,7 @@ module _ (clock : Option ℕ) (before : OutsideValue) (input : InputFlow) (left 
             early = λ no. run_at_all (reason_refused key) program e no;
             output = output;
             checked = if_fit _ (reason_refused key) (program, key) e h.checked;
-            told = if_fit _ (reason_refused key) (program, key) e (check_told key left status out err end h.ends told);
+            told = if_fit _ (reason_refused key) (program, key) e (check_told left status out err end h.ends told);
             informed = tt;
             info_told = tt;
             init = tt;
@@ -657,10 +657,10 @@ called clock before input wish ran left status out err e runs told =
 none_few : (left : Left) → left.answers ≡ [] → length left.answers ≤ 65536
 none_few left e = let z : length left.answers ≡ 0 = ap (λ (xs : List Answer). length xs) e in omega arith
 
-answered_few : (key : List ℕ) (left : Left) (end : End) → EndsCheck key left end → length left.answers ≤ 65536
-answered_few key left Answered (answer, is) = let e : length left.answers ≡ 1 = ap (λ (xs : List Answer). length xs) is.one in omega arith
-answered_few key left Memory none = none_few left none
-answered_few key left end ends = absurd ends
+answered_few : (left : Left) (end : End) → EndsCheck left end → length left.answers ≤ 65536
+answered_few left Answered (answer, is) = let e : length left.answers ≡ 1 = ap (λ (xs : List Answer). length xs) is.one in omega arith
+answered_few left Memory none = none_few left none
+answered_few left end ends = absurd ends
 
 pub few : (clock : Option ℕ) (before : OutsideValue) (input : InputFlow) (wish : Option Command) (ran : RanValue) → Runs clock before input wish ran → length ran.left.answers ≤ 65536
 few clock before input None ran h = none_few ran.left h.idle.answers
@@ -668,7 +668,7 @@ few clock before input (Some (Show page)) ran h = none_few ran.left h.idle.answe
 few clock before input (Some (Check program key)) ran h = go (reason_refused key) h
   where
     go : (r : Option Reason) → UnlessRefused r before ran (HasChecked clock program key before ran) → length ran.left.answers ≤ 65536
-    go None h = answered_few key ran.left ran.end h.ends
+    go None h = answered_few ran.left ran.end h.ends
     go (Some reason) h = none_few ran.left h.idle.answers
 few clock before input (Some (Info program key)) ran h = go (refusal_if key) h
   where
@@ -685,7 +685,7 @@ few clock before input (Some AuditWord) ran h = none_few ran.left h.idle.answers
 pub nothing_checked : (clock : Option ℕ) (program key : List ℕ) (before : OutsideValue) (ran : RanValue) → ran.end ≡ Memory → IsIdle before ran.left → HasChecked clock program key before ran
 nothing_checked clock program key before ran e idle = record {
   checked = checked_at clock;
-  ends = subst (λ (x : End). EndsCheck key ran.left x) (sym e) idle.answers;
+  ends = subst (λ (x : End). EndsCheck ran.left x) (sym e) idle.answers;
   objects = leaves_nothing _ before.programs ran.left.outside.programs program ran.left.journal ran.left.wires (ap (λ (o : OutsideValue). o.programs) idle.outside) idle.journal idle.wires;
   desks = record { made = ap (λ (o : OutsideValue). o.made) idle.outside; tables = idle.tables };
 }

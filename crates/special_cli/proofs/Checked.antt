@@ -1,9 +1,10 @@
 -- What comes of a check.
-use Rattle.std.proofs.Common.{◌≡◌, ◌⊎◌, ◌≤◌, ℕ, List, [], ◌∷◌, length, lit≤, refl, sym, ap, subst, ◌∙◌, false, true, All, None, Option, Some, inl, inr}
-use Rattle.std.specs.Prelude.{IfSome}
+use Rattle.std.proofs.Common.{◌≡◌, ◌≤◌, ℕ, List, [], ◌∷◌, length, lit≤, refl, sym, ap, subst, ◌∙◌, Bool, false, true, All, None, Option, Some, arith}
+use Rattle.std.specs.Prelude.{IfSome, map}
 use Rattle.std.proofs.lemmas.List.Elements.{All-cons, All-nil}
 use Rattle.ann_key.specs.Keys.{key_reading}
 use Rattle.ann_key.proofs.Spelling.{read_of_spelled}
+use Rattle.ann_outside.specs.Desks.{no_counts}
 use Rattle.task_text.specs.TaskLines.{is_task_key, IsTask}
 use Rattle.task_text.specs.declared.task.Task.{Task}
 use Rattle.task_text.specs.declared.task.Work.TheVariants.{Check}
@@ -16,21 +17,16 @@ use Rattle.journal_model.specs.Beginnings.{MayBegin}
 use Rattle.journal_model.specs.Limits.{most_tasks}
 use Rattle.journal_model.specs.Replies.{IsLineIdentity}
 use Rattle.journal_model.specs.declared.opening.Identity.{Identity}
-use Rattle.std.specs.List.{list_all}
 use Rattle.journal_model.specs.declared.answer.Answer.{Answer}
-use Rattle.journal_model.specs.declared.entry.What.{What}
-use Rattle.journal_model.specs.declared.entry.What.TheVariants.{Start, NoStart}
 use Rattle.journal_model.specs.declared.entry.Entry.{Entry}
 use Rattle.journal_model.specs.declared.opening.Opening.{Opening}
-use Rattle.journal_model.specs.Legality.{Legal}
-use Rattle.journal_model.specs.Shares.{are_by}
 use Rattle.journal_model.proofs.Projecting.{parts_fit}
+use Rattle.task_run.specs.declared.setup.Setup.{Setup}
+use Rattle.lone_work.specs.Works.{AreTasks, DeskTells, desk_tells}
+use Rattle.lone_rounds.specs.Rounds.{EndsClosed, HasRun, RanAlone}
+use Rattle.run_tasks.specs.Runs.{AreAnswers, answer_of}
 use Rattle.special_cli.specs.Openings.{check_opening, info_opening}
-use Rattle.special_cli.specs.Endings.{starts_in, is_for_task, IsAnswered, IsChecked}
-use Rattle.special_cli.specs.Runs.{IsStart, HasAnswered, HasOneTask}
-
-pub one_task : (key : List ℕ) (stamp : ℕ) (o : Opening) → o ≡ check_opening key stamp → HasOneTask o
-one_task key stamp o h = ap (λ (x : Opening). length x.tasks) h
+use Rattle.special_cli.specs.Endings.{IsAnswered, IsChecked, check_setup}
 
 -- what a check of a key that isn't refused begins with, and an info
 begins : (o : Opening) → length o.tasks ≤ most_tasks → All IsTask o.tasks → o.identity ≡ nobody → MayBegin o
@@ -56,53 +52,59 @@ check_begins key stamp o h same =
 pub info_begins : (o : Opening) → o ≡ info_opening → MayBegin o
 info_begins o same = subst MayBegin (sym same) (begins info_opening (lit≤ tt) (All-nil IsTask) refl)
 
+-- ---- nothing was done
+
+silent : DeskTells
+silent = desk_tells None no_counts
+
+pub ran_nothing : (o : Opening) (setup : Setup) (may : Bool) (limit : ℕ) (journal : List Entry) → journal ≡ [] → RanAlone o setup may limit journal silent silent
+ran_nothing o setup may limit journal none =
+    subst (λ (j : List Entry). RanAlone o setup may limit j silent silent) (sym none) record {
+      legal = record { stands = tt; nothing_due = refl };
+      main = refl;
+      starts = record { slots = refl; few = omega arith; offers = tt };
+      ended = refl;
+      asks = refl;
+      done = [];
+      claimed = refl;
+      answered = refl;
+      ran = All-nil (HasRun o setup limit []);
+      log_is = refl;
+      caused = refl;
+    }
+
 -- ---- the journal
 
-by_start : (journal : List Entry) (first : What) → IsStart first → starts_in journal ≡ first ∷ []
-    → (starts_in journal ≡ []) ⊎ (starts_in journal ≡ Start 1 0 false ∷ []) ⊎ (starts_in journal ≡ NoStart 0 ∷ [])
-by_start journal first (inl e) h = inr (inl (h ∙ ap (λ (w : What). w ∷ []) e))
-by_start journal first (inr e) h = inr (inr (h ∙ ap (λ (w : What). w ∷ []) e))
-
-pub checked : (clock : Option ℕ) (key : List ℕ) (stamp : ℕ) (o : Opening) (journal : List Entry) → IfSome clock (λ n. stamp ≡ n) → o ≡ check_opening key stamp
-    → Legal o journal → (journal ≡ []) ⊎ ((answer : Answer) × HasAnswered key journal answer) → IsChecked clock key journal
-checked clock key stamp o journal clock_is same legal ran =
-    let l : Legal (check_opening key stamp) journal = subst (λ (x : Opening). Legal x journal) same legal in
-    go l ran
-  where
-    go : Legal (check_opening key stamp) journal → (journal ≡ []) ⊎ ((answer : Answer) × HasAnswered key journal answer) → IsChecked clock key journal
-    go l (inl none) = record {
-      stamp = stamp;
-      clock = clock_is;
-      legal = l;
-      parts = parts_fit (check_opening key stamp) journal l;
-      once = inl (ap starts_in none);
-      tasked = ap (list_all (λ e. is_for_task e.what)) none;
-      main = ap (are_by 0) none;
-    }
-    go l (inr (answer, (first, run))) = record {
-      stamp = stamp;
-      clock = clock_is;
-      legal = l;
-      parts = parts_fit (check_opening key stamp) journal l;
-      once = by_start journal first run.is_start run.starts;
-      tasked = run.tasked;
-      main = run.main;
-    }
+-- the run of what a check of the key begins with
+pub checked : (clock : Option ℕ) (key : List ℕ) (stamp : ℕ) (o : Opening) (setup : Setup) (may : Bool) (limit : ℕ) (journal : List Entry) (desk desk' : DeskTells) → IfSome clock (λ n. stamp ≡ n)
+    → o ≡ check_opening key stamp → setup ≡ check_setup stamp → may ≡ false → limit ≡ 1 → RanAlone o setup may limit journal desk desk' → IsChecked clock key journal
+checked clock key stamp o setup may limit journal desk desk' at begins plan unoffered one ran =
+    let run : RanAlone (check_opening key stamp) (check_setup stamp) false 1 journal desk desk' =
+    subst (λ (x : Opening). RanAlone x (check_setup stamp) false 1 journal desk desk') begins
+    (subst (λ (x : Setup). RanAlone o x false 1 journal desk desk') plan
+    (subst (λ (x : Bool). RanAlone o setup x 1 journal desk desk') unoffered
+    (subst (λ (x : ℕ). RanAlone o setup may x journal desk desk') one ran))) in
+    record { stamp = stamp; clock = at; desk = desk; desk' = desk'; ran = run; parts = parts_fit (check_opening key stamp) journal run.legal }
 
 pub unstarted : (clock : Option ℕ) (key : List ℕ) (stamp : ℕ) (journal : List Entry) → IfSome clock (λ n. stamp ≡ n) → journal ≡ [] → IsChecked clock key journal
-unstarted clock key stamp journal clock_is none =
-    checked clock key stamp (check_opening key stamp) journal clock_is refl
-    (subst (Legal (check_opening key stamp)) (sym none) (record { stands = tt; nothing_due = refl })) (inl none)
+unstarted clock key stamp journal at none =
+    checked clock key stamp (check_opening key stamp) (check_setup stamp) false 1 journal silent silent at refl refl refl refl
+    (ran_nothing (check_opening key stamp) (check_setup stamp) false 1 journal none)
 
 -- ---- the answer
 
-pub answered : (key : List ℕ) (journal core : List Entry) (answers : List Answer) (answer : Answer) → HasAnswered key core answer → journal ≡ core → answers ≡ answer ∷ [] → (a : Answer) × IsAnswered key journal answers a
-answered key journal core answers answer run j one =
-    let here : HasAnswered key journal answer = subst (λ (x : List Entry). HasAnswered key x answer) (sym j) run in
-    (answer, record { one = one; given = here.1.given; run = here.1.run; cause = here.1.cause; closed = here.1.closed })
+-- of one task there is one answer
+pub answered : (key : List ℕ) (stamp : ℕ) (o : Opening) (journal : List Entry) (answers : List Answer) → o ≡ check_opening key stamp → AreAnswers o journal answers → EndsClosed journal
+    → (answer : Answer) × IsAnswered journal answers answer
+answered key stamp o journal answers begins are closed = go answers (answer_of journal 1) refl (subst (λ (x : Opening). AreAnswers x journal answers) begins are)
+  where
+    go : (xs : List Answer) (given : Option Answer) → answer_of journal 1 ≡ given → map (λ (x : Answer). Some x) xs ≡ answer_of journal 1 ∷ [] → (answer : Answer) × IsAnswered journal xs answer
+    go [] given is h = absurd cc
+    go (x ∷ []) given is h = (let said : Some x ≡ answer_of journal 1 = cc in (x, record { one = refl; given = sym said; closed = closed }))
+    go (x ∷ y ∷ xs) given is h = absurd cc
 
--- ---- a key that is not refused
+-- ---- what a check is done with
 
-pub ran_key : (key key' : List ℕ) (journal : List Entry) → key' ≡ key → (journal ≡ []) ⊎ ((answer : Answer) × HasAnswered key' journal answer)
-    → (journal ≡ []) ⊎ ((answer : Answer) × HasAnswered key journal answer)
-ran_key key key' journal e h = subst (λ (k : List ℕ). (journal ≡ []) ⊎ ((answer : Answer) × HasAnswered k journal answer)) e h
+pub one_task : (key : List ℕ) (stamp : ℕ) (o : Opening) (tasks : List Task) → reason_refused key ≡ None → o ≡ check_opening key stamp → tasks ≡ o.tasks → AreTasks tasks
+one_task key stamp o tasks h begins same =
+    subst AreTasks (sym (same ∙ ap (λ (x : Opening). x.tasks) begins)) (record { key_class = task_key_class key h; file_class = refl }, tt)

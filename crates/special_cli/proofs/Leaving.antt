@@ -24,34 +24,14 @@ use Rattle.child_end.specs.Programs.{told_in, told, AddsAll, HaveStarted, Leaves
 use Rattle.special_cli.specs.Objects.{OneIsLeft}
 use Rattle.child_end.specs.Wires.{WireValue}
 use Rattle.child_end.specs.Programs.{ProgramsValue}
-use Rattle.special_cli.specs.Runs.{IsUnready}
-use Rattle.special_cli.proofs.Looking.{through, any_through}
-use Rattle.special_cli.proofs.Beginning.{begun_child}
-use Rattle.special_cli.proofs.Causing.{failed_is}
-use Rattle.special_cli.proofs.Doing.{refused_start, ended_start, unsent_start}
-
--- ---- a child that is not ready
-
-pub unready_refused : (old new : List Entry) (c : ℕ) (v : Verdict) (answer : Answer) → old ≡ [] → Greeted old new 0 false c → IsRefused new c v
-    → Some answer ≡ option_map NotPrepared (refused_at v) → IsUnready new answer
-unready_refused old new c v answer none g h is =
-    let greeted : Greeted [] new 0 false c = subst (λ (j : List Entry). Greeted j new 0 false c) none g in
-    let begun = begun_child new c greeted in
-    record { begun = begun; why = refused_start new c v answer begun.starts greeted.next h is }
-
-pub unready_ended : (old new : List Entry) (c : ℕ) (why : Why) → old ≡ [] → Greeted old new 0 false c → HasEnded new c why → IsUnready new (EndedAnswer why)
-unready_ended old new c why none g h =
-    let greeted : Greeted [] new 0 false c = subst (λ (j : List Entry). Greeted j new 0 false c) none g in
-    let begun = begun_child new c greeted in
-    record { begun = begun; why = ended_start new c why begun.starts greeted.next h }
-
-pub unready_unsent : (old new : List Entry) (c : ℕ) → old ≡ [] → Greeted old new 0 false c → IsUnsent new c → IsUnready new UnsentAnswer
-unready_unsent old new c none g h =
-    let greeted : Greeted [] new 0 false c = subst (λ (j : List Entry). Greeted j new 0 false c) none g in
-    let begun = begun_child new c greeted in
-    record { begun = begun; why = unsent_start new c begun.starts greeted.next h }
+use Rattle.special_cli.proofs.Looking.{holds_in, through, any_through}
 
 -- ---- the starts
+
+failed_is : (w : What) → is_failed_start w ≡ holds_in is_failed_start (start_in w)
+failed_is (Start child slot offer) = refl
+failed_is (NoStart slot) = refl
+failed_is w = refl
 
 came_is : (w : What) → came_in w ≡ option_and_then came_in (start_in w)
 came_is (Start child slot offer) = refl

@@ -2,12 +2,8 @@ pub mod Asked
 pub mod Audited
 pub mod Beginning
 pub mod Calling
-pub mod Causing
 pub mod Checked
-pub mod Doing
-pub mod Ends
 pub mod Few
-pub mod Finishing
 pub mod Informed
 pub mod Leaving
 pub mod Looking
@@ -15,5 +11,4 @@ pub mod Talking
 pub mod Alone
 pub mod Keeping
 pub mod Settling
-pub mod Spent
 pub mod Written

@@ -28,7 +28,7 @@ use Rattle.init_run.specs.declared.setup.Setup.TheVariants.{Initialized, Stopped
 use Rattle.init_run.specs.Setups.{setup_for, mute_outcome, gone_outcome, verdict_outcome, outcome_of}
 use Rattle.special_cli.specs.Endings.{start_in, starts_in}
 use Rattle.special_cli.specs.Informs.{is_of_task}
-use Rattle.special_cli.specs.Runs.{main_entry}
+use Rattle.lone_rounds.specs.Stints.{main_entry}
 use Rattle.special_cli.specs.Setups.{is_of_setup, IsSetup, IsTalked}
 use Rattle.special_cli.proofs.Looking.{all_weaken, any_none}
 use Rattle.special_cli.proofs.Talking.{no_claims, closing_of, closed_so, IsStill, closing_still, over_or, off}

@@ -28,11 +28,10 @@ use Rattle.info_run.specs.Askings.{line_to, asked_lines, is_of_asking, AsksFront
 use Rattle.special_cli.specs.Endings.{start_in, starts_in}
 use Rattle.special_cli.specs.Informs.{info_requests, is_of_task, IsAsked, IsComplete}
 use Rattle.child_end.specs.Programs.{is_failed_start}
-use Rattle.special_cli.specs.Runs.{main_entry}
+use Rattle.lone_rounds.specs.Stints.{main_entry}
 use Rattle.special_cli.specs.Interviews.{IsInterviewed}
 use Rattle.special_cli.proofs.Asked.{greeting_lines, is_early, begins}
-use Rattle.special_cli.proofs.Beginning.{begun_child}
-use Rattle.special_cli.proofs.Finishing.{greeted_started}
+use Rattle.special_cli.proofs.Beginning.{greeted_started, greeted_starts}
 use Rattle.special_cli.proofs.Looking.{or_true, all_weaken, any_none}
 
 -- ---- behind the greeting
@@ -93,7 +92,7 @@ unready_talked o key old journal c none legal greeted =
     record {
       first = g.next;
       started = greeted_started journal c g;
-      starts = (begun_child journal c g).starts;
+      starts = greeted_starts journal c g;
       asked = (f.0, greeted_lines o journal c legal g ∙ f.1);
       lost = subst (λ (j : List Entry). count (loses c) j ≤ 1) (sym g.grown) g.lost;
       settled = g.idle;
@@ -161,7 +160,7 @@ ready_talked o key old mid journal c d none legal greeted ready (n, a) same_chil
     subst (IsInterviewed key journal) (sym same_child) record {
       first = g.next;
       started = ap (λ (j : List Entry). is_started j c) a.is ∙ any-append (starts c) mid a.more ∙ ap (λ (b : Bool). b || any (starts c) a.more) (greeted_started mid c g);
-      starts = ap starts_in a.is ∙ each_of-append start_in mid a.more ∙ (rw ((begun_child mid c g).starts, no_more_starts c a.more a.own) refl);
+      starts = ap starts_in a.is ∙ each_of-append start_in mid a.more ∙ (rw (greeted_starts mid c g, no_more_starts c a.more a.own) refl);
       asked = (suc (suc n), lines);
       lost = omega (arith, ap (count (loses c)) a.is ∙ count_behind c mid a.more ready.unlost, a.lost);
       settled = a.idle;

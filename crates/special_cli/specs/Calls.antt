@@ -46,7 +46,7 @@ pub record IsCalled (clock : Option ℕ) (before : OutsideValue) (input : InputF
   pub early : run_in wish ≡ None → IsIdle before left
   pub output : status ≡ 5 → Rose out.faults out.faults' ⊎ Rose err.faults err.faults'
   pub checked : IfSome (check_in wish) (λ c. IsChecked clock c.1 left.journal)
-  pub told : IfSome (check_in wish) (λ c. IsTold status (Rose err.faults err.faults') out.taken out.taken' c.1 left.journal left.answers)
+  pub told : IfSome (check_in wish) (λ c. IsTold status (Rose err.faults err.faults') out.taken out.taken' left.journal left.answers)
   pub informed : IfSome (info_in wish) (λ c. IsInformed c.1 left.journal)
   pub info_told : IfSome (info_in wish) (λ c. IsInfoTold status out.taken out.taken' c.1 left.journal × (left.answers ≡ []))
   pub init : IfSome (init_in wish) (λ words. IsInitCalled words before status out err left)

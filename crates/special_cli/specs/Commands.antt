@@ -1,10 +1,12 @@
 -- What comes of a command, before it is told.
-use Rattle.std.specs.Prelude.{ℕ, ◌≡◌, ◌⊎◌, List, [], Option, None, Some}
+use Rattle.std.specs.Prelude.{ℕ, ◌≡◌, ◌⊎◌, List, [], Option, None, Some, false}
 use Rattle.journal_model.specs.declared.answer.Answer.{Answer}
 use Rattle.special_cli.specs.declared.end.End.{End}
 use Rattle.special_cli.specs.declared.end.End.TheVariants.{Usage, Shown, Refused, Memory, Answered, Informed}
 use Rattle.cli_words.specs.declared.refusals.Reason.{Reason}
-use Rattle.special_cli.specs.Endings.{IsChecked, IsAnswered}
+use Rattle.special_cli.specs.declared.check.Ready.{Ready}
+use Rattle.special_cli.specs.Openings.{check_opening}
+use Rattle.special_cli.specs.Endings.{IsChecked, IsAnswered, check_setup}
 use Rattle.special_cli.specs.Informs.{IsInformed, IsComplete}
 use Rattle.child_end.specs.Outsides.{OutsideValue}
 use Rattle.special_cli.specs.Left.{Left, RanValue, IsIdle}
@@ -29,15 +31,22 @@ pub record HasNoDesk (before : OutsideValue) (left : Left) : Type 0 where
 
 -- ---- check
 
+-- what a check of the key is done with
+pub record IsPrepared (program key : List ℕ) (stamp : ℕ) (r : Ready) : Type 0 where
+  pub opening : r.core.opening ≡ check_opening key stamp
+  pub empty : r.core.journal ≡ []
+  pub tasks : r.tasks ≡ r.core.opening.tasks
+  pub plan : r.plan ≡ record { program = program; starts = 1; offers = false; setup = check_setup stamp }
+
 -- there is the one answer, or none was found for want of memory
-abbrev pub EndsCheck : List ℕ → Left → End → Type 0
-EndsCheck key left Answered = (answer : Answer) × IsAnswered key left.journal left.answers answer
-EndsCheck key left Memory = left.answers ≡ []
-EndsCheck key left end = ⊥
+abbrev pub EndsCheck : Left → End → Type 0
+EndsCheck left Answered = (answer : Answer) × IsAnswered left.journal left.answers answer
+EndsCheck left Memory = left.answers ≡ []
+EndsCheck left end = ⊥
 
 pub record HasChecked (clock : Option ℕ) (program key : List ℕ) (before : OutsideValue) (ran : RanValue) : Type 0 where
   pub checked : IsChecked clock key ran.left.journal
-  pub ends : EndsCheck key ran.left ran.end
+  pub ends : EndsCheck ran.left ran.end
   pub objects : Leaves (ran.end ≡ Memory) program ran.left.journal before.programs ran.left.outside.programs ran.left.wires
   pub desks : HasNoDesk before ran.left
 

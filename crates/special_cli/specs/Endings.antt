@@ -1,22 +1,20 @@
 -- Which words and keys end a call before any child, and what is told of a check.
-use Rattle.std.specs.Prelude.{ℕ, ◌≡◌, ◌⊎◌, ◌==◌, ◌||◌, not, nat_lt, if◌then◌else◌, Bool, true, false, List, [], ◌∷◌, ◌++◌, take, Option, Some, None, IfSome}
-use Rattle.std.specs.List.{list_all}
+use Rattle.std.specs.Prelude.{ℕ, ◌≡◌, ◌⊎◌, if◌then◌else◌, Bool, true, false, List, [], ◌∷◌, take, codes, Option, Some, None, IfSome}
 use Rattle.std.specs.Io.KnownBytes.{Appends}
 use Rattle.ann_outside.specs.Causes.{Stays}
-use Rattle.journal_model.specs.declared.verdict.Why.TheVariants.{Closed}
 use Rattle.journal_model.specs.declared.answer.Answer.{Answer}
 use Rattle.journal_model.specs.declared.answer.Answer.TheVariants.{Stored, Got, Present, Dropped}
-use Rattle.journal_model.specs.Output.{answer_line, answers_in}
+use Rattle.journal_model.specs.Output.{answer_line}
 use Rattle.journal_model.specs.declared.entry.What.{What}
-use Rattle.journal_model.specs.declared.entry.What.TheVariants.{Start, NoStart, Ask, End, Answer as Answered}
+use Rattle.journal_model.specs.declared.entry.What.TheVariants.{Start, NoStart}
 use Rattle.journal_model.specs.declared.entry.Entry.{Entry}
-use Rattle.journal_model.specs.Journal.{each_of, is_live}
+use Rattle.journal_model.specs.Journal.{each_of}
 use Rattle.journal_model.specs.Due.{replies_at}
-use Rattle.journal_model.specs.Legality.{Legal}
 use Rattle.journal_model.specs.Projection.{JobFits}
-use Rattle.journal_model.specs.Shares.{are_by}
-use Rattle.special_cli.specs.CheckRuns.{IsCheckRun}
-use Rattle.special_cli.specs.Causes.{HasCause}
+use Rattle.task_run.specs.declared.setup.Setup.{Setup}
+use Rattle.lone_work.specs.Works.{DeskTells}
+use Rattle.lone_rounds.specs.Rounds.{EndsClosed, RanAlone}
+use Rattle.run_tasks.specs.Runs.{answer_of}
 use Rattle.cli_words.specs.declared.command.Command.{Command}
 use Rattle.cli_words.specs.declared.command.Command.TheVariants.{Check, Info, Init, Run}
 use Rattle.cli_words.specs.declared.command.InitWords.{InitWords}
@@ -70,22 +68,19 @@ start_in _ = None
 abbrev pub starts_in : List Entry → List What
 starts_in journal = each_of start_in journal
 
--- a request behind the greeting, whose jobs are 0 and 1, is a task's
-abbrev pub is_for_task : What → Bool
-is_for_task (Ask child job task line) = nat_lt job 2 || not (task == 0)
-is_for_task _ = true
+-- a check has no files, and its content has no chunks
+abbrev pub check_setup : ℕ → Setup
+check_setup stamp = record { work = codes "."; stamp = stamp; chunk = 0 }
 
--- From the opening that the words and the clock give, where it tells, the journal is legal, and each job's part fits. There is
--- one start at most, in slot 0, and ASYNC is not offered; requests behind the greeting are the task's. All entries are the main
--- thread's.
+-- From the opening that the words and the clock give, where it tells, the one task was done as in a run of one start that doesn't
+-- offer ASYNC, by a desk that is nobody's, and each job's part fits.
 pub record IsChecked (told : Option ℕ) (key : List ℕ) (journal : List Entry) : Type 0 where
   pub stamp : ℕ
   pub clock : IfSome told (λ n. stamp ≡ n)
-  pub legal : Legal (check_opening key stamp) journal
+  pub desk : DeskTells
+  pub desk' : DeskTells
+  pub ran : RanAlone (check_opening key stamp) (check_setup stamp) false 1 journal desk desk'
   pub parts : (c j : ℕ) → JobFits (replies_at (check_opening key stamp) journal) journal c j
-  pub once : (starts_in journal ≡ []) ⊎ (starts_in journal ≡ Start 1 0 false ∷ []) ⊎ (starts_in journal ≡ NoStart 0 ∷ [])
-  pub tasked : list_all (λ e. is_for_task e.what) journal ≡ true
-  pub main : are_by 0 journal ≡ true
 
 -- ---- the answer
 
@@ -101,22 +96,11 @@ is_well answer = false
 abbrev pub status_of : Answer → ℕ
 status_of answer = if is_well answer then 0 else 1
 
--- the closing of the child, where one was started and has not ended
-abbrev pub closing : List Entry → List Entry
-closing past = if is_live past 1 then record { by = 0; what = End 1 Closed } ∷ [] else []
-
--- the journal ends with the answer, and then the closing
-abbrev pub IsClosed : List Entry → Answer → Type 0
-IsClosed journal answer = (past : List Entry) × (journal ≡ past ++ record { by = 0; what = Answered 1 answer } ∷ closing past)
-
--- There is one answer: the one that the journal gave, and what the task's requests say; where no line said it, it has its
--- cause. Behind it the child is closed.
-pub record IsAnswered (key : List ℕ) (journal : List Entry) (answers : List Answer) (answer : Answer) : Type 0 where
+-- There is one answer, the journal's. Behind it the child was closed, and nothing else was done.
+pub record IsAnswered (journal : List Entry) (answers : List Answer) (answer : Answer) : Type 0 where
   pub one : answers ≡ answer ∷ []
-  pub given : answers_in journal ≡ (1, answer) ∷ []
-  pub run : IsCheckRun key journal answer
-  pub cause : HasCause journal answer
-  pub closed : IsClosed journal answer
+  pub given : answer_of journal 1 ≡ Some answer
+  pub closed : EndsClosed journal
 
 -- out gained the text, and the status is the one that goes with it; or at status 5 or 7 it gained the first bytes of the text,
 -- which may be none or all
@@ -135,7 +119,7 @@ pub record IsUnanswered (status : ℕ) (err_rose : Type 0) (taken taken' : Optio
   pub silent : Stays taken taken'
   pub status_is : LacksMemory status err_rose
 
-abbrev pub IsTold : ℕ → Type 0 → Option (List ℕ) → Option (List ℕ) → List ℕ → List Entry → List Answer → Type 0
-IsTold status err_rose taken taken' key journal answers =
-    ((answer : Answer) × IsAnswered key journal answers answer × IsPrinted status taken taken' (answer_line journal 1 answer) (status_of answer))
+abbrev pub IsTold : ℕ → Type 0 → Option (List ℕ) → Option (List ℕ) → List Entry → List Answer → Type 0
+IsTold status err_rose taken taken' journal answers =
+    ((answer : Answer) × IsAnswered journal answers answer × IsPrinted status taken taken' (answer_line journal 1 answer) (status_of answer))
     ⊎ IsUnanswered status err_rose taken taken' answers

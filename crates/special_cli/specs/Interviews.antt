@@ -16,7 +16,7 @@ use Rattle.special_cli.specs.declared.info.interview.Interview.{Interview}
 use Rattle.special_cli.specs.declared.info.interview.Interview.TheVariants.{Over, StartFault, NoMemory}
 use Rattle.special_cli.specs.Endings.{starts_in}
 use Rattle.special_cli.specs.Informs.{info_requests, is_of_task, IsComplete}
-use Rattle.special_cli.specs.Runs.{main_entry}
+use Rattle.lone_rounds.specs.Stints.{main_entry}
 
 -- the one child was asked the first of the requests, at most one was lost, and no job of it is open
 pub record IsInterviewed (key : Option (List ℕ)) (journal : List Entry) (c : ℕ) : Type 0 where

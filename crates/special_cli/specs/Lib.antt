@@ -1,7 +1,5 @@
 pub mod Audits
 pub mod Calls
-pub mod Causes
-pub mod CheckRuns
 pub mod Commands
 pub mod Doings
 pub mod Endings
@@ -10,7 +8,6 @@ pub mod Left
 pub mod Objects
 pub mod Openings
 pub mod Rows
-pub mod Runs
 pub mod Interviews
 pub mod Tells
 pub mod Wishes

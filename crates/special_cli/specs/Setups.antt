@@ -31,7 +31,7 @@ use Rattle.ann_outside.specs.declared.Source.{Ghosts as SourceGhosts}
 use Rattle.journal_model.specs.Halves.{EarValue, MouthValue}
 use Rattle.special_cli.specs.declared.init.asking.Talk.{Talk}
 use Rattle.special_cli.specs.declared.init.asking.Talk.TheVariants.{Over, StartFault, NoMemory}
-use Rattle.special_cli.specs.Runs.{main_entry}
+use Rattle.lone_rounds.specs.Stints.{main_entry}
 use Rattle.special_cli.specs.declared.end.End.{End as Ending}
 use Rattle.special_cli.specs.declared.end.End.TheVariants.{Memory, BadKept, KeptTooLarge, FileFailed, SetUp, NotSetUp}
 use Rattle.special_cli.specs.Endings.{starts_in}

@@ -1,66 +1,37 @@
-// The command `check`: one task over one child.
-mod start;
-mod task;
-
-ghost use Rattle.std.specs.Prelude.{◌≡◌, ◌⊎◌, ◌<◌, [], None, IfOk, vec_len, vec_capacity, true};
+// The command `check`: a run of one task, over one child that is started once.
+ghost use Rattle.std.specs.Prelude.{◌≡◌, ◌≤◌, [], None, IfOk, IsErr, map, vec_capacity, false};
 ghost use Rattle.ann_key.specs.KeyRefs.{text_of};
-ghost use Rattle.annex_model.specs.Messages.{is_sent_key};
-ghost use Rattle.journal_model.specs.declared.answer.Answer.{Answer};
-ghost use Rattle.journal_model.specs.Legality.{Legal};
-ghost use Rattle.special_cli.specs.Commands.{EndsCheck, HasChecked, HasNoDesk, UnlessRefused};
-ghost use Rattle.special_cli.specs.declared.end.End.TheVariants.{Memory};
-ghost use Rattle.child_end.specs.Programs.{Leaves};
-ghost use Rattle.special_cli.specs.Openings.{check_opening};
+ghost use Rattle.annex_model.specs.Lines.{has_newline};
 ghost use Rattle.cli_words.specs.Refusals.{reason_refused};
-ghost use Rattle.special_cli.specs.Runs.{HasAnswered, HasOneTask};
+ghost use Rattle.child_end.specs.Programs.{Leaves, programs_value};
+ghost use Rattle.child_end.specs.Wires.{wire_value};
+ghost use Rattle.lone_work.specs.Works.{AreTasks, DeskTells};
+ghost use Rattle.lone_rounds.specs.Rounds.{EndsClosed, RanAlone};
+ghost use Rattle.run_tasks.specs.Runs.{AreAnswers};
+ghost use Rattle.special_cli.specs.Commands.{HasChecked, IsPrepared, UnlessRefused};
 
 use crate::end::End;
 use crate::openings::check_opening;
 use crate::outside::Outside;
 use crate::ran::{Ran, journal_of};
-use ann_key::{Key, KeyRef, NoMemory};
-use ann_outside::{Clock, Desks, Programs};
+use ann_key::{KeyRef, NoMemory, Text};
+use ann_outside::{Clock, Desks, MemDesk, Programs};
 use cli_words::refusal;
 use host_core::Core;
 use journal_model::Answer;
 use link_roles::Wire;
+use lone_rounds::{Plan, run_alone};
+use run_tasks::answers_of;
 use std::alloc::Global;
+use task_run::Setup;
+use task_text::{Task, Tasks};
 
-// What a check is made with.
+// What the one task of a check is done with.
 #[derive(Drop)]
-struct Ready<P: Programs> {
+struct Ready {
     core: Core,
-    key: Key,
-    answers: Vec<Answer>,
-    wires: Vec<Wire<P::Inlet, P::Outlet>>,
-}
-
-// The core of a check, the key to ask for, and room for its answer and its wire.
-#[tactic(auto, using(crate::proofs::Checked::one_task, crate::proofs::Checked::check_begins, cli_words::proofs::Refusing::sent_key))]
-fn prepare<P: Programs>(alloc: Global, key: KeyRef<'_>, stamp: u64) -> Result<Ready<P>, NoMemory>
-where
-    P::Inlet: Drop,
-    P::Outlet: Drop,
-    requires fit { reason_refused (text_of key) ≡ None }
-    ensures opening { IfOk result (λ r. r.core.opening ≡ check_opening (text_of key.entry) stamp) }
-    ensures one { IfOk result (λ r. HasOneTask r.core.opening) }
-    ensures sent { IfOk result (λ r. is_sent_key r.key ≡ true) }
-    ensures journal { IfOk result (λ r. r.core.journal ≡ []) }
-    ensures key { IfOk result (λ r. r.key ≡ text_of key.entry) }
-    ensures none { IfOk result (λ r. (r.answers.items ≡ []) × (r.wires.items ≡ [])) }
-    ensures room { IfOk result (λ r. (vec_len r.answers < vec_capacity r.answers) × (vec_len r.wires < vec_capacity r.wires)) }
-{
-    let answers = Vec::with_capacity(alloc, 1)?;
-    let wires = Vec::with_capacity(alloc, 1)?;
-    let own_key = Key::copy(alloc, key)?;
-    let opening = check_opening(alloc, key, stamp)?;
-    let core = Core::new(alloc, opening)?;
-    Ok(Ready {
-        core,
-        key: own_key,
-        answers,
-        wires,
-    })
+    tasks: Tasks,
+    plan: Plan,
 }
 
 /// Asks the remote that the program serves for the key, unless that is refused.
@@ -87,6 +58,65 @@ where
     }
 }
 
+// The core of a check, its task, and how it is to be run.
+#[tactic(auto, using(crate::proofs::Checked::check_begins))]
+fn prepare(
+    alloc: Global,
+    program: &str,
+    key: KeyRef<'_>,
+    stamp: u64,
+) -> Result<Ready, NoMemory>
+    requires fit { reason_refused (text_of key) ≡ None }
+    ensures { IfOk result (IsPrepared program.now (text_of key.entry) stamp) }
+{
+    let opening = check_opening(alloc, key, stamp)?;
+    let tasks = opening.tasks.copy(alloc)?;
+    let setup = Setup {
+        work: Text::copy(alloc, ".")?,
+        stamp,
+        chunk: 0,
+    };
+    let plan = Plan {
+        program: Text::copy(alloc, program)?,
+        starts: 1,
+        offers: false,
+        setup,
+    };
+    let core = Core::new(alloc, opening)?;
+    Ok(Ready { core, tasks, plan })
+}
+
+// Does the one task, by a desk in memory that is asked for nothing. Its answer, where memory was found.
+fn do_task<P: Programs>(
+    alloc: Global,
+    plan: &Plan,
+    tasks: &[Task],
+    core: &mut Core,
+    programs: &mut P,
+    wires: &mut Vec<Wire<P::Inlet, P::Outlet>>,
+) -> Result<Vec<Answer>, NoMemory>
+where
+    P::Inlet: Drop,
+    P::Outlet: Drop,
+    requires empty { core.old.journal ≡ [] }
+    requires tasks { (core.old.opening.tasks ≡ tasks.now) × AreTasks tasks.now }
+    requires starts { plan.now.starts ≡ 1 }
+    requires setup { (has_newline plan.now.setup.work ≡ false) × (plan.now.setup.chunk ≡ 0) }
+    requires room { 1 ≤ vec_capacity wires.old }
+    requires none { wires.old.items ≡ [] }
+    ensures ran { (desk : DeskTells) × (desk' : DeskTells) × RanAlone core.old.opening plan.now.setup plan.now.offers plan.now.starts core.new.journal desk desk' }
+    ensures answers { IfOk result (λ answers. AreAnswers core.old.opening core.new.journal answers.items × EndsClosed core.new.journal) }
+    ensures leaves { Leaves (IsErr result) plan.now.program core.new.journal (programs_value (P.starts programs.old) (P.faults programs.old)) (programs_value (P.starts programs.new) (P.faults programs.new)) (map (wire_value P.Inlet.taken P.Inlet.faults P.Inlet.number P.Inlet.is_open P.Outlet.given P.Outlet.left P.Outlet.faults P.Outlet.number P.Outlet.is_open) wires.new.items) }
+{
+    let Ok(mut desk) = MemDesk::new(alloc, Vec::new(alloc), Vec::new(alloc)) else {
+        return Err(NoMemory);
+    };
+    match run_alone(alloc, programs, plan, tasks, core, &mut desk, wires) {
+        Ok(()) => answers_of(alloc, core),
+        Err(NoMemory) => Err(NoMemory),
+    }
+}
+
 // The run of a check whose key is fit.
 fn check_key<P: Programs, K: Desks, C: Clock>(
     alloc: Global,
@@ -103,67 +133,33 @@ where
     ensures { HasChecked (C.answer clock.old) program.now (text_of key.entry) outside result }
 {
     let stamp = clock.now();
-    match prepare(alloc, key, stamp) {
-        Ok(ready) => run_check(alloc, program, ready, outside),
-        Err(NoMemory) => Ran::nothing(alloc, outside, End::Memory),
-    }
-}
-
-// The run of a check that all is ready for.
-fn run_check<P: Programs, K: Desks>(
-    alloc: Global,
-    program: &str,
-    ready: Ready<P>,
-    outside: Outside<P, K>,
-) -> Ran<P, K>
-where
-    P::Inlet: Drop,
-    P::Outlet: Drop,
-    K::Desk: Drop,
-    requires key { is_sent_key ready.key ≡ true }
-    requires one { HasOneTask ready.core.opening }
-    requires journal { ready.core.journal ≡ [] }
-    requires none { (ready.answers.items ≡ []) × (ready.wires.items ≡ []) }
-    requires room { (vec_len ready.answers < vec_capacity ready.answers) × (vec_len ready.wires < vec_capacity ready.wires) }
-    ensures legal { Legal ready.core.opening result.left.journal }
-    ensures ran { (result.left.journal ≡ []) ⊎ ((answer : Answer) × HasAnswered ready.key result.left.journal answer) }
-    ensures ends { EndsCheck ready.key result.left result.end }
-    ensures objects { Leaves (result.end ≡ Memory) program.now result.left.journal outside.programs result.left.outside.programs result.left.wires }
-    ensures desks { HasNoDesk outside result.left }
-{
+    let Ok(ready) = prepare(alloc, program, key, stamp) else {
+        return Ran::nothing(alloc, outside, End::Memory);
+    };
+    let Ok(mut wires) = Vec::with_capacity(alloc, 1) else {
+        return Ran::nothing(alloc, outside, End::Memory);
+    };
+    let Ready {
+        mut core,
+        tasks,
+        plan,
+    } = ready;
     let Outside {
         mut programs,
         desks,
     } = outside;
-    let Ready {
-        mut core,
-        key,
-        mut answers,
-        mut wires,
-    } = ready;
-    let answered = start::run_child(alloc, program, key, &mut programs, &mut core, &mut wires);
-    let outside = Outside { programs, desks };
-    let journal = journal_of(core);
-    let tables = Vec::new(alloc);
-    match answered {
-        Ok(answer) => {
-            answers.push_reserved(answer);
-            Ran {
-                outside,
-                journal,
-                answers,
-                wires,
-                tables,
-                end: End::Answered,
-            }
-        }
-        Err(NoMemory) => Ran {
-            outside,
-            journal,
-            answers,
-            wires,
-            tables,
-            end: End::Memory,
-        },
+    let tasks = tasks.view();
+    let answered = do_task(alloc, &plan, tasks, &mut core, &mut programs, &mut wires);
+    let (answers, end) = match answered {
+        Ok(answers) => (answers, End::Answered),
+        Err(NoMemory) => (Vec::new(alloc), End::Memory),
+    };
+    Ran {
+        outside: Outside { programs, desks },
+        journal: journal_of(core),
+        answers,
+        wires,
+        tables: Vec::new(alloc),
+        end,
     }
 }

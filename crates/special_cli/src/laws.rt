@@ -6,45 +6,48 @@ ghost use Rattle.journal_model.specs.declared.answer.Answer.TheVariants.{Present
 ghost use Rattle.journal_model.specs.declared.entry.What.TheVariants.{Got};
 ghost use Rattle.journal_model.specs.Wires.{is_heard_in_turn};
 ghost use Rattle.journal_model.specs.Rows.{sample_key, by_main, greeting, check_present, not_closed, no_disk, away, out_of_disk};
-ghost use Rattle.special_cli.specs.Endings.{IsTold, LacksMemory};
+ghost use Rattle.lone_rounds.specs.Rounds.{ZeroRun};
+ghost use Rattle.special_cli.specs.Endings.{IsChecked, IsTold, LacksMemory};
 ghost use Rattle.child_end.specs.Programs.{HaveStarted};
 ghost use Rattle.special_cli.specs.Rows.{gone_early, unstarted, present_wire, HasWires};
 
 /// A check that found its key is told by its one answer, whole, or cut off where a write failed; by no other answer and with no
 /// other status, and neither where nothing was started nor where the child was not closed.
 pub fn check_present_is_told()
-    ensures told { IsTold 0 ⊥ (Some []) (Some (codes "1 present" ++ 10 ∷ [])) sample_key check_present (Present ∷ []) }
-    ensures cut { IsTold 5 ⊥ (Some []) (Some (codes "1 pre")) sample_key check_present (Present ∷ []) }
-    ensures absent { IsTold 1 ⊥ (Some []) (Some (codes "1 absent" ++ 10 ∷ [])) sample_key check_present (Absent ∷ []) → ⊥ }
-    ensures status { IsTold 1 ⊥ (Some []) (Some (codes "1 present" ++ 10 ∷ [])) sample_key check_present (Present ∷ []) → ⊥ }
-    ensures unstarted { IsTold 0 ⊥ (Some []) (Some (codes "1 present" ++ 10 ∷ [])) sample_key [] (Present ∷ []) → ⊥ }
-    ensures unclosed { IsTold 0 ⊥ (Some []) (Some (codes "1 present" ++ 10 ∷ [])) sample_key not_closed (Present ∷ []) → ⊥ }
-    ensures nothing { IsTold 0 ⊥ (Some []) (Some []) sample_key [] [] → ⊥ }
+    ensures told { IsTold 0 ⊥ (Some []) (Some (codes "1 present" ++ 10 ∷ [])) check_present (Present ∷ []) }
+    ensures cut { IsTold 5 ⊥ (Some []) (Some (codes "1 pre")) check_present (Present ∷ []) }
+    ensures absent { IsTold 1 ⊥ (Some []) (Some (codes "1 absent" ++ 10 ∷ [])) check_present (Absent ∷ []) → ⊥ }
+    ensures status { IsTold 1 ⊥ (Some []) (Some (codes "1 present" ++ 10 ∷ [])) check_present (Present ∷ []) → ⊥ }
+    ensures unstarted { IsTold 0 ⊥ (Some []) (Some (codes "1 present" ++ 10 ∷ [])) [] (Present ∷ []) → ⊥ }
+    ensures unclosed { IsChecked None sample_key not_closed → ⊥ }
+    ensures nothing { IsTold 0 ⊥ (Some []) (Some []) [] [] → ⊥ }
 {}
 
 /// A check whose child can't get ready is told by what the child said of that, and by no other answer.
 pub fn refusal_is_told()
-    ensures told { IsTold 1 ⊥ (Some []) (Some (codes "1 notprepared no disk" ++ 10 ∷ [])) sample_key no_disk (NotPrepared 8 ∷ []) }
-    ensures alone { (status : ℕ) (out : Option (List ℕ)) (answer : Answer) → IsTold status ⊥ (Some []) out sample_key no_disk (answer ∷ []) → answer ≡ NotPrepared 8 }
+    ensures told { IsTold 1 ⊥ (Some []) (Some (codes "1 notprepared no disk" ++ 10 ∷ [])) no_disk (NotPrepared 8 ∷ []) }
+    ensures run { ZeroRun 1 no_disk 1 (NotPrepared 8) }
+    ensures alone { (status : ℕ) (out : Option (List ℕ)) (answer : Answer) → IsTold status ⊥ (Some []) out no_disk (answer ∷ []) → answer ≡ NotPrepared 8 }
 {}
 
 /// So is one whose child doesn't know whether it has the key.
 pub fn unknown_is_told()
-    ensures told { IsTold 1 ⊥ (Some []) (Some (codes "1 unknown away" ++ 10 ∷ [])) sample_key away (Unknown 15 ∷ []) }
-    ensures alone { (status : ℕ) (out : Option (List ℕ)) (answer : Answer) → IsTold status ⊥ (Some []) out sample_key away (answer ∷ []) → answer ≡ Unknown 15 }
+    ensures told { IsTold 1 ⊥ (Some []) (Some (codes "1 unknown away" ++ 10 ∷ [])) away (Unknown 15 ∷ []) }
+    ensures alone { (status : ℕ) (out : Option (List ℕ)) (answer : Answer) → IsTold status ⊥ (Some []) out away (answer ∷ []) → answer ≡ Unknown 15 }
 {}
 
 /// And one whose child gives up.
 pub fn error_is_told()
-    ensures told { IsTold 1 ⊥ (Some []) (Some (codes "1 ended error out of disk" ++ 10 ∷ [])) sample_key out_of_disk (Ended (Error 13) ∷ []) }
-    ensures alone { (status : ℕ) (out : Option (List ℕ)) (answer : Answer) → IsTold status ⊥ (Some []) out sample_key out_of_disk (answer ∷ []) → answer ≡ Ended (Error 13) }
+    ensures told { IsTold 1 ⊥ (Some []) (Some (codes "1 ended error out of disk" ++ 10 ∷ [])) out_of_disk (Ended (Error 13) ∷ []) }
+    ensures alone { (status : ℕ) (out : Option (List ℕ)) (answer : Answer) → IsTold status ⊥ (Some []) out out_of_disk (answer ∷ []) → answer ≡ Ended (Error 13) }
 {}
 
-/// A check whose child got ready, and became mute before the task was claimed for it, is told by `nochild`. One that starts
-/// nothing is told by no answer.
+/// A check whose child got ready, and became mute before the task was claimed for it, is told by `nochild`. A task
+/// before which nothing was started has no such run.
 pub fn nochild_is_told()
-    ensures told { IsTold 1 ⊥ (Some []) (Some (codes "1 nochild" ++ 10 ∷ [])) sample_key gone_early (NoChild ∷ []) }
-    ensures unstarted { (status : ℕ) (out : Option (List ℕ)) (answer : Answer) → IsTold status ⊥ (Some []) out sample_key unstarted (answer ∷ []) → ⊥ }
+    ensures told { IsTold 1 ⊥ (Some []) (Some (codes "1 nochild" ++ 10 ∷ [])) gone_early (NoChild ∷ []) }
+    ensures run { ZeroRun 1 gone_early 1 NoChild }
+    ensures unstarted { (answer : Answer) → ZeroRun 1 unstarted 1 answer → ⊥ }
 {}
 
 /// The wire of that first check has what the child said and what it was asked. There is one, with the halves of the first start.

@@ -64,7 +64,7 @@ where
     ensures early { run_in (wish_of (texts_of words.now)) ≡ None → IsIdle (record { programs = programs_value (P.starts programs) (P.faults programs); made = K.made desks }) result.left }
     ensures output { result.status ≡ 5 → Rose (O.faults out.old) (O.faults out.new) ⊎ Rose (E.faults err.old) (E.faults err.new) }
     ensures checked { IfSome (check_in (wish_of (texts_of words.now))) (λ c. IsChecked (C.answer clock.old) c.1 result.left.journal) }
-    ensures told { IfSome (check_in (wish_of (texts_of words.now))) (λ c. IsTold result.status (Rose (E.faults err.old) (E.faults err.new)) (O.taken out.old) (O.taken out.new) c.1 result.left.journal result.left.answers) }
+    ensures told { IfSome (check_in (wish_of (texts_of words.now))) (λ c. IsTold result.status (Rose (E.faults err.old) (E.faults err.new)) (O.taken out.old) (O.taken out.new) result.left.journal result.left.answers) }
     ensures informed { IfSome (info_in (wish_of (texts_of words.now))) (λ c. IsInformed c.1 result.left.journal) }
     ensures info_told { IfSome (info_in (wish_of (texts_of words.now))) (λ c. IsInfoTold result.status (O.taken out.old) (O.taken out.new) c.1 result.left.journal × (result.left.answers ≡ [])) }
     ensures init { IfSome (init_in (wish_of (texts_of words.now))) (λ w. IsInitCalled w (record { programs = programs_value (P.starts programs) (P.faults programs); made = K.made desks }) result.status (flow (O.faults out.old) (O.faults out.new) (O.taken out.old) (O.taken out.new)) (flow (E.faults err.old) (E.faults err.new) (E.taken err.old) (E.taken err.new)) result.left) }

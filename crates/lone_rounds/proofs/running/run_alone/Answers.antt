@@ -23,6 +23,22 @@ returns-then-unclaimed-gt0-clause-ran g c =
     subst (λ (w : Opening). Legal w new) (c.answer_left.ensures.core.opening ∙ same_opening) (c.answer_left.ensures.core.legal (subst (λ (w : Opening). Legal w mid) (sym same_opening) t.2.legal)) in
     ran_alone t.3 (between_left t.2 over.0 over.1 a legal)
 
+pub returns-then-unclaimed-gt0-clause-last : goal.returns-then-unclaimed-gt0-clause-last
+returns-then-unclaimed-gt0-clause-last g c =
+    let o = c.args.core.now.opening in
+    let p = c.start_children.new.core.opening in
+    let mid = c.start_children.new.core.journal in
+    let new = c.answer_left.new.core.journal in
+    let t = c.in-Ok.ensures.started in
+    let same_opening = c.start_children.ensures.core.opening in
+    let left : are_all_claimed o mid ≡ false =
+    ap (λ (w : Opening). are_all_claimed w mid) (sym same_opening) ∙ left_some p mid c.unclaimed.result c.unclaimed.ensures (λ z. (let some = c.if-unclaimed-gt0.true in omega (arith, some, z))) in
+    let over = over_spent t.2 t.4 left in
+    let a : AnswersLeft o mid new (left_answer mid) = subst (λ (w : Opening). AnswersLeft w mid new (left_answer mid)) same_opening c.answer_left.ensures.answers in
+    let legal : Legal o new =
+    subst (λ (w : Opening). Legal w new) (c.answer_left.ensures.core.opening ∙ same_opening) (c.answer_left.ensures.core.legal (subst (λ (w : Opening). Legal w mid) (sym same_opening) t.2.legal)) in
+    (between_left t.2 over.0 over.1 a legal).last a.all
+
 pub returns-then-unclaimed-gt0-clause-leaves : goal.returns-then-unclaimed-gt0-clause-leaves
 returns-then-unclaimed-gt0-clause-leaves g c =
     let o = c.args.core.now.opening in
@@ -47,6 +63,12 @@ returns-else-unclaimed-gt0-clause-whole g c =
     let mid = c.start_children.new.core.journal in
     ap (λ (w : Opening). are_all_claimed w mid) (sym c.start_children.ensures.core.opening)
     ∙ left_nothing c.start_children.new.core.opening mid c.unclaimed.result c.unclaimed.ensures (let none = c.if-unclaimed-gt0.false in omega (arith, none))
+
+pub returns-else-unclaimed-gt0-clause-last : goal.returns-else-unclaimed-gt0-clause-last
+returns-else-unclaimed-gt0-clause-last g c =
+    let mid = c.start_children.new.core.journal in
+    c.in-Ok.ensures.started.2.last (ap (λ (w : Opening). are_all_claimed w mid) (sym c.start_children.ensures.core.opening)
+    ∙ left_nothing c.start_children.new.core.opening mid c.unclaimed.result c.unclaimed.ensures (let none = c.if-unclaimed-gt0.false in omega (arith, none)))
 
 pub returns-else-unclaimed-gt0-clause-leaves : goal.returns-else-unclaimed-gt0-clause-leaves
 returns-else-unclaimed-gt0-clause-leaves g c = leaves_kept _ c.in-Ok.ensures.kept

@@ -41,7 +41,7 @@ returns-in-Ready-clause-starts g c =
     let link = c.serve.ensures.link in (
       Start child 0 c.args.offer,
       subst (λ (next : Bool). Stint o c.args.plan.now.setup c.args.plan.now.starts c.args.offer next (Start child 0 c.args.offer) old new tells tells') (sym c.is_offered.ensures)
-          (served_stint o c.args.plan.now.setup c.args.plan.now.starts c.args.offer c.in-Ready.tagged old mid new child tells tells' c.requires.legal c.in-Ready.ensures.tells.0
+          (served_stint o c.args.plan.now.setup c.args.plan.now.starts c.args.offer c.in-Ready.tagged old mid new child tells tells' c.requires.legal c.requires.left c.in-Ready.ensures.tells.0
           (subst (λ (w : Opening). Legal w mid) c.greet.ensures.core.opening (c.greet.ensures.core.legal c.requires.legal)) c.in-Ready.ensures.tells.1 c.in-Ready.ensures.tells.2
           (subst (λ (w : Opening). HasServed w c.args.plan.now.setup child mid new tells tells') c.greet.ensures.core.opening c.serve.ensures.serves)),
       starts_kept c.args.plan.now.program new child c.args.offer (programs_value (g.P.Programs.starts c.args.programs.now) (g.P.Programs.faults c.args.programs.now)) (g.P.Programs.starts c.greet.new.programs)

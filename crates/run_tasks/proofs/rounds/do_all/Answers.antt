@@ -31,8 +31,8 @@ returns-in-Ok-clause-ends g c =
     let worker = table_value g.D.Desk.counts g.D.Desk.files g.D.Desk.log c.run_alone.new.desk in
     ends_finished words told table o c.run_alone.new.core.opening (worker ∷ []) journal c.journal_of.result.entries c.finish-finished.result.answers.items c.finish-finished.result.end
     c.run_alone.ensures.core.opening c.journal_of.ensures
-    (is_worked words o (worker ∷ []) journal (g.D.Desk.log c.args.worker) (g.D.Desk.counts c.args.worker) worker c.args.ready.plan.setup c.args.ready.plan.starts refl c.requires.fresh.0 c.requires.fresh.1
-    c.requires.prepared.setup c.requires.prepared.starts c.run_alone.ensures.ran)
+    (is_worked words o (worker ∷ []) journal (g.D.Desk.log c.args.worker) (g.D.Desk.counts c.args.worker) worker c.args.ready.plan.setup c.args.ready.plan.offers c.args.ready.plan.starts refl c.requires.fresh.0 c.requires.fresh.1
+    c.requires.prepared.setup c.requires.prepared.offers c.requires.prepared.starts c.run_alone.ensures.ran)
     c.in-Ok.ensures.whole c.finish-finished.ensures
 
 pub returns-in-Ok-clause-leaves : goal.returns-in-Ok-clause-leaves
@@ -48,8 +48,8 @@ returns-clause-ends g c =
     let table = table_value g.D.Desk.counts g.D.Desk.files g.D.Desk.log c.args.desk.now in
     let worker = table_value g.D.Desk.counts g.D.Desk.files g.D.Desk.log c.run_alone.new.desk in
     ends_wanting words told table o (worker ∷ []) journal c.journal_of-in-Err.result.entries c.new.result.items c.journal_of-in-Err.ensures c.new.ensures.items refl
-    (is_worked words o (worker ∷ []) journal (g.D.Desk.log c.args.worker) (g.D.Desk.counts c.args.worker) worker c.args.ready.plan.setup c.args.ready.plan.starts refl c.requires.fresh.0 c.requires.fresh.1
-    c.requires.prepared.setup c.requires.prepared.starts c.run_alone.ensures.ran)
+    (is_worked words o (worker ∷ []) journal (g.D.Desk.log c.args.worker) (g.D.Desk.counts c.args.worker) worker c.args.ready.plan.setup c.args.ready.plan.offers c.args.ready.plan.starts refl c.requires.fresh.0 c.requires.fresh.1
+    c.requires.prepared.setup c.requires.prepared.offers c.requires.prepared.starts c.run_alone.ensures.ran)
 
 pub returns-clause-leaves : goal.returns-clause-leaves
 returns-clause-leaves g c = leaves_named (λ err. refl) c.journal_of-in-Err.ensures c.requires.prepared.program c.run_alone.ensures.leaves

@@ -1,4 +1,4 @@
-use Rattle.std.proofs.Common.{◌≡◌, ◌++◌, ℕ, List, [], ◌∷◌, Option, Some, refl, sym, inl, inr}
+use Rattle.std.proofs.Common.{◌≡◌, ◌++◌, List, [], ◌∷◌, refl, sym, inl}
 use Rattle.std.specs.Prelude.{codes}
 use Rattle.std.specs.Fmt.{digits}
 use Rattle.journal_model.specs.declared.answer.Answer.{Answer}
@@ -6,10 +6,9 @@ use Rattle.journal_model.specs.declared.answer.Answer.TheVariants.{NoChild}
 use Rattle.journal_model.specs.declared.entry.Entry.{Entry}
 use Rattle.journal_model.specs.declared.entry.What.TheVariants.{Claim, Mute, Answer as Answered}
 use Rattle.journal_model.specs.Output.{answer_line}
-use Rattle.journal_model.specs.Rows.{sample_key, by_main, greeting, closed}
+use Rattle.journal_model.specs.Rows.{by_main, greeting, closed}
 use Rattle.task_run.specs.TaskRuns.{failed_start}
 use Rattle.lone_rounds.specs.Rounds.{ZeroAnswers, ZeroRun, start_untaken}
-use Rattle.special_cli.specs.Endings.{IsTold}
 use Rattle.special_cli.specs.Rows.{gone_early, unstarted}
 use Rattle.special_cli.proofs.laws.nochild_is_told.Goals as goal
 
@@ -21,10 +20,14 @@ abbrev mute : List Entry
 mute = greeting ++ by_main (Mute 1) ∷ []
 
 abbrev before : List Entry
-before = mute ++ by_main (Claim 1 0) ∷ []
+before = mute ++ by_main (Claim 1 0) ∷ by_main (Answered 1 NoChild) ∷ []
 
 pub returns-clause-told : goal.returns-clause-told
-returns-clause-told c = inl (NoChild, record { one = refl; given = refl; run = (refl, record { past = mute; rest = closed ∷ []; is = refl; answers = (refl, refl, refl) }); cause = tt; closed = (before, refl) }, inl (refl, sym printed))
+returns-clause-told c =
+    inl (NoChild, record { one = refl; given = refl; closed = record { past = before; closings = closed ∷ []; is = refl; answered = refl; closed = refl } }, inl (refl, sym printed))
+
+pub returns-clause-run : goal.returns-clause-run
+returns-clause-run c = record { past = mute; rest = closed ∷ []; is = refl; answers = (refl, refl, refl) }
 
 -- nothing stands before its claim
 no_start : (answer : Answer) → ZeroRun 1 unstarted 1 answer → ⊥
@@ -37,8 +40,4 @@ no_start answer z = go z.past z.is z.answers
     go (p ∷ q ∷ r ∷ ps) e a = let bad : [] ≡ r ∷ (ps ++ by_main (Claim 1 0) ∷ by_main (Answered 1 answer) ∷ z.rest) = cc in cc
 
 pub returns-clause-unstarted : goal.returns-clause-unstarted
-returns-clause-unstarted c = λ status out answer told. go status out answer told
-  where
-    go : (status : ℕ) (out : Option (List ℕ)) (answer : Answer) → IsTold status ⊥ (Some []) out sample_key unstarted (answer ∷ []) → ⊥
-    go status out answer (inl t) = no_start t.0 t.1.run.1
-    go status out answer (inr u) = let bad : answer ∷ [] ≡ [] = u.none in cc
+returns-clause-unstarted c = no_start
