@@ -4,8 +4,11 @@
 mod answers;
 mod ask;
 mod check;
+mod check_layouts;
+mod drop_layouts;
 mod get;
 pub mod laws;
+mod layouts;
 mod names;
 mod plain;
 mod run;
