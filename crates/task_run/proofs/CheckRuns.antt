@@ -52,7 +52,7 @@ all_done_go_on (a ∷ more) h = by_test (is_done a) refl h (all_done_go_on more)
     by_test true e h next = rw (done_goes_on a.verdict e, next h) refl
     by_test false e h next = apart h
 
-all_take : {X : Type 0} (p : X → Bool) (n : ℕ) (xs : List X) → list_all p xs ≡ true → list_all p (take n xs) ≡ true
+pub all_take : {X : Type 0} (p : X → Bool) (n : ℕ) (xs : List X) → list_all p xs ≡ true → list_all p (take n xs) ≡ true
 all_take p zero xs h = refl
 all_take p (suc n) [] h = refl
 all_take p (suc n) (x ∷ xs) h = by_test (p x) refl h (all_take p n xs)
@@ -65,7 +65,7 @@ pub but_last : {X : Type 0} (xs : List X) (x : X) → all_but_last (xs ++ x ∷ 
 but_last xs x = let e : length (xs ++ x ∷ []) - 1 ≡ length xs = omega (arith, length-append xs (x ∷ [])) in rw e (take-append_seam xs (x ∷ []))
 
 -- what goes on is stopped by none
-none_stops : (asked : List Asking) → list_all goes_on asked ≡ true → filter_map (λ (a : Asking). verdict_stop false a.verdict) asked ≡ []
+pub none_stops : (asked : List Asking) → list_all goes_on asked ≡ true → filter_map (λ (a : Asking). verdict_stop false a.verdict) asked ≡ []
 none_stops [] h = refl
 none_stops (a ∷ more) h = by_stop (verdict_stop false a.verdict) h (none_stops more)
   where
