@@ -1,8 +1,8 @@
 -- Runs of checks, layout by layout.
 use Rattle.std.proofs.Common.{◌≡◌, ◌∙◌, ℕ, zero, suc, ◌+◌, ◌-◌, ◌<◌, ◌≤◌, List, [], ◌∷◌, ◌++◌, length, map, take, drop, get_or, refl, sym, ap, subst, arith, append_assoc, append-nil, length-append, add-one}
-use Rattle.std.specs.Prelude.{Bool, true, false, ◌&&◌, ◌||◌, ◌==◌, not, Option, Some, None, IfSome, Result, Ok, Err, unwrap_or, is_none, is_some, count_by, cond, if◌then◌else◌}
-use Rattle.std.specs.List.{list_all, list_any, filter_map, zip, onto_first, cons_option}
-use Rattle.std.proofs.lemmas.List.Folds.{list_all-append, list_any-append}
+use Rattle.std.specs.Prelude.{Bool, true, false, ◌&&◌, ◌||◌, ◌==◌, not, Option, Some, None, IfSome, Result, Ok, Err, unwrap_or, is_none, is_some, count_by, cond}
+use Rattle.std.specs.List.{list_all, list_any, filter_map, zip, cons_option}
+use Rattle.std.proofs.lemmas.List.Folds.{list_all-append}
 use Rattle.std.proofs.lemmas.List.Elements.{filter_map-append}
 use Rattle.std.proofs.Math.Seq.{take-append_seam, drop-cons, take-suc}
 use Rattle.std.proofs.lemmas.List.{map-append, take-append-drop, take_all}
@@ -19,14 +19,14 @@ use Rattle.task_text.specs.declared.task.Work.TheVariants as W
 use Rattle.task_asker.specs.Askings.{Asking}
 use Rattle.task_run.specs.declared.setup.Setup.{Setup}
 use Rattle.task_run.specs.declared.layouts.Query.TheVariants as Q
-use Rattle.task_run.specs.Stops.{is_done, is_done_at, verdict_stop, asking_stop, is_stop_last, all_but_last, AnsweredBy}
+use Rattle.task_run.specs.Stops.{is_done, is_done_at, verdict_stop, all_but_last, AnsweredBy}
 use Rattle.task_run.specs.Layouts.{chunk_sizes, keys_of_layout, layouts_tried, sizes_tried}
 use Rattle.task_run.specs.Requests.{AskInOrder, rounds, RoundsAsk}
 use Rattle.task_run.specs.Checks.{present_request, is_there, unknown_at, not_there, first_or, CheckAnswers}
 use Rattle.task_run.specs.Runs.{RunOf, TaskRun}
-use Rattle.task_run.specs.Ran.{RanAsking, answered, is_verdict_of, may_follow_refusal}
+use Rattle.task_run.specs.Ran.{RanAsking, answered, may_follow_refusal}
 use Rattle.task_run.specs.TaskRuns.{check_answer}
-use Rattle.task_run.specs.Rounds.{asked_by, RoundAsks, RoundEnds, joined, Ended, EachEnded, Missed, missing_more}
+use Rattle.task_run.specs.Rounds.{RoundAsks, joined, Ended, EachEnded, Missed, missing_more}
 use Rattle.task_run.proofs.Texts.{apart}
 use Rattle.task_run.proofs.RoundLaws.{length_keys, some_keys}
 

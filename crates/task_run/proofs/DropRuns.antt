@@ -1,8 +1,7 @@
 -- Runs of drops, layout by layout.
-use Rattle.std.proofs.Common.{◌≡◌, ◌∙◌, ℕ, zero, suc, ◌+◌, ◌-◌, ◌<◌, ◌≤◌, List, [], ◌∷◌, ◌++◌, length, map, take, drop, get_or, refl, sym, ap, subst, inl, inr, arith, append_assoc, append-nil, length-append}
-use Rattle.std.specs.Prelude.{Bool, true, false, ◌&&◌, ◌==◌, nat_le, nat_lt, not, Option, Some, None, IfSome, Result, Ok, Err, is_none, count_by, cond, if◌then◌else◌, ◌⊎◌}
-use Rattle.std.specs.Bool.{MatchBool}
-use Rattle.std.specs.List.{list_all, filter_map, flat_map, cons_option, last_or}
+use Rattle.std.proofs.Common.{◌≡◌, ◌∙◌, ℕ, ◌+◌, ◌-◌, ◌<◌, ◌≤◌, List, [], ◌∷◌, ◌++◌, length, map, take, get_or, refl, sym, ap, subst, inl, inr, arith, append_assoc, append-nil, length-append}
+use Rattle.std.specs.Prelude.{Bool, true, false, ◌&&◌, ◌==◌, nat_le, nat_lt, Option, Some, None, IfSome, Result, Ok, Err, count_by, cond, if◌then◌else◌, ◌⊎◌}
+use Rattle.std.specs.List.{list_all, filter_map, last_or}
 use Rattle.std.proofs.Math.Seq.{take-append_seam, take-length}
 use Rattle.std.proofs.lemmas.Bool.{eq-eqb, eqb-true}
 use Rattle.std.proofs.lemmas.Bool.Decides.{nat_tests}
@@ -23,7 +22,7 @@ use Rattle.task_text.specs.declared.task.Work.TheVariants as W
 use Rattle.task_asker.specs.Askings.{Asking, Noting}
 use Rattle.task_run.specs.declared.setup.Setup.{Setup}
 use Rattle.task_run.specs.declared.layouts.Query.TheVariants as Q
-use Rattle.task_run.specs.Stops.{is_done, is_done_at, verdict_stop, failed_at, last_failed, is_stop_last, all_but_last, AnsweredBy}
+use Rattle.task_run.specs.Stops.{is_done, is_done_at, verdict_stop, failed_at, last_failed, all_but_last, AnsweredBy}
 use Rattle.task_run.specs.Layouts.{keys_of_layout, sizes_tried}
 use Rattle.task_run.specs.Requests.{AskInOrder}
 use Rattle.task_run.specs.Drops.{remove_request, keys_dropped, drop_notes, DropAsks, DropAnswers}

@@ -1,6 +1,6 @@
 -- The key of a number in a layout.
-use Rattle.std.proofs.Common.{◌≡◌, ◌∙◌, ℕ, ◌<◌, List, refl, arith}
-use Rattle.std.specs.Prelude.{Bool, true, false, ◌==◌, Option, Some, Result, Ok, Err, IfOk}
+use Rattle.std.proofs.Common.{◌≡◌, ℕ, List, refl}
+use Rattle.std.specs.Prelude.{Bool, true, false, ◌==◌, Some, Result, Ok, Err, IfOk}
 use Rattle.std.proofs.lemmas.Bool.{eqb-true}
 use Rattle.ann_key.specs.Keys.{Parts, IsKey, key_reading, with_chunk}
 use Rattle.ann_key.specs.declared.bytes.NoMemory.{NoMemory}

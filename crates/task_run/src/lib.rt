@@ -10,7 +10,6 @@ mod get;
 pub mod laws;
 mod layouts;
 mod names;
-mod plain;
 mod run;
 pub mod run_laws;
 mod setup;

@@ -1,6 +1,5 @@
-use Rattle.std.proofs.Common.{◌≡◌, ◌∙◌, refl, sym}
+use Rattle.std.proofs.Common.{◌∙◌, refl, sym}
 use Rattle.ann_key.specs.KeyRefs.{parts_of}
-use Rattle.task_run.specs.Layouts.{sizes_tried}
 use Rattle.task_run.proofs.Texts.{same_on}
 use Rattle.task_run.proofs.PlainRuns.{task_key_sent}
 use Rattle.task_run.proofs.CheckRuns.{missed_nothing, missed_next, missed_all, check_nothing, check_missed, check_short, check_found, check_stopped, quiet_more, quiet_check, tried_of, split_at}

@@ -1,4 +1,3 @@
-use Rattle.std.proofs.Common.{◌≡◌, ◌∙◌, refl, sym}
 use Rattle.ann_key.specs.KeyRefs.{parts_of}
 use Rattle.task_run.proofs.Texts.{same_on}
 use Rattle.task_run.proofs.PlainRuns.{task_key_sent}

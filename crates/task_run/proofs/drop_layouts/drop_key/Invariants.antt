@@ -1,4 +1,4 @@
-use Rattle.std.proofs.Common.{◌≡◌, take}
+use Rattle.std.proofs.Common.{take}
 use Rattle.ann_key.specs.KeyRefs.{parts_of}
 use Rattle.task_asker.specs.Askings.{IsSameTask}
 use Rattle.task_run.specs.Rounds.{Removed}

@@ -1,4 +1,4 @@
-use Rattle.std.proofs.Common.{◌≡◌, ◌∙◌, ◌+◌, refl, sym, arith}
+use Rattle.std.proofs.Common.{◌∙◌, refl, sym, arith}
 use Rattle.ann_key.specs.KeyRefs.{parts_of}
 use Rattle.task_run.proofs.RoundLaws.{asked_nothing, asked_more, asked_last, asked_all}
 use Rattle.task_run.proofs.Texts.{same_still, same_on}

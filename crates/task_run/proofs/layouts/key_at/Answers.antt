@@ -1,4 +1,3 @@
-use Rattle.std.proofs.Common.{◌≡◌, refl}
 use Rattle.ann_key.specs.KeyRefs.{parts_of}
 use Rattle.task_run.proofs.KeysAt.{piece_read, piece_sent}
 use Rattle.task_run.proofs.layouts.key_at.Goals as goal
