@@ -212,8 +212,8 @@ first_says (x ∷ xs) v = by_verdict x.verdict (first_says xs v)
 not_there_more : (xs front : List Asking) (a : Asking) → list_all is_done front ≡ true → not_there (xs ++ (front ++ a ∷ [])) ≡ missing_more (not_there xs) a.verdict
 not_there_more xs front a h =
     let split : said (xs ++ (front ++ a ∷ [])) ≡ said xs ++ said (a ∷ []) =
-      filter_map-append (λ (a : Asking). unknown_at a.verdict) xs (front ++ a ∷ [])
-      ∙ ap (λ (s : List Answer). said xs ++ s) (filter_map-append (λ (a : Asking). unknown_at a.verdict) front (a ∷ []) ∙ ap (λ (s : List Answer). s ++ said (a ∷ [])) (done_say front h)) in
+    filter_map-append (λ (a : Asking). unknown_at a.verdict) xs (front ++ a ∷ [])
+    ∙ ap (λ (s : List Answer). said xs ++ s) (filter_map-append (λ (a : Asking). unknown_at a.verdict) front (a ∷ []) ∙ ap (λ (s : List Answer). s ++ said (a ∷ [])) (done_say front h)) in
     ap (λ (s : List Answer). first_or A.Absent s) split ∙ first_says xs a.verdict
 
 -- ---- more rounds
@@ -269,6 +269,7 @@ module _ (a b c : List Asking) (layouts : List (List Parts)) (keys : List Parts)
           none_of : (o : Option Answer) → is_some o ≡ false → o ≡ None
           none_of None e = refl
           none_of (Some x) e = apart (sym e)
+
       says : not_there (joined (m.past ++ r.round ∷ [])) ≡ missing_more (not_there (joined m.past)) v
       says =
           ap not_there (joined_more m.past r.round ∙ ap (λ (x : List Asking). joined m.past ++ x) r.ends.2)
@@ -335,12 +336,16 @@ module _ (task : Task) (t : ℕ) (key : Parts) (layouts : List (ℕ × ℕ)) (w 
     where
       all_rounds : rounds (joined m.past) ≡ m.past
       all_rounds = ap rounds (sym (append-nil (joined m.past))) ∙ rounds_joined m.past [] m.each ∙ append-nil m.past
+
       m_order : RoundsAsk present_request 1 (layouts_tried key layouts) m.past
       m_order = rw s at m.in_order
+
       tries : length (map (keys_of_layout key) sizes) ≡ length (layouts_tried key layouts)
       tries = ap (λ (l : List ℕ). length (map (keys_of_layout key) l)) s
+
       answers : CheckAnswers (layouts_tried key layouts) (joined m.past) missing
       answers = record { found = rw (all_rounds, none_there (layouts_tried key layouts) m.past m.each) (count_each m.past m.each ∙ m.so_many ∙ tries, m.missing_is) }
+
       by_answer : (answer : Answer) → CheckAnswers (layouts_tried key layouts) (joined m.past) answer → AnsweredBy [] answer (CheckAnswers (layouts_tried key layouts) (joined m.past) answer)
       by_answer A.Memory h = tt
       by_answer answer h = h
@@ -397,11 +402,13 @@ module _ (task : Task) (t : ℕ) (key : Parts) (layouts : List (ℕ × ℕ)) (w 
       where
         joint : (joined m.past ++ r.ends.0) ++ r.ends.1 ∷ [] ≡ joined m.past ++ (r.ends.0 ++ r.ends.1 ∷ [])
         joint = append_assoc (joined m.past) r.ends.0 (r.ends.1 ∷ [])
+
         order : (n : ℕ) → AskInOrder present_request n (keys_of_layout key chunk) (r.ends.0 ++ r.ends.1 ∷ [])
         order n = rw r.ends.2 at (r.in_order n)
+
         order_is : rounds (joined m.past ++ (r.ends.0 ++ r.ends.1 ∷ [])) ≡ m.past ++ (r.ends.0 ++ r.ends.1 ∷ []) ∷ []
         order_is = rounds_joined m.past (r.ends.0 ++ r.ends.1 ∷ []) m.each
-          ∙ ap (λ (x : List (List Asking)). m.past ++ x) (rounds_ended r.ends.0 r.ends.1 [] r.ends.3 (ap is_done_at r.ends.4 ∙ r.ends.5))
+            ∙ ap (λ (x : List (List Asking)). m.past ++ x) (rounds_ended r.ends.0 r.ends.1 [] r.ends.3 (ap is_done_at r.ends.4 ∙ r.ends.5))
 
 -- what is answered tells of no refused call
 pub quiet_more : (missing : Answer) (v : Verdict) → may_follow_refusal (Ok missing) ≡ false → may_follow_refusal (Ok (missing_more missing v)) ≡ false
@@ -441,7 +448,7 @@ pub missed_next : (a b c : List Asking) (key : Parts) (sizes : List ℕ) (i : �
     → RoundAsks Q.Present b c (keys_of_layout key (get_or sizes i 0)) (Ok (Some v)) → is_some (verdict_stop false v) ≡ false → Missed a c (map (keys_of_layout key) (take (i + 1) sizes)) (missing_more missing v)
 missed_next a b c key sizes i missing v h m r s =
     let e : map (keys_of_layout key) (take (i + 1) sizes) ≡ map (keys_of_layout key) (take i sizes) ++ keys_of_layout key (get_or sizes i 0) ∷ [] =
-      ap (λ (l : List ℕ). map (keys_of_layout key) l) (take_next sizes i h) ∙ map-append (keys_of_layout key) (take i sizes) (get_or sizes i 0 ∷ []) in
+    ap (λ (l : List ℕ). map (keys_of_layout key) l) (take_next sizes i h) ∙ map-append (keys_of_layout key) (take i sizes) (get_or sizes i 0 ∷ []) in
     rw e (missed_more a b c (map (keys_of_layout key) (take i sizes)) (keys_of_layout key (get_or sizes i 0)) missing v m r s)
 
 pub missed_all : (a b : List Asking) (key : Parts) (sizes : List ℕ) (i : ℕ) (missing : Answer) → length sizes ≤ i → Missed a b (map (keys_of_layout key) (take i sizes)) missing → Missed a b (map (keys_of_layout key) sizes) missing

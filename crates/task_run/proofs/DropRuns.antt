@@ -40,6 +40,7 @@ notes_both key behind (x ∷ xs) ys = by_test (x == 0) (notes_both key (behind +
   where
     place : behind + length (keys_of_layout key x) + length (keys_dropped key xs) ≡ behind + length (keys_dropped key (x ∷ xs))
     place = omega (arith, length-append (keys_of_layout key x) (keys_dropped key xs))
+
     by_test : (t : Bool)
         → drop_notes key (behind + length (keys_of_layout key x)) (xs ++ ys) ≡ drop_notes key (behind + length (keys_of_layout key x)) xs ++ drop_notes key (behind + length (keys_of_layout key x) + length (keys_dropped key xs)) ys
         → (if t then drop_notes key (behind + length (keys_of_layout key x)) (xs ++ ys) else record { chunk = x; count = 0; behind = behind + length (keys_of_layout key x) } ∷ drop_notes key (behind + length (keys_of_layout key x)) (xs ++ ys))
@@ -54,9 +55,10 @@ notes_within key behind most (x ∷ xs) h = by_test (x == 0) (notes_within key (
   where
     here : nat_le (behind + length (keys_of_layout key x)) most ≡ true
     here = let l : behind + length (keys_of_layout key x) ≤ most = omega (arith, length-append (keys_of_layout key x) (keys_dropped key xs)) in grind (arith, nat_tests)
+
     by_test : (t : Bool) → list_all (λ (note : Noting). nat_le note.behind most) (drop_notes key (behind + length (keys_of_layout key x)) xs) ≡ true
         → list_all (λ (note : Noting). nat_le note.behind most) (if t then drop_notes key (behind + length (keys_of_layout key x)) xs
-          else record { chunk = x; count = 0; behind = behind + length (keys_of_layout key x) } ∷ drop_notes key (behind + length (keys_of_layout key x)) xs) ≡ true
+        else record { chunk = x; count = 0; behind = behind + length (keys_of_layout key x) } ∷ drop_notes key (behind + length (keys_of_layout key x)) xs) ≡ true
     by_test true next = next
     by_test false next = rw (here, next) refl
 
@@ -65,22 +67,25 @@ notes_later key behind n x xs h = by_test (x == 0) (rest xs)
   where
     late : (b : ℕ) → n ≤ b → nat_lt b n ≡ false
     late b l = grind (arith, nat_tests)
+
     all_later : (b : ℕ) → n ≤ b → (ys : List ℕ) → count_by (λ (note : Noting). nat_lt note.behind n) (drop_notes key b ys) ≡ 0
     all_later b l [] = refl
     all_later b l (y ∷ ys) = by_y (y == 0) (all_later (b + length (keys_of_layout key y)) (omega arith) ys)
       where
         by_y : (t : Bool) → count_by (λ (note : Noting). nat_lt note.behind n) (drop_notes key (b + length (keys_of_layout key y)) ys) ≡ 0
             → count_by (λ (note : Noting). nat_lt note.behind n) (if t then drop_notes key (b + length (keys_of_layout key y)) ys
-              else record { chunk = y; count = 0; behind = b + length (keys_of_layout key y) } ∷ drop_notes key (b + length (keys_of_layout key y)) ys) ≡ 0
+            else record { chunk = y; count = 0; behind = b + length (keys_of_layout key y) } ∷ drop_notes key (b + length (keys_of_layout key y)) ys) ≡ 0
         by_y true next = next
         by_y false next =
             sum_by-cons (λ (note : Noting). cond (nat_lt note.behind n) 1 0) (record { chunk = y; count = 0; behind = b + length (keys_of_layout key y) }) (drop_notes key (b + length (keys_of_layout key y)) ys)
             ∙ rw (late (b + length (keys_of_layout key y)) (omega arith), next) refl
+
     rest : (ys : List ℕ) → count_by (λ (note : Noting). nat_lt note.behind n) (drop_notes key (behind + length (keys_of_layout key x)) ys) ≡ 0
     rest ys = all_later (behind + length (keys_of_layout key x)) h ys
+
     by_test : (t : Bool) → count_by (λ (note : Noting). nat_lt note.behind n) (drop_notes key (behind + length (keys_of_layout key x)) xs) ≡ 0
         → count_by (λ (note : Noting). nat_lt note.behind n) (if t then drop_notes key (behind + length (keys_of_layout key x)) xs
-          else record { chunk = x; count = 0; behind = behind + length (keys_of_layout key x) } ∷ drop_notes key (behind + length (keys_of_layout key x)) xs) ≡ 0
+        else record { chunk = x; count = 0; behind = behind + length (keys_of_layout key x) } ∷ drop_notes key (behind + length (keys_of_layout key x)) xs) ≡ 0
     by_test true next = next
     by_test false next =
         sum_by-cons (λ (note : Noting). cond (nat_lt note.behind n) 1 0) (record { chunk = x; count = 0; behind = behind + length (keys_of_layout key x) }) (drop_notes key (behind + length (keys_of_layout key x)) xs)
@@ -139,6 +144,7 @@ note_next key sizes chunk n behind e =
   where
     place : n + (0 + length (keys_dropped key sizes) + length (keys_of_layout key chunk)) ≡ behind
     place = omega (arith, e, ap length (keys_next key sizes chunk), length-append (keys_dropped key sizes) (keys_of_layout key chunk))
+
     by_test : (t : Bool)
         → map (behind_more n) (if t then [] else record { chunk = chunk; count = 0; behind = 0 + length (keys_dropped key sizes) + length (keys_of_layout key chunk) } ∷ [])
         ≡ (if t then [] else record { chunk = chunk; count = 0; behind = behind } ∷ [])
@@ -151,11 +157,14 @@ removed_next a b c notes later last key sizes i h m r l = let P : List ℕ → T
   where
     pairs : c ≡ a ++ (m.asked ++ r.round)
     pairs = r.pairs_are ∙ ap (λ (p : List Asking). p ++ r.round) m.pairs_are ∙ append_assoc a m.asked r.round
+
     so_many : length (m.asked ++ r.round) ≡ length (keys_dropped key (take i sizes ++ get_or sizes i 0 ∷ []))
     so_many = length-append m.asked r.round
-      ∙ omega (arith, m.so_many, r.ends.1, ap length (keys_next key (take i sizes) (get_or sizes i 0)), length-append (keys_dropped key (take i sizes)) (keys_of_layout key (get_or sizes i 0)))
+        ∙ omega (arith, m.so_many, r.ends.1, ap length (keys_next key (take i sizes) (get_or sizes i 0)), length-append (keys_dropped key (take i sizes)) (keys_of_layout key (get_or sizes i 0)))
+
     behind : length c ≡ length a + length (keys_dropped key (take i sizes ++ get_or sizes i 0 ∷ []))
     behind = ap length pairs ∙ length-append a (m.asked ++ r.round) ∙ omega (arith, so_many)
+
     more : Removed a c notes last key (take i sizes ++ get_or sizes i 0 ∷ [])
     more = record {
       asked = m.asked ++ r.round;
@@ -164,8 +173,8 @@ removed_next a b c notes later last key sizes i h m r l = let P : List ℕ → T
       each_done = list_all-append is_done m.asked r.round ∙ rw (m.each_done, r.ends.0) refl;
       so_many = so_many;
       notes_are = l ∙ ap (λ (x : List Noting). x ++ notes_none (length c) (get_or sizes i 0)) m.notes_are
-        ∙ append_assoc notes (map (behind_more (length a)) (drop_notes key 0 (take i sizes))) (notes_none (length c) (get_or sizes i 0))
-        ∙ ap (λ (x : List Noting). notes ++ x) (sym (note_next key (take i sizes) (get_or sizes i 0) (length a) (length c) behind));
+          ∙ append_assoc notes (map (behind_more (length a)) (drop_notes key 0 (take i sizes))) (notes_none (length c) (get_or sizes i 0))
+          ∙ ap (λ (x : List Noting). notes ++ x) (sym (note_next key (take i sizes) (get_or sizes i 0) (length a) (length c) behind));
     }
 
 pub removed_all : (a b : List Asking) (notes later : List Noting) (key : Parts) (sizes : List ℕ) (i : ℕ) → length sizes ≤ i → Removed a b notes later key (take i sizes) → Removed a b notes later key sizes
@@ -266,23 +275,26 @@ some_asks : (key : Parts) (sizes done rest : List ℕ) (chunk : ℕ) → sizes �
     → list_all is_done asked ≡ true → length asked ≡ length (keys_dropped key done) → ((n : ℕ) → AskInOrder remove_request n (keys_of_layout key chunk) round)
     → list_all is_done (all_but_last (asked ++ round)) ≡ true → DropAsks key sizes (asked ++ round) (drop_notes key 0 done)
 some_asks key sizes done rest chunk s asked round o d l r e = let P : List ℕ → Type 0 = λ z. DropAsks key z (asked ++ round) (drop_notes key 0 done) in subst P (sym s) record {
-    in_order = rw (flat_map-append (keys_of_layout key) done (chunk ∷ rest))
+  in_order = rw (flat_map-append (keys_of_layout key) done (chunk ∷ rest))
       (order_both remove_request 1 (keys_dropped key done) (keys_of_layout key chunk ++ keys_dropped key rest) asked round l (o 1) (λ m. order_front remove_request m (keys_of_layout key chunk) (keys_dropped key rest) round (r m)));
-    each_done = e;
-    notes = sym (ap (λ (x : List Noting). take (length (drop_notes key 0 done)) x) both ∙ take-append_seam (drop_notes key 0 done) (drop_notes key (0 + length (keys_dropped key done)) (chunk ∷ rest)));
-    notes_late = notes_within key 0 (count_by is_done (asked ++ round)) done (omega (arith, l, count_all asked d, counted));
-    notes_soon = le_test _ _ (omega (arith, soon, later, count_by-le-length (λ (note : Noting). nat_lt note.behind (length (asked ++ round))) (drop_notes key 0 done)));
-  }
+  each_done = e;
+  notes = sym (ap (λ (x : List Noting). take (length (drop_notes key 0 done)) x) both ∙ take-append_seam (drop_notes key 0 done) (drop_notes key (0 + length (keys_dropped key done)) (chunk ∷ rest)));
+  notes_late = notes_within key 0 (count_by is_done (asked ++ round)) done (omega (arith, l, count_all asked d, counted));
+  notes_soon = le_test _ _ (omega (arith, soon, later, count_by-le-length (λ (note : Noting). nat_lt note.behind (length (asked ++ round))) (drop_notes key 0 done)));
+}
   where
     both : drop_notes key 0 (done ++ chunk ∷ rest) ≡ drop_notes key 0 done ++ drop_notes key (0 + length (keys_dropped key done)) (chunk ∷ rest)
     both = notes_both key 0 done (chunk ∷ rest)
+
     counted : count_by is_done (asked ++ round) ≡ count_by is_done asked + count_by is_done round
     counted = sum_by-append (λ (a : Asking). cond (is_done a) 1 0) asked round
+
     soon : count_by (λ (note : Noting). nat_lt note.behind (length (asked ++ round))) (drop_notes key 0 (done ++ chunk ∷ rest))
         ≡ count_by (λ (note : Noting). nat_lt note.behind (length (asked ++ round))) (drop_notes key 0 done)
         + count_by (λ (note : Noting). nat_lt note.behind (length (asked ++ round))) (drop_notes key (0 + length (keys_dropped key done)) (chunk ∷ rest))
     soon = ap (λ (x : List Noting). count_by (λ (note : Noting). nat_lt note.behind (length (asked ++ round))) x) both
-      ∙ sum_by-append (λ (note : Noting). cond (nat_lt note.behind (length (asked ++ round))) 1 0) (drop_notes key 0 done) (drop_notes key (0 + length (keys_dropped key done)) (chunk ∷ rest))
+        ∙ sum_by-append (λ (note : Noting). cond (nat_lt note.behind (length (asked ++ round))) 1 0) (drop_notes key 0 done) (drop_notes key (0 + length (keys_dropped key done)) (chunk ∷ rest))
+
     later : count_by (λ (note : Noting). nat_lt note.behind (length (asked ++ round))) (drop_notes key (0 + length (keys_dropped key done)) (chunk ∷ rest)) ≡ 0
     later = notes_later key (0 + length (keys_dropped key done)) (length (asked ++ round)) chunk rest (omega (arith, l, length-append asked round, order_fits remove_request 1 (keys_of_layout key chunk) round (r 1)))
 
@@ -306,10 +318,10 @@ module _ (task : Task) (t : ℕ) (key : Parts) (layouts : List (ℕ × ℕ)) (w 
   drop_all a b notes later sizes s m =
       ran task t key layouts a b m.asked notes later (drop_notes key 0 sizes) (Ok A.Dropped) w k m.pairs_are m.notes_are
       (λ setup. let P : List ℕ → Type 0 = λ z. DropAsks key z m.asked (drop_notes key 0 sizes) in
-        let R : List ℕ → Type 0 = λ z. DropAnswers key z m.asked A.Dropped in
-        going setup t key task.key task.file layouts m.asked (drop_notes key 0 sizes) A.Dropped (all_done_go_on m.asked m.each_done)
-        (subst P s (all_asks key sizes m.asked (m.in_order 1) m.each_done m.so_many))
-        (subst R s (record { dropped = rw (eq-eqb (count_by is_done m.asked) (length (keys_dropped key sizes)) (count_all m.asked m.each_done ∙ m.so_many)) refl })))
+      let R : List ℕ → Type 0 = λ z. DropAnswers key z m.asked A.Dropped in
+      going setup t key task.key task.file layouts m.asked (drop_notes key 0 sizes) A.Dropped (all_done_go_on m.asked m.each_done)
+      (subst P s (all_asks key sizes m.asked (m.in_order 1) m.each_done m.so_many))
+      (subst R s (record { dropped = rw (eq-eqb (count_by is_done m.asked) (length (keys_dropped key sizes)) (count_all m.asked m.each_done ∙ m.so_many)) refl })))
 
   module _ (sizes done rest : List ℕ) (chunk : ℕ) (s : sizes ≡ sizes_tried key layouts) (d : sizes ≡ done ++ chunk ∷ rest) (a b c : List Asking) (notes later : List Noting)
       (m : Removed a b notes later key done) where
@@ -342,32 +354,43 @@ module _ (task : Task) (t : ℕ) (key : Parts) (layouts : List (ℕ × ℕ)) (w 
       where
         joint : (m.asked ++ r.ends.0) ++ r.ends.1 ∷ [] ≡ m.asked ++ (r.ends.0 ++ r.ends.1 ∷ [])
         joint = append_assoc m.asked r.ends.0 (r.ends.1 ∷ [])
+
         front : list_all is_done (m.asked ++ r.ends.0) ≡ true
         front = list_all-append is_done m.asked r.ends.0 ∙ rw (m.each_done, r.ends.3) refl
+
         order : (n : ℕ) → AskInOrder remove_request n (keys_of_layout key chunk) (r.ends.0 ++ r.ends.1 ∷ [])
         order n = rw r.ends.2 at (r.in_order n)
+
         before : list_all is_done (all_but_last (m.asked ++ (r.ends.0 ++ r.ends.1 ∷ []))) ≡ true
         before = rw (← joint) (rw (but_last (m.asked ++ r.ends.0) r.ends.1) front)
+
         asked : DropAsks key (sizes_tried key layouts) ((m.asked ++ r.ends.0) ++ r.ends.1 ∷ []) (drop_notes key 0 done)
         asked = rw joint (asks (r.ends.0 ++ r.ends.1 ∷ []) order before)
+
         not_done : is_done r.ends.1 ≡ false
         not_done = ap is_done_at r.ends.4 ∙ r.ends.5
+
         fewer : (count_by is_done ((m.asked ++ r.ends.0) ++ r.ends.1 ∷ []) == length (keys_dropped key (sizes_tried key layouts))) ≡ false
         fewer = not_equal _ _ (λ x. absurd (omega (arith, x, counted, one, count_all (m.asked ++ r.ends.0) front, length-append (m.asked ++ r.ends.0) (r.ends.1 ∷ []), fits)))
           where
             counted : count_by is_done ((m.asked ++ r.ends.0) ++ r.ends.1 ∷ []) ≡ count_by is_done (m.asked ++ r.ends.0) + count_by is_done (r.ends.1 ∷ [])
             counted = sum_by-append (λ (a : Asking). cond (is_done a) 1 0) (m.asked ++ r.ends.0) (r.ends.1 ∷ [])
+
             one : count_by is_done (r.ends.1 ∷ []) ≡ 0
             one = rw not_done refl
+
             fits : length ((m.asked ++ r.ends.0) ++ r.ends.1 ∷ []) ≤ length (keys_dropped key (sizes_tried key layouts))
             fits = order_fits remove_request 1 (keys_dropped key (sizes_tried key layouts)) ((m.asked ++ r.ends.0) ++ r.ends.1 ∷ []) asked.in_order
+
         on_to : verdict_stop false v ≡ None → list_all goes_on ((m.asked ++ r.ends.0) ++ r.ends.1 ∷ []) ≡ true
         on_to n = list_all-append goes_on (m.asked ++ r.ends.0) (r.ends.1 ∷ []) ∙ rw (all_done_go_on (m.asked ++ r.ends.0) front, r.ends.4, n) refl
+
         failed_last : failed_at v ≡ Some answer → last_failed ((m.asked ++ r.ends.0) ++ r.ends.1 ∷ []) ≡ Some answer
         failed_last f =
             let says : filter_map (λ (a : Asking). failed_at a.verdict) ((m.asked ++ r.ends.0) ++ r.ends.1 ∷ []) ≡ answer ∷ [] =
-              filter_map-append (λ (a : Asking). failed_at a.verdict) (m.asked ++ r.ends.0) (r.ends.1 ∷ []) ∙ rw (none_failed (m.asked ++ r.ends.0) front, r.ends.4, f) refl in
+            filter_map-append (λ (a : Asking). failed_at a.verdict) (m.asked ++ r.ends.0) (r.ends.1 ∷ []) ∙ rw (none_failed (m.asked ++ r.ends.0) front, r.ends.4, f) refl in
             ap (λ (x : List Answer). last_or None x) says
+
         by_end : (setup : Setup) → EndsBy v answer → RunOf setup t (drop_task task.key task.file) key layouts ((m.asked ++ r.ends.0) ++ r.ends.1 ∷ []) [] (drop_notes key 0 done) answer
         by_end setup (inl stop) =
             stopped setup t key task.key task.file layouts (m.asked ++ r.ends.0) r.ends.1 (drop_notes key 0 done) answer (all_done_go_on (m.asked ++ r.ends.0) front) (ap (λ (x : Verdict). verdict_stop false x) r.ends.4 ∙ stop) asked

@@ -49,9 +49,11 @@ some_keys size chunk = by_chunk (chunk == 0) refl
       where
         some : n ≡ 0 → ⊥
         some z = let b : (n == 0) ≡ true = eq-eqb n 0 z in cc
+
         by_count : (d : ℕ) → n ≤ d * chunk → 0 < d
         by_count zero l = absurd (some (omega arith))
         by_count (suc d) l = omega arith
+
     by_chunk : (t : Bool) → (chunk == 0) ≡ t → 0 < (if t then 1 else count_of (unwrap_or size 0) chunk)
     by_chunk true e = omega arith
     by_chunk false e = by_size (unwrap_or size 0) (unwrap_or size 0 == 0) refl (positive chunk e)

@@ -12,6 +12,11 @@ task_at-task-requires g c = task_there (g.D.Door.opening c.args.door.now) c.args
 pub run_over-outcome-requires-clause-task : goal.run_over-outcome-requires-clause-task
 run_over-outcome-requires-clause-task g c = is_task c.args.tasks.now (c.args.number - 1) c.task_at-task.result.now c.requires.tasks.1 c.task_at-task.ensures
 
+pub run_over-outcome-requires-clause-named : goal.run_over-outcome-requires-clause-named
+run_over-outcome-requires-clause-named g c =
+    let o = g.D.Door.opening c.args.door.now in
+    task_is o c.args.tasks.now c.args.number c.task_at-task.result.now c.requires.tasks.0 (task_there o c.args.tasks.now c.requires.begun.past c.args.number c.requires.tasks.0 c.requires.begun.least).0 c.task_at-task.ensures
+
 pub run_over-outcome-requires-clause-serves : goal.run_over-outcome-requires-clause-serves
 run_over-outcome-requires-clause-serves g c = serves_alone c.requires.alone c.requires.begun.serves
 
