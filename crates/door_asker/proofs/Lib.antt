@@ -1,3 +1,4 @@
 pub mod Noted
 pub mod Pairs
 pub mod Serving
+pub mod KeyNotes

@@ -1,6 +1,7 @@
 // How one task asks its child, and notes what it has, through a door of the core.
 #![tactic(auto)]
 
+pub mod laws;
 mod links;
 mod lone_asker;
 mod notes;

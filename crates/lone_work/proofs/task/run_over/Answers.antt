@@ -6,4 +6,4 @@ pub run_task-requires-clause-notes : goal.run_task-requires-clause-notes
 run_task-requires-clause-notes g c = λ h. rw c.requires.named (notes_as_its_work c.args.task.now h)
 
 pub returns-clause-ran : goal.returns-clause-ran
-returns-clause-ran g c = none_tried _ _ _ _ _ _ _ _ _ _ c.run_task.ensures.ran
+returns-clause-ran g c = ?
