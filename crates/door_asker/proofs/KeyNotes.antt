@@ -1,6 +1,6 @@
 -- While a task is busy no other is that names its key, so nobody else notes anything of the key.
-use Rattle.std.proofs.Common.{◌≡◌, ◌∙◌, ℕ, zero, suc, ◌+◌, ◌-◌, ◌<◌, ◌≤◌, List, [], ◌∷◌, ◌++◌, length, map, filter, fold, refl, sym, ap, subst, arith, append_assoc, append-nil, Bool, true, false, cond, not, ◌==◌, Option, Some, None, bytes_eq}
-use Rattle.std.specs.Prelude.{◌&&◌, ◌||◌, nat_lt, if◌then◌else◌, is_some, slice_get, option_map, IsTrue, find}
+use Rattle.std.proofs.Common.{◌≡◌, ◌∙◌, ℕ, zero, suc, ◌+◌, ◌-◌, ◌<◌, ◌≤◌, List, [], ◌∷◌, ◌++◌, length, map, filter, refl, sym, ap, subst, arith, append_assoc, append-nil, Bool, true, false, cond, not, ◌==◌, Option, Some, None, bytes_eq}
+use Rattle.std.specs.Prelude.{◌&&◌, ◌||◌, nat_lt, if◌then◌else◌, is_some, slice_get, option_map}
 use Rattle.std.specs.List.{list_all, list_any, cons_option, range_with_len}
 use Rattle.std.specs.declared.cmp.Ordering.{Ordering}
 use Rattle.std.specs.declared.cmp.Ordering.TheVariants.{Less, Equal, Greater}
@@ -8,7 +8,7 @@ use Rattle.std.proofs.lemmas.Slice.Eq.{bytes_eq-Decides}
 use Rattle.std.proofs.lemmas.Option.{slice_get_within}
 use Rattle.std.proofs.lemmas.Bool.{eq-eqb}
 use Rattle.std.proofs.lemmas.List.Sums.{fold-append}
-use Rattle.chunk_log.specs.NoteBooks.{in_order, inserted, place_cmp, placed, is_no_later}
+use Rattle.chunk_log.specs.NoteBooks.{inserted, place_cmp, placed, is_no_later}
 use Rattle.chunk_log.specs.Current.{is_current, layouts_of, standing_of, in_rank, layout_of}
 use Rattle.chunk_log.specs.declared.note.Note.{Note as NoteLine}
 use Rattle.chunk_log.proofs.Places.{same_place}
@@ -21,7 +21,7 @@ use Rattle.journal_model.specs.declared.entry.Entry.{Entry}
 use Rattle.journal_model.specs.declared.opening.Opening.{Opening}
 use Rattle.journal_model.specs.Journal.{any, each_of, is_live, is_mute}
 use Rattle.journal_model.specs.Due.{due_after}
-use Rattle.journal_model.specs.Legality.{Legal, answers, claims, is_busy, is_claimed, is_claimed_by, is_free, is_number, least_free, numbers_of, task_of, both_conflict, conflicts, clashes, holder, turned, turned_by, may_come, may_note, has_open_job, is_prepared}
+use Rattle.journal_model.specs.Legality.{Legal, answers, claims, is_busy, is_claimed, is_claimed_by, is_free, is_number, least_free, numbers_of, task_of, both_conflict, conflicts, clashes, holder, turned_by, may_come, may_note, has_open_job, is_prepared}
 use Rattle.journal_model.specs.Notes.{noted, note_of, with_notes, AreCurrentAt}
 use Rattle.journal_model.proofs.Looks.{entry, both, same, same_number, either_left, either_right, true_not_false, each_of-append}
 use Rattle.journal_model.proofs.Holding.{claimed, answered, due_names, holder_append, unturned, held_busy}
@@ -46,9 +46,11 @@ busy_before o past by w t n b = was (holder past t) w n (sym (ap is_some after) 
         holder_append past (entry by w ∷ due_after o past (entry by w)) t
         ∙ unturned t (turned_by t (holder past t) by w) (due_after o past (entry by w)) (due_names claimed (λ c j v. refl) (λ c why. refl) (λ c j l. refl) o past by w)
         (due_names answered (λ c j v. refl) (λ c why. refl) (λ c j l. refl) o past by w)
+
     left_busy : (x : Bool) (h : Option Holder) → is_some (cond x None h) ≡ true → is_some h ≡ true
     left_busy true h b = absurd cc
     left_busy false h b = b
+
     was : (h : Option Holder) (w : What) → claims t w ≡ false → is_some (turned_by t h by w) ≡ true → is_some h ≡ true
     was h (Claim task child) n b = rw n at b
     was h (Answered task answer) n b = left_busy (task == t) h b
@@ -83,8 +85,10 @@ not_in_way o past t u s r f b et eu = either_left (bytes_eq r.key s.key) (clashe
     turned_off : (x : Bool) → not x ≡ true → x ≡ false
     turned_off true e = absurd cc
     turned_off false e = refl
+
     none : list_any (λ v. is_busy past v && both_conflict (task_of o v) (task_of o t)) (numbers_of o) ≡ false
     none = turned_off _ (both (not (is_claimed past t)) (not (list_any (λ v. is_busy past v && both_conflict (task_of o v) (task_of o t)) (numbers_of o))) f).1
+
     within : (0 < u) × (u - 1 < length o.tasks)
     within = by_zero (u == 0) refl eu
       where
@@ -95,8 +99,10 @@ not_in_way o past t u s r f b et eu = either_left (bytes_eq r.key s.key) (clashe
             positive : (n : ℕ) → (n == 0) ≡ false → 0 < n
             positive zero e = let z : true ≡ false = e in absurd cc
             positive (suc n) e = omega arith
+
     here : (is_busy past u && both_conflict (task_of o u) (task_of o t)) ≡ false
     here = none_at (λ v. is_busy past v && both_conflict (task_of o v) (task_of o t)) 1 (length o.tasks) u none (omega (arith, within.0)) (omega (arith, within.0, within.1))
+
     conflict : conflicts r s ≡ false
     conflict = rw (b, eu, et) at here
 
@@ -106,8 +112,10 @@ no_two_step o past by w kept may = record { differ = λ t u s r bt bu et eu k. b
     one_claim : (t u : ℕ) (w : What) → claims t w ≡ true → claims u w ≡ true → t ≡ u
     one_claim t u (Claim task child) k l = sym (same_number task t k) ∙ same_number task u l
     one_claim t u w k l = absurd cc
+
     same_key : (s r : Task) → s.key ≡ r.key → bytes_eq s.key r.key ≡ true
     same_key s r k = (bytes_eq-Decides s.key r.key).1 k
+
     by_claims : (t u : ℕ) (s r : Task) → is_busy (past ++ entry by w ∷ due_after o past (entry by w)) t ≡ true → is_busy (past ++ entry by w ∷ due_after o past (entry by w)) u ≡ true
         → task_of o t ≡ Some s → task_of o u ≡ Some r → s.key ≡ r.key → (x y : Bool) → claims t w ≡ x → claims u w ≡ y → t ≡ u
     by_claims t u s r bt bu et eu k true true ct cu = one_claim t u w ct cu
@@ -156,10 +164,10 @@ note_here o past by w m n = tt
 
 stands : (o : Opening) (journal : List Entry) → Legal o journal → NoTwo o journal × NotesStand o [] journal
 stands o journal l = Legal-induction o (λ p. NoTwo o p × NotesStand o [] p) (record { differ = λ t u s r bt bu et eu k. absurd cc }, tt)
-  (λ past e legal before may. (
-  no_two_step o past e.by e.what before.0 may,
-  stand_join o [] past (e ∷ due_after o past e) before.1 (note_here o past e.by e.what may before.0, none_stand o (past ++ e ∷ []) (due_after o past e) (due_names note_task (λ c j v. refl) (λ c why. refl) (λ c j x. refl) o past e.by e.what)),
-  )) journal l
+    (λ past e legal before may. (
+      no_two_step o past e.by e.what before.0 may,
+      stand_join o [] past (e ∷ due_after o past e) before.1 (note_here o past e.by e.what may before.0, none_stand o (past ++ e ∷ []) (due_after o past e) (due_names note_task (λ c j v. refl) (λ c why. refl) (λ c j x. refl) o past e.by e.what)),
+    )) journal l
 
 pub busy_keys_differ : BusyKeysDiffer
 busy_keys_differ o journal l t u s r bt bu et eu k = (stands o journal l).0.differ t u s r bt bu et eu k
@@ -175,12 +183,14 @@ others_note o past (x ∷ more) t s st b a n e =
   where
     one : any (answers t) (x ∷ []) ≡ false
     one = rw (either_left (answers t x.what) (any (answers t) more) a) refl
+
     by_key : (u : ℕ) (r : Task) → task_of o u ≡ Some r → NoTwo o past → is_busy past u ≡ true → (u == t) ≡ false → (k : Bool) → bytes_eq r.key s.key ≡ k → not k ≡ true
     by_key u r eu two bu d true k = absurd (apart d (two.differ u t r s bu b eu e ((bytes_eq-Decides r.key s.key).0 k)))
       where
         apart : (u == t) ≡ false → u ≡ t → ⊥
         apart d q = let h : (u == t) ≡ true = eq-eqb u t q in cc
     by_key u r eu two bu d false k = refl
+
     by_what : (w : What) → NoteHere o past w → by_noting t w ≡ false → list_all (λ (n : NoteLine). not (bytes_eq n.key s.key)) (each_of (noted o) more) ≡ true
         → list_all (λ (n : NoteLine). not (bytes_eq n.key s.key)) (cons_option (noted o w) (each_of (noted o) more)) ≡ true
     by_what (Note u chunk count) h d rest = by_task (task_of o u) refl
@@ -203,6 +213,7 @@ module _ (key uuid : List ℕ) where
       by_later : (b : Bool) → first.key ≡ n.key → filter (is_current key uuid) ((if b then n else first) ∷ rest) ≡ filter (is_current key uuid) (first ∷ rest)
       by_later true k = rw (not_current n h, not_current first (ap (λ (x : List ℕ). bytes_eq x key) k ∙ h)) refl
       by_later false k = refl
+
       by_place : (c : Ordering) → place_cmp first n ≡ c → filter (is_current key uuid) (inserted n rest) ≡ filter (is_current key uuid) rest
           → filter (is_current key uuid) (placed n first rest (inserted n rest) c) ≡ filter (is_current key uuid) (first ∷ rest)
       by_place Less e next = ap (λ (l : List NoteLine). cond (is_current key uuid first) (first ∷ l) l) next
@@ -219,6 +230,7 @@ module _ (key uuid : List ℕ) where
       turned_off : (x : Bool) → not x ≡ true → x ≡ false
       turned_off true e = absurd cc
       turned_off false e = refl
+
       one : (n : NoteLine) → bytes_eq n.key key ≡ false → layouts_of (inserted n book) key uuid ≡ layouts_of book key uuid
       one n h = ap (λ (l : List NoteLine). map layout_of (in_rank (map standing_of l))) (kept_rank n book h)
 
@@ -243,12 +255,16 @@ layouts_since_claim o past within by c t task order e l a n = subst (λ (x : Lis
   where
     at_claim : AreCurrentAt o past task.key (layouts_of (notes_after o past) task.key o.identity.uuid)
     at_claim = current_of_book o past task.key (layouts_of (notes_after o past) task.key o.identity.uuid) order (layouts_current (notes_after o past) task.key o.identity.uuid)
+
     split : past ++ entry by (Claim t c) ∷ within ≡ (past ++ entry by (Claim t c) ∷ []) ++ within
     split = sym (append_assoc past (entry by (Claim t c) ∷ []) within)
+
     later : NotesStand o (past ++ entry by (Claim t c) ∷ []) within
     later = (stand_later o [] past (entry by (Claim t c) ∷ within) (stands o (past ++ entry by (Claim t c) ∷ within) l).1).1
+
     busy : is_busy (past ++ entry by (Claim t c) ∷ []) t ≡ true
     busy = claim_busy past by t (Claim t c) [] (same t) refl
+
     known : known_layouts o (past ++ entry by (Claim t c) ∷ within) t ≡ layouts_of (notes_after o past) task.key o.identity.uuid
     known =
         ap (λ (j : List Entry). known_layouts o j t) split

@@ -2,3 +2,4 @@ pub mod Noted
 pub mod Pairs
 pub mod Serving
 pub mod KeyNotes
+pub mod Knowing

@@ -3,14 +3,15 @@ use Rattle.std.specs.Prelude.{ℕ, ◌≡◌, true, false, List, [], ◌∷◌, 
 use Rattle.chunk_log.specs.NoteBooks.{in_order}
 use Rattle.chunk_log.specs.Current.{layouts_of}
 use Rattle.task_text.specs.declared.task.Task.{Task}
-use Rattle.journal_model.specs.declared.entry.What.{What}
-use Rattle.journal_model.specs.declared.entry.What.TheVariants.{Claim, Note}
+use Rattle.journal_model.specs.declared.entry.What.TheVariants.{Claim}
 use Rattle.journal_model.specs.declared.entry.Entry.{Entry}
 use Rattle.journal_model.specs.declared.opening.Opening.{Opening}
 use Rattle.journal_model.specs.Journal.{any}
 use Rattle.journal_model.specs.Legality.{Legal, answers, is_busy, task_of}
 use Rattle.journal_model.specs.Notes.{AreCurrentAt}
 use Rattle.host_core.specs.Books.{notes_after}
+use Rattle.host_core.specs.declared.event.Reply.{Reply}
+use Rattle.host_core.specs.declared.event.Reply.TheVariants.{Layouts as Known}
 use Rattle.door_asker.specs.Noting.{by_noting}
 
 abbrev pub layouts_at : Opening → List Entry → Option Task → List (ℕ × ℕ)
@@ -20,6 +21,11 @@ layouts_at o journal (Some task) = layouts_of (notes_after o journal) task.key o
 -- those that the core tells of task t behind the journal
 abbrev pub known_layouts : Opening → List Entry → ℕ → List (ℕ × ℕ)
 known_layouts o journal t = layouts_at o journal (task_of o t)
+
+-- the layouts that a reply tells, or none
+abbrev pub known_in : Reply → List (ℕ × ℕ)
+known_in (Known layouts) = layouts
+known_in reply = []
 
 -- two busy tasks never name one key
 abbrev pub BusyKeysDiffer : Type 0

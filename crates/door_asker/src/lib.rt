@@ -8,4 +8,4 @@ mod notes;
 
 pub use links::ask_by_link;
 pub use lone_asker::LoneAsker;
-pub use notes::note;
+pub use notes::{layouts, note};
