@@ -16,11 +16,17 @@ struct LayoutRow {
 }
 
 const DONE: Verdict = Verdict::Done { at: 13 };
+
 const FAILED: Verdict = Verdict::Failed { at: 13 };
+
 const ABSENT: Verdict = Verdict::Absent { at: 13 };
+
 const UNKNOWN: Verdict = Verdict::Unknown { at: 13 };
+
 const LATER_UNKNOWN: Verdict = Verdict::Unknown { at: 15 };
+
 const UNSUPPORTED: Verdict = Verdict::Unsupported { at: 13 };
+
 const ENDED: Verdict = Verdict::Ended { why: Why::Eof };
 
 const ROWS: [LayoutRow; 17] = [

@@ -1,4 +1,4 @@
-use Rattle.std.proofs.Common.{◌≡◌, ◌-◌, sym, subst, refl, ◌∙◌}
+use Rattle.std.proofs.Common.{◌-◌, subst, refl, ◌∙◌}
 use Rattle.journal_model.specs.declared.opening.Opening.{Opening}
 use Rattle.journal_model.specs.Legality.{Legal}
 use Rattle.link_roles.proofs.Roles.{same_both}
