@@ -66,6 +66,6 @@ pub fn layouts<D: Door>(door: &mut D, alloc: Global, task: u32) -> Result<Layout
 {
     match door.step(Event::Layouts { task }) {
         Ok(reply) => Ok(layouts_in(alloc, reply)),
-        Err(NoMemory) => Err(NoMemory),
+        Err(error) => Err(error),
     }
 }
