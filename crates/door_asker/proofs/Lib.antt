@@ -1,3 +1,5 @@
 pub mod Noted
 pub mod Pairs
 pub mod Serving
+pub mod KeyNotes
+pub mod Knowing

@@ -105,7 +105,7 @@ notings_from-none j t past behind (e ∷ xs) h =
 -- ---- the notes of a longer journal
 
 -- those of a task that has no open job, and then what is noted later
-notings-append : (past more : List Entry) (t : ℕ) → has_open_job past t ≡ false
+pub notings-append : (past more : List Entry) (t : ℕ) → has_open_job past t ≡ false
     → notings (past ++ more) t ≡ notings past t ++ notings_from (past ++ more) t past (length (askings past t)) more
 notings-append past more t shut =
     let verdicts = same_verdicts past more (each_of (job_for t) past) (all_asked t past) shut in

@@ -1,23 +1,22 @@
 -- What asking and noting leave to a number that serves a task.
-use Rattle.std.proofs.Common.{◌≡◌, ℕ, ◌<◌, ◌≤◌, List, [], ◌∷◌, ◌++◌, length, append_assoc, append-nil, refl, sym, ap, subst, ◌∙◌, Bool, true, false, not, ◌==◌, cond, Some, None, Option, inl, inr, arith}
-use Rattle.std.specs.Prelude.{◌&&◌, ◌||◌, nat_lt, filter, fold, Result, Ok, Err}
+use Rattle.std.proofs.Common.{◌≡◌, ℕ, ◌<◌, ◌≤◌, List, [], ◌∷◌, ◌++◌, length, append-nil, refl, sym, ap, subst, ◌∙◌, Bool, true, false, not, ◌==◌, cond, Some, None, Option, inl, inr, arith}
+use Rattle.std.specs.Prelude.{◌&&◌, ◌||◌, nat_lt, filter, Result, Ok, Err}
 use Rattle.ann_key.specs.declared.bytes.NoMemory.{NoMemory}
-use Rattle.std.specs.List.{list_all, list_any, cons_option}
+use Rattle.std.specs.List.{cons_option}
 use Rattle.std.specs.Option.{option_or}
 use Rattle.std.proofs.lemmas.Bool.Decides.{nat_tests}
 use Rattle.std.proofs.lemmas.List.{append_cancel_left}
 use Rattle.std.proofs.lemmas.List.Elements.{filter-append}
-use Rattle.annex_model.specs.Messages.{HostMessage, AskExtensions, Transfer, host_line, is_askable}
+use Rattle.annex_model.specs.Messages.{HostMessage, AskExtensions, Transfer, is_askable}
 use Rattle.annex_model.specs.Turns.{turn_of}
 use Rattle.annex_model.specs.declared.turn.Turn.TheVariants.{Later}
-use Rattle.journal_model.specs.declared.holder.Holder.{Holder}
 use Rattle.journal_model.specs.declared.verdict.Verdict.{Verdict}
 use Rattle.journal_model.specs.declared.entry.What.{What}
 use Rattle.journal_model.specs.declared.entry.What.TheVariants.{Claim, Ask, Put, Sent, Mute, Got, End, Verdict as Settled, Lost, Note, Answer as Answered}
 use Rattle.journal_model.specs.declared.entry.Entry.{Entry}
 use Rattle.journal_model.specs.declared.opening.Opening.{Opening}
-use Rattle.journal_model.specs.Journal.{any, asks, asked_jobs, each_of, is_settled, is_started, is_tagged, on_wire, open_jobs, settles, verdict_of}
-use Rattle.journal_model.specs.Legality.{Legal, has_open_job, holder, is_busy_with, is_claimed_by, is_done, is_empty, is_greeted, is_held_for, is_in_turn, is_prepared, may_ask, may_work, prepares, suits_child, turned}
+use Rattle.journal_model.specs.Journal.{any, asks, asked_jobs, each_of, is_settled, is_tagged, open_jobs, settles, verdict_of}
+use Rattle.journal_model.specs.Legality.{Legal, has_open_job, holder, is_busy_with, is_claimed_by, is_done, is_empty, is_greeted, is_held_for, is_in_turn, is_prepared, may_ask, may_work, prepares, suits_child}
 use Rattle.journal_model.specs.Shares.{Moved, are_by, are_own, is_heard, is_of_child, is_said, makes_only, by_link}
 use Rattle.journal_model.specs.Halves.{EarValue, MouthValue, LinkWired}
 use Rattle.journal_model.proofs.Holding.{claimed, answered, holder_append, unturned}
@@ -25,10 +24,10 @@ use Rattle.journal_model.proofs.Looks.{both, same, differ, any-append, each_of-a
 use Rattle.journal_model.proofs.Projecting.{invariant}
 use Rattle.journal_model.proofs.Testing.{or_left}
 use Rattle.journal_model.proofs.Verdicts.{unasked_none}
-use Rattle.host_core.specs.Steps.{may_request, next_job, group_of}
+use Rattle.host_core.specs.Steps.{may_request, next_job}
 use Rattle.task_asker.specs.Askings.{names_in_line}
-use Rattle.link_roles.specs.Doors.{Passed, Appended}
-use Rattle.link_roles.specs.Asks.{Grows, HasAsked, IsSettledSo, IsLostSo, never}
+use Rattle.link_roles.specs.Doors.{Passed}
+use Rattle.link_roles.specs.Asks.{Grows, HasAsked}
 use Rattle.link_roles.proofs.Linked.{any_narrower, heard_of, link_apart, said_of}
 use Rattle.link_roles.proofs.Roles.{moved_both, moved_by, moved_wider, none_made, started_on}
 use Rattle.door_asker.specs.AtTasks.{AtTask, AskedFor, NotedFor}

@@ -2,3 +2,4 @@ pub mod AtTasks
 pub mod Noting
 pub mod Servings
 pub mod ServingLaws
+pub mod KnownLayouts

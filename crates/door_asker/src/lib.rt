@@ -1,10 +1,11 @@
 // How one task asks its child, and notes what it has, through a door of the core.
 #![tactic(auto)]
 
+pub mod laws;
 mod links;
 mod lone_asker;
 mod notes;
 
 pub use links::ask_by_link;
 pub use lone_asker::LoneAsker;
-pub use notes::note;
+pub use notes::{layouts, note};

@@ -1,14 +1,14 @@
 -- What a claim gives a worker that is alone.
-use Rattle.std.proofs.Common.{◌≡◌, ℕ, ◌+◌, ◌<◌, ◌≤◌, List, [], ◌∷◌, ◌++◌, refl, sym, ap, subst, ◌∙◌, Bool, true, false, not, ◌==◌, cond, Some, None, Option, inl, inr, arith, append-nil, length, zero, suc}
-use Rattle.std.specs.Prelude.{◌&&◌, ◌||◌, find, Result, Ok, Err}
+use Rattle.std.proofs.Common.{◌≡◌, ℕ, ◌+◌, ◌<◌, ◌≤◌, List, [], ◌∷◌, ◌++◌, refl, sym, ap, subst, ◌∙◌, Bool, true, false, not, ◌==◌, cond, Some, None, Option, inl, inr, arith, append-nil, zero, suc}
+use Rattle.std.specs.Prelude.{◌&&◌, find, Result, Ok, Err}
 use Rattle.std.specs.Result.{IsOk}
 use Rattle.ann_key.specs.declared.bytes.NoMemory.{NoMemory}
 use Rattle.std.specs.List.{list_all, list_any, range_with_len}
 use Rattle.journal_model.specs.declared.entry.What.TheVariants.{Claim, Answer as Answered}
 use Rattle.journal_model.specs.declared.entry.Entry.{Entry}
 use Rattle.journal_model.specs.declared.opening.Opening.{Opening}
-use Rattle.journal_model.specs.Journal.{any, each_of, is_open, is_started, starts}
-use Rattle.journal_model.specs.Legality.{Legal, both_conflict, claims, has_open_job, is_busy, is_claimed, is_free, is_held_by, is_held_for, job_for, least_free, numbers_of, task_of}
+use Rattle.journal_model.specs.Journal.{any, is_open, is_started, starts}
+use Rattle.journal_model.specs.Legality.{Legal, both_conflict, claims, has_open_job, is_busy, is_claimed, is_free, is_held_by, is_held_for, least_free, numbers_of, task_of}
 use Rattle.journal_model.specs.Makers.{is_of_task}
 use Rattle.journal_model.proofs.Holding.{holder_append, not_true}
 use Rattle.journal_model.proofs.Idling.{claimed_positive}
@@ -17,10 +17,10 @@ use Rattle.journal_model.proofs.Testing.{or_left, or_right}
 use Rattle.journal_model.proofs.Working.{find_holds, jobs_stay_closed, no_jobs_in, tasks_kept}
 use Rattle.host_core.specs.declared.event.Event.TheVariants.{Claim as ClaimEvent, Answer as AnswerEvent}
 use Rattle.host_core.specs.declared.event.Reply.{Reply}
-use Rattle.host_core.specs.declared.event.Reply.TheVariants.{Task, NoTask, Done}
+use Rattle.host_core.specs.declared.event.Reply.TheVariants.{NoTask, Done}
 use Rattle.journal_model.specs.declared.answer.Answer.{Answer}
 use Rattle.door_asker.specs.AtTasks.{AtTask}
-use Rattle.host_core.specs.Steps.{Step, step_of, told, claim, only, append, gone, is_gone, are_all_claimed}
+use Rattle.host_core.specs.Steps.{Step, step_of, claim, only, append, gone, is_gone, are_all_claimed}
 use Rattle.link_roles.specs.Doors.{Made, Stepped}
 use Rattle.door_asker.proofs.Serving.{idle_on, prepared_on}
 use Rattle.lone_work.specs.Works.{Begun, CanWork, ClaimsNext, task_in}

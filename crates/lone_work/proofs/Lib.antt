@@ -1,3 +1,4 @@
+pub mod Layouts
 pub mod Claiming
 pub mod Running
 pub mod Working

@@ -1,34 +1,32 @@
 -- A task that was claimed, run and answered has its run in the journal.
 use Rattle.std.proofs.Common.{◌≡◌, ℕ, ◌+◌, List, [], ◌∷◌, ◌++◌, refl, sym, ap, subst, ◌∙◌, Bool, true, false, not, ◌==◌, cond, Some, None, Option, arith, append_assoc, append-nil, length}
-use Rattle.std.specs.Prelude.{◌&&◌, ◌||◌, map, Result, Ok, Err, is_some}
-use Rattle.std.specs.List.{list_all, list_any}
+use Rattle.std.specs.Prelude.{◌||◌, map, Result, Ok, Err, is_some}
 use Rattle.ann_key.specs.declared.bytes.NoMemory.{NoMemory}
 use Rattle.task_text.specs.declared.task.Task.{Task}
 use Rattle.ann_outside.specs.declared.file_desk.Call.{Call}
 use Rattle.ann_outside.specs.DeskCauses.{Counts}
 use Rattle.journal_model.specs.declared.answer.Answer.{Answer}
-use Rattle.journal_model.specs.declared.answer.Answer.TheVariants.{FileFault, NoFile, Memory}
 use Rattle.journal_model.specs.declared.holder.Holder.{Holder}
 use Rattle.journal_model.specs.declared.entry.What.{What}
 use Rattle.journal_model.specs.declared.entry.What.TheVariants.{Claim, Ask, Lost, Note, Answer as Answered}
 use Rattle.journal_model.specs.declared.entry.Entry.{Entry}
 use Rattle.journal_model.specs.declared.opening.Opening.{Opening}
 use Rattle.journal_model.specs.Journal.{any, is_started, starts}
-use Rattle.journal_model.specs.Legality.{Legal, has_open_job, holder, is_busy, task_of, turned_by}
+use Rattle.journal_model.specs.Legality.{Legal, has_open_job, holder, is_busy, task_of}
 use Rattle.journal_model.specs.Makers.{is_of_task}
-use Rattle.journal_model.specs.Shares.{Moved, are_by, is_of_child, makes_only}
+use Rattle.journal_model.specs.Shares.{are_by, makes_only}
 use Rattle.journal_model.proofs.Holding.{claimed, answered as answered_task, holder_append}
 use Rattle.journal_model.proofs.Looks.{any-append, both, entry}
 use Rattle.journal_model.proofs.Testing.{or_left}
 use Rattle.task_asker.specs.Askings.{Asking, Noting}
 use Rattle.task_run.specs.declared.setup.Setup.{Setup}
-use Rattle.task_run.specs.Askings.{TaskStretch, askings, askings_from, bounds_run, notings_from, past_claim, run_askings, run_notings}
+use Rattle.task_run.specs.Askings.{TaskStretch, askings, askings_from, bounds_run, notings_from, run_askings, run_notings}
 use Rattle.task_run.specs.Ran.{Ran, HasTaskCauses, answered, behind_more}
 use Rattle.task_run.specs.Runs.{TaskRun}
 use Rattle.task_run.proofs.Askings.{asks_for, askings_from-append, askings_from-none, askings-unasked}
 use Rattle.link_roles.proofs.Linked.{any_narrower}
 use Rattle.door_asker.specs.AtTasks.{notings}
-use Rattle.door_asker.specs.Servings.{HasTurn, Serves, ServesOn, by_server}
+use Rattle.door_asker.specs.Servings.{HasTurn, ServesOn, by_server}
 use Rattle.door_asker.proofs.Noted.{notes_for, notings_from-append, notings_from-none, notings-unnoted}
 use Rattle.door_asker.proofs.Serving.{gives_none, held_on, idle_on, prepared_on, server_answers, server_claims}
 use Rattle.task_rounds.specs.JournalRuns.{PlainRun}

@@ -1,7 +1,7 @@
 -- What a worker did, task by task.
-use Rattle.std.proofs.Common.{◌≡◌, ◌≢◌, ℕ, ◌+◌, ◌<◌, ◌≤◌, List, [], ◌∷◌, ◌++◌, refl, sym, ap, subst, ◌∙◌, Bool, true, false, not, ◌==◌, cond, Some, None, Option, arith, append_assoc, append-nil, length, inl, inr}
-use Rattle.std.specs.Prelude.{◌&&◌, ◌||◌, map, filter, find, Ok}
-use Rattle.std.specs.List.{list_all, list_any, cons_option}
+use Rattle.std.proofs.Common.{◌≡◌, ℕ, ◌<◌, ◌≤◌, List, [], ◌∷◌, ◌++◌, refl, sym, ap, subst, ◌∙◌, Bool, true, false, not, ◌==◌, cond, Some, None, arith, append_assoc, append-nil, length}
+use Rattle.std.specs.Prelude.{◌||◌, map, filter, find}
+use Rattle.std.specs.List.{list_all, list_any}
 use Rattle.ann_outside.specs.Calls.{Gained}
 use Rattle.ann_outside.specs.DeskCauses.{Counts}
 use Rattle.ann_outside.specs.declared.file_desk.Call.{Call}
@@ -10,12 +10,11 @@ use Rattle.journal_model.specs.declared.entry.What.{What}
 use Rattle.journal_model.specs.declared.entry.What.TheVariants.{Claim, Ask, Lost, Note, Answer as Answered}
 use Rattle.journal_model.specs.declared.entry.Entry.{Entry}
 use Rattle.journal_model.specs.declared.opening.Opening.{Opening}
-use Rattle.journal_model.specs.Journal.{any, each_of}
-use Rattle.journal_model.specs.Legality.{Legal, claims, has_open_job, is_busy, is_claimed, is_free, least_free, numbers_of}
+use Rattle.journal_model.specs.Legality.{Legal, claims, is_busy, is_claimed, is_free, least_free, numbers_of}
 use Rattle.journal_model.specs.Output.{answer_in, answers_in}
 use Rattle.journal_model.specs.Shares.{are_by, by_link, makes_only}
 use Rattle.journal_model.proofs.Idling.{claimed_positive}
-use Rattle.journal_model.proofs.Looks.{any-append, both, differ, each_of-append, entry, same, same_number}
+use Rattle.journal_model.proofs.Looks.{any-append, both, each_of-append, entry, same, same_number}
 use Rattle.journal_model.proofs.Testing.{or_left, or_right, all-join}
 use Rattle.journal_model.proofs.Working.{idle_shut}
 use Rattle.host_core.specs.Steps.{unclaimed}

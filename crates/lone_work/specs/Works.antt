@@ -12,13 +12,12 @@ use Rattle.journal_model.specs.declared.entry.What.TheVariants.{Claim, Ask, Lost
 use Rattle.journal_model.specs.declared.entry.Entry.{Entry}
 use Rattle.journal_model.specs.declared.opening.Opening.{Opening}
 use Rattle.journal_model.specs.Journal.{any, each_of, is_started, open_jobs}
-use Rattle.journal_model.specs.Legality.{Legal, is_busy, is_prepared, least_free, numbers_of}
+use Rattle.journal_model.specs.Legality.{Legal, is_busy, is_prepared, least_free}
 use Rattle.journal_model.specs.Makers.{is_of_task}
 use Rattle.journal_model.specs.Output.{answer_in, answers_in}
 use Rattle.journal_model.specs.Shares.{are_by, by_link, makes_only}
 use Rattle.host_core.specs.declared.event.Reply.{Reply}
 use Rattle.host_core.specs.declared.event.Reply.TheVariants.{Task as TaskReply}
-use Rattle.host_core.specs.Steps.{is_gone}
 use Rattle.door_asker.specs.Servings.{Serves, by_server}
 use Rattle.gathering.specs.Tasks.{IsThrough}
 use Rattle.task_run.specs.declared.setup.Setup.{Setup}

@@ -3,8 +3,9 @@ ghost use Rattle.std.specs.Prelude.{◌≡◌, ◌≤◌, ◌<◌, ◌-◌, [], 
 ghost use Rattle.annex_model.specs.Lines.{has_newline};
 ghost use Rattle.task_text.specs.TaskLines.{IsTask};
 ghost use Rattle.journal_model.specs.Halves.{LinkWired};
+ghost use Rattle.journal_model.specs.Legality.{task_of};
 ghost use Rattle.task_run.specs.Askings.{askings};
-ghost use Rattle.task_run.specs.Ran.{Ran, HasTaskCauses, answered};
+ghost use Rattle.task_run.specs.Ran.{Ran, HasTaskCauses, answered, layouts_for};
 ghost use Rattle.link_roles.specs.Doors.{IsSameDoor};
 ghost use Rattle.link_roles.specs.Moves.{IsSameLink};
 ghost use Rattle.link_roles.specs.Alone.{KeepsLink};
@@ -52,8 +53,9 @@ fn run_over<I: Sink, O: Source, D: Door, K: Desk>(
 ) -> Result<Answer, NoMemory>
     requires task { IsTask task.now }
     requires setup { (has_newline setup.now.work ≡ false) × (setup.now.chunk ≡ 0) }
+    requires named { task_of (D.opening door.old) number ≡ Some task.now }
     requires serves { Serves (D.opening door.old) (D.number door.old) (D.alone door.old) link.old.ear.child number (D.seen door.old) }
-    ensures ran { Ran task.now number setup.now [] (askings (D.seen door.old) number) (askings (D.seen door.new) number) (notings (D.seen door.old) number) (notings (D.seen door.new) number) (K.log desk.old) (K.log desk.new) result }
+    ensures ran { Ran task.now number setup.now (layouts_for task.now.work []) (askings (D.seen door.old) number) (askings (D.seen door.new) number) (notings (D.seen door.old) number) (notings (D.seen door.new) number) (K.log desk.old) (K.log desk.new) result }
     ensures causes { HasTaskCauses (K.counts desk.old) (K.counts desk.new) result }
     ensures on { ServesOn (D.opening door.old) (D.number door.old) (D.alone door.old) link.old.ear.child number (D.seen door.old) (D.seen door.new)
         (LinkWired (D.seen door.old) link.old.ear link.old.mouth) (LinkWired (D.seen door.new) link.new.ear link.new.mouth) }

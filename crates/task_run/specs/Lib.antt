@@ -13,6 +13,7 @@ pub mod Runs
 pub mod Rows
 pub mod TaskRuns
 pub mod Ran
+pub mod Rounds
 pub mod Fetching
 pub mod RunLaws
 pub mod StretchRows

@@ -4,10 +4,12 @@
 mod answers;
 mod ask;
 mod check;
+mod check_layouts;
+mod drop_layouts;
 mod get;
 pub mod laws;
+mod layouts;
 mod names;
-mod plain;
 mod run;
 pub mod run_laws;
 mod setup;

@@ -1,12 +1,15 @@
-// One task, in the plain layout.
-ghost use Rattle.std.specs.Prelude.{◌≡◌, [], false};
+// One task.
+//
+// Content is stored and fetched whole still; it is checked and dropped in each layout that is tried.
+ghost use Rattle.std.specs.Prelude.{◌≡◌, true, false};
 ghost use Rattle.annex_model.specs.Lines.{has_newline};
 ghost use Rattle.task_text.specs.TaskLines.{IsTask};
-ghost use Rattle.task_run.specs.Ran.{Ran, HasTaskCauses};
+ghost use Rattle.task_run.specs.Ran.{Ran, HasTaskCauses, layouts_for, may_note};
 ghost use Rattle.task_asker.specs.Askings.{IsSameTask};
 
+use crate::check_layouts::check;
+use crate::drop_layouts::drop_key;
 use crate::get::get;
-use crate::plain::{check, drop_key};
 use crate::setup::Setup;
 use crate::store::store;
 use ann_key::NoMemory;
@@ -30,7 +33,8 @@ pub fn run_task<A: Asker, D: Desk>(
     requires whole { setup.now.chunk ≡ 0 }
     requires number { number ≡ A.task asker.old }
     requires ready { A.ready asker.old }
-    ensures ran { Ran task.now number setup.now [] (A.pairs asker.old) (A.pairs asker.new) (A.notes asker.old) (A.notes asker.new) (D.log desk.old) (D.log desk.new) result }
+    requires notes { may_note task.now.work ≡ true → A.may_note asker.old ≡ true }
+    ensures ran { Ran task.now number setup.now (layouts_for task.now.work (A.current asker.old)) (A.pairs asker.old) (A.pairs asker.new) (A.notes asker.old) (A.notes asker.new) (D.log desk.old) (D.log desk.new) result }
     ensures same { IsSameTask (A.task asker.old) (A.task asker.new) (A.may_note asker.old) (A.may_note asker.new) (A.loans asker.old) (A.loans asker.new) }
     ensures on { A.goes_on asker.old asker.new }
     ensures causes { HasTaskCauses (D.counts desk.old) (D.counts desk.new) result }

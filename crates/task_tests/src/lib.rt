@@ -4,6 +4,8 @@
 #[cfg(test)]
 mod faults;
 #[cfg(test)]
+mod layout_rows;
+#[cfg(test)]
 mod rows;
 pub mod script;
 #[cfg(test)]

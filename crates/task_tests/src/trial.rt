@@ -1,6 +1,8 @@
 // One task over a desk in memory and a script of verdicts, and what came of it.
-ghost use Rattle.std.specs.Prelude.{◌≡◌, [], ℕ, length, IfOk};
+ghost use Rattle.std.specs.Prelude.{◌≡◌, [], ℕ, length, true, IfOk};
 ghost use Rattle.annex_model.specs.Lines.{has_newline};
+ghost use Rattle.task_asker.specs.Askings.{are_layouts};
+ghost use Rattle.task_run.specs.Ran.{may_note};
 ghost use Rattle.task_text.specs.TaskLines.{IsTask};
 
 use crate::script::ScriptAsker;
@@ -23,11 +25,12 @@ pub struct Case<'a> {
     pub verdicts: &'a [Verdict],
 }
 
-/// What came of it: the answer, the requests and the calls, as text, and the desk.
+/// What came of it: the answer, the requests, the notes and the calls, as text, and the desk.
 #[derive(Drop)]
 pub struct Outcome {
     pub answer: String,
     pub asked: String,
+    pub noted: String,
     pub calls: String,
     pub desk: MemDesk,
 }
@@ -44,11 +47,44 @@ pub fn desk_of(alloc: Global, files: &[(&str, &str)], fails: &[u64]) -> Result<M
     MemDesk::new(alloc, kept, Vec::from_slice(alloc, fails)?)
 }
 
+fn may_note(work: Work) -> bool
+    ensures { result ≡ may_note work }
+{
+    matches!(work, Work::Store | Work::Drop)
+}
+
+// Those layouts whose chunks hold something.
+fn layouts_of(alloc: Global, layouts: &[(u64, u64)]) -> Result<Vec<(u64, u64)>, NoMemory>
+    ensures { IfOk result (λ list. are_layouts list.items ≡ true) }
+{
+    let mut list = Vec::new(alloc);
+    for layout in layouts {
+        if layout.0 != 0 {
+            list.push(*layout)?;
+        }
+    }
+    Ok(list)
+}
+
 /// The task as the run's task of that number, over that desk.
 pub fn run_on(
     alloc: Global,
     number: u32,
     task: &Task,
+    verdicts: &[Verdict],
+    desk: MemDesk,
+) -> Result<Outcome, NoMemory>
+    requires { IsTask task.now }
+{
+    run_over(alloc, number, task, &[], verdicts, desk)
+}
+
+/// The same, where the remote is known to have the key in these layouts.
+pub fn run_over(
+    alloc: Global,
+    number: u32,
+    task: &Task,
+    layouts: &[(u64, u64)],
     verdicts: &[Verdict],
     mut desk: MemDesk,
 ) -> Result<Outcome, NoMemory>
@@ -59,16 +95,18 @@ pub fn run_on(
         stamp: 1_700_000_000_000_000,
         chunk: 0,
     };
-    let may_note = matches!(task.work, Work::Store | Work::Drop);
+    let layouts = layouts_of(alloc, layouts)?;
     let verdicts = Vec::from_slice(alloc, verdicts)?;
-    let mut asker = ScriptAsker::new(alloc, number, may_note, Vec::new(alloc), verdicts);
+    let mut asker = ScriptAsker::new(alloc, number, may_note(task.work), layouts, verdicts);
     let answer = run_task(alloc, task, number, &setup, &mut asker, &mut desk)?;
     let answer = words(alloc, &answer)?;
     let asked = asked_text(alloc, asker.asked())?;
+    let noted = noted_text(alloc, asker.notes())?;
     let calls = calls_text(alloc, desk.log())?;
     Ok(Outcome {
         answer,
         asked,
+        noted,
         calls,
         desk,
     })
@@ -136,6 +174,18 @@ fn asked_text(alloc: Global, asked: &[(Request, Verdict)]) -> Result<String, All
             text.push_str("; ")?;
         }
         let line = request_text(alloc, request)?;
+        text.push_str(line.as_str())?;
+    }
+    Ok(text)
+}
+
+fn noted_text(alloc: Global, notes: &[(u64, u64, u64)]) -> Result<String, AllocError> {
+    let mut text = String::new(alloc);
+    for (chunk, count, behind) in notes {
+        if !text.is_empty() {
+            text.push_str("; ")?;
+        }
+        let line = format!(in alloc; "{count} of {chunk} behind {behind}")?;
         text.push_str(line.as_str())?;
     }
     Ok(text)

@@ -1,5 +1,4 @@
-use Rattle.std.proofs.Common.{◌≡◌, ◌<◌, ℕ, sym, subst, refl, ap, ◌∙◌, length, List}
-use Rattle.task_text.specs.declared.task.Task.{Task}
+use Rattle.std.proofs.Common.{◌<◌, ℕ, sym, subst, refl, ap, ◌∙◌, length}
 use Rattle.journal_model.specs.declared.opening.Opening.{Opening}
 use Rattle.host_core.specs.Steps.{unclaimed}
 use Rattle.link_roles.proofs.Roles.{same_both}
