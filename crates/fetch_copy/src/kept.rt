@@ -6,7 +6,7 @@ ghost use Rattle.fetch_copy.specs.Copies.{CopyCauses};
 ghost use Rattle.fetch_copy.specs.Resumes.{ReadDoes, ReadsOn, Resumes};
 
 use crate::copied::Copied;
-use crate::moves::{refused, STEP};
+use crate::moves::{STEP, refused};
 use ann_digest::Checker;
 use ann_key::NoMemory;
 use ann_outside::{Desk, DeskError};

@@ -20,7 +20,7 @@ pub fn carry_piece<D: Desk>(
     buffer: &mut [u8],
 ) -> Result<usize, DeskError>
     ensures carried { CarryDoes (D.log desk.old) (D.log desk.new) from.now to.now at buffer.new result }
-    ensures most { IfOk result (λ n. n ≤ length buffer.old) }
+    ensures most { IfOk result (λ n. n ≤ length buffer.new) }
     ensures causes { HasCauses (D.counts desk.old) (D.counts desk.new) result }
 {
     match desk.read_at(from, at, buffer) {

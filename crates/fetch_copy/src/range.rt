@@ -3,7 +3,7 @@ ghost use Rattle.fetch_copy.specs.Copies.{CopyCauses};
 ghost use Rattle.fetch_copy.specs.CopiesOut.{CopiesOut, CopiesRange};
 
 use crate::copied::Copied;
-use crate::moves::{carry_piece, refused, STEP};
+use crate::moves::{STEP, carry_piece, refused};
 use ann_key::NoMemory;
 use ann_outside::Desk;
 use std::alloc::Global;
