@@ -4,6 +4,7 @@
 mod answers;
 mod ask;
 mod check;
+mod chunk_store;
 mod get;
 pub mod laws;
 mod names;
@@ -14,5 +15,6 @@ mod setup;
 mod store;
 
 pub use check::check_answer;
+pub use chunk_store::store_chunks;
 pub use run::run_task;
 pub use setup::Setup;
