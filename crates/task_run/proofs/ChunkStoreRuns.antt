@@ -1,5 +1,5 @@
 -- Runs of tasks that store content in chunks.
-use Rattle.std.proofs.Common.{◌≡◌, ◌≢◌, ◌∙◌, ℕ, zero, suc, ◌+◌, ◌-◌, ◌*◌, ◌^◌, ◌<◌, ◌≤◌, List, [], ◌∷◌, ◌++◌, length, map, refl, sym, ap, subst, arith, append-nil, append_assoc, take, drop, length-append, min, eq-eqb}
+use Rattle.std.proofs.Common.{◌≡◌, ◌≢◌, ◌∙◌, ℕ, zero, suc, ◌+◌, ◌-◌, ◌*◌, ◌^◌, ◌<◌, ◌≤◌, List, [], ◌∷◌, ◌++◌, length, map, refl, sym, ap, subst, arith, append-nil, append_assoc, take, drop, length-append, min, eq-eqb, add-zero}
 use Rattle.std.specs.Prelude.{Bool, true, false, ◌&&◌, ◌||◌, not, nat_le, nat_lt, ◌==◌, bytes_eq, filter, count_by, Option, Some, None, is_none, is_some, Result, Ok, Err}
 use Rattle.std.specs.List.{list_all, list_any, filter_map, concat, range_with_len}
 use Rattle.std.specs.Bool.{MatchBool}
@@ -34,6 +34,7 @@ use Rattle.task_run.specs.Stores.{is_size_call, is_copied, copied_length, part_l
 use Rattle.task_run.specs.ChunkStoring.{from_file, chunk_keys}
 use Rattle.task_run.proofs.Texts.{same_name, apart}
 use Rattle.task_run.proofs.GetCallsLaws.{found_more, nat_same}
+use Rattle.task_run.proofs.GetRuns.{but_last}
 use Rattle.task_run.proofs.FileNames.{chunk_files_differ}
 use Rattle.task_run.proofs.ChunkStoreCalls.{lt_true, le_true, le_of, lt_of, lt_false, all_imp, all_more, all_kept, own, own_named, own_changed, own_length, own_no_size, own_pieces, own_calls, own_reads, Cutting, chunk_among}
 
@@ -256,3 +257,131 @@ front_same setup t key file size f asked calls more c g last small x is_found = 
         let P : ℕ → Type 0 = λ m. is_copied setup t file (with_size file size (calls ++ more)) n (chunk_part key size setup.chunk m) ≡ true in
         let Q : ℕ → Type 0 = λ m. is_copied setup t file (with_size file size (calls ++ more)) m (chunk_part key size setup.chunk c) ≡ true in
         subst P (sym e) (subst Q (sym d) (chunk_copied setup t key file size c calls more g.before (g.fresh c (omega arith) small) x))
+
+-- ---- one more chunk
+
+order_more : (ask : ℕ → List ℕ → HostMessage) (f : ℕ → Parts) (k m count : ℕ) (round : List Asking) (a : Asking) → AskInOrder ask k (map f (range_with_len m count)) round → length round < count
+    → AsksFor ask (k + length round) (f (m + length round)) a → AskInOrder ask k (map f (range_with_len m count)) (round ++ a ∷ [])
+order_more ask f k m zero round a o l h = absurd (omega arith)
+order_more ask f k m (suc count) [] a o l h = (rw (add-zero k, add-zero m) at h, tt)
+order_more ask f k m (suc count) (b ∷ round) a o l h =
+    let d : k + length (b ∷ round) ≡ k + 1 + length round = omega arith in
+    let e : m + length (b ∷ round) ≡ m + 1 + length round = omega arith in
+    let P : ℕ → Type 0 = λ n. AsksFor ask n (f (m + length (b ∷ round))) a in
+    let Q : ℕ → Type 0 = λ n. AsksFor ask (k + 1 + length round) (f n) a in
+    (o.0, order_more ask f (k + 1) (m + 1) count round a o.1 (omega arith) (subst Q e (subst P d h)))
+
+pub reads_later : (setup : Setup) (file name : List ℕ) (size c : ℕ) (calls more : List Call)
+    → list_all (λ (r : ℕ × List ℕ). nat_lt r.0 (from_of setup.chunk c)) (reads_of file calls) ≡ true → Cutting file name (from_of setup.chunk c) (to_of size setup.chunk c) more
+    → list_all (λ (r : ℕ × List ℕ). nat_lt r.0 (from_of setup.chunk (c + 1))) (reads_of file (calls ++ more)) ≡ true
+reads_later setup file name size c calls more b x =
+    rw (filter_map-append (read_of file) calls more) (all_more (λ (r : ℕ × List ℕ). nat_lt r.0 next) (reads_of file calls) (reads_of file more)
+    (all_imp (λ (r : ℕ × List ℕ). nat_lt r.0 from) (λ (r : ℕ × List ℕ). nat_lt r.0 next) early (reads_of file calls) b)
+    (all_imp (inside from to) (λ (r : ℕ × List ℕ). nat_lt r.0 next) late (reads_of file more) x.within))
+  where
+    from : ℕ
+    from = from_of setup.chunk c
+
+    to : ℕ
+    to = to_of size setup.chunk c
+
+    next : ℕ
+    next = from_of setup.chunk (c + 1)
+
+    early : (r : ℕ × List ℕ) → nat_lt r.0 from ≡ true → nat_lt r.0 next ≡ true
+    early r h = let low : r.0 < from = lt_of r.0 from h in let grows : from ≤ next = from_grows setup.chunk c in lt_true r.0 next (omega arith)
+
+    late : (r : ℕ × List ℕ) → inside from to r ≡ true → nat_lt r.0 next ≡ true
+    late r h =
+        let low : r.0 < to = lt_of r.0 to (and_parts (nat_le from r.0) (nat_lt r.0 to) h).1 in
+        let below : to ≤ next = ranges_apart size setup.chunk c (c + 1) (omega arith) in
+        lt_true r.0 next (omega arith)
+
+pub fresh_later : (setup : Setup) (t : ℕ) (file : List ℕ) (c k from : ℕ) (calls more : List Call) → c < k → k + 1 < 2 ^ 64
+    → filter_map (piece_of (chunk_file setup t (k + 1))) calls ≡ [] → list_all (own file (chunk_file setup t (c + 1)) from) more ≡ true
+    → filter_map (piece_of (chunk_file setup t (k + 1))) (calls ++ more) ≡ []
+fresh_later setup t file c k from calls more low small n o =
+    rw (filter_map-append (piece_of (chunk_file setup t (k + 1))) calls more)
+    (rw (n, own_pieces file (chunk_file setup t (c + 1)) (chunk_file setup t (k + 1)) from (chunk_files_differ setup t (c + 1) (k + 1) (omega arith) small (λ e. omega arith)) more o) refl)
+
+-- of a chunk that was not begun nothing was read and nothing written
+chunk_uncopied : (setup : Setup) (t : ℕ) (key : Parts) (file : List ℕ) (size c : ℕ) (calls : List Call)
+    → list_all (λ (r : ℕ × List ℕ). nat_lt r.0 (from_of setup.chunk c)) (reads_of file calls) ≡ true → filter_map (piece_of (chunk_file setup t (c + 1))) calls ≡ []
+    → is_copied setup t file (with_size file size calls) (c + 1) (chunk_part key size setup.chunk c) ≡ true
+chunk_uncopied setup t key file size c calls b n = rw (reads, wrote) refl
+  where
+    reads : reads_between file (from_of setup.chunk c) (to_of size setup.chunk c) calls ≡ []
+    reads = between_none file (from_of setup.chunk c) (to_of size setup.chunk c) (from_of setup.chunk c) calls (omega arith) b
+
+    wrote : appended (chunk_file setup t (c + 1)) calls ≡ []
+    wrote = ap concat n
+
+chunk_whole : (setup : Setup) (t : ℕ) (key : Parts) (file : List ℕ) (size c : ℕ) (calls more : List Call)
+    → list_all (λ (r : ℕ × List ℕ). nat_lt r.0 (from_of setup.chunk c)) (reads_of file calls) ≡ true → filter_map (piece_of (chunk_file setup t (c + 1))) calls ≡ []
+    → Cutting file (chunk_file setup t (c + 1)) (from_of setup.chunk c) (to_of size setup.chunk c) more
+    → length (appended (chunk_file setup t (c + 1)) more) ≡ to_of size setup.chunk c - from_of setup.chunk c
+    → WholeAt setup t key file size c (calls ++ more)
+chunk_whole setup t key file size c calls more b n x l = record {
+  copied = chunk_copied setup t key file size c calls more b n x;
+  long = rw wrote (rw l (nat_same (to_of size setup.chunk c - from_of setup.chunk c)));
+}
+  where
+    wrote : appended (chunk_file setup t (c + 1)) (calls ++ more) ≡ appended (chunk_file setup t (c + 1)) more
+    wrote = appended_only (chunk_file setup t (c + 1)) calls more n
+
+-- the front with the next chunk asked for
+pub front_asked : (setup : Setup) (t : ℕ) (key : Parts) (file : List ℕ) (size f : ℕ) (asked : List Asking) (calls more : List Call) (c : ℕ) (a : Asking)
+    → Going setup t key file size f asked calls c → c ≤ count_of size setup.chunk → count_of size setup.chunk + 1 < 2 ^ 64
+    → Cutting file (chunk_file setup t (c + 1)) (from_of setup.chunk c) (to_of size setup.chunk c) more → are_found (part_of file) (with_size file size calls) more ≡ true
+    → AsksFor (chunk_request setup t) (c + 1) (with_chunk setup.chunk c key) a → is_question a ≡ false
+    → length (appended (chunk_file setup t (c + 1)) more) ≡ to_of size setup.chunk c - from_of setup.chunk c
+    → Front setup t key file size f (asked ++ a ∷ []) (calls ++ more)
+front_asked setup t key file size f asked calls more c a g last small x is_found h differs l = record {
+  in_order = order_more (chunk_request setup t) (λ number. with_chunk setup.chunk number key) (f + 2) (f + 1) (count_of size setup.chunk - f) asked a g.front.in_order
+      (omega (arith, g.so_many)) (at_place (f + 2 + length asked) (f + 1 + length asked) (omega (arith, g.so_many)) g.so_many);
+  no_questions = all_more (λ q. not (is_question q)) asked (a ∷ []) g.front.no_questions (rw differs refl);
+  each_stored = rw (but_last asked a) g.all_stored;
+  names = λ n low. b.names n (omega (arith, length-append asked (a ∷ []), low));
+  changes = λ n low. b.changes n (omega (arith, length-append asked (a ∷ []), low));
+  lengths = b.lengths;
+  no_size = b.no_size;
+  whole = λ k low high. by_test k low (omega (arith, length-append asked (a ∷ []), high, g.so_many)) (nat_lt k c) refl;
+  removed = λ k low high. still_removed setup t file size k c from calls more (omega (arith, length-append asked (a ∷ []), high, g.so_many)) (omega arith) x.own_all
+      (g.others last k low (omega (arith, length-append asked (a ∷ []), high, g.so_many))) (g.removed k low (omega (arith, length-append asked (a ∷ []), high, g.so_many)));
+  next = λ high. at_next (f + 1 + length (asked ++ a ∷ [])) (f + 2 + length (asked ++ a ∷ [])) (omega (arith, length-append asked (a ∷ []), g.so_many)) (omega (arith, length-append asked (a ∷ []), g.so_many)) high;
+  found = b.found;
+}
+  where
+    name : List ℕ
+    name = chunk_file setup t (c + 1)
+
+    from : ℕ
+    from = from_of setup.chunk c
+
+    b : Front setup t key file size f asked (calls ++ more)
+    b = front_same setup t key file size f asked calls more c g last (omega arith) x is_found
+
+    at_place : (n k : ℕ) → n ≡ c + 1 → k ≡ c → AsksFor (chunk_request setup t) n (with_chunk setup.chunk k key) a
+    at_place n k d e =
+        let P : ℕ → Type 0 = λ m. AsksFor (chunk_request setup t) m (with_chunk setup.chunk k key) a in
+        let Q : ℕ → Type 0 = λ m. AsksFor (chunk_request setup t) (c + 1) (with_chunk setup.chunk m key) a in
+        subst P (sym d) (subst Q (sym e) h)
+
+    by_test : (k : ℕ) → f < k → k < c + 1 → (t' : Bool) → nat_lt k c ≡ t' → WholeAt setup t key file size k (calls ++ more)
+    by_test k low high true e = b.whole k low (omega (arith, lt_of k c e, g.so_many))
+    by_test k low high false e =
+        let not_below : c ≤ k = not_lt k c e in
+        let same : k ≡ c = omega arith in
+        let P : ℕ → Type 0 = λ m. WholeAt setup t key file size m (calls ++ more) in
+        subst P (sym same) (chunk_whole setup t key file size c calls more g.before (g.fresh c (omega arith) (omega arith)) x l)
+      where
+        not_lt : (m n : ℕ) → nat_lt m n ≡ false → n ≤ m
+        not_lt m n e = grind (arith, nat_tests)
+
+    at_next : (k n : ℕ) → k ≡ c + 1 → n ≡ c + 1 + 1 → k ≤ count_of size setup.chunk
+        → is_copied setup t file (with_size file size (calls ++ more)) n (chunk_part key size setup.chunk k) ≡ true
+    at_next k n e d high =
+        let P : ℕ → Type 0 = λ m. is_copied setup t file (with_size file size (calls ++ more)) n (chunk_part key size setup.chunk m) ≡ true in
+        let Q : ℕ → Type 0 = λ m. is_copied setup t file (with_size file size (calls ++ more)) m (chunk_part key size setup.chunk (c + 1)) ≡ true in
+        subst P (sym e) (subst Q (sym d) (chunk_uncopied setup t key file size (c + 1) (calls ++ more) (reads_later setup file name size c calls more g.before x)
+        (fresh_later setup t file c (c + 1) from calls more (omega arith) (omega arith) (g.fresh (c + 1) (omega arith) (omega arith)) x.own_all)))
