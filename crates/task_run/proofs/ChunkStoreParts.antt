@@ -50,7 +50,7 @@ pub keys_are : (setup : Setup) (key : Parts) (size : ℕ) → Chunked setup key 
 keys_are setup key size h =
     ap (λ l. map (λ (p : Part). p.key) l) (parts_are setup key size h) ∙ keys_of_parts setup key size (range_with_len 1 (count_of size setup.chunk))
 
-drop_range : (setup : Setup) (key : Parts) (size f m k : ℕ) → drop f (chunk_parts setup key size m k) ≡ chunk_parts setup key size (m + f) (k - f)
+pub drop_range : (setup : Setup) (key : Parts) (size f m k : ℕ) → drop f (chunk_parts setup key size m k) ≡ chunk_parts setup key size (m + f) (k - f)
 drop_range setup key size zero m k = let e : m + 0 ≡ m = omega arith in let d : k - 0 ≡ k = omega arith in rw (e, d) refl
 drop_range setup key size (suc f) m zero = let d : 0 - suc f ≡ 0 = omega arith in rw d refl
 drop_range setup key size (suc f) m (suc k) =
@@ -129,7 +129,7 @@ all_questions n (key ∷ keys) (a ∷ qs) o g =
     turned true e = apart e
     turned false e = refl
 
-done_stays : (v : Verdict) → is_done_at v ≡ true → not (is_gone v) ≡ true
+pub done_stays : (v : Verdict) → is_done_at v ≡ true → not (is_gone v) ≡ true
 done_stays (Done at) h = refl
 done_stays (Failed at) h = apart h
 done_stays (Absent at) h = apart h
@@ -190,7 +190,7 @@ found_there there rest q d n = count_front (λ a. is_question a && is_done a) th
 
 -- ---- what was asked, as a whole
 
-are_whole_from : (setup : Setup) (t : ℕ) (key : Parts) (file : List ℕ) (size m k : ℕ) (calls : List Call) (ts : List Asking) → length ts ≤ k
+pub are_whole_from : (setup : Setup) (t : ℕ) (key : Parts) (file : List ℕ) (size m k : ℕ) (calls : List Call) (ts : List Asking) → length ts ≤ k
     → ((c : ℕ) → m ≤ c → c < m + length ts → WholeAt setup t key file size c calls)
     → are_whole setup t file (with_size file size calls) (m + 1) (chunk_parts setup key size m k) ts ≡ true
 are_whole_from setup t key file size m k calls [] low w = refl
@@ -209,10 +209,10 @@ are_removed_from setup t m calls (a ∷ ts) r =
     let rest : are_removed setup t calls (m + 1 + 1) ts ≡ true = are_removed_from setup t (m + 1) calls ts (λ c least most. r c (omega arith) (omega arith)) in
     rw (first, rest) refl
 
-next_of : (setup : Setup) (t : ℕ) (key : Parts) (file : List ℕ) (size n m k : ℕ) (calls : List Call) → (0 < k → is_copied setup t file calls n (chunk_part key size setup.chunk m) ≡ true)
+pub next_of : (setup : Setup) (t : ℕ) (key : Parts) (file : List ℕ) (size n m k : ℕ) (calls : List Call) → (0 < k → is_copied setup t file calls n (chunk_part key size setup.chunk m) ≡ true)
     → is_next_copied setup t file calls n (chunk_parts setup key size m k) ≡ true
 next_of setup t key file size n m zero calls h = refl
 next_of setup t key file size n m (suc k) calls h = h (omega arith)
 
-short_all : {X : Type 0} (x : X) (xs : List X) → length (all_but_last (xs ++ x ∷ [])) ≡ length xs
+pub short_all : {X : Type 0} (x : X) (xs : List X) → length (all_but_last (xs ++ x ∷ [])) ≡ length xs
 short_all x xs = ap length (but_last xs x)
