@@ -131,7 +131,7 @@ asks_of setup t key file size f qs ts calls noted k p once whole = record {
 pub sought_length : (key : Parts) (chunk count f : ℕ) (qs : List Asking) → IsSought key chunk count f qs → length qs ≡ f + 1
 sought_length key chunk count f qs s = ap length s.asked_is ∙ length-append s.there (s.one ∷ []) ∙ ap (λ n. n + 1) s.so_many
 
-sought_split : (key : Parts) (chunk count f : ℕ) (qs ts : List Asking) → IsSought key chunk count f qs → list_all (λ a. not (is_question a)) ts ≡ true → Split (qs ++ ts) qs ts f
+pub sought_split : (key : Parts) (chunk count f : ℕ) (qs ts : List Asking) → IsSought key chunk count f qs → list_all (λ a. not (is_question a)) ts ≡ true → Split (qs ++ ts) qs ts f
 sought_split key chunk count f qs ts s h = split_of qs ts f all h (found_is ∙ s.so_many)
   where
     in_order : AskInOrder present_request 1 (chunk_keys key chunk 1 count) (s.there ++ s.one ∷ [])

@@ -1,0 +1,176 @@
+-- How a store in chunks ends, for each way in which a chunk went.
+use Rattle.std.proofs.Common.{◌≡◌, ◌≢◌, ◌∙◌, ℕ, zero, suc, ◌+◌, ◌-◌, ◌*◌, ◌^◌, ◌<◌, ◌≤◌, List, [], ◌∷◌, ◌++◌, length, map, refl, sym, ap, subst, arith, append-nil, append_assoc, take, drop, length-append, length-take-le, add-zero}
+use Rattle.std.specs.Prelude.{Bool, true, false, ◌&&◌, ◌||◌, not, nat_lt, ◌==◌, bytes_eq, count_by, MatchOption, Option, Some, None, is_some, is_none, Result, Ok, Err}
+use Rattle.std.specs.Bool.{MatchBool}
+use Rattle.std.specs.List.{list_all, list_any, filter_map, last_or, range_with_len}
+use Rattle.std.proofs.lemmas.List.Elements.{filter_map-append}
+use Rattle.std.proofs.lemmas.Bool.{and_parts}
+use Rattle.std.proofs.lemmas.Bool.Decides.{nat_tests}
+use Rattle.ann_key.specs.Keys.{Parts, with_chunk}
+use Rattle.annex_model.specs.Messages.{HostMessage}
+use Rattle.chunk_plan.specs.Layouts.{Part, chunk_part, count_of, from_of, to_of}
+use Rattle.journal_model.specs.declared.verdict.Verdict.{Verdict}
+use Rattle.journal_model.specs.declared.verdict.Verdict.TheVariants.{Done, Failed, Absent, Unknown, Unsupported, Ended, Unsent}
+use Rattle.journal_model.specs.declared.answer.Answer.{Answer}
+use Rattle.journal_model.specs.declared.answer.Answer.TheVariants as A
+use Rattle.task_text.specs.declared.task.Task.{Task}
+use Rattle.task_text.specs.declared.task.Work.TheVariants as W
+use Rattle.ann_outside.specs.declared.file_desk.Call.{Call}
+use Rattle.ann_outside.specs.declared.file_desk.Call.TheVariants.{Size, ReadAt, Create, Append, Remove}
+use Rattle.task_asker.specs.Askings.{Asking, Noting, is_gone}
+use Rattle.task_run.specs.declared.setup.Setup.{Setup}
+use Rattle.task_run.specs.Stops.{asking_stop, call_stop, verdict_stop, is_stop_last, stops_of, AnsweredBy, all_but_last, is_done, is_done_at, is_question, last_failed, failed_at}
+use Rattle.task_run.specs.Names.{chunk_file, chunk_files, part_of}
+use Rattle.task_run.specs.Requests.{AsksFor, AskInOrder}
+use Rattle.task_run.specs.Layouts.{parts_of_layout, keys_of_layout}
+use Rattle.task_run.specs.Reads.{lengths_found, is_removed}
+use Rattle.task_run.specs.Discipline.{are_among, names_in, changed_by, size_among, are_found, name_only, change_only, size_of_only}
+use Rattle.task_run.specs.Checks.{present_request}
+use Rattle.task_run.specs.Stores.{is_size, is_size_call, is_copied, are_whole, are_removed, is_next_copied, chunk_request, questions, found, transfers, missing_parts, parts_left, fits_length, begins_with_size, ChunkStoreAsks, ChunkStoreAnswers}
+use Rattle.task_run.specs.Runs.{RunOf, StoreCalls, WorkAsks, WorkAnswers, is_chunked}
+use Rattle.task_run.specs.ChunkStoring.{chunk_keys, is_missing_at, IsSought}
+use Rattle.task_run.proofs.Texts.{same_name, apart}
+use Rattle.task_run.proofs.GetCallsLaws.{nat_same}
+use Rattle.task_run.proofs.GetRuns.{but_last, all_taken, none_stop}
+use Rattle.task_run.proofs.ChunkStoreCalls.{lt_true, all_imp, all_more}
+use Rattle.task_run.proofs.ChunkStoreRuns.{WholeAt, Front, Going, with_size, is_free}
+use Rattle.task_run.proofs.ChunkStoreParts.{Chunked, chunk_parts, keys_are, missing_are, parts_many, parts_are, Split, split_of, there_questions, all_questions, order_front, found_there, no_more_found, done_stays, missing_stays, missing_undone, are_whole_from, are_removed_from, next_of, count_front, drop_range, short_all}
+use Rattle.std.specs.List.{concat}
+use Rattle.std.specs.Int.{div_ceil}
+use Rattle.std.proofs.Math.Nat.{mul-le-mul_right, suc-mul}
+use Rattle.std.proofs.lemmas.Grind.{div_ceil_times}
+use Rattle.ann_outside.specs.declared.file_desk.DeskError.{DeskError}
+use Rattle.ann_outside.specs.declared.file_desk.DeskError.TheVariants as E
+use Rattle.fetch_copy.specs.Copies.{copy_calls, EndsWhole, EndsEarly, RefusedBy, EndsRefused}
+use Rattle.fetch_copy.specs.CopiesOut.{reads_before}
+use Rattle.task_run.specs.Reads.{is_known, piece_of, appended, reads_of, bytes_of, is_at_end}
+use Rattle.std.specs.Prelude.{nat_le}
+use Rattle.task_run.proofs.Texts.{other_name}
+use Rattle.task_run.proofs.FileNames.{chunk_not_part}
+use Rattle.task_run.proofs.GetCallsLaws.{found_more, known_skip, known_add, known_copy, placed, bytes_placed}
+use Rattle.task_run.proofs.ChunkStoreCalls.{le_true, lt_of, lt_false, own, Cutting, Ending, cutting_cut, cutting_removed, cutting_create, cutting_none, cut_reads, cut_appends, known_created, known_removed, copy_found, copy_free}
+use Rattle.task_run.proofs.ChunkStoreRuns.{front_same, front_asked, still_removed, removed_last, reads_later, fresh_later}
+use Rattle.task_run.specs.ChunkStoring.{from_file, Cut, Chunk, NotMade, NotCopied, CutShort, Unasked, Undone, Settled, cut_calls, chunk_calls, chunk_asked, chunk_result, ChunkIs, is_settled_at}
+use Rattle.task_run.proofs.ChunkStoreEnds.{Missing, store_task, are_free, all_done_free, end_memory, end_call, end_asking, calls_of, front_asks, chunked_is, sought_free, sought_length, sought_split, pieces_of, asks_of, the_note, run_finished}
+use Rattle.std.proofs.lemmas.List.{drop_at}
+use Rattle.task_run.specs.Reads.{reads_between}
+use Rattle.task_run.specs.Stores.{IsStoredShort, IsShort, is_cut_short, copied_length, part_length, stored}
+use Rattle.task_run.specs.Ran.{refusal, undone_answer, answered}
+use Rattle.task_run.specs.ChunkStoring.{ended, removal_result, so_far}
+use Rattle.task_run.proofs.ChunkStoreRuns.{between_only, removed_last, removed_still}
+use Rattle.task_run.proofs.ChunkStoreSteps.{Copied, copied_of, last_read, whole_read, early_read, going_stored, full_range}
+
+-- ---- answers
+
+abbrev Answers : Setup → ℕ → Parts → List ℕ → List Asking → List Call → List Noting → Answer → Type 0
+Answers setup t key file asked calls noted answer = ChunkStoreAnswers setup t key file asked calls noted answer
+
+fits_is : (key : Parts) (file : List ℕ) (size : ℕ) (calls : List Call) → key.size ≡ Some size → fits_length key (lengths_found file (take 1 (with_size file size calls))) ≡ true
+fits_is key file size calls e = rw (same_name file) (rw e (nat_same size))
+
+stored_is : (asked qs ts : List Asking) (f : ℕ) → Split asked qs ts f → stored asked ≡ f + count_by is_done ts
+stored_is asked qs ts f s =
+    let P : List Asking → Type 0 = λ l. found asked + count_by is_done (transfers asked) ≡ f + count_by is_done l in
+    subst P s.behind (ap (λ n. n + count_by is_done (transfers asked)) s.there)
+
+all_removed : (setup : Setup) (t : ℕ) (asked qs ts : List Asking) (f : ℕ) (calls : List Call) → Split asked qs ts f → length qs ≡ f + 1
+    → ((c : ℕ) → f < c → c < f + 1 + length ts → is_removed (chunk_file setup t (c + 1)) calls ≡ true) → are_removed setup t calls (questions asked + 1) (transfers asked) ≡ true
+all_removed setup t asked qs ts f calls s many r =
+    let P : ℕ → Type 0 = λ n. are_removed setup t calls (n + 1) (transfers asked) ≡ true in
+    let Q : List Asking → Type 0 = λ l. are_removed setup t calls (f + 1 + 1) l ≡ true in
+    subst P (sym (s.so_many ∙ many)) (subst Q (sym s.behind) (are_removed_from setup t (f + 1) calls ts (λ c low high. r c (omega arith) high)))
+
+nat_differ : (a b : ℕ) → a < b → (a == b) ≡ false
+nat_differ a b h = grind (arith, nat_tests)
+
+-- of a request that failed
+answers_failed : (setup : Setup) (t : ℕ) (key : Parts) (file : List ℕ) (size f : ℕ) (asked qs ts : List Asking) (calls : List Call) (answer : Answer) → Chunked setup key size
+    → Split asked qs ts f → length qs ≡ f + 1 → ((c : ℕ) → f < c → c < f + 1 + length ts → is_removed (chunk_file setup t (c + 1)) (with_size file size calls) ≡ true)
+    → f + count_by is_done ts < count_of size setup.chunk → last_failed asked ≡ Some answer → Answers setup t key file asked (with_size file size calls) [] answer
+answers_failed setup t key file size f asked qs ts calls answer k s many r few last = record {
+  last_removed = all_removed setup t asked qs ts f (with_size file size calls) s many r;
+  answered = rw (fits_is key file size calls k.sized) (rw not_all (rw last refl));
+}
+  where
+    not_all : (stored asked == length (parts_of_layout key setup.chunk)) ≡ false
+    not_all =
+        let n : stored asked ≡ f + count_by is_done ts = stored_is asked qs ts f s in
+        let m : length (parts_of_layout key setup.chunk) ≡ count_of size setup.chunk = parts_many setup key size k in
+        nat_differ (stored asked) (length (parts_of_layout key setup.chunk)) (omega (arith, n, m, few))
+
+-- of a chunk that was cut short
+answers_short : (setup : Setup) (t : ℕ) (key : Parts) (file : List ℕ) (size f c : ℕ) (asked qs ts : List Asking) (calls : List Call) → Chunked setup key size
+    → Split asked qs ts f → length qs ≡ f + 1 → ((c : ℕ) → f < c → c < f + 1 + length ts → is_removed (chunk_file setup t (c + 1)) (with_size file size calls) ≡ true)
+    → f + count_by is_done ts < count_of size setup.chunk → last_failed asked ≡ None → c ≡ f + 1 + length ts → c ≤ count_of size setup.chunk → length asked + 1 ≡ c + 1
+    → is_cut_short setup t file (with_size file size calls) (c + 1) (chunk_part key size setup.chunk c) ≡ true
+    → Answers setup t key file asked (with_size file size calls) [] (A.Size (copied_length setup t (with_size file size calls) (c + 1)))
+answers_short setup t key file size f c asked qs ts calls k s many r few last place high n h = record {
+  last_removed = all_removed setup t asked qs ts f (with_size file size calls) s many r;
+  answered = rw (fits_is key file size calls k.sized) (rw not_all (rw last short));
+}
+  where
+    not_all : (stored asked == length (parts_of_layout key setup.chunk)) ≡ false
+    not_all =
+        let n : stored asked ≡ f + count_by is_done ts = stored_is asked qs ts f s in
+        let m : length (parts_of_layout key setup.chunk) ≡ count_of size setup.chunk = parts_many setup key size k in
+        nat_differ (stored asked) (length (parts_of_layout key setup.chunk)) (omega (arith, n, m, few))
+
+    left : parts_left key setup.chunk asked ≡ chunk_parts setup key size c (count_of size setup.chunk - f - length ts)
+    left =
+        ap (λ l. drop (length l) (drop (found asked) (parts_of_layout key setup.chunk))) s.behind
+        ∙ ap (λ n. drop (length ts) (drop n (parts_of_layout key setup.chunk))) s.there
+        ∙ ap (drop (length ts)) (missing_are setup key size f k)
+        ∙ drop_range setup key size (length ts) (f + 1) (count_of size setup.chunk - f)
+        ∙ ap (λ m. chunk_parts setup key size m (count_of size setup.chunk - f - length ts)) (sym place)
+
+    missing : nat_lt (found asked) (questions asked) ≡ true
+    missing = lt_true (found asked) (questions asked) (omega (arith, s.there, s.so_many, many))
+
+    by_parts : (m : ℕ) → 0 < m → IsShort setup t file asked (with_size file size calls) (chunk_parts setup key size c m) (A.Size (copied_length setup t (with_size file size calls) (c + 1)))
+    by_parts zero low = absurd (omega arith)
+    by_parts (suc m) low =
+        let P : ℕ → Type 0 = λ i. is_cut_short setup t file (with_size file size calls) i (chunk_part key size setup.chunk c) ≡ true in
+        let Q : ℕ → Type 0 = λ i. A.Size (copied_length setup t (with_size file size calls) (c + 1)) ≡ A.Size (copied_length setup t (with_size file size calls) i) in
+        (missing, subst P (sym n) h, subst Q (sym n) refl)
+
+    short : IsShort setup t file asked (with_size file size calls) (parts_left key setup.chunk asked) (A.Size (copied_length setup t (with_size file size calls) (c + 1)))
+    short =
+        let R : List Part → Type 0 = λ ps. IsShort setup t file asked (with_size file size calls) ps (A.Size (copied_length setup t (with_size file size calls) (c + 1))) in
+        subst R (sym left) (by_parts (count_of size setup.chunk - f - length ts) (omega (arith, place, high)))
+
+-- nothing failed
+none_failed : (xs : List Asking) → list_all (λ (a : Asking). is_none (failed_at a.verdict)) xs ≡ true → filter_map (λ (a : Asking). failed_at a.verdict) xs ≡ []
+none_failed xs h = none_stop (λ (a : Asking). failed_at a.verdict) xs h
+
+unfailed : (v : Verdict) → is_done_at v ≡ true → is_none (failed_at v) ≡ true
+unfailed (Done at) h = refl
+unfailed (Failed at) h = apart h
+unfailed (Absent at) h = apart h
+unfailed (Unknown at) h = apart h
+unfailed (Unsupported at) h = apart h
+unfailed (Ended why) h = apart h
+unfailed Unsent h = apart h
+
+missing_unfailed : (v : Verdict) → is_missing_at v ≡ true → is_none (failed_at v) ≡ true
+missing_unfailed (Done at) h = apart h
+missing_unfailed (Failed at) h = apart h
+missing_unfailed (Absent at) h = refl
+missing_unfailed (Unknown at) h = refl
+missing_unfailed (Unsupported at) h = refl
+missing_unfailed (Ended why) h = apart h
+missing_unfailed Unsent h = apart h
+
+sought_unfailed : (key : Parts) (chunk count f : ℕ) (qs ts : List Asking) → IsSought key chunk count f qs → list_all is_done ts ≡ true
+    → filter_map (λ (a : Asking). failed_at a.verdict) (qs ++ ts) ≡ []
+sought_unfailed key chunk count f qs ts s d = none_failed (qs ++ ts) (all_more (λ (a : Asking). is_none (failed_at a.verdict)) qs ts front (done_all ts d))
+  where
+    done_all : (xs : List Asking) → list_all is_done xs ≡ true → list_all (λ (a : Asking). is_none (failed_at a.verdict)) xs ≡ true
+    done_all xs h = all_imp is_done (λ (a : Asking). is_none (failed_at a.verdict)) (λ a k. unfailed a.verdict k) xs h
+
+    front : list_all (λ (a : Asking). is_none (failed_at a.verdict)) qs ≡ true
+    front =
+        let P : List Asking → Type 0 = λ l. list_all (λ (a : Asking). is_none (failed_at a.verdict)) l ≡ true in
+        subst P (sym s.asked_is) (all_more (λ (a : Asking). is_none (failed_at a.verdict)) s.there (s.one ∷ []) (done_all s.there s.each_there) (rw (missing_unfailed s.one.verdict s.missing) refl))
+
+pub last_failed_is : (xs : List Asking) (a : Asking) (answer : Answer) → filter_map (λ (a : Asking). failed_at a.verdict) xs ≡ [] → failed_at a.verdict ≡ Some answer → last_failed (xs ++ a ∷ []) ≡ Some answer
+last_failed_is xs a answer h k = ap (last_or None) (filter_map-append (λ (a : Asking). failed_at a.verdict) xs (a ∷ []) ∙ ap (λ l. l ++ filter_map (λ (a : Asking). failed_at a.verdict) (a ∷ [])) h) ∙ rw k refl
