@@ -150,7 +150,7 @@ copied_of setup t key file size f ts calls c pieces o g last w = record {
 -- ---- a chunk that was stored
 
 -- of a chunk before the last one the range isn't empty
-full_range : (size chunk c : ℕ) → 0 < chunk → 0 < c → c < count_of size chunk → 0 < to_of size chunk c - from_of chunk c
+pub full_range : (size chunk c : ℕ) → 0 < chunk → 0 < c → c < count_of size chunk → 0 < to_of size chunk c - from_of chunk c
 full_range size chunk c some first h = by_test (size == 0) refl h
   where
     one_more : (k : ℕ) → 0 < k → k * chunk ≡ (k - 1) * chunk + chunk

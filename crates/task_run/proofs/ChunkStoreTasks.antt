@@ -52,7 +52,8 @@ use Rattle.task_run.proofs.ChunkStoreCalls.{le_true, lt_of, lt_false, own, Cutti
 use Rattle.task_run.proofs.ChunkStoreRuns.{front_same, front_asked, still_removed, removed_last, reads_later, fresh_later}
 use Rattle.task_run.specs.ChunkStoring.{from_file, Cut, Chunk, NotMade, NotCopied, CutShort, Unasked, Undone, Settled, cut_calls, chunk_calls, chunk_asked, chunk_result, ChunkIs, is_settled_at}
 use Rattle.task_run.proofs.ChunkStoreEnds.{Missing, store_task, are_free, all_done_free, end_memory, end_call, end_asking, calls_of, front_asks, chunked_is, sought_free, sought_length, sought_split, pieces_of, asks_of, the_note, run_finished}
-use Rattle.std.proofs.lemmas.List.{drop_at}
+use Rattle.std.proofs.lemmas.List.Folds.{list_all-append}
+use Rattle.task_run.specs.Reads.{read_of}
 use Rattle.task_run.specs.Reads.{reads_between}
 use Rattle.task_run.specs.Stores.{IsStoredShort, IsShort, is_cut_short, copied_length, part_length, stored}
 use Rattle.task_run.specs.Ran.{refusal, undone_answer, answered}
@@ -174,3 +175,191 @@ sought_unfailed key chunk count f qs ts s d = none_failed (qs ++ ts) (all_more (
 
 pub last_failed_is : (xs : List Asking) (a : Asking) (answer : Answer) → filter_map (λ (a : Asking). failed_at a.verdict) xs ≡ [] → failed_at a.verdict ≡ Some answer → last_failed (xs ++ a ∷ []) ≡ Some answer
 last_failed_is xs a answer h k = ap (last_or None) (filter_map-append (λ (a : Asking). failed_at a.verdict) xs (a ∷ []) ∙ ap (λ l. l ++ filter_map (λ (a : Asking). failed_at a.verdict) (a ∷ [])) h) ∙ rw k refl
+
+-- ---- one chunk
+
+cutting_more : (file name : List ℕ) (from to : ℕ) (calls : List Call) (x : Call) → Cutting file name from to calls → own file name from x ≡ true → reads_of file (x ∷ []) ≡ []
+    → filter_map (piece_of name) (x ∷ []) ≡ [] → Cutting file name from to (calls ++ x ∷ [])
+cutting_more file name from to calls x c o r n = record {
+  own_all = all_more (own file name from) calls (x ∷ []) c.own_all (rw o refl);
+  run = rw reads c.run;
+  front = rw (wrote, reads) c.front;
+  within = rw reads c.within;
+}
+  where
+    reads : reads_of file (calls ++ x ∷ []) ≡ reads_of file calls
+    reads = filter_map-append (read_of file) calls (x ∷ []) ∙ ap (λ l. reads_of file calls ++ l) r ∙ append-nil (reads_of file calls)
+
+    wrote : appended name (calls ++ x ∷ []) ≡ appended name calls
+    wrote = ap concat (filter_map-append (piece_of name) calls (x ∷ []) ∙ ap (λ l. filter_map (piece_of name) calls ++ l) n ∙ append-nil (filter_map (piece_of name) calls))
+
+within_front : (to : ℕ) (xs ys zs : List Call) → list_all (reads_before to) (xs ++ (ys ++ zs)) ≡ true → list_all (reads_before to) (xs ++ ys) ≡ true
+within_front to xs ys zs h =
+    let e : (xs ++ ys) ++ zs ≡ xs ++ (ys ++ zs) = append_assoc xs ys zs in
+    let P : List Call → Type 0 = λ l. list_all (reads_before to) l ≡ true in
+    let k : list_all (reads_before to) ((xs ++ ys) ++ zs) ≡ true = subst P (sym e) h in
+    let s : list_all (reads_before to) ((xs ++ ys) ++ zs) ≡ (list_all (reads_before to) (xs ++ ys) && list_all (reads_before to) zs) = list_all-append (reads_before to) (xs ++ ys) zs in
+    (and_parts (list_all (reads_before to) (xs ++ ys)) (list_all (reads_before to) zs) (sym s ∙ k)).0
+
+pub asks_as : (setup : Setup) (t n : ℕ) (key : Parts) (request : Option HostMessage) (v : Verdict) → AsksFor (from_file (chunk_file setup t n)) 1 key (record { request = request; verdict = v })
+    → AsksFor (chunk_request setup t) n key (record { request = request; verdict = v })
+asks_as setup t n key None v h = h
+asks_as setup t n key (Some q) v h = h
+
+pub no_question : (name : List ℕ) (key : Parts) (request : Option HostMessage) (v : Verdict) → AsksFor (from_file name) 1 key (record { request = request; verdict = v })
+    → is_question (record { request = request; verdict = v }) ≡ false
+no_question name key None v h = refl
+no_question name key (Some q) v h = rw h.0 refl
+
+-- what a chunk that was stored makes of the store
+pub chunk_goes : (setup : Setup) (t : ℕ) (key : Parts) (file : List ℕ) (size f : ℕ) (qs ts : List Asking) (calls : List Call) (c : ℕ) (pieces : List (List ℕ)) (ending : List Call) (a : Asking)
+    → Missing setup key size f qs → Going setup t key file size f ts calls c → c ≤ count_of size setup.chunk
+    → ChunkIs file (chunk_file setup t (c + 1)) (from_of setup.chunk c) (to_of size setup.chunk c) (with_chunk setup.chunk c key) (Settled pieces ending a (Ok tt)) → is_done a ≡ true
+    → Going setup t key file size f (ts ++ a ∷ []) (calls ++ chunk_calls file (chunk_file setup t (c + 1)) (from_of setup.chunk c) (Settled pieces ending a (Ok tt))) (c + 1)
+chunk_goes setup t key file size f qs ts calls c pieces ending a m g last so d =
+    going_stored setup t key file size f ts calls (cut_calls file name from pieces ending) c a g last m.small copied (asks_as setup t (c + 1) (with_chunk setup.chunk c key) a.request a.verdict so.2)
+    (no_question name (with_chunk setup.chunk c key) a.request a.verdict so.2) d (ap length (cut_appends file name from pieces ending unwritten) ∙ so.1) other
+  where
+    name : List ℕ
+    name = chunk_file setup t (c + 1)
+
+    from : ℕ
+    from = from_of setup.chunk c
+
+    at : ℕ
+    at = from_of setup.chunk c + length (concat pieces)
+
+    read : (o : Option (List ℕ)) × (ending ≡ last_read file (from_of setup.chunk c + length (concat pieces)) o)
+    read = whole_read file at ((to_of size setup.chunk c - from) - length (concat pieces)) ending so.0.ends
+
+    copied : Copied setup t file size c calls (cut_calls file (chunk_file setup t (c + 1)) (from_of setup.chunk c) pieces ending)
+    copied =
+        let P : List Call → Type 0 = λ l. Copied setup t file size c calls (cut_calls file name from pieces l) in
+        let Q : List Call → Type 0 = λ l. list_all (reads_before (to_of size setup.chunk c)) (copy_calls file name from pieces ++ l) ≡ true in
+        subst P (sym read.1) (copied_of setup t key file size f ts calls c pieces read.0 g last (subst Q read.1 so.0.within))
+
+    unwritten : filter_map (piece_of (chunk_file setup t (c + 1))) ending ≡ []
+    unwritten = let P : List Call → Type 0 = λ l. filter_map (piece_of name) l ≡ [] in subst P (sym read.1) (none read.0)
+      where
+        none : (o : Option (List ℕ)) → filter_map (piece_of (chunk_file setup t (c + 1))) (last_read file (from_of setup.chunk c + length (concat pieces)) o) ≡ []
+        none None = refl
+        none (Some piece) = refl
+
+    some_chunk : (n : ℕ) → (n == 0) ≡ false → 0 < n
+    some_chunk zero h = apart (sym h)
+    some_chunk (suc n) h = omega arith
+
+    other : c < count_of size setup.chunk → bytes_eq file (chunk_file setup t (c + 1)) ≡ false
+    other next = other_name file name (λ same. absurd (omega (arith, so.0.itself same, so.1, full_range size setup.chunk c (some_chunk setup.chunk m.chunked.some) (omega (arith, g.so_many)) next)))
+
+at_end_snoc : (rs : List (ℕ × List ℕ)) (at : ℕ) → is_at_end (rs ++ (at, []) ∷ []) ≡ true
+at_end_snoc [] at = refl
+at_end_snoc (r ∷ []) at = refl
+at_end_snoc (r ∷ s ∷ rs) at = at_end_snoc (s ∷ rs) at
+
+-- how a chunk that was not stored ends the store
+pub chunk_ends : (setup : Setup) (t : ℕ) (key : Parts) (text file : List ℕ) (layouts : List (ℕ × ℕ)) (size f : ℕ) (qs ts : List Asking) (calls : List Call) (c : ℕ) (how : Chunk)
+    → Missing setup key size f qs → Going setup t key file size f ts calls c → c ≤ count_of size setup.chunk
+    → ChunkIs file (chunk_file setup t (c + 1)) (from_of setup.chunk c) (to_of size setup.chunk c) (with_chunk setup.chunk c key) how → (chunk_result how ≡ Ok None → ⊥)
+    → RunOf setup t (store_task text file) key layouts (qs ++ (ts ++ chunk_asked how)) (with_size file size (calls ++ chunk_calls file (chunk_file setup t (c + 1)) (from_of setup.chunk c) how)) []
+    (answered (so_far (chunk_result how)))
+chunk_ends setup t key text file layouts size f qs ts calls c how m g last so ne = by_how how so ne
+  where
+    name : List ℕ
+    name = chunk_file setup t (c + 1)
+
+    from : ℕ
+    from = from_of setup.chunk c
+
+    to : ℕ
+    to = to_of size setup.chunk c
+
+    small : c + 1 < 2 ^ 64
+    small = omega (arith, m.small)
+
+    most : f + length ts ≤ count_of size setup.chunk
+    most = omega (arith, g.so_many)
+
+    free_ts : are_free ts ≡ true
+    free_ts = all_done_free ts g.all_stored
+
+    at_of : List (List ℕ) → ℕ
+    at_of pieces = from_of setup.chunk c + length (concat pieces)
+
+    cut : List (List ℕ) → List Call → List Call
+    cut pieces ending = cut_calls file (chunk_file setup t (c + 1)) (from_of setup.chunk c) pieces ending
+
+    -- nothing more was asked
+    unasked : (more : List Call) (answer : Answer) → RunOf setup t (store_task text file) key layouts (qs ++ ts) (with_size file size (calls ++ more)) [] answer
+        → RunOf setup t (store_task text file) key layouts (qs ++ (ts ++ [])) (with_size file size (calls ++ more)) [] answer
+    unasked more answer h =
+        let P : List Asking → Type 0 = λ l. RunOf setup t (store_task text file) key layouts (qs ++ l) (with_size file size (calls ++ more)) [] answer in
+        subst P (sym (append-nil ts)) h
+
+    -- want of memory behind calls of the chunk
+    memory : (more : List Call) → Copied setup t file size c calls more → RunOf setup t (store_task text file) key layouts (qs ++ (ts ++ [])) (with_size file size (calls ++ more)) [] A.Memory
+    memory more x = unasked more A.Memory (end_memory setup t key text file layouts size f qs ts (calls ++ more) m most
+        (front_same setup t key file size f ts calls more c g last small x.cutting x.found) free_ts (all_more (λ call. is_none (call_stop (part_of file) call)) calls more g.free x.free))
+
+    none_more : RunOf setup t (store_task text file) key layouts (qs ++ (ts ++ [])) (with_size file size (calls ++ [])) [] A.Memory
+    none_more =
+        let P : List Call → Type 0 = λ l. RunOf setup t (store_task text file) key layouts (qs ++ ts) (with_size file size l) [] A.Memory in
+        unasked [] A.Memory (subst P (sym (append-nil calls)) (end_memory setup t key text file layouts size f qs ts calls m most g.front free_ts g.free))
+
+    -- a call that stops behind calls of the chunk
+    stopped : (more : List Call) (x : Call) (answer : Answer) → Cutting file (chunk_file setup t (c + 1)) (from_of setup.chunk c) (to_of size setup.chunk c) (more ++ x ∷ [])
+        → are_found (part_of file) (with_size file size calls) (more ++ x ∷ []) ≡ true → is_free file more ≡ true → call_stop (part_of file) x ≡ Some answer
+        → RunOf setup t (store_task text file) key layouts (qs ++ (ts ++ [])) (with_size file size (calls ++ (more ++ x ∷ []))) [] answer
+    stopped more x answer k is_found free s =
+        let e : (calls ++ more) ++ x ∷ [] ≡ calls ++ (more ++ x ∷ []) = append_assoc calls more (x ∷ []) in
+        let P : List Call → Type 0 = λ l. RunOf setup t (store_task text file) key layouts (qs ++ ts) (with_size file size l) [] answer in
+        let Q : List Call → Type 0 = λ l. Front setup t key file size f ts l in
+        unasked (more ++ x ∷ []) answer (subst P e (end_call setup t key text file layouts size f qs ts (calls ++ more) x answer m most
+        (subst Q (sym e) (front_same setup t key file size f ts calls (more ++ x ∷ []) c g last small k is_found)) free_ts
+        (all_more (λ call. is_none (call_stop (part_of file) call)) calls more g.free free) s))
+
+    -- behind pieces and perhaps one more read
+    copied : (pieces : List (List ℕ)) (o : Option (List ℕ)) (ending : List Call) → ending ≡ last_read file (from_of setup.chunk c + length (concat pieces)) o
+        → list_all (reads_before (to_of size setup.chunk c)) (copy_calls file (chunk_file setup t (c + 1)) (from_of setup.chunk c) pieces ++ ending) ≡ true
+        → Copied setup t file size c calls (cut_calls file (chunk_file setup t (c + 1)) (from_of setup.chunk c) pieces ending)
+    copied pieces o ending e w =
+        let P : List Call → Type 0 = λ l. Copied setup t file size c calls (cut_calls file name from pieces l) in
+        let Q : List Call → Type 0 = λ l. list_all (reads_before to) (copy_calls file name from pieces ++ l) ≡ true in
+        subst P (sym e) (copied_of setup t key file size f ts calls c pieces o g last (subst Q e w))
+
+    -- a call that was refused behind them
+    refused : (pieces : List (List ℕ)) (o : Option (List ℕ)) (x : Call) (answer : Answer)
+        → list_all (reads_before (to_of size setup.chunk c)) (copy_calls file (chunk_file setup t (c + 1)) (from_of setup.chunk c) pieces ++ (last_read file (from_of setup.chunk c + length (concat pieces)) o ++ x ∷ [])) ≡ true
+        → own file (chunk_file setup t (c + 1)) (from_of setup.chunk c) x ≡ true → reads_of file (x ∷ []) ≡ [] → filter_map (piece_of (chunk_file setup t (c + 1))) (x ∷ []) ≡ []
+        → ((past : List Call) → is_known file past ≡ true → is_known (chunk_file setup t (c + 1)) past ≡ true → are_found (part_of file) past (x ∷ []) ≡ true)
+        → call_stop (part_of file) x ≡ Some answer
+        → RunOf setup t (store_task text file) key layouts (qs ++ (ts ++ []))
+        (with_size file size (calls ++ cut_calls file (chunk_file setup t (c + 1)) (from_of setup.chunk c) pieces (last_read file (from_of setup.chunk c + length (concat pieces)) o ++ x ∷ []))) [] answer
+    refused pieces o x answer w o_x r_x p_x f_x s =
+        let k : Copied setup t file size c calls (cut_calls file name from pieces (last_read file (at_of pieces) o)) =
+        copied pieces o (last_read file (at_of pieces) o) refl (within_front to (copy_calls file name from pieces) (last_read file (at_of pieces) o) (x ∷ []) w) in
+        let e : cut_calls file name from pieces (last_read file (at_of pieces) o) ++ x ∷ [] ≡ cut_calls file name from pieces (last_read file (at_of pieces) o ++ x ∷ []) =
+        ap (λ l. Create name (Ok tt) ∷ l) (append_assoc (copy_calls file name from pieces) (last_read file (at_of pieces) o) (x ∷ [])) in
+        let P : List Call → Type 0 = λ l. RunOf setup t (store_task text file) key layouts (qs ++ (ts ++ [])) (with_size file size (calls ++ l)) [] answer in
+        subst P e (stopped (cut_calls file name from pieces (last_read file (at_of pieces) o)) x answer
+        (cutting_more file name from to (cut_calls file name from pieces (last_read file (at_of pieces) o)) x k.cutting o_x r_x p_x)
+        (found_more (part_of file) (with_size file size calls) (cut_calls file name from pieces (last_read file (at_of pieces) o)) (x ∷ []) k.found
+        (f_x (with_size file size (calls ++ cut_calls file name from pieces (last_read file (at_of pieces) o))) k.filed k.named)) k.free s)
+
+    by_how : (how : Chunk) → ChunkIs file (chunk_file setup t (c + 1)) (from_of setup.chunk c) (to_of size setup.chunk c) (with_chunk setup.chunk c key) how → (chunk_result how ≡ Ok None → ⊥)
+        → RunOf setup t (store_task text file) key layouts (qs ++ (ts ++ chunk_asked how)) (with_size file size (calls ++ chunk_calls file (chunk_file setup t (c + 1)) (from_of setup.chunk c) how)) []
+        (answered (so_far (chunk_result how)))
+    by_how (NotMade E.NoMemory) so ne = none_more
+    by_how (NotMade E.Failed) so ne = stopped [] (Create name (Err E.Failed)) A.FileFault (cutting_create file name from to (Err E.Failed)) refl refl refl
+    by_how (NotMade E.Missing) so ne = stopped [] (Create name (Err E.Missing)) A.NoFile (cutting_create file name from to (Err E.Missing)) refl refl refl
+    by_how (NotCopied pieces ending E.NoMemory) so ne =
+        let r : (o : Option (List ℕ)) × (ending ≡ last_read file (at_of pieces) o) = early_read file (at_of pieces) ending so.0 in
+        memory (cut pieces ending) (copied pieces r.0 ending r.1 so.1)
+    by_how (NotCopied pieces ending E.Failed) so ne = ?
+    by_how (NotCopied pieces ending E.Missing) so ne = ?
+    by_how (CutShort pieces ending) so ne = ?
+    by_how (Unasked pieces ending) so ne =
+        let r : (o : Option (List ℕ)) × (ending ≡ last_read file (at_of pieces) o) = whole_read file (at_of pieces) ((to - from) - length (concat pieces)) ending so.0.ends in
+        memory (cut pieces ending) (copied pieces r.0 ending r.1 so.0.within)
+    by_how (Undone pieces ending a) so ne = ?
+    by_how (Settled pieces ending a r) so ne = ?
