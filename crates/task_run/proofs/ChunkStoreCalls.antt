@@ -262,7 +262,7 @@ cut_appends file name from pieces ending h =
     ∙ append-nil (filter_map (piece_of name) (copy_calls file name from pieces)))
     ∙ copy_appends file name from pieces
 
-bytes_more : (reads more : List (ℕ × List ℕ)) → bytes_of (reads ++ more) ≡ bytes_of reads ++ bytes_of more
+pub bytes_more : (reads more : List (ℕ × List ℕ)) → bytes_of (reads ++ more) ≡ bytes_of reads ++ bytes_of more
 bytes_more [] more = refl
 bytes_more (r ∷ reads) more = ap (λ l. r.1 ++ l) (bytes_more reads more) ∙ sym (append_assoc r.1 (bytes_of reads) (bytes_of more))
 

@@ -98,7 +98,7 @@ between_none file from to hi xs h k = none_before from to hi (reads_of file xs) 
 appended_both : (name : List ℕ) (xs ys : List Call) → filter_map (piece_of name) ys ≡ [] → appended name (xs ++ ys) ≡ appended name xs
 appended_both name xs ys h = ap concat (filter_map-append (piece_of name) xs ys ∙ ap (λ l. filter_map (piece_of name) xs ++ l) h ∙ append-nil (filter_map (piece_of name) xs))
 
-appended_only : (name : List ℕ) (xs ys : List Call) → filter_map (piece_of name) xs ≡ [] → appended name (xs ++ ys) ≡ appended name ys
+pub appended_only : (name : List ℕ) (xs ys : List Call) → filter_map (piece_of name) xs ≡ [] → appended name (xs ++ ys) ≡ appended name ys
 appended_only name xs ys h = ap concat (filter_map-append (piece_of name) xs ys ∙ ap (λ l. l ++ filter_map (piece_of name) ys) h)
 
 -- ---- removals

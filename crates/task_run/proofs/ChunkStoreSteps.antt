@@ -169,22 +169,21 @@ full_range size chunk c some first h = by_test (size == 0) refl h
         let end : div_ceil size chunk * chunk < size + chunk = (div_ceil_times size chunk some).1 in
         omega arith
 
-pub going_stored : (setup : Setup) (t : ℕ) (key : Parts) (file : List ℕ) (size f : ℕ) (ts : List Asking) (calls more : List Call) (c : ℕ) (a : Asking)
+-- a chunk that was asked for, and its file removed
+pub record Removal (setup : Setup) (t : ℕ) (key : Parts) (file : List ℕ) (size f : ℕ) (ts : List Asking) (calls : List Call) (c : ℕ) : Type 0 where
+  pub front : Front setup t key file size f ts calls
+  pub free : is_free file calls ≡ true
+  pub removed : (k : ℕ) → f < k → k < c → is_removed (chunk_file setup t (k + 1)) (with_size file size calls) ≡ true
+
+pub removal_of : (setup : Setup) (t : ℕ) (key : Parts) (file : List ℕ) (size f : ℕ) (ts : List Asking) (calls more : List Call) (c : ℕ) (a : Asking)
     → Going setup t key file size f ts calls c → c ≤ count_of size setup.chunk → count_of size setup.chunk + 1 < 2 ^ 64 → Copied setup t file size c calls more
-    → AsksFor (chunk_request setup t) (c + 1) (with_chunk setup.chunk c key) a → is_question a ≡ false → is_done a ≡ true
+    → AsksFor (chunk_request setup t) (c + 1) (with_chunk setup.chunk c key) a → is_question a ≡ false
     → length (appended (chunk_file setup t (c + 1)) more) ≡ to_of size setup.chunk c - from_of setup.chunk c
-    → (c < count_of size setup.chunk → bytes_eq file (chunk_file setup t (c + 1)) ≡ false)
-    → Going setup t key file size f (ts ++ a ∷ []) (calls ++ (more ++ Remove (chunk_file setup t (c + 1)) (Ok tt) ∷ [])) (c + 1)
-going_stored setup t key file size f ts calls more c a g last small x h differs d l other = record {
+    → Removal setup t key file size f (ts ++ a ∷ []) (calls ++ (more ++ Remove (chunk_file setup t (c + 1)) (Ok tt) ∷ [])) (c + 1)
+removal_of setup t key file size f ts calls more c a g last small x h differs l = record {
   front = front_asked setup t key file size f ts calls (more ++ gone) c a g last small cutting found_all h differs (ap length wrote ∙ l);
-  all_stored = all_more is_done ts (a ∷ []) g.all_stored (rw d refl);
-  so_many = omega (arith, length-append ts (a ∷ []), g.so_many);
   free = all_more (λ call. is_none (call_stop (part_of file) call)) calls (more ++ gone) g.free (all_more (λ call. is_none (call_stop (part_of file) call)) more gone x.free refl);
   removed = λ k low high. by_test k low high (nat_lt k c) refl;
-  known = λ next. subst (λ (q : List Call). is_known file q ≡ true) (append_assoc (with_size file size calls) more gone) (known_removed file name (with_size file size (calls ++ more)) (turned (other (omega arith))) x.filed);
-  others = λ next k low high. others_too k low high (omega arith) (nat_lt k c) refl;
-  fresh = λ k low most. fresh_later setup t file c k from calls (more ++ gone) (omega arith) most (g.fresh k (omega arith) most) cutting.own_all;
-  before = reads_later setup file name size c calls (more ++ gone) g.before cutting;
 }
   where
     name : List ℕ
@@ -208,9 +207,6 @@ going_stored setup t key file size f ts calls more c a g last small x h differs 
     wrote : appended (chunk_file setup t (c + 1)) (more ++ gone) ≡ appended (chunk_file setup t (c + 1)) more
     wrote = ap concat (filter_map-append (piece_of name) more gone ∙ append-nil (filter_map (piece_of name) more))
 
-    turned : bytes_eq file name ≡ false → bytes_eq name file ≡ false
-    turned e = other_name name file (λ same. apart (sym e ∙ rw (sym same) (same_name name)))
-
     not_lt : (m n : ℕ) → nat_lt m n ≡ false → n ≤ m
     not_lt m n e = grind (arith, nat_tests)
 
@@ -223,6 +219,45 @@ going_stored setup t key file size f ts calls more c a g last small x h differs 
         let P : ℕ → Type 0 = λ m. is_removed (chunk_file setup t (m + 1)) (with_size file size (calls ++ (more ++ gone))) ≡ true in
         let Q : List Call → Type 0 = λ l. is_removed (chunk_file setup t (c + 1)) l ≡ true in
         subst P (sym same) (subst Q (append_assoc (with_size file size calls) more gone) (removed_last name (with_size file size (calls ++ more))))
+
+pub going_stored : (setup : Setup) (t : ℕ) (key : Parts) (file : List ℕ) (size f : ℕ) (ts : List Asking) (calls more : List Call) (c : ℕ) (a : Asking)
+    → Going setup t key file size f ts calls c → c ≤ count_of size setup.chunk → count_of size setup.chunk + 1 < 2 ^ 64 → Copied setup t file size c calls more
+    → AsksFor (chunk_request setup t) (c + 1) (with_chunk setup.chunk c key) a → is_question a ≡ false → is_done a ≡ true
+    → length (appended (chunk_file setup t (c + 1)) more) ≡ to_of size setup.chunk c - from_of setup.chunk c
+    → (c < count_of size setup.chunk → bytes_eq file (chunk_file setup t (c + 1)) ≡ false)
+    → Going setup t key file size f (ts ++ a ∷ []) (calls ++ (more ++ Remove (chunk_file setup t (c + 1)) (Ok tt) ∷ [])) (c + 1)
+going_stored setup t key file size f ts calls more c a g last small x h differs d l other = record {
+  front = r.front;
+  all_stored = all_more is_done ts (a ∷ []) g.all_stored (rw d refl);
+  so_many = omega (arith, length-append ts (a ∷ []), g.so_many);
+  free = r.free;
+  removed = r.removed;
+  known = λ next. subst (λ (q : List Call). is_known file q ≡ true) (append_assoc (with_size file size calls) more gone) (known_removed file name (with_size file size (calls ++ more)) (turned (other (omega arith))) x.filed);
+  others = λ next k low high. others_too k low high (omega arith) (nat_lt k c) refl;
+  fresh = λ k low most. fresh_later setup t file c k from calls (more ++ gone) (omega arith) most (g.fresh k (omega arith) most) cutting.own_all;
+  before = reads_later setup file name size c calls (more ++ gone) g.before cutting;
+}
+  where
+    name : List ℕ
+    name = chunk_file setup t (c + 1)
+
+    from : ℕ
+    from = from_of setup.chunk c
+
+    gone : List Call
+    gone = Remove (chunk_file setup t (c + 1)) (Ok tt) ∷ []
+
+    cutting : Cutting file (chunk_file setup t (c + 1)) (from_of setup.chunk c) (to_of size setup.chunk c) (more ++ gone)
+    cutting = cutting_removed file name from (to_of size setup.chunk c) more (Ok tt) x.cutting
+
+    r : Removal setup t key file size f (ts ++ a ∷ []) (calls ++ (more ++ Remove (chunk_file setup t (c + 1)) (Ok tt) ∷ [])) (c + 1)
+    r = removal_of setup t key file size f ts calls more c a g last small x h differs l
+
+    turned : bytes_eq file name ≡ false → bytes_eq name file ≡ false
+    turned e = other_name name file (λ same. apart (sym e ∙ rw (sym same) (same_name name)))
+
+    not_lt : (m n : ℕ) → nat_lt m n ≡ false → n ≤ m
+    not_lt m n e = grind (arith, nat_tests)
 
     others_too : (k : ℕ) → f < k → k < c + 1 → c < count_of size setup.chunk → (b : Bool) → nat_lt k c ≡ b → bytes_eq file (chunk_file setup t (k + 1)) ≡ false
     others_too k low high next true e = g.others last k low (lt_of k c e)

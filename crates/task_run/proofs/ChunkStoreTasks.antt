@@ -48,7 +48,7 @@ use Rattle.std.specs.Prelude.{nat_le}
 use Rattle.task_run.proofs.Texts.{other_name}
 use Rattle.task_run.proofs.FileNames.{chunk_not_part}
 use Rattle.task_run.proofs.GetCallsLaws.{found_more, known_skip, known_add, known_copy, placed, bytes_placed}
-use Rattle.task_run.proofs.ChunkStoreCalls.{le_true, lt_of, lt_false, own, Cutting, Ending, cutting_cut, cutting_removed, cutting_create, cutting_none, cut_reads, cut_appends, known_created, known_removed, copy_found, copy_free}
+use Rattle.task_run.proofs.ChunkStoreCalls.{le_true, lt_of, lt_false, own, Cutting, Ending, cutting_cut, cutting_removed, cutting_create, cutting_none, cut_reads, cut_appends, bytes_more, known_created, known_removed, copy_found, copy_free}
 use Rattle.task_run.proofs.ChunkStoreRuns.{front_same, front_asked, still_removed, removed_last, reads_later, fresh_later}
 use Rattle.task_run.specs.ChunkStoring.{from_file, Cut, Chunk, NotMade, NotCopied, CutShort, Unasked, Undone, Settled, cut_calls, chunk_calls, chunk_asked, chunk_result, ChunkIs, is_settled_at}
 use Rattle.task_run.proofs.ChunkStoreEnds.{Missing, store_task, are_free, all_done_free, end_memory, end_call, end_asking, calls_of, front_asks, chunked_is, sought_free, sought_length, sought_split, pieces_of, asks_of, the_note, run_finished}
@@ -58,8 +58,9 @@ use Rattle.task_run.specs.Reads.{reads_between}
 use Rattle.task_run.specs.Stores.{IsStoredShort, IsShort, is_cut_short, copied_length, part_length, stored}
 use Rattle.task_run.specs.Ran.{refusal, undone_answer, answered}
 use Rattle.task_run.specs.ChunkStoring.{ended, removal_result, so_far}
-use Rattle.task_run.proofs.ChunkStoreRuns.{between_only, removed_last, removed_still}
-use Rattle.task_run.proofs.ChunkStoreSteps.{Copied, copied_of, last_read, whole_read, early_read, going_stored, full_range}
+use Rattle.task_run.proofs.ChunkStoreRuns.{between_only, appended_only}
+use Rattle.task_run.specs.Stops.{error_stop}
+use Rattle.task_run.proofs.ChunkStoreSteps.{Copied, copied_of, last_read, whole_read, early_read, going_stored, removal_of, Removal, full_range}
 
 -- ---- answers
 
@@ -252,6 +253,9 @@ chunk_goes setup t key file size f qs ts calls c pieces ending a m g last so d =
     other : c < count_of size setup.chunk → bytes_eq file (chunk_file setup t (c + 1)) ≡ false
     other next = other_name file name (λ same. absurd (omega (arith, so.0.itself same, so.1, full_range size setup.chunk c (some_chunk setup.chunk m.chunked.some) (omega (arith, g.so_many)) next)))
 
+all_counted : (ts : List Asking) → list_all is_done ts ≡ true → count_by is_done ts ≡ length ts
+all_counted ts h = ap (count_by is_done) (sym (append-nil ts)) ∙ count_front is_done ts [] h refl
+
 at_end_snoc : (rs : List (ℕ × List ℕ)) (at : ℕ) → is_at_end (rs ++ (at, []) ∷ []) ≡ true
 at_end_snoc [] at = refl
 at_end_snoc (r ∷ []) at = refl
@@ -346,6 +350,82 @@ chunk_ends setup t key text file layouts size f qs ts calls c how m g last so ne
         (found_more (part_of file) (with_size file size calls) (cut_calls file name from pieces (last_read file (at_of pieces) o)) (x ∷ []) k.found
         (f_x (with_size file size (calls ++ cut_calls file name from pieces (last_read file (at_of pieces) o))) k.filed k.named)) k.free s)
 
+    no_copy : (e : DeskError) (answer : Answer) (pieces : List (List ℕ)) (ending : List Call) → error_stop false e ≡ Some answer
+        → RefusedBy e file (chunk_file setup t (c + 1)) (from_of setup.chunk c + length (concat pieces)) ending
+        → list_all (reads_before (to_of size setup.chunk c)) (copy_calls file (chunk_file setup t (c + 1)) (from_of setup.chunk c) pieces ++ ending) ≡ true
+        → RunOf setup t (store_task text file) key layouts (qs ++ (ts ++ [])) (with_size file size (calls ++ cut_calls file (chunk_file setup t (c + 1)) (from_of setup.chunk c) pieces ending)) [] answer
+    no_copy e answer pieces [] s h w = absurd h
+    no_copy e answer pieces (call ∷ []) s h w =
+        let P : Call → Type 0 = λ x. RunOf setup t (store_task text file) key layouts (qs ++ (ts ++ [])) (with_size file size (calls ++ cut pieces (x ∷ []))) [] answer in
+        let Q : Call → Type 0 = λ x. list_all (reads_before to) (copy_calls file name from pieces ++ x ∷ []) ≡ true in
+        let low : nat_le from (at_of pieces) ≡ true = le_true from (at_of pieces) (omega arith) in
+        subst P (sym h) (refused pieces None (ReadAt file (at_of pieces) (Err e)) answer (subst Q h w) (rw (same_name file, low) refl) (rw (same_name file) refl) refl (λ past k n. rw k refl) s)
+    no_copy e answer pieces (call ∷ next ∷ []) s h w =
+        let P : Call → Type 0 = λ x. RunOf setup t (store_task text file) key layouts (qs ++ (ts ++ [])) (with_size file size (calls ++ cut pieces (x ∷ next ∷ []))) [] answer in
+        let R : Call → Type 0 = λ x. RunOf setup t (store_task text file) key layouts (qs ++ (ts ++ [])) (with_size file size (calls ++ cut pieces (ReadAt file (at_of pieces) (Ok h.0) ∷ x ∷ []))) [] answer in
+        let Q : Call → Type 0 = λ x. list_all (reads_before to) (copy_calls file name from pieces ++ x ∷ next ∷ []) ≡ true in
+        let S : Call → Type 0 = λ x. list_all (reads_before to) (copy_calls file name from pieces ++ ReadAt file (at_of pieces) (Ok h.0) ∷ x ∷ []) ≡ true in
+        subst P (sym h.1) (subst R (sym h.2) (refused pieces (Some h.0) (Append name h.0 (Err e)) answer (subst S h.2 (subst Q h.1 w)) (same_name name) refl (rw (same_name name) refl) (λ past k n. rw n refl) s))
+    no_copy e answer pieces (call ∷ next ∷ another ∷ more) s h w = absurd h
+
+    -- what was cut short
+    cut_short : (pieces : List (List ℕ)) (ending : List Call) → Cut file (chunk_file setup t (c + 1)) (from_of setup.chunk c) (to_of size setup.chunk c) pieces ending
+        → length (concat pieces) < to_of size setup.chunk c - from_of setup.chunk c
+        → RunOf setup t (store_task text file) key layouts (qs ++ ts) (with_size file size (calls ++ cut_calls file (chunk_file setup t (c + 1)) (from_of setup.chunk c) pieces ending)) [] (A.Size (length (concat pieces)))
+    cut_short pieces ending k short = subst (λ (n : ℕ). RunOf setup t (store_task text file) key layouts (qs ++ ts) (with_size file size (calls ++ cut pieces ending)) [] (A.Size n)) long
+        (run_finished setup t key text file layouts (qs ++ ts) (with_size file size (calls ++ cut pieces ending)) [] (A.Size (copied_length setup t (with_size file size (calls ++ cut pieces ending)) (c + 1)))
+        (chunked_is setup key size m.chunked) (calls_of setup t key file size f qs ts (calls ++ cut pieces ending) m front) (front_asks setup t key file size f qs ts (calls ++ cut pieces ending) m most front) front.found
+        (all_more (λ a. is_none (asking_stop W.Store a)) qs ts (sought_free key setup.chunk (count_of size setup.chunk) f qs m.sought) free_ts)
+        (all_more (λ call. is_none (call_stop (part_of file) call)) calls (cut pieces ending) g.free x.free)
+        (rw (chunked_is setup key size m.chunked) (answers_short setup t key file size f c (qs ++ ts) qs ts (calls ++ cut pieces ending) m.chunked
+        (sought_split key setup.chunk (count_of size setup.chunk) f qs ts m.sought g.front.no_questions) (sought_length key setup.chunk (count_of size setup.chunk) f qs m.sought)
+        (λ j low high. still_removed setup t file size j c from calls (cut pieces ending) (omega (arith, g.so_many)) small x.cutting.own_all (g.others last j low (omega (arith, g.so_many))) (g.removed j low (omega (arith, g.so_many))))
+        few (ap (last_or None) (sought_unfailed key setup.chunk (count_of size setup.chunk) f qs ts m.sought g.all_stored)) (sym g.so_many) last
+        (omega (arith, length-append qs ts, sought_length key setup.chunk (count_of size setup.chunk) f qs m.sought, g.so_many)) is_short)))
+      where
+        r : (o : Option (List ℕ)) × (ending ≡ last_read file (from_of setup.chunk c + length (concat pieces)) o)
+        r = whole_read file (at_of pieces) ((to - from) - length (concat pieces)) ending k.ends
+
+        x : Copied setup t file size c calls (cut_calls file (chunk_file setup t (c + 1)) (from_of setup.chunk c) pieces ending)
+        x = copied pieces r.0 ending r.1 k.within
+
+        front : Front setup t key file size f ts (calls ++ cut_calls file (chunk_file setup t (c + 1)) (from_of setup.chunk c) pieces ending)
+        front = front_same setup t key file size f ts calls (cut pieces ending) c g last small x.cutting x.found
+
+        few : f + count_by is_done ts < count_of size setup.chunk
+        few = omega (arith, all_counted ts g.all_stored, g.so_many)
+
+        last_is : (ending : List Call) → EndsWhole file (from_of setup.chunk c + length (concat pieces)) (to_of size setup.chunk c - from_of setup.chunk c - length (concat pieces)) ending
+            → ending ≡ ReadAt file (from_of setup.chunk c + length (concat pieces)) (Ok []) ∷ []
+        last_is [] e = absurd (omega (arith, short, e))
+        last_is (call ∷ []) e = ap (λ y. y ∷ []) e
+        last_is (call ∷ next ∷ more) e = absurd e
+
+        reads : reads_between file (from_of setup.chunk c) (to_of size setup.chunk c) (calls ++ cut_calls file (chunk_file setup t (c + 1)) (from_of setup.chunk c) pieces ending)
+            ≡ placed (from_of setup.chunk c) pieces ++ (from_of setup.chunk c + length (concat pieces), []) ∷ []
+        reads =
+            between_only file from to calls (cut pieces ending) g.before x.cutting.within ∙ cut_reads file name from pieces ending
+            ∙ ap (λ l. placed from pieces ++ reads_of file l) (last_is ending k.ends)
+            ∙ ap (λ l. placed from pieces ++ l) one_read
+          where
+            one_read : reads_of file (ReadAt file (from_of setup.chunk c + length (concat pieces)) (Ok []) ∷ []) ≡ (from_of setup.chunk c + length (concat pieces), []) ∷ []
+            one_read = rw (same_name file) refl
+
+        unwritten : filter_map (piece_of (chunk_file setup t (c + 1))) ending ≡ []
+        unwritten = let P : List Call → Type 0 = λ l. filter_map (piece_of name) l ≡ [] in subst P (sym (last_is ending k.ends)) refl
+
+        wrote : appended (chunk_file setup t (c + 1)) (calls ++ cut_calls file (chunk_file setup t (c + 1)) (from_of setup.chunk c) pieces ending) ≡ concat pieces
+        wrote = appended_only name calls (cut pieces ending) (g.fresh c (omega arith) small) ∙ cut_appends file name from pieces ending unwritten
+
+        long : copied_length setup t (with_size file size (calls ++ cut_calls file (chunk_file setup t (c + 1)) (from_of setup.chunk c) pieces ending)) (c + 1) ≡ length (concat pieces)
+        long = ap length wrote
+
+        bytes : bytes_of (placed (from_of setup.chunk c) pieces ++ (from_of setup.chunk c + length (concat pieces), []) ∷ []) ≡ concat pieces
+        bytes = bytes_more (placed from pieces) ((at_of pieces, []) ∷ []) ∙ append-nil (bytes_of (placed from pieces)) ∙ bytes_placed from pieces
+
+        is_short : is_cut_short setup t file (with_size file size (calls ++ cut_calls file (chunk_file setup t (c + 1)) (from_of setup.chunk c) pieces ending)) (c + 1) (chunk_part key size setup.chunk c) ≡ true
+        is_short = rw (reads, wrote) (rw (at_end_snoc (placed from pieces) (at_of pieces), bytes) (rw (same_name (concat pieces), lt_true (length (concat pieces)) (to - from) short) refl))
+
     by_how : (how : Chunk) → ChunkIs file (chunk_file setup t (c + 1)) (from_of setup.chunk c) (to_of size setup.chunk c) (with_chunk setup.chunk c key) how → (chunk_result how ≡ Ok None → ⊥)
         → RunOf setup t (store_task text file) key layouts (qs ++ (ts ++ chunk_asked how)) (with_size file size (calls ++ chunk_calls file (chunk_file setup t (c + 1)) (from_of setup.chunk c) how)) []
         (answered (so_far (chunk_result how)))
@@ -355,9 +435,9 @@ chunk_ends setup t key text file layouts size f qs ts calls c how m g last so ne
     by_how (NotCopied pieces ending E.NoMemory) so ne =
         let r : (o : Option (List ℕ)) × (ending ≡ last_read file (at_of pieces) o) = early_read file (at_of pieces) ending so.0 in
         memory (cut pieces ending) (copied pieces r.0 ending r.1 so.1)
-    by_how (NotCopied pieces ending E.Failed) so ne = ?
-    by_how (NotCopied pieces ending E.Missing) so ne = ?
-    by_how (CutShort pieces ending) so ne = ?
+    by_how (NotCopied pieces ending E.Failed) so ne = no_copy E.Failed A.FileFault pieces ending refl so.0 so.1
+    by_how (NotCopied pieces ending E.Missing) so ne = no_copy E.Missing A.NoFile pieces ending refl so.0 so.1
+    by_how (CutShort pieces ending) so ne = unasked (cut pieces ending) (A.Size (length (concat pieces))) (cut_short pieces ending so.0 so.1)
     by_how (Unasked pieces ending) so ne =
         let r : (o : Option (List ℕ)) × (ending ≡ last_read file (at_of pieces) o) = whole_read file (at_of pieces) ((to - from) - length (concat pieces)) ending so.0.ends in
         memory (cut pieces ending) (copied pieces r.0 ending r.1 so.0.within)
