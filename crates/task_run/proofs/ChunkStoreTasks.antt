@@ -256,6 +256,30 @@ chunk_goes setup t key file size f qs ts calls c pieces ending a m g last so d =
 all_counted : (ts : List Asking) → list_all is_done ts ≡ true → count_by is_done ts ≡ length ts
 all_counted ts h = ap (count_by is_done) (sym (append-nil ts)) ∙ count_front is_done ts [] h refl
 
+pub whole_unwritten : (file name : List ℕ) (at left : ℕ) (ending : List Call) → EndsWhole file at left ending → filter_map (piece_of name) ending ≡ []
+whole_unwritten file name at left [] e = refl
+whole_unwritten file name at left (call ∷ []) e = rw e refl
+whole_unwritten file name at left (call ∷ next ∷ more) e = absurd e
+
+-- the answer of a request that stops the task
+stop_answer : (v : Verdict) → is_some (verdict_stop false v) ≡ true → (answer : Answer) × (verdict_stop false v ≡ Some answer) × (undone_answer v ≡ Some answer)
+stop_answer (Ended why) h = (A.Ended why, refl, refl)
+stop_answer Unsent h = (A.Unsent, refl, refl)
+stop_answer (Unsupported at) h = (A.Unsupported, refl, refl)
+stop_answer (Done at) h = apart h
+stop_answer (Failed at) h = apart h
+stop_answer (Absent at) h = apart h
+stop_answer (Unknown at) h = apart h
+
+settled_free : (v : Verdict) (b : Bool) → is_settled_at v ≡ true → is_none (verdict_stop b v) ≡ true
+settled_free (Done at) b h = refl
+settled_free (Failed at) b h = refl
+settled_free (Ended why) b h = apart h
+settled_free Unsent b h = apart h
+settled_free (Unsupported at) b h = apart h
+settled_free (Absent at) b h = apart h
+settled_free (Unknown at) b h = apart h
+
 at_end_snoc : (rs : List (ℕ × List ℕ)) (at : ℕ) → is_at_end (rs ++ (at, []) ∷ []) ≡ true
 at_end_snoc [] at = refl
 at_end_snoc (r ∷ []) at = refl
@@ -426,6 +450,124 @@ chunk_ends setup t key text file layouts size f qs ts calls c how m g last so ne
         is_short : is_cut_short setup t file (with_size file size (calls ++ cut_calls file (chunk_file setup t (c + 1)) (from_of setup.chunk c) pieces ending)) (c + 1) (chunk_part key size setup.chunk c) ≡ true
         is_short = rw (reads, wrote) (rw (at_end_snoc (placed from pieces) (at_of pieces), bytes) (rw (same_name (concat pieces), lt_true (length (concat pieces)) (to - from) short) refl))
 
+    -- the range was copied whole
+    all_copied : (pieces : List (List ℕ)) (ending : List Call) → Cut file (chunk_file setup t (c + 1)) (from_of setup.chunk c) (to_of size setup.chunk c) pieces ending
+        → Copied setup t file size c calls (cut_calls file (chunk_file setup t (c + 1)) (from_of setup.chunk c) pieces ending)
+    all_copied pieces ending k =
+        let r : (o : Option (List ℕ)) × (ending ≡ last_read file (at_of pieces) o) = whole_read file (at_of pieces) ((to - from) - length (concat pieces)) ending k.ends in
+        copied pieces r.0 ending r.1 k.within
+
+    wrote_all : (pieces : List (List ℕ)) (ending : List Call) → Cut file (chunk_file setup t (c + 1)) (from_of setup.chunk c) (to_of size setup.chunk c) pieces ending
+        → length (concat pieces) ≡ to_of size setup.chunk c - from_of setup.chunk c
+        → length (appended (chunk_file setup t (c + 1)) (cut_calls file (chunk_file setup t (c + 1)) (from_of setup.chunk c) pieces ending)) ≡ to_of size setup.chunk c - from_of setup.chunk c
+    wrote_all pieces ending k l = ap length (cut_appends file name from pieces ending (whole_unwritten file name (at_of pieces) ((to - from) - length (concat pieces)) ending k.ends)) ∙ l
+
+    most_too : (a : Asking) → f + length (ts ++ a ∷ []) ≤ count_of size setup.chunk
+    most_too a = omega (arith, length-append ts (a ∷ []), g.so_many)
+
+    asked_front : (more : List Call) (a : Asking) → Cutting file (chunk_file setup t (c + 1)) (from_of setup.chunk c) (to_of size setup.chunk c) more
+        → are_found (part_of file) (with_size file size calls) more ≡ true → AsksFor (from_file (chunk_file setup t (c + 1))) 1 (with_chunk setup.chunk c key) a
+        → length (appended (chunk_file setup t (c + 1)) more) ≡ to_of size setup.chunk c - from_of setup.chunk c → Front setup t key file size f (ts ++ a ∷ []) (calls ++ more)
+    asked_front more a k is_found h l =
+        front_asked setup t key file size f ts calls more c a g last m.small k is_found (asks_as setup t (c + 1) (with_chunk setup.chunk c key) a.request a.verdict h)
+        (no_question name (with_chunk setup.chunk c key) a.request a.verdict h) l
+
+    undone : (pieces : List (List ℕ)) (ending : List Call) (a : Asking) → Cut file (chunk_file setup t (c + 1)) (from_of setup.chunk c) (to_of size setup.chunk c) pieces ending
+        → length (concat pieces) ≡ to_of size setup.chunk c - from_of setup.chunk c → AsksFor (from_file (chunk_file setup t (c + 1))) 1 (with_chunk setup.chunk c key) a
+        → is_some (verdict_stop false a.verdict) ≡ true
+        → RunOf setup t (store_task text file) key layouts (qs ++ (ts ++ a ∷ [])) (with_size file size (calls ++ cut_calls file (chunk_file setup t (c + 1)) (from_of setup.chunk c) pieces ending)) []
+        (answered (so_far (Ok (undone_answer a.verdict))))
+    undone pieces ending a k l h s =
+        let v : (answer : Answer) × (verdict_stop false a.verdict ≡ Some answer) × (undone_answer a.verdict ≡ Some answer) = stop_answer a.verdict s in
+        let x : Copied setup t file size c calls (cut_calls file name from pieces ending) = all_copied pieces ending k in
+        let P : Option Answer → Type 0 = λ o. RunOf setup t (store_task text file) key layouts (qs ++ (ts ++ a ∷ [])) (with_size file size (calls ++ cut pieces ending)) [] (answered (so_far (Ok o))) in
+        let stops : asking_stop W.Store a ≡ Some v.0 = rw (no_question name (with_chunk setup.chunk c key) a.request a.verdict h) v.1 in
+        subst P (sym v.2) (end_asking setup t key text file layouts size f qs ts a (calls ++ cut pieces ending) v.0 m (most_too a)
+        (asked_front (cut pieces ending) a x.cutting x.found h (wrote_all pieces ending k l)) free_ts stops
+        (all_more (λ call. is_none (call_stop (part_of file) call)) calls (cut pieces ending) g.free x.free))
+
+    free_too : (a : Asking) → is_settled_at a.verdict ≡ true → are_free (ts ++ a ∷ []) ≡ true
+    free_too a h = all_more (λ q. is_none (asking_stop W.Store q)) ts (a ∷ []) free_ts (rw (settled_free a.verdict (is_question a) h) refl)
+
+    -- the removal of the chunk's file was refused
+    removal_stopped : (pieces : List (List ℕ)) (ending : List Call) (a : Asking) (e : DeskError) (answer : Answer)
+        → Cut file (chunk_file setup t (c + 1)) (from_of setup.chunk c) (to_of size setup.chunk c) pieces ending
+        → length (concat pieces) ≡ to_of size setup.chunk c - from_of setup.chunk c → AsksFor (from_file (chunk_file setup t (c + 1))) 1 (with_chunk setup.chunk c key) a
+        → is_settled_at a.verdict ≡ true → call_stop (part_of file) (Remove (chunk_file setup t (c + 1)) (Err e)) ≡ Some answer
+        → RunOf setup t (store_task text file) key layouts (qs ++ (ts ++ a ∷ []))
+        (with_size file size (calls ++ (cut_calls file (chunk_file setup t (c + 1)) (from_of setup.chunk c) pieces ending ++ Remove (chunk_file setup t (c + 1)) (Err e) ∷ []))) [] answer
+    removal_stopped pieces ending a e answer k l h s stop =
+        let x : Copied setup t file size c calls (cut_calls file name from pieces ending) = all_copied pieces ending k in
+        let gone : Call = Remove name (Err e) in
+        let j : (calls ++ cut pieces ending) ++ Remove name (Err e) ∷ [] ≡ calls ++ (cut pieces ending ++ Remove name (Err e) ∷ []) = append_assoc calls (cut pieces ending) (Remove name (Err e) ∷ []) in
+        let P : List Call → Type 0 = λ q. RunOf setup t (store_task text file) key layouts (qs ++ (ts ++ a ∷ [])) (with_size file size q) [] answer in
+        let Q : List Call → Type 0 = λ q. Front setup t key file size f (ts ++ a ∷ []) q in
+        let wrote : appended name (cut pieces ending ++ Remove name (Err e) ∷ []) ≡ appended name (cut pieces ending) =
+        ap concat (filter_map-append (piece_of name) (cut pieces ending) (Remove name (Err e) ∷ []) ∙ append-nil (filter_map (piece_of name) (cut pieces ending))) in
+        let removes : are_found (part_of file) (with_size file size (calls ++ cut pieces ending)) (Remove name (Err e) ∷ []) ≡ true = rw (chunk_not_part setup t (c + 1) file) (rw x.named refl) in
+        subst P j (end_call setup t key text file layouts size f qs (ts ++ a ∷ []) (calls ++ cut pieces ending) (Remove name (Err e)) answer m (most_too a)
+        (subst Q (sym j) (asked_front (cut pieces ending ++ Remove name (Err e) ∷ []) a (cutting_removed file name from to (cut pieces ending) (Err e) x.cutting)
+        (found_more (part_of file) (with_size file size calls) (cut pieces ending) (Remove name (Err e) ∷ []) x.found removes) h (ap length wrote ∙ wrote_all pieces ending k l)))
+        (free_too a s) (all_more (λ call. is_none (call_stop (part_of file) call)) calls (cut pieces ending) g.free x.free) stop)
+
+    -- the chunk's file wasn't removed
+    unremoved : (pieces : List (List ℕ)) (ending : List Call) (a : Asking) (e : DeskError) → Cut file (chunk_file setup t (c + 1)) (from_of setup.chunk c) (to_of size setup.chunk c) pieces ending
+        → length (concat pieces) ≡ to_of size setup.chunk c - from_of setup.chunk c → AsksFor (from_file (chunk_file setup t (c + 1))) 1 (with_chunk setup.chunk c key) a
+        → is_settled_at a.verdict ≡ true
+        → RunOf setup t (store_task text file) key layouts (qs ++ (ts ++ a ∷ []))
+        (with_size file size (calls ++ chunk_calls file (chunk_file setup t (c + 1)) (from_of setup.chunk c) (Settled pieces ending a (Err e)))) [] (answered (so_far (ended (refusal e))))
+    unremoved pieces ending a E.NoMemory k l h s =
+        let x : Copied setup t file size c calls (cut_calls file name from pieces ending) = all_copied pieces ending k in
+        let P : List Call → Type 0 = λ q. RunOf setup t (store_task text file) key layouts (qs ++ (ts ++ a ∷ [])) (with_size file size (calls ++ q)) [] A.Memory in
+        subst P (sym (append-nil (cut pieces ending))) (end_memory setup t key text file layouts size f qs (ts ++ a ∷ []) (calls ++ cut pieces ending) m (most_too a)
+        (asked_front (cut pieces ending) a x.cutting x.found h (wrote_all pieces ending k l)) (free_too a s)
+        (all_more (λ call. is_none (call_stop (part_of file) call)) calls (cut pieces ending) g.free x.free))
+    unremoved pieces ending a E.Failed k l h s = removal_stopped pieces ending a E.Failed A.FileFault k l h s refl
+    unremoved pieces ending a E.Missing k l h s = removal_stopped pieces ending a E.Missing A.NoFile k l h s (rw (chunk_not_part setup t (c + 1) file) refl)
+
+    -- the request failed, and the chunk's file was removed
+    failed : (pieces : List (List ℕ)) (ending : List Call) (a : Asking) (at : ℕ) → Cut file (chunk_file setup t (c + 1)) (from_of setup.chunk c) (to_of size setup.chunk c) pieces ending
+        → length (concat pieces) ≡ to_of size setup.chunk c - from_of setup.chunk c → AsksFor (from_file (chunk_file setup t (c + 1))) 1 (with_chunk setup.chunk c key) a
+        → a.verdict ≡ Failed at
+        → RunOf setup t (store_task text file) key layouts (qs ++ (ts ++ a ∷ []))
+        (with_size file size (calls ++ (cut_calls file (chunk_file setup t (c + 1)) (from_of setup.chunk c) pieces ending ++ Remove (chunk_file setup t (c + 1)) (Ok tt) ∷ []))) [] (A.Failed at)
+    failed pieces ending a at k l h v =
+        run_finished setup t key text file layouts (qs ++ (ts ++ a ∷ [])) (with_size file size (calls ++ (cut pieces ending ++ Remove name (Ok tt) ∷ []))) [] (A.Failed at)
+        (chunked_is setup key size m.chunked) (calls_of setup t key file size f qs (ts ++ a ∷ []) (calls ++ (cut pieces ending ++ Remove name (Ok tt) ∷ [])) m r.front)
+        (front_asks setup t key file size f qs (ts ++ a ∷ []) (calls ++ (cut pieces ending ++ Remove name (Ok tt) ∷ [])) m (most_too a) r.front) r.front.found
+        (all_more (λ q. is_none (asking_stop W.Store q)) qs (ts ++ a ∷ []) (sought_free key setup.chunk (count_of size setup.chunk) f qs m.sought) (free_too a settled)) r.free
+        (rw (chunked_is setup key size m.chunked) (answers_failed setup t key file size f (qs ++ (ts ++ a ∷ [])) qs (ts ++ a ∷ []) (calls ++ (cut pieces ending ++ Remove name (Ok tt) ∷ [])) (A.Failed at) m.chunked
+        (sought_split key setup.chunk (count_of size setup.chunk) f qs (ts ++ a ∷ []) m.sought r.front.no_questions) (sought_length key setup.chunk (count_of size setup.chunk) f qs m.sought)
+        (λ j low high. r.removed j low (omega (arith, length-append ts (a ∷ []), g.so_many, high))) few last_is))
+      where
+        r : Removal setup t key file size f (ts ++ a ∷ []) (calls ++ (cut_calls file (chunk_file setup t (c + 1)) (from_of setup.chunk c) pieces ending ++ Remove (chunk_file setup t (c + 1)) (Ok tt) ∷ [])) (c + 1)
+        r = removal_of setup t key file size f ts calls (cut pieces ending) c a g last m.small (all_copied pieces ending k) (asks_as setup t (c + 1) (with_chunk setup.chunk c key) a.request a.verdict h)
+            (no_question name (with_chunk setup.chunk c key) a.request a.verdict h) (wrote_all pieces ending k l)
+
+        settled : is_settled_at a.verdict ≡ true
+        settled = rw v refl
+
+        few : f + count_by is_done (ts ++ a ∷ []) < count_of size setup.chunk
+        few = let n : count_by is_done (ts ++ a ∷ []) ≡ length ts = count_front is_done ts (a ∷ []) g.all_stored (rw v refl) in omega (arith, n, g.so_many)
+
+        last_is : last_failed (qs ++ (ts ++ a ∷ [])) ≡ Some (A.Failed at)
+        last_is =
+            let P : List Asking → Type 0 = λ q. last_failed q ≡ Some (A.Failed at) in
+            subst P (append_assoc qs ts (a ∷ [])) (last_failed_is (qs ++ ts) a (A.Failed at) (sought_unfailed key setup.chunk (count_of size setup.chunk) f qs ts m.sought g.all_stored) (rw v refl))
+
+    removed : (pieces : List (List ℕ)) (ending : List Call) (a : Asking) (v : Verdict) → Cut file (chunk_file setup t (c + 1)) (from_of setup.chunk c) (to_of size setup.chunk c) pieces ending
+        → length (concat pieces) ≡ to_of size setup.chunk c - from_of setup.chunk c → AsksFor (from_file (chunk_file setup t (c + 1))) 1 (with_chunk setup.chunk c key) a
+        → a.verdict ≡ v → is_settled_at v ≡ true → (undone_answer v ≡ None → ⊥)
+        → RunOf setup t (store_task text file) key layouts (qs ++ (ts ++ a ∷ []))
+        (with_size file size (calls ++ (cut_calls file (chunk_file setup t (c + 1)) (from_of setup.chunk c) pieces ending ++ Remove (chunk_file setup t (c + 1)) (Ok tt) ∷ []))) [] (answered (so_far (Ok (undone_answer v))))
+    removed pieces ending a (Done at) k l h e s ne = absurd (ne refl)
+    removed pieces ending a (Failed at) k l h e s ne = failed pieces ending a at k l h e
+    removed pieces ending a (Absent at) k l h e s ne = apart s
+    removed pieces ending a (Unknown at) k l h e s ne = apart s
+    removed pieces ending a (Unsupported at) k l h e s ne = apart s
+    removed pieces ending a (Ended why) k l h e s ne = apart s
+    removed pieces ending a Unsent k l h e s ne = apart s
+
     by_how : (how : Chunk) → ChunkIs file (chunk_file setup t (c + 1)) (from_of setup.chunk c) (to_of size setup.chunk c) (with_chunk setup.chunk c key) how → (chunk_result how ≡ Ok None → ⊥)
         → RunOf setup t (store_task text file) key layouts (qs ++ (ts ++ chunk_asked how)) (with_size file size (calls ++ chunk_calls file (chunk_file setup t (c + 1)) (from_of setup.chunk c) how)) []
         (answered (so_far (chunk_result how)))
@@ -441,5 +583,6 @@ chunk_ends setup t key text file layouts size f qs ts calls c how m g last so ne
     by_how (Unasked pieces ending) so ne =
         let r : (o : Option (List ℕ)) × (ending ≡ last_read file (at_of pieces) o) = whole_read file (at_of pieces) ((to - from) - length (concat pieces)) ending so.0.ends in
         memory (cut pieces ending) (copied pieces r.0 ending r.1 so.0.within)
-    by_how (Undone pieces ending a) so ne = ?
-    by_how (Settled pieces ending a r) so ne = ?
+    by_how (Undone pieces ending a) so ne = undone pieces ending a so.0 so.1 so.2 so.3
+    by_how (Settled pieces ending a (Ok done)) so ne = removed pieces ending a a.verdict so.0 so.1 so.2 refl so.3 (λ e. ne (ap Ok e))
+    by_how (Settled pieces ending a (Err e)) so ne = unremoved pieces ending a e so.0 so.1 so.2 so.3
