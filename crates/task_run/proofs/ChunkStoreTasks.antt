@@ -1,5 +1,5 @@
 -- How a store in chunks ends, for each way in which a chunk went.
-use Rattle.std.proofs.Common.{◌≡◌, ◌≢◌, ◌∙◌, ℕ, zero, suc, ◌+◌, ◌-◌, ◌*◌, ◌^◌, ◌<◌, ◌≤◌, List, [], ◌∷◌, ◌++◌, length, map, refl, sym, ap, subst, arith, append-nil, append_assoc, take, drop, length-append, length-take-le, add-zero}
+use Rattle.std.proofs.Common.{◌≡◌, ◌≢◌, ◌∙◌, ℕ, zero, suc, ◌+◌, ◌-◌, ◌*◌, ◌^◌, ◌<◌, ◌≤◌, List, [], ◌∷◌, ◌++◌, length, map, refl, sym, ap, subst, arith, append-nil, append_assoc, take, drop, length-append, length-take-le, add-zero, eq-eqb}
 use Rattle.std.specs.Prelude.{Bool, true, false, ◌&&◌, ◌||◌, not, nat_lt, ◌==◌, bytes_eq, count_by, MatchOption, Option, Some, None, is_some, is_none, Result, Ok, Err}
 use Rattle.std.specs.Bool.{MatchBool}
 use Rattle.std.specs.List.{list_all, list_any, filter_map, last_or, range_with_len}
@@ -67,10 +67,10 @@ use Rattle.task_run.proofs.ChunkStoreSteps.{Copied, copied_of, last_read, whole_
 abbrev Answers : Setup → ℕ → Parts → List ℕ → List Asking → List Call → List Noting → Answer → Type 0
 Answers setup t key file asked calls noted answer = ChunkStoreAnswers setup t key file asked calls noted answer
 
-fits_is : (key : Parts) (file : List ℕ) (size : ℕ) (calls : List Call) → key.size ≡ Some size → fits_length key (lengths_found file (take 1 (with_size file size calls))) ≡ true
+pub fits_is : (key : Parts) (file : List ℕ) (size : ℕ) (calls : List Call) → key.size ≡ Some size → fits_length key (lengths_found file (take 1 (with_size file size calls))) ≡ true
 fits_is key file size calls e = rw (same_name file) (rw e (nat_same size))
 
-stored_is : (asked qs ts : List Asking) (f : ℕ) → Split asked qs ts f → stored asked ≡ f + count_by is_done ts
+pub stored_is : (asked qs ts : List Asking) (f : ℕ) → Split asked qs ts f → stored asked ≡ f + count_by is_done ts
 stored_is asked qs ts f s =
     let P : List Asking → Type 0 = λ l. found asked + count_by is_done (transfers asked) ≡ f + count_by is_done l in
     subst P s.behind (ap (λ n. n + count_by is_done (transfers asked)) s.there)
@@ -99,6 +99,20 @@ answers_failed setup t key file size f asked qs ts calls answer k s many r few l
         let n : stored asked ≡ f + count_by is_done ts = stored_is asked qs ts f s in
         let m : length (parts_of_layout key setup.chunk) ≡ count_of size setup.chunk = parts_many setup key size k in
         nat_differ (stored asked) (length (parts_of_layout key setup.chunk)) (omega (arith, n, m, few))
+
+-- of all chunks
+pub answers_stored : (setup : Setup) (t : ℕ) (key : Parts) (file : List ℕ) (size f : ℕ) (asked qs ts : List Asking) (calls : List Call) (note : Noting) → Chunked setup key size
+    → Split asked qs ts f → length qs ≡ f + 1 → ((c : ℕ) → f < c → c < f + 1 + length ts → is_removed (chunk_file setup t (c + 1)) (with_size file size calls) ≡ true)
+    → f + count_by is_done ts ≡ count_of size setup.chunk → Answers setup t key file asked (with_size file size calls) (note ∷ []) A.Stored
+answers_stored setup t key file size f asked qs ts calls note k s many r all = record {
+  last_removed = all_removed setup t asked qs ts f (with_size file size calls) s many r;
+  answered = rw (fits_is key file size calls k.sized) (rw is_all (refl, refl));
+}
+  where
+    is_all : (stored asked == length (parts_of_layout key setup.chunk)) ≡ true
+    is_all =
+        let m : length (parts_of_layout key setup.chunk) ≡ count_of size setup.chunk = parts_many setup key size k in
+        eq-eqb (stored asked) (length (parts_of_layout key setup.chunk)) (stored_is asked qs ts f s ∙ all ∙ sym m)
 
 -- of a chunk that was cut short
 answers_short : (setup : Setup) (t : ℕ) (key : Parts) (file : List ℕ) (size f c : ℕ) (asked qs ts : List Asking) (calls : List Call) → Chunked setup key size
@@ -253,7 +267,7 @@ chunk_goes setup t key file size f qs ts calls c pieces ending a m g last so d =
     other : c < count_of size setup.chunk → bytes_eq file (chunk_file setup t (c + 1)) ≡ false
     other next = other_name file name (λ same. absurd (omega (arith, so.0.itself same, so.1, full_range size setup.chunk c (some_chunk setup.chunk m.chunked.some) (omega (arith, g.so_many)) next)))
 
-all_counted : (ts : List Asking) → list_all is_done ts ≡ true → count_by is_done ts ≡ length ts
+pub all_counted : (ts : List Asking) → list_all is_done ts ≡ true → count_by is_done ts ≡ length ts
 all_counted ts h = ap (count_by is_done) (sym (append-nil ts)) ∙ count_front is_done ts [] h refl
 
 pub whole_unwritten : (file name : List ℕ) (at left : ℕ) (ending : List Call) → EndsWhole file at left ending → filter_map (piece_of name) ending ≡ []
