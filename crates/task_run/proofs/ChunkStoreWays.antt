@@ -2,6 +2,10 @@
 use Rattle.std.proofs.Common.{◌≡◌, ◌∙◌, ℕ, zero, suc, ◌+◌, ◌-◌, ◌*◌, ◌<◌, ◌≤◌, List, [], ◌∷◌, ◌++◌, length, map, min, refl, sym, ap, subst, arith, append-nil, append_assoc, length-append, inl, inr}
 use Rattle.std.specs.Prelude.{Bool, true, false, is_some, Option, Some, None, Result, Ok, Err}
 use Rattle.std.specs.Bool.{MatchBool}
+use Rattle.std.specs.Prelude.{◌==◌}
+use Rattle.std.specs.Int.{div_ceil}
+use Rattle.std.proofs.Math.Nat.{mul-le-mul_right, suc-mul, zero-mul}
+use Rattle.std.proofs.lemmas.Grind.{div_ceil_times}
 use Rattle.std.specs.List.{list_all, concat}
 use Rattle.ann_key.specs.Keys.{Parts, IsKey, key_reading, with_chunk}
 use Rattle.ann_key.specs.declared.bytes.NoMemory.{NoMemory}
@@ -133,4 +137,21 @@ settled_chunk file name from to key before after a b d v result h o k s = by_tes
     }
 
 pub range_rises : (size chunk n : ℕ) → 0 < n → n ≤ count_of size chunk → 0 < chunk → from_of chunk n ≤ to_of size chunk n
-range_rises size chunk n first last some = omega arith
+range_rises size chunk n first last some = by_test (size == 0) refl last
+  where
+    one_more : (k : ℕ) → 0 < k → k * chunk ≡ (k - 1) * chunk + chunk
+    one_more zero h = absurd (omega arith)
+    one_more (suc k) h = let e : suc k - 1 ≡ k = omega arith in rw e (suc-mul k chunk)
+
+    by_test : (b : Bool) → (size == 0) ≡ b → n ≤ count_of size chunk → from_of chunk n ≤ to_of size chunk n
+    by_test true e h =
+        let m : count_of size chunk ≡ 1 = rw e refl in
+        let one : n ≡ 1 = omega arith in
+        let none : (n - 1) * chunk ≡ 0 = rw one (zero-mul chunk) in
+        omega (arith, none)
+    by_test false e h =
+        let m : count_of size chunk ≡ div_ceil size chunk = rw e refl in
+        let most : n * chunk ≤ div_ceil size chunk * chunk = mul-le-mul_right chunk (omega arith) in
+        let step : n * chunk ≡ (n - 1) * chunk + chunk = one_more n first in
+        let end : div_ceil size chunk * chunk < size + chunk = (div_ceil_times size chunk some).1 in
+        omega arith
