@@ -260,7 +260,7 @@ front_same setup t key file size f asked calls more c g last small x is_found = 
 
 -- ---- one more chunk
 
-order_more : (ask : ℕ → List ℕ → HostMessage) (f : ℕ → Parts) (k m count : ℕ) (round : List Asking) (a : Asking) → AskInOrder ask k (map f (range_with_len m count)) round → length round < count
+pub order_more : (ask : ℕ → List ℕ → HostMessage) (f : ℕ → Parts) (k m count : ℕ) (round : List Asking) (a : Asking) → AskInOrder ask k (map f (range_with_len m count)) round → length round < count
     → AsksFor ask (k + length round) (f (m + length round)) a → AskInOrder ask k (map f (range_with_len m count)) (round ++ a ∷ [])
 order_more ask f k m zero round a o l h = absurd (omega arith)
 order_more ask f k m (suc count) [] a o l h = (rw (add-zero k, add-zero m) at h, tt)

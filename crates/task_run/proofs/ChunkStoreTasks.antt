@@ -227,12 +227,12 @@ no_question name key None v h = refl
 no_question name key (Some q) v h = rw h.0 refl
 
 -- what a chunk that was stored makes of the store
-pub chunk_goes : (setup : Setup) (t : ℕ) (key : Parts) (file : List ℕ) (size f : ℕ) (qs ts : List Asking) (calls : List Call) (c : ℕ) (pieces : List (List ℕ)) (ending : List Call) (a : Asking)
-    → Missing setup key size f qs → Going setup t key file size f ts calls c → c ≤ count_of size setup.chunk
+pub chunk_goes : (setup : Setup) (t : ℕ) (key : Parts) (file : List ℕ) (size f : ℕ) (ts : List Asking) (calls : List Call) (c : ℕ) (pieces : List (List ℕ)) (ending : List Call) (a : Asking)
+    → Chunked setup key size → count_of size setup.chunk + 1 < 2 ^ 64 → Going setup t key file size f ts calls c → c ≤ count_of size setup.chunk
     → ChunkIs file (chunk_file setup t (c + 1)) (from_of setup.chunk c) (to_of size setup.chunk c) (with_chunk setup.chunk c key) (Settled pieces ending a (Ok tt)) → is_done a ≡ true
     → Going setup t key file size f (ts ++ a ∷ []) (calls ++ chunk_calls file (chunk_file setup t (c + 1)) (from_of setup.chunk c) (Settled pieces ending a (Ok tt))) (c + 1)
-chunk_goes setup t key file size f qs ts calls c pieces ending a m g last so d =
-    going_stored setup t key file size f ts calls (cut_calls file name from pieces ending) c a g last m.small copied (asks_as setup t (c + 1) (with_chunk setup.chunk c key) a.request a.verdict so.2)
+chunk_goes setup t key file size f ts calls c pieces ending a chunked small g last so d =
+    going_stored setup t key file size f ts calls (cut_calls file name from pieces ending) c a g last small copied (asks_as setup t (c + 1) (with_chunk setup.chunk c key) a.request a.verdict so.2)
     (no_question name (with_chunk setup.chunk c key) a.request a.verdict so.2) d (ap length (cut_appends file name from pieces ending unwritten) ∙ so.1) other
   where
     name : List ℕ
@@ -265,7 +265,7 @@ chunk_goes setup t key file size f qs ts calls c pieces ending a m g last so d =
     some_chunk (suc n) h = omega arith
 
     other : c < count_of size setup.chunk → bytes_eq file (chunk_file setup t (c + 1)) ≡ false
-    other next = other_name file name (λ same. absurd (omega (arith, so.0.itself same, so.1, full_range size setup.chunk c (some_chunk setup.chunk m.chunked.some) (omega (arith, g.so_many)) next)))
+    other next = other_name file name (λ same. absurd (omega (arith, so.0.itself same, so.1, full_range size setup.chunk c (some_chunk setup.chunk chunked.some) (omega (arith, g.so_many)) next)))
 
 pub all_counted : (ts : List Asking) → list_all is_done ts ≡ true → count_by is_done ts ≡ length ts
 all_counted ts h = ap (count_by is_done) (sym (append-nil ts)) ∙ count_front is_done ts [] h refl

@@ -19,7 +19,9 @@ use Rattle.journal_model.specs.declared.answer.Answer.TheVariants.{Size as SizeA
 use Rattle.task_run.specs.declared.setup.Setup.{Setup}
 use Rattle.task_run.specs.declared.chunk_store.Sought.{Sought}
 use Rattle.task_run.specs.declared.chunk_store.Sought.TheVariants.{All, Missing, Over}
-use Rattle.task_run.specs.Stops.{is_done, verdict_stop}
+use Rattle.task_run.specs.declared.chunk_store.Standing.{Standing}
+use Rattle.task_run.specs.declared.chunk_store.Standing.TheVariants as S
+use Rattle.task_run.specs.Stops.{is_done, is_done_at, verdict_stop}
 use Rattle.task_run.specs.Requests.{AsksFor, AskInOrder}
 use Rattle.task_run.specs.Checks.{present_request}
 use Rattle.task_run.specs.Ran.{refusal, undone_answer, behind_more, answered, may_follow_refusal}
@@ -52,6 +54,12 @@ is_missing_at (AbsentAt at) = true
 is_missing_at (UnknownAt at) = true
 is_missing_at (UnsupportedAt at) = true
 is_missing_at _ = false
+
+-- what is so of a chunk that such a verdict was given of; the answer of an end tells of no call of the desk
+abbrev pub StandsAs : Verdict → Standing → Type 0
+StandsAs v S.There = is_done_at v ≡ true
+StandsAs v S.Missing = is_missing_at v ≡ true
+StandsAs v (S.Over answer) = (verdict_stop true v ≡ Some answer) × (may_follow_refusal (Ok answer) ≡ false)
 
 -- the keys of n chunks, from the first of these numbers on
 abbrev pub chunk_keys : Parts → ℕ → ℕ → ℕ → List Parts

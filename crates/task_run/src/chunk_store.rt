@@ -11,7 +11,7 @@ ghost use Rattle.task_text.specs.TaskLines.{IsTask};
 ghost use Rattle.task_text.specs.declared.task.Work.TheVariants as W;
 ghost use Rattle.task_asker.specs.Askings.{IsSameTask};
 ghost use Rattle.task_run.specs.Checks.{present_request};
-ghost use Rattle.task_run.specs.ChunkStoring.{AsksNext, from_file, Seeks, StoresChunk, CopiesChunk, SettlesChunk, StoresFrom, StoresSized, IsQuiet, NotesChunks, removal_result, so_far};
+ghost use Rattle.task_run.specs.ChunkStoring.{AsksNext, from_file, Seeks, StoresChunk, CopiesChunk, SettlesChunk, StoresFrom, StoresSized, StandsAs, IsQuiet, NotesChunks, removal_result, so_far};
 ghost use Rattle.task_run.specs.Fetching.{Outcome};
 ghost use Rattle.task_run.specs.Names.{chunk_file};
 ghost use Rattle.task_run.specs.Ran.{RanStore, IsInChunks, HasTaskCauses, is_verdict_of, undone_answer, may_follow_refusal};
@@ -36,6 +36,28 @@ pub enum Sought {
     /// The first that isn't there stands behind so many.
     Missing(u64),
     Over(Answer),
+}
+
+// What a verdict says of one chunk.
+pub enum Standing {
+    There,
+    Missing,
+    Over(Answer),
+}
+
+fn said_of(verdict: Verdict) -> Standing
+    requires { is_verdict_of (Checkpresent []) verdict ≡ true }
+    ensures said { StandsAs verdict result }
+{
+    match verdict {
+        Verdict::Done { .. } => Standing::There,
+        Verdict::Absent { .. } | Verdict::Unknown { .. } | Verdict::Unsupported { .. } => {
+            Standing::Missing
+        }
+        Verdict::Ended { why } => Standing::Over(Answer::Ended { why }),
+        Verdict::Unsent => Standing::Over(Answer::Unsent),
+        Verdict::Failed { .. } => unreachable!(),
+    }
 }
 
 // Whether a chunk is there.
@@ -117,10 +139,11 @@ fn seek<A: Asker>(
     let mut there = 0;
     while there < count {
         match ask_there(alloc, asker, number, key, chunk, there + 1) {
-            Ok(Verdict::Done { .. }) => there += 1,
-            Ok(Verdict::Ended { why }) => return Ok(Sought::Over(Answer::Ended { why })),
-            Ok(Verdict::Unsent) => return Ok(Sought::Over(Answer::Unsent)),
-            Ok(_) => return Ok(Sought::Missing(there)),
+            Ok(verdict) => match said_of(verdict) {
+                Standing::There => there += 1,
+                Standing::Missing => return Ok(Sought::Missing(there)),
+                Standing::Over(answer) => return Ok(Sought::Over(answer)),
+            },
             Err(error) => return Err(error),
         }
     }
