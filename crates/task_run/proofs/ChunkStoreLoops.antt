@@ -35,6 +35,7 @@ use Rattle.task_run.proofs.ChunkStoreAll.{all_stored, all_unnoted, Asked, asked_
 use Rattle.task_run.proofs.ChunkStoreParts.{order_front}
 use Rattle.task_run.specs.ChunkStoring.{StoresSized}
 use Rattle.std.proofs.Common.{zero, suc}
+use Rattle.std.proofs.lemmas.Bool.{ne_eqb}
 
 -- ---- questions
 
@@ -401,3 +402,9 @@ sized_missing setup t key file size count n before between after notes notes' no
 
     sought : IsSought key setup.chunk (count_of size setup.chunk) n (s.there ++ s.ends.1.0 ∷ [])
     sought = record { there = s.there; one = s.ends.1.0; asked_is = refl; in_order = in_order; each_there = s.each_there; so_many = sym s.ends.0; missing = s.ends.1.2 }
+
+pub chunked_by : (setup : Setup) (key : Parts) (size : ℕ) → 0 < setup.chunk → key.size ≡ Some size → Chunked setup key size
+chunked_by setup key size some sized = record { some = ne_eqb setup.chunk 0 (λ e. omega arith); sized = sized }
+
+pub known_of : (setup : Setup) (key : Parts) (size f : ℕ) → 0 < setup.chunk → key.size ≡ Some size → f < count_of size setup.chunk → count_of size setup.chunk + 1 < 2 ^ 64 → Known setup key size f
+known_of setup key size f some sized least small = record { chunked = chunked_by setup key size some sized; least = least; small = small }
