@@ -408,3 +408,15 @@ chunked_by setup key size some sized = record { some = ne_eqb setup.chunk 0 (λ 
 
 pub known_of : (setup : Setup) (key : Parts) (size f : ℕ) → 0 < setup.chunk → key.size ≡ Some size → f < count_of size setup.chunk → count_of size setup.chunk + 1 < 2 ^ 64 → Known setup key size f
 known_of setup key size f some sized least small = record { chunked = chunked_by setup key size some sized; least = least; small = small }
+
+order_length : (key : Parts) (chunk n m count : ℕ) (xs : List Asking) → AskInOrder present_request n (chunk_keys key chunk m count) xs → length xs ≤ count
+order_length key chunk n m count [] o = omega arith
+order_length key chunk n m zero (x ∷ xs) o = absurd o
+order_length key chunk n m (suc count) (x ∷ xs) o = let r : length xs ≤ count = order_length key chunk (n + 1) (m + 1) count xs o.1 in omega arith
+
+pub missing_least : (key : Parts) (chunk count n : ℕ) (before after : List Asking) → Seeks key chunk count before after (Ok (Missing n)) → n < count
+missing_least key chunk count n before after s =
+    let all : length (s.there ++ s.last) ≤ count = order_length key chunk 1 1 count (s.there ++ s.last) s.in_order in
+    let many : length (s.there ++ s.last) ≡ length s.there + length s.last = length-append s.there s.last in
+    let last : length s.last ≡ 1 = ap length s.ends.1.1 in
+    omega (arith, s.ends.0)
