@@ -1,30 +1,27 @@
 -- The calls of a store in chunks.
-use Rattle.std.proofs.Common.{◌≡◌, ◌∙◌, ℕ, zero, suc, ◌+◌, ◌-◌, ◌<◌, ◌≤◌, List, [], ◌∷◌, ◌++◌, length, map, refl, sym, ap, subst, arith, append-nil, append_assoc, take, length-append}
-use Rattle.std.specs.Prelude.{Bool, true, false, ◌&&◌, ◌||◌, not, nat_le, nat_lt, ◌==◌, bytes_eq, filter, Option, Some, None, is_none, Result, Ok, Err, codes}
+use Rattle.std.proofs.Common.{◌≡◌, ◌∙◌, ℕ, zero, suc, ◌+◌, ◌<◌, ◌≤◌, List, [], ◌∷◌, ◌++◌, length, map, refl, sym, ap, subst, arith, append-nil, append_assoc, take}
+use Rattle.std.specs.Prelude.{Bool, true, false, ◌&&◌, ◌||◌, nat_le, nat_lt, ◌==◌, bytes_eq, filter, is_none, Ok, Err}
 use Rattle.std.specs.List.{list_all, list_any, filter_map, concat, range_with_len}
-use Rattle.std.specs.Fmt.{decimal}
 use Rattle.std.proofs.Math.Seq.{take-append_seam}
-use Rattle.std.proofs.lemmas.List.Elements.{filter_map-append, filter-append}
-use Rattle.std.proofs.lemmas.List.Folds.{list_all-append, list_any-append}
+use Rattle.std.proofs.lemmas.List.Elements.{filter_map-append}
+use Rattle.std.proofs.lemmas.List.Folds.{list_all-append}
 use Rattle.std.proofs.lemmas.Bool.{and_parts}
 use Rattle.std.proofs.lemmas.Bool.Decides.{nat_tests}
 use Rattle.std.proofs.lemmas.Slice.Eq.{bytes_eq-Decides}
-use Rattle.ann_outside.specs.declared.file_desk.DeskError.{DeskError}
-use Rattle.ann_outside.specs.declared.file_desk.DeskError.TheVariants as E
 use Rattle.ann_outside.specs.declared.file_desk.Call.{Call}
 use Rattle.ann_outside.specs.declared.file_desk.Call.TheVariants as K
 use Rattle.ann_outside.specs.declared.file_desk.Call.TheVariants.{Size, ReadAt, Create, Append, Cut, Rename, Remove}
-use Rattle.fetch_copy.specs.Copies.{copy_calls, EndsWhole, EndsEarly, RefusedBy}
+use Rattle.fetch_copy.specs.Copies.{copy_calls, EndsWhole, EndsEarly}
 use Rattle.fetch_copy.specs.CopiesOut.{reads_before}
 use Rattle.task_run.specs.declared.setup.Setup.{Setup}
 use Rattle.task_run.specs.Stops.{call_stop}
-use Rattle.task_run.specs.Names.{chunk_file, chunk_files, is_among, part_of}
-use Rattle.task_run.specs.Reads.{reads_of, read_of, reads_between, bytes_of, is_run, piece_of, appended, is_call_of, is_known, known_by}
+use Rattle.task_run.specs.Names.{chunk_file, chunk_files, is_among}
+use Rattle.task_run.specs.Reads.{reads_of, read_of, bytes_of, is_run, piece_of, appended, is_call_of, is_known}
 use Rattle.task_run.specs.Discipline.{are_among, names_in, changed_by, size_among, are_found}
 use Rattle.task_run.specs.Stores.{is_size_call, is_front}
 use Rattle.task_run.specs.ChunkStoring.{cut_calls}
-use Rattle.task_run.proofs.Texts.{same_name, other_name, apart}
-use Rattle.task_run.proofs.GetCallsLaws.{known_skip, known_add, known_copy, copy_reads, copy_appends, placed, run_placed, bytes_placed, nat_same, found_more}
+use Rattle.task_run.proofs.Texts.{same_name, apart}
+use Rattle.task_run.proofs.GetCallsLaws.{known_skip, known_add, copy_reads, copy_appends, placed, run_placed, bytes_placed, nat_same}
 
 pub lt_true : (a b : ℕ) → a < b → nat_lt a b ≡ true
 lt_true a b h = grind (arith, nat_tests)

@@ -1,14 +1,11 @@
 -- How a store in chunks ends.
-use Rattle.std.proofs.Common.{◌≡◌, ◌≢◌, ◌∙◌, ℕ, zero, suc, ◌+◌, ◌-◌, ◌*◌, ◌^◌, ◌<◌, ◌≤◌, List, [], ◌∷◌, ◌++◌, length, map, refl, sym, ap, subst, arith, append-nil, append_assoc, take, drop, length-append, length-take-le, add-zero}
-use Rattle.std.specs.Prelude.{Bool, true, false, ◌&&◌, ◌||◌, not, nat_lt, ◌==◌, bytes_eq, count_by, MatchOption, Option, Some, None, is_some, is_none, Result, Ok, Err}
-use Rattle.std.specs.Bool.{MatchBool}
-use Rattle.std.specs.List.{list_all, list_any, filter_map, last_or, range_with_len}
+use Rattle.std.proofs.Common.{◌≡◌, ◌≢◌, ◌∙◌, ℕ, ◌+◌, ◌-◌, ◌^◌, ◌<◌, ◌≤◌, List, [], ◌∷◌, ◌++◌, length, map, refl, sym, ap, subst, arith, append_assoc, take, drop, length-append, length-take-le}
+use Rattle.std.specs.Prelude.{Bool, true, false, ◌&&◌, ◌||◌, not, nat_lt, count_by, Some, is_some, is_none}
+use Rattle.std.specs.List.{list_all, list_any, range_with_len}
 use Rattle.std.proofs.lemmas.List.Elements.{filter_map-append}
 use Rattle.std.proofs.lemmas.Bool.{and_parts}
-use Rattle.std.proofs.lemmas.Bool.Decides.{nat_tests}
 use Rattle.ann_key.specs.Keys.{Parts, with_chunk}
-use Rattle.annex_model.specs.Messages.{HostMessage}
-use Rattle.chunk_plan.specs.Layouts.{Part, chunk_part, count_of, from_of, to_of}
+use Rattle.chunk_plan.specs.Layouts.{Part, chunk_part, count_of}
 use Rattle.journal_model.specs.declared.verdict.Verdict.{Verdict}
 use Rattle.journal_model.specs.declared.verdict.Verdict.TheVariants.{Done, Failed, Absent, Unknown, Unsupported, Ended, Unsent}
 use Rattle.journal_model.specs.declared.answer.Answer.{Answer}
@@ -16,25 +13,23 @@ use Rattle.journal_model.specs.declared.answer.Answer.TheVariants as A
 use Rattle.task_text.specs.declared.task.Task.{Task}
 use Rattle.task_text.specs.declared.task.Work.TheVariants as W
 use Rattle.ann_outside.specs.declared.file_desk.Call.{Call}
-use Rattle.ann_outside.specs.declared.file_desk.Call.TheVariants.{Size}
 use Rattle.task_asker.specs.Askings.{Asking, Noting, is_gone}
 use Rattle.task_run.specs.declared.setup.Setup.{Setup}
-use Rattle.task_run.specs.Stops.{asking_stop, call_stop, verdict_stop, is_stop_last, stops_of, AnsweredBy, all_but_last, is_done, is_done_at, is_question, last_failed, failed_at}
-use Rattle.task_run.specs.Names.{chunk_file, chunk_files, part_of}
-use Rattle.task_run.specs.Requests.{AsksFor, AskInOrder}
-use Rattle.task_run.specs.Layouts.{parts_of_layout, keys_of_layout}
-use Rattle.task_run.specs.Reads.{lengths_found, is_removed}
-use Rattle.task_run.specs.Discipline.{are_among, names_in, changed_by, size_among, are_found, name_only, change_only, size_of_only}
+use Rattle.task_run.specs.Stops.{asking_stop, call_stop, verdict_stop, AnsweredBy, all_but_last, is_done, is_done_at, is_question}
+use Rattle.task_run.specs.Names.{part_of}
+use Rattle.task_run.specs.Requests.{AskInOrder}
+use Rattle.task_run.specs.Layouts.{parts_of_layout}
+use Rattle.task_run.specs.Discipline.{are_found}
 use Rattle.task_run.specs.Checks.{present_request}
-use Rattle.task_run.specs.Stores.{is_size, is_size_call, is_copied, are_whole, are_removed, is_next_copied, chunk_request, questions, found, transfers, missing_parts, parts_left, fits_length, begins_with_size, ChunkStoreAsks, ChunkStoreAnswers}
-use Rattle.task_run.specs.Runs.{RunOf, StoreCalls, WorkAsks, WorkAnswers, is_chunked}
+use Rattle.task_run.specs.Stores.{is_size_call, are_whole, are_removed, is_next_copied, chunk_request, questions, found, transfers, ChunkStoreAsks}
+use Rattle.task_run.specs.Runs.{RunOf, StoreCalls, WorkAnswers, is_chunked}
 use Rattle.task_run.specs.ChunkStoring.{chunk_keys, is_missing_at, IsSought}
 use Rattle.task_run.proofs.Texts.{same_name, apart}
 use Rattle.task_run.proofs.GetCallsLaws.{nat_same}
 use Rattle.task_run.proofs.GetRuns.{but_last, all_taken, none_stop}
 use Rattle.task_run.proofs.ChunkStoreCalls.{lt_true, all_imp, all_more}
-use Rattle.task_run.proofs.ChunkStoreRuns.{WholeAt, Front, Going, with_size, is_free}
-use Rattle.task_run.proofs.ChunkStoreParts.{Chunked, chunk_parts, keys_are, missing_are, parts_many, parts_are, Split, split_of, there_questions, all_questions, order_front, found_there, no_more_found, done_stays, missing_stays, missing_undone, are_whole_from, are_removed_from, next_of, count_front, drop_range, short_all}
+use Rattle.task_run.proofs.ChunkStoreRuns.{Front, with_size, is_free}
+use Rattle.task_run.proofs.ChunkStoreParts.{Chunked, chunk_parts, keys_are, missing_are, parts_many, Split, split_of, there_questions, all_questions, order_front, found_there, no_more_found, done_stays, missing_stays, missing_undone, are_whole_from, are_removed_from, next_of, drop_range}
 
 -- ---- what is asked, for any questions and what follows them
 

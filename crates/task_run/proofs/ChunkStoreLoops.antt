@@ -1,6 +1,6 @@
 -- The loops of a store in chunks.
-use Rattle.std.proofs.Common.{◌≡◌, ◌∙◌, ℕ, ◌+◌, ◌-◌, ◌^◌, ◌<◌, ◌≤◌, List, [], ◌∷◌, ◌++◌, length, map, refl, sym, ap, subst, arith, append-nil, append_assoc, length-append}
-use Rattle.std.specs.Prelude.{Bool, true, false, Option, Some, None, Result, Ok, Err}
+use Rattle.std.proofs.Common.{◌≡◌, ◌∙◌, ℕ, ◌+◌, ◌^◌, ◌<◌, ◌≤◌, List, [], ◌∷◌, ◌++◌, length, map, refl, sym, ap, subst, arith, append-nil, append_assoc, length-append}
+use Rattle.std.specs.Prelude.{true, false, Option, Some, None, Result, Ok, Err}
 use Rattle.std.specs.List.{list_all}
 use Rattle.ann_key.specs.Keys.{Parts, with_chunk}
 use Rattle.ann_key.specs.declared.bytes.NoMemory.{NoMemory}
@@ -211,7 +211,7 @@ storing_ends setup t key file size f n before between after notes notes' a b d r
   log_is = gained_more a b d s.calls (chunk_calls file (chunk_file setup t (n + 1 + 1)) (from_of setup.chunk (n + 1)) h.how) s.log_is h.calls;
   run = λ text layouts qs sought.
       let P : Result (Option Answer) NoMemory → Type 0 = λ r. RunOf setup t (store_task text file) key layouts (qs ++ (s.asked ++ chunk_asked h.how))
-          (with_size file size (s.calls ++ chunk_calls file (chunk_file setup t (n + 1 + 1)) (from_of setup.chunk (n + 1)) h.how)) [] (answered (so_far r)) in
+      (with_size file size (s.calls ++ chunk_calls file (chunk_file setup t (n + 1 + 1)) (from_of setup.chunk (n + 1)) h.how)) [] (answered (so_far r)) in
       subst P (sym h.result_is) (chunk_ends setup t key text file layouts size f qs s.asked s.calls (n + 1) h.how (missing_of setup key size f qs k sought) s.going (omega arith) h.so
       (λ e. ne (h.result_is ∙ e)));
 }
@@ -238,7 +238,7 @@ storing_done setup t key file size f n count before after notes notes' a b resul
       log_is = s.log_is;
       run = λ text layouts qs sought.
           let P : Answer → Type 0 = λ x. RunOf setup t (store_task text file) key layouts (qs ++ s.asked) (with_size file size s.calls)
-              (map (behind_more (length qs)) (the_note setup (count_of size setup.chunk) (length s.asked) ∷ [])) x in
+          (map (behind_more (length qs)) (the_note setup (count_of size setup.chunk) (length s.asked) ∷ [])) x in
           subst P (sym h.0) (all_stored setup t key text file layouts size f qs s.asked s.calls (missing_of setup key size f qs k sought) last);
     }
       where

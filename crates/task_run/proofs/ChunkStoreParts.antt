@@ -1,7 +1,7 @@
 -- What a store in chunks asks, put together of its questions and what follows them.
-use Rattle.std.proofs.Common.{◌≡◌, ◌≢◌, ◌∙◌, ℕ, zero, suc, ◌+◌, ◌-◌, ◌<◌, ◌≤◌, List, [], ◌∷◌, ◌++◌, length, map, refl, sym, ap, subst, arith, append-nil, append_assoc, take, drop, length-append, add-zero}
-use Rattle.std.specs.Prelude.{Bool, true, false, ◌&&◌, ◌||◌, not, nat_lt, ◌==◌, cond, count_by, Option, Some, None, is_some, Result, Ok, Err}
-use Rattle.std.specs.List.{list_all, list_any, range_with_len}
+use Rattle.std.proofs.Common.{◌≡◌, ◌∙◌, ℕ, zero, suc, ◌+◌, ◌-◌, ◌<◌, ◌≤◌, List, [], ◌∷◌, ◌++◌, length, map, refl, sym, ap, arith, take, drop}
+use Rattle.std.specs.Prelude.{Bool, true, false, ◌&&◌, not, ◌==◌, cond, count_by, Option, Some, None}
+use Rattle.std.specs.List.{list_all, range_with_len}
 use Rattle.std.proofs.Math.Seq.{take-append_seam}
 use Rattle.std.proofs.lemmas.List.{drop_at}
 use Rattle.std.proofs.lemmas.List.Sums.{sum_by-cons}
@@ -12,22 +12,20 @@ use Rattle.chunk_plan.specs.Layouts.{Part, chunk_part, count_of}
 use Rattle.journal_model.specs.declared.verdict.Verdict.{Verdict}
 use Rattle.journal_model.specs.declared.verdict.Verdict.TheVariants.{Done, Failed, Absent, Unknown, Unsupported, Ended, Unsent}
 use Rattle.ann_outside.specs.declared.file_desk.Call.{Call}
-use Rattle.ann_outside.specs.declared.file_desk.Call.TheVariants.{Size}
-use Rattle.task_asker.specs.Askings.{Asking, Noting, is_gone}
+use Rattle.task_asker.specs.Askings.{Asking, is_gone}
 use Rattle.task_run.specs.declared.setup.Setup.{Setup}
 use Rattle.task_run.specs.Stops.{all_but_last, is_done, is_done_at, is_question}
 use Rattle.task_run.specs.Names.{chunk_file}
-use Rattle.task_run.specs.Requests.{AsksFor, AskInOrder, key_named}
+use Rattle.task_run.specs.Requests.{AsksFor, AskInOrder}
 use Rattle.task_run.specs.Layouts.{parts_of_layout, keys_of_layout}
 use Rattle.task_run.specs.Reads.{is_removed}
 use Rattle.task_run.specs.Checks.{present_request}
-use Rattle.task_run.specs.Stores.{is_size_call, is_copied, are_whole, are_removed, is_next_copied, chunk_request, questions, found, transfers, missing_parts, ChunkStoreAsks}
-use Rattle.task_run.specs.ChunkStoring.{chunk_keys, is_missing_at, IsSought}
-use Rattle.task_run.proofs.Texts.{same_name, apart}
-use Rattle.task_run.proofs.GetCallsLaws.{nat_same}
+use Rattle.task_run.specs.Stores.{is_copied, are_whole, are_removed, is_next_copied, questions, found, transfers}
+use Rattle.task_run.specs.ChunkStoring.{chunk_keys, is_missing_at}
+use Rattle.task_run.proofs.Texts.{apart}
 use Rattle.task_run.proofs.GetRuns.{but_last}
-use Rattle.task_run.proofs.ChunkStoreCalls.{lt_true, all_imp, all_more}
-use Rattle.task_run.proofs.ChunkStoreRuns.{WholeAt, Front, with_size}
+use Rattle.task_run.proofs.ChunkStoreCalls.{all_imp}
+use Rattle.task_run.proofs.ChunkStoreRuns.{WholeAt, with_size}
 
 -- ---- layouts
 

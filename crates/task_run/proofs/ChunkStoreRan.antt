@@ -1,6 +1,6 @@
 -- What a whole store in chunks did.
-use Rattle.std.proofs.Common.{◌≡◌, ◌≢◌, ◌∙◌, ℕ, ◌+◌, ◌<◌, zero, suc, List, [], ◌∷◌, ◌++◌, length, map, refl, sym, ap, subst, arith, append-nil}
-use Rattle.std.specs.Prelude.{Bool, true, false, ◌&&◌, not, ◌==◌, Option, Some, None, is_some, Result, Ok, Err, IsTrue}
+use Rattle.std.proofs.Common.{◌≡◌, ◌∙◌, ℕ, ◌<◌, zero, suc, List, [], ◌∷◌, refl, sym, ap, subst, arith, append-nil}
+use Rattle.std.specs.Prelude.{true, false, ◌&&◌, not, ◌==◌, Option, Some, None, is_some, Result, Ok, Err, IsTrue}
 use Rattle.std.proofs.lemmas.Bool.{and_parts, ne_eqb}
 use Rattle.ann_key.specs.Keys.{Parts, key_reading, is_key, is_sendable}
 use Rattle.ann_key.specs.declared.bytes.NoMemory.{NoMemory}
@@ -10,7 +10,7 @@ use Rattle.journal_model.specs.declared.answer.Answer.TheVariants as A
 use Rattle.task_text.specs.declared.task.Task.{Task}
 use Rattle.task_text.specs.declared.task.Work.TheVariants as W
 use Rattle.task_text.specs.TaskLines.{is_task_key, has_chunk}
-use Rattle.ann_outside.specs.Calls.{Gained, logged}
+use Rattle.ann_outside.specs.Calls.{logged}
 use Rattle.ann_outside.specs.declared.file_desk.DeskError.{DeskError}
 use Rattle.ann_outside.specs.declared.file_desk.DeskError.TheVariants as E
 use Rattle.ann_outside.specs.declared.file_desk.Call.{Call}
@@ -26,7 +26,6 @@ use Rattle.task_run.specs.Ran.{RanStore, IsInChunks, answered, refusal}
 use Rattle.task_run.specs.ChunkStoring.{StoresSized}
 use Rattle.task_run.proofs.Texts.{same_name, other_name, longer_differs, apart}
 use Rattle.task_run.proofs.PlainRuns.{of_reading}
-use Rattle.task_run.proofs.ChunkStoreParts.{Chunked}
 use Rattle.task_run.proofs.ChunkStoreEnds.{store_task}
 
 as_store : (task : Task) → task.work ≡ W.Store → task ≡ store_task task.key task.file

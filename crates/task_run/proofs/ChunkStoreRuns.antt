@@ -1,42 +1,31 @@
 -- Runs of tasks that store content in chunks.
-use Rattle.std.proofs.Common.{◌≡◌, ◌≢◌, ◌∙◌, ℕ, zero, suc, ◌+◌, ◌-◌, ◌*◌, ◌^◌, ◌<◌, ◌≤◌, List, [], ◌∷◌, ◌++◌, length, map, refl, sym, ap, subst, arith, append-nil, append_assoc, take, drop, length-append, min, eq-eqb, add-zero}
-use Rattle.std.specs.Prelude.{Bool, true, false, ◌&&◌, ◌||◌, not, nat_le, nat_lt, ◌==◌, bytes_eq, filter, count_by, Option, Some, None, is_none, is_some, Result, Ok, Err}
+use Rattle.std.proofs.Common.{◌≡◌, ◌∙◌, ℕ, zero, suc, ◌+◌, ◌-◌, ◌*◌, ◌^◌, ◌<◌, ◌≤◌, List, [], ◌∷◌, ◌++◌, length, map, refl, sym, ap, subst, arith, append-nil, length-append, add-zero}
+use Rattle.std.specs.Prelude.{Bool, true, false, ◌&&◌, not, nat_le, nat_lt, ◌==◌, bytes_eq, filter, is_none, Ok}
 use Rattle.std.specs.List.{list_all, list_any, filter_map, concat, range_with_len}
-use Rattle.std.specs.Bool.{MatchBool}
-use Rattle.std.proofs.Math.Seq.{take-append_seam}
 use Rattle.std.proofs.Math.Nat.{mul-le-mul_right}
-use Rattle.std.proofs.lemmas.List.{drop_at}
-use Rattle.std.proofs.lemmas.List.Sums.{sum_by-cons}
 use Rattle.std.proofs.lemmas.List.Elements.{filter_map-append, filter-append}
-use Rattle.std.proofs.lemmas.List.Folds.{list_all-append, list_any-append}
+use Rattle.std.proofs.lemmas.List.Folds.{list_any-append}
 use Rattle.std.proofs.lemmas.Bool.{and_parts}
 use Rattle.std.proofs.lemmas.Bool.Decides.{nat_tests}
 use Rattle.ann_key.specs.Keys.{Parts, with_chunk}
 use Rattle.annex_model.specs.Messages.{HostMessage}
-use Rattle.chunk_plan.specs.Layouts.{Part, chunk_part, count_of, from_of, to_of}
-use Rattle.journal_model.specs.declared.verdict.Verdict.{Verdict}
-use Rattle.journal_model.specs.declared.verdict.Verdict.TheVariants.{Done, Failed, Absent, Unknown, Unsupported, Ended, Unsent}
-use Rattle.journal_model.specs.declared.answer.Answer.{Answer}
-use Rattle.journal_model.specs.declared.answer.Answer.TheVariants as A
-use Rattle.task_text.specs.declared.task.Task.{Task}
-use Rattle.task_text.specs.declared.task.Work.TheVariants as W
+use Rattle.chunk_plan.specs.Layouts.{chunk_part, count_of, from_of, to_of}
 use Rattle.ann_outside.specs.declared.file_desk.Call.{Call}
 use Rattle.ann_outside.specs.declared.file_desk.Call.TheVariants.{Size, Remove}
-use Rattle.task_asker.specs.Askings.{Asking, Noting}
+use Rattle.task_asker.specs.Askings.{Asking}
 use Rattle.task_run.specs.declared.setup.Setup.{Setup}
-use Rattle.task_run.specs.Stops.{asking_stop, call_stop, AnsweredBy, all_but_last, is_done, is_question, last_failed}
+use Rattle.task_run.specs.Stops.{call_stop, all_but_last, is_done, is_question}
 use Rattle.task_run.specs.Names.{chunk_file, chunk_files, part_of}
 use Rattle.task_run.specs.Requests.{AsksFor, AskInOrder}
-use Rattle.task_run.specs.Layouts.{parts_of_layout, keys_of_layout}
-use Rattle.task_run.specs.Reads.{read_of, reads_of, reads_between, bytes_of, is_run, is_last, takes_away, piece_of, appended, is_call_of, is_known, is_removed}
+use Rattle.task_run.specs.Reads.{read_of, reads_of, reads_between, is_last, takes_away, piece_of, appended, is_call_of, is_known, is_removed}
 use Rattle.task_run.specs.Discipline.{name_only, change_only, size_of_only, are_among, names_in, changed_by, size_among, are_found}
-use Rattle.task_run.specs.Stores.{is_size_call, is_copied, copied_length, part_length, is_front, are_whole, are_removed, chunk_request, questions, found as found_in, transfers}
-use Rattle.task_run.specs.ChunkStoring.{from_file, chunk_keys}
-use Rattle.task_run.proofs.Texts.{same_name, apart}
+use Rattle.task_run.specs.Stores.{is_size_call, is_copied, copied_length, part_length, chunk_request}
+use Rattle.task_run.specs.ChunkStoring.{chunk_keys}
+use Rattle.task_run.proofs.Texts.{same_name}
 use Rattle.task_run.proofs.GetCallsLaws.{found_more, nat_same}
 use Rattle.task_run.proofs.GetRuns.{but_last}
 use Rattle.task_run.proofs.FileNames.{chunk_files_differ}
-use Rattle.task_run.proofs.ChunkStoreCalls.{lt_true, le_true, le_of, lt_of, lt_false, all_imp, all_more, all_kept, own, own_named, own_changed, own_length, own_no_size, own_pieces, own_calls, own_reads, Cutting, chunk_among}
+use Rattle.task_run.proofs.ChunkStoreCalls.{lt_true, le_of, lt_of, lt_false, all_imp, all_more, all_kept, own, own_named, own_changed, own_length, own_no_size, own_pieces, own_calls, own_reads, Cutting, chunk_among}
 
 -- ---- ranges
 

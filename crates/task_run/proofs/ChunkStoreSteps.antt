@@ -1,57 +1,39 @@
 -- What one chunk's copy, request and removal make of a store in chunks.
-use Rattle.std.proofs.Common.{◌≡◌, ◌≢◌, ◌∙◌, ℕ, zero, suc, ◌+◌, ◌-◌, ◌*◌, ◌^◌, ◌<◌, ◌≤◌, List, [], ◌∷◌, ◌++◌, length, map, refl, sym, ap, subst, arith, append-nil, append_assoc, take, drop, length-append, length-take-le, add-zero}
-use Rattle.std.specs.Prelude.{Bool, true, false, ◌&&◌, ◌||◌, not, nat_lt, ◌==◌, bytes_eq, count_by, MatchOption, Option, Some, None, is_some, is_none, Result, Ok, Err}
-use Rattle.std.specs.Bool.{MatchBool}
-use Rattle.std.specs.List.{list_all, list_any, filter_map, last_or, range_with_len}
+use Rattle.std.proofs.Common.{◌≡◌, ◌∙◌, ℕ, zero, suc, ◌+◌, ◌-◌, ◌*◌, ◌^◌, ◌<◌, ◌≤◌, List, [], ◌∷◌, ◌++◌, length, refl, sym, ap, subst, arith, append-nil, append_assoc, length-append}
+use Rattle.std.specs.Prelude.{Bool, true, false, nat_lt, ◌==◌, bytes_eq, Option, Some, None, is_none, Ok}
+use Rattle.std.specs.List.{list_all, filter_map}
 use Rattle.std.proofs.lemmas.List.Elements.{filter_map-append}
-use Rattle.std.proofs.lemmas.Bool.{and_parts}
 use Rattle.std.proofs.lemmas.Bool.Decides.{nat_tests}
 use Rattle.ann_key.specs.Keys.{Parts, with_chunk}
-use Rattle.annex_model.specs.Messages.{HostMessage}
-use Rattle.chunk_plan.specs.Layouts.{Part, chunk_part, count_of, from_of, to_of}
-use Rattle.journal_model.specs.declared.verdict.Verdict.{Verdict}
-use Rattle.journal_model.specs.declared.verdict.Verdict.TheVariants.{Done, Failed, Absent, Unknown, Unsupported, Ended, Unsent}
-use Rattle.journal_model.specs.declared.answer.Answer.{Answer}
-use Rattle.journal_model.specs.declared.answer.Answer.TheVariants as A
-use Rattle.task_text.specs.declared.task.Task.{Task}
-use Rattle.task_text.specs.declared.task.Work.TheVariants as W
+use Rattle.chunk_plan.specs.Layouts.{count_of, from_of, to_of}
 use Rattle.ann_outside.specs.declared.file_desk.Call.{Call}
-use Rattle.ann_outside.specs.declared.file_desk.Call.TheVariants.{Size, ReadAt, Create, Append, Remove}
-use Rattle.task_asker.specs.Askings.{Asking, Noting, is_gone}
+use Rattle.ann_outside.specs.declared.file_desk.Call.TheVariants.{ReadAt, Create, Remove}
+use Rattle.task_asker.specs.Askings.{Asking}
 use Rattle.task_run.specs.declared.setup.Setup.{Setup}
-use Rattle.task_run.specs.Stops.{asking_stop, call_stop, verdict_stop, is_stop_last, stops_of, AnsweredBy, all_but_last, is_done, is_done_at, is_question, last_failed, failed_at}
-use Rattle.task_run.specs.Names.{chunk_file, chunk_files, part_of}
-use Rattle.task_run.specs.Requests.{AsksFor, AskInOrder}
-use Rattle.task_run.specs.Layouts.{parts_of_layout, keys_of_layout}
-use Rattle.task_run.specs.Reads.{lengths_found, is_removed}
-use Rattle.task_run.specs.Discipline.{are_among, names_in, changed_by, size_among, are_found, name_only, change_only, size_of_only}
-use Rattle.task_run.specs.Checks.{present_request}
-use Rattle.task_run.specs.Stores.{is_size, is_size_call, is_copied, are_whole, are_removed, is_next_copied, chunk_request, questions, found, transfers, missing_parts, parts_left, fits_length, begins_with_size, ChunkStoreAsks, ChunkStoreAnswers}
-use Rattle.task_run.specs.Runs.{RunOf, StoreCalls, WorkAsks, WorkAnswers, is_chunked}
-use Rattle.task_run.specs.ChunkStoring.{chunk_keys, is_missing_at, IsSought}
+use Rattle.task_run.specs.Stops.{call_stop, is_done, is_question}
+use Rattle.task_run.specs.Names.{chunk_file, part_of}
+use Rattle.task_run.specs.Requests.{AsksFor}
+use Rattle.task_run.specs.Reads.{is_removed}
+use Rattle.task_run.specs.Discipline.{are_found}
+use Rattle.task_run.specs.Stores.{chunk_request}
 use Rattle.task_run.proofs.Texts.{same_name, apart}
 use Rattle.task_run.proofs.GetCallsLaws.{nat_same}
-use Rattle.task_run.proofs.GetRuns.{but_last, all_taken, none_stop}
-use Rattle.task_run.proofs.ChunkStoreCalls.{lt_true, all_imp, all_more}
-use Rattle.task_run.proofs.ChunkStoreRuns.{WholeAt, Front, Going, with_size, is_free}
-use Rattle.task_run.proofs.ChunkStoreParts.{Chunked, chunk_parts, keys_are, missing_are, parts_many, parts_are, Split, split_of, there_questions, all_questions, order_front, found_there, no_more_found, done_stays, missing_stays, missing_undone, are_whole_from, are_removed_from, next_of, count_front, drop_range, short_all}
+use Rattle.task_run.proofs.ChunkStoreCalls.{all_more}
+use Rattle.task_run.proofs.ChunkStoreRuns.{Front, Going, with_size, is_free}
 use Rattle.std.specs.List.{concat}
 use Rattle.std.specs.Int.{div_ceil}
 use Rattle.std.proofs.Math.Nat.{mul-le-mul_right, suc-mul}
 use Rattle.std.proofs.lemmas.Grind.{div_ceil_times}
-use Rattle.ann_outside.specs.declared.file_desk.DeskError.{DeskError}
-use Rattle.ann_outside.specs.declared.file_desk.DeskError.TheVariants as E
-use Rattle.fetch_copy.specs.Copies.{copy_calls, EndsWhole, EndsEarly, RefusedBy, EndsRefused}
+use Rattle.fetch_copy.specs.Copies.{copy_calls, EndsWhole, EndsEarly}
 use Rattle.fetch_copy.specs.CopiesOut.{reads_before}
-use Rattle.task_run.specs.Reads.{is_known, piece_of, appended, reads_of, bytes_of, is_at_end}
+use Rattle.task_run.specs.Reads.{is_known, piece_of, appended}
 use Rattle.std.specs.Prelude.{nat_le}
 use Rattle.task_run.proofs.Texts.{other_name}
 use Rattle.task_run.proofs.FileNames.{chunk_not_part}
-use Rattle.task_run.proofs.GetCallsLaws.{found_more, known_skip, known_add, known_copy, placed, bytes_placed}
-use Rattle.task_run.proofs.ChunkStoreCalls.{le_true, lt_of, lt_false, own, Cutting, Ending, cutting_cut, cutting_removed, cutting_create, cutting_none, cut_reads, cut_appends, known_created, known_removed, copy_found, copy_free}
-use Rattle.task_run.proofs.ChunkStoreRuns.{front_same, front_asked, still_removed, removed_last, reads_later, fresh_later}
-use Rattle.task_run.specs.ChunkStoring.{from_file, Cut, Chunk, NotMade, NotCopied, CutShort, Unasked, Undone, Settled, cut_calls, chunk_calls, chunk_asked, chunk_result, ChunkIs, is_settled_at}
-use Rattle.task_run.proofs.ChunkStoreEnds.{Missing, store_task, are_free, all_done_free, end_memory, end_call, end_asking, calls_of, front_asks, chunked_is, sought_free, sought_length, sought_split, pieces_of, asks_of, the_note, run_finished}
+use Rattle.task_run.proofs.GetCallsLaws.{found_more, known_skip, known_add, known_copy}
+use Rattle.task_run.proofs.ChunkStoreCalls.{le_true, lt_of, Cutting, Ending, cutting_cut, cutting_removed, known_created, known_removed, copy_found, copy_free}
+use Rattle.task_run.proofs.ChunkStoreRuns.{front_asked, still_removed, removed_last, reads_later, fresh_later}
+use Rattle.task_run.specs.ChunkStoring.{cut_calls}
 
 -- ---- a read behind the pieces
 

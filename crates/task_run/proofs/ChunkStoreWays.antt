@@ -1,13 +1,12 @@
 -- How the parts of a store in chunks come about.
-use Rattle.std.proofs.Common.{◌≡◌, ◌∙◌, ℕ, zero, suc, ◌+◌, ◌-◌, ◌*◌, ◌<◌, ◌≤◌, List, [], ◌∷◌, ◌++◌, length, map, min, refl, sym, ap, subst, arith, append-nil, append_assoc, length-append, inl, inr}
+use Rattle.std.proofs.Common.{◌≡◌, ◌∙◌, ℕ, zero, suc, ◌+◌, ◌-◌, ◌*◌, ◌<◌, ◌≤◌, List, [], ◌++◌, refl, sym, ap, subst, arith, append-nil, inl, inr}
 use Rattle.std.specs.Prelude.{Bool, true, false, is_some, Option, Some, None, Result, Ok, Err}
 use Rattle.std.specs.Bool.{MatchBool}
 use Rattle.std.specs.Prelude.{◌==◌}
 use Rattle.std.specs.Int.{div_ceil}
 use Rattle.std.proofs.Math.Nat.{mul-le-mul_right, suc-mul, zero-mul}
 use Rattle.std.proofs.lemmas.Grind.{div_ceil_times}
-use Rattle.std.specs.List.{list_all, concat}
-use Rattle.ann_key.specs.Keys.{Parts, IsKey, key_reading, with_chunk}
+use Rattle.ann_key.specs.Keys.{Parts, IsKey, key_reading}
 use Rattle.ann_key.specs.declared.bytes.NoMemory.{NoMemory}
 use Rattle.ann_key.proofs.Spelling.{read_of_spelled}
 use Rattle.annex_model.specs.Messages.{HostMessage, Checkpresent, Transfer}
@@ -16,21 +15,20 @@ use Rattle.journal_model.specs.declared.verdict.Verdict.TheVariants.{Done as Don
 use Rattle.journal_model.specs.declared.answer.Answer.{Answer}
 use Rattle.journal_model.specs.declared.answer.Answer.TheVariants as A
 use Rattle.ann_outside.specs.Calls.{Gained, logged}
-use Rattle.ann_outside.specs.declared.file_desk.DeskError.{DeskError}
 use Rattle.ann_outside.specs.declared.file_desk.DeskError.TheVariants as E
 use Rattle.ann_outside.specs.declared.file_desk.Call.{Call}
-use Rattle.ann_outside.specs.declared.file_desk.Call.TheVariants.{Remove, Create}
+use Rattle.ann_outside.specs.declared.file_desk.Call.TheVariants.{Remove}
 use Rattle.fetch_copy.specs.declared.copied.Copied.TheVariants.{Done, Fault, Missing}
-use Rattle.fetch_copy.specs.CopiesOut.{CopiesOut, CopiesRange}
+use Rattle.fetch_copy.specs.CopiesOut.{CopiesOut}
 use Rattle.fetch_copy.proofs.CopyLaws.{gained_nothing, gained_more}
-use Rattle.task_asker.specs.Askings.{Asking, IsKept, AsksOne, AskAdds}
+use Rattle.task_asker.specs.Askings.{Asking, IsKept, AskAdds}
 use Rattle.chunk_plan.specs.Layouts.{from_of, to_of, count_of}
-use Rattle.task_run.specs.Stops.{verdict_stop, is_done, is_done_at}
-use Rattle.task_run.specs.Requests.{AsksFor, AskInOrder}
+use Rattle.task_run.specs.Stops.{verdict_stop}
+use Rattle.task_run.specs.Requests.{AsksFor}
 use Rattle.task_run.specs.Checks.{present_request}
 use Rattle.task_run.specs.Ran.{is_verdict_of, undone_answer}
 use Rattle.task_run.specs.Fetching.{Outcome, if_made}
-use Rattle.task_run.specs.ChunkStoring.{AsksNext, AsksOneFor, from_file, Chunk, NotMade, NotCopied, CutShort, Unasked, Undone, Settled, Cut, cut_calls, chunk_calls, chunk_asked, chunk_result, ChunkIs, StoresChunk, NotWhole, CopiesChunk, SettlesChunk, is_settled_at, removal_result}
+use Rattle.task_run.specs.ChunkStoring.{AsksNext, AsksOneFor, from_file, NotMade, NotCopied, CutShort, Unasked, Undone, Settled, cut_calls, StoresChunk, NotWhole, CopiesChunk, SettlesChunk, is_settled_at, removal_result}
 use Rattle.task_run.proofs.Texts.{apart}
 use Rattle.task_run.proofs.PlainRuns.{asks_for_check}
 use Rattle.task_run.proofs.FetchLaws.{gained_remove}

@@ -61,17 +61,23 @@ chunk_key_sent base key chunk n text r s h = rw (is_read, no_space) refl
   where
     b : IsKey base key
     b = spelled_of_read base key r
+
     in_base : has_space (key.backend ++ (b.size ++ (b.mtime ++ (b.chunk ++ 45 ∷ 45 ∷ key.name)))) ≡ false
     in_base = sym (ap has_space b.whole) ∙ s
+
     backend : has_space key.backend ≡ false
     backend = none_front key.backend _ in_base
+
     name : has_space (45 ∷ 45 ∷ key.name) ≡ false
     name = none_rest b.chunk _ (none_rest b.mtime _ (none_rest b.size _ (none_rest key.backend _ in_base)))
+
     whole : has_space (key.backend ++ (h.size ++ (h.mtime ++ (h.chunk ++ 45 ∷ 45 ∷ key.name)))) ≡ false
     whole = none_both key.backend _ backend (none_both h.size _ (field_none 115 key.size h.size refl h.size_field)
-      (none_both h.mtime _ (field_none 109 key.mtime h.mtime refl h.mtime_field) (none_both h.chunk _ (chunk_none chunk n h.chunk h.chunk_field) name)))
+        (none_both h.mtime _ (field_none 109 key.mtime h.mtime refl h.mtime_field) (none_both h.chunk _ (chunk_none chunk n h.chunk h.chunk_field) name)))
+
     no_space : has_space text ≡ false
     no_space = ap has_space h.whole ∙ whole
+
     is_read : is_key text ≡ true
     is_read = ap (λ o. is_some {T = Parts} o) (read_of_spelled text (with_chunk chunk n key) h)
 

@@ -1,5 +1,5 @@
 -- How a store in chunks goes: what it asks first, and what it does for each chunk.
-use Rattle.std.specs.Prelude.{ℕ, ◌≡◌, ◌≢◌, ◌+◌, ◌-◌, ◌<◌, ◌≤◌, Bool, true, false, is_some, List, [], ◌∷◌, ◌++◌, length, map, Option, Some, None, Result, Ok, Err}
+use Rattle.std.specs.Prelude.{ℕ, ◌≡◌, ◌+◌, ◌-◌, ◌<◌, Bool, true, false, is_some, List, [], ◌∷◌, ◌++◌, length, map, Option, Some, None, Result, Ok, Err}
 use Rattle.std.specs.Bool.{MatchBool}
 use Rattle.std.specs.List.{concat, list_all, range_with_len}
 use Rattle.ann_key.specs.Keys.{Parts, with_chunk}
@@ -155,7 +155,6 @@ pub record StoresChunk (file name : List ℕ) (from to : ℕ) (key : Parts) (bef
   pub calls : Gained old new (chunk_calls file name from how)
   pub result_is : result ≡ chunk_result how
   pub so : ChunkIs file name from to key how
-
 
 -- ---- parts of one chunk
 

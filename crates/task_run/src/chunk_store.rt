@@ -286,7 +286,19 @@ fn store_chunk<A: Asker, D: Desk>(
     };
     let (from, to) = range(size, setup.chunk, n);
     let name = name.view();
-    store_range(alloc, key, setup.chunk, n, file, from, to, name, number, asker, desk)
+    store_range(
+        alloc,
+        key,
+        setup.chunk,
+        n,
+        file,
+        from,
+        to,
+        name,
+        number,
+        asker,
+        desk,
+    )
 }
 
 // Notes that the chunks are there.
@@ -342,7 +354,17 @@ fn store_from<A: Asker, D: Desk>(
     let all = count(size, setup.chunk);
     let mut stored = n;
     while stored < all {
-        match store_chunk(alloc, key, stored + 1, file, size, number, setup, asker, desk) {
+        match store_chunk(
+            alloc,
+            key,
+            stored + 1,
+            file,
+            size,
+            number,
+            setup,
+            asker,
+            desk,
+        ) {
             Ok(None) => stored += 1,
             Ok(Some(answer)) => return Ok(answer),
             Err(error) => return Err(error),
@@ -412,7 +434,9 @@ pub fn store_chunks<A: Asker, D: Desk>(
 {
     let key = task.key.view();
     let file = task.file.view();
-    let Some(size) = key.size() else { unreachable!() };
+    let Some(size) = key.size() else {
+        unreachable!()
+    };
     match desk.size(file) {
         Ok(n) => {
             if n == size {

@@ -1,4 +1,4 @@
-use Rattle.std.proofs.Common.{◌∙◌, arith, rules}
+use Rattle.std.proofs.Common.{◌∙◌, arith}
 use Rattle.task_run.proofs.ChunkStoreLoops.{seeking_more, seeks_missing, seeks_over}
 use Rattle.task_run.proofs.chunk_store.seek.Goals as goal
 

@@ -1,4 +1,4 @@
-use Rattle.std.proofs.Common.{◌∙◌, arith, refl, sym}
+use Rattle.std.proofs.Common.{arith}
 use Rattle.task_run.proofs.ChunkStoreLoops.{chunked_by, sized_nothing, sized_without, sized_over, sized_all, sized_missing, missing_least}
 use Rattle.task_run.proofs.chunk_store.store_missing.Goals as goal
 
