@@ -34,13 +34,13 @@ use Rattle.task_run.proofs.GetEnds.{fetch_run, names_of}
 
 -- ---- names
 
-abbrev last_in : List ℕ → ℕ
+abbrev pub last_in : List ℕ → ℕ
 last_in [] = 0
 last_in (x ∷ []) = x
 last_in (x ∷ y ∷ ys) = last_in (y ∷ ys)
 
 -- the last byte is the ending's
-ends_with : (xs : List ℕ) (y : ℕ) (ys : List ℕ) → last_in (xs ++ y ∷ ys) ≡ last_in (y ∷ ys)
+pub ends_with : (xs : List ℕ) (y : ℕ) (ys : List ℕ) → last_in (xs ++ y ∷ ys) ≡ last_in (y ∷ ys)
 ends_with [] y ys = refl
 ends_with (x ∷ []) y ys = refl
 ends_with (x ∷ z ∷ xs) y ys = ends_with (z ∷ xs) y ys
@@ -66,7 +66,7 @@ pub fetch_differs : (setup : Setup) (t n : ℕ) (file : List ℕ) → fetch_file
 fetch_differs setup t n file e = fetch_is_not_part setup t n file e
 
 -- no line ends in a number
-abbrev has_end : List ℕ → Bool
+abbrev pub has_end : List ℕ → Bool
 has_end text = list_any (λ b. b == 10) text
 
 glyph_is_none : (d : ℕ) → (digit_glyph false d == 10) ≡ false
@@ -84,11 +84,11 @@ onto (suc k) n behind h = by_test (n / 10 == 0) first (onto k (n / 10) (digit_gl
     by_test true x y = x
     by_test false x y = y
 
-decimal_has_none : (n : ℕ) → has_end (decimal n) ≡ false
+pub decimal_has_none : (n : ℕ) → has_end (decimal n) ≡ false
 unfolding digits
 decimal_has_none n = onto 64 n [] refl
 
-none_in_both : (xs ys : List ℕ) → has_end xs ≡ false → has_end ys ≡ false → has_end (xs ++ ys) ≡ false
+pub none_in_both : (xs ys : List ℕ) → has_end xs ≡ false → has_end ys ≡ false → has_end (xs ++ ys) ≡ false
 none_in_both xs ys a b = rw (list_any-append (λ b. b == 10) xs ys) (rw (a, b) refl)
 
 pub fetch_has_none : (setup : Setup) (t n : ℕ) → has_end setup.work ≡ false → has_end (fetch_file setup t n) ≡ false

@@ -94,6 +94,21 @@ pub record RanPlain (task : Task) (t : ℕ) (layouts : List (ℕ × ℕ)) (befor
   pub log_is : Gained log_before log_after calls
   pub run : (setup : Setup) → IsWhole setup task → TaskRun task t setup layouts asked calls [] (answered result)
 
+-- the task stores its content in chunks
+abbrev pub IsInChunks : Setup → Task → Type 0
+IsInChunks setup task = (key : Parts) → key_reading task.key ≡ Some key → is_chunked setup key ≡ true
+
+-- The pairs, the notes and, where it is kept, the log grew by those of one run of the task, whatever layouts the remote has.
+pub record RanStore (task : Task) (t : ℕ) (setup : Setup) (pairs_before pairs_after : List Asking)
+    (notes_before notes_after : List Noting) (log_before log_after : Option (List Call)) (result : Result Answer NoMemory) : Type 0 where
+  pub asked : List Asking
+  pub calls : List Call
+  pub noted : List Noting
+  pub pairs_are : pairs_after ≡ pairs_before ++ asked
+  pub notes_are : notes_after ≡ notes_before ++ map (behind_more (length pairs_before)) noted
+  pub log_is : Gained log_before log_after calls
+  pub run : (layouts : List (ℕ × ℕ)) → TaskRun task t setup layouts asked calls noted (answered result)
+
 -- the answer of a task that a call of its desk ended
 abbrev pub refusal : DeskError → Result Answer NoMemory
 refusal E.Failed = Ok FileFault

@@ -1,7 +1,8 @@
 -- Runs of tasks, as examples.
-use Rattle.std.specs.Prelude.{ℕ, true, false, List, [], ◌∷◌, ◌++◌, codes, Some, Ok, Err}
+use Rattle.std.specs.Prelude.{ℕ, true, false, List, [], ◌∷◌, ◌++◌, codes, Some, None, Ok, Err}
 use Rattle.journal_model.specs.declared.verdict.Verdict.{Verdict}
-use Rattle.journal_model.specs.declared.verdict.Verdict.TheVariants.{Done, Absent}
+use Rattle.journal_model.specs.declared.verdict.Verdict.TheVariants.{Done, Absent, Ended}
+use Rattle.journal_model.specs.declared.verdict.Why.TheVariants.{Eof}
 use Rattle.annex_model.specs.Messages.{HostMessage, Transfer, Checkpresent, Remove as RemoveKey}
 use Rattle.task_text.specs.declared.task.Work.{Work}
 use Rattle.task_text.specs.declared.task.Work.TheVariants.{Store, Get, Check, Drop}
@@ -109,6 +110,10 @@ stored_ten =
 -- all chunks are there
 abbrev pub finds_ten : List Asking
 finds_ten = asks (Checkpresent c1) (Done 13) ∷ asks (Checkpresent c2) (Done 16) ∷ asks (Checkpresent c3) (Done 19) ∷ []
+
+-- the first is there, and the child was gone at the second
+abbrev pub lost_ten : List Asking
+lost_ten = asks (Checkpresent c1) (Done 13) ∷ record { request = None; verdict = Ended Eof } ∷ []
 
 -- the file shrank behind the second chunk
 abbrev pub stored_short : List Call

@@ -22,15 +22,15 @@ abbrev pub is_size : Option ℕ → ℕ → Bool
 is_size None n = true
 is_size (Some size) n = n == size
 
+abbrev pub is_size_call : Call → Bool
+is_size_call (Size name answer) = true
+is_size_call _ = false
+
 -- Before anything else the file's length is asked, once. The store goes on exactly where the key has no other size; else its answer
 -- is that length.
 abbrev pub begins_with_size : List Call → Bool
 begins_with_size [] = true
 begins_with_size (call ∷ more) = is_size_call call && not (list_any is_size_call more)
-  where
-    is_size_call : Call → Bool
-    is_size_call (Size name answer) = true
-    is_size_call _ = false
 
 -- the file's length, once it is known, and whether it is the key's size
 abbrev pub fits_length : Parts → List ℕ → Bool
@@ -122,7 +122,8 @@ pub record ChunkStoreAsks (setup : Setup) (t : ℕ) (key : Parts) (file : List �
   pub only_missing : (nat_lt (found asked) (questions asked) || list_all (λ (a : Asking). not (is_some a.request)) (transfers asked)) ≡ true
   pub transfers_in_order : AskInOrder (chunk_request setup t) (questions asked + 1) (map (λ (p : Part). p.key) (missing_parts key setup.chunk asked)) (transfers asked)
   pub each_stored : list_all is_done (all_but_last (transfers asked)) ≡ true
-  pub each_whole : are_whole setup t file calls (questions asked + 1) (missing_parts key setup.chunk asked) (transfers asked) ≡ true
+  -- where no chunk was found missing, what follows the questions is one that found its child gone
+  pub each_whole : (not (nat_lt (found asked) (questions asked)) || are_whole setup t file calls (questions asked + 1) (missing_parts key setup.chunk asked) (transfers asked)) ≡ true
   pub next_copied : is_next_copied setup t file calls (length asked + 1) (parts_left key setup.chunk asked) ≡ true
   pub each_removed : are_removed setup t calls (questions asked + 1) (all_but_last (transfers asked)) ≡ true
   pub noted_once : noted ≡ take (length noted) (record { chunk = setup.chunk; count = length (parts_of_layout key setup.chunk); behind = length asked } ∷ [])

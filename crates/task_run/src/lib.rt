@@ -6,6 +6,7 @@ mod ask;
 mod check;
 mod check_layouts;
 mod drop_layouts;
+mod chunk_store;
 mod get;
 pub mod laws;
 mod layouts;
@@ -16,5 +17,6 @@ mod setup;
 mod store;
 
 pub use check::check_answer;
+pub use chunk_store::store_chunks;
 pub use run::run_task;
 pub use setup::Setup;

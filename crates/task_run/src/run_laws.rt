@@ -5,7 +5,7 @@ ghost use Rattle.journal_model.specs.declared.verdict.Verdict.TheVariants.{Done,
 ghost use Rattle.ann_outside.specs.declared.file_desk.DeskError.TheVariants.{Missing, Failed as CallFailed};
 ghost use Rattle.ann_outside.specs.declared.file_desk.Call.TheVariants.{Size, Create, Remove};
 ghost use Rattle.journal_model.specs.declared.answer.Answer.TheVariants.{Stored, Got, Present, Dropped, Absent as AbsentAnswer, Unsupported as UnsupportedAnswer, Unsent as UnsentAnswer, FileFault, NoFile, Memory, Failed as FailedAnswer, Ended as EndedAnswer, Size as SizeAnswer, Hash as HashAnswer};
-ghost use Rattle.task_run.specs.Rows.{task_of, setup_of, asks, notes, store_a, stores_a, sized, get_abc, fetched_1, gets_abc, moved, got_abc, renamed, part_gone, ten, store_ten, stores_ten, stored_ten, finds_ten, stored_short, stores_empty, stored_empty, empty_key, get_ten, gets_ten, resumed_ten, unread_ten, half_read_ten, get_none, goes_on_ten, short_then_more, drop_ten, drops_ten, check_ten, checks_ten, abc, get_md5, gets_md5, resumed_foo, gets_whole_md5, fetched_foo, gets_hi, got_hi};
+ghost use Rattle.task_run.specs.Rows.{task_of, setup_of, asks, notes, store_a, stores_a, sized, get_abc, fetched_1, gets_abc, moved, got_abc, renamed, part_gone, ten, store_ten, stores_ten, stored_ten, finds_ten, lost_ten, stored_short, stores_empty, stored_empty, empty_key, get_ten, gets_ten, resumed_ten, unread_ten, half_read_ten, get_none, goes_on_ten, short_then_more, drop_ten, drops_ten, check_ten, checks_ten, abc, get_md5, gets_md5, resumed_foo, gets_whole_md5, fetched_foo, gets_hi, got_hi};
 ghost use Rattle.ann_key.specs.Keys.{Parts, key_reading};
 ghost use Rattle.ann_digest.specs.Fits.{IsDigestFor, FitsKey};
 ghost use Rattle.task_run.specs.Runs.{TaskRun};
@@ -69,6 +69,7 @@ pub fn chunk_store_runs()
     ensures there { TaskRun store_ten 1 (setup_of 4) [] finds_ten (sized (codes "f") 10) (notes 4 3 3 ∷ []) Stored }
     ensures empty { TaskRun (task_of Store empty_key (codes "f")) 1 (setup_of 4) [] stores_empty stored_empty (notes 4 1 2 ∷ []) Stored }
     ensures short { TaskRun store_ten 1 (setup_of 4) [] (take 2 stores_ten) stored_short [] (SizeAnswer 2) }
+    ensures lost { TaskRun store_ten 1 (setup_of 4) [] lost_ten (sized (codes "f") 10) [] (EndedAnswer Eof) }
     ensures early_note { TaskRun store_ten 1 (setup_of 4) [] stores_ten stored_ten (notes 4 3 3 ∷ []) Stored → ⊥ }
     ensures no_note { TaskRun store_ten 1 (setup_of 4) [] stores_ten stored_ten [] Stored → ⊥ }
     ensures unstored { TaskRun store_ten 1 (setup_of 4) [] (take 3 stores_ten) (take 9 stored_ten) (notes 4 3 3 ∷ []) Stored → ⊥ }

@@ -79,3 +79,29 @@ returns-clause-short c = record {
   );
   answered = record { last_removed = refl; answered = (refl, refl, refl) };
 }
+
+pub returns-clause-lost : goal.returns-clause-lost
+unfolding digits
+returns-clause-lost c = record {
+  asked_till_stop = refl;
+  calls_till_stop = refl;
+  found = refl;
+  work = (
+    record { names = refl; changes = refl; lengths = refl },
+    record {
+      size_first = refl;
+      fits = λ some. refl;
+      questions_in_order = search rules;
+      each_found = refl;
+      only_missing = refl;
+      transfers_in_order = search rules;
+      each_stored = refl;
+      each_whole = refl;
+      next_copied = refl;
+      each_removed = refl;
+      noted_once = refl;
+      noted_last = λ some. absurd (some refl);
+    },
+  );
+  answered = refl;
+}
