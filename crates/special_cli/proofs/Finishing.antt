@@ -19,7 +19,9 @@ use Rattle.journal_model.specs.Shares.{are_by}
 use Rattle.journal_model.proofs.Working.{jobs_stay_closed}
 use Rattle.task_run.specs.TaskRuns.{Asking, CheckRun}
 use Rattle.task_run.proofs.Askings.{asks_for, askings-unasked}
-use Rattle.journal_model.specs.Halves.{EarValue, MouthValue, LinkWired}
+use Rattle.journal_model.specs.Halves.{EarValue, MouthValue}
+use Rattle.link_roles.specs.Writings.{LoneWired}
+use Rattle.link_roles.proofs.Writings.{written_apart}
 use Rattle.journal_model.proofs.Ears.{ear_apart}
 use Rattle.journal_model.proofs.Mouths.{mouth_apart}
 use Rattle.link_roles.specs.Alone.{Closes}
@@ -157,17 +159,31 @@ closed_over past mid journal c answer one was given closes =
 
 -- an entry that says nothing of children leaves each link wired
 module _ (past journal : List Entry) (ear : EarValue) (mouth : MouthValue) where
-  pub links_claim : (task child : ℕ) → journal ≡ past ++ main_entry (Claim task child) ∷ [] → LinkWired past ear mouth → LinkWired journal ear mouth
+  pub links_claim : (task child : ℕ) → journal ≡ past ++ main_entry (Claim task child) ∷ [] → LoneWired past ear mouth → LoneWired journal ear mouth
   links_claim task child e h =
       let more : List Entry = main_entry (Claim task child) ∷ [] in
-      subst (λ (j : List Entry). LinkWired j ear mouth) (sym e)
-      (record { ear = ear_apart past more ear refl h.ear; mouth = mouth_apart past more mouth refl h.mouth; turn = heard_on ear.child past more refl h.turn })
+      subst (λ (j : List Entry). LoneWired j ear mouth) (sym e)
+      (record {
+        link = record {
+          ear = ear_apart past more ear refl h.link.ear;
+          mouth = mouth_apart past more mouth refl h.link.mouth;
+          turn = heard_on ear.child past more refl h.link.turn;
+        };
+        written = written_apart past more ear.child refl h.written;
+      })
 
-  pub links_answer : (task : ℕ) (answer : Answer) → journal ≡ past ++ main_entry (Answered task answer) ∷ [] → LinkWired past ear mouth → LinkWired journal ear mouth
+  pub links_answer : (task : ℕ) (answer : Answer) → journal ≡ past ++ main_entry (Answered task answer) ∷ [] → LoneWired past ear mouth → LoneWired journal ear mouth
   links_answer task answer e h =
       let more : List Entry = main_entry (Answered task answer) ∷ [] in
-      subst (λ (j : List Entry). LinkWired j ear mouth) (sym e)
-      (record { ear = ear_apart past more ear refl h.ear; mouth = mouth_apart past more mouth refl h.mouth; turn = heard_on ear.child past more refl h.turn })
+      subst (λ (j : List Entry). LoneWired j ear mouth) (sym e)
+      (record {
+        link = record {
+          ear = ear_apart past more ear refl h.link.ear;
+          mouth = mouth_apart past more mouth refl h.link.mouth;
+          turn = heard_on ear.child past more refl h.link.turn;
+        };
+        written = written_apart past more ear.child refl h.written;
+      })
 
 -- the first child was started
 pub greeted_started : (journal : List Entry) (c : ℕ) → Greeted [] journal 0 false c → is_started journal c ≡ true

@@ -7,7 +7,7 @@ ghost use Rattle.journal_model.specs.Journal.{is_started, open_jobs};
 ghost use Rattle.journal_model.specs.Legality.{Legal, least_free, is_prepared};
 ghost use Rattle.journal_model.specs.Projection.{IsNamed};
 ghost use Rattle.host_core.specs.Steps.{is_gone, may_answer, may_request};
-ghost use Rattle.journal_model.specs.Halves.{LinkWired};
+ghost use Rattle.link_roles.specs.Writings.{LoneWired};
 ghost use Rattle.link_roles.specs.Alone.{AskedAlone, KeepsLink};
 ghost use Rattle.child_start.specs.Cores.{IsSameCore};
 ghost use Rattle.child_start.specs.Greetings.{Greeted, IsReady};
@@ -123,7 +123,7 @@ fn end<I: Sink, O: Source>(link: &Lone<I, O>, core: &mut Core, answer: Answer)
     requires started { is_started core.old.journal link.now.ear.child ≡ true }
     requires number { link.now.ear.child ≡ 1 }
     ensures run { (key : List ℕ) (first : What) → IsDone key first core.old.journal answer → IsRun key first core.new.journal answer }
-    ensures wired { LinkWired core.old.journal link.now.ear link.now.mouth → LinkWired core.new.journal link.now.ear link.now.mouth }
+    ensures wired { LoneWired core.old.journal link.now.ear link.now.mouth → LoneWired core.new.journal link.now.ear link.now.mouth }
     ensures core { IsSameCore core.old core.new }
 {
     give(core, answer);
@@ -153,7 +153,7 @@ pub(super) fn answer_unready<I: Sink, O: Source>(link: &Lone<I, O>, core: &mut C
     requires started { is_started core.old.journal link.now.ear.child ≡ true }
     requires number { link.now.ear.child ≡ 1 }
     ensures run { (key : List ℕ) → IsRun key (Start 1 0 false) core.new.journal answer }
-    ensures wired { LinkWired core.old.journal link.now.ear link.now.mouth → LinkWired core.new.journal link.now.ear link.now.mouth }
+    ensures wired { LoneWired core.old.journal link.now.ear link.now.mouth → LoneWired core.new.journal link.now.ear link.now.mouth }
     ensures core { IsSameCore core.old core.new }
 {
     claim_alone(core);
