@@ -80,15 +80,19 @@ written_apart past more c none h = written_on past more c (any_narrower (settles
 
 unsettled_written : (c : ℕ) (past more : List Entry) → ((j : ℕ) → verdict_of more c j ≡ None) → written_from c past more ≡ true
 unsettled_written c past [] none = refl
-unsettled_written c past (e ∷ more) none = step e.what none
+unsettled_written c past (e ∷ more) none = step e.what none (unsettled_written c (past ++ e ∷ []) more)
   where
-    step : (w : What) → ((j : ℕ) → verdict_of (record { by = e.by; what = w } ∷ more) c j ≡ None) → (settles_written past c w && written_from c (past ++ e ∷ []) more) ≡ true
-    step (Settled child job verdict) h = go (child == c) refl
+    step : (w : What) → ((j : ℕ) → verdict_of (record { by = e.by; what = w } ∷ more) c j ≡ None)
+        → (((j : ℕ) → verdict_of more c j ≡ None) → written_from c (past ++ e ∷ []) more ≡ true)
+        → (settles_written past c w && written_from c (past ++ e ∷ []) more) ≡ true
+    step (Settled child job verdict) h r = go (child == c) refl
       where
         go : (b : Bool) → (child == c) ≡ b → (settles_written past c (Settled child job verdict) && written_from c (past ++ e ∷ []) more) ≡ true
-        go true f = absurd (let bad : Some verdict ≡ None = (rw (f, same job) at h job) in cc)
-        go false f = rw (f, unsettled_written c (past ++ e ∷ []) more (λ j. rw f at h j)) refl
-    step w h = rw (unsettled_written c (past ++ e ∷ []) more h) (let e : settles_written past c w ≡ true = refl in refl)
+        go true f =
+            let here : verdict_of (record { by = e.by; what = Settled child job verdict } ∷ more) c job ≡ None = h job in
+            absurd (let bad : Some verdict ≡ None = rw (f, same job) at here in cc)
+        go false f = rw (f, r (λ j. (let here : verdict_of (record { by = e.by; what = Settled child job verdict } ∷ more) c j ≡ None = h j in rw f at here))) refl
+    step w h r = rw (r h) refl
 
 pub written_unasked : (o : Opening) (journal : List Entry) (c : ℕ) → Legal o journal → asked_jobs journal c ≡ [] → Writes c journal
 written_unasked o journal c legal none = unsettled_written c [] journal (λ j. unasked_none o journal legal c j (ap (list_any (λ k. k == j)) none))
@@ -131,8 +135,8 @@ replies_quiet past c child k by (l ∷ ls) = replies_quiet past c child k by ls
 pub writes_ended : {n : ℕ} {a : Bool} {o : Opening} {old new : List Entry} (c : ℕ) (why : Why) → is_closed why ≡ false → Ends o n a old new c why
     → Moved n a (by_link c) (is_of_child c) old new (Writes c old) (Writes c new)
 writes_ended c why kept (inr s) = writes_on c s.0
-writes_ended {n} c why kept (inl s) =
-    writes_made c s (all_kinds (by_ear c) (by_link c) (ear_links c) (End c why ∷ due_by _ s.past (End c why)) (ending_by_ear s.past c why kept)) (ended_quiet c c n why (open_jobs s.past c))
+writes_ended {n} {o = o} c why kept (inl s) =
+    writes_made c s (all_kinds (by_ear c) (by_link c) (ear_links c) (End c why ∷ due_by o s.past (End c why)) (ending_by_ear s.past c why kept)) (ended_quiet c c n why (open_jobs s.past c))
 
 mouth_quiet : (c : ℕ) (w : What) → by_mouth c w ≡ true → settles_by_line c w ≡ false
 mouth_quiet c (Settled child job v) h = go (child == c) (is_by_line v) h
@@ -148,15 +152,9 @@ pub writes_mouth : {n : ℕ} {a : Bool} {old new : List Entry} {P Q : Type 0} (v
     → Moved n a (by_link c) (is_of_child c) old new (Writes c old) (Writes c new)
 writes_mouth {n} {a} {old} {new} {P} {Q} v c is s' =
     let s : Moved n a (by_mouth c) (is_said c) old new P Q = subst (λ (k : ℕ). Moved n a (by_mouth k) (is_said k) old new P Q) is s' in
-    moved_as (λ h. h) (λ h. h) (record {
-      more = s.more;
-      is = s.is;
-      own = (moved_wider (mouth_links c) (said_of c) s (λ h own p. own p)).own;
-      lone = s.lone;
-      kept = λ h w.
-          subst (Writes c) (sym s.is)
-          (written_on old s.more c (none_made (by_mouth c) (settles_by_line c) (mouth_quiet c) n s.more s.own (all_narrower (settles_by_line c) (is_of_child c) (settles_of c) n s.more h)) w);
-    })
+    moved_wider (mouth_links c) (said_of c) s (λ h own w.
+    subst (Writes c) (sym s.is)
+    (written_on old s.more c (none_made (by_mouth c) (settles_by_line c) (mouth_quiet c) n s.more s.own (all_narrower (settles_by_line c) (is_of_child c) (settles_of c) n s.more h)) w))
 
 -- ---- a line that was got where all is written
 
@@ -295,8 +293,8 @@ lone_asked o {n} {a} {old} {mid} t q e m is x h = lone_both e e m m refl (link_a
 -- ---- a mouth's turn
 
 -- what was written, through the door as it was before
-pub writing_so : {o p : Opening} {n k : ℕ} {a b : Bool} {old new : List Entry} {m m' : MouthValue} {line : List ℕ} → p ≡ o → k ≡ n → b ≡ a → IsWriting p k b old new m m' line → IsWriting o n a old new m m' line
-writing_so {o} {p} {n} {k} {a} {b} {old} {new} {m} {m'} {line} eo en ea h =
+pub writing_so : {o p : Opening} {n k : ℕ} {a b : Bool} {old new : List Entry} (m m' : MouthValue) (line : List ℕ) → p ≡ o → k ≡ n → b ≡ a → IsWriting p k b old new m m' line → IsWriting o n a old new m m' line
+writing_so {o} {p} {n} {k} {a} {b} {old} {new} m m' line eo en ea h =
     subst (λ (x : Opening). IsWriting x n a old new m m' line) eo
     (subst (λ (x : ℕ). IsWriting p x a old new m m' line) en (subst (λ (x : Bool). IsWriting p k x old new m m' line) ea h))
 

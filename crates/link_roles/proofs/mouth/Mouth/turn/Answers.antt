@@ -33,9 +33,9 @@ returns-in-Ok-Line-clause-turned g c = (
   g.D.Door.seen c.fetch.new.door,
   c.fetch.ensures.passed,
   (
-    _,
-    subst (λ (k : ℕ). IsNextLine (g.D.Door.seen c.fetch.new.door) k _) c.child-child.ensures (rw c.in-Ok-Line.field-0-is at c.in-Ok-Line.ensures.line),
-    writing_so c.fetch.ensures.door.opening c.fetch.ensures.door.number c.fetch.ensures.door.alone c.send.ensures.writing,
+    c.in-Ok-Line.line,
+    subst (λ (k : ℕ). IsNextLine (g.D.Door.seen c.fetch.new.door) k c.in-Ok-Line.line) c.child-child.ensures (rw c.in-Ok-Line.field-0-is at c.in-Ok-Line.ensures.line),
+    writing_so c.args.self.now c.send.new.self c.in-Ok-Line.line c.fetch.ensures.door.opening c.fetch.ensures.door.number c.fetch.ensures.door.alone c.send.ensures.writing,
   ),
 )
 
