@@ -61,8 +61,10 @@ unsettling past c w h = refl
 unanswered : (c : ℕ) (past more : List Entry) → any (settles_by_line c) more ≡ false → written_from c past more ≡ true
 unanswered c past [] h = refl
 unanswered c past (e ∷ more) h =
-    rw (unsettling past c e.what (either_left (settles_by_line c e.what) (any (settles_by_line c) more) h),
-    unanswered c (past ++ e ∷ []) more (either_right (settles_by_line c e.what) (any (settles_by_line c) more) h)) refl
+    rw (
+      unsettling past c e.what (either_left (settles_by_line c e.what) (any (settles_by_line c) more) h),
+      unanswered c (past ++ e ∷ []) more (either_right (settles_by_line c e.what) (any (settles_by_line c) more) h),
+    ) refl
 
 -- entries that settle no job of c by a line
 pub written_on : (past more : List Entry) (c : ℕ) → any (settles_by_line c) more ≡ false → Writes c past → Writes c (past ++ more)

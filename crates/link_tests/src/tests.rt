@@ -114,7 +114,10 @@ fn tagged_child(alloc: Global) -> Result<Vec<Cue>, NoMemory> {
     let mut cues = Vec::new(alloc);
     cues.push(cue(alloc, [].as_slice(), [(9, "VERSION 1\n")].as_slice())?)?;
     for (asked, said) in [
-        ("EXTENSIONS INFO GETGITREMOTENAME ASYNC", "EXTENSIONS ASYNC\n"),
+        (
+            "EXTENSIONS INFO GETGITREMOTENAME ASYNC",
+            "EXTENSIONS ASYNC\n",
+        ),
         ("PREPARE", "PREPARE-SUCCESS\n"),
     ] {
         cues.push(cue(alloc, [asked].as_slice(), [(0, said)].as_slice())?)?;
@@ -131,7 +134,10 @@ fn plain_child(alloc: Global) -> Result<Vec<Cue>, NoMemory> {
         ("EXTENSIONS INFO GETGITREMOTENAME", "EXTENSIONS \n"),
         ("PREPARE", "PREPARE-SUCCESS\n"),
         ("CHECKPRESENT WORM--1", "CHECKPRESENT-FAILURE WORM--1\n"),
-        ("CHECKPRESENT WORM--2", "DEBUG wait\nCHECKPRESENT-UNKNOWN WORM--2 why\n"),
+        (
+            "CHECKPRESENT WORM--2",
+            "DEBUG wait\nCHECKPRESENT-UNKNOWN WORM--2 why\n",
+        ),
         ("CHECKPRESENT WORM--3", "CHECKPRESENT-SUCCESS WORM--3\n"),
         ("CHECKPRESENT WORM--4", "UNSUPPORTED-REQUEST\n"),
     ] {
@@ -226,8 +232,16 @@ fn over_one_child<R: Threads + Wait + Sync + Abort>(
     assert!(rt; is_started(core.journal(), child));
     let (hall, mut passes) = begin(alloc, core, 5)?;
     let (ear, mouth) = link.part();
-    let ear: Thread<'_, R> = Worker::Ready(alloc, seat_of(rt, &hall, &mut passes, child), Part::Ear(ear));
-    let mouth: Thread<'_, R> = Worker::Ready(alloc, seat_of(rt, &hall, &mut passes, child), Part::Mouth(mouth));
+    let ear: Thread<'_, R> = Worker::Ready(
+        alloc,
+        seat_of(rt, &hall, &mut passes, child),
+        Part::Ear(ear),
+    );
+    let mouth: Thread<'_, R> = Worker::Ready(
+        alloc,
+        seat_of(rt, &hall, &mut passes, child),
+        Part::Mouth(mouth),
+    );
     let mut workers: Vec<Thread<'_, R>> = Vec::with_capacity(alloc, 3)?;
     workers.push(Worker::Ready(alloc, seat_of(rt, &hall, &mut passes, child), Part::Asks))?;
     workers.push(Worker::Ready(alloc, seat_of(rt, &hall, &mut passes, child), Part::Asks))?;
@@ -267,7 +281,11 @@ fn an_ear_a_mouth_and_three_askers(rt: HostRuntime) -> Result<(), Fail> {
             panic!(rt; "not ready")
         };
         let [one, two, three, four] = heard.verdicts;
-        assert_eq!(rt; [word(one), word(two), word(three), word(four)], ["absent", "unknown", "done", "none"], "{most}");
+        assert_eq!(rt;
+            [word(one), word(two), word(three), word(four)],
+            ["absent", "unknown", "done", "none"],
+            "{most}"
+        );
         assert_eq!(rt; heard.rest, 0, "{most}");
     }
     Ok(())
@@ -345,11 +363,38 @@ fn over_two_children<R: Threads + Wait + Sync + Abort>(
         most,
         bytes: usize::MAX,
     };
-    let keys = ["check WORM--1", "check WORM--2", "check WORM--3", "check WORM--4"];
+    let keys = [
+        "check WORM--1",
+        "check WORM--2",
+        "check WORM--3",
+        "check WORM--4",
+    ];
     let mut core = Core::new(alloc, opening(alloc, keys.as_slice())?)?;
-    let first = ready(rt, greet(alloc, &mut programs, "any", &mut core, 0, false, Mode::Serve));
+    let first = ready(
+        rt,
+        greet(
+            alloc,
+            &mut programs,
+            "any",
+            &mut core,
+            0,
+            false,
+            Mode::Serve,
+        ),
+    );
     assert!(rt; starts_so_far(core.journal()) < 100);
-    let second = ready(rt, greet(alloc, &mut programs, "any", &mut core, 1, false, Mode::Serve));
+    let second = ready(
+        rt,
+        greet(
+            alloc,
+            &mut programs,
+            "any",
+            &mut core,
+            1,
+            false,
+            Mode::Serve,
+        ),
+    );
     let one = first.child();
     let two = second.child();
     core.step(0, Event::Look { child: one })?;
@@ -357,8 +402,16 @@ fn over_two_children<R: Threads + Wait + Sync + Abort>(
     assert!(rt; is_started(core.journal(), two));
     let (hall, mut passes) = begin(alloc, core, 2)?;
     let mut workers: Vec<Thread<'_, R>> = Vec::with_capacity(alloc, 2)?;
-    workers.push(Worker::Ready(alloc, seat_of(rt, &hall, &mut passes, one), Part::Lone(first)))?;
-    workers.push(Worker::Ready(alloc, seat_of(rt, &hall, &mut passes, two), Part::Lone(second)))?;
+    workers.push(Worker::Ready(
+        alloc,
+        seat_of(rt, &hall, &mut passes, one),
+        Part::Lone(first),
+    ))?;
+    workers.push(Worker::Ready(
+        alloc,
+        seat_of(rt, &hall, &mut passes, two),
+        Part::Lone(second),
+    ))?;
     let Ok(backs) = run_pool(rt, alloc, workers) else {
         return Err(NoMemory);
     };
@@ -378,7 +431,11 @@ fn over_two_children<R: Threads + Wait + Sync + Abort>(
 fn two_lone_links_on_one_hall(rt: HostRuntime) -> Result<(), Fail> {
     for most in 1..60 {
         let [one, two, three, four] = over_two_children(&rt, rt.alloc(), most)?;
-        assert_eq!(rt; [word(one), word(two), word(three), word(four)], ["absent", "unknown", "done", "unsupported"], "{most}");
+        assert_eq!(rt;
+            [word(one), word(two), word(three), word(four)],
+            ["absent", "unknown", "done", "unsupported"],
+            "{most}"
+        );
     }
     Ok(())
 }

@@ -132,7 +132,11 @@ fn came_of(alloc: Global, tasks: Result<Vec<(u32, Verdict)>, NoMemory>, rest: us
 }
 
 // What the part does at the seat; nothing where it isn't of the seat's child.
-fn play<I: Sink + Drop, O: Source + Drop, R: Wait>(alloc: Global, seat: Seat<'_, R>, part: Part<I, O>) -> Came {
+fn play<I: Sink + Drop, O: Source + Drop, R: Wait>(
+    alloc: Global,
+    seat: Seat<'_, R>,
+    part: Part<I, O>,
+) -> Came {
     let Seat {
         rt,
         hall,
