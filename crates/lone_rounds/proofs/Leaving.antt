@@ -14,6 +14,7 @@ use Rattle.link_roles.specs.Writings.{LoneWired}
 use Rattle.journal_model.specs.Shares.{is_of_child}
 use Rattle.journal_model.proofs.Looks.{any-append, each_of-append}
 use Rattle.journal_model.proofs.Testing.{by_either}
+use Rattle.link_roles.proofs.Linked.{any_narrower}
 use Rattle.link_roles.proofs.Writings.{lone_apart}
 use Rattle.child_start.specs.Greetings.{AreNumbered}
 use Rattle.child_end.specs.Wires.{IsLaid, IsLeft, IsOfStart, WireValue, came, came_in}
