@@ -8,6 +8,7 @@ use Rattle.journal_model.specs.Journal.{each_of}
 use Rattle.journal_model.specs.Wires.{Wired, Caused, is_heard_in_turn}
 use Rattle.journal_model.specs.Halves.{EarValue, MouthValue}
 use Rattle.link_roles.specs.declared.wire.Wire.{Wire}
+use Rattle.link_roles.specs.Writings.{is_written_first}
 
 -- ---- one wire
 
@@ -60,12 +61,13 @@ IsOfStart starts n None = Unit {0}
 IsOfStart None n (Some number) = Unit {0}
 IsOfStart (Some xs) n (Some number) = number ≡ length xs + n
 
--- The wire's bytes are the journal's lines, its child's end and mute have their causes, each line was fed in its turn, its
--- halves are those that the nth start gave, and both are closed.
+-- The wire's bytes are the journal's lines, its child's end and mute have their causes, each line was fed in its turn, each
+-- request was written before a line answered it, its halves are those that the nth start gave, and both are closed.
 pub record IsWire (starts : Option Starts) (journal : List Entry) (n : ℕ) (wire : WireValue) : Type 0 where
   pub wired : Wired journal wire.child wire.given wire.taken wire.rest
   pub caused : Caused journal wire.child wire.left wire.read_faults wire.write_faults
   pub heard : IsTrue (is_heard_in_turn journal wire.child)
+  pub written : IsTrue (is_written_first journal wire.child)
   pub inlet : IsOfStart starts n wire.inlet_number
   pub outlet : IsOfStart starts n wire.outlet_number
   pub closed : (wire.is_inlet_open ≡ false) × (wire.is_outlet_open ≡ false)

@@ -4,7 +4,7 @@ ghost use Rattle.ann_outside.specs.Causes.{Stays};
 ghost use Rattle.journal_model.specs.declared.verdict.Why.TheVariants.{Closed};
 ghost use Rattle.journal_model.specs.Journal.{is_started};
 ghost use Rattle.journal_model.specs.Legality.{may_stop};
-ghost use Rattle.journal_model.specs.Halves.{LinkWired};
+ghost use Rattle.link_roles.specs.Writings.{LoneWired};
 ghost use Rattle.link_roles.specs.Alone.{Closes};
 ghost use Rattle.child_start.specs.Cores.{IsSameCore};
 ghost use Rattle.child_end.specs.Wires.{IsLaid, wire_value};
@@ -18,7 +18,7 @@ pub fn close_child<I: Sink, O: Source>(link: &Lone<I, O>, core: &mut Core)
     requires started { is_started core.old.journal link.now.ear.child ≡ true }
     requires idle { may_stop core.old.journal link.now.ear.child Closed ≡ true }
     ensures closes { Closes 0 link.now.ear.child core.old.journal core.new.journal }
-    ensures wired { LinkWired core.old.journal link.now.ear link.now.mouth → LinkWired core.new.journal link.now.ear link.now.mouth }
+    ensures wired { LoneWired core.old.journal link.now.ear link.now.mouth → LoneWired core.new.journal link.now.ear link.now.mouth }
     ensures core { IsSameCore core.old core.new }
 {
     let mut door = OwnDoor { core };

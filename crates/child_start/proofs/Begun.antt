@@ -18,7 +18,9 @@ use Rattle.journal_model.proofs.Fresh.{Nothing, fresh}
 use Rattle.journal_model.proofs.Linking.{Adds, nothing_both, why_is_end}
 use Rattle.journal_model.proofs.Ears.{ear_start}
 use Rattle.journal_model.proofs.Mouths.{mouth_start}
-use Rattle.journal_model.specs.Halves.{EarValue, MouthValue, LinkWired}
+use Rattle.journal_model.specs.Halves.{EarValue, MouthValue}
+use Rattle.link_roles.specs.Writings.{LoneWired}
+use Rattle.link_roles.proofs.Writings.{written_unasked}
 use Rattle.journal_model.proofs.Heard.{heard_on}
 use Rattle.journal_model.proofs.Projecting.{invariant}
 use Rattle.annex_model.specs.Extensions.{names_of}
@@ -221,13 +223,16 @@ module _ (o : Opening) (old new : List Entry) (c slot : ℕ) (offer : Bool) (num
   -- halves that gave and took nothing
   pub is_wired : (given left : Option (List ℕ)) (read_faults : ℕ) (outlet_number : Option ℕ) (taken : Option (List ℕ)) (write_faults : ℕ) (inlet_number : Option ℕ) (e : EarValue) (m : MouthValue)
       → e ≡ record { child = c; given = given; left = left; faults = read_faults; number = outlet_number; held = [] } → m ≡ record { child = c; taken = taken; faults = write_faults; number = inlet_number }
-      → IfSome given (λ xs. xs ≡ []) → IfSome taken (λ xs. xs ≡ []) → LinkWired new e m
+      → IfSome given (λ xs. xs ≡ []) → IfSome taken (λ xs. xs ≡ []) → LoneWired new e m
   is_wired given left read_faults outlet_number taken write_faults inlet_number e m ear mouth g t =
       let begun_ear : EarValue = record { child = c; given = given; left = left; faults = read_faults; number = outlet_number; held = [] } in
       let begun_mouth : MouthValue = record { child = c; taken = taken; faults = write_faults; number = inlet_number } in
-      subst (λ (x : EarValue). LinkWired new x m) (sym ear)
-      (subst (λ (x : MouthValue). LinkWired new begun_ear x) (sym mouth) (record {
-        ear = ear_start new begun_ear no_lines adds.ends refl g;
-        mouth = mouth_start new begun_mouth adds.covers adds.written adds.mutes t;
-        turn = heard_on c [] new no_lines refl;
+      subst (λ (x : EarValue). LoneWired new x m) (sym ear)
+      (subst (λ (x : MouthValue). LoneWired new begun_ear x) (sym mouth) (record {
+        link = record {
+          ear = ear_start new begun_ear no_lines adds.ends refl g;
+          mouth = mouth_start new begun_mouth adds.covers adds.written adds.mutes t;
+          turn = heard_on c [] new no_lines refl;
+        };
+        written = written_unasked o new c legal has_begun.jobs;
       }))

@@ -2,7 +2,7 @@ ghost use Rattle.std.specs.Prelude.{◌≡◌, ◌≤◌, ◌<◌, ◌+◌, ◌+
 ghost use Rattle.ann_outside.specs.Causes.{Rose, Stays};
 ghost use Rattle.journal_model.specs.declared.entry.What.TheVariants.{Start, NoStart};
 ghost use Rattle.journal_model.specs.Legality.{Legal, count, is_start};
-ghost use Rattle.journal_model.specs.Halves.{LinkWired};
+ghost use Rattle.link_roles.specs.Writings.{LoneWired};
 ghost use Rattle.talk_serial.specs.Requests.{message_of};
 ghost use Rattle.link_roles.specs.Alone.{KeepsLink};
 ghost use Rattle.link_roles.specs.Doors.{IsSameDoor};
@@ -249,7 +249,7 @@ where
     P::Outlet: Drop,
     requires few { count is_start core.old.journal < 4294967295 }
     ensures tells { TellsFor mode core.old.journal core.new.journal slot offer result }
-    ensures wired { IfHasLink (LinkWired core.new.journal) result }
+    ensures wired { IfHasLink (LoneWired core.new.journal) result }
     ensures numbers { IfHasLink (AreNumbered (P.starts programs.new)) result }
     ensures starts { StartsOnce (P.starts programs.old) (P.starts programs.new) program.now result }
     ensures fault { result ≡ Greeting.StartFault → Rose (P.faults programs.old) (P.faults programs.new) }

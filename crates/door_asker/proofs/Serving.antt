@@ -17,8 +17,9 @@ use Rattle.journal_model.specs.declared.entry.Entry.{Entry}
 use Rattle.journal_model.specs.declared.opening.Opening.{Opening}
 use Rattle.journal_model.specs.Journal.{any, asks, asked_jobs, each_of, is_settled, is_tagged, open_jobs, settles, verdict_of}
 use Rattle.journal_model.specs.Legality.{Legal, has_open_job, holder, is_busy_with, is_claimed_by, is_done, is_empty, is_greeted, is_held_for, is_in_turn, is_prepared, may_ask, may_work, prepares, suits_child}
-use Rattle.journal_model.specs.Shares.{Moved, are_by, are_own, is_heard, is_of_child, is_said, makes_only, by_link}
-use Rattle.journal_model.specs.Halves.{EarValue, MouthValue, LinkWired}
+use Rattle.journal_model.specs.Shares.{Moved, are_by, are_own, is_of_child, makes_only, by_link}
+use Rattle.journal_model.specs.Halves.{EarValue, MouthValue}
+use Rattle.link_roles.specs.Writings.{LoneWired}
 use Rattle.journal_model.proofs.Holding.{claimed, answered, holder_append, unturned}
 use Rattle.journal_model.proofs.Looks.{both, same, differ, any-append, each_of-append, is_asked, settled_none, verdict_of-append}
 use Rattle.journal_model.proofs.Projecting.{invariant}
@@ -28,7 +29,8 @@ use Rattle.host_core.specs.Steps.{may_request, next_job}
 use Rattle.task_asker.specs.Askings.{names_in_line}
 use Rattle.link_roles.specs.Doors.{Passed}
 use Rattle.link_roles.specs.Asks.{Grows, HasAsked}
-use Rattle.link_roles.proofs.Linked.{any_narrower, heard_of, link_apart, said_of}
+use Rattle.link_roles.proofs.Linked.{any_narrower}
+use Rattle.link_roles.proofs.Writings.{lone_apart}
 use Rattle.link_roles.proofs.Roles.{moved_both, moved_by, moved_wider, none_made, started_on}
 use Rattle.door_asker.specs.AtTasks.{AtTask, AskedFor, NotedFor}
 use Rattle.door_asker.specs.Noting.{by_noting}
@@ -316,9 +318,9 @@ module _ (o : Opening) (n t u : ℕ) (a : Bool) (old new : List Entry) (is : t �
       }
 
   pub serves_noted : (e : EarValue) (m : MouthValue) (chunk count : ℕ) (result : Result (Unit {0}) NoMemory) → m.child ≡ e.child → Serves o n a e.child t old → NotedFor o n t old new chunk count result
-      → Grows n a (by_noting t) old new → ServesOn o n a e.child u old new (LinkWired old e m) (LinkWired new e m)
+      → Grows n a (by_noting t) old new → ServesOn o n a e.child u old new (LoneWired old e m) (LoneWired new e m)
   serves_noted e m chunk count result one s noted grows =
-      subst (λ (k : ℕ). ServesOn o n a e.child k old new (LinkWired old e m) (LinkWired new e m)) is record {
+      subst (λ (k : ℕ). ServesOn o n a e.child k old new (LoneWired old e m) (LoneWired new e m)) is record {
         serves = record {
           at = at_noted o n t old new chunk count result noted;
           started = started_on e.child grows s.started;
@@ -331,8 +333,7 @@ module _ (o : Opening) (n t u : ℕ) (a : Bool) (old new : List Entry) (is : t �
           lone = grows.lone;
           kept = λ h w.
               (let none = none_made (by_noting t) (is_of_child e.child) (note_apart e.child t) n grows.more grows.own h in
-              subst (λ (x : List Entry). LinkWired x e m) (sym grows.is)
-              (link_apart old grows.more e m one (any_narrower (is_heard e.child) (is_of_child e.child) (heard_of e.child) grows.more none)
-              (any_narrower (is_said e.child) (is_of_child e.child) (said_of e.child) grows.more none) w));
+              subst (λ (x : List Entry). LoneWired x e m) (sym grows.is)
+              (lone_apart old grows.more e m one none w));
         };
       }

@@ -3,7 +3,8 @@ use Rattle.std.specs.Prelude.{ℕ, ◌≡◌, Bool, List}
 use Rattle.std.proofs.Common.{refl, sym, subst, ◌∙◌}
 use Rattle.journal_model.specs.declared.entry.Entry.{Entry}
 use Rattle.journal_model.specs.declared.opening.Opening.{Opening}
-use Rattle.journal_model.specs.Halves.{EarValue, MouthValue, LinkWired}
+use Rattle.journal_model.specs.Halves.{EarValue, MouthValue}
+use Rattle.link_roles.specs.Writings.{LoneWired}
 use Rattle.link_roles.proofs.Roles.{moved_both, moved_still, same_both}
 use Rattle.door_asker.specs.Servings.{AskerGoes, Serves, ServesOn}
 
@@ -47,7 +48,7 @@ module _ {D H : Type 0} (opening_of : D → Opening) (number_of : D → ℕ) (se
       on = record { serves = next.serves; moved = moved_both refl refl s.on.moved next.moved };
     }
       where
-        next : ServesOn (opening_of x) (number_of x) (alone_of x) e.child t (seen_of y) (seen_of z) (LinkWired (seen_of y) f w) (LinkWired (seen_of z) g v)
+        next : ServesOn (opening_of x) (number_of x) (alone_of x) e.child t (seen_of y) (seen_of z) (LoneWired (seen_of y) f w) (LoneWired (seen_of z) g v)
         next =
             on_so (opening_of x) (number_of x) (alone_of x) e.child t (opening_of y) (number_of y) (alone_of y) f.child u
-            s.door.opening s.door.number s.door.alone s.link.0.0 s.task (seen_of y) (seen_of z) (LinkWired (seen_of y) f w) (LinkWired (seen_of z) g v) r.on
+            s.door.opening s.door.number s.door.alone s.link.0.0 s.task (seen_of y) (seen_of z) (LoneWired (seen_of y) f w) (LoneWired (seen_of z) g v) r.on

@@ -9,7 +9,8 @@ use Rattle.journal_model.specs.declared.opening.Opening.{Opening}
 use Rattle.journal_model.specs.Journal.{is_started, open_jobs}
 use Rattle.journal_model.specs.Legality.{is_prepared, is_busy_with}
 use Rattle.journal_model.specs.Shares.{Moved, by_link, is_of_child}
-use Rattle.journal_model.specs.Halves.{EarValue, MouthValue, LinkWired}
+use Rattle.journal_model.specs.Halves.{EarValue, MouthValue}
+use Rattle.link_roles.specs.Writings.{LoneWired}
 use Rattle.link_roles.specs.Doors.{IsSameDoor}
 use Rattle.link_roles.specs.Moves.{IsSameLink}
 use Rattle.door_asker.specs.AtTasks.{AtTask}
@@ -50,4 +51,4 @@ pub record AskerGoes {D H : Type 0} (opening_of : D → Opening) (number_of : D 
   pub door : IsSameDoor opening_of number_of seen_of alone_of loans_of home_of old new
   pub link : IsSameLink ear ear' mouth mouth'
   pub task : u ≡ t
-  pub on : ServesOn (opening_of old) (number_of old) (alone_of old) ear.child t (seen_of old) (seen_of new) (LinkWired (seen_of old) ear mouth) (LinkWired (seen_of new) ear' mouth')
+  pub on : ServesOn (opening_of old) (number_of old) (alone_of old) ear.child t (seen_of old) (seen_of new) (LoneWired (seen_of old) ear mouth) (LoneWired (seen_of new) ear' mouth')

@@ -3,7 +3,7 @@ ghost use Rattle.std.specs.Prelude.{◌≡◌, true, IfOk};
 ghost use Rattle.journal_model.specs.Journal.{is_started};
 ghost use Rattle.journal_model.specs.Projection.{IsNamed};
 ghost use Rattle.journal_model.specs.Shares.{Moved, is_of_child};
-ghost use Rattle.journal_model.specs.Halves.{LinkWired};
+ghost use Rattle.link_roles.specs.Writings.{LoneWired};
 ghost use Rattle.host_core.specs.Steps.{may_request};
 ghost use Rattle.talk_serial.specs.Requests.{message_of};
 ghost use Rattle.link_roles.specs.Doors.{IsSameDoor};
@@ -30,7 +30,7 @@ pub fn ask_by_link<I: Sink, O: Source, D: Door>(
     ensures asked { AskedFor (D.opening door.old) (D.number door.old) task (D.seen door.old) (D.seen door.new) (message_of request.now) result }
     ensures named { IfOk result (IsNamed (message_of request.now)) }
     ensures turn { D.alone door.old ≡ true → HasTurn (D.seen door.old) link.old.ear.child task → HasTurn (D.seen door.new) link.old.ear.child task }
-    ensures moved { Moved (D.number door.old) (D.alone door.old) (by_server link.old.ear.child task) (is_of_child link.old.ear.child) (D.seen door.old) (D.seen door.new) (LinkWired (D.seen door.old) link.old.ear link.old.mouth) (LinkWired (D.seen door.new) link.new.ear link.new.mouth) }
+    ensures moved { Moved (D.number door.old) (D.alone door.old) (by_server link.old.ear.child task) (is_of_child link.old.ear.child) (D.seen door.old) (D.seen door.new) (LoneWired (D.seen door.old) link.old.ear link.old.mouth) (LoneWired (D.seen door.new) link.new.ear link.new.mouth) }
     ensures same { IsSameLink link.old.ear link.new.ear link.old.mouth link.new.mouth }
     ensures door { IsSameDoor D.opening D.number D.seen D.alone D.loans D.home door.old door.new }
 {

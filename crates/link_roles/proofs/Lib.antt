@@ -10,4 +10,5 @@ pub mod Asking
 pub mod Versions
 pub mod Solo
 pub mod Settling
+pub mod Writings
 pub mod Apart

@@ -103,7 +103,7 @@ mouth_unheard {n} {a} {old} {new} {P} {Q} {X} v c j is s' none =
 
 -- ---- what is written
 
-record Untouched (c : ℕ) (more : List Entry) : Type 0 where
+pub record Untouched (c : ℕ) (more : List Entry) : Type 0 where
   pub written : each_of (writes c) more ≡ []
   pub sent : filter (λ e. sends c e.what) more ≡ []
 
@@ -117,7 +117,7 @@ untouched c (e ∷ more) h = step e.what (either_left (is_of_child c e.what) (an
     step (Sent child) h r = record { written = r.written; sent = rw h r.sent }
     step w h r = record { written = r.written; sent = r.sent }
 
-unsent_same : (past more : List Entry) (c : ℕ) → Untouched c more → unsent (past ++ more) c ≡ unsent past c
+pub unsent_same : (past more : List Entry) (c : ℕ) → Untouched c more → unsent (past ++ more) c ≡ unsent past c
 unsent_same past more c u =
     ap (λ (l : List Entry). drop (length l) (each_of (writes c) (past ++ more)))
     (filter-append (λ (e : Entry). sends c e.what) past more ∙ ap (λ (l : List Entry). filter (λ (e : Entry). sends c e.what) past ++ l) u.sent ∙ append-nil (filter (λ (e : Entry). sends c e.what) past))
@@ -131,7 +131,7 @@ gone_more past more c h = go (is_ended past c) refl h
     go true e h = ap (λ (b : Bool). b || is_mute (past ++ more) c) (any_on (ends c) past more (past ++ more) refl e)
     go false e h = ap (λ (b : Bool). is_ended (past ++ more) c || b) (any_on (mutes c) past more (past ++ more) refl h) ∙ or_true (is_ended (past ++ more) c)
 
-written_more : (past more : List Entry) (c : ℕ) → any (is_of_child c) more ≡ false → IsWritten c past → IsWritten c (past ++ more)
+pub written_more : (past more : List Entry) (c : ℕ) → any (is_of_child c) more ≡ false → IsWritten c past → IsWritten c (past ++ more)
 written_more past more c none (inl e) = inl (unsent_same past more c (untouched c more none) ∙ e)
 written_more past more c none (inr g) = inr (gone_more past more c g)
 
@@ -265,7 +265,7 @@ module _ (o : Opening) (past : List Entry) (n c j : ℕ) (line : List ℕ) (live
 
 -- ---- what a link did
 
-all_kinds : (p q : What → Bool) → ((w : What) → p w ≡ true → q w ≡ true) → (ws : List What) → list_all p ws ≡ true → list_all q ws ≡ true
+pub all_kinds : (p q : What → Bool) → ((w : What) → p w ≡ true → q w ≡ true) → (ws : List What) → list_all p ws ≡ true → list_all q ws ≡ true
 all_kinds p q f [] h = refl
 all_kinds p q f (w ∷ ws) h = let t = both (p w) (list_all p ws) h in rw (f w t.0, all_kinds p q f ws t.1) refl
 

@@ -1,7 +1,7 @@
 -- Where nobody else steps the core, what a link does is what it did alone.
-use Rattle.std.proofs.Common.{◌≡◌, ℕ, List, [], ◌∷◌, ◌++◌, refl, sym, ap, subst, ◌∙◌, Bool, true, false, not, Some, append-nil, inl, inr}
+use Rattle.std.proofs.Common.{◌≡◌, ℕ, List, [], ◌∷◌, ◌++◌, refl, sym, ap, subst, ◌∙◌, Bool, true, false, not, Some, None, Option, append-nil, inl, inr}
 use Rattle.std.specs.Prelude.{◌==◌, ◌||◌, cond}
-use Rattle.std.specs.List.{list_all}
+use Rattle.std.specs.List.{list_all, cons_option}
 use Rattle.journal_model.specs.declared.verdict.Why.TheVariants.{Memory, Closed}
 use Rattle.journal_model.specs.declared.verdict.Verdict.{Verdict}
 use Rattle.annex_model.specs.Messages.{HostMessage, host_line}
@@ -9,14 +9,14 @@ use Rattle.journal_model.specs.declared.entry.What.{What}
 use Rattle.journal_model.specs.declared.entry.What.TheVariants.{Ask, End, Lost}
 use Rattle.journal_model.specs.declared.entry.Entry.{Entry}
 use Rattle.journal_model.specs.declared.opening.Opening.{Opening}
-use Rattle.journal_model.specs.Journal.{ends, is_started, is_ended, is_mute, open_jobs, verdict_of, why_of, on_wire}
-use Rattle.journal_model.specs.Legality.{is_empty, may_stop, has_busy_task}
+use Rattle.journal_model.specs.Journal.{asks, asked_jobs, ends, is_started, is_ended, is_mute, open_jobs, verdict_of, why_of, on_wire}
+use Rattle.journal_model.specs.Legality.{Legal, is_empty, may_stop, has_busy_task}
 use Rattle.journal_model.specs.Halves.{EarWired}
 use Rattle.journal_model.proofs.Ears.{ear_stop}
 use Rattle.journal_model.proofs.Mouths.{mouth_apart}
 use Rattle.journal_model.proofs.Heard.{heard_on}
 use Rattle.journal_model.proofs.Soft.{IsSoft, soft_stretch}
-use Rattle.journal_model.proofs.Looks.{both, same, any-append}
+use Rattle.journal_model.proofs.Looks.{both, same, any-append, each_of-append}
 use Rattle.journal_model.proofs.Linking.{why_alone}
 use Rattle.host_core.specs.declared.event.Event.TheVariants.{Stop}
 use Rattle.host_core.specs.declared.event.Reply.{Reply}
@@ -24,9 +24,11 @@ use Rattle.host_core.specs.Steps.{group_of, step_of, is_gone, next_job}
 use Rattle.journal_model.specs.Shares.{are_by, makes_only, Moved, by_link, is_of_child}
 use Rattle.link_roles.specs.Doors.{Passed, Made, Ends}
 use Rattle.link_roles.specs.Asks.{HasAsked, HeardOut, IsHeardOut, lost_as}
-use Rattle.link_roles.specs.Alone.{GoesOn, Closes, AskedAlone, KeepsLink}
+use Rattle.link_roles.specs.Alone.{GoesOn, Closes, AskedAlone, HearsLink, KeepsLink}
+use Rattle.link_roles.specs.Writings.{is_written_first, LoneWired}
 use Rattle.journal_model.specs.Halves.{EarValue, MouthValue, LinkWired, IsSameEar, IsSameMouth}
 use Rattle.link_roles.proofs.Roles.{by_own, or_true}
+use Rattle.link_roles.proofs.Writings.{written_on, written_unasked}
 
 quiet : (n c : ℕ) (es : List Entry) → are_by n es ≡ true → makes_only (by_link c) n es ≡ true → list_all (λ (e : Entry). by_link c e.what) es ≡ true
 quiet n c [] h k = refl
@@ -111,19 +113,22 @@ closed_over n c old new h = go (is_ended old c) refl h
 -- ---- the link
 
 -- a closing leaves the link as it is
-pub closed_link : (n c : ℕ) (old new : List Entry) (e : EarValue) (m : MouthValue) → e.child ≡ c → m.child ≡ e.child → Closes n c old new → LinkWired old e m → LinkWired new e m
+pub closed_link : (n c : ℕ) (old new : List Entry) (e : EarValue) (m : MouthValue) → e.child ≡ c → m.child ≡ e.child → Closes n c old new → LoneWired old e m → LoneWired new e m
 closed_link n c old new e m ec mc h w = go (is_ended old c) refl h
   where
     one : List Entry
     one = record { by = n; what = End c Closed } ∷ []
 
-    go : (b : Bool) → is_ended old c ≡ b → new ≡ cond b old (old ++ one) → LinkWired new e m
-    go true f h = subst (λ (j : List Entry). LinkWired j e m) (sym h) w
-    go false f h = subst (λ (j : List Entry). LinkWired j e m) (sym h) (record {
-      ear = subst (λ (k : ℕ). EarWired (old ++ record { by = n; what = End k Closed } ∷ []) e) ec
-          (ear_stop old [] n Closed e nothing (subst (λ (k : ℕ). is_ended old k ≡ false) (sym ec) f) tt (λ x. absurd cc) (λ x. absurd cc) w.ear);
-      mouth = mouth_apart old one m refl w.mouth;
-      turn = heard_on e.child old one refl w.turn;
+    go : (b : Bool) → is_ended old c ≡ b → new ≡ cond b old (old ++ one) → LoneWired new e m
+    go true f h = subst (λ (j : List Entry). LoneWired j e m) (sym h) w
+    go false f h = subst (λ (j : List Entry). LoneWired j e m) (sym h) (record {
+      link = record {
+        ear = subst (λ (k : ℕ). EarWired (old ++ record { by = n; what = End k Closed } ∷ []) e) ec
+            (ear_stop old [] n Closed e nothing (subst (λ (k : ℕ). is_ended old k ≡ false) (sym ec) f) tt (λ x. absurd cc) (λ x. absurd cc) w.link.ear);
+        mouth = mouth_apart old one m refl w.link.mouth;
+        turn = heard_on e.child old one refl w.link.turn;
+      };
+      written = written_on old one e.child refl w.written;
     })
       where
         nothing : IsSoft e.child []
@@ -131,11 +136,44 @@ closed_link n c old new e m ec mc h w = go (is_ended old c) refl h
 
 -- what a link did where it is alone
 pub keeps_alone : {n : ℕ} {a : Bool} {makes mine : What → Bool} {old new : List Entry} {e e' : EarValue} {m m' : MouthValue} → a ≡ true
-    → Moved n a makes mine old new (LinkWired old e m) (LinkWired new e' m') → IsSameEar e e' × IsSameMouth m m' → KeepsLink old new e e' m m'
+    → Moved n a makes mine old new (LoneWired old e m) (LoneWired new e' m') → IsSameEar e e' × IsSameMouth m m' → KeepsLink old new e e' m m'
 keeps_alone alone s same_link = record { wired = kept_alone alone s; same_ear = same_link.0; same_mouth = same_link.1 }
 
+link_asks_none : (c : ℕ) (w : What) → by_link c w ≡ true → asks c w ≡ None
+link_asks_none c (Ask child job task line) h = absurd cc
+link_asks_none c w h = refl
+
+-- what a link does asks nothing
+unasked_on : (n c : ℕ) (old new : List Entry) → GoesOn n c old new → asked_jobs old c ≡ [] → asked_jobs new c ≡ []
+unasked_on n c old new g none =
+    ap (λ (j : List Entry). asked_jobs j c) g.is ∙ each_of-append (asks c) old g.more ∙ ap (λ (ks : List ℕ). ks ++ asked_jobs g.more c) none ∙ no_jobs g.more g.quiet
+  where
+    no_jobs : (es : List Entry) → list_all (λ (e : Entry). by_link c e.what) es ≡ true → asked_jobs es c ≡ []
+    no_jobs [] h = refl
+    no_jobs (e ∷ es) h =
+        let t : (by_link c e.what ≡ true) × (list_all (λ (e : Entry). by_link c e.what) es ≡ true) = both (by_link c e.what) (list_all (λ (e : Entry). by_link c e.what) es) h in
+        ap (λ (o : Option ℕ). cons_option o (asked_jobs es c)) (link_asks_none c e.what t.0) ∙ no_jobs es t.1
+
+-- what a link heard before anything was asked
+pub hears_alone : {n : ℕ} {a : Bool} {mine : What → Bool} {old new : List Entry} {e e' : EarValue} {m m' : MouthValue} (o : Opening) → a ≡ true → Legal o new
+    → Moved n a (by_link e.child) mine old new (LinkWired old e m) (LinkWired new e' m') → IsSameEar e e' × IsSameMouth m m' → HearsLink old new e e' m m'
+hears_alone {n} {old = old} {new = new} {e = e} o alone legal s same_link = record {
+  wired = kept_alone alone s;
+  written = λ none. written_unasked o new e.child legal (unasked_on n e.child old new (goes_alone e.child alone s) none);
+  same_ear = same_link.0;
+  same_mouth = same_link.1;
+}
+
+-- so that it keeps what it keeps later
+pub keeps_first : {old new : List Entry} {e e' : EarValue} {m m' : MouthValue} → asked_jobs old e.child ≡ [] → HearsLink old new e e' m m' → KeepsLink old new e e' m m'
+keeps_first {new = new} {e' = e'} {m' = m'} none s = record {
+  wired = λ w. record { link = s.wired w.link; written = subst (λ (c : ℕ). is_written_first new c ≡ true) (sym s.same_ear.0) (s.written none) };
+  same_ear = s.same_ear;
+  same_mouth = s.same_mouth;
+}
+
 -- and where it did nothing
-pub keeps_own : {old new : List Entry} {e : EarValue} {m : MouthValue} → (LinkWired old e m → LinkWired new e m) → KeepsLink old new e e m m
+pub keeps_own : {old new : List Entry} {e : EarValue} {m : MouthValue} → (LoneWired old e m → LoneWired new e m) → KeepsLink old new e e m m
 keeps_own f = record { wired = f; same_ear = (refl, refl); same_mouth = (refl, refl) }
 
 pub keeps_both : {a b d : List Entry} {e e' e'' : EarValue} {m m' m'' : MouthValue} → KeepsLink a b e e' m m' → KeepsLink b d e' e'' m' m'' → KeepsLink a d e e'' m m''

@@ -7,11 +7,12 @@ use Rattle.annex_model.specs.Messages.{HostMessage, host_line}
 use Rattle.journal_model.specs.declared.entry.What.TheVariants.{Ask, End, Lost}
 use Rattle.journal_model.specs.declared.entry.Entry.{Entry}
 use Rattle.journal_model.specs.declared.opening.Opening.{Opening}
-use Rattle.journal_model.specs.Journal.{on_wire, verdict_of, why_of, is_ended, is_mute}
+use Rattle.journal_model.specs.Journal.{asked_jobs, on_wire, verdict_of, why_of, is_ended, is_mute}
 use Rattle.host_core.specs.Steps.{group_of, is_gone, next_job}
 use Rattle.journal_model.specs.Shares.{are_by, by_link, is_by_line}
 use Rattle.journal_model.specs.Halves.{EarValue, MouthValue, LinkWired, IsSameEar, IsSameMouth}
 use Rattle.link_roles.specs.Asks.{lost_as, IsHeardOut}
+use Rattle.link_roles.specs.Writings.{is_written_first, LoneWired}
 
 -- the journal has grown by entries of c's link alone, made by this number
 pub record GoesOn (number c : ℕ) (old new : List Entry) : Type 0 where
@@ -42,8 +43,15 @@ pub record IsLost (o : Opening) (old new : List Entry) (by c t : ℕ) (verdict :
 abbrev pub AskedAlone : Opening → List Entry → List Entry → ℕ → ℕ → ℕ → HostMessage → Verdict → Type 0
 AskedAlone o old new by c t q verdict = IsSettled o old new by c t q verdict ⊎ IsLost o old new by c t verdict
 
--- both halves stay those of the child and of its start, and stay wired
+-- both halves stay those of the child and of its start, and stay wired, and requests stay written before they are answered
 pub record KeepsLink (old new : List Entry) (ear ear' : EarValue) (mouth mouth' : MouthValue) : Type 0 where
+  pub wired : LoneWired old ear mouth → LoneWired new ear' mouth'
+  pub same_ear : IsSameEar ear ear'
+  pub same_mouth : IsSameMouth mouth mouth'
+
+-- the same where nothing was written before the child was heard: it holds of requests where there were none
+pub record HearsLink (old new : List Entry) (ear ear' : EarValue) (mouth mouth' : MouthValue) : Type 0 where
   pub wired : LinkWired old ear mouth → LinkWired new ear' mouth'
+  pub written : asked_jobs old ear.child ≡ [] → is_written_first new ear.child ≡ true
   pub same_ear : IsSameEar ear ear'
   pub same_mouth : IsSameMouth mouth mouth'

@@ -7,4 +7,5 @@ pub mod Asks
 pub mod Alone
 pub mod Moves
 pub mod Hearings
+pub mod Writings
 pub mod Rows

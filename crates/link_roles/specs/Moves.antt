@@ -4,6 +4,8 @@ use Rattle.journal_model.specs.declared.entry.Entry.{Entry}
 use Rattle.journal_model.specs.Wires.{is_heard_in_turn}
 use Rattle.journal_model.specs.Shares.{Moved, by_ear, by_mouth, by_link, is_heard, is_said, is_of_child}
 use Rattle.journal_model.specs.Halves.{EarValue, MouthValue, EarWired, MouthWired, LinkWired, IsSameEar, IsSameMouth}
+use Rattle.link_roles.specs.Asks.{IsWritten}
+use Rattle.link_roles.specs.Writings.{LoneWired}
 
 -- where others left what is known of the child's output alone, the ear stays wired
 abbrev pub EarMoved : ℕ → Bool → List Entry → List Entry → EarValue → EarValue → Type 0
@@ -20,6 +22,15 @@ MouthMoved number alone old new mouth mouth' = Moved number alone (by_mouth mout
 -- where others left the child alone, the link stays wired
 abbrev pub LinkMoved : ℕ → Bool → List Entry → List Entry → EarValue → EarValue → MouthValue → MouthValue → Type 0
 LinkMoved number alone old new ear ear' mouth mouth' = Moved number alone (by_link ear.child) (is_of_child ear.child) old new (LinkWired old ear mouth) (LinkWired new ear' mouth')
+
+-- and it stays so that requests are written before they are answered
+abbrev pub LoneMoved : ℕ → Bool → List Entry → List Entry → EarValue → EarValue → MouthValue → MouthValue → Type 0
+LoneMoved number alone old new ear ear' mouth mouth' = Moved number alone (by_link ear.child) (is_of_child ear.child) old new (LoneWired old ear mouth) (LoneWired new ear' mouth')
+
+-- the same where nothing is to be written to the child
+abbrev pub LoneHears : ℕ → Bool → List Entry → List Entry → EarValue → EarValue → MouthValue → MouthValue → Type 0
+LoneHears number alone old new ear ear' mouth mouth' =
+    Moved number alone (by_link ear.child) (is_of_child ear.child) old new (LoneWired old ear mouth × IsWritten ear.child old) (LoneWired new ear' mouth')
 
 -- both halves stay those of the child and of its start
 abbrev pub IsSameLink : EarValue → EarValue → MouthValue → MouthValue → Type 0

@@ -7,7 +7,7 @@ ghost use Rattle.journal_model.specs.Projection.{IsNamed};
 ghost use Rattle.host_core.specs.Steps.{may_request};
 ghost use Rattle.talk_serial.specs.Requests.{message_of};
 ghost use Rattle.link_roles.specs.Doors.{IsSameDoor};
-ghost use Rattle.link_roles.specs.Alone.{GoesOn, Closes, AskedAlone, KeepsLink};
+ghost use Rattle.link_roles.specs.Alone.{GoesOn, Closes, AskedAlone, HearsLink, KeepsLink};
 
 use crate::door::Door;
 use crate::events;
@@ -49,7 +49,7 @@ impl<I: Sink, O: Source> Lone<I, O> {
         ensures why { result ≡ why_of (D.seen door.new) self.old.ear.child }
         ensures version { IfNone result (said_version (D.seen door.new) self.old.ear.child ≡ true) }
         ensures goes { GoesOn (D.number door.old) self.old.ear.child (D.seen door.old) (D.seen door.new) }
-        ensures link { KeepsLink (D.seen door.old) (D.seen door.new) self.old.ear self.new.ear self.old.mouth self.new.mouth }
+        ensures link { HearsLink (D.seen door.old) (D.seen door.new) self.old.ear self.new.ear self.old.mouth self.new.mouth }
         ensures door { IsSameDoor D.opening D.number D.seen D.alone D.loans D.home door.old door.new }
     {
         self.hear_version(door)

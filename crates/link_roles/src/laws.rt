@@ -10,12 +10,25 @@ ghost use Rattle.journal_model.specs.declared.verdict.Verdict.TheVariants.{Done,
 ghost use Rattle.journal_model.specs.declared.entry.What.TheVariants.{Put, Sent, Got, End, Verdict as Settled};
 ghost use Rattle.journal_model.specs.Shares.{by_ear, by_mouth, is_heard, is_said, is_of_child};
 ghost use Rattle.link_roles.specs.Asks.{IsHeardOut};
-ghost use Rattle.link_roles.specs.Rows.{as_far_as_its_verdict, unwritten};
+ghost use Rattle.journal_model.specs.Rows.{check_present};
+ghost use Rattle.link_roles.specs.Rows.{as_far_as_its_verdict, failed_to_write, unwritten, written_late};
+ghost use Rattle.link_roles.specs.Writings.{is_written_first};
 
 /// The worked check is heard out at its verdict. It isn't where its request was never written.
 pub fn heard_out_rows()
     ensures whole { IsHeardOut 1 2 (Done 13) as_far_as_its_verdict }
     ensures unwritten { IsHeardOut 1 2 (Done 13) unwritten → ⊥ }
+{}
+
+/// In the worked check each request was written before it was answered. It isn't so where one never was, or only behind its
+/// answer; of a mute child nothing is said.
+pub fn written_first_rows()
+    ensures whole { is_written_first check_present 1 ≡ true }
+    ensures nothing { is_written_first [] 1 ≡ true }
+    ensures unwritten { is_written_first unwritten 1 ≡ false }
+    ensures late { is_written_first written_late 1 ≡ false }
+    ensures mute { is_written_first failed_to_write 1 ≡ true }
+    ensures other { is_written_first unwritten 2 ≡ true }
 {}
 
 /// What an ear and a mouth of child 1 make, and what others must leave to them.

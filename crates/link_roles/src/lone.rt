@@ -8,9 +8,9 @@ ghost use Rattle.talk_serial.specs.Requests.{message_of};
 ghost use Rattle.link_roles.specs.Doors.{IsSameDoor, Passed, Ends};
 ghost use Rattle.journal_model.specs.declared.verdict.Why.TheVariants.{Memory};
 ghost use Rattle.journal_model.specs.Shares.{Moved, by_link, by_asker, is_of_child};
-ghost use Rattle.journal_model.specs.Halves.{LinkWired};
 ghost use Rattle.link_roles.specs.Asks.{HasAsked, HeardOut, HeardMoved, IsWritten, IsUnheard, IsSettling, HasBegun};
-ghost use Rattle.link_roles.specs.Moves.{LinkMoved, IsSameLink};
+ghost use Rattle.link_roles.specs.Moves.{LinkMoved, LoneMoved, LoneHears, IsSameLink};
+ghost use Rattle.link_roles.specs.Writings.{LoneWired};
 
 use crate::door::Door;
 use crate::ear::{Ear, Heard, Turn};
@@ -182,7 +182,7 @@ impl<I: Sink, O: Source> Lone<I, O> {
         requires asked { is_asked (D.seen door.old) self.old.ear.child job ≡ true }
         ensures verdict { result ≡ verdict_of (D.seen door.new) self.old.ear.child job }
         ensures passed { Passed (D.number door.old) (D.alone door.old) (D.seen door.old) (D.seen door.new) }
-        ensures moved { LinkMoved (D.number door.old) (D.alone door.old) (D.seen door.old) (D.seen door.new) self.old.ear self.new.ear self.old.mouth self.new.mouth }
+        ensures moved { LoneMoved (D.number door.old) (D.alone door.old) (D.seen door.old) (D.seen door.new) self.old.ear self.new.ear self.old.mouth self.new.mouth }
         ensures same { IsSameLink self.old.ear self.new.ear self.old.mouth self.new.mouth }
         ensures door { IsSameDoor D.opening D.number D.seen D.alone D.loans D.home door.old door.new }
     {
@@ -197,7 +197,7 @@ impl<I: Sink, O: Source> Lone<I, O> {
         requires legal { Legal (D.opening door.old) (D.seen door.old) }
         ensures settling { IsSettling (D.seen door.new) self.old.ear.child job result }
         ensures heard { HeardMoved (D.number door.old) (D.alone door.old) (D.seen door.old) (D.seen door.new) self.old.ear.child job (IsWritten self.old.ear.child (D.seen door.old) × IsUnheard self.old.ear.child job (D.seen door.old)) }
-        ensures moved { LinkMoved (D.number door.old) (D.alone door.old) (D.seen door.old) (D.seen door.new) self.old.ear self.new.ear self.old.mouth self.new.mouth }
+        ensures moved { LoneHears (D.number door.old) (D.alone door.old) (D.seen door.old) (D.seen door.new) self.old.ear self.new.ear self.old.mouth self.new.mouth }
         ensures same { IsSameLink self.old.ear self.new.ear self.old.mouth self.new.mouth }
         ensures door { IsSameDoor D.opening D.number D.seen D.alone D.loans D.home door.old door.new }
     {
@@ -221,7 +221,7 @@ impl<I: Sink, O: Source> Lone<I, O> {
         requires legal { Legal (D.opening door.old) (D.seen door.old) }
         ensures settling { IsSettling (D.seen door.new) self.old.ear.child job result }
         ensures heard { HeardMoved (D.number door.old) (D.alone door.old) (D.seen door.old) (D.seen door.new) self.old.ear.child job (HeardOut self.old.ear.child job (D.seen door.old)) }
-        ensures moved { LinkMoved (D.number door.old) (D.alone door.old) (D.seen door.old) (D.seen door.new) self.old.ear self.new.ear self.old.mouth self.new.mouth }
+        ensures moved { LoneMoved (D.number door.old) (D.alone door.old) (D.seen door.old) (D.seen door.new) self.old.ear self.new.ear self.old.mouth self.new.mouth }
         ensures same { IsSameLink self.old.ear self.new.ear self.old.mouth self.new.mouth }
         ensures door { IsSameDoor D.opening D.number D.seen D.alone D.loans D.home door.old door.new }
     {
@@ -241,7 +241,7 @@ impl<I: Sink, O: Source> Lone<I, O> {
         requires settled { verdict_of (D.seen door.old) self.old.ear.child job ≢ None }
         ensures verdict { verdict_of (D.seen door.new) self.old.ear.child job ≡ Some result }
         ensures heard { HeardMoved (D.number door.old) (D.alone door.old) (D.seen door.old) (D.seen door.new) self.old.ear.child job (HeardOut self.old.ear.child job (D.seen door.old)) }
-        ensures moved { LinkMoved (D.number door.old) (D.alone door.old) (D.seen door.old) (D.seen door.new) self.old.ear self.new.ear self.old.mouth self.new.mouth }
+        ensures moved { LoneMoved (D.number door.old) (D.alone door.old) (D.seen door.old) (D.seen door.new) self.old.ear self.new.ear self.old.mouth self.new.mouth }
         ensures same { IsSameLink self.old.ear self.new.ear self.old.mouth self.new.mouth }
         ensures door { IsSameDoor D.opening D.number D.seen D.alone D.loans D.home door.old door.new }
     {
@@ -258,7 +258,7 @@ impl<I: Sink, O: Source> Lone<I, O> {
         requires legal { Legal (D.opening door.old) (D.seen door.old) }
         ensures verdict { verdict_of (D.seen door.new) self.old.ear.child job ≡ Some result }
         ensures heard { HeardMoved (D.number door.old) (D.alone door.old) (D.seen door.old) (D.seen door.new) self.old.ear.child job (HeardOut self.old.ear.child job (D.seen door.old)) }
-        ensures moved { LinkMoved (D.number door.old) (D.alone door.old) (D.seen door.old) (D.seen door.new) self.old.ear self.new.ear self.old.mouth self.new.mouth }
+        ensures moved { LoneMoved (D.number door.old) (D.alone door.old) (D.seen door.old) (D.seen door.new) self.old.ear self.new.ear self.old.mouth self.new.mouth }
         ensures same { IsSameLink self.old.ear self.new.ear self.old.mouth self.new.mouth }
         ensures door { IsSameDoor D.opening D.number D.seen D.alone D.loans D.home door.old door.new }
     {
@@ -277,7 +277,7 @@ impl<I: Sink, O: Source> Lone<I, O> {
         ensures small { job < 2 ^ 64 }
         ensures verdict { verdict_of (D.seen door.new) self.old.ear.child job ≡ Some result }
         ensures heard { HeardMoved (D.number door.old) (D.alone door.old) (D.seen door.old) (D.seen door.new) self.old.ear.child job (HeardOut self.old.ear.child job (D.seen door.old)) }
-        ensures moved { LinkMoved (D.number door.old) (D.alone door.old) (D.seen door.old) (D.seen door.new) self.old.ear self.new.ear self.old.mouth self.new.mouth }
+        ensures moved { LoneMoved (D.number door.old) (D.alone door.old) (D.seen door.old) (D.seen door.new) self.old.ear self.new.ear self.old.mouth self.new.mouth }
         ensures same { IsSameLink self.old.ear self.new.ear self.old.mouth self.new.mouth }
         ensures door { IsSameDoor D.opening D.number D.seen D.alone D.loans D.home door.old door.new }
     {
@@ -305,7 +305,7 @@ impl<I: Sink, O: Source> Lone<I, O> {
         ensures asked { IfOk result (HasAsked (D.opening door.old) (D.number door.old) (D.alone door.old) (by_link self.old.ear.child) (D.seen door.old) (D.seen door.new) self.old.ear.child task (message_of request.now) (λ job. HeardOut self.old.ear.child job (D.seen door.new))) }
         ensures named { IfOk result (IsNamed (message_of request.now)) }
         ensures none { OnErr result (Passed (D.number door.old) (D.alone door.old) (D.seen door.old) (D.seen door.new)) }
-        ensures moved { Moved (D.number door.old) (D.alone door.old) (by_asker self.old.ear.child) (is_of_child self.old.ear.child) (D.seen door.old) (D.seen door.new) (LinkWired (D.seen door.old) self.old.ear self.old.mouth) (LinkWired (D.seen door.new) self.new.ear self.new.mouth) }
+        ensures moved { Moved (D.number door.old) (D.alone door.old) (by_asker self.old.ear.child) (is_of_child self.old.ear.child) (D.seen door.old) (D.seen door.new) (LoneWired (D.seen door.old) self.old.ear self.old.mouth) (LoneWired (D.seen door.new) self.new.ear self.new.mouth) }
         ensures same { IsSameLink self.old.ear self.new.ear self.old.mouth self.new.mouth }
         ensures door { IsSameDoor D.opening D.number D.seen D.alone D.loans D.home door.old door.new }
     {

@@ -8,6 +8,7 @@ ghost use Rattle.link_roles.specs.Doors.{IsSameDoor};
 ghost use Rattle.journal_model.specs.Halves.{IsSameMouth};
 ghost use Rattle.link_roles.specs.Moves.{MouthMoved};
 ghost use Rattle.link_roles.specs.Events.{Says, IsNextLine};
+ghost use Rattle.link_roles.specs.Writings.{IsSpeaking, IsWriting};
 
 use crate::door::Door;
 use crate::ear::Turn;
@@ -83,6 +84,7 @@ impl<I: Sink> Mouth<I> {
     fn send<D: Door>(&mut self, door: &mut D, line: &Bytes)
         requires started { is_started (D.seen door.old) self.old.child ≡ true }
         requires next { IsNextLine (D.seen door.old) self.old.child line.now }
+        ensures writing { IsWriting (D.opening door.old) (D.number door.old) (D.alone door.old) (D.seen door.old) (D.seen door.new) self.old self.new line.now }
         ensures moved { MouthMoved (D.number door.old) (D.alone door.old) (D.seen door.old) (D.seen door.new) self.old self.new }
         ensures same { IsSameMouth self.old self.new }
         ensures door { IsSameDoor D.opening D.number D.seen D.alone D.loans D.home door.old door.new }
@@ -100,6 +102,7 @@ impl<I: Sink> Mouth<I> {
         requires started { is_started (D.seen door.old) self.old.child ≡ true }
         ensures moved { MouthMoved (D.number door.old) (D.alone door.old) (D.seen door.old) (D.seen door.new) self.old self.new }
         ensures same { IsSameMouth self.old self.new }
+        ensures turned { IsSpeaking (D.opening door.old) (D.number door.old) (D.alone door.old) (D.seen door.old) (D.seen door.new) self.old self.new result }
         ensures rest { result ≡ Turn.Rest → Says (D.opening door.old) (D.number door.old) (D.seen door.new) (Fetch self.old.child) Wait }
         ensures over { result ≡ Turn.Over → Says (D.opening door.old) (D.number door.old) (D.seen door.new) (Fetch self.old.child) Over }
         ensures door { IsSameDoor D.opening D.number D.seen D.alone D.loans D.home door.old door.new }

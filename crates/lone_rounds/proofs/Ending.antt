@@ -219,8 +219,8 @@ ran_alone {o} {setup} {may} {limit} {made} {offer} {journal} le b = record {
 
 wire_of : (starts : Option Starts) (journal : List Entry) (n : ℕ) (wire : WireValue) → IsLinked starts journal n wire → IsWire starts journal n wire
 wire_of starts journal n wire l =
-    let halves = halves_wire journal (ear_of wire) (mouth_of wire) refl l.linked.ear l.linked.mouth in
-    record { wired = halves.0; caused = halves.1; heard = l.linked.turn; inlet = l.inlet; outlet = l.outlet; closed = l.closed }
+    let halves = halves_wire journal (ear_of wire) (mouth_of wire) refl l.linked.link.ear l.linked.link.mouth in
+    record { wired = halves.0; caused = halves.1; heard = l.linked.link.turn; written = l.linked.written; inlet = l.inlet; outlet = l.outlet; closed = l.closed }
 
 wires_of : (starts : Option Starts) (journal : List Entry) (n : ℕ) (cs : List (Option ℕ)) (ws : List WireValue) → AreLinked starts journal n cs ws → AreWires starts journal n cs ws
 wires_of starts journal n [] [] h = tt

@@ -19,10 +19,11 @@ use Rattle.journal_model.proofs.Testing.{all-join, or_left, or_right}
 use Rattle.journal_model.proofs.Working.{holder_apart}
 use Rattle.host_core.specs.Steps.{are_all_claimed}
 use Rattle.link_roles.specs.Alone.{Closes}
-use Rattle.link_roles.proofs.Linked.{link_apart}
+use Rattle.link_roles.proofs.Writings.{lone_apart}
 use Rattle.link_roles.proofs.Solo.{closed_over}
 use Rattle.child_start.proofs.Jobs.{idle_on}
-use Rattle.journal_model.specs.Halves.{EarValue, LinkWired, MouthValue}
+use Rattle.journal_model.specs.Halves.{EarValue, MouthValue}
+use Rattle.link_roles.specs.Writings.{LoneWired}
 use Rattle.journal_model.specs.declared.answer.Answer.{Answer}
 use Rattle.child_start.specs.Greetings.{Greeted, IsReady, is_greeting_line, is_of_greeting}
 use Rattle.lone_work.specs.Works.{CanWork, by_worker, claimed_task, claims_in, ends_answered}
@@ -234,6 +235,6 @@ module _ (o : Opening) (old mid : List Entry) (answer : Answer) where
   one_rests true a rest t = ap (λ (j : List Entry). is_busy j t) a.2 ∙ rests_one old a.0 answer rest t
   one_rests false a rest t = ap (λ (j : List Entry). is_busy j t) a.0 ∙ rest t
 
-  pub one_wired : (e : EarValue) (m : MouthValue) → m.child ≡ e.child → (b : Bool) → AnswersOne o old mid answer b → LinkWired old e m → LinkWired mid e m
-  one_wired e m one true a w = subst (λ (j : List Entry). LinkWired j e m) (sym a.2) (link_apart old (main_entry (Claim a.0 0) ∷ main_entry (Answered a.0 answer) ∷ []) e m one refl refl w)
-  one_wired e m one false a w = subst (λ (j : List Entry). LinkWired j e m) (sym a.0) w
+  pub one_wired : (e : EarValue) (m : MouthValue) → m.child ≡ e.child → (b : Bool) → AnswersOne o old mid answer b → LoneWired old e m → LoneWired mid e m
+  one_wired e m one true a w = subst (λ (j : List Entry). LoneWired j e m) (sym a.2) (lone_apart old (main_entry (Claim a.0 0) ∷ main_entry (Answered a.0 answer) ∷ []) e m one refl w)
+  one_wired e m one false a w = subst (λ (j : List Entry). LoneWired j e m) (sym a.0) w

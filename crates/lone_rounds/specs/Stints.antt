@@ -14,7 +14,8 @@ use Rattle.journal_model.specs.Journal.{any, is_ended}
 use Rattle.journal_model.specs.Legality.{Legal, count, is_busy, is_start, least_free}
 use Rattle.journal_model.specs.Output.{answers_in}
 use Rattle.journal_model.specs.Shares.{are_by}
-use Rattle.journal_model.specs.Halves.{EarValue, MouthValue, LinkWired}
+use Rattle.journal_model.specs.Halves.{EarValue, MouthValue}
+use Rattle.link_roles.specs.Writings.{LoneWired}
 use Rattle.host_core.specs.Steps.{are_all_claimed}
 use Rattle.link_roles.specs.Alone.{Closes}
 use Rattle.gathering.specs.Tasks.{IsThrough}
@@ -142,7 +143,7 @@ mouth_of wire = record { child = wire.child; taken = wire.taken; faults = wire.w
 
 -- its halves are wired to the journal, are those of the nth start, and are closed
 pub record IsLinked (starts : Option Starts) (journal : List Entry) (n : ℕ) (wire : WireValue) : Type 0 where
-  pub linked : LinkWired journal (ear_of wire) (mouth_of wire)
+  pub linked : LoneWired journal (ear_of wire) (mouth_of wire)
   pub inlet : IsOfStart starts n wire.inlet_number
   pub outlet : IsOfStart starts n wire.outlet_number
   pub closed : (wire.is_inlet_open ≡ false) × (wire.is_outlet_open ≡ false)

@@ -3,7 +3,7 @@ ghost use Rattle.std.specs.Prelude.{◌≡◌, ℕ, [], true, false};
 ghost use Rattle.annex_model.specs.Lines.{has_newline};
 ghost use Rattle.journal_model.specs.Journal.{is_started, open_jobs};
 ghost use Rattle.journal_model.specs.Legality.{Legal, is_busy};
-ghost use Rattle.journal_model.specs.Halves.{LinkWired};
+ghost use Rattle.link_roles.specs.Writings.{LoneWired};
 ghost use Rattle.gathering.specs.Tasks.{IsThrough};
 ghost use Rattle.link_roles.specs.Alone.{KeepsLink};
 ghost use Rattle.child_start.specs.Cores.{IsSameCore};
@@ -71,7 +71,7 @@ pub(crate) fn turn_away<I: Sink, O: Source>(link: &Lone<I, O>, core: &mut Core, 
     requires started { is_started core.old.journal link.now.ear.child ≡ true }
     requires idle { open_jobs core.old.journal link.now.ear.child ≡ [] }
     ensures away { TurnsAway core.old.opening link.now.ear.child core.old.journal core.new.journal answer }
-    ensures wired { LinkWired core.old.journal link.now.ear link.now.mouth → LinkWired core.new.journal link.now.ear link.now.mouth }
+    ensures wired { LoneWired core.old.journal link.now.ear link.now.mouth → LoneWired core.new.journal link.now.ear link.now.mouth }
     ensures core { IsSameCore core.old core.new }
 {
     answer_one(core, answer);

@@ -8,7 +8,8 @@ use Rattle.journal_model.specs.declared.answer.Answer.{Answer}
 use Rattle.journal_model.specs.declared.entry.What.TheVariants.{Claim, Answer as Answered}
 use Rattle.journal_model.specs.declared.entry.Entry.{Entry}
 use Rattle.journal_model.specs.declared.opening.Opening.{Opening}
-use Rattle.journal_model.specs.Halves.{EarValue, MouthValue, LinkWired}
+use Rattle.journal_model.specs.Halves.{EarValue, MouthValue}
+use Rattle.link_roles.specs.Writings.{LoneWired}
 use Rattle.journal_model.specs.Legality.{Legal, is_free, least_free, task_of}
 use Rattle.journal_model.proofs.Looks.{differ, entry}
 use Rattle.host_core.specs.Steps.{unclaimed}
@@ -17,7 +18,7 @@ use Rattle.task_run.specs.Askings.{askings}
 use Rattle.task_run.specs.Ran.{Ran, HasTaskCauses, answered}
 use Rattle.link_roles.specs.Alone.{KeepsLink}
 use Rattle.link_roles.specs.Moves.{IsSameLink}
-use Rattle.link_roles.proofs.Linked.{link_apart}
+use Rattle.link_roles.proofs.Writings.{lone_apart}
 use Rattle.link_roles.proofs.Roles.{by_own}
 use Rattle.door_asker.specs.AtTasks.{AtTask, notings}
 use Rattle.door_asker.specs.Servings.{Serves, ServesOn}
@@ -81,11 +82,11 @@ module _ (o : Opening) (setup : Setup) (task : Task) (n c t : ℕ) (a : Bool) (o
 -- ---- the link
 
 module _ (n c t : ℕ) (a : Bool) (o : Opening) (old ran new : List Entry) (e e' : EarValue) (m m' : MouthValue) (number : ℕ) (answer : Answer) where
-  pub link_kept : a ≡ true → e.child ≡ c → m'.child ≡ e'.child → ServesOn o n a c t old ran (LinkWired old e m) (LinkWired ran e' m') → IsSameLink e e' m m'
+  pub link_kept : a ≡ true → e.child ≡ c → m'.child ≡ e'.child → ServesOn o n a c t old ran (LoneWired old e m) (LoneWired ran e' m') → IsSameLink e e' m m'
       → new ≡ ran ++ record { by = number; what = Answered t answer } ∷ [] → KeepsLink old new e e' m m'
   link_kept lone child one s same given = record {
-    wired = λ w. subst (λ (x : List Entry). LinkWired x e' m') (sym given)
-        (link_apart ran (record { by = number; what = Answered t answer } ∷ []) e' m' one refl refl (s.moved.kept (by_own (is_of_child c) n s.moved.more (s.moved.lone lone)) w));
+    wired = λ w. subst (λ (x : List Entry). LoneWired x e' m') (sym given)
+        (lone_apart ran (record { by = number; what = Answered t answer } ∷ []) e' m' one refl (s.moved.kept (by_own (is_of_child c) n s.moved.more (s.moved.lone lone)) w));
     same_ear = same.0;
     same_mouth = same.1;
   }
@@ -112,7 +113,7 @@ module _ (o p : Opening) (setup : Setup) (n k c d t : ℕ) (old mid new : List E
 pub link_claimed : (n c t : ℕ) (past old mid new : List Entry) (e e' : EarValue) (m m' : MouthValue) → m.child ≡ e.child → mid ≡ past ++ entry n (Claim t c) ∷ [] → past ≡ old
     → KeepsLink mid new e e' m m' → KeepsLink old new e e' m m'
 link_claimed n c t past old mid new e e' m m' one is from k = record {
-  wired = λ w. k.wired (subst (λ (x : List Entry). LinkWired x e m) (sym is) (link_apart past (entry n (Claim t c) ∷ []) e m one refl refl (subst (λ (x : List Entry). LinkWired x e m) (sym from) w)));
+  wired = λ w. k.wired (subst (λ (x : List Entry). LoneWired x e m) (sym is) (lone_apart past (entry n (Claim t c) ∷ []) e m one refl (subst (λ (x : List Entry). LoneWired x e m) (sym from) w)));
   same_ear = k.same_ear;
   same_mouth = k.same_mouth;
 }
@@ -121,7 +122,7 @@ link_claimed n c t past old mid new e e' m m' one is from k = record {
 
 module _ (old new : List Entry) (is : new ≡ old) where
   pub link_still : (e : EarValue) (m : MouthValue) → KeepsLink old new e e m m
-  link_still e m = record { wired = λ w. subst (λ (x : List Entry). LinkWired x e m) (sym is) w; same_ear = (refl, refl); same_mouth = (refl, refl) }
+  link_still e m = record { wired = λ w. subst (λ (x : List Entry). LoneWired x e m) (sym is) w; same_ear = (refl, refl); same_mouth = (refl, refl) }
 
   pub worked_none : (o : Opening) (setup : Setup) (n c : ℕ) (desk : DeskTells) → Worked o setup n c old new desk desk
   worked_none o setup n c desk = subst (λ (x : List Entry). Worked o setup n c old x desk desk) (sym is) (worked_still o setup n c old desk)

@@ -2,8 +2,8 @@
 ghost use Rattle.std.specs.Prelude.{◌≡◌, ◌≤◌, ◌<◌, ◌-◌, [], Some, true, false, length, slice_get};
 ghost use Rattle.annex_model.specs.Lines.{has_newline};
 ghost use Rattle.task_text.specs.TaskLines.{IsTask};
-ghost use Rattle.journal_model.specs.Halves.{LinkWired};
 ghost use Rattle.journal_model.specs.Legality.{task_of};
+ghost use Rattle.link_roles.specs.Writings.{LoneWired};
 ghost use Rattle.task_run.specs.Askings.{askings};
 ghost use Rattle.task_run.specs.Ran.{Ran, HasTaskCauses, answered, layouts_for};
 ghost use Rattle.link_roles.specs.Doors.{IsSameDoor};
@@ -58,7 +58,7 @@ fn run_over<I: Sink, O: Source, D: Door, K: Desk>(
     ensures ran { Ran task.now number setup.now (layouts_for task.now.work []) (askings (D.seen door.old) number) (askings (D.seen door.new) number) (notings (D.seen door.old) number) (notings (D.seen door.new) number) (K.log desk.old) (K.log desk.new) result }
     ensures causes { HasTaskCauses (K.counts desk.old) (K.counts desk.new) result }
     ensures on { ServesOn (D.opening door.old) (D.number door.old) (D.alone door.old) link.old.ear.child number (D.seen door.old) (D.seen door.new)
-        (LinkWired (D.seen door.old) link.old.ear link.old.mouth) (LinkWired (D.seen door.new) link.new.ear link.new.mouth) }
+        (LoneWired (D.seen door.old) link.old.ear link.old.mouth) (LoneWired (D.seen door.new) link.new.ear link.new.mouth) }
     ensures same { IsSameLink link.old.ear link.new.ear link.old.mouth link.new.mouth }
     ensures door { IsSameDoor D.opening D.number D.seen D.alone D.loans D.home door.old door.new }
 {

@@ -15,7 +15,8 @@ use Rattle.journal_model.specs.declared.entry.Entry.{Entry}
 use Rattle.journal_model.specs.Journal.{any}
 use Rattle.journal_model.specs.Wires.{Wired, Caused, is_heard_in_turn}
 use Rattle.task_run.specs.TaskRuns.{refused_at}
-use Rattle.journal_model.specs.Halves.{EarValue, MouthValue, LinkWired, IsSameEar, IsSameMouth}
+use Rattle.journal_model.specs.Halves.{EarValue, MouthValue, IsSameEar, IsSameMouth}
+use Rattle.link_roles.specs.Writings.{is_written_first, LoneWired}
 use Rattle.journal_model.proofs.Ears.{halves_wire}
 use Rattle.child_start.specs.Greetings.{Greeted, IsRefused, HasEnded, IsUnsent, AreNumbered}
 use Rattle.special_cli.specs.Endings.{start_in, starts_in}
@@ -97,17 +98,18 @@ numbered_on starts e e' m m' same_ear same_mouth h = (subst (IsNumbered starts) 
 
 -- the one child's wire
 one_wire : (old new : Option Starts) (journal : List Entry) (x : List ℕ × Bool) (ear : EarValue) (mouth : MouthValue) (wires : List WireValue) → starts_in journal ≡ Start 1 0 false ∷ []
-    → AddsOne old new x → AreNumbered new ear mouth → ear.child ≡ 1 → mouth.child ≡ ear.child → LinkWired journal ear mouth → OneIsLeft ear mouth wires
+    → AddsOne old new x → AreNumbered new ear mouth → ear.child ≡ 1 → mouth.child ≡ ear.child → LoneWired journal ear mouth → OneIsLeft ear mouth wires
     → AreWires old journal 0 (came journal) wires
 one_wire old new journal x ear mouth wires starts adds numbered one both_one linked (wire, only, is) =
     let first : came journal ≡ Some 1 ∷ [] = came_of_starts journal (Start 1 0 false) starts in
-    let halves : Wired journal ear.child ear.given mouth.taken ear.held × Caused journal ear.child ear.left ear.faults mouth.faults = halves_wire journal ear mouth both_one linked.ear linked.mouth in
+    let halves : Wired journal ear.child ear.given mouth.taken ear.held × Caused journal ear.child ear.left ear.faults mouth.faults = halves_wire journal ear mouth both_one linked.link.ear linked.link.mouth in
     let wired : Wired journal wire.child wire.given wire.taken wire.rest = rw (is.child, is.given_is, is.taken_is, is.rest) halves.0 in
     let caused : Caused journal wire.child wire.left wire.read_faults wire.write_faults = rw (is.child, is.left_is, is.faults.0, is.faults.1) halves.1 in
-    let heard : IsTrue (is_heard_in_turn journal wire.child) = rw is.child linked.turn in
+    let heard : IsTrue (is_heard_in_turn journal wire.child) = rw is.child linked.link.turn in
+    let written : IsTrue (is_written_first journal wire.child) = rw is.child linked.written in
     let inlet : IsOfStart old 1 wire.inlet_number = subst (IsOfStart old 1) (sym is.numbers.0) (of_start old new x mouth.number adds numbered.0) in
     let outlet : IsOfStart old 1 wire.outlet_number = subst (IsOfStart old 1) (sym is.numbers.1) (of_start old new x ear.number adds numbered.1) in
-    let own : IsWire old journal 1 wire = record { wired = wired; caused = caused; heard = heard; inlet = inlet; outlet = outlet; closed = is.closed } in
+    let own : IsWire old journal 1 wire = record { wired = wired; caused = caused; heard = heard; written = written; inlet = inlet; outlet = outlet; closed = is.closed } in
     subst (λ (cs : List (Option ℕ)). AreWires old journal 0 cs wires) (sym first)
     (subst (λ (ws : List WireValue). AreWires old journal 0 (Some 1 ∷ []) ws) (sym only) (is.child ∙ one, own, tt))
 
@@ -172,7 +174,7 @@ leaves_failed W before after program journal wires j w adds rose = record {
 -- one child was started, and its link is closed
 pub leaves_child : (W : Type 0) (mid : Option Starts) (before after : ProgramsValue) (program : List ℕ) (journal : List Entry) (ear : EarValue) (mouth : MouthValue) (wires : List WireValue)
     → starts_in journal ≡ Start 1 0 false ∷ [] → AddsOne before.starts mid (program, true) → Stays mid after.starts → AreNumbered mid ear mouth → ear.child ≡ 1 → mouth.child ≡ ear.child
-    → LinkWired journal ear mouth → OneIsLeft ear mouth wires → Leaves W program journal before after wires
+    → LoneWired journal ear mouth → OneIsLeft ear mouth wires → Leaves W program journal before after wires
 leaves_child W mid before after program journal ear mouth wires j adds stays numbered one both_one linked only = record {
   wired = one_wire before.starts mid journal (program, true) ear mouth wires j adds numbered one both_one linked only;
   started = inl (child_told program journal before.starts mid after.starts j adds stays);

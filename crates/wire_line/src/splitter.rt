@@ -1,6 +1,6 @@
 ghost use Rattle.std.specs.Prelude.{◌≡◌, ◌+◌, ◌≤◌, [], ◌∷◌, ◌++◌, drop, length, IsOk, IsTrue, OnErr, OnOk};
 ghost use Rattle.std.specs.Vec.{vec_capacity, vec_len};
-ghost use Rattle.wire_line.specs.HeldBytes.{after_line, first_line, has_line, TakesLine, TakesPiece};
+ghost use Rattle.wire_line.specs.HeldBytes.{after_line, first_line, has_line, KeepsFew, MovesFew, TakesLine, TakesPiece};
 ghost use Rattle.wire_line.specs.Nexts.{IsNext, NextOfLines};
 
 use ann_key::{Bytes, NoMemory};
@@ -35,7 +35,7 @@ impl Model for Splitter {
 
     ghost Value = { HeldBytes };
 
-    ghost view = { λ s. record { limit = s.limit; bytes = drop s.start s.bytes.items; room = vec_capacity s.bytes - vec_len s.bytes } };
+    ghost view = { λ s. record { limit = s.limit; bytes = drop s.start s.bytes.items; room = vec_capacity s.bytes - vec_len s.bytes; dropped = s.start } };
 
     ghost invariant = { λ s. s.start ≤ vec_len s.bytes };
 }
@@ -45,6 +45,7 @@ impl Splitter {
     pub fn new(alloc: Global, limit: usize) -> Splitter
         ensures bytes { result.bytes ≡ [] }
         ensures limit { result.limit ≡ limit }
+        ensures dropped { result.dropped ≡ 0 }
     {
         Splitter {
             limit,
@@ -62,6 +63,8 @@ impl Splitter {
         ensures fits { length piece.now ≤ self.old.room → IsOk result }
         ensures room { self.old.room ≤ self.new.room + length piece.now }
         ensures err_room { OnErr result (self.old.room ≤ self.new.room) }
+        ensures moves { MovesFew self.old self.new }
+        ensures keeps { KeepsFew self.old self.new (length piece.now) }
     {
         self.compact(piece.len());
         self.bytes.extend_from_slice(piece)?;
@@ -75,6 +78,8 @@ impl Splitter {
         ensures limit { self.new.limit ≡ self.old.limit }
         ensures fits { n ≤ self.old.room → IsOk result }
         ensures room { self.old.room ≤ self.new.room }
+        ensures moves { MovesFew self.old self.new }
+        ensures keeps { KeepsFew self.old self.new n }
     {
         self.compact(n);
         self.bytes.reserve(n)?;
@@ -97,6 +102,7 @@ impl Splitter {
         ensures cut { TakesLine self.old.bytes (first_line self.old.bytes) self.new.bytes }
         ensures limit { self.new.limit ≡ self.old.limit }
         ensures room { self.old.room ≤ self.new.room }
+        ensures dropped { self.new.dropped ≡ self.old.dropped + length (first_line self.old.bytes) + 1 }
     {
         let length = match self.first() {
             Next::Line(line) => line.len(),
@@ -124,6 +130,8 @@ impl Splitter {
         ensures bytes { self.new.bytes ≡ self.old.bytes }
         ensures limit { self.new.limit ≡ self.old.limit }
         ensures room { self.old.room ≤ self.new.room }
+        ensures moves { MovesFew self.old self.new }
+        ensures keeps { KeepsFew self.old self.new wanted }
     {
         let spare = self.bytes.capacity() - self.bytes.len();
         if spare < wanted && self.bytes.len() - self.start <= self.start {

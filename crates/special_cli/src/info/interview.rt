@@ -4,7 +4,7 @@ ghost use Rattle.ann_key.specs.KeyRefs.{text_of};
 ghost use Rattle.ann_outside.specs.Causes.{Rose};
 ghost use Rattle.annex_model.specs.Messages.{is_sent_key};
 ghost use Rattle.journal_model.specs.Legality.{Legal};
-ghost use Rattle.journal_model.specs.Halves.{LinkWired};
+ghost use Rattle.link_roles.specs.Writings.{LoneWired};
 ghost use Rattle.child_start.specs.Cores.{IsSameCore};
 ghost use Rattle.child_start.specs.Greetings.{AreNumbered};
 ghost use Rattle.special_cli.specs.Informs.{IsAsked, IsComplete};
@@ -51,7 +51,7 @@ where
     requires legal { Legal core.old.opening core.old.journal }
     requires key { IfSome key (λ k. is_sent_key (text_of k) ≡ true) }
     ensures interviewed { Interviewed (option_map text_of key.entry) core.new.journal result }
-    ensures wired { IfOver (LinkWired core.new.journal) result }
+    ensures wired { IfOver (LoneWired core.new.journal) result }
     ensures numbers { IfOver (AreNumbered (P.starts programs.new)) result }
     ensures starts { InterviewStarts (P.starts programs.old) (P.starts programs.new) program.now result }
     ensures fault { result ≡ Interview.StartFault → Rose (P.faults programs.old) (P.faults programs.new) }

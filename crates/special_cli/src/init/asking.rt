@@ -2,7 +2,7 @@
 ghost use Rattle.std.specs.Prelude.{◌≡◌, ◌<◌, [], Some, map, IfOk, IsErr, vec_len, vec_capacity};
 ghost use Rattle.ann_outside.specs.Causes.{Rose};
 ghost use Rattle.journal_model.specs.Legality.{Legal};
-ghost use Rattle.journal_model.specs.Halves.{LinkWired};
+ghost use Rattle.link_roles.specs.Writings.{LoneWired};
 ghost use Rattle.child_start.specs.Cores.{IsSameCore};
 ghost use Rattle.child_start.specs.Greetings.{AreNumbered};
 ghost use Rattle.init_run.specs.Setups.{outcome_of};
@@ -48,7 +48,7 @@ where
     requires empty { core.old.journal ≡ [] }
     requires legal { Legal core.old.opening core.old.journal }
     ensures talked { Talked core.new.journal result }
-    ensures wired { IfTalked (LinkWired core.new.journal) result }
+    ensures wired { IfTalked (LoneWired core.new.journal) result }
     ensures numbers { IfTalked (AreNumbered (P.starts programs.new)) result }
     ensures starts { TalkStarts (P.starts programs.old) (P.starts programs.new) program.now result }
     ensures fault { result ≡ Talk.StartFault → Rose (P.faults programs.old) (P.faults programs.new) }

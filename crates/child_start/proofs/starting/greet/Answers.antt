@@ -1,6 +1,7 @@
 use Rattle.std.proofs.Common.{ℕ, ap, sym, subst, ◌∙◌}
 use Rattle.ann_outside.specs.Starts.{IsNumbered}
-use Rattle.journal_model.specs.Halves.{EarValue, MouthValue, LinkWired}
+use Rattle.journal_model.specs.Halves.{EarValue, MouthValue}
+use Rattle.link_roles.specs.Writings.{LoneWired}
 use Rattle.link_roles.specs.Alone.{KeepsLink}
 use Rattle.child_start.specs.Greetings.{AreNumbered}
 use Rattle.child_start.specs.Stages.{HasBegun, GreetsOn, TellsOf}
@@ -25,11 +26,11 @@ returns-in-Some-clause-tells g c =
 
 pub returns-in-Some-clause-wired : goal.returns-in-Some-clause-wired
 returns-in-Some-clause-wired g c =
-    let begun : LinkWired c.note_start.new.core.journal c.new.result.ear c.new.result.mouth =
+    let begun : LoneWired c.note_start.new.core.journal c.new.result.ear c.new.result.mouth =
     is_wired c.note_start.new.core.opening c.args.core.now.journal c.note_start.new.core.journal c.in-Some.child c.args.slot c.args.offer
     c.in-Some.ensures.started.0 c.in-Some.ensures.started.1 c.note_start.ensures.legal
     _ _ _ _ _ _ _ c.new.result.ear c.new.result.mouth c.new.ensures.ear c.new.ensures.mouth c.in-Ok.ensures.outlet.2 c.in-Ok.ensures.inlet.2 in
-    has_link (λ (e : EarValue) (m : MouthValue). KeepsLink c.note_start.new.core.journal c.greet_child.new.core.journal c.new.result.ear e c.new.result.mouth m) (LinkWired c.greet_child.new.core.journal)
+    has_link (λ (e : EarValue) (m : MouthValue). KeepsLink c.note_start.new.core.journal c.greet_child.new.core.journal c.new.result.ear e c.new.result.mouth m) (LoneWired c.greet_child.new.core.journal)
     c.greet_child.result (λ e m k. k.wired begun) c.greet_child.ensures.link
 
 pub returns-in-Some-clause-numbers : goal.returns-in-Some-clause-numbers

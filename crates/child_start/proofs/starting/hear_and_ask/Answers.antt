@@ -1,7 +1,7 @@
 use Rattle.std.proofs.Common.{refl, sym, ◌∙◌}
 use Rattle.child_start.specs.declared.starting.RequestOutcome.TheVariants.{Done, Refused, Gone}
 use Rattle.link_roles.proofs.Roles.{same_both}
-use Rattle.link_roles.proofs.Solo.{keeps_both, keeps_still}
+use Rattle.link_roles.proofs.Solo.{keeps_both, keeps_first, keeps_still}
 use Rattle.child_start.proofs.Requests.{greets_goes}
 use Rattle.child_start.proofs.Preparing.{main_on, started_after, unasked_idle, may_ask_first, ended_first, ended_told, unsent_told, greets_started, prepares_as, greets_heard}
 use Rattle.child_start.proofs.starting.hear_and_ask.Goals as goal
@@ -15,6 +15,9 @@ pub returns-in-Some-clause-comes : goal.returns-in-Some-clause-comes
 returns-in-Some-clause-comes g c =
     ended_first (g.D.Door.opening c.hear_version_alone.new.door) (g.D.Door.seen c.args.door.now) (g.D.Door.seen c.hear_version_alone.new.door) c.args.link.now.ear.child c.args.offer c.in-Some.why
     c.requires.main.first (c.hear_version_alone.ensures.door.legal c.requires.legal) c.requires.begun c.hear_version_alone.ensures.goes c.in-Some.ensures.why
+
+pub returns-in-Some-clause-link : goal.returns-in-Some-clause-link
+returns-in-Some-clause-link g c = keeps_first c.requires.begun.jobs c.hear_version_alone.ensures.link
 
 pub ask_both-requires-clause-asks : goal.ask_both-requires-clause-asks
 ask_both-requires-clause-asks g c =
@@ -74,25 +77,25 @@ pub ask_both-requires-clause-main : goal.ask_both-requires-clause-main
 ask_both-requires-clause-main g c = main_on c.hear_version_alone.ensures.door.number c.hear_version_alone.ensures.door.alone c.requires.main
 
 pub returns-in-Done-clause-link : goal.returns-in-Done-clause-link
-returns-in-Done-clause-link g c = keeps_both c.hear_version_alone.ensures.link c.ask_both.ensures.link
+returns-in-Done-clause-link g c = keeps_both (keeps_first c.requires.begun.jobs c.hear_version_alone.ensures.link) c.ask_both.ensures.link
 
 pub returns-in-Done-clause-door : goal.returns-in-Done-clause-door
 returns-in-Done-clause-door g c = same_both c.hear_version_alone.ensures.door c.ask_both.ensures.door
 
 pub returns-in-Refused-clause-link : goal.returns-in-Refused-clause-link
-returns-in-Refused-clause-link g c = keeps_both c.hear_version_alone.ensures.link c.ask_both.ensures.link
+returns-in-Refused-clause-link g c = keeps_both (keeps_first c.requires.begun.jobs c.hear_version_alone.ensures.link) c.ask_both.ensures.link
 
 pub returns-in-Refused-clause-door : goal.returns-in-Refused-clause-door
 returns-in-Refused-clause-door g c = same_both c.hear_version_alone.ensures.door c.ask_both.ensures.door
 
 pub returns-in-Some-why_ended_alone-clause-link : goal.returns-in-Some-why_ended_alone-clause-link
-returns-in-Some-why_ended_alone-clause-link g c = keeps_still c.why_ended_alone.ensures.seen (keeps_both c.hear_version_alone.ensures.link c.ask_both.ensures.link)
+returns-in-Some-why_ended_alone-clause-link g c = keeps_still c.why_ended_alone.ensures.seen (keeps_both (keeps_first c.requires.begun.jobs c.hear_version_alone.ensures.link) c.ask_both.ensures.link)
 
 pub returns-in-Some-why_ended_alone-clause-door : goal.returns-in-Some-why_ended_alone-clause-door
 returns-in-Some-why_ended_alone-clause-door g c = same_both (same_both c.hear_version_alone.ensures.door c.ask_both.ensures.door) c.why_ended_alone.ensures.door
 
 pub returns-in-None-clause-link : goal.returns-in-None-clause-link
-returns-in-None-clause-link g c = keeps_still c.why_ended_alone.ensures.seen (keeps_both c.hear_version_alone.ensures.link c.ask_both.ensures.link)
+returns-in-None-clause-link g c = keeps_still c.why_ended_alone.ensures.seen (keeps_both (keeps_first c.requires.begun.jobs c.hear_version_alone.ensures.link) c.ask_both.ensures.link)
 
 pub returns-in-None-clause-door : goal.returns-in-None-clause-door
 returns-in-None-clause-door g c = same_both (same_both c.hear_version_alone.ensures.door c.ask_both.ensures.door) c.why_ended_alone.ensures.door

@@ -1,11 +1,17 @@
+use Rattle.std.proofs.Common.{refl}
+use Rattle.journal_model.specs.declared.verdict.Why.TheVariants.{Memory}
 use Rattle.link_roles.proofs.Solo.{goes_alone, memory_alone, keeps_alone}
+use Rattle.link_roles.proofs.Writings.{lone_ended}
 use Rattle.link_roles.proofs.lone.Lone.give_up_alone.Goals as goal
 
 pub returns-clause-goes : goal.returns-clause-goes
 returns-clause-goes g c = goes_alone c.args.self.now.ear.child c.requires.alone c.give_up.ensures.moved
 
 pub returns-clause-link : goal.returns-clause-link
-returns-clause-link g c = keeps_alone c.requires.alone c.give_up.ensures.moved c.give_up.ensures.same
+returns-clause-link g c =
+    keeps_alone c.requires.alone
+    (lone_ended {o = g.D.Door.opening c.args.door.now} c.args.self.now.ear c.give_up.new.self.ear c.args.self.now.mouth c.give_up.new.self.mouth Memory refl c.give_up.ensures.same.0.0 c.give_up.ensures.moved c.give_up.ensures.ends)
+    c.give_up.ensures.same
 
 pub returns-clause-memory : goal.returns-clause-memory
 returns-clause-memory g c = memory_alone (g.D.Door.opening c.args.door.now) (g.D.Door.number c.args.door.now) (g.D.Door.alone c.args.door.now) (g.D.Door.seen c.args.door.now) (g.D.Door.seen c.give_up.new.door) c.args.self.now.ear.child c.give_up.ensures.ends c.requires.alone

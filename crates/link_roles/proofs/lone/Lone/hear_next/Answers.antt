@@ -1,7 +1,8 @@
 use Rattle.std.proofs.Common.{refl, sym, ap, ◌∙◌}
-use Rattle.link_roles.proofs.Roles.{moved_both, same_both}
+use Rattle.link_roles.proofs.Roles.{moved_both, moved_from, same_both}
 use Rattle.link_roles.proofs.Linked.{link_on, link_ear}
 use Rattle.link_roles.proofs.Asking.{asked_moved, has_verdict}
+use Rattle.link_roles.proofs.Writings.{lone_on, lone_waits, lone_heard}
 use Rattle.link_roles.proofs.Settling.{waits_on, waits_out, hearing_out, over_settled}
 use Rattle.journal_model.specs.Wires.{may_hear}
 use Rattle.host_core.specs.declared.event.Reply.TheVariants.{Wait, Over}
@@ -22,7 +23,7 @@ pub returns-in-Rest-clause-heard : goal.returns-in-Rest-clause-heard
 returns-in-Rest-clause-heard g c = waits_out c.args.self.now.ear.child c.args.job c.listen.ensures.passed
 
 pub returns-in-Rest-clause-moved : goal.returns-in-Rest-clause-moved
-returns-in-Rest-clause-moved g c = link_on c.args.self.now.ear c.args.self.now.mouth c.args.self.now.one_child c.listen.ensures.passed
+returns-in-Rest-clause-moved g c = moved_from (λ h. h.0) (lone_on c.args.self.now.ear c.args.self.now.mouth c.args.self.now.one_child c.listen.ensures.passed)
 
 pub returns-in-Over-clause-settling : goal.returns-in-Over-clause-settling
 returns-in-Over-clause-settling g c = λ none.
@@ -34,11 +35,13 @@ pub returns-in-Over-clause-heard : goal.returns-in-Over-clause-heard
 returns-in-Over-clause-heard g c = waits_out c.args.self.now.ear.child c.args.job c.listen.ensures.passed
 
 pub returns-in-Over-clause-moved : goal.returns-in-Over-clause-moved
-returns-in-Over-clause-moved g c = link_on c.args.self.now.ear c.args.self.now.mouth c.args.self.now.one_child c.listen.ensures.passed
+returns-in-Over-clause-moved g c = moved_from (λ h. h.0) (lone_on c.args.self.now.ear c.args.self.now.mouth c.args.self.now.one_child c.listen.ensures.passed)
 
 pub returns-in-Fed-clause-moved : goal.returns-in-Fed-clause-moved
-returns-in-Fed-clause-moved g c = moved_both c.listen.ensures.door.number c.listen.ensures.door.alone (link_on c.args.self.now.ear c.args.self.now.mouth c.args.self.now.one_child c.listen.ensures.passed)
-    (link_ear c.args.self.now.ear c.hear.new.self c.args.self.now.mouth c.args.self.now.one_child c.hear.ensures.same.0 c.hear.ensures.moved c.hear.ensures.turned)
+returns-in-Fed-clause-moved g c =
+    moved_both c.listen.ensures.door.number c.listen.ensures.door.alone (lone_waits c.args.self.now.ear c.args.self.now.mouth c.args.self.now.one_child c.listen.ensures.passed)
+    (lone_heard (g.D.Door.opening c.listen.new.door) c.args.self.now.ear c.hear.new.self c.args.self.now.mouth c.hear.result c.hear.ensures.same.0
+    (link_ear c.args.self.now.ear c.hear.new.self c.args.self.now.mouth c.args.self.now.one_child c.hear.ensures.same.0 c.hear.ensures.moved c.hear.ensures.turned) c.hear.ensures.heard)
 
 pub returns-in-Fed-clause-heard : goal.returns-in-Fed-clause-heard
 returns-in-Fed-clause-heard g c = moved_both c.listen.ensures.door.number c.listen.ensures.door.alone (waits_on c.args.self.now.ear.child c.args.job c.listen.ensures.passed) (hearing_out (g.D.Door.opening c.listen.new.door) (g.D.Door.number c.listen.new.door) (g.D.Door.alone c.listen.new.door) (g.D.Door.seen c.listen.new.door) (g.D.Door.seen c.hear.new.door) c.args.self.now.ear c.hear.new.self c.args.job c.hear.result c.hear.ensures.heard)
@@ -47,8 +50,10 @@ pub returns-in-Fed-clause-door : goal.returns-in-Fed-clause-door
 returns-in-Fed-clause-door g c = same_both c.listen.ensures.door c.hear.ensures.door
 
 pub returns-in-Read-hear-clause-moved : goal.returns-in-Read-hear-clause-moved
-returns-in-Read-hear-clause-moved g c = moved_both c.listen.ensures.door.number c.listen.ensures.door.alone (link_on c.args.self.now.ear c.args.self.now.mouth c.args.self.now.one_child c.listen.ensures.passed)
-    (link_ear c.args.self.now.ear c.hear.new.self c.args.self.now.mouth c.args.self.now.one_child c.hear.ensures.same.0 c.hear.ensures.moved c.hear.ensures.turned)
+returns-in-Read-hear-clause-moved g c =
+    moved_both c.listen.ensures.door.number c.listen.ensures.door.alone (lone_waits c.args.self.now.ear c.args.self.now.mouth c.args.self.now.one_child c.listen.ensures.passed)
+    (lone_heard (g.D.Door.opening c.listen.new.door) c.args.self.now.ear c.hear.new.self c.args.self.now.mouth c.hear.result c.hear.ensures.same.0
+    (link_ear c.args.self.now.ear c.hear.new.self c.args.self.now.mouth c.args.self.now.one_child c.hear.ensures.same.0 c.hear.ensures.moved c.hear.ensures.turned) c.hear.ensures.heard)
 
 pub returns-in-Read-hear-clause-heard : goal.returns-in-Read-hear-clause-heard
 returns-in-Read-hear-clause-heard g c = moved_both c.listen.ensures.door.number c.listen.ensures.door.alone (waits_on c.args.self.now.ear.child c.args.job c.listen.ensures.passed) (hearing_out (g.D.Door.opening c.listen.new.door) (g.D.Door.number c.listen.new.door) (g.D.Door.alone c.listen.new.door) (g.D.Door.seen c.listen.new.door) (g.D.Door.seen c.hear.new.door) c.args.self.now.ear c.hear.new.self c.args.job c.hear.result c.hear.ensures.heard)
@@ -57,8 +62,10 @@ pub returns-in-Read-hear-clause-door : goal.returns-in-Read-hear-clause-door
 returns-in-Read-hear-clause-door g c = same_both c.listen.ensures.door c.hear.ensures.door
 
 pub returns-in-Over-hear-clause-moved : goal.returns-in-Over-hear-clause-moved
-returns-in-Over-hear-clause-moved g c = moved_both c.listen.ensures.door.number c.listen.ensures.door.alone (link_on c.args.self.now.ear c.args.self.now.mouth c.args.self.now.one_child c.listen.ensures.passed)
-    (link_ear c.args.self.now.ear c.hear.new.self c.args.self.now.mouth c.args.self.now.one_child c.hear.ensures.same.0 c.hear.ensures.moved c.hear.ensures.turned)
+returns-in-Over-hear-clause-moved g c =
+    moved_both c.listen.ensures.door.number c.listen.ensures.door.alone (lone_waits c.args.self.now.ear c.args.self.now.mouth c.args.self.now.one_child c.listen.ensures.passed)
+    (lone_heard (g.D.Door.opening c.listen.new.door) c.args.self.now.ear c.hear.new.self c.args.self.now.mouth c.hear.result c.hear.ensures.same.0
+    (link_ear c.args.self.now.ear c.hear.new.self c.args.self.now.mouth c.args.self.now.one_child c.hear.ensures.same.0 c.hear.ensures.moved c.hear.ensures.turned) c.hear.ensures.heard)
 
 pub returns-in-Over-hear-clause-heard : goal.returns-in-Over-hear-clause-heard
 returns-in-Over-hear-clause-heard g c = moved_both c.listen.ensures.door.number c.listen.ensures.door.alone (waits_on c.args.self.now.ear.child c.args.job c.listen.ensures.passed) (hearing_out (g.D.Door.opening c.listen.new.door) (g.D.Door.number c.listen.new.door) (g.D.Door.alone c.listen.new.door) (g.D.Door.seen c.listen.new.door) (g.D.Door.seen c.hear.new.door) c.args.self.now.ear c.hear.new.self c.args.job c.hear.result c.hear.ensures.heard)

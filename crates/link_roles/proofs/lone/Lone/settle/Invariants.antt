@@ -4,14 +4,15 @@ use Rattle.host_core.specs.Steps.{is_asked}
 use Rattle.journal_model.specs.Shares.{Moved, by_link, is_of_child}
 use Rattle.link_roles.specs.Doors.{IsSameDoor}
 use Rattle.link_roles.specs.Asks.{HeardMoved, HeardOut}
-use Rattle.journal_model.specs.Halves.{LinkWired, IsSameEar, IsSameMouth}
+use Rattle.journal_model.specs.Halves.{IsSameEar, IsSameMouth}
+use Rattle.link_roles.specs.Writings.{LoneWired}
 use Rattle.link_roles.proofs.lone.Lone.settle.Given as goal
 
 abbrev pub invariant-loop : goal.invariant-loop
 invariant-loop g l = record {
   started : is_started (g.D.Door.seen l.door) l.self.ear.child ≡ true;
   moved : Moved (g.D.Door.number l.initial.door) (g.D.Door.alone l.initial.door) (by_link l.initial.self.ear.child) (is_of_child l.initial.self.ear.child) (g.D.Door.seen l.initial.door) (g.D.Door.seen l.door)
-      (LinkWired (g.D.Door.seen l.initial.door) l.initial.self.ear l.initial.self.mouth) (LinkWired (g.D.Door.seen l.door) l.self.ear l.self.mouth);
+      (LoneWired (g.D.Door.seen l.initial.door) l.initial.self.ear l.initial.self.mouth) (LoneWired (g.D.Door.seen l.door) l.self.ear l.self.mouth);
   heard : HeardMoved (g.D.Door.number l.initial.door) (g.D.Door.alone l.initial.door) (g.D.Door.seen l.initial.door) (g.D.Door.seen l.door) l.initial.self.ear.child l.job
       (HeardOut l.initial.self.ear.child l.job (g.D.Door.seen l.initial.door));
   same : IsSameEar l.initial.self.ear l.self.ear × IsSameMouth l.initial.self.mouth l.self.mouth;
