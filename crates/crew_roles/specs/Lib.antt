@@ -1,0 +1,4 @@
+pub mod Roles
+pub mod Crewing
+pub mod TaggedRounds
+pub mod Coming

@@ -1,0 +1,11 @@
+// The roles of a round over the core of a hall, as threads run them.
+#![tactic(auto)]
+
+mod ear;
+pub mod laws;
+mod mouth;
+mod worker;
+
+pub use ear::EarRole;
+pub use mouth::MouthRole;
+pub use worker::Worker;

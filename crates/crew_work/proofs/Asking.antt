@@ -1,0 +1,50 @@
+-- What a request of a task adds, over a child that others read and write.
+use Rattle.std.proofs.Common.{◌≡◌, ℕ, List, refl, subst, Bool, true, inl, inr}
+use Rattle.std.specs.Prelude.{Result, Ok, Err}
+use Rattle.ann_key.specs.declared.bytes.NoMemory.{NoMemory}
+use Rattle.annex_model.specs.Messages.{HostMessage}
+use Rattle.journal_model.specs.declared.verdict.Verdict.{Verdict}
+use Rattle.journal_model.specs.declared.entry.What.{What}
+use Rattle.journal_model.specs.declared.entry.What.TheVariants.{Note}
+use Rattle.journal_model.specs.declared.entry.Entry.{Entry}
+use Rattle.journal_model.specs.declared.opening.Opening.{Opening}
+use Rattle.journal_model.specs.Shares.{Moved, is_of_child}
+use Rattle.journal_model.proofs.Looks.{same}
+use Rattle.link_roles.specs.Asks.{Grows, HasAsked, never}
+use Rattle.link_roles.proofs.Roles.{moved_both, moved_by, moved_wider}
+use Rattle.door_asker.specs.AtTasks.{AtTask, AskedFor, NotedFor}
+use Rattle.door_asker.specs.Noting.{by_noting}
+use Rattle.crew_work.specs.Jobs.{JobsOn, by_jobs}
+
+never_jobs : (c t : ℕ) (w : What) → never w ≡ true → by_jobs c t w ≡ true
+never_jobs c t w h = absurd cc
+
+-- one request of the task, or a lost one
+pub jobs_asked : {o : Opening} {n : ℕ} {a : Bool} {old new : List Entry} {Known : ℕ → Type 0} (c t : ℕ) (q : HostMessage) (v : Verdict) → HasAsked o n a never old new c t q Known v
+    → Grows n a (by_jobs c t) old new
+jobs_asked {n = n} {a = a} {new = new} c t q v (inl s) =
+    let k : Moved n a (by_jobs c t) (is_of_child c) s.mid new (Unit {0}) (Unit {0}) = moved_wider (never_jobs c t) (λ w h. h) s.on (λ own k u. u) in
+    moved_both refl refl (moved_by s.asked (rw (same c, same t) refl) (λ none u. u)) record { more = k.more; is = k.is; own = k.own; lone = k.lone; kept = λ h u. u }
+jobs_asked c t q v (inr s) = moved_by s (rw (same c, same t) refl) (λ none u. u)
+
+note_jobs : (c t : ℕ) (w : What) → by_noting t w ≡ true → by_jobs c t w ≡ true
+note_jobs c t (Note task chunk count) h = h
+note_jobs c t w h = absurd cc
+
+-- ---- what asking and noting leave
+
+module _ (o : Opening) (n t u : ℕ) (a : Bool) (old new : List Entry) (is : t ≡ u) where
+  pub jobs_on_asked : (c : ℕ) (q : HostMessage) (result : Result Verdict NoMemory) → AskedFor o n t old new q result → Grows n a (by_jobs c t) old new → JobsOn o n a c u old new
+  jobs_on_asked c q result h grows = subst (λ (k : ℕ). JobsOn o n a c k old new) is record { at = at result h; grows = grows }
+    where
+      at : (r : Result Verdict NoMemory) → AskedFor o n t old new q r → AtTask o n t new
+      at (Ok v) h = h.at
+      at (Err e) h = h.at
+
+  pub jobs_on_noted : (c chunk count : ℕ) (result : Result (Unit {0}) NoMemory) → NotedFor o n t old new chunk count result → Grows n a (by_noting t) old new → JobsOn o n a c u old new
+  jobs_on_noted c chunk count result h grows =
+      subst (λ (k : ℕ). JobsOn o n a c k old new) is record { at = at result h; grows = moved_wider (note_jobs c t) (λ w k. k) grows (λ own k p. p) }
+    where
+      at : (r : Result (Unit {0}) NoMemory) → NotedFor o n t old new chunk count r → AtTask o n t new
+      at (Ok v) h = h.at
+      at (Err e) h = h.at

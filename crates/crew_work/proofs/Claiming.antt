@@ -1,0 +1,121 @@
+-- What a claim and an answer come to over a core that others step too.
+use Rattle.std.proofs.Common.{◌≡◌, ℕ, ◌<◌, List, [], ◌∷◌, ◌++◌, refl, sym, ap, subst, ◌∙◌, Bool, true, false, ◌==◌, cond, Some, None, Option, inl, inr, arith, append-nil}
+use Rattle.std.specs.Prelude.{Result, Ok, Err}
+use Rattle.std.specs.Result.{IsOk}
+use Rattle.std.specs.List.{list_any}
+use Rattle.ann_key.specs.declared.bytes.NoMemory.{NoMemory}
+use Rattle.journal_model.specs.declared.answer.Answer.{Answer}
+use Rattle.journal_model.specs.declared.entry.What.TheVariants.{Claim, Answer as Answered}
+use Rattle.journal_model.specs.declared.entry.Entry.{Entry}
+use Rattle.journal_model.specs.declared.opening.Opening.{Opening}
+use Rattle.journal_model.specs.Journal.{any, is_open, is_started}
+use Rattle.journal_model.specs.Legality.{Legal, claims, has_open_job, is_claimed, is_held_by, is_prepared, least_free}
+use Rattle.journal_model.specs.Makers.{is_of_task}
+use Rattle.journal_model.proofs.Holding.{holder_append}
+use Rattle.journal_model.proofs.Idling.{claimed_positive}
+use Rattle.journal_model.proofs.Looks.{any-append, differ, entry, same}
+use Rattle.journal_model.proofs.Testing.{or_right}
+use Rattle.journal_model.proofs.Working.{jobs_stay_closed, no_jobs_in, tasks_kept}
+use Rattle.host_core.specs.declared.event.Event.TheVariants.{Claim as ClaimEvent, Answer as AnswerEvent}
+use Rattle.host_core.specs.declared.event.Reply.{Reply}
+use Rattle.host_core.specs.declared.event.Reply.TheVariants.{Wait, NoTask, Done}
+use Rattle.host_core.specs.Steps.{Step, step_of, claim, only, append, gone, is_gone, are_all_claimed}
+use Rattle.link_roles.specs.Doors.{Appended, Made, Passed, Stepped}
+use Rattle.door_asker.specs.AtTasks.{AtTask}
+use Rattle.door_asker.proofs.Pairs.{passed}
+use Rattle.gathering.proofs.Laboring.{prepared_lasts, started_lasts}
+use Rattle.lone_work.proofs.Claiming.{free_unclaimed}
+use Rattle.crew_work.specs.Crews.{Begun, CanServe, HasClaimed, claimed_of}
+
+pub can_on : {o : Opening} {c : ℕ} (old more : List Entry) {new : List Entry} → new ≡ old ++ more → Legal o new → CanServe o c old → CanServe o c new
+can_on {o} {c} old more is legal can = record {
+  legal = legal;
+  number = can.number;
+  started = ap (λ (x : List Entry). is_started x c) is ∙ started_lasts old more c can.started;
+  prepared = ap (λ (x : List Entry). is_prepared x c) is ∙ prepared_lasts old more c can.prepared;
+}
+
+-- ---- a claim
+
+module _ (o : Opening) (n c : ℕ) (past : List Entry) (can : CanServe o c past) (t : ℕ) (least : least_free o past ≡ Some t) (legal : Legal o (past ++ entry n (Claim t c) ∷ [])) where
+  positive : 0 < t
+  positive =
+      let named : is_claimed (entry n (Claim t c) ∷ []) t ≡ true = rw (same t) refl in
+      claimed_positive o (past ++ entry n (Claim t c) ∷ []) legal t (any-append (claims t) past (entry n (Claim t c) ∷ []) ∙ or_right (is_claimed past t) (is_claimed (entry n (Claim t c) ∷ []) t) named)
+
+  none : any (is_of_task t) past ≡ false
+  none = (tasks_kept o past can.legal).none t positive (free_unclaimed o past t least)
+
+  unopened : has_open_job past t ≡ false
+  unopened = ap (list_any (λ (q : ℕ × ℕ). is_open past q.0 q.1)) (no_jobs_in t past none)
+
+  abbrev begins : Begun o n c t (past ++ entry n (Claim t c) ∷ [])
+  begins = record {
+    past = past;
+    is = refl;
+    least = least;
+    fresh = none;
+    at = record {
+      legal = legal;
+      held = ap (is_held_by n) (holder_append past (entry n (Claim t c) ∷ []) t) ∙ (rw (same t) (same n));
+      shut = jobs_stay_closed past (entry n (Claim t c) ∷ []) t refl unopened;
+    };
+    can = can_on past (entry n (Claim t c) ∷ []) refl legal can;
+  }
+
+module _ {o : Opening} {n : ℕ} {a : Bool} (c : ℕ) {old new : List Entry} {reply : Reply} where
+  pub has_claimed : CanServe o c old → Legal o new → Made o n a old new (ClaimEvent c) reply → HasClaimed o n a c old new (claimed_of reply)
+  has_claimed can legal m = by_gone (is_gone p c) refl
+    where
+      p : List Entry
+      p = m.past
+
+      there : CanServe o c p
+      there = can_on old m.passed.others m.passed.is (m.legal can.legal) can
+
+      step : step_of o p n (ClaimEvent c) ≡ cond (is_gone p c) (only (gone p c)) (claim o p n c (least_free o p))
+      step =
+          let zero_not : (c == 0) ≡ false = differ c 0 (λ e. absurd (omega (arith, e, can.number))) in
+          rw (zero_not, there.started, there.prepared) refl
+
+      grown : (s : Step) → step_of o p n (ClaimEvent c) ≡ s → new ≡ p ++ s.group
+      grown s is = m.is ∙ ap (λ (x : Step). p ++ x.group) is
+
+      said : (s : Step) → step_of o p n (ClaimEvent c) ≡ s → reply ≡ s.reply
+      said s is = m.reply_is ∙ ap (λ (x : Step). x.reply) is
+
+      -- nothing was appended
+      quiet : (r : Reply) → step_of o p n (ClaimEvent c) ≡ only r → HasClaimed o n a c old p (claimed_of r) → HasClaimed o n a c old new (claimed_of reply)
+      quiet r is h =
+          subst (λ (x : Reply). HasClaimed o n a c old new (claimed_of x)) (sym (said (only r) is))
+          (subst (λ (x : List Entry). HasClaimed o n a c old x (claimed_of r)) (sym (grown (only r) is ∙ append-nil p)) h)
+
+      by_least : (f : Option ℕ) → least_free o p ≡ f → step_of o p n (ClaimEvent c) ≡ claim o p n c f → HasClaimed o n a c old new (claimed_of reply)
+      by_least (Some t) least is =
+          let is_new : new ≡ p ++ entry n (Claim t c) ∷ [] = grown (claim o p n c (Some t)) is in
+          subst (λ (x : Reply). HasClaimed o n a c old new (claimed_of x)) (sym (said (claim o p n c (Some t)) is))
+          (subst (λ (x : List Entry). (b : Begun o n c t x) × Passed n a old b.past) (sym is_new) (begins o n c p there t least (subst (Legal o) is_new legal), m.passed))
+      by_least None least is = by_all (are_all_claimed o p) refl
+        where
+          by_all : (b : Bool) → are_all_claimed o p ≡ b → HasClaimed o n a c old new (claimed_of reply)
+          by_all true all = quiet NoTask (is ∙ (rw all refl)) (m.passed, inl all)
+          by_all false all = quiet Wait (is ∙ (rw all refl)) m.passed
+
+      by_gone : (b : Bool) → is_gone p c ≡ b → HasClaimed o n a c old new (claimed_of reply)
+      by_gone true g = quiet (gone p c) (step ∙ (rw g refl)) (m.passed, inr g)
+      by_gone false g = by_least (least_free o p) refl (step ∙ (rw g refl))
+
+-- ---- an answer
+
+pub gives_now : {o : Opening} {n t : ℕ} {a : Bool} {old new : List Entry} {reply : Reply} (answer : Answer) → AtTask o n t old → Made o n a old new (AnswerEvent t answer) reply
+    → Appended o n a old new (Answered t answer) (AtTask o n t)
+gives_now {o} {n} {t} {a} {old} {new} {reply} answer at m =
+    let before = passed o n t at (m.legal at.legal) m.passed in
+    let step : step_of o m.past n (AnswerEvent t answer) ≡ append o m.past n (Answered t answer) Done = rw (before.at.held, before.at.shut) refl in
+    record { past = m.past; passed = m.passed; legal = m.legal; found = before.at; is = m.is ∙ ap (λ (s : Step). m.past ++ s.group) step }
+
+-- the answer takes no memory, so it is given
+pub gives : {o : Opening} {n t : ℕ} {a : Bool} {old new : List Entry} (answer : Answer) (result : Result Reply NoMemory) → AtTask o n t old → IsOk result
+    → Stepped o n a old new (AnswerEvent t answer) result → Appended o n a old new (Answered t answer) (AtTask o n t)
+gives answer (Ok reply) at ok m = gives_now answer at m
+gives answer (Err e) at ok m = (let bad : false ≡ true = ok in absurd cc)

@@ -1,0 +1,63 @@
+use Rattle.std.proofs.Common.{◌∙◌, refl, ap, ℕ, Bool}
+use Rattle.journal_model.specs.declared.opening.Opening.{Opening}
+use Rattle.link_roles.proofs.Roles.{same_both}
+use Rattle.lone_work.specs.Works.{desk_tells}
+use Rattle.crew_work.specs.Crews.{Does}
+use Rattle.crew_work.proofs.Claiming.{can_on}
+use Rattle.crew_work.proofs.Working.{claims_as, can_as, legal_as, named, through_as, worked_one, worked_still}
+use Rattle.crew_work.proofs.turns.turn.Goals as goal
+
+pub claim-requires : goal.claim-requires
+claim-requires g c = can_as refl c.child-child.ensures c.requires.can
+
+pub do_task-requires-clause-tasks : goal.do_task-requires-clause-tasks
+do_task-requires-clause-tasks g c = (ap (λ (o : Opening). o.tasks) c.in-Task.ensures.door.opening ∙ c.requires.tasks.0, c.requires.tasks.1)
+
+pub returns-in-Task-clause-worked : goal.returns-in-Task-clause-worked
+returns-in-Task-clause-worked g c =
+    let o = g.D.Door.opening c.args.door.now in
+    let owns = g.W.Way.owns c.args.way.now in
+    let n = g.D.Door.number c.args.door.now in
+    let a = g.D.Door.alone c.args.door.now in
+    let child = g.W.Way.serves c.args.way.now in
+    let mid = g.D.Door.seen c.claim.new.door in
+    let new = g.D.Door.seen c.do_task.new.door in
+    let before = g.W.Way.wired c.args.way.now mid in
+    let after = g.W.Way.wired c.do_task.new.way new in
+    let claims = claims_as {o = o} {n = n} {a = a} c.child-child.ensures c.in-Task.ensures.claims in
+    let tells = desk_tells (g.K.Desk.log c.args.desk.now) (g.K.Desk.counts c.args.desk.now) in
+    let tells' = desk_tells (g.K.Desk.log c.do_task.new.desk) (g.K.Desk.counts c.do_task.new.desk) in
+    worked_one o c.args.setup.now owns n a child (g.W.Way.wired c.args.way.now) (g.met.W.Way.apart c.args.way.now) c.in-Task.number (g.D.Door.seen c.args.door.now) mid new after tells tells'
+    claims.0 claims.1
+    (named (λ (q : Opening) (m : ℕ) (l : Bool) (e : ℕ) (u : Bool). Does q c.args.setup.now u m l e c.in-Task.number mid new before after tells tells')
+    c.in-Task.ensures.door.opening c.in-Task.ensures.door.number c.in-Task.ensures.door.alone refl refl c.do_task.ensures.does)
+
+pub returns-in-Task-clause-door : goal.returns-in-Task-clause-door
+returns-in-Task-clause-door g c = same_both c.in-Task.ensures.door c.do_task.ensures.door
+
+pub returns-in-Wait-clause-worked : goal.returns-in-Wait-clause-worked
+returns-in-Wait-clause-worked g c =
+    worked_still (g.D.Door.opening c.args.door.now) c.args.setup.now (g.W.Way.owns c.args.way.now) (g.D.Door.number c.args.door.now) (g.D.Door.alone c.args.door.now) (g.W.Way.serves c.args.way.now)
+    (g.W.Way.wired c.args.way.now) (g.met.W.Way.apart c.args.way.now) (g.D.Door.seen c.args.door.now) (g.D.Door.seen c.claim.new.door)
+    (desk_tells (g.K.Desk.log c.args.desk.now) (g.K.Desk.counts c.args.desk.now)) c.in-Wait.ensures.claims
+
+pub returns-in-Wait-clause-can : goal.returns-in-Wait-clause-can
+returns-in-Wait-clause-can g c =
+    let s = c.in-Wait.ensures.claims in
+    let d = c.in-Wait.ensures.door in
+    can_as d.opening refl (can_on (g.D.Door.seen c.args.door.now) s.others s.is (legal_as d.opening (d.legal c.requires.can.legal)) c.requires.can)
+
+pub returns-in-Over-clause-worked : goal.returns-in-Over-clause-worked
+returns-in-Over-clause-worked g c =
+    worked_still (g.D.Door.opening c.args.door.now) c.args.setup.now (g.W.Way.owns c.args.way.now) (g.D.Door.number c.args.door.now) (g.D.Door.alone c.args.door.now) (g.W.Way.serves c.args.way.now)
+    (g.W.Way.wired c.args.way.now) (g.met.W.Way.apart c.args.way.now) (g.D.Door.seen c.args.door.now) (g.D.Door.seen c.claim.new.door)
+    (desk_tells (g.K.Desk.log c.args.desk.now) (g.K.Desk.counts c.args.desk.now)) c.in-Over.ensures.claims.0
+
+pub returns-in-Over-clause-can : goal.returns-in-Over-clause-can
+returns-in-Over-clause-can g c =
+    let s = c.in-Over.ensures.claims.0 in
+    let d = c.in-Over.ensures.door in
+    can_as d.opening refl (can_on (g.D.Door.seen c.args.door.now) s.others s.is (legal_as d.opening (d.legal c.requires.can.legal)) c.requires.can)
+
+pub returns-in-Over-clause-through : goal.returns-in-Over-clause-through
+returns-in-Over-clause-through g c = λ over. through_as {o = g.D.Door.opening c.args.door.now} (g.D.Door.seen c.claim.new.door) refl c.child-child.ensures c.in-Over.ensures.claims.1

@@ -1,0 +1,29 @@
+-- How a number stands that asks for a task over a child that others read and write, and what its asking makes.
+use Rattle.std.specs.Prelude.{ℕ, ◌≡◌, ◌==◌, ◌&&◌, Bool, false, List}
+use Rattle.journal_model.specs.declared.entry.What.{What}
+use Rattle.journal_model.specs.declared.entry.What.TheVariants.{Ask, Lost, Note}
+use Rattle.journal_model.specs.declared.entry.Entry.{Entry}
+use Rattle.journal_model.specs.declared.opening.Opening.{Opening}
+use Rattle.link_roles.specs.Asks.{Grows}
+use Rattle.link_roles.specs.Doors.{IsSameDoor}
+use Rattle.door_asker.specs.AtTasks.{AtTask}
+
+-- requests for t of c, which may be lost, and notes of t
+abbrev pub by_jobs : ℕ → ℕ → What → Bool
+by_jobs c t (Ask child job task line) = child == c && task == t
+by_jobs c t (Lost child task) = child == c && task == t
+by_jobs c t (Note task chunk count) = task == t
+by_jobs c t w = false
+
+-- it holds the task still, and made nothing else
+pub record JobsOn (o : Opening) (number : ℕ) (alone : Bool) (c t : ℕ) (old new : List Entry) : Type 0 where
+  pub at : AtTask o number t new
+  pub grows : Grows number alone (by_jobs c t) old new
+
+-- what an asker over a door made of it: it is the same door, and the asker holds the same task still, over the same child
+pub record JobsGo {D H : Type 0} (opening_of : D → Opening) (number_of : D → ℕ) (seen_of : D → List Entry) (alone_of : D → Bool) (loans_of : D → List ℕ) (home_of : D → H)
+    (old new : D) (c d t u : ℕ) : Type 0 where
+  pub door : IsSameDoor opening_of number_of seen_of alone_of loans_of home_of old new
+  pub child : d ≡ c
+  pub task : u ≡ t
+  pub on : JobsOn (opening_of old) (number_of old) (alone_of old) c t (seen_of old) (seen_of new)

@@ -1,0 +1,59 @@
+// One task that was claimed: it is run on the worker's way, and answered.
+ghost use Rattle.std.specs.Prelude.{◌≡◌, ◌≤◌, ◌<◌, ◌-◌, Some, false, length, slice_get};
+ghost use Rattle.annex_model.specs.Lines.{has_newline};
+ghost use Rattle.task_run.specs.Ran.{answered};
+ghost use Rattle.link_roles.specs.Doors.{IsSameDoor};
+ghost use Rattle.lone_work.specs.Works.{AreTasks, desk_tells};
+ghost use Rattle.crew_work.specs.Crews.{Begun, CanServe, Does};
+
+use crate::claims::give;
+use crate::way::Way;
+use ann_key::NoMemory;
+use ann_outside::Desk;
+use journal_model::Answer;
+use link_roles::Door;
+use std::alloc::Global;
+use task_run::Setup;
+use task_text::Task;
+
+// The task of that number, counted from 1.
+fn task_at(tasks: &[Task], number: u32) -> &Task
+    requires { (0 < number) × (number ≤ length tasks.now) }
+    ensures { slice_get tasks.now (number - 1) ≡ Some result.now }
+{
+    &tasks[number as usize - 1]
+}
+
+// Want of memory is an answer as well.
+fn answer_of(outcome: Result<Answer, NoMemory>) -> Answer
+    ensures { result ≡ answered outcome }
+{
+    match outcome {
+        Ok(answer) => answer,
+        Err(NoMemory) => Answer::Memory,
+    }
+}
+
+/// Runs a task that was just claimed for the child, and answers it.
+pub(crate) fn do_task<W: Way, D: Door, K: Desk>(
+    alloc: Global,
+    tasks: &[Task],
+    number: u32,
+    setup: &Setup,
+    way: &mut W,
+    door: &mut D,
+    desk: &mut K,
+)
+    requires shared { D.alone door.old ≡ false }
+    requires tasks { ((D.opening door.old).tasks ≡ tasks.now) × AreTasks tasks.now }
+    requires setup { (has_newline setup.now.work ≡ false) × (setup.now.chunk ≡ 0) }
+    requires begun { Begun (D.opening door.old) (D.number door.old) (W.serves way.old) number (D.seen door.old) }
+    ensures does { Does (D.opening door.old) setup.now (W.owns way.old) (D.number door.old) (D.alone door.old) (W.serves way.old) number (D.seen door.old) (D.seen door.new) (W.wired way.old (D.seen door.old)) (W.wired way.new (D.seen door.new)) (desk_tells (K.log desk.old) (K.counts desk.old)) (desk_tells (K.log desk.new) (K.counts desk.new)) }
+    ensures can { CanServe (D.opening door.new) (W.serves way.new) (D.seen door.new) }
+    ensures way { (W.serves way.new ≡ W.serves way.old) × (W.owns way.new ≡ W.owns way.old) × W.same way.old way.new }
+    ensures door { IsSameDoor D.opening D.number D.seen D.alone D.loans D.home door.old door.new }
+{
+    let task = task_at(tasks, number);
+    let outcome = way.run(alloc, task, number, setup, door, desk);
+    give(door, number, answer_of(outcome));
+}

@@ -1,0 +1,79 @@
+// The worker: it claims, runs and answers, rests while others hold what is left, and ends when there is nothing more to do.
+ghost use Rattle.std.specs.Prelude.{◌≡◌, false};
+ghost use Rattle.annex_model.specs.Lines.{has_newline};
+ghost use Rattle.gathering.specs.Tasks.{IsThrough};
+ghost use Rattle.link_roles.specs.Doors.{IsSameDoor};
+ghost use Rattle.link_roles.specs.declared.ear.Turn.TheVariants.{Over};
+ghost use Rattle.lone_work.specs.Works.{AreTasks, desk_tells};
+ghost use Rattle.crew_work.specs.Crews.{CanServe, Worked};
+
+use crate::claims::{Claimed, claim};
+use crate::task::do_task;
+use crate::way::Way;
+use ann_outside::Desk;
+use link_roles::{Door, Turn};
+use std::alloc::Global;
+use std::sync::Wait;
+use task_run::Setup;
+use task_text::Task;
+
+// One task, where there is one.
+fn turn<W: Way, D: Door, K: Desk>(
+    alloc: Global,
+    tasks: &[Task],
+    setup: &Setup,
+    way: &mut W,
+    door: &mut D,
+    desk: &mut K,
+) -> Turn
+    requires shared { D.alone door.old ≡ false }
+    requires tasks { ((D.opening door.old).tasks ≡ tasks.now) × AreTasks tasks.now }
+    requires setup { (has_newline setup.now.work ≡ false) × (setup.now.chunk ≡ 0) }
+    requires can { CanServe (D.opening door.old) (W.serves way.old) (D.seen door.old) }
+    ensures worked { Worked (D.opening door.old) setup.now (W.owns way.old) (D.number door.old) (D.alone door.old) (W.serves way.old) (D.seen door.old) (D.seen door.new) (W.wired way.old (D.seen door.old)) (W.wired way.new (D.seen door.new)) (desk_tells (K.log desk.old) (K.counts desk.old)) (desk_tells (K.log desk.new) (K.counts desk.new)) }
+    ensures can { CanServe (D.opening door.new) (W.serves way.new) (D.seen door.new) }
+    ensures through { result ≡ Over → IsThrough (D.opening door.old) (D.seen door.new) (W.serves way.old) }
+    ensures way { (W.serves way.new ≡ W.serves way.old) × (W.owns way.new ≡ W.owns way.old) × W.same way.old way.new }
+    ensures door { IsSameDoor D.opening D.number D.seen D.alone D.loans D.home door.old door.new }
+{
+    let child = way.child();
+    match claim(door, child) {
+        Claimed::Task(number) => {
+            do_task(alloc, tasks, number, setup, way, door, desk);
+            Turn::Again
+        }
+        Claimed::Wait => Turn::Rest,
+        Claimed::Over => Turn::Over,
+    }
+}
+
+/// Does tasks for the child, one after the other, until all are claimed or the child is gone. While others hold tasks that keep
+/// the rest from being claimed, it waits.
+pub fn work<W: Way, D: Door, K: Desk, R: Wait>(
+    rt: &R,
+    alloc: Global,
+    tasks: &[Task],
+    setup: &Setup,
+    way: &mut W,
+    door: &mut D,
+    desk: &mut K,
+)
+    requires shared { D.alone door.old ≡ false }
+    requires tasks { ((D.opening door.old).tasks ≡ tasks.now) × AreTasks tasks.now }
+    requires setup { (has_newline setup.now.work ≡ false) × (setup.now.chunk ≡ 0) }
+    requires can { CanServe (D.opening door.old) (W.serves way.old) (D.seen door.old) }
+    ensures worked { Worked (D.opening door.old) setup.now (W.owns way.old) (D.number door.old) (D.alone door.old) (W.serves way.old) (D.seen door.old) (D.seen door.new) (W.wired way.old (D.seen door.old)) (W.wired way.new (D.seen door.new)) (desk_tells (K.log desk.old) (K.counts desk.old)) (desk_tells (K.log desk.new) (K.counts desk.new)) }
+    ensures can { CanServe (D.opening door.new) (W.serves way.new) (D.seen door.new) }
+    ensures through { IsThrough (D.opening door.old) (D.seen door.new) (W.serves way.old) }
+    ensures way { (W.serves way.new ≡ W.serves way.old) × (W.owns way.new ≡ W.owns way.old) × W.same way.old way.new }
+    ensures door { IsSameDoor D.opening D.number D.seen D.alone D.loans D.home door.old door.new }
+{
+    for _ in rt.forever() {
+        match turn(alloc, tasks, setup, way, door, desk) {
+            Turn::Again => {}
+            Turn::Rest => door.rest(),
+            Turn::Over => return,
+        }
+    }
+    unreachable!()
+}

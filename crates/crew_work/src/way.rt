@@ -1,0 +1,183 @@
+// A worker's way to its child: over a child that others read and write, or over a link of its own.
+ghost use Rattle.std.specs.Prelude.{ℕ, ◌≡◌, Bool, true, false, List, [], ◌++◌};
+ghost use Rattle.annex_model.specs.Lines.{has_newline};
+ghost use Rattle.task_text.specs.TaskLines.{IsTask};
+ghost use Rattle.journal_model.specs.declared.entry.Entry.{Entry};
+ghost use Rattle.journal_model.specs.Halves.{LinkWired};
+ghost use Rattle.journal_model.specs.Journal.{any, is_started};
+ghost use Rattle.journal_model.specs.Shares.{Moved, is_of_child};
+ghost use Rattle.task_run.specs.Askings.{askings};
+ghost use Rattle.task_run.specs.Ran.{Ran, HasTaskCauses};
+ghost use Rattle.link_roles.specs.Doors.{IsSameDoor};
+ghost use Rattle.link_roles.specs.Moves.{IsSameLink};
+ghost use Rattle.door_asker.specs.AtTasks.{AtTask, notings};
+ghost use Rattle.crew_work.specs.Crews.{by_task};
+ghost use Rattle.crew_work.specs.Jobs.{JobsOn};
+
+use crate::job_asker::JobAsker;
+use ann_key::NoMemory;
+use ann_outside::{Desk, Sink, Source};
+use door_asker::LoneAsker;
+use journal_model::Answer;
+use link_roles::{Door, Lone};
+use std::alloc::Global;
+use std::sync::Wait;
+use task_run::{Setup, run_task};
+use task_text::Task;
+
+/// How a worker's tasks reach its child.
+pub trait Way {
+    ghost serves: { Self → ℕ };
+
+    // it has the child for itself
+    ghost owns: { Self → Bool };
+
+    // what it holds of the child is as the journal says
+    ghost wired: { Self → List Entry → Type 0 };
+
+    // the second is what calls of its own made of the first
+    ghost same: { Self → Self → Type 0 };
+
+    /// The child's number.
+    fn child(&self) -> u32
+        ensures { result ≡ serves self.now };
+
+    /// Runs a task that the door's number holds.
+    fn run<D: Door, K: Desk>(
+        &mut self,
+        alloc: Global,
+        task: &Task,
+        number: u32,
+        setup: &Setup,
+        door: &mut D,
+        desk: &mut K,
+    ) -> Result<Answer, NoMemory>
+        requires shared { D.alone door.old ≡ false }
+        requires task { IsTask task.now }
+        requires setup { (has_newline setup.now.work ≡ false) × (setup.now.chunk ≡ 0) }
+        requires at { AtTask (D.opening door.old) (D.number door.old) number (D.seen door.old) }
+        requires started { is_started (D.seen door.old) (serves self.old) ≡ true }
+        ensures ran { Ran task.now number setup.now [] (askings (D.seen door.old) number) (askings (D.seen door.new) number) (notings (D.seen door.old) number) (notings (D.seen door.new) number) (K.log desk.old) (K.log desk.new) result }
+        ensures causes { HasTaskCauses (K.counts desk.old) (K.counts desk.new) result }
+        ensures at { AtTask (D.opening door.old) (D.number door.old) number (D.seen door.new) }
+        ensures moved { Moved (D.number door.old) (D.alone door.old) (by_task (owns self.old) (serves self.old) number) (is_of_child (serves self.old)) (D.seen door.old) (D.seen door.new) (wired self.old (D.seen door.old)) (wired self.new (D.seen door.new)) }
+        ensures child { (serves self.new ≡ serves self.old) × (owns self.new ≡ owns self.old) }
+        ensures same { same self.old self.new }
+        ensures door { IsSameDoor D.opening D.number D.seen D.alone D.loans D.home door.old door.new };
+
+    // entries that aren't the child's leave it wired
+    ghost apart: { (s : Self) (past more : List Entry) → any (is_of_child (serves s)) more ≡ false → wired s past → wired s (past ++ more) };
+
+    ghost still: { (s : Self) → same s s };
+
+    ghost both: { (a b d : Self) → same a b → same b d → same a d };
+}
+
+/// The way to a child that other threads read and write.
+#[derive(Drop)]
+pub struct Shared<'r, R: Wait> {
+    pub rt: &'r R,
+    pub child: u32,
+}
+
+// Runs the task over a child that others read and write.
+fn run_jobs<D: Door, K: Desk, R: Wait>(
+    rt: &R,
+    alloc: Global,
+    task: &Task,
+    number: u32,
+    setup: &Setup,
+    child: u32,
+    door: &mut D,
+    desk: &mut K,
+) -> Result<Answer, NoMemory>
+    requires task { IsTask task.now }
+    requires setup { (has_newline setup.now.work ≡ false) × (setup.now.chunk ≡ 0) }
+    requires at { AtTask (D.opening door.old) (D.number door.old) number (D.seen door.old) }
+    ensures ran { Ran task.now number setup.now [] (askings (D.seen door.old) number) (askings (D.seen door.new) number) (notings (D.seen door.old) number) (notings (D.seen door.new) number) (K.log desk.old) (K.log desk.new) result }
+    ensures causes { HasTaskCauses (K.counts desk.old) (K.counts desk.new) result }
+    ensures on { JobsOn (D.opening door.old) (D.number door.old) (D.alone door.old) child number (D.seen door.old) (D.seen door.new) }
+    ensures door { IsSameDoor D.opening D.number D.seen D.alone D.loans D.home door.old door.new }
+{
+    let mut asker = JobAsker {
+        rt,
+        child,
+        door,
+        task: number,
+    };
+    run_task(alloc, task, number, setup, &mut asker, desk)
+}
+
+impl<'r, R: Wait> Way for Shared<'r, R> {
+    ghost use Rattle.std.proofs.Common.{refl, ◌∙◌};
+
+    ghost serves = { λ s. s.child };
+
+    ghost owns = { λ s. false };
+
+    ghost wired = { λ s journal. Unit {0} };
+
+    ghost same = { λ a b. b.child ≡ a.child };
+
+    ghost apart = { λ s past more none w. tt };
+
+    ghost still = { λ s. refl };
+
+    ghost both = { λ a b d s r. r ∙ s };
+
+    fn child(&self) -> u32 {
+        self.child
+    }
+
+    fn run<D: Door, K: Desk>(
+        &mut self,
+        alloc: Global,
+        task: &Task,
+        number: u32,
+        setup: &Setup,
+        door: &mut D,
+        desk: &mut K,
+    ) -> Result<Answer, NoMemory> {
+        run_jobs(self.rt, alloc, task, number, setup, self.child, door, desk)
+    }
+}
+
+impl<I: Sink, O: Source> Way for Lone<I, O> {
+    ghost use Rattle.std.proofs.Common.{refl};
+    ghost use Rattle.crew_work.specs.WayLaws.{link_stays, links_both};
+
+    ghost serves = { λ s. s.ear.child };
+
+    ghost owns = { λ s. true };
+
+    ghost wired = { λ s journal. LinkWired journal s.ear s.mouth };
+
+    ghost same = { λ a b. IsSameLink a.ear b.ear a.mouth b.mouth };
+
+    ghost apart = { λ s past more none w. link_stays past more s.ear s.mouth s.one_child none w };
+
+    ghost still = { λ s. ((refl, refl), (refl, refl)) };
+
+    ghost both = { λ a b d s r. links_both a.ear b.ear d.ear a.mouth b.mouth d.mouth s r };
+
+    fn child(&self) -> u32 {
+        self.ear.child()
+    }
+
+    fn run<D: Door, K: Desk>(
+        &mut self,
+        alloc: Global,
+        task: &Task,
+        number: u32,
+        setup: &Setup,
+        door: &mut D,
+        desk: &mut K,
+    ) -> Result<Answer, NoMemory> {
+        let mut asker = LoneAsker {
+            link: self,
+            door,
+            task: number,
+        };
+        run_task(alloc, task, number, setup, &mut asker, desk)
+    }
+}
