@@ -29,7 +29,6 @@ use Rattle.host_core.specs.Steps.{may_request, next_job}
 use Rattle.task_asker.specs.Askings.{names_in_line}
 use Rattle.link_roles.specs.Doors.{Passed}
 use Rattle.link_roles.specs.Asks.{Grows, HasAsked}
-use Rattle.link_roles.proofs.Linked.{any_narrower}
 use Rattle.link_roles.proofs.Writings.{lone_apart}
 use Rattle.link_roles.proofs.Roles.{moved_both, moved_by, moved_wider, none_made, started_on}
 use Rattle.door_asker.specs.AtTasks.{AtTask, AskedFor, NotedFor}
