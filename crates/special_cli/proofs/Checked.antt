@@ -54,7 +54,7 @@ info_begins o same = subst MayBegin (sym same) (begins info_opening (lit≤ tt) 
 
 -- ---- nothing was done
 
-silent : DeskTells
+pub silent : DeskTells
 silent = desk_tells None no_counts
 
 pub ran_nothing : (o : Opening) (setup : Setup) (may : Bool) (limit : ℕ) (journal : List Entry) → journal ≡ [] → RanAlone o setup may limit journal silent silent
