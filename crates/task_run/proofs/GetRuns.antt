@@ -48,7 +48,7 @@ none_dropped f zero xs h = h
 none_dropped f (suc k) [] h = refl
 none_dropped f (suc k) (x ∷ xs) h = none_dropped f k xs (none_tail (f x) (filter_map f xs) h)
 
-all_taken : {X : Type 0} (p : X → Bool) (k : ℕ) (xs : List X) → list_all p xs ≡ true → list_all p (take k xs) ≡ true
+pub all_taken : {X : Type 0} (p : X → Bool) (k : ℕ) (xs : List X) → list_all p xs ≡ true → list_all p (take k xs) ≡ true
 all_taken p zero xs h = refl
 all_taken p (suc k) [] h = refl
 all_taken p (suc k) (x ∷ xs) h = both (p x) (list_all p xs) (list_all p (take k xs)) h (all_taken p k xs)
@@ -62,11 +62,11 @@ stop_by_case : {X Y : Type 0} (f : X → Option Y) (o : Option Y) (xs : List X) 
 stop_by_case f None xs e k = k e
 stop_by_case f (Some y) xs e k = apart e
 
-none_stop : {X Y : Type 0} (f : X → Option Y) (xs : List X) → list_all (λ x. is_none (f x)) xs ≡ true → filter_map f xs ≡ []
+pub none_stop : {X Y : Type 0} (f : X → Option Y) (xs : List X) → list_all (λ x. is_none (f x)) xs ≡ true → filter_map f xs ≡ []
 none_stop f [] h = refl
 none_stop f (x ∷ xs) h = stop_by_case f (f x) xs h (none_stop f xs)
 
-but_last : {X : Type 0} (xs : List X) (x : X) → all_but_last (xs ++ x ∷ []) ≡ xs
+pub but_last : {X : Type 0} (xs : List X) (x : X) → all_but_last (xs ++ x ∷ []) ≡ xs
 but_last xs x =
     let n : length (xs ++ x ∷ []) ≡ length xs + 1 = length-append xs (x ∷ []) in
     let e : length (xs ++ x ∷ []) - 1 ≡ length xs = omega arith in
