@@ -5,7 +5,7 @@ use Rattle.std.specs.List.{concat}
 use Rattle.ann_key.specs.declared.bytes.NoMemory.{NoMemory}
 use Rattle.ann_digest.specs.declared.checker.Checker.{Checker}
 use Rattle.ann_digest.specs.Checkers.{Holds, taken_of}
-use Rattle.ann_outside.specs.Calls.{Gained, logged, lacks_memory}
+use Rattle.ann_outside.specs.Calls.{Gained, logged, lacks_memory, is_without_memory}
 use Rattle.ann_outside.specs.DeskCauses.{Counts, HasCauses}
 use Rattle.ann_outside.specs.declared.file_desk.DeskError.{DeskError}
 use Rattle.ann_outside.specs.declared.file_desk.DeskError.TheVariants as E
@@ -13,7 +13,8 @@ use Rattle.ann_outside.specs.declared.file_desk.Call.{Call}
 use Rattle.ann_outside.specs.declared.file_desk.Call.TheVariants.{ReadAt, Append}
 use Rattle.fetch_copy.specs.declared.copied.Copied.{Copied}
 use Rattle.fetch_copy.specs.declared.copied.Copied.TheVariants.{Done, Fault, Missing}
-use Rattle.fetch_copy.specs.Copies.{copy_calls, Checks, Moves, Refuses, StepDoes, Moving, Copies, CopyCauses, is_refused, refusal_of, EndsCopy, EndsRefused, CountIs}
+use Rattle.fetch_copy.specs.Copies.{copy_calls, Checks, CarryDoes, Moves, Refuses, StepDoes, Moving, Copies, CopyCauses, is_refused, refusal_of, EndsCopy, EndsRefused, CountIs}
+use Rattle.fetch_copy.specs.Resumes.{IsNotBegun}
 
 -- ---- logs
 
@@ -119,7 +120,7 @@ copies_short a b c from to before between after at n m s high = record {
   checked = let P : Checker → Type 0 = λ k. Checks before k (concat m.pieces) in subst P (sym s.1) m.checked;
 }
 
-ends_refused : (e : DeskError) (from to : List ℕ) (at left : ℕ) (calls : List Call) → EndsRefused e from to at calls → EndsCopy from to at left (refusal_of e) calls
+pub ends_refused : (e : DeskError) (from to : List ℕ) (at left : ℕ) (calls : List Call) → EndsRefused e from to at calls → EndsCopy from to at left (refusal_of e) calls
 ends_refused E.NoMemory from to at left calls h = h
 ends_refused E.Failed from to at left calls h = h
 ends_refused E.Missing from to at left calls h = h
@@ -178,48 +179,65 @@ pub step_ends : (a b : Option (List Call)) (from to : List ℕ) (at : ℕ) (befo
 step_ends a b from to at before after zero e s = s
 step_ends a b from to at before after (suc n) e s = absurd (omega (arith, e))
 
-step_of_moves : (a b : Option (List Call)) (from to : List ℕ) (at : ℕ) (before after : Checker) (n : ℕ)
-    → (n ≡ 0 → ⊥) → Moves a b from to at before after n → StepDoes a b from to at before after (Ok n)
-step_of_moves a b from to at before after zero ne s = absurd (ne refl)
-step_of_moves a b from to at before after (suc n) ne s = s
-
-gained_two : (a b c : Option (List Call)) (x y : Call) → b ≡ logged a x → c ≡ logged b y → lacks_memory x ≡ false → lacks_memory y ≡ false → Gained a c (x ∷ y ∷ [])
+pub gained_two : (a b c : Option (List Call)) (x y : Call) → b ≡ logged a x → c ≡ logged b y → lacks_memory x ≡ false → lacks_memory y ≡ false → Gained a c (x ∷ y ∷ [])
 gained_two a b c x y e f p q = gained_more a b c (x ∷ []) (y ∷ []) (e ∙ gained_call a x p) (f ∙ gained_call b y q)
 
-pub moves_piece : (a b c : Option (List Call)) (from to : List ℕ) (at n : ℕ) (buffer : List ℕ) (before after : Checker)
-    → b ≡ logged a (ReadAt from at (Ok (take n buffer))) → c ≡ logged b (Append to (take n buffer) (Ok tt)) → n ≤ length buffer → (n ≡ 0 → ⊥)
-    → Checks before after (take n buffer) → StepDoes a c from to at before after (Ok n)
-moves_piece a b c from to at n buffer before after e f most ne k =
-    step_of_moves a c from to at before after n ne record {
-      piece = take n buffer;
-      size = length-take-le n buffer most;
-      calls = gained_two a b c (ReadAt from at (Ok (take n buffer))) (Append to (take n buffer) (Ok tt)) e f refl refl;
-      checked = k;
-    }
+pub carries_piece : (a b c : Option (List Call)) (from to : List ℕ) (at n : ℕ) (buffer : List ℕ)
+    → b ≡ logged a (ReadAt from at (Ok (take n buffer))) → c ≡ logged b (Append to (take n buffer) (Ok tt)) → (n ≡ 0 → ⊥)
+    → CarryDoes a c from to at buffer (Ok n)
+carries_piece a b c from to at zero buffer e f ne = absurd (ne refl)
+carries_piece a b c from to at (suc n) buffer e f ne =
+    gained_two a b c (ReadAt from at (Ok (take (suc n) buffer))) (Append to (take (suc n) buffer) (Ok tt)) e f refl refl
 
-pub refuses_read : (a b : Option (List Call)) (from to : List ℕ) (at : ℕ) (k : Checker) (e : DeskError)
-    → b ≡ logged a (ReadAt from at (Err e)) → Refuses a b from to at k k e
-refuses_read a b from to at k E.NoMemory e = record { ending = []; calls = e ∙ gained_without a (ReadAt from at (Err E.NoMemory)) refl; ends = tt; same = refl }
-refuses_read a b from to at k E.Failed e = record { ending = ReadAt from at (Err E.Failed) ∷ []; calls = e ∙ gained_call a (ReadAt from at (Err E.Failed)) refl; ends = refl; same = refl }
-refuses_read a b from to at k E.Missing e = record { ending = ReadAt from at (Err E.Missing) ∷ []; calls = e ∙ gained_call a (ReadAt from at (Err E.Missing)) refl; ends = refl; same = refl }
+pub carries_refused_read : (a b : Option (List Call)) (from to : List ℕ) (at : ℕ) (e : DeskError)
+    → b ≡ logged a (ReadAt from at (Err e)) → CarryDoes a b from to at [] (Err e)
+carries_refused_read a b from to at E.NoMemory e = ([], e ∙ gained_without a (ReadAt from at (Err E.NoMemory)) refl, tt)
+carries_refused_read a b from to at E.Failed e = (ReadAt from at (Err E.Failed) ∷ [], e ∙ gained_call a (ReadAt from at (Err E.Failed)) refl, refl)
+carries_refused_read a b from to at E.Missing e = (ReadAt from at (Err E.Missing) ∷ [], e ∙ gained_call a (ReadAt from at (Err E.Missing)) refl, refl)
 
-pub refuses_append : (a b c : Option (List Call)) (from to : List ℕ) (at : ℕ) (piece : List ℕ) (k : Checker) (e : DeskError)
-    → b ≡ logged a (ReadAt from at (Ok piece)) → c ≡ logged b (Append to piece (Err e)) → Refuses a c from to at k k e
-refuses_append a b c from to at piece k E.NoMemory e f = record {
-  ending = ReadAt from at (Ok piece) ∷ [];
-  calls = gained_more a b c (ReadAt from at (Ok piece) ∷ []) [] (e ∙ gained_call a (ReadAt from at (Ok piece)) refl) (f ∙ gained_without b (Append to piece (Err E.NoMemory)) refl);
-  ends = (piece, refl);
-  same = refl;
+pub carries_refused_append : (a b c : Option (List Call)) (from to : List ℕ) (at : ℕ) (piece : List ℕ) (e : DeskError)
+    → b ≡ logged a (ReadAt from at (Ok piece)) → c ≡ logged b (Append to piece (Err e)) → CarryDoes a c from to at [] (Err e)
+carries_refused_append a b c from to at piece E.NoMemory e f = (
+  ReadAt from at (Ok piece) ∷ [],
+  gained_more a b c (ReadAt from at (Ok piece) ∷ []) [] (e ∙ gained_call a (ReadAt from at (Ok piece)) refl) (f ∙ gained_without b (Append to piece (Err E.NoMemory)) refl),
+  (piece, refl),
+)
+carries_refused_append a b c from to at piece E.Failed e f = (
+  ReadAt from at (Ok piece) ∷ Append to piece (Err E.Failed) ∷ [],
+  gained_two a b c (ReadAt from at (Ok piece)) (Append to piece (Err E.Failed)) e f refl refl,
+  (piece, refl, refl),
+)
+carries_refused_append a b c from to at piece E.Missing e f = (
+  ReadAt from at (Ok piece) ∷ Append to piece (Err E.Missing) ∷ [],
+  gained_two a b c (ReadAt from at (Ok piece)) (Append to piece (Err E.Missing)) e f refl refl,
+  (piece, refl, refl),
+)
+
+pub moves_piece : (a b : Option (List Call)) (from to : List ℕ) (at n : ℕ) (buffer : List ℕ) (before after : Checker)
+    → CarryDoes a b from to at buffer (Ok n) → n ≤ length buffer → (n ≡ 0 → ⊥)
+    → Checks before after (take n buffer) → StepDoes a b from to at before after (Ok n)
+moves_piece a b from to at zero buffer before after c most ne k = absurd (ne refl)
+moves_piece a b from to at (suc n) buffer before after c most ne k = record {
+  piece = take (suc n) buffer;
+  size = length-take-le (suc n) buffer most;
+  calls = c;
+  checked = k;
 }
-refuses_append a b c from to at piece k E.Failed e f = record {
-  ending = ReadAt from at (Ok piece) ∷ Append to piece (Err E.Failed) ∷ [];
-  calls = gained_two a b c (ReadAt from at (Ok piece)) (Append to piece (Err E.Failed)) e f refl refl;
-  ends = (piece, refl, refl);
-  same = refl;
-}
-refuses_append a b c from to at piece k E.Missing e f = record {
-  ending = ReadAt from at (Ok piece) ∷ Append to piece (Err E.Missing) ∷ [];
-  calls = gained_two a b c (ReadAt from at (Ok piece)) (Append to piece (Err E.Missing)) e f refl refl;
-  ends = (piece, refl, refl);
-  same = refl;
-}
+
+pub moves_nothing : (a b : Option (List Call)) (from to : List ℕ) (at n : ℕ) (buffer : List ℕ) (k : Checker)
+    → n ≡ 0 → CarryDoes a b from to at buffer (Ok n) → StepDoes a b from to at k k (Ok 0)
+moves_nothing a b from to at zero buffer k e c = (c, refl)
+moves_nothing a b from to at (suc n) buffer k e c = absurd (omega (arith, e))
+
+pub moves_refused : (a b : Option (List Call)) (from to : List ℕ) (at : ℕ) (k : Checker) (e : DeskError)
+    → CarryDoes a b from to at [] (Err e) → StepDoes a b from to at k k (Err e)
+moves_refused a b from to at k e c = record { ending = c.0; calls = c.1; ends = c.2; same = refl }
+
+-- ---- a call that comes first
+
+pub not_begun : (first : Result (Unit {0}) DeskError → Call) (a b : Option (List Call)) (e : DeskError)
+    → ((e : DeskError) → lacks_memory (first (Err e)) ≡ is_without_memory {T = Unit {0}} (Err e))
+    → b ≡ logged a (first (Err e)) → IsNotBegun first a b (refusal_of e)
+not_begun first a b E.NoMemory known is = is ∙ gained_without a (first (Err E.NoMemory)) (known E.NoMemory)
+not_begun first a b E.Failed known is = is ∙ gained_call a (first (Err E.Failed)) (known E.Failed)
+not_begun first a b E.Missing known is = is ∙ gained_call a (first (Err E.Missing)) (known E.Missing)

@@ -1,5 +1,5 @@
 -- What a copy does at a desk.
-use Rattle.std.specs.Prelude.{ℕ, zero, suc, ◌≡◌, ◌≤◌, ◌+◌, ◌-◌, Bool, true, false, List, [], ◌∷◌, ◌++◌, length, Option, Result, Ok, Err}
+use Rattle.std.specs.Prelude.{ℕ, zero, suc, ◌≡◌, ◌≤◌, ◌+◌, ◌-◌, Bool, true, false, List, [], ◌∷◌, ◌++◌, length, take, Option, Result, Ok, Err}
 use Rattle.std.specs.List.{concat}
 use Rattle.ann_key.specs.Keys.{Parts}
 use Rattle.ann_key.specs.declared.bytes.NoMemory.{NoMemory}
@@ -71,6 +71,13 @@ pub record Checks (before after : Checker) (bytes : List ℕ) : Type 0 where
   pub holds : (key : Parts) (held : List ℕ) → Holds before key held → Holds after key (held ++ bytes)
 
 -- ---- one piece
+
+-- These bytes at the front of a buffer were read and appended; of none the read alone was made. Else a call was refused.
+abbrev pub CarryDoes : Option (List Call) → Option (List Call) → List ℕ → List ℕ → ℕ → List ℕ → Result ℕ DeskError → Type 0
+CarryDoes old new from to at buffer (Ok zero) = Gained old new (ReadAt from at (Ok []) ∷ [])
+CarryDoes old new from to at buffer (Ok (suc n)) =
+    Gained old new (ReadAt from at (Ok (take (suc n) buffer)) ∷ Append to (take (suc n) buffer) (Ok tt) ∷ [])
+CarryDoes old new from to at buffer (Err e) = (ending : List Call) × Gained old new ending × EndsRefused e from to at ending
 
 -- a piece of n bytes was read, appended and checked
 pub record Moves (old new : Option (List Call)) (from to : List ℕ) (at : ℕ) (before after : Checker) (n : ℕ) : Type 0 where

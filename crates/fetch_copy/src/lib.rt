@@ -2,7 +2,11 @@
 #![tactic(auto)]
 
 mod copied;
+mod kept;
 mod moves;
+mod range;
 
 pub use copied::Copied;
+pub use kept::resume;
 pub use moves::copy_in;
+pub use range::copy_out;

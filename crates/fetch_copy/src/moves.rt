@@ -1,7 +1,7 @@
 ghost use Rattle.std.specs.Prelude.{◌≡◌, ◌≢◌, ℕ, ◌+◌, ◌-◌, ◌^◌, ◌<◌, ◌≤◌, List, ◌++◌, length, Ok, Err, IfOk, take};
 ghost use Rattle.ann_digest.specs.Checkers.{taken_of};
 ghost use Rattle.ann_outside.specs.DeskCauses.{HasCauses};
-ghost use Rattle.fetch_copy.specs.Copies.{Copies, CopyCauses, StepDoes, refusal_of};
+ghost use Rattle.fetch_copy.specs.Copies.{Copies, CopyCauses, CarryDoes, StepDoes, refusal_of};
 
 use crate::copied::Copied;
 use ann_digest::Checker;
@@ -9,9 +9,31 @@ use ann_key::NoMemory;
 use ann_outside::{Desk, DeskError};
 use std::alloc::Global;
 
-const STEP: usize = 65536;
+pub const STEP: usize = 65536;
 
-// Reads bytes of a file from a place on, and appends and checks them. There are none at the file's end.
+// Reads bytes of a file from a place on, and appends them to another. There are none at the file's end.
+pub fn carry_piece<D: Desk>(
+    desk: &mut D,
+    from: &str,
+    to: &str,
+    at: u64,
+    buffer: &mut [u8],
+) -> Result<usize, DeskError>
+    ensures carried { CarryDoes (D.log desk.old) (D.log desk.new) from.now to.now at buffer.new result }
+    ensures most { IfOk result (λ n. n ≤ length buffer.new) }
+    ensures causes { HasCauses (D.counts desk.old) (D.counts desk.new) result }
+{
+    match desk.read_at(from, at, buffer) {
+        Ok(0) => Ok(0),
+        Ok(n) => match desk.append(to, &buffer[..n]) {
+            Ok(()) => Ok(n),
+            Err(error) => Err(error),
+        },
+        Err(error) => Err(error),
+    }
+}
+
+// Moves a piece, and checks it.
 fn move_piece<D: Desk>(
     desk: &mut D,
     from: &str,
@@ -25,23 +47,17 @@ fn move_piece<D: Desk>(
     ensures most { IfOk result (λ n. n ≤ length buffer.old) }
     ensures causes { HasCauses (D.counts desk.old) (D.counts desk.new) result }
 {
-    match desk.read_at(from, at, buffer) {
+    match carry_piece(desk, from, part, at, buffer) {
         Ok(0) => Ok(0),
         Ok(n) => {
-            let piece = &buffer[..n];
-            match desk.append(part, piece) {
-                Ok(()) => {
-                    checker.update(piece);
-                    Ok(n as u64)
-                }
-                Err(error) => Err(error),
-            }
+            checker.update(&buffer[..n]);
+            Ok(n as u64)
         }
         Err(error) => Err(error),
     }
 }
 
-fn refused(error: DeskError) -> Result<Copied, NoMemory>
+pub fn refused(error: DeskError) -> Result<Copied, NoMemory>
     ensures { result ≡ refusal_of error }
 {
     match error {

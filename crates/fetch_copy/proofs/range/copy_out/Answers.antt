@@ -1,0 +1,16 @@
+use Rattle.std.proofs.Common.{refl}
+use Rattle.fetch_copy.proofs.CopyLaws.{causes_refused}
+use Rattle.fetch_copy.proofs.RangeLaws.{out_made, out_refused, out_without}
+use Rattle.fetch_copy.proofs.range.copy_out.Goals as goal
+
+pub returns-in-Ok-create-clause-copied : goal.returns-in-Ok-create-clause-copied
+returns-in-Ok-create-clause-copied g c = out_made _ _ _ _ _ _ _ _ c.in-Ok-create.ensures.log c.copy_range.ensures.moved
+
+pub returns-clause-copied : goal.returns-clause-copied
+returns-clause-copied g c = rw c.refused.ensures (out_refused _ _ _ _ _ _ _ c.in-Err.ensures.log)
+
+pub returns-clause-causes : goal.returns-clause-causes
+returns-clause-causes g c = rw c.refused.ensures (causes_refused _ _ _ _ refl c.in-Err.ensures.causes)
+
+pub returns-in_default-clause-copied : goal.returns-in_default-clause-copied
+returns-in_default-clause-copied g c = out_without _ _ _ _ _ _

@@ -1,0 +1,41 @@
+use Rattle.std.proofs.Common.{◌∙◌, ℕ, refl, arith, length-take}
+use Rattle.fetch_copy.proofs.CopyLaws.{causes_nothing, causes_refused, causes_from}
+use Rattle.fetch_copy.proofs.RangeLaws.{ranging_nothing, ranging_more, range_whole, range_short, range_refused}
+use Rattle.fetch_copy.proofs.range.copy_range.Goals as goal
+
+pub loop-at-init : goal.loop-at-init
+loop-at-init g c = record { ranging = ranging_nothing _ _ _ _; least = omega arith; most = omega arith; quiet = refl }
+
+pub loop-at-preserved : goal.loop-at-preserved
+loop-at-preserved g c =
+    let i = c.loop-at.invariant in
+    let h = c.in-Ok.ensures in
+    record {
+      ranging = ranging_more _ _ _ _ _ _ _ _ _ i.ranging h.carried h.most c.in-Ok.moved-test.1;
+      least = omega arith;
+      most = omega (arith, h.most, length-take {A = ℕ}, c.min-room.ensures);
+      quiet = h.causes.done ∙ i.quiet;
+    }
+
+pub returns-in-Ok-eq0-clause-moved : goal.returns-in-Ok-eq0-clause-moved
+returns-in-Ok-eq0-clause-moved g c =
+    let i = c.loop-at.invariant in
+    let h = c.in-Ok-eq0.ensures in
+    range_short _ _ _ _ _ _ _ _ _ _ i.ranging h.carried c.in-Ok-eq0.field-0-test i.most
+
+pub returns-in-Ok-eq0-clause-causes : goal.returns-in-Ok-eq0-clause-causes
+returns-in-Ok-eq0-clause-causes g c = causes_from _ _ _ _ (c.in-Ok-eq0.ensures.causes.done ∙ c.loop-at.invariant.quiet) (causes_nothing _ _ refl)
+
+pub returns-in-Err-clause-moved : goal.returns-in-Err-clause-moved
+returns-in-Err-clause-moved g c =
+    let i = c.loop-at.invariant in
+    rw c.refused.ensures (range_refused _ _ _ _ _ _ _ _ _ i.ranging c.in-Err.ensures.carried i.most)
+
+pub returns-in-Err-clause-causes : goal.returns-in-Err-clause-causes
+returns-in-Err-clause-causes g c = causes_from _ _ _ _ c.loop-at.invariant.quiet (rw c.refused.ensures (causes_refused _ _ _ _ refl c.in-Err.ensures.causes))
+
+pub returns-clause-moved : goal.returns-clause-moved
+returns-clause-moved g c = let i = c.loop-at.invariant in range_whole _ _ _ _ _ _ _ i.ranging c.loop-at-test.false i.most
+
+pub returns-clause-causes : goal.returns-clause-causes
+returns-clause-causes g c = causes_from _ _ _ _ c.loop-at.invariant.quiet (causes_nothing _ _ refl)

@@ -1,0 +1,14 @@
+use Rattle.std.proofs.Common.{◌-◌, ◌≡◌, ◌≤◌}
+use Rattle.fetch_copy.proofs.RangeLaws.{Ranging}
+use Rattle.fetch_copy.proofs.range.copy_range.Given as goal
+
+abbrev pub invariant-loop-at : goal.invariant-loop-at
+invariant-loop-at g l = record {
+  ranging : Ranging (g.D.Desk.log l.fn.desk) (g.D.Desk.log l.desk) l.file l.name l.from l.at;
+  least : l.from ≤ l.at;
+  most : l.at - l.from ≤ l.to - l.from;
+  quiet : g.D.Desk.counts l.desk ≡ g.D.Desk.counts l.fn.desk;
+}
+
+abbrev pub decreases-loop-at : goal.decreases-loop-at
+decreases-loop-at g l = l.to - l.at

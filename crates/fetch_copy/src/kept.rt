@@ -1,0 +1,83 @@
+ghost use Rattle.std.specs.Prelude.{◌≡◌, ◌+◌, ◌-◌, ◌^◌, ◌<◌, ◌≤◌, [], ◌∷◌, Ok, length, IfOk, IfSome};
+ghost use Rattle.ann_digest.specs.Checkers.{taken_of};
+ghost use Rattle.ann_outside.specs.DeskCauses.{HasCauses};
+ghost use Rattle.ann_outside.specs.Files.{CanCut};
+ghost use Rattle.fetch_copy.specs.Copies.{CopyCauses};
+ghost use Rattle.fetch_copy.specs.Resumes.{ReadDoes, ReadsOn, Resumes};
+
+use crate::copied::Copied;
+use crate::moves::{STEP, refused};
+use ann_digest::Checker;
+use ann_key::NoMemory;
+use ann_outside::{Desk, DeskError};
+use std::alloc::Global;
+
+// Reads bytes of a file from a place on, and checks them. There are none at the file's end.
+fn check_piece<D: Desk>(
+    desk: &mut D,
+    file: &str,
+    at: u64,
+    buffer: &mut [u8],
+    checker: &mut Checker<'_>,
+) -> Result<u64, DeskError>
+    requires { taken_of checker.old + length buffer.old < 2 ^ 64 }
+    ensures read { ReadDoes (D.log desk.old) (D.log desk.new) file.now at checker.old checker.new result }
+    ensures most { IfOk result (λ n. n ≤ length buffer.old) }
+    ensures causes { HasCauses (D.counts desk.old) (D.counts desk.new) result }
+{
+    match desk.read_at(file, at, buffer) {
+        Ok(0) => Ok(0),
+        Ok(n) => {
+            checker.update(&buffer[..n]);
+            Ok(n as u64)
+        }
+        Err(error) => Err(error),
+    }
+}
+
+// Reads the first n bytes of a file, and checks them, by a buffer of one step.
+fn check_first<D: Desk>(
+    desk: &mut D,
+    file: &str,
+    n: u64,
+    buffer: &mut [u8],
+    checker: &mut Checker<'_>,
+) -> Result<Copied, NoMemory>
+    requires step { length buffer.old ≡ 65536 }
+    requires room { taken_of checker.old + n < 2 ^ 64 }
+    ensures read { ReadsOn [] (D.log desk.old) (D.log desk.new) file.now n checker.old checker.new result }
+    ensures causes { CopyCauses (D.counts desk.old) (D.counts desk.new) result }
+{
+    let mut at = 0;
+    while at < n {
+        let room = (n - at).min(STEP as u64) as usize;
+        match check_piece(desk, file, at, &mut buffer[..room], checker) {
+            Ok(0) => return Ok(Copied::Done(at)),
+            Ok(read) => at += read,
+            Err(error) => return refused(error),
+        }
+    }
+    Ok(Copied::Done(at))
+}
+
+/// Cuts the file `part` to `keep` bytes and checks all that it then holds. `Done` says how many bytes that are.
+pub fn resume<D: Desk>(
+    alloc: Global,
+    desk: &mut D,
+    part: &str,
+    keep: u64,
+    checker: &mut Checker<'_>,
+) -> Result<Copied, NoMemory>
+    requires held { IfSome (D.files desk.old) (λ files. CanCut part.now keep files) }
+    requires room { taken_of checker.old + keep < 2 ^ 64 }
+    ensures resumed { Resumes (D.log desk.old) (D.log desk.new) part.now keep checker.old checker.new result }
+    ensures causes { CopyCauses (D.counts desk.old) (D.counts desk.new) result }
+{
+    let Ok(mut buffer) = vec![in alloc; 0; STEP] else {
+        return Err(NoMemory);
+    };
+    match desk.cut(part, keep) {
+        Ok(()) => check_first(desk, part, keep, &mut buffer, checker),
+        Err(error) => refused(error),
+    }
+}
