@@ -93,7 +93,7 @@ going_copied setup t key file request at n pieces more a h g r = record {
 -- ---- a read at the end
 
 -- calls behind a copy, which read no byte more
-record Tail (file fetch : List ℕ) (past : List Call) (at : ℕ) (calls : List Call) : Type 0 where
+pub record Tail (file fetch : List ℕ) (past : List Call) (at : ℕ) (calls : List Call) : Type 0 where
   pub good : Good file fetch past calls
   pub run : is_run at (reads_of fetch calls) ≡ true
   pub empty : bytes_of (reads_of fetch calls) ≡ []
@@ -103,7 +103,7 @@ record Tail (file fetch : List ℕ) (past : List Call) (at : ℕ) (calls : List 
   pub known_fetch : is_known fetch (past ++ calls) ≡ true
   pub known_part : is_known (part_of file) (past ++ calls) ≡ true
 
-tail_of : (file fetch : List ℕ) (past : List Call) (at left : ℕ) (calls : List Call) → Apart file fetch → is_known fetch past ≡ true → is_known (part_of file) past ≡ true
+pub tail_of : (file fetch : List ℕ) (past : List Call) (at left : ℕ) (calls : List Call) → Apart file fetch → is_known fetch past ≡ true → is_known (part_of file) past ≡ true
     → EndsWhole fetch at left calls → Tail file fetch past at calls
 tail_of file fetch past at left [] a f p e = record {
   good = record { fair = record { names = refl; changes = refl; lengths = refl; no_length = refl; no_read = refl }; found = refl; free = refl };
@@ -130,7 +130,7 @@ tail_of file fetch past at left (call ∷ next ∷ more) a f p e = absurd e
 -- ---- refused behind what went well
 
 -- the answer of a call that was refused, where no memory was lacking
-stop_is : (e : DeskError) → (e ≡ E.NoMemory → ⊥) → error_stop false e ≡ Some (answered (refusal e))
+pub stop_is : (e : DeskError) → (e ≡ E.NoMemory → ⊥) → error_stop false e ≡ Some (answered (refusal e))
 stop_is E.Failed h = refl
 stop_is E.Missing h = refl
 stop_is E.NoMemory h = absurd (h refl)
@@ -231,7 +231,7 @@ end_unremoved setup t key text file request at n left pieces ending E.Missing a 
 
 -- ---- behind the removal of the fetched file
 
-abbrev moved_calls : List ℕ → List ℕ → List (List ℕ) → List Call → List Call
+abbrev pub moved_calls : List ℕ → List ℕ → List (List ℕ) → List Call → List Call
 moved_calls file fetch pieces ending = copy_calls fetch (part_of file) 0 pieces ++ (ending ++ Remove fetch (Ok tt) ∷ [])
 
 going_moved : (setup : Setup) (t : ℕ) (key : Parts) (file : List ℕ) (request : Option HostMessage) (at n left : ℕ) (pieces : List (List ℕ)) (ending : List Call) → Apart file (fetch_file setup t 1)
@@ -245,14 +245,14 @@ going_moved setup t key file request at n left pieces ending a h w =
     (rw (a.fetch_part, known_whole setup t file n left pieces ending a w) refl) refl refl)
 
 -- what these calls read and wrote
-record Facts (file fetch : List ℕ) (pieces : List (List ℕ)) (ending calls : List Call) : Type 0 where
+pub record Facts (file fetch : List ℕ) (pieces : List (List ℕ)) (ending calls : List Call) : Type 0 where
   pub sized : lengths_found fetch calls ≡ []
   pub reads_are : reads_of fetch calls ≡ placed 0 pieces ++ reads_of fetch ending
   pub bytes : bytes_of (reads_of fetch calls) ≡ concat pieces
   pub written : concat (filter_map (piece_of (part_of file)) calls) ≡ concat pieces
   pub no_begin : list_all (λ call. not (begins (part_of file) call)) calls ≡ true
 
-bytes_more : (xs ys : List (ℕ × List ℕ)) → bytes_of (xs ++ ys) ≡ bytes_of xs ++ bytes_of ys
+pub bytes_more : (xs ys : List (ℕ × List ℕ)) → bytes_of (xs ++ ys) ≡ bytes_of xs ++ bytes_of ys
 bytes_more [] ys = refl
 bytes_more (x ∷ xs) ys = ap (λ l. x.1 ++ l) (bytes_more xs ys) ∙ sym (append_assoc x.1 (bytes_of xs) (bytes_of ys))
 
@@ -267,7 +267,7 @@ copy_no_begin part from to at (piece ∷ pieces) = copy_no_begin part from to (a
 list_all_more : {X : Type 0} (p : X → Bool) (xs ys : List X) → list_all p xs ≡ true → list_all p ys ≡ true → list_all p (xs ++ ys) ≡ true
 list_all_more p xs ys a b = rw (list_all-append p xs ys) (rw a b)
 
-moved_facts : (file fetch : List ℕ) (past : List Call) (pieces : List (List ℕ)) (ending more : List Call) → Apart file fetch → Tail file fetch past (length (concat pieces)) ending
+pub moved_facts : (file fetch : List ℕ) (past : List Call) (pieces : List (List ℕ)) (ending more : List Call) → Apart file fetch → Tail file fetch past (length (concat pieces)) ending
     → lengths_found fetch more ≡ [] → reads_of fetch more ≡ [] → filter_map (piece_of (part_of file)) more ≡ [] → list_all (λ call. not (begins (part_of file) call)) more ≡ true
     → Facts file fetch pieces ending (copy_calls fetch (part_of file) 0 pieces ++ (ending ++ more))
 moved_facts file fetch past pieces ending more a t u r w b = record {
@@ -301,7 +301,7 @@ by_length : (a b : ℕ) (c : Bool) → a ≡ b → ((a == b) || c) ≡ true
 by_length a b c e = rw (eq-eqb a b e) refl
 
 -- a whole copy read its file to the length that was found, or to its end
-whole_reading : (fetch : List ℕ) (n : ℕ) (pieces : List (List ℕ)) (ending : List Call) → EndsWhole fetch (length (concat pieces)) (n - length (concat pieces)) ending → length (concat pieces) ≤ n
+pub whole_reading : (fetch : List ℕ) (n : ℕ) (pieces : List (List ℕ)) (ending : List Call) → EndsWhole fetch (length (concat pieces)) (n - length (concat pieces)) ending → length (concat pieces) ≤ n
     → is_run 0 (placed 0 pieces ++ reads_of fetch ending) ≡ true → is_reading 0 n (placed 0 pieces ++ reads_of fetch ending) ≡ true
 whole_reading fetch n pieces [] e m r =
     let b : bytes_of (placed 0 pieces ++ []) ≡ concat pieces = bytes_more (placed 0 pieces) [] ∙ append-nil (bytes_of (placed 0 pieces)) ∙ bytes_placed 0 pieces in
@@ -318,7 +318,7 @@ is_last-snoc test [] x = refl
 is_last-snoc test (z ∷ []) x = refl
 is_last-snoc test (z ∷ y ∷ zs) x = is_last-snoc test (y ∷ zs) x
 
-last_call : (name : List ℕ) (test : Call → Bool) (front : List Call) (x : Call) → is_call_of name x ≡ true → is_last_call_of name test (front ++ x ∷ []) ≡ test x
+pub last_call : (name : List ℕ) (test : Call → Bool) (front : List Call) (x : Call) → is_call_of name x ≡ true → is_last_call_of name test (front ++ x ∷ []) ≡ test x
 last_call name test front x e =
     let same : filter (is_call_of name) (front ++ x ∷ []) ≡ filter (is_call_of name) front ++ x ∷ [] = rw (filter-append (is_call_of name) front (x ∷ [])) (rw e refl) in
     rw same (is_last-snoc test (filter (is_call_of name) front) x)
@@ -454,7 +454,7 @@ abbrev pub names_of : Setup → ℕ → List ℕ → Files3
 names_of setup t file = record { file = file; part = part_of file; fetch = fetch_file setup t 1 }
 
 -- the calls of a settled move, with the last one apart
-regrouped : (file fetch : List ℕ) (pieces : List (List ℕ)) (ending last : List Call)
+pub regrouped : (file fetch : List ℕ) (pieces : List (List ℕ)) (ending last : List Call)
     → moved_calls file fetch pieces ending ++ last ≡ (copy_calls fetch (part_of file) 0 pieces ++ ending) ++ Remove fetch (Ok tt) ∷ last
 regrouped file fetch pieces ending last = simp append_assoc
 

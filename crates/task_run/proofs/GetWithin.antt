@@ -65,6 +65,9 @@ more_names p asked x =
     let P : List (List ℕ) → Type 0 = λ l. Sub (fetch_files p.setup p.task (length asked)) l in
     subst P (sym (ap (fetch_files p.setup p.task) e ∙ fetch_files_more p.setup p.task (length asked))) (sub_front (fetch_files p.setup p.task (length asked)) (fetch_at p (length asked + 1) ∷ []))
 
+sub_two : (a b : List ℕ) (xs ys : List (List ℕ)) → Sub xs ys → Sub (a ∷ b ∷ xs) (a ∷ b ∷ ys)
+sub_two a b xs ys s = sub_cons a (b ∷ xs) (b ∷ ys) (sub_cons b xs ys s)
+
 own_name : (p : Place) (asked : List Asking) (x : Asking) → Sub (fetch_at p (length asked + 1) ∷ []) (fetch_files p.setup p.task (length (asked ++ x ∷ [])))
 own_name p asked x =
     let e : length (asked ++ x ∷ []) ≡ length asked + 1 = length-append asked (x ∷ []) in
@@ -87,10 +90,10 @@ own_fetched p asked x d =
 pub sound_asked : (p : Place) (asked : List Asking) (x : Asking) (calls : List Call) → Sound p asked calls → length asked + 1 < 2 ^ 64 → Sound p (asked ++ x ∷ []) calls
 sound_asked p asked x calls s few = record {
   names = names_sub (p.file ∷ part_of p.file ∷ fetch_files p.setup p.task (length asked)) (p.file ∷ part_of p.file ∷ fetch_files p.setup p.task (length (asked ++ x ∷ []))) calls
-      (sub_cons p.file _ _ (sub_cons (part_of p.file) _ _ (more_names p asked x))) s.names;
+      (sub_two p.file (part_of p.file) (fetch_files p.setup p.task (length asked)) (fetch_files p.setup p.task (length (asked ++ x ∷ []))) (more_names p asked x)) s.names;
   changes = changes_sub p.file (fetch_files p.setup p.task (length asked)) (fetch_files p.setup p.task (length (asked ++ x ∷ []))) calls (more_names p asked x) s.changes;
   lengths = sizes_sub (part_of p.file ∷ fetched_files p.setup p.task 1 asked) (part_of p.file ∷ fetched_files p.setup p.task 1 (asked ++ x ∷ [])) calls
-      (sub_cons (part_of p.file) _ _ (more_fetched p asked x)) s.lengths;
+      (sub_cons (part_of p.file) (fetched_files p.setup p.task 1 asked) (fetched_files p.setup p.task 1 (asked ++ x ∷ [])) (more_fetched p asked x)) s.lengths;
   found = s.found;
   held = s.held;
   few = let e : length (asked ++ x ∷ []) ≡ length asked + 1 = length-append asked (x ∷ []) in omega (arith, e, few);
@@ -101,10 +104,10 @@ pub sound_fetch : (p : Place) (asked : List Asking) (x : Asking) (n : ℕ) (call
     → Segment p n calls seg → Sound p (asked ++ x ∷ []) (calls ++ seg)
 sound_fetch p asked x n calls seg s is few d g = record {
   names = list_all-append _ calls seg before.names (names_sub (p.file ∷ part_of p.file ∷ fetch_at p n ∷ []) (p.file ∷ part_of p.file ∷ fetch_files p.setup p.task (length (asked ++ x ∷ []))) seg
-      (sub_cons p.file _ _ (sub_cons (part_of p.file) _ _ own)) g.fair.names);
+      (sub_two p.file (part_of p.file) (fetch_at p n ∷ []) (fetch_files p.setup p.task (length (asked ++ x ∷ []))) own) g.fair.names);
   changes = list_all-append _ calls seg before.changes (changes_sub p.file (fetch_at p n ∷ []) (fetch_files p.setup p.task (length (asked ++ x ∷ []))) seg own g.fair.changes);
   lengths = list_all-append _ calls seg before.lengths (sizes_sub (part_of p.file ∷ fetch_at p n ∷ []) (part_of p.file ∷ fetched_files p.setup p.task 1 (asked ++ x ∷ [])) seg
-      (sub_cons (part_of p.file) _ _ owned) g.fair.lengths);
+      (sub_cons (part_of p.file) (fetch_at p n ∷ []) (fetched_files p.setup p.task 1 (asked ++ x ∷ [])) owned) g.fair.lengths);
   found = found_more (part_of p.file) [] calls seg s.found g.found;
   held = held_run p.file calls seg g.fair.no_read s.held;
   few = before.few;
@@ -171,7 +174,7 @@ within_fore u cur got left calls w = record {
       (ap (wanted u.place.key u.place.sizes) (sym (append-nil (lengths_at_begin u.place.file calls))) ∙ w.wants [])
       (asks_done (fetch_request u.place.setup u.place.task) (first_in u) (keys_in (got ++ left)) (map keys_in (wanted u.place.key u.rest [])) cur w.all_done order)
       w.begun w.begun_chunked
-      (ap (λ (l : List Part). wrong_lengths u.place.setup u.place.task u.place.key.size calls (first_in u) l) (take-append-le got left (length cur - 1) (omega (arith, w.aligned)))
+      (ap (λ (l : List Part). wrong_lengths u.place.setup u.place.task u.place.key.size calls (first_in u) l) (take-append-le (length cur - 1) got left (omega (arith, w.aligned)))
       ∙ wrong_taken u.place.setup u.place.task u.place.key.size calls (first_in u) (length cur - 1) got w.right)
       w.sound.held
       w.read;
