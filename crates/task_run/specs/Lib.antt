@@ -17,3 +17,4 @@ pub mod Fetching
 pub mod RunLaws
 pub mod StretchRows
 pub mod Fronts
+pub mod ChunkFetches

@@ -27,7 +27,7 @@ use task_asker::Asker;
 use task_text::Task;
 
 // Removes part, where it is there, and gives the answer.
-fn discard<D: Desk>(desk: &mut D, part: &str, answer: Answer) -> Result<Answer, NoMemory>
+pub fn discard<D: Desk>(desk: &mut D, part: &str, answer: Answer) -> Result<Answer, NoMemory>
     requires content { is_of_content answer ≡ true }
     requires misfit { may_follow_refusal (Ok answer) ≡ true }
     ensures calls { (r : Outcome) × (D.log desk.new ≡ logged (D.log desk.old) (Remove part.now r)) × (result ≡ discarded answer r) }
@@ -41,7 +41,7 @@ fn discard<D: Desk>(desk: &mut D, part: &str, answer: Answer) -> Result<Answer, 
 }
 
 // Keeps part as the file where its bytes fit, and else removes it.
-fn settle<D: Desk>(desk: &mut D, fit: Fit, file: &str, part: &str) -> Result<Answer, NoMemory>
+pub fn settle<D: Desk>(desk: &mut D, fit: Fit, file: &str, part: &str) -> Result<Answer, NoMemory>
     ensures calls { (r : Outcome) × (D.log desk.new ≡ logged (D.log desk.old) (settling (record { file = file.now; part = part.now; fetch = [] }) fit r)) × (result ≡ settled fit r) }
     ensures causes { HasTaskCauses (D.counts desk.old) (D.counts desk.new) result }
 {

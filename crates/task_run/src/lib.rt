@@ -5,6 +5,7 @@ mod answers;
 mod ask;
 mod check;
 mod get;
+mod get_chunk;
 pub mod laws;
 mod names;
 mod plain;
