@@ -101,7 +101,7 @@ moving_step h seg y m fair found s others r = record {
   run = rw (same_reads (fetch_in h) seg y r) m.run;
 }
 
-segment_of : (h : Here) (seg : List Call) → Moving h seg → Segment h.turn.place h.n h.calls seg
+pub segment_of : (h : Here) (seg : List Call) → Moving h seg → Segment h.turn.place h.n h.calls seg
 segment_of h seg m = record { fair = m.good.fair; found = m.good.found; others = m.others }
 
 pub fore_of : (h : Here) (seg : List Call) → FetchingAt h → Moving h seg → Fore h.turn.place (asked_in h) (h.calls ++ seg)

@@ -18,3 +18,4 @@ pub mod RunLaws
 pub mod StretchRows
 pub mod Fronts
 pub mod ChunkFetches
+pub mod LayoutRuns
