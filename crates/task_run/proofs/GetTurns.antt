@@ -25,11 +25,11 @@ use Rattle.task_asker.specs.Askings.{Asking, IsKept, AsksOne}
 use Rattle.task_run.specs.declared.setup.Setup.{Setup}
 use Rattle.task_run.specs.declared.get_chunk.Went.{Went}
 use Rattle.task_run.specs.declared.get_chunk.Went.TheVariants as T
-use Rattle.task_run.specs.Stops.{is_done, is_done_at, asking_stop, call_stop}
+use Rattle.task_run.specs.Stops.{is_done, is_done_at, asking_stop, call_stop, AnsweredBy}
 use Rattle.task_run.specs.Names.{part_of, fetch_file}
 use Rattle.task_run.specs.Requests.{AsksFor, AskInOrder, rounds, RoundsAsk}
 use Rattle.task_run.specs.Reads.{length_found, lengths_found, reads_of, read_of, bytes_of, is_known, is_run, is_reading, takes_away, is_last_call_of, is_removed, appended, piece_of}
-use Rattle.task_run.specs.Gets.{fetch_request, begins, lengths_at_begin, wanted, wrong_lengths, is_wrong, is_failed, failures, asked_last, GetAnswers, DecidesBy}
+use Rattle.task_run.specs.Gets.{fetch_request, begins, lengths_at_begin, wanted, wrong_lengths, is_wrong, is_failed, failures, asked_last, GetAsks, GetAnswers}
 use Rattle.task_run.specs.Ran.{answered, refusal, is_verdict_of, undone_answer}
 use Rattle.task_run.specs.Fetching.{Outcome, if_made, discarded}
 use Rattle.task_run.specs.Fronts.{Place, Turn, first_in, fetch_at, keys_in, is_calm, is_apart, Tried, Sound, are_free, Within, Kept, Between, Ended}
@@ -41,8 +41,9 @@ use Rattle.task_run.proofs.AskLaws.{round_ended, count_more, count_none, count_a
 use Rattle.task_run.proofs.GetCallsLaws.{Apart, fair_size, fair_remove_part, known_add, known_skip, placed, nat_same}
 use Rattle.task_run.proofs.GetEnds.{Facts, moved_facts, whole_reading, moved_calls, regrouped, last_call}
 use Rattle.task_run.proofs.GetFronts.{Fore, ended_memory, ended_asked, ended_finished, first_is, parts_are, failures_are}
-use Rattle.task_run.proofs.ReadLaws.{weaken, lengths_behind, same_wrong, none_wrong, wrong_more}
-use Rattle.task_run.proofs.GetWithin.{Segment, Fetching, none_failed, sound_asked, within_asks, within_fore, within_next, kept_next}
+use Rattle.task_run.proofs.ReadLaws.{weaken, begin_lengths, reads_behind, right_or, lengths_behind, same_wrong, none_wrong, wrong_more}
+use Rattle.task_run.proofs.GetDecides.{Last, answers_misfit, answers_said}
+use Rattle.task_run.proofs.GetWithin.{own_apart, Segment, Fetching, none_failed, sound_asked, within_asks, within_fore, within_next, kept_next}
 use Rattle.task_run.proofs.GetFetch.{Here, FetchingAt, file_in, part_in, fetch_in, asked_in, EndedAt, apart_in, Others, others_size, Moving, moving_none, moving_step, segment_of, fore_of, free_of, memory_at, stopped_at, Ready, copies_in, copy_early, copy_refused, tail_in, fetch_unremoved, moving_moved, part_known_moved}
 
 -- ---- a layout that failed
@@ -150,3 +151,186 @@ ready_sized h m f k = record {
   unread = refl;
 }
 
+-- the fetched file has another length than its part
+misfit : (h : Here) (m size : ℕ) (r : Outcome) → FetchingAt h → h.turn.place.key.size ≡ Some size → (m == h.part.to - h.part.from) ≡ false
+    → length (lengths_at_begin (file_in h) h.calls) ≡ length h.turn.done + 1 → h.n + length h.left < 2 ^ 64
+    → call_stop (part_in h) (Remove (part_in h) r) ≡ None → takes_away (part_in h) (Remove (part_in h) r) ≡ true
+    → ((X : Type 0) → X → AnsweredBy [] (A.Size m) X)
+    → EndedAt h (Size (fetch_in h) (Ok m) ∷ Remove (part_in h) r ∷ []) (A.Size m)
+misfit h m size r f s wrong begun room free gone by =
+    ended_finished h.turn.place (asked_in h) (h.calls ++ seg) (A.Size m) (fore_of h seg f moving) (free_of h seg f moving)
+    (by _ (answers_misfit u (h.cur ++ h.x ∷ []) (h.got ++ h.part ∷ h.left) (h.calls ++ seg) m last wrongs removed))
+  where
+    u : Turn
+    u = h.turn
+
+    seg : List Call
+    seg = Size (fetch_in h) (Ok m) ∷ Remove (part_in h) r ∷ []
+
+    moving : Moving h seg
+    moving = moving_step h (Size (fetch_in h) (Ok m) ∷ []) (Remove (part_in h) r) (moving_sized h m f) (fair_remove_part (file_in h) (fetch_in h) (apart_in h) r) (rw (same_name (part_in h)) refl) free (λ k b d. refl) refl
+
+    same_lengths : lengths_at_begin (file_in h) (h.calls ++ seg) ≡ lengths_at_begin (file_in h) h.calls
+    same_lengths = begin_lengths (file_in h) h.calls seg moving.good.fair.no_length
+
+    last : Last u (h.cur ++ h.x ∷ []) (h.got ++ h.part ∷ h.left) (h.calls ++ seg)
+    last = record {
+      tries = f.within.tries;
+      none = none_failed (h.cur ++ h.x ∷ []) (list_all-append is_done h.cur (h.x ∷ []) f.within.all_done (rw f.is_done_now refl));
+      wants = ap (wanted u.place.key u.place.sizes) (same_lengths ∙ sym (append-nil (lengths_at_begin (file_in h) h.calls))) ∙ f.within.wants [];
+      begun = right_or (u.chunk == 0) (length (lengths_at_begin (file_in h) (h.calls ++ seg)) == length u.done + 1) (eq-eqb _ _ (ap length same_lengths ∙ begun));
+    }
+
+    size_found : lengths_found (fetch_in h) (h.calls ++ seg) ≡ m ∷ []
+    size_found = lengths_behind (fetch_in h) h.calls seg (own_apart u h.cur h.got h.left h.part h.x h.n h.calls f) ∙ rw (same_name (fetch_in h)) refl
+
+    later : wrong_lengths u.place.setup u.place.task u.place.key.size (h.calls ++ seg) (h.n + 1) h.left ≡ []
+    later = none_wrong u.place.setup u.place.task u.place.key.size (h.n + 1) h.left (h.calls ++ seg)
+        (λ i low high. list_all-append (is_apart (fetch_at u.place i)) h.calls seg
+            (f.within.sound.fresh i (let o = own_number u h.cur h.n f.number in omega (arith, o, low)) (omega (arith, high, room)))
+            (moving.others i (omega (arith, high, room)) (λ e. omega (arith, e, low))))
+
+    is_wrong_now : is_wrong u.place.key.size h.part m ≡ true
+    is_wrong_now = let P : Option ℕ → Type 0 = λ o. is_wrong o h.part m ≡ true in subst P (sym s) (ap not wrong)
+
+    wrongs : wrong_lengths u.place.setup u.place.task u.place.key.size (h.calls ++ seg) (first_in u) (h.got ++ h.part ∷ h.left) ≡ m ∷ []
+    wrongs =
+        let number : first_in u + length h.got ≡ h.n = let a = f.within.aligned in let b = f.number in omega (arith, a, b) in
+        wrong_more u.place.setup u.place.task u.place.key.size (h.calls ++ seg) (first_in u) h.got (h.part ∷ h.left)
+        ∙ ap (λ l. l ++ wrong_lengths u.place.setup u.place.task u.place.key.size (h.calls ++ seg) (first_in u + length h.got) (h.part ∷ h.left))
+            (same_wrong u.place.setup u.place.task u.place.key.size (first_in u) h.got h.calls seg (λ i low high. moving.others i (let a = f.within.aligned in let b = f.number in let c = f.few in omega (arith, a, b, c, high)) (λ e. let a = f.within.aligned in let b = f.number in omega (arith, a, b, e, high))) ∙ f.within.right)
+        ∙ ap (λ k. wrong_lengths u.place.setup u.place.task u.place.key.size (h.calls ++ seg) k (h.part ∷ h.left)) number
+        ∙ ap (λ l. filter (is_wrong u.place.key.size h.part) l ++ wrong_lengths u.place.setup u.place.task u.place.key.size (h.calls ++ seg) (h.n + 1) h.left) size_found
+        ∙ ap (λ l. filter (is_wrong u.place.key.size h.part) (m ∷ []) ++ l) later
+        ∙ rw is_wrong_now refl
+
+    removed : is_removed (part_in h) (h.calls ++ seg) ≡ true
+    removed =
+        ap (is_removed (part_in h)) (sym (append_assoc h.calls (Size (fetch_in h) (Ok m) ∷ []) (Remove (part_in h) r ∷ [])))
+        ∙ last_call (part_in h) (takes_away (part_in h)) (h.calls ++ Size (fetch_in h) (Ok m) ∷ []) (Remove (part_in h) r) (same_name (part_in h)) ∙ gone
+
+-- the fetched file was copied onto part, and removed
+came : (h : Here) (len size : ℕ) (held : List (ℕ × List ℕ)) (bytes : List ℕ) (before after : Checker) (pieces : List (List ℕ)) (ending : List Call) → FetchingAt h
+    → Kept h.turn h.cur h.got (h.part ∷ h.left) h.calls held bytes → h.turn.place.key.size ≡ Some size → len ≡ h.part.to - h.part.from
+    → EndsWhole (fetch_in h) (length (concat pieces)) (len - length (concat pieces)) ending → length (concat pieces) ≤ len → Checks before after (concat pieces)
+    → PartEnd h.turn h.cur h.got h.left h.part h.calls held bytes before after (h.x ∷ []) (Size (fetch_in h) (Ok len) ∷ ((copies_in h pieces ++ ending) ++ Remove (fetch_in h) (Ok tt) ∷ [])) (Ok T.Whole)
+came h len size held bytes before after pieces ending f k s is w most c =
+    let P : List Call → Type 0 = λ l. PartEnd u h.cur h.got h.left h.part h.calls held bytes before after (h.x ∷ []) l (Ok T.Whole) in
+    subst P (ap (λ l. Size (fetch_in h) (Ok len) ∷ l) (sym (append_assoc (copies_in h pieces) ending (Remove (fetch_in h) (Ok tt) ∷ []))))
+    (concat pieces,
+    within_next u h.cur h.got h.left h.part h.x h.n h.calls seg f (segment_of h seg moving) moving.run moving.good.free (ap (filter (is_wrong u.place.key.size h.part)) sized ∙ rw right refl),
+    kept_next u h.cur h.got h.left h.part h.x h.n h.calls seg held bytes (concat pieces) f k (segment_of h seg moving) (rw (apart_in h).fetch_part facts.no_begin) known facts.bytes facts.written whole,
+    c, refl)
+  where
+    u : Turn
+    u = h.turn
+
+    pre : List Call
+    pre = Size (fetch_in h) (Ok len) ∷ []
+
+    seg : List Call
+    seg = pre ++ moved_calls (file_in h) (fetch_in h) pieces ending
+
+    ready : Ready h pre
+    ready = ready_sized h len f k.known
+
+    moving : Moving h seg
+    moving = moving_moved h pre (len - length (concat pieces)) pieces ending f ready w
+
+    facts : Facts (file_in h) (fetch_in h) pieces ending (moved_calls (file_in h) (fetch_in h) pieces ending)
+    facts = moved_facts (file_in h) (fetch_in h) ((h.calls ++ pre) ++ copies_in h pieces) pieces ending (Remove (fetch_in h) (Ok tt) ∷ []) (apart_in h)
+        (tail_in h pre (len - length (concat pieces)) pieces ending ready w) refl refl refl refl
+
+    known : is_known (part_in h) (h.calls ++ seg) ≡ true
+    known = part_known_moved h pre (len - length (concat pieces)) pieces ending ready w
+
+    sized : lengths_found (fetch_in h) seg ≡ len ∷ []
+    sized = rw (same_name (fetch_in h)) (rw facts.sized refl)
+
+    right : is_wrong u.place.key.size h.part len ≡ false
+    right = let P : Option ℕ → Type 0 = λ o. is_wrong o h.part len ≡ false in subst P (sym s) (ap not (eq-eqb len (h.part.to - h.part.from) is))
+
+    reading : is_reading 0 len (reads_of (fetch_in h) seg) ≡ true
+    reading = rw facts.reads_are (whole_reading (fetch_in h) len pieces ending w most (rw facts.reads_are at moving.run))
+
+    whole : list_all (λ j. is_reading 0 j (reads_of (fetch_in h) seg)) (lengths_found (fetch_in h) seg) ≡ true
+    whole = ap (list_all (λ j. is_reading 0 j (reads_of (fetch_in h) seg))) sized ∙ ap (λ b. b && true) reading
+
+-- how it goes on behind a request that is done
+pub come_end : (h : Here) (len size : ℕ) (held : List (ℕ × List ℕ)) (bytes : List ℕ) (before after : Checker) (how : Come) → FetchingAt h
+    → Kept h.turn h.cur h.got (h.part ∷ h.left) h.calls held bytes → h.turn.place.key.size ≡ Some size → len ≡ h.part.to - h.part.from → h.n + length h.left < 2 ^ 64
+    → ComeIs (part_in h) (fetch_in h) len before after how
+    → PartEnd h.turn h.cur h.got h.left h.part h.calls held bytes before after (h.x ∷ []) (come_calls (part_in h) (fetch_in h) len how) (come_result how)
+come_end h len size held bytes before after (Unmeasured E.NoMemory) f k s is room so = memory_at h [] f (moving_none h)
+come_end h len size held bytes before after (Unmeasured E.Failed) f k s is room so =
+    stopped_at h [] (Size (fetch_in h) (Err E.Failed)) A.FileFault f (moving_none h) (fair_size (file_in h) (fetch_in h) (apart_in h) (Err E.Failed)) refl refl (others_size h f (Err E.Failed)) refl
+come_end h len size held bytes before after (Unmeasured E.Missing) f k s is room so =
+    stopped_at h [] (Size (fetch_in h) (Err E.Missing)) A.NoFile f (moving_none h) (fair_size (file_in h) (fetch_in h) (apart_in h) (Err E.Missing)) refl (rw (apart_in h).fetch_part refl) (others_size h f (Err E.Missing)) refl
+come_end h len size held bytes before after (Misfit m (Ok tt')) f k s is room so =
+    misfit h m size (Ok tt') f s (ap (λ j. m == j) (sym is) ∙ so) k.begun room refl (same_name (part_in h)) (λ X x. x)
+come_end h len size held bytes before after (Misfit m (Err E.Missing)) f k s is room so =
+    misfit h m size (Err E.Missing) f s (ap (λ j. m == j) (sym is) ∙ so) k.begun room (rw (same_name (part_in h)) refl) (same_name (part_in h)) (λ X x. x)
+come_end h len size held bytes before after (Misfit m (Err E.Failed)) f k s is room so =
+    stopped_at h (Size (fetch_in h) (Ok m) ∷ []) (Remove (part_in h) (Err E.Failed)) A.FileFault f (moving_sized h m f) (fair_remove_part (file_in h) (fetch_in h) (apart_in h) (Err E.Failed))
+    (rw (same_name (part_in h)) refl) refl (λ i b d. refl) refl
+come_end h len size held bytes before after (Misfit m (Err E.NoMemory)) f k s is room so = memory_at h (Size (fetch_in h) (Ok m) ∷ []) f (moving_sized h m f)
+come_end h len size held bytes before after (Uncopied pieces ending E.NoMemory) f k s is room so = copy_early h (Size (fetch_in h) (Ok len) ∷ []) pieces ending f (ready_sized h len f k.known) so
+come_end h len size held bytes before after (Uncopied pieces ending E.Failed) f k s is room so = copy_refused h (Size (fetch_in h) (Ok len) ∷ []) pieces ending E.Failed f (ready_sized h len f k.known) (λ e. cc) so
+come_end h len size held bytes before after (Uncopied pieces ending E.Missing) f k s is room so = copy_refused h (Size (fetch_in h) (Ok len) ∷ []) pieces ending E.Missing f (ready_sized h len f k.known) (λ e. cc) so
+come_end h len size held bytes before after (Unremoved pieces ending E.NoMemory) f k s is room so =
+    fetch_unremoved h (Size (fetch_in h) (Ok len) ∷ []) (len - length (concat pieces)) pieces ending E.NoMemory f (ready_sized h len f k.known) so
+come_end h len size held bytes before after (Unremoved pieces ending E.Failed) f k s is room so =
+    fetch_unremoved h (Size (fetch_in h) (Ok len) ∷ []) (len - length (concat pieces)) pieces ending E.Failed f (ready_sized h len f k.known) so
+come_end h len size held bytes before after (Unremoved pieces ending E.Missing) f k s is room so =
+    fetch_unremoved h (Size (fetch_in h) (Ok len) ∷ []) (len - length (concat pieces)) pieces ending E.Missing f (ready_sized h len f k.known) so
+come_end h len size held bytes before after (Came pieces ending) f k s is room so = came h len size held bytes before after pieces ending f k s is so.0 so.1 so.2
+
+-- ---- a request
+
+-- nothing is asked
+pub unasked_end : (u : Turn) (cur : List Asking) (got left : List Part) (calls : List Call) → Within u cur got left calls → Ended u.place (u.past ++ (cur ++ [])) (calls ++ []) A.Memory
+unasked_end u cur got left calls w =
+    let P : List Asking → Type 0 = λ l. Ended u.place (u.past ++ l) (calls ++ []) A.Memory in
+    let Q : List Call → Type 0 = λ l. Ended u.place (u.past ++ cur) l A.Memory in
+    subst P (sym (append-nil cur)) (subst Q (sym (append-nil calls)) (ended_memory u.place (u.past ++ cur) calls (within_fore u cur got left calls w) w.free))
+
+-- a verdict that stops it
+asked_end : (u : Turn) (cur : List Asking) (got left : List Part) (part : Part) (a : Asking) (n : ℕ) (calls : List Call) (answer : Answer) → Within u cur got (part ∷ left) calls
+    → n ≡ first_in u + length cur → n < 2 ^ 64 → AsksFor (fetch_request u.place.setup u.place.task) n part.key a → not (is_failed a) ≡ true → asking_stop W.Get a ≡ Some answer
+    → Ended u.place (u.past ++ (cur ++ a ∷ [])) (calls ++ []) answer
+asked_end u cur got left part a n calls answer w is few asks ok stop =
+    let fresh : reads_of (fetch_at u.place n) (calls ++ []) ≡ [] =
+        reads_behind (fetch_at u.place n) calls [] (w.sound.fresh n (let o = own_number u cur n is in omega (arith, o)) few) in
+    let asked : GetAsks u.place.setup u.place.task u.place.key u.place.sizes u.place.file (u.past ++ (cur ++ a ∷ [])) (calls ++ []) =
+        within_asks u cur got left part a n calls [] w is asks ok refl refl (λ i low high. refl) (ap (is_run 0) fresh) in
+    let P : List Asking → Type 0 = λ l. Ended u.place l (calls ++ []) answer in
+    let Q : List Asking → Type 0 = λ l. GetAsks u.place.setup u.place.task u.place.key u.place.sizes u.place.file l (calls ++ []) in
+    let S : List Call → Type 0 = λ l. Sound u.place ((u.past ++ cur) ++ a ∷ []) l in
+    let R : List Call → Type 0 = λ l. are_free u.place l ≡ true in
+    subst P (append_assoc u.past cur (a ∷ []))
+    (ended_asked u.place (u.past ++ cur) a (calls ++ []) answer (within_fore u cur got (part ∷ left) calls w).calm
+    (subst Q (sym (append_assoc u.past cur (a ∷ []))) asked)
+    (subst S (sym (append-nil calls)) (sound_asked u.place (u.past ++ cur) a calls w.sound (let o = own_number u cur n is in omega (arith, o, few))))
+    (subst R (sym (append-nil calls)) w.free) stop)
+
+pub asks_for_part : (setup : Setup) (t n : ℕ) (text : List ℕ) (key : Parts) (request : Option HostMessage) (v : Verdict) → key_reading text ≡ Some key
+    → IsKept (Transfer false text (fetch_file setup t n)) request v → AsksFor (fetch_request setup t) n key (record { request = request; verdict = v })
+asks_for_part setup t n text key None v e k = k
+asks_for_part setup t n text key (Some q) v e k = rw k (refl, e)
+
+undone_end : (u : Turn) (cur : List Asking) (got left : List Part) (part : Part) (n : ℕ) (calls : List Call) (held : List (ℕ × List ℕ)) (bytes : List ℕ) (before after : Checker)
+    (request : Option HostMessage) (v : Verdict) (text fetch : List ℕ) → Within u cur got (part ∷ left) calls
+    → length (lengths_at_begin u.place.file calls) ≡ length u.done + 1 → n ≡ first_in u + length cur → n < 2 ^ 64
+    → AsksFor (fetch_request u.place.setup u.place.task) n part.key (record { request = request; verdict = v })
+    → is_verdict_of (Transfer false text fetch) v ≡ true → is_done_at v ≡ false
+    → PartEnd u cur got left part calls held bytes before after (record { request = request; verdict = v } ∷ []) [] (Ok (undone_went v))
+undone_end u cur got left part n calls held bytes before after request (V.Done at) text fetch w begun is few asks kind d = apart (sym d)
+undone_end u cur got left part n calls held bytes before after request (V.Absent at) text fetch w begun is few asks kind d = apart kind
+undone_end u cur got left part n calls held bytes before after request (V.Unknown at) text fetch w begun is few asks kind d = apart kind
+undone_end u cur got left part n calls held bytes before after request (V.Failed at) text fetch w begun is few asks kind d =
+    let a : Asking = record { request = request; verdict = V.Failed at } in
+    let P : List Call → Type 0 = λ l. Between u.place (u.past ++ (cur ++ a ∷ [])) (u.done ++ (got ++ part ∷ left) ∷ []) (u.tried ++ u.chunk ∷ []) u.rest l in
+    (subst P (sym (append-nil calls)) (failed_between u cur got left part a n calls w begun is few asks refl), refl)
+undone_end u cur got left part n calls held bytes before after request (V.Unsupported at) text fetch w begun is few asks kind d = asked_end u cur got left part _ n calls A.Unsupported w is few asks refl refl
+undone_end u cur got left part n calls held bytes before after request (V.Ended why) text fetch w begun is few asks kind d = asked_end u cur got left part _ n calls (A.Ended why) w is few asks refl refl
+undone_end u cur got left part n calls held bytes before after request V.Unsent text fetch w begun is few asks kind d = asked_end u cur got left part _ n calls A.Unsent w is few asks refl refl

@@ -207,7 +207,7 @@ own_number u cur n e = let l : length (u.past ++ cur) ≡ length u.past + length
 earlier_apart : (u : Turn) (cur : List Asking) (n : ℕ) (front seg : List Call) → n ≡ first_in u + length cur → n < 2 ^ 64 → Segment u.place n front seg → Apart u.place.setup u.place.task (first_in u) (length cur) seg
 earlier_apart u cur n front seg e few g = λ i low high. g.others i (omega (arith, e, few, high)) (λ same. omega (arith, e, high, same))
 
-own_apart : (u : Turn) (cur : List Asking) (got left : List Part) (part : Part) (x : Asking) (n : ℕ) (calls : List Call) → Fetching u cur got left part x n calls → list_all (is_apart (fetch_at u.place n)) calls ≡ true
+pub own_apart : (u : Turn) (cur : List Asking) (got left : List Part) (part : Part) (x : Asking) (n : ℕ) (calls : List Call) → Fetching u cur got left part x n calls → list_all (is_apart (fetch_at u.place n)) calls ≡ true
 own_apart u cur got left part x n calls f = f.within.sound.fresh n (omega (arith, own_number u cur n f.number)) f.few
 
 pub fetch_fore : (u : Turn) (cur : List Asking) (got left : List Part) (part : Part) (x : Asking) (n : ℕ) (calls seg : List Call) → Fetching u cur got left part x n calls

@@ -45,7 +45,7 @@ left_or : (b c : Bool) → b ≡ true → (b || c) ≡ true
 left_or true c h = refl
 left_or false c h = apart h
 
-right_or : (b c : Bool) → c ≡ true → (b || c) ≡ true
+pub right_or : (b c : Bool) → c ≡ true → (b || c) ≡ true
 right_or true c h = refl
 right_or false c h = h
 
