@@ -7,6 +7,7 @@ use Rattle.std.proofs.lemmas.List.Elements.{filter_map-append}
 use Rattle.ann_key.specs.Keys.{Parts, key_reading}
 use Rattle.ann_key.specs.declared.bytes.NoMemory.{NoMemory}
 use Rattle.ann_digest.specs.declared.checker.Checker.{Checker}
+use Rattle.ann_digest.specs.Checkers.{taken_of}
 use Rattle.chunk_plan.specs.Layouts.{Part}
 use Rattle.annex_model.specs.Messages.{HostMessage, Transfer}
 use Rattle.journal_model.specs.declared.verdict.Verdict.{Verdict}
@@ -33,7 +34,7 @@ use Rattle.task_run.specs.Gets.{fetch_request, begins, lengths_at_begin, wanted,
 use Rattle.task_run.specs.Ran.{answered, refusal, is_verdict_of, undone_answer}
 use Rattle.task_run.specs.Fetching.{Outcome, if_made, discarded}
 use Rattle.task_run.specs.Fronts.{Place, Turn, first_in, fetch_at, keys_in, is_calm, is_apart, Tried, Sound, are_free, Within, Kept, Between, Ended}
-use Rattle.task_run.specs.ChunkFetches.{Come, Unmeasured, Misfit, Uncopied, Unremoved, Came, come_calls, come_result, ComeIs, Take, Unmade, Undone, Fetched, undone_went, Unasked, IsUndone, IsFetched, TakeIs, Takes}
+use Rattle.task_run.specs.ChunkFetches.{over_with, Come, Unmeasured, Misfit, Uncopied, Unremoved, Came, come_calls, come_result, ComeIs, Take, Unmade, Undone, Fetched, undone_went, Unasked, IsUndone, IsFetched, TakeIs, Takes}
 use Rattle.task_run.specs.LayoutRuns.{Grown, PartEnd}
 use Rattle.task_run.proofs.Texts.{apart, same_name}
 use Rattle.task_run.proofs.LastCalls.{list_all-append, after_last-at}
@@ -334,3 +335,87 @@ undone_end u cur got left part n calls held bytes before after request (V.Failed
 undone_end u cur got left part n calls held bytes before after request (V.Unsupported at) text fetch w begun is few asks kind d = asked_end u cur got left part _ n calls A.Unsupported w is few asks refl refl
 undone_end u cur got left part n calls held bytes before after request (V.Ended why) text fetch w begun is few asks kind d = asked_end u cur got left part _ n calls (A.Ended why) w is few asks refl refl
 undone_end u cur got left part n calls held bytes before after request V.Unsent text fetch w begun is few asks kind d = asked_end u cur got left part _ n calls A.Unsent w is few asks refl refl
+
+pub gained_same : (old new : Option (List Call)) → new ≡ old → Gained old new []
+gained_same old new e = let P : Option (List Call) → Type 0 = λ l. Gained old l [] in subst P (sym e) (gained_nothing old)
+
+-- what a request added
+abbrev pub grown_by : (text part fetch : List ℕ) (n : ℕ) (before after : Checker) (pairs later : List Asking) (old new : Option (List Call)) (result : Result Went NoMemory) (how : Take)
+    → TakeIs text part fetch n before after pairs later old new result how → Grown pairs later old new
+grown_by text part fetch n before after pairs later old new result Unmade so = record { asked = []; made = []; pairs_are = so.none_asked ∙ sym (append-nil pairs); log_is = gained_same old new so.none_called }
+grown_by text part fetch n before after pairs later old new result (Undone v) so =
+    record { asked = record { request = so.asks.request; verdict = v } ∷ []; made = []; pairs_are = so.asks.added; log_is = gained_same old new so.none_called }
+grown_by text part fetch n before after pairs later old new result (Fetched v how) so =
+    record { asked = record { request = so.asks.request; verdict = v } ∷ []; made = come_calls part fetch n how; pairs_are = so.asks.added; log_is = so.calls }
+
+fetched_end : (u : Turn) (cur : List Asking) (got left : List Part) (part : Part) (n : ℕ) (calls : List Call) (held : List (ℕ × List ℕ)) (bytes : List ℕ) (len size : ℕ) (before after : Checker)
+    (request : Option HostMessage) (v : Verdict) (how : Come) → Within u cur got (part ∷ left) calls → Kept u cur got (part ∷ left) calls held bytes → n ≡ first_in u + length cur → n + length left < 2 ^ 64
+    → AsksFor (fetch_request u.place.setup u.place.task) n part.key (record { request = request; verdict = v }) → is_done_at v ≡ true
+    → u.place.key.size ≡ Some size → len ≡ part.to - part.from → ComeIs (part_of u.place.file) (fetch_at u.place n) len before after how
+    → PartEnd u cur got left part calls held bytes before after (record { request = request; verdict = v } ∷ []) (come_calls (part_of u.place.file) (fetch_at u.place n) len how) (come_result how)
+fetched_end u cur got left part n calls held bytes len size before after request v how w k is room asks d s l so =
+    come_end (here_at u cur got left part (record { request = request; verdict = v }) n calls) len size held bytes before after how
+    (record { within = w; number = is; few = omega (arith, room); asks = asks; is_done_now = d }) k s l room so
+
+pub take_end : (u : Turn) (cur : List Asking) (got left : List Part) (part : Part) (n : ℕ) (calls : List Call) (held : List (ℕ × List ℕ)) (bytes : List ℕ) (len size : ℕ) (text : List ℕ)
+    (before after : Checker) (pairs later : List Asking) (old new : Option (List Call)) (result : Result Went NoMemory) (how : Take)
+    → (so : TakeIs text (part_of u.place.file) (fetch_at u.place n) len before after pairs later old new result how)
+    → Within u cur got (part ∷ left) calls → Kept u cur got (part ∷ left) calls held bytes → n ≡ first_in u + length cur → n + length left < 2 ^ 64
+    → key_reading text ≡ Some part.key → u.place.key.size ≡ Some size → len ≡ part.to - part.from
+    → PartEnd u cur got left part calls held bytes before after
+        (grown_by text (part_of u.place.file) (fetch_at u.place n) len before after pairs later old new result how so).asked
+        (grown_by text (part_of u.place.file) (fetch_at u.place n) len before after pairs later old new result how so).made result
+take_end u cur got left part n calls held bytes len size text before after pairs later old new result Unmade so w k is room r s l = rw so.no_memory (unasked_end u cur got (part ∷ left) calls w)
+take_end u cur got left part n calls held bytes len size text before after pairs later old new result (Undone v) so w k is room r s l =
+    rw so.goes (undone_end u cur got left part n calls held bytes before after so.asks.request v text (fetch_at u.place n) w k.begun is (omega (arith, room))
+    (asks_for_part u.place.setup u.place.task n text part.key so.asks.request v r so.asks.kept) so.of_kind so.not_done)
+take_end u cur got left part n calls held bytes len size text before after pairs later old new result (Fetched v how) so w k is room r s l =
+    rw so.goes (fetched_end u cur got left part n calls held bytes len size before after so.asks.request v how w k is room
+    (asks_for_part u.place.setup u.place.task n text part.key so.asks.request v r so.asks.kept) so.done s l so.so)
+
+-- the same, by the names that the code has
+pub take_ran : (u : Turn) (cur : List Asking) (got left : List Part) (part : Part) (n : ℕ) (calls : List Call) (held : List (ℕ × List ℕ)) (bytes : List ℕ) (len size : ℕ) (text name fetch : List ℕ)
+    (before after : Checker) (pairs later : List Asking) (old new : Option (List Call)) (result : Result Went NoMemory) (how : Take)
+    → (so : TakeIs text name fetch len before after pairs later old new result how) → name ≡ part_of u.place.file → fetch ≡ fetch_at u.place n
+    → Within u cur got (part ∷ left) calls → Kept u cur got (part ∷ left) calls held bytes → n ≡ first_in u + length cur → n + length left < 2 ^ 64
+    → key_reading text ≡ Some part.key → u.place.key.size ≡ Some size → len ≡ part.to - part.from
+    → PartEnd u cur got left part calls held bytes before after
+        (grown_by text name fetch len before after pairs later old new result how so).asked
+        (grown_by text name fetch len before after pairs later old new result how so).made result
+take_ran u cur got left part n calls held bytes len size text name fetch before after pairs later old new result how so p q w k is room r s l =
+    let P : List ℕ → Type 0 = λ x. (so : TakeIs text x fetch len before after pairs later old new result how) → PartEnd u cur got left part calls held bytes before after
+        (grown_by text x fetch len before after pairs later old new result how so).asked (grown_by text x fetch len before after pairs later old new result how so).made result in
+    let Q : List ℕ → Type 0 = λ x. (so : TakeIs text (part_of u.place.file) x len before after pairs later old new result how) → PartEnd u cur got left part calls held bytes before after
+        (grown_by text (part_of u.place.file) x len before after pairs later old new result how so).asked (grown_by text (part_of u.place.file) x len before after pairs later old new result how so).made result in
+    subst P (sym p) (subst Q (sym q) (λ so. take_end u cur got left part n calls held bytes len size text before after pairs later old new result how so w k is room r s l)) so
+
+-- ---- how much is taken in
+
+over_not_whole : (r : Result Answer NoMemory) → over_with r ≡ Ok T.Whole → ⊥
+over_not_whole (Ok answer) e = cc
+over_not_whole (Err e') e = cc
+
+come_most : (part fetch : List ℕ) (n : ℕ) (before after : Checker) (how : Come) → ComeIs part fetch n before after how → come_result how ≡ Ok T.Whole → taken_of after ≤ taken_of before + n
+come_most part fetch n before after (Unmeasured e) so is = absurd (over_not_whole (refusal e) is)
+come_most part fetch n before after (Misfit m r) so is = absurd (over_not_whole (discarded (A.Size m) r) is)
+come_most part fetch n before after (Uncopied pieces ending e) so is = absurd (over_not_whole (refusal e) is)
+come_most part fetch n before after (Unremoved pieces ending e) so is = absurd (over_not_whole (refusal e) is)
+come_most part fetch n before after (Came pieces ending) so is = let t = so.2.taken in let m = so.1 in omega (arith, t, m)
+
+undone_not_whole : (v : Verdict) → undone_went v ≡ T.Whole → ⊥
+undone_not_whole (V.Done at) e = cc
+undone_not_whole (V.Failed at) e = cc
+undone_not_whole (V.Absent at) e = cc
+undone_not_whole (V.Unknown at) e = cc
+undone_not_whole (V.Unsupported at) e = cc
+undone_not_whole (V.Ended why) e = cc
+undone_not_whole V.Unsent e = cc
+
+ok_inj : (a b : Went) (x y : Result Went NoMemory) → x ≡ Ok a → y ≡ Ok b → x ≡ y → a ≡ b
+ok_inj a b x y e f g = cc
+
+pub take_most : (text part fetch : List ℕ) (n : ℕ) (before after : Checker) (pairs later : List Asking) (old new : Option (List Call)) (result : Result Went NoMemory) (how : Take)
+    → TakeIs text part fetch n before after pairs later old new result how → result ≡ Ok T.Whole → taken_of after ≤ taken_of before + n
+take_most text part fetch n before after pairs later old new result Unmade so is = let e = so.no_memory in absurd cc
+take_most text part fetch n before after pairs later old new result (Undone v) so is = absurd (undone_not_whole v (ok_inj (undone_went v) T.Whole result (Ok T.Whole) so.goes refl is))
+take_most text part fetch n before after pairs later old new result (Fetched v how) so is = come_most part fetch n before after how so.so (sym so.goes ∙ is)

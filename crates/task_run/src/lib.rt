@@ -6,6 +6,7 @@ mod ask;
 mod check;
 mod get;
 mod get_chunk;
+mod get_layout;
 pub mod laws;
 mod names;
 mod plain;

@@ -8,7 +8,7 @@ use ann_key::{NoMemory, Text};
 use std::alloc::Global;
 
 // What request n of the task fetches into.
-pub fn fetch_name(alloc: Global, setup: &Setup, number: u32, n: u32) -> Result<Text, NoMemory>
+pub fn fetch_name(alloc: Global, setup: &Setup, number: u32, n: u64) -> Result<Text, NoMemory>
     requires { has_newline setup.now.work ≡ false }
     ensures name { IfOk result (λ name. name ≡ fetch_file setup.now number n) }
     ensures line { IfOk result (λ name. has_newline name ≡ false) }
@@ -19,7 +19,7 @@ pub fn fetch_name(alloc: Global, setup: &Setup, number: u32, n: u32) -> Result<T
     }
 }
 
-fn fetch_text(alloc: Global, setup: &Setup, number: u32, n: u32) -> Result<Text, NoMemory>
+fn fetch_text(alloc: Global, setup: &Setup, number: u32, n: u64) -> Result<Text, NoMemory>
     ensures { IfOk result (λ name. name ≡ fetch_file setup.now number n) }
 {
     let work = setup.work.view();
