@@ -419,3 +419,11 @@ pub take_most : (text part fetch : List ℕ) (n : ℕ) (before after : Checker) 
 take_most text part fetch n before after pairs later old new result Unmade so is = let e = so.no_memory in absurd cc
 take_most text part fetch n before after pairs later old new result (Undone v) so is = absurd (undone_not_whole v (ok_inj (undone_went v) T.Whole result (Ok T.Whole) so.goes refl is))
 take_most text part fetch n before after pairs later old new result (Fetched v how) so is = come_most part fetch n before after how so.so (sym so.goes ∙ is)
+
+-- a request that is answered was asked
+pub take_one : (text part fetch : List ℕ) (n : ℕ) (before after : Checker) (pairs later : List Asking) (old new : Option (List Call)) (result : Result Went NoMemory) (how : Take)
+    → (so : TakeIs text part fetch n before after pairs later old new result how) → (went : Went) → result ≡ Ok went
+    → length (grown_by text part fetch n before after pairs later old new result how so).asked ≡ 1
+take_one text part fetch n before after pairs later old new result Unmade so went is = let e = so.no_memory in absurd cc
+take_one text part fetch n before after pairs later old new result (Undone v) so went is = refl
+take_one text part fetch n before after pairs later old new result (Fetched v how) so went is = refl

@@ -1,5 +1,5 @@
 -- How a layout of a get goes.
-use Rattle.std.specs.Prelude.{ℕ, ◌≡◌, ◌+◌, ◌-◌, ◌≤◌, List, [], ◌∷◌, ◌++◌, length, map, Option, Some, None, Result, Ok, Err}
+use Rattle.std.specs.Prelude.{ℕ, ◌≡◌, ◌+◌, ◌-◌, ◌≤◌, ◌<◌, ◌^◌, List, [], ◌∷◌, ◌++◌, length, map, Option, Some, None, Result, Ok, Err}
 use Rattle.std.specs.List.{range_with_len}
 use Rattle.ann_key.specs.Keys.{Parts}
 use Rattle.ann_key.specs.declared.bytes.NoMemory.{NoMemory}
@@ -14,6 +14,7 @@ use Rattle.task_asker.specs.Askings.{Asking}
 use Rattle.task_run.specs.declared.setup.Setup.{Setup}
 use Rattle.task_run.specs.declared.get_chunk.Went.{Went}
 use Rattle.task_run.specs.declared.get_chunk.Went.TheVariants as T
+use Rattle.task_run.specs.Names.{part_of}
 use Rattle.task_run.specs.Fronts.{Place, Turn, Within, Kept, Between, Ended}
 
 -- The pairs and the log grew by these.
@@ -64,6 +65,29 @@ ChunksEnd u parts calls held before after asked made (Ok T.Failed) =
     Between u.place (u.past ++ asked) (u.done ++ parts ∷ []) (u.tried ++ u.chunk ∷ []) u.rest (calls ++ made)
 ChunksEnd u parts calls held before after asked made (Ok (T.Over answer)) = Ended u.place (u.past ++ asked) (calls ++ made) answer
 ChunksEnd u parts calls held before after asked made (Err e) = Ended u.place (u.past ++ asked) (calls ++ made) Memory
+
+-- what a call for the next chunk promises
+abbrev pub NextDoes : Setup → ℕ → Parts → ℕ → ℕ → ℕ → List ℕ → ℕ → Checker → Checker → List Asking → List Call → Result Went NoMemory → Type 0
+NextDoes setup t key size chunk i part now before after asked made result =
+    (file : List ℕ) (b : Behind) (cur : List Asking) (got left : List Part) (calls : List Call) (held : List (ℕ × List ℕ)) (bytes : List ℕ) → part ≡ part_of file
+    → now ≡ length b.past + length cur → now + 1 + length left < 2 ^ 64
+    → Within (turn_at setup t key file chunk b) cur got (chunk_part key size chunk (i + 1) ∷ left) calls
+    → Kept (turn_at setup t key file chunk b) cur got (chunk_part key size chunk (i + 1) ∷ left) calls held bytes
+    → PartEnd (turn_at setup t key file chunk b) cur got left (chunk_part key size chunk (i + 1)) calls held bytes before after asked made result
+
+pub record NextRan (setup : Setup) (t : ℕ) (key : Parts) (size chunk i : ℕ) (part : List ℕ) (now : ℕ) (pairs later : List Asking) (old new : Option (List Call)) (before after : Checker) (result : Result Went NoMemory) : Type 0 where
+  pub grown : Grown pairs later old new
+  pub goes : NextDoes setup t key size chunk i part now before after grown.asked grown.made result
+  pub one : (went : Went) → result ≡ Ok went → length grown.asked ≡ 1
+
+-- what all of them promise
+pub record ChunksRan (setup : Setup) (t : ℕ) (key : Parts) (size chunk held : ℕ) (part : List ℕ) (first now : ℕ) (pairs later : List Asking) (old new : Option (List Call)) (before after : Checker) (result : Result Went NoMemory) : Type 0 where
+  pub grown : Grown pairs later old new
+  pub goes : (file : List ℕ) (b : Behind) (calls : List Call) (reads : List (ℕ × List ℕ)) → part ≡ part_of file → first ≡ length b.past
+      → Within (turn_at setup t key file chunk b) [] [] (parts_from key size chunk held) calls
+      → Kept (turn_at setup t key file chunk b) [] [] (parts_from key size chunk held) calls reads []
+      → ChunksEnd (turn_at setup t key file chunk b) (parts_from key size chunk held) calls reads before after grown.asked grown.made result
+  pub counted : result ≡ Ok T.Failed → now ≡ first + length grown.asked
 
 -- and behind a layout of chunks
 abbrev pub LayoutEnd : Turn → List Call → List Asking → List Call → Result Went NoMemory → Type 0

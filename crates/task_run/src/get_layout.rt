@@ -4,12 +4,10 @@ ghost use Rattle.ann_digest.specs.Checkers.{taken_of};
 ghost use Rattle.ann_key.specs.KeyRefs.{parts_of, text_of};
 ghost use Rattle.annex_model.specs.Lines.{has_newline};
 ghost use Rattle.annex_model.specs.Messages.{is_sent_key};
-ghost use Rattle.ann_outside.specs.declared.file_desk.Call.{Call};
-ghost use Rattle.chunk_plan.specs.Layouts.{Part, chunk_part, count_of, from_of};
-ghost use Rattle.task_asker.specs.Askings.{Asking, IsSameTask};
+ghost use Rattle.chunk_plan.specs.Layouts.{count_of, from_of};
+ghost use Rattle.task_asker.specs.Askings.{IsSameTask};
 ghost use Rattle.task_run.specs.ChunkFetches.{answer_in};
-ghost use Rattle.task_run.specs.Fronts.{Within, Kept};
-ghost use Rattle.task_run.specs.LayoutRuns.{Grown, Behind, turn_at, parts_from, PartEnd, ChunksEnd};
+ghost use Rattle.task_run.specs.LayoutRuns.{NextRan, ChunksRan};
 ghost use Rattle.task_run.specs.Names.{part_of};
 ghost use Rattle.task_run.specs.Ran.{HasTaskCauses};
 ghost use Rattle.task_run.specs.declared.get_chunk.Went.TheVariants as T;
@@ -50,12 +48,7 @@ fn next_chunk<A: Asker, D: Desk>(
     requires folder { has_newline setup.now.work ≡ false }
     requires number { number ≡ A.task asker.old }
     requires ready { A.ready asker.old }
-    ensures ran { (g : Grown (A.pairs asker.old) (A.pairs asker.new) (D.log desk.old) (D.log desk.new))
-        × ((file : List ℕ) (b : Behind) (cur : List Asking) (got left : List Part) (calls : List Call) (held : List (ℕ × List ℕ)) (bytes : List ℕ) → part.now ≡ part_of file
-        → asked.old ≡ length b.past + length cur → asked.old + 1 + length left < 2 ^ 64
-        → Within (turn_at setup.now number (parts_of key.entry) file chunk b) cur got (chunk_part (parts_of key.entry) size chunk (i + 1) ∷ left) calls
-        → Kept (turn_at setup.now number (parts_of key.entry) file chunk b) cur got (chunk_part (parts_of key.entry) size chunk (i + 1) ∷ left) calls held bytes
-        → PartEnd (turn_at setup.now number (parts_of key.entry) file chunk b) cur got left (chunk_part (parts_of key.entry) size chunk (i + 1)) calls held bytes checker.old checker.new g.asked g.made result) }
+    ensures ran { NextRan setup.now number (parts_of key.entry) size chunk i part.now asked.old (A.pairs asker.old) (A.pairs asker.new) (D.log desk.old) (D.log desk.new) checker.old checker.new result }
     ensures counted { asked.new ≡ asked.old + 1 }
     ensures room { result ≡ Ok T.Whole → taken_of checker.new ≤ from_of chunk (i + 2) }
     ensures notes { A.notes asker.new ≡ A.notes asker.old }
@@ -110,12 +103,7 @@ fn chunks<A: Asker, D: Desk>(
     requires folder { has_newline setup.now.work ≡ false }
     requires number { number ≡ A.task asker.old }
     requires ready { A.ready asker.old }
-    ensures ran { (g : Grown (A.pairs asker.old) (A.pairs asker.new) (D.log desk.old) (D.log desk.new))
-        × ((file : List ℕ) (b : Behind) (calls : List Call) (reads : List (ℕ × List ℕ)) → part.now ≡ part_of file → asked.old ≡ length b.past
-        → Within (turn_at setup.now number (parts_of key.entry) file chunk b) [] [] (parts_from (parts_of key.entry) size chunk held) calls
-        → Kept (turn_at setup.now number (parts_of key.entry) file chunk b) [] [] (parts_from (parts_of key.entry) size chunk held) calls reads []
-        → ChunksEnd (turn_at setup.now number (parts_of key.entry) file chunk b) (parts_from (parts_of key.entry) size chunk held) calls reads checker.old checker.new g.asked g.made result)
-        × (result ≡ Ok T.Failed → asked.new ≡ asked.old + length g.asked) }
+    ensures ran { ChunksRan setup.now number (parts_of key.entry) size chunk held part.now asked.old asked.new (A.pairs asker.old) (A.pairs asker.new) (D.log desk.old) (D.log desk.new) checker.old checker.new result }
     ensures notes { A.notes asker.new ≡ A.notes asker.old }
     ensures same { IsSameTask (A.task asker.old) (A.task asker.new) (A.may_note asker.old) (A.may_note asker.new) (A.loans asker.old) (A.loans asker.new) }
     ensures on { A.goes_on asker.old asker.new }
