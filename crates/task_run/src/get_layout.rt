@@ -115,7 +115,8 @@ fn chunks<A: Asker, D: Desk>(
             alloc, number, setup, key, size, chunk, i, part, asked, asker, desk, checker,
         ) {
             Ok(Went::Whole) => {}
-            Ok(went) => return Ok(went),
+            Ok(Went::Failed) => return Ok(Went::Failed),
+            Ok(Went::Over(answer)) => return Ok(Went::Over(answer)),
             Err(error) => return Err(error),
         }
     }
