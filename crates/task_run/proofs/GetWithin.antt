@@ -164,6 +164,14 @@ within_asks u cur got left part x n calls seg w is a ok no_length no_read others
         let Q : ℕ → Type 0 = λ k. AsksFor (fetch_request u.place.setup u.place.task) k part.key x in
         subst P (sym (map-append (λ (q : Part). q.key) got (part ∷ left))) (w.in_order (keys_in (part ∷ left)) (x ∷ []) (subst Q is a, tt))
 
+pub within_order : (u : Turn) (cur : List Asking) (got left : List Part) (calls : List Call) → Within u cur got left calls
+    → RoundsAsk (fetch_request u.place.setup u.place.task) (first_in u) (map keys_in ((got ++ left) ∷ wanted u.place.key u.rest [])) (rounds cur)
+within_order u cur got left calls w =
+    let P : List Parts → Type 0 = λ ks. AskInOrder (fetch_request u.place.setup u.place.task) (first_in u) ks cur in
+    let Q : List Asking → Type 0 = λ l. AskInOrder (fetch_request u.place.setup u.place.task) (first_in u) (keys_in got ++ keys_in left) l in
+    asks_done (fetch_request u.place.setup u.place.task) (first_in u) (keys_in (got ++ left)) (map keys_in (wanted u.place.key u.rest [])) cur w.all_done
+    (subst P (sym (map-append (λ (q : Part). q.key) got left)) (subst Q (append-nil cur) (w.in_order (keys_in left) [] tt)))
+
 -- nothing more is asked for
 pub within_fore : (u : Turn) (cur : List Asking) (got left : List Part) (calls : List Call) → Within u cur got left calls → Fore u.place (u.past ++ cur) calls
 within_fore u cur got left calls w = record {
@@ -172,7 +180,7 @@ within_fore u cur got left calls w = record {
       (none_failed cur w.all_done)
       (all_taken is_calm _ (u.past ++ cur) calm)
       (ap (wanted u.place.key u.place.sizes) (sym (append-nil (lengths_at_begin u.place.file calls))) ∙ w.wants [])
-      (asks_done (fetch_request u.place.setup u.place.task) (first_in u) (keys_in (got ++ left)) (map keys_in (wanted u.place.key u.rest [])) cur w.all_done order)
+      (within_order u cur got left calls w)
       w.begun w.begun_chunked
       (ap (λ (l : List Part). wrong_lengths u.place.setup u.place.task u.place.key.size calls (first_in u) l) (take-append-le (length cur - 1) got left (omega (arith, w.aligned)))
       ∙ wrong_taken u.place.setup u.place.task u.place.key.size calls (first_in u) (length cur - 1) got w.right)
@@ -184,12 +192,6 @@ within_fore u cur got left calls w = record {
   where
     calm : list_all is_calm (u.past ++ cur) ≡ true
     calm = all_calm u.past cur w.tries.calm w.all_done
-
-    order : AskInOrder (fetch_request u.place.setup u.place.task) (first_in u) (keys_in (got ++ left)) cur
-    order =
-        let P : List Parts → Type 0 = λ ks. AskInOrder (fetch_request u.place.setup u.place.task) (first_in u) ks cur in
-        let Q : List Asking → Type 0 = λ l. AskInOrder (fetch_request u.place.setup u.place.task) (first_in u) (keys_in got ++ keys_in left) l in
-        subst P (sym (map-append (λ (q : Part). q.key) got left)) (subst Q (append-nil cur) (w.in_order (keys_in left) [] tt))
 
 -- ---- a part is fetched
 

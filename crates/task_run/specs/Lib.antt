@@ -19,3 +19,4 @@ pub mod StretchRows
 pub mod Fronts
 pub mod ChunkFetches
 pub mod LayoutRuns
+pub mod PartBegins

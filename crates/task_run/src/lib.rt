@@ -5,6 +5,7 @@ mod answers;
 mod ask;
 mod check;
 mod get;
+mod get_begin;
 mod get_chunk;
 mod get_layout;
 pub mod laws;
