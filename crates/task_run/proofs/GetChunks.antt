@@ -24,17 +24,17 @@ use Rattle.task_run.specs.LayoutRuns.{Grown, Behind, turn_at, parts_from, parts_
 
 -- ---- the parts
 
-first_from : (key : Parts) (size chunk i : ℕ) → i < count_of size chunk → parts_from key size chunk i ≡ chunk_part key size chunk (i + 1) ∷ parts_from key size chunk (i + 1)
+pub first_from : (key : Parts) (size chunk i : ℕ) → i < count_of size chunk → parts_from key size chunk i ≡ chunk_part key size chunk (i + 1) ∷ parts_from key size chunk (i + 1)
 first_from key size chunk i there =
     let e : count_of size chunk - i ≡ suc (count_of size chunk - (i + 1)) = omega (arith, there) in
     ap (λ k. map (chunk_part key size chunk) (range_with_len (i + 1) k)) e
 
-none_from : (key : Parts) (size chunk : ℕ) → parts_from key size chunk (count_of size chunk) ≡ []
+pub none_from : (key : Parts) (size chunk : ℕ) → parts_from key size chunk (count_of size chunk) ≡ []
 none_from key size chunk =
     let e : count_of size chunk - count_of size chunk ≡ 0 = omega arith in
     ap (λ k. map (chunk_part key size chunk) (range_with_len (count_of size chunk + 1) k)) e
 
-none_between : (key : Parts) (size chunk i : ℕ) → parts_between key size chunk i i ≡ []
+pub none_between : (key : Parts) (size chunk i : ℕ) → parts_between key size chunk i i ≡ []
 none_between key size chunk i = let e : i - i ≡ 0 = omega arith in ap (λ k. map (chunk_part key size chunk) (range_with_len (i + 1) k)) e
 
 between_more : (key : Parts) (size chunk i k : ℕ) → i ≤ k → parts_between key size chunk i (k + 1) ≡ parts_between key size chunk i k ++ chunk_part key size chunk (k + 1) ∷ []
@@ -50,7 +50,7 @@ range_split a (suc n) m =
     let f : (a + 1) + n ≡ a + suc n = omega arith in
     ap (range_with_len a) e ∙ ap (λ l. a ∷ l) (range_split (a + 1) n m ∙ ap (λ k. range_with_len (a + 1) n ++ range_with_len k m) f)
 
-whole_of : (key : Parts) (size chunk i k : ℕ) → i ≤ k → k ≤ count_of size chunk → parts_between key size chunk i k ++ parts_from key size chunk k ≡ parts_from key size chunk i
+pub whole_of : (key : Parts) (size chunk i k : ℕ) → i ≤ k → k ≤ count_of size chunk → parts_between key size chunk i k ++ parts_from key size chunk k ≡ parts_from key size chunk i
 whole_of key size chunk i k low high =
     let e : count_of size chunk - i ≡ (k - i) + (count_of size chunk - k) = omega (arith, low, high) in
     let f : (i + 1) + (k - i) ≡ k + 1 = omega (arith, low) in

@@ -229,11 +229,11 @@ settle_end u cur parts calls held bytes fit r w k c said = by_fit fit said r
         (right_or (u.chunk == 0) (is_reading 0 (begin_of p.key parts) (held_reads p.file (calls ++ y ∷ [])))
             (ap (is_reading 0 (begin_of p.key parts)) reads ∙ ap (λ (l : List Part). is_reading 0 (begin_of p.key l) held) (sym parts_same) ∙ k.held_whole))
         (same_whole p.setup p.task (first_in u) cur calls (y ∷ []) (λ i low high. o.others i) ∙ k.whole)
-        (by_test (is_got answer) (moved ∙ sym fetched) last)
+        (by_test _ _ _ (is_got answer) (moved ∙ sym fetched) last)
       where
-        by_test : {M L R : Type 0} (b : Bool) → M → MatchBool b L R → MatchBool b (M × L) R
-        by_test true m l = (m, l)
-        by_test false m r = r
+        by_test : (M L R : Type 0) (b : Bool) → M → MatchBool b L R → MatchBool b (M × L) R
+        by_test M L R true m l = (m, l)
+        by_test M L R false m r = r
 
     finished : (y : Call) (answer : Answer) → OfPart p calls (y ∷ []) → call_stop (part_of p.file) y ≡ None → length_or_none (part_of p.file) y ≡ None → read_of (part_of p.file) y ≡ None
         → AnsweredBy [] answer (GetAnswers p.setup p.task p.key p.sizes p.file (u.past ++ cur) (calls ++ y ∷ []) answer) → Ended p (u.past ++ cur) (calls ++ y ∷ []) answer
