@@ -96,3 +96,9 @@ LayoutEnd u calls asked made (Ok T.Failed) =
     (parts : List Part) × Between u.place (u.past ++ asked) (u.done ++ parts ∷ []) (u.tried ++ u.chunk ∷ []) u.rest (calls ++ made)
 LayoutEnd u calls asked made (Ok (T.Over answer)) = Ended u.place (u.past ++ asked) (calls ++ made) answer
 LayoutEnd u calls asked made (Err e) = Ended u.place (u.past ++ asked) (calls ++ made) Memory
+
+pub record LayoutRan (setup : Setup) (t : ℕ) (key : Parts) (file : List ℕ) (chunk : ℕ) (first now : ℕ) (pairs later : List Asking) (old new : Option (List Call)) (result : Result Went NoMemory) : Type 0 where
+  pub grown : Grown pairs later old new
+  pub goes : (b : Behind) → first ≡ length b.past → 1 ≤ length b.rest → Between (place_at setup t key file b.sizes) b.past b.done b.tried (chunk ∷ b.rest) b.calls
+      → LayoutEnd (turn_at setup t key file chunk b) b.calls grown.asked grown.made result
+  pub counted : result ≡ Ok T.Failed → now ≡ first + length grown.asked

@@ -7,12 +7,15 @@ ghost use Rattle.annex_model.specs.Messages.{is_sent_key};
 ghost use Rattle.chunk_plan.specs.Layouts.{count_of, from_of};
 ghost use Rattle.task_asker.specs.Askings.{IsSameTask};
 ghost use Rattle.task_run.specs.ChunkFetches.{answer_in};
-ghost use Rattle.task_run.specs.LayoutRuns.{NextRan, ChunksRan};
+ghost use Rattle.task_run.specs.LayoutRuns.{NextRan, ChunksRan, LayoutRan};
 ghost use Rattle.task_run.specs.Names.{part_of};
+ghost use Rattle.task_run.specs.PartBegins.{HasGetCauses};
 ghost use Rattle.task_run.specs.Ran.{HasTaskCauses};
 ghost use Rattle.task_run.specs.declared.get_chunk.Went.TheVariants as T;
 
-use crate::get_chunk::{Went, take_chunk};
+use crate::get::settle;
+use crate::get_begin::{Begun, begin_part};
+use crate::get_chunk::{Went, over, take_chunk};
 use crate::names::fetch_name;
 use crate::setup::Setup;
 use ann_digest::Checker;
@@ -121,4 +124,51 @@ fn chunks<A: Asker, D: Desk>(
         }
     }
     Ok(Went::Whole)
+}
+
+/// Fetches what part doesn't hold whole in chunks of this size, and keeps part as the file where all of it fits.
+pub fn get_layout<A: Asker, D: Desk>(
+    alloc: Global,
+    number: u32,
+    setup: &Setup,
+    key: KeyRef<'_>,
+    size: u64,
+    chunk: u64,
+    file: &str,
+    part: &str,
+    asked: &mut u64,
+    asker: &mut A,
+    desk: &mut D,
+) -> Result<Went, NoMemory>
+    requires size { (parts_of key).size ≡ Some size }
+    requires whole { (parts_of key).chunk ≡ None }
+    requires sent { is_sent_key (text_of key) ≡ true }
+    requires chunk { 0 < chunk }
+    requires part { part.now ≡ part_of file.now }
+    requires folder { has_newline setup.now.work ≡ false }
+    requires number { number ≡ A.task asker.old }
+    requires ready { A.ready asker.old }
+    ensures ran { LayoutRan setup.now number (parts_of key.entry) file.now chunk asked.old asked.new (A.pairs asker.old) (A.pairs asker.new) (D.log desk.old) (D.log desk.new) result }
+    ensures notes { A.notes asker.new ≡ A.notes asker.old }
+    ensures same { IsSameTask (A.task asker.old) (A.task asker.new) (A.may_note asker.old) (A.may_note asker.new) (A.loans asker.old) (A.loans asker.new) }
+    ensures on { A.goes_on asker.old asker.new }
+    ensures causes { HasGetCauses (D.counts desk.old) (D.counts desk.new) (answer_in result) }
+{
+    let most = count(size, chunk);
+    if most > u64::MAX - *asked {
+        return Err(NoMemory);
+    }
+    let mut checker = Checker::new(key);
+    match begin_part(alloc, desk, size, chunk, part, &mut checker) {
+        Ok(Begun::Held(held)) => match chunks(
+            alloc, number, setup, key, size, chunk, held, part, asked, asker, desk, &mut checker,
+        ) {
+            Ok(Went::Whole) => over(settle(desk, checker.finish(), file, part)),
+            Ok(Went::Failed) => Ok(Went::Failed),
+            Ok(Went::Over(answer)) => Ok(Went::Over(answer)),
+            Err(error) => Err(error),
+        },
+        Ok(Begun::Over(answer)) => Ok(Went::Over(answer)),
+        Err(error) => Err(error),
+    }
 }
