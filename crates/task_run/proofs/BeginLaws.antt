@@ -24,6 +24,7 @@ use Rattle.task_run.specs.declared.get_begin.Begun.{Begun}
 use Rattle.task_run.specs.declared.get_begin.Begun.TheVariants as B
 use Rattle.task_run.specs.Ran.{refusal, may_follow_refusal, HasTaskCauses}
 use Rattle.task_run.specs.Fetching.{if_made}
+use Rattle.task_run.specs.ChunkFetches.{over_with, answer_in}
 use Rattle.task_run.specs.PartBegins.{Begin, Unlooked, Unmade, Made, Uncut, Unread, Resumed, keep_of, begin_calls, unbegun, begin_result, BeginIs, Begins, answer_begun, HasGetCauses}
 use Rattle.task_run.proofs.FetchLaws.{gained_create, gained_size_refused}
 
@@ -142,3 +143,7 @@ can_cut name n keep (Some fs) h s = by_content (content name fs) refl
 pub back : (old new : Counts) (r : Result Answer NoMemory) → HasGetCauses old new r → HasGetCauses old new (answer_begun (unbegun r))
 back old new (Ok answer) h = h
 back old new (Err e) h = h
+
+pub over_back : (old new : Counts) (r : Result Answer NoMemory) → HasGetCauses old new r → HasGetCauses old new (answer_in (over_with r))
+over_back old new (Ok answer) h = h
+over_back old new (Err e) h = h
