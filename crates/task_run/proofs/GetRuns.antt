@@ -147,7 +147,7 @@ run_stopped setup t key text file request at front x answer g f found s r = reco
 whole_part : (key : Parts) → Part
 whole_part key = record { key = key; from = 0; to = unwrap_or key.size 0 }
 
-wrong_if : (size : Option ℕ) (part : Part) (n : ℕ) (b : Bool) → part.from ≡ 0 → part.to ≡ unwrap_or size 0 → is_size size n ≡ b → is_wrong size part n ≡ not b
+pub wrong_if : (size : Option ℕ) (part : Part) (n : ℕ) (b : Bool) → part.from ≡ 0 → part.to ≡ unwrap_or size 0 → is_size size n ≡ b → is_wrong size part n ≡ not b
 wrong_if None part n b f e h = ap not h
 wrong_if (Some s) part n b f e h = let k : part.to - part.from ≡ s = omega (arith, f, e) in rw k (ap not h)
 

@@ -141,7 +141,7 @@ abbrev pub here_at : Turn → List Asking → List Part → List Part → Part �
 here_at u cur got left part x n calls = record { turn = u; cur = cur; got = got; left = left; part = part; x = x; n = n; calls = calls }
 
 -- the fetched file was measured
-moving_sized : (h : Here) (m : ℕ) → FetchingAt h → Moving h (Size (fetch_in h) (Ok m) ∷ [])
+pub moving_sized : (h : Here) (m : ℕ) → FetchingAt h → Moving h (Size (fetch_in h) (Ok m) ∷ [])
 moving_sized h m f = moving_step h [] (Size (fetch_in h) (Ok m)) (moving_none h) (fair_size (file_in h) (fetch_in h) (apart_in h) (Ok m)) refl refl (others_size h f (Ok m)) refl
 
 ready_sized : (h : Here) (m : ℕ) → FetchingAt h → is_known (part_in h) h.calls ≡ true → Ready h (Size (fetch_in h) (Ok m) ∷ [])
