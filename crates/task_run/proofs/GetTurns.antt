@@ -79,12 +79,10 @@ failed_calm a h = by_test (is_done a)
 own_number : (u : Turn) (cur : List Asking) (n : ℕ) → n ≡ first_in u + length cur → length (u.past ++ cur) + 1 ≡ n
 own_number u cur n e = let l : length (u.past ++ cur) ≡ length u.past + length cur = length-append u.past cur in omega (arith, e, l)
 
-pub failed_between : (u : Turn) (cur : List Asking) (got left : List Part) (part : Part) (a : Asking) (n : ℕ) (calls : List Call) → Within u cur got (part ∷ left) calls
-    → length (lengths_at_begin u.place.file calls) ≡ length u.done + 1 → n ≡ first_in u + length cur → n < 2 ^ 64
-    → AsksFor (fetch_request u.place.setup u.place.task) n part.key a → is_failed a ≡ true
-    → Between u.place (u.past ++ (cur ++ a ∷ [])) (u.done ++ (got ++ part ∷ left) ∷ []) (u.tried ++ u.chunk ∷ []) u.rest calls
-failed_between u cur got left part a n calls w begun is few asks f = record {
-  tries = record {
+pub failed_tried : (u : Turn) (cur : List Asking) (got left : List Part) (part : Part) (a : Asking) (n : ℕ) (calls : List Call) → Within u cur got (part ∷ left) calls
+    → n ≡ first_in u + length cur → AsksFor (fetch_request u.place.setup u.place.task) n part.key a → is_failed a ≡ true
+    → Tried u.place (u.past ++ (cur ++ a ∷ [])) (u.done ++ (got ++ part ∷ left) ∷ []) (u.tried ++ u.chunk ∷ []) u.rest
+failed_tried u cur got left part a n calls w is asks f = record {
     sizes_are = w.tries.sizes_are ∙ sym (append_assoc u.tried (u.chunk ∷ []) u.rest);
     each_done =
         let t : length (u.tried ++ u.chunk ∷ []) ≡ length u.tried + 1 = length-append u.tried (u.chunk ∷ []) in
@@ -101,14 +99,7 @@ failed_between u cur got left part a n calls w begun is few asks f = record {
         let e : (u.past ++ (cur ++ a ∷ [])) ++ next ≡ (u.past ++ cur) ++ a ∷ next =
             ap (λ l. l ++ next) (sym (append_assoc u.past cur (a ∷ []))) ∙ append_assoc (u.past ++ cur) (a ∷ []) next in
         ap asked_last e ∙ after_last-at is_failed (u.past ++ cur) a next none f;
-  };
-  wants = λ later. w.wants later ∙ sym (append_assoc u.done ((got ++ part ∷ left) ∷ []) (wanted u.place.key u.rest later));
-  begun = begun ∙ sym (length-append u.done ((got ++ part ∷ left) ∷ []));
-  sound =
-      let P : List Asking → Type 0 = λ l. Sound u.place l calls in
-      subst P (append_assoc u.past cur (a ∷ [])) (sound_asked u.place (u.past ++ cur) a calls w.sound (omega (arith, own_number u cur n is, few)));
-  free = w.free;
-}
+  }
   where
     done_all_calm : (ds : List Asking) → list_all is_done ds ≡ true → list_all is_calm ds ≡ true
     done_all_calm ds h = weaken is_done is_calm ds (λ d e. rw e refl) h
@@ -133,6 +124,20 @@ failed_between u cur got left part a n calls w begun is few asks f = record {
         let keys : map keys_in u.done ++ keys_in (got ++ part ∷ left) ∷ more ≡ map keys_in (u.done ++ (got ++ part ∷ left) ∷ []) ++ more =
             sym (append_assoc (map keys_in u.done) (keys_in (got ++ part ∷ left) ∷ []) more) ∙ ap (λ l. l ++ more) (sym (map-append keys_in u.done ((got ++ part ∷ left) ∷ []))) in
         subst S (sym (append_assoc u.past (cur ++ a ∷ []) next)) (subst L keys all)
+
+pub failed_between : (u : Turn) (cur : List Asking) (got left : List Part) (part : Part) (a : Asking) (n : ℕ) (calls : List Call) → Within u cur got (part ∷ left) calls
+    → length (lengths_at_begin u.place.file calls) ≡ length u.done + 1 → n ≡ first_in u + length cur → n < 2 ^ 64
+    → AsksFor (fetch_request u.place.setup u.place.task) n part.key a → is_failed a ≡ true
+    → Between u.place (u.past ++ (cur ++ a ∷ [])) (u.done ++ (got ++ part ∷ left) ∷ []) (u.tried ++ u.chunk ∷ []) u.rest calls
+failed_between u cur got left part a n calls w begun is few asks f = record {
+  tries = failed_tried u cur got left part a n calls w is asks f;
+  wants = λ later. w.wants later ∙ sym (append_assoc u.done ((got ++ part ∷ left) ∷ []) (wanted u.place.key u.rest later));
+  begun = begun ∙ sym (length-append u.done ((got ++ part ∷ left) ∷ []));
+  sound =
+      let P : List Asking → Type 0 = λ l. Sound u.place l calls in
+      subst P (append_assoc u.past cur (a ∷ [])) (sound_asked u.place (u.past ++ cur) a calls w.sound (omega (arith, own_number u cur n is, few)));
+  free = w.free;
+}
 
 -- ---- a fetch
 
@@ -296,7 +301,7 @@ unasked_end u cur got left calls w =
     subst P (sym (append-nil cur)) (subst Q (sym (append-nil calls)) (ended_memory u.place (u.past ++ cur) calls (within_fore u cur got left calls w) w.free))
 
 -- a verdict that stops it
-asked_end : (u : Turn) (cur : List Asking) (got left : List Part) (part : Part) (a : Asking) (n : ℕ) (calls : List Call) (answer : Answer) → Within u cur got (part ∷ left) calls
+pub asked_end : (u : Turn) (cur : List Asking) (got left : List Part) (part : Part) (a : Asking) (n : ℕ) (calls : List Call) (answer : Answer) → Within u cur got (part ∷ left) calls
     → n ≡ first_in u + length cur → n < 2 ^ 64 → AsksFor (fetch_request u.place.setup u.place.task) n part.key a → not (is_failed a) ≡ true → asking_stop W.Get a ≡ Some answer
     → Ended u.place (u.past ++ (cur ++ a ∷ [])) (calls ++ []) answer
 asked_end u cur got left part a n calls answer w is few asks ok stop =

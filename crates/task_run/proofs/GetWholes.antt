@@ -16,28 +16,35 @@ use Rattle.ann_outside.specs.declared.file_desk.Call.TheVariants.{Size, Create, 
 use Rattle.fetch_copy.specs.Copies.{copy_calls, EndsWhole}
 use Rattle.journal_model.specs.declared.answer.Answer.{Answer}
 use Rattle.journal_model.specs.declared.answer.Answer.TheVariants as A
-use Rattle.task_asker.specs.Askings.{Asking}
-use Rattle.task_run.specs.Stops.{is_done, call_stop, AnsweredBy}
-use Rattle.task_run.specs.Names.{part_of}
+use Rattle.task_asker.specs.Askings.{Asking, AsksOne}
+use Rattle.std.specs.List.{last_or}
+use Rattle.annex_model.specs.Messages.{HostMessage, Transfer}
+use Rattle.journal_model.specs.declared.verdict.Verdict.{Verdict}
+use Rattle.journal_model.specs.declared.verdict.Verdict.TheVariants as V
+use Rattle.task_run.specs.Stops.{is_done, call_stop, is_done_at, AnsweredBy, all_but_last, failed_at, last_failed}
+use Rattle.task_run.specs.declared.setup.Setup.{Setup}
+use Rattle.task_run.specs.Names.{part_of, fetch_file}
 use Rattle.task_run.specs.Stores.{is_size}
-use Rattle.task_run.specs.Requests.{AskInOrder}
+use Rattle.task_run.specs.Requests.{AsksFor, AskInOrder}
 use Rattle.task_run.specs.Reads.{lengths_found, reads_of, read_of, bytes_of, is_known, is_run, is_reading, takes_away, is_last_call_of, is_removed, is_renaming, appended, length_found, piece_of}
 use Rattle.task_run.specs.Discipline.{are_found}
-use Rattle.task_run.specs.Gets.{fetch_request, begins, since_begin, lengths_at_begin, wanted, wrong_lengths, is_wrong, held_reads, bytes_fetched, are_read_whole, IsSaid, fit_in, is_got, GetAnswers}
-use Rattle.task_run.specs.Ran.{answered, refusal}
-use Rattle.task_run.specs.Fetching.{Files3, Outcome, if_made, discarded, kept, settling, settled, Move, NotMade, NotCopied, NotRemoved, Settled, move_calls, move_result, MoveIs, Fetch, NotSized, WrongSize, Moved, fetch_calls, fetch_result, FetchIs}
-use Rattle.task_run.specs.Fronts.{Place, Turn, first_in, fetch_at, is_apart, Tried, Sound, Within, Between, Ended, begin_of}
+use Rattle.task_run.specs.Gets.{fetch_request, begins, since_begin, lengths_at_begin, wanted, wrong_lengths, is_wrong, held_reads, bytes_fetched, are_read_whole, IsSaid, fit_in, is_got, is_failed, failures, GetAsks, Decides, GetAnswers}
+use Rattle.task_run.specs.Ran.{answered, refusal, is_verdict_of, undone_answer}
+use Rattle.task_run.specs.Fetching.{Fetches, Files3, Outcome, if_made, discarded, kept, settling, settled, Move, NotMade, NotCopied, NotRemoved, Settled, move_calls, move_result, MoveIs, Fetch, NotSized, WrongSize, Moved, fetch_calls, fetch_result, FetchIs}
+use Rattle.task_run.specs.Fronts.{Place, Turn, first_in, fetch_at, is_apart, is_calm, Tried, Sound, Within, Between, Ended, begin_of}
+use Rattle.task_run.specs.LayoutRuns.{place_at, WholeRan}
+use Rattle.fetch_copy.proofs.CopyLaws.{gained_nothing}
 use Rattle.task_run.proofs.Texts.{apart, same_name}
 use Rattle.task_run.proofs.LastCalls.{list_all-append, after_last-at}
 use Rattle.task_run.proofs.AskLaws.{count_all}
 use Rattle.task_run.proofs.GetCallsLaws.{Apart, Fair, fair_size, fair_create, fair_remove_part, fair_rename, known_add, known_skip, placed}
 use Rattle.task_run.proofs.GetEnds.{Facts, moved_facts, whole_reading, moved_calls, regrouped, last_call}
 use Rattle.task_run.proofs.ReadLaws.{begin_lengths, reads_behind, lengths_behind}
-use Rattle.task_run.proofs.GetFronts.{ended_finished}
+use Rattle.task_run.proofs.GetFronts.{Fore, asks_of, ended_finished}
 use Rattle.task_run.proofs.GetDecides.{Last, answers_misfit, answers_said}
-use Rattle.task_run.proofs.GetWithin.{own_apart, none_failed}
-use Rattle.task_run.proofs.GetRuns.{wrong_if}
-use Rattle.task_run.proofs.GetTurns.{moving_sized}
+use Rattle.task_run.proofs.GetWithin.{own_apart, none_failed, sound_asked}
+use Rattle.task_run.proofs.GetRuns.{wrong_if, all_taken}
+use Rattle.task_run.proofs.GetTurns.{failed_tried, moving_sized, asked_end, unasked_end, asks_for_part}
 use Rattle.task_run.proofs.GetFetch.{Here, FetchingAt, file_in, part_in, fetch_in, asked_in, EndedAt, apart_in, Others, others_size, Moving, moving_none, moving_step, fore_of, free_of, memory_at, stopped_at, Ready, copies_in, copy_early, copy_refused, tail_in, fetch_unremoved, moving_moved, part_known_moved}
 
 -- the whole content, as a part
@@ -342,3 +349,115 @@ plain_fetched p past done tried x calls f (WrongSize n (Err E.Failed)) so =
     stopped_at h (Size (fetch_in h) (Ok n) ∷ []) (Remove (part_in h) (Err E.Failed)) A.FileFault f (moving_sized h n f) (fair_remove_part (file_in h) (fetch_in h) (apart_in h) (Err E.Failed)) (rw (same_name (part_in h)) refl) refl (λ k b d. refl) refl
 plain_fetched p past done tried x calls f (WrongSize n (Err E.NoMemory)) so = let h = plain_here p past done tried x calls in memory_at h (Size (fetch_in h) (Ok n) ∷ []) f (moving_sized h n f)
 plain_fetched p past done tried x calls f (Moved n how) so = plain_move p past done tried x calls n f so.0 how so.1
+
+-- ---- the request isn't done
+
+failed_last : (past : List Asking) (a : Asking) (answer : Answer) → failed_at a.verdict ≡ Some answer → last_failed (past ++ a ∷ []) ≡ Some answer
+failed_last past a answer e =
+    let one : filter_map (λ (b : Asking). failed_at b.verdict) (a ∷ []) ≡ answer ∷ [] = rw e refl in
+    ap (last_or None) (filter_map-append (λ (b : Asking). failed_at b.verdict) past (a ∷ []) ∙ ap (λ (l : List Answer). filter_map (λ (b : Asking). failed_at b.verdict) past ++ l) one) ∙ last_behind None (filter_map (λ (b : Asking). failed_at b.verdict) past)
+  where
+    last_behind : (o : Option Answer) (answers : List Answer) → last_or o (answers ++ answer ∷ []) ≡ Some answer
+    last_behind o [] = refl
+    last_behind o (x ∷ xs) = last_behind (Some x) xs
+
+failed_of : (request : Option HostMessage) (w : Verdict) (at : ℕ) → w ≡ V.Failed at → is_failed (record { request = request; verdict = w }) ≡ true
+failed_of request w at e = rw e refl
+
+-- every layout has failed
+pub plain_failed : (p : Place) (past : List Asking) (done : List (List Part)) (tried : List ℕ) (a : Asking) (calls : List Call) (at : ℕ) → Between p past done tried (0 ∷ []) calls → length past + 1 < 2 ^ 64
+    → AsksFor (fetch_request p.setup p.task) (length past + 1) p.key a → a.verdict ≡ V.Failed at → Ended p (past ++ a ∷ []) (calls ++ []) (A.Failed at)
+plain_failed p past done tried a calls at b few asks v =
+    let P : List Call → Type 0 = λ l. Ended p (past ++ a ∷ []) l (A.Failed at) in
+    subst P (sym (append-nil calls)) (ended_finished p (past ++ a ∷ []) calls (A.Failed at) fore b.free (record { answered = answer }))
+  where
+    u : Turn
+    u = record { place = p; past = past; done = done; tried = tried; chunk = 0; rest = [] }
+
+    within : Within u [] [] (whole_part p.key ∷ []) calls
+    within = plain_within p past done tried calls b
+
+    is_failed_now : is_failed a ≡ true
+    is_failed_now = failed_of a.request a.verdict at v
+
+    tries : Tried p (past ++ a ∷ []) (done ++ (whole_part p.key ∷ []) ∷ []) (tried ++ 0 ∷ []) []
+    tries = failed_tried u [] [] [] (whole_part p.key) a (length past + 1) calls within (omega arith) asks is_failed_now
+
+    fore : Fore p (past ++ a ∷ []) calls
+    fore = record {
+      asks =
+          let Q : List Asking → Type 0 = λ l. GetAsks p.setup p.task p.key p.sizes p.file l calls in
+          let n = b.begun in
+          let d : length (done ++ (whole_part p.key ∷ []) ∷ []) ≡ length done + 1 = length-append done ((whole_part p.key ∷ []) ∷ []) in
+          subst Q (append-nil (past ++ a ∷ []))
+          (asks_of p (past ++ a ∷ []) [] (done ++ (whole_part p.key ∷ []) ∷ []) [] (tried ++ 0 ∷ []) [] calls tries refl
+          (let R : List Asking → Type 0 = λ l. list_all is_calm (all_but_last l) ≡ true in subst R (sym (append-nil (past ++ a ∷ []))) (all_taken is_calm _ (past ++ a ∷ []) tries.calm))
+          (ap (wanted p.key p.sizes) (sym (append-nil (lengths_at_begin p.file calls))) ∙ within.wants [] ∙ sym (append-nil (done ++ (whole_part p.key ∷ []) ∷ []))) tt (omega (arith, n, d)) within.begun_chunked refl b.sound.held refl);
+      sound = sound_asked p past a calls b.sound few;
+      calm = tries.calm;
+    }
+
+    answer : MatchBool (failures (past ++ a ∷ []) == length p.sizes) (last_failed (past ++ a ∷ []) ≡ Some (A.Failed at)) (Decides p.setup p.task p.key p.sizes p.file (past ++ a ∷ []) calls (A.Failed at))
+    answer =
+        let none : List ℕ = [] in
+        let s : length p.sizes ≡ length (tried ++ 0 ∷ []) = ap length tries.sizes_are ∙ ap length (append-nil (tried ++ 0 ∷ [])) in
+        let e : (failures (past ++ a ∷ []) == length p.sizes) ≡ true = eq-eqb (failures (past ++ a ∷ [])) (length p.sizes) (tries.failed ∙ sym tries.each_done ∙ sym s) in
+        let P : Bool → Type 0 = λ t. MatchBool t (last_failed (past ++ a ∷ []) ≡ Some (A.Failed at)) (Decides p.setup p.task p.key p.sizes p.file (past ++ a ∷ []) calls (A.Failed at)) in
+        subst P (sym e) (failed_last past a (A.Failed at) (rw v refl))
+
+-- ---- what the code promises
+
+asked_over : (p : Place) (past : List Asking) (done : List (List Part)) (tried : List ℕ) (request : Option HostMessage) (v : Verdict) (calls : List Call) (text : List ℕ) → Between p past done tried (0 ∷ []) calls → length past + 1 < 2 ^ 64
+    → AsksFor (fetch_request p.setup p.task) (length past + 1) p.key (record { request = request; verdict = v }) → is_verdict_of (Transfer false text (fetch_at p (length past + 1))) v ≡ true → is_done_at v ≡ false
+    → Ended p (past ++ record { request = request; verdict = v } ∷ []) (calls ++ []) (unwrap_or (undone_answer v) A.Memory)
+asked_over p past done tried request (V.Done at) calls text b few asks k d = apart (sym d)
+asked_over p past done tried request (V.Absent at) calls text b few asks k d = apart k
+asked_over p past done tried request (V.Unknown at) calls text b few asks k d = apart k
+asked_over p past done tried request (V.Failed at) calls text b few asks k d = plain_failed p past done tried _ calls at b few asks refl
+asked_over p past done tried request (V.Unsupported at) calls text b few asks k d = asked_end (record { place = p; past = past; done = done; tried = tried; chunk = 0; rest = [] }) [] [] [] (whole_part p.key) _ (length past + 1) calls A.Unsupported (plain_within p past done tried calls b) (omega arith) few asks refl refl
+asked_over p past done tried request (V.Ended why) calls text b few asks k d = asked_end (record { place = p; past = past; done = done; tried = tried; chunk = 0; rest = [] }) [] [] [] (whole_part p.key) _ (length past + 1) calls (A.Ended why) (plain_within p past done tried calls b) (omega arith) few asks refl refl
+asked_over p past done tried request V.Unsent calls text b few asks k d = asked_end (record { place = p; past = past; done = done; tried = tried; chunk = 0; rest = [] }) [] [] [] (whole_part p.key) _ (length past + 1) calls A.Unsent (plain_within p past done tried calls b) (omega arith) few asks refl refl
+
+pub whole_nothing : (setup : Setup) (t : ℕ) (key : Parts) (file : List ℕ) (first : ℕ) (pairs : List Asking) (log : Option (List Call)) (e : NoMemory) → WholeRan setup t key file first pairs pairs log log (Err e)
+whole_nothing setup t key file first pairs log e = record {
+  grown = record { asked = []; made = []; pairs_are = sym (append-nil pairs); log_is = gained_nothing log };
+  goes = λ sizes past done tried calls n b. unasked_end (record { place = place_at setup t key file sizes; past = past; done = done; tried = tried; chunk = 0; rest = [] }) [] [] (whole_part key ∷ []) calls (plain_within (place_at setup t key file sizes) past done tried calls b);
+}
+
+pub whole_undone : (setup : Setup) (t : ℕ) (key : Parts) (file : List ℕ) (first : ℕ) (pairs later : List Asking) (log : Option (List Call)) (text : List ℕ) (v : Verdict) (answer : Answer) → first + 1 < 2 ^ 64 → key_reading text ≡ Some key
+    → AsksOne pairs later (Transfer false text (fetch_file setup t (first + 1))) v → is_verdict_of (Transfer false text (fetch_file setup t (first + 1))) v ≡ true → is_done_at v ≡ false → Some answer ≡ undone_answer v
+    → WholeRan setup t key file first pairs later log log (Ok answer)
+whole_undone setup t key file first pairs later log text v answer few r a k d is = record {
+  grown = record { asked = record { request = a.request; verdict = v } ∷ []; made = []; pairs_are = a.added; log_is = gained_nothing log };
+  goes = λ sizes past done tried calls n b.
+      let p = place_at setup t key file sizes in
+      let x : Asking = record { request = a.request; verdict = v } in
+      let N : ℕ → Type 0 = λ j. AsksFor (fetch_request setup t) j key x in
+      let K : ℕ → Type 0 = λ j. is_verdict_of (Transfer false text (fetch_file setup t j)) v ≡ true in
+      let e : first + 1 ≡ length past + 1 = omega (arith, n) in
+      let O : Option Answer → Type 0 = λ o. Ended p (past ++ x ∷ []) (calls ++ []) (unwrap_or o A.Memory) in
+      subst O (sym is) (asked_over p past done tried a.request v calls text b (omega (arith, n, few)) (subst N e (asks_for_part setup t (first + 1) text key a.request v r a.kept)) (subst K e k) d);
+}
+
+pub whole_fetched : (setup : Setup) (t : ℕ) (key : Parts) (file part fetch : List ℕ) (first : ℕ) (pairs later : List Asking) (old new : Option (List Call)) (text : List ℕ) (v : Verdict) (result : Result Answer NoMemory) → first + 1 < 2 ^ 64 → key_reading text ≡ Some key
+    → AsksOne pairs later (Transfer false text (fetch_file setup t (first + 1))) v → is_done_at v ≡ true → part ≡ part_of file → fetch ≡ fetch_file setup t (first + 1)
+    → Fetches (record { file = file; part = part; fetch = fetch }) key old new result → WholeRan setup t key file first pairs later old new result
+whole_fetched setup t key file part fetch first pairs later old new text v result few r a d p q f = record {
+  grown = record { asked = record { request = a.request; verdict = v } ∷ []; made = fetch_calls (record { file = file; part = part; fetch = fetch }) f.how; pairs_are = a.added; log_is = f.calls };
+  goes = λ sizes past done tried calls n b.
+      let place = place_at setup t key file sizes in
+      let x : Asking = record { request = a.request; verdict = v } in
+      let e : first + 1 ≡ length past + 1 = omega (arith, n) in
+      let N : ℕ → Type 0 = λ j. AsksFor (fetch_request setup t) j key x in
+      let fetching : FetchingAt (plain_here place past done tried x calls) = record {
+        within = plain_within place past done tried calls b;
+        number = omega arith;
+        few = omega (arith, n, few);
+        asks = subst N e (asks_for_part setup t (first + 1) text key a.request v r a.kept);
+        is_done_now = d;
+      } in
+      let P : List ℕ → Type 0 = λ l. FetchIs (record { file = file; part = l; fetch = fetch }) key f.how → Ended place (past ++ x ∷ []) (calls ++ fetch_calls (record { file = file; part = l; fetch = fetch }) f.how) (answered result) in
+      let Q : List ℕ → Type 0 = λ l. FetchIs (record { file = file; part = part_of file; fetch = l }) key f.how → Ended place (past ++ x ∷ []) (calls ++ fetch_calls (record { file = file; part = part_of file; fetch = l }) f.how) (answered result) in
+      let R : Result Answer NoMemory → Type 0 = λ z. Ended place (past ++ x ∷ []) (calls ++ fetch_calls (plain_names place past) f.how) (answered z) in
+      subst P (sym p) (subst Q (sym (q ∙ ap (fetch_file setup t) e)) (λ so. subst R (sym f.result_is) (plain_fetched place past done tried x calls fetching f.how so))) f.so;
+}

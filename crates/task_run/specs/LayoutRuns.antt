@@ -15,6 +15,7 @@ use Rattle.task_run.specs.declared.setup.Setup.{Setup}
 use Rattle.task_run.specs.declared.get_chunk.Went.{Went}
 use Rattle.task_run.specs.declared.get_chunk.Went.TheVariants as T
 use Rattle.task_run.specs.Names.{part_of}
+use Rattle.task_run.specs.Ran.{answered}
 use Rattle.task_run.specs.Fronts.{Place, Turn, Within, Kept, Between, Ended}
 
 -- The pairs and the log grew by these.
@@ -102,3 +103,9 @@ pub record LayoutRan (setup : Setup) (t : ℕ) (key : Parts) (file : List ℕ) (
   pub goes : (b : Behind) → first ≡ length b.past → 1 ≤ length b.rest → Between (place_at setup t key file b.sizes) b.past b.done b.tried (chunk ∷ b.rest) b.calls
       → LayoutEnd (turn_at setup t key file chunk b) b.calls grown.asked grown.made result
   pub counted : result ≡ Ok T.Failed → now ≡ first + length grown.asked
+
+-- the plain layout, behind all others
+pub record WholeRan (setup : Setup) (t : ℕ) (key : Parts) (file : List ℕ) (first : ℕ) (pairs later : List Asking) (old new : Option (List Call)) (result : Result Answer NoMemory) : Type 0 where
+  pub grown : Grown pairs later old new
+  pub goes : (sizes : List ℕ) (past : List Asking) (done : List (List Part)) (tried : List ℕ) (calls : List Call) → first ≡ length past → Between (place_at setup t key file sizes) past done tried (0 ∷ []) calls
+      → Ended (place_at setup t key file sizes) (past ++ grown.asked) (calls ++ grown.made) (answered result)
