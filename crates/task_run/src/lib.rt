@@ -8,6 +8,7 @@ mod get;
 mod get_begin;
 mod get_chunk;
 mod get_layout;
+mod get_layouts;
 pub mod laws;
 mod names;
 mod plain;

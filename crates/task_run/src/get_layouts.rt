@@ -1,0 +1,89 @@
+// A get over all layouts.
+ghost use Rattle.std.specs.Prelude.{◌≡◌, ◌≢◌, ◌+◌, ◌<◌, ◌^◌, ℕ, true, false};
+ghost use Rattle.ann_key.specs.KeyRefs.{parts_of, text_of};
+ghost use Rattle.annex_model.specs.Lines.{has_newline};
+ghost use Rattle.annex_model.specs.Messages.{is_sent_key};
+ghost use Rattle.task_asker.specs.Askings.{IsSameTask};
+ghost use Rattle.task_run.specs.LayoutRuns.{WholeRan};
+ghost use Rattle.task_run.specs.Names.{fetch_file, part_of};
+ghost use Rattle.task_run.specs.Ran.{HasTaskCauses};
+ghost use Rattle.task_run.specs.declared.setup.Setup.{Setup};
+
+use crate::answers::{is_done, undone_answer};
+use crate::ask;
+use crate::get::fetched;
+use crate::names::fetch_name;
+use crate::setup::Setup;
+use ann_key::{KeyRef, NoMemory};
+use ann_outside::Desk;
+use journal_model::Answer;
+use std::alloc::Global;
+use task_asker::Asker;
+
+// Fetches the key whole, by this name of the fetched file.
+fn whole_by<A: Asker, D: Desk>(
+    alloc: Global,
+    number: u32,
+    key: KeyRef<'_>,
+    file: &str,
+    part: &str,
+    fetch: &str,
+    asker: &mut A,
+    desk: &mut D,
+) -> Result<Answer, NoMemory>
+    requires sent { is_sent_key (text_of key) ≡ true }
+    requires part { part.now ≡ part_of file.now }
+    requires line { has_newline fetch.now ≡ false }
+    requires differ { fetch.now ≢ part.now }
+    requires number { number ≡ A.task asker.old }
+    requires ready { A.ready asker.old }
+    ensures ran { (setup : Setup) (first : ℕ) → fetch.now ≡ fetch_file setup number (first + 1) → first + 1 < 2 ^ 64
+        → WholeRan setup number (parts_of key.entry) file.now first (A.pairs asker.old) (A.pairs asker.new) (D.log desk.old) (D.log desk.new) result }
+    ensures notes { A.notes asker.new ≡ A.notes asker.old }
+    ensures same { IsSameTask (A.task asker.old) (A.task asker.new) (A.may_note asker.old) (A.may_note asker.new) (A.loans asker.old) (A.loans asker.new) }
+    ensures on { A.goes_on asker.old asker.new }
+    ensures causes { HasTaskCauses (D.counts desk.old) (D.counts desk.new) result }
+{
+    match ask::transfer(alloc, asker, number, false, key, fetch) {
+        Ok(verdict) => {
+            if is_done(verdict) {
+                fetched(alloc, desk, key, file, part, fetch)
+            } else {
+                Ok(undone_answer(verdict))
+            }
+        }
+        Err(error) => Err(error),
+    }
+}
+
+// Fetches the key whole, behind so many requests.
+fn get_whole<A: Asker, D: Desk>(
+    alloc: Global,
+    number: u32,
+    setup: &Setup,
+    key: KeyRef<'_>,
+    file: &str,
+    part: &str,
+    asked: u64,
+    asker: &mut A,
+    desk: &mut D,
+) -> Result<Answer, NoMemory>
+    requires sent { is_sent_key (text_of key) ≡ true }
+    requires part { part.now ≡ part_of file.now }
+    requires folder { has_newline setup.now.work ≡ false }
+    requires number { number ≡ A.task asker.old }
+    requires ready { A.ready asker.old }
+    ensures ran { WholeRan setup.now number (parts_of key.entry) file.now asked (A.pairs asker.old) (A.pairs asker.new) (D.log desk.old) (D.log desk.new) result }
+    ensures notes { A.notes asker.new ≡ A.notes asker.old }
+    ensures same { IsSameTask (A.task asker.old) (A.task asker.new) (A.may_note asker.old) (A.may_note asker.new) (A.loans asker.old) (A.loans asker.new) }
+    ensures on { A.goes_on asker.old asker.new }
+    ensures causes { HasTaskCauses (D.counts desk.old) (D.counts desk.new) result }
+{
+    if asked == u64::MAX {
+        return Err(NoMemory);
+    }
+    let Ok(fetch) = fetch_name(alloc, setup, number, asked + 1) else {
+        return Err(NoMemory);
+    };
+    whole_by(alloc, number, key, file, part, fetch.view(), asker, desk)
+}
