@@ -4,7 +4,7 @@ use Rattle.task_run.proofs.GetTasks.{fetch_differs}
 use Rattle.task_run.proofs.GetWholes.{whole_nothing}
 use Rattle.task_run.proofs.get_layouts.get_whole.Goals as goal
 
-pub returns-then-asked-eq18446744073709551615-clause-ran : goal.returns-then-asked-clause-ran
+pub returns-then-asked-eq18446744073709551615-clause-ran : goal.returns-then-asked-eq18446744073709551615-clause-ran
 returns-then-asked-eq18446744073709551615-clause-ran g c = whole_nothing _ _ _ _ _ _ _ _
 
 pub returns-in_default-clause-ran : goal.returns-in_default-clause-ran
