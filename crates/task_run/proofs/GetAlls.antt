@@ -1,6 +1,6 @@
 -- A get from its first layout on, as the run of its task.
 use Rattle.std.proofs.Common.{◌≡◌, ◌∙◌, ℕ, ◌+◌, ◌≤◌, ◌==◌, Bool, true, false, List, [], ◌∷◌, ◌++◌, length, map, refl, sym, ap, subst, arith, append-nil}
-use Rattle.std.specs.Prelude.{Option, Some, None, IfSome, filter, Result, Ok, Err}
+use Rattle.std.specs.Prelude.{drop, Option, Some, None, IfSome, filter, Result, Ok, Err}
 use Rattle.ann_key.specs.Keys.{Parts, key_reading}
 use Rattle.ann_key.specs.declared.bytes.NoMemory.{NoMemory}
 use Rattle.chunk_plan.specs.Layouts.{Part, count_of}
@@ -15,7 +15,8 @@ use Rattle.task_run.specs.Gets.{is_failed}
 use Rattle.task_run.specs.Runs.{RunOf, TaskRun}
 use Rattle.task_run.specs.Ran.{RanGet, answered}
 use Rattle.task_run.specs.Fronts.{Place, Between, Ended}
-use Rattle.task_run.specs.LayoutRuns.{Grown, place_at}
+use Rattle.task_run.specs.LayoutRuns.{Grown, Behind, place_at}
+use Rattle.fetch_copy.proofs.CopyLaws.{gained_nothing}
 use Rattle.task_run.proofs.LastCalls.{after_last-none}
 use Rattle.task_run.proofs.PlainRuns.{of_reading}
 use Rattle.task_run.proofs.GetRuns.{get_task}
@@ -75,3 +76,32 @@ ran_get task t setup key layouts before after old new result w r g e = record {
       let Q : Parts → Type 0 = λ k. RunOf setup t (get_task task.key task.file) k layouts g.asked g.made [] (answered result) in
       subst Q same (run_of setup t key task.key task.file layouts g.asked g.made (answered result) e)));
 }
+
+-- ---- layout after layout
+
+pub record TriesSoFar (setup : Setup) (t : ℕ) (key : Parts) (file : List ℕ) (layouts : List (ℕ × ℕ)) (i now : ℕ) (pairs later : List Asking) (old new : Option (List Call)) : Type 0 where
+  pub grown : Grown pairs later old new
+  pub done : List (List Part)
+  pub tried : List ℕ
+  pub between : Between (place_at setup t key file (sizes_tried key layouts)) grown.asked done tried (chunk_sizes key.size (drop i layouts) ++ 0 ∷ []) grown.made
+  pub counted : now ≡ length grown.asked
+
+pub tries_none : (setup : Setup) (t : ℕ) (key : Parts) (file : List ℕ) (layouts : List (ℕ × ℕ)) (now : ℕ) (pairs : List Asking) (log : Option (List Call)) → now ≡ 0 → TriesSoFar setup t key file layouts 0 now pairs pairs log log
+tries_none setup t key file layouts now pairs log z = record {
+  grown = record { asked = []; made = []; pairs_are = sym (append-nil pairs); log_is = gained_nothing log };
+  done = [];
+  tried = [];
+  between = between_first (place_at setup t key file (sizes_tried key layouts));
+  counted = z;
+}
+
+pub tries_skip : (setup : Setup) (t : ℕ) (key : Parts) (file : List ℕ) (layouts : List (ℕ × ℕ)) (i now size : ℕ) (layout : ℕ × ℕ) (pairs later : List Asking) (old new : Option (List Call)) → key.size ≡ Some size
+    → drop i layouts ≡ layout ∷ drop (i + 1) layouts → (layout.1 == count_of size layout.0) ≡ false → TriesSoFar setup t key file layouts i now pairs later old new → TriesSoFar setup t key file layouts (i + 1) now pairs later old new
+tries_skip setup t key file layouts i now size layout pairs later old new s d c r =
+    let e : chunk_sizes key.size (drop i layouts) ≡ chunk_sizes key.size (drop (i + 1) layouts) =
+        ap (λ (o : Option ℕ). chunk_sizes o (drop i layouts)) s ∙ ap (chunk_sizes (Some size)) d ∙ sizes_skip size layout (drop (i + 1) layouts) c ∙ ap (λ (o : Option ℕ). chunk_sizes o (drop (i + 1) layouts)) (sym s) in
+    let P : List ℕ → Type 0 = λ l. Between (place_at setup t key file (sizes_tried key layouts)) r.grown.asked r.done r.tried (l ++ 0 ∷ []) r.grown.made in
+    record { grown = r.grown; done = r.done; tried = r.tried; between = subst P e r.between; counted = r.counted }
+
+abbrev behind_of : {setup : Setup} → {t : ℕ} → {key : Parts} → {file : List ℕ} → {layouts : List (ℕ × ℕ)} → {i now : ℕ} → {pairs later : List Asking} → {old new : Option (List Call)} → TriesSoFar setup t key file layouts i now pairs later old new → Behind
+behind_of {setup} {t} {key} {file} {layouts} {i} {now} r = record { sizes = sizes_tried key layouts; past = r.grown.asked; done = r.done; tried = r.tried; rest = chunk_sizes key.size (drop (i + 1) layouts) ++ 0 ∷ []; calls = r.grown.made }

@@ -15,6 +15,7 @@ use Rattle.task_run.specs.declared.setup.Setup.{Setup}
 use Rattle.task_run.specs.declared.get_chunk.Went.{Went}
 use Rattle.task_run.specs.declared.get_chunk.Went.TheVariants as T
 use Rattle.task_run.specs.Names.{part_of}
+use Rattle.task_run.specs.Layouts.{sizes_tried}
 use Rattle.task_run.specs.Ran.{answered}
 use Rattle.task_run.specs.Fronts.{Place, Turn, Within, Kept, Between, Ended}
 
@@ -109,3 +110,14 @@ pub record WholeRan (setup : Setup) (t : ℕ) (key : Parts) (file : List ℕ) (f
   pub grown : Grown pairs later old new
   pub goes : (sizes : List ℕ) (past : List Asking) (done : List (List Part)) (tried : List ℕ) (calls : List Call) → first ≡ length past → Between (place_at setup t key file sizes) past done tried (0 ∷ []) calls
       → Ended (place_at setup t key file sizes) (past ++ grown.asked) (calls ++ grown.made) (answered result)
+
+-- how a get stands behind all layouts of chunks
+abbrev pub TriesEnd : Place → List ℕ → ℕ → List Asking → List Call → Result Went NoMemory → Type 0
+TriesEnd p rest now asked made (Ok T.Whole) = ⊥
+TriesEnd p rest now asked made (Ok T.Failed) = (done : List (List Part)) × (tried : List ℕ) × Between p asked done tried rest made × (now ≡ length asked)
+TriesEnd p rest now asked made (Ok (T.Over answer)) = Ended p asked made answer
+TriesEnd p rest now asked made (Err e) = Ended p asked made Memory
+
+pub record TriesRan (setup : Setup) (t : ℕ) (key : Parts) (file : List ℕ) (layouts : List (ℕ × ℕ)) (now : ℕ) (pairs later : List Asking) (old new : Option (List Call)) (result : Result Went NoMemory) : Type 0 where
+  pub grown : Grown pairs later old new
+  pub goes : TriesEnd (place_at setup t key file (sizes_tried key layouts)) (0 ∷ []) now grown.asked grown.made result

@@ -1,10 +1,12 @@
 // A get over all layouts.
-ghost use Rattle.std.specs.Prelude.{◌≡◌, ◌≢◌, ◌+◌, ◌<◌, ◌^◌, ℕ, true, false};
+ghost use Rattle.std.specs.Prelude.{◌≡◌, ◌≢◌, ◌+◌, ◌<◌, ◌^◌, ℕ, Some, None, true, false};
 ghost use Rattle.ann_key.specs.KeyRefs.{parts_of, text_of};
 ghost use Rattle.annex_model.specs.Lines.{has_newline};
 ghost use Rattle.annex_model.specs.Messages.{is_sent_key};
-ghost use Rattle.task_asker.specs.Askings.{IsSameTask};
-ghost use Rattle.task_run.specs.LayoutRuns.{WholeRan};
+ghost use Rattle.task_asker.specs.Askings.{IsSameTask, are_layouts};
+ghost use Rattle.task_run.specs.LayoutRuns.{WholeRan, TriesRan};
+ghost use Rattle.task_run.specs.ChunkFetches.{answer_in};
+ghost use Rattle.task_run.specs.PartBegins.{HasGetCauses};
 ghost use Rattle.task_run.specs.Names.{fetch_file, part_of};
 ghost use Rattle.task_run.specs.Ran.{HasTaskCauses};
 ghost use Rattle.task_run.specs.declared.setup.Setup.{Setup};
@@ -12,10 +14,13 @@ ghost use Rattle.task_run.specs.declared.setup.Setup.{Setup};
 use crate::answers::{is_done, undone_answer};
 use crate::ask;
 use crate::get::fetched;
+use crate::get_chunk::Went;
+use crate::get_layout::get_layout;
 use crate::names::fetch_name;
 use crate::setup::Setup;
 use ann_key::{KeyRef, NoMemory};
 use ann_outside::Desk;
+use chunk_plan::count;
 use journal_model::Answer;
 use std::alloc::Global;
 use task_asker::Asker;
@@ -86,4 +91,49 @@ fn get_whole<A: Asker, D: Desk>(
         return Err(NoMemory);
     };
     whole_by(alloc, number, key, file, part, fetch.view(), asker, desk)
+}
+
+// Tries the layouts that have the number of chunks which the size asks for, one after the other.
+fn try_layouts<A: Asker, D: Desk>(
+    alloc: Global,
+    number: u32,
+    setup: &Setup,
+    key: KeyRef<'_>,
+    size: u64,
+    layouts: &[(u64, u64)],
+    file: &str,
+    part: &str,
+    asked: &mut u64,
+    asker: &mut A,
+    desk: &mut D,
+) -> Result<Went, NoMemory>
+    requires size { (parts_of key).size ≡ Some size }
+    requires whole { (parts_of key).chunk ≡ None }
+    requires sent { is_sent_key (text_of key) ≡ true }
+    requires sizes { are_layouts layouts.now ≡ true }
+    requires part { part.now ≡ part_of file.now }
+    requires first { asked.old ≡ 0 }
+    requires folder { has_newline setup.now.work ≡ false }
+    requires number { number ≡ A.task asker.old }
+    requires ready { A.ready asker.old }
+    ensures ran { TriesRan setup.now number (parts_of key.entry) file.now layouts.now asked.new (A.pairs asker.old) (A.pairs asker.new) (D.log desk.old) (D.log desk.new) result }
+    ensures notes { A.notes asker.new ≡ A.notes asker.old }
+    ensures same { IsSameTask (A.task asker.old) (A.task asker.new) (A.may_note asker.old) (A.may_note asker.new) (A.loans asker.old) (A.loans asker.new) }
+    ensures on { A.goes_on asker.old asker.new }
+    ensures causes { HasGetCauses (D.counts desk.old) (D.counts desk.new) (answer_in result) }
+{
+    for i in 0..layouts.len() {
+        let (chunk, chunks) = layouts[i];
+        if chunks == count(size, chunk) {
+            match get_layout(
+                alloc, number, setup, key, size, chunk, file, part, asked, asker, desk,
+            ) {
+                Ok(Went::Failed) => {}
+                Ok(Went::Whole) => return Ok(Went::Whole),
+                Ok(Went::Over(answer)) => return Ok(Went::Over(answer)),
+                Err(error) => return Err(error),
+            }
+        }
+    }
+    Ok(Went::Failed)
 }
