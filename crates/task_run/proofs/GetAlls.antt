@@ -1,5 +1,5 @@
 -- A get from its first layout on, as the run of its task.
-use Rattle.std.proofs.Common.{◌≡◌, ◌∙◌, ℕ, ◌+◌, ◌≤◌, ◌==◌, Bool, true, false, List, [], ◌∷◌, ◌++◌, length, map, refl, sym, ap, subst, arith, append-nil}
+use Rattle.std.proofs.Common.{◌≡◌, ◌∙◌, ℕ, ◌+◌, ◌≤◌, ◌==◌, Bool, true, false, List, [], ◌∷◌, ◌++◌, length, map, refl, sym, ap, subst, arith, append-nil, length-append}
 use Rattle.std.specs.Prelude.{drop, Option, Some, None, IfSome, filter, Result, Ok, Err}
 use Rattle.ann_key.specs.Keys.{Parts, key_reading}
 use Rattle.ann_key.specs.declared.bytes.NoMemory.{NoMemory}
@@ -10,12 +10,16 @@ use Rattle.task_text.specs.declared.task.Work.TheVariants as W
 use Rattle.ann_outside.specs.declared.file_desk.Call.{Call}
 use Rattle.task_asker.specs.Askings.{Asking}
 use Rattle.task_run.specs.declared.setup.Setup.{Setup}
+use Rattle.std.proofs.lemmas.List.{drop_all}
+use Rattle.task_run.specs.declared.get_chunk.Went.{Went}
+use Rattle.task_run.specs.declared.get_chunk.Went.TheVariants as T
+use Rattle.task_run.proofs.GetChunks.{both_grown}
 use Rattle.task_run.specs.Layouts.{chunk_sizes, sizes_tried}
 use Rattle.task_run.specs.Gets.{is_failed}
 use Rattle.task_run.specs.Runs.{RunOf, TaskRun}
 use Rattle.task_run.specs.Ran.{RanGet, answered}
 use Rattle.task_run.specs.Fronts.{Place, Between, Ended}
-use Rattle.task_run.specs.LayoutRuns.{Grown, Behind, place_at}
+use Rattle.task_run.specs.LayoutRuns.{Grown, Behind, place_at, LayoutEnd, LayoutRan, TriesEnd, TriesRan}
 use Rattle.fetch_copy.proofs.CopyLaws.{gained_nothing}
 use Rattle.task_run.proofs.LastCalls.{after_last-none}
 use Rattle.task_run.proofs.PlainRuns.{of_reading}
@@ -103,5 +107,56 @@ tries_skip setup t key file layouts i now size layout pairs later old new s d c 
     let P : List ℕ → Type 0 = λ l. Between (place_at setup t key file (sizes_tried key layouts)) r.grown.asked r.done r.tried (l ++ 0 ∷ []) r.grown.made in
     record { grown = r.grown; done = r.done; tried = r.tried; between = subst P e r.between; counted = r.counted }
 
-abbrev behind_of : {setup : Setup} → {t : ℕ} → {key : Parts} → {file : List ℕ} → {layouts : List (ℕ × ℕ)} → {i now : ℕ} → {pairs later : List Asking} → {old new : Option (List Call)} → TriesSoFar setup t key file layouts i now pairs later old new → Behind
-behind_of {setup} {t} {key} {file} {layouts} {i} {now} r = record { sizes = sizes_tried key layouts; past = r.grown.asked; done = r.done; tried = r.tried; rest = chunk_sizes key.size (drop (i + 1) layouts) ++ 0 ∷ []; calls = r.grown.made }
+state : (setup : Setup) (t : ℕ) (key : Parts) (file : List ℕ) (layouts : List (ℕ × ℕ)) (i now size : ℕ) (layout : ℕ × ℕ) (pairs mid later : List Asking) (old on new : Option (List Call)) (after : ℕ) (result : Result Went NoMemory) → key.size ≡ Some size
+    → drop i layouts ≡ layout ∷ drop (i + 1) layouts → (layout.1 == count_of size layout.0) ≡ true → (r : TriesSoFar setup t key file layouts i now pairs mid old on) → (l : LayoutRan setup t key file layout.0 now after mid later on new result)
+    → LayoutEnd (record { place = place_at setup t key file (sizes_tried key layouts); past = r.grown.asked; done = r.done; tried = r.tried; chunk = layout.0; rest = chunk_sizes key.size (drop (i + 1) layouts) ++ 0 ∷ [] }) r.grown.made l.grown.asked l.grown.made result
+state setup t key file layouts i now size layout pairs mid later old on new after result s d c r l =
+    let e : chunk_sizes key.size (drop i layouts) ≡ layout.0 ∷ chunk_sizes key.size (drop (i + 1) layouts) =
+        ap (λ (o : Option ℕ). chunk_sizes o (drop i layouts)) s ∙ ap (chunk_sizes (Some size)) d ∙ sizes_take size layout (drop (i + 1) layouts) c ∙ ap (λ (o : Option ℕ). layout.0 ∷ chunk_sizes o (drop (i + 1) layouts)) (sym s) in
+    let P : List ℕ → Type 0 = λ x. Between (place_at setup t key file (sizes_tried key layouts)) r.grown.asked r.done r.tried (x ++ 0 ∷ []) r.grown.made in
+    let one : List ℕ = 0 ∷ [] in
+    let n : length (chunk_sizes key.size (drop (i + 1) layouts) ++ one) ≡ length (chunk_sizes key.size (drop (i + 1) layouts)) + 1 = length-append (chunk_sizes key.size (drop (i + 1) layouts)) one in
+    l.goes (record { sizes = sizes_tried key layouts; past = r.grown.asked; done = r.done; tried = r.tried; rest = chunk_sizes key.size (drop (i + 1) layouts) ++ 0 ∷ []; calls = r.grown.made }) r.counted (omega (arith, n)) (subst P e r.between)
+
+pub tries_more : (setup : Setup) (t : ℕ) (key : Parts) (file : List ℕ) (layouts : List (ℕ × ℕ)) (i now size : ℕ) (layout : ℕ × ℕ) (pairs mid later : List Asking) (old on new : Option (List Call)) (after : ℕ) → key.size ≡ Some size
+    → drop i layouts ≡ layout ∷ drop (i + 1) layouts → (layout.1 == count_of size layout.0) ≡ true → TriesSoFar setup t key file layouts i now pairs mid old on → LayoutRan setup t key file layout.0 now after mid later on new (Ok T.Failed)
+    → TriesSoFar setup t key file layouts (i + 1) after pairs later old new
+tries_more setup t key file layouts i now size layout pairs mid later old on new after s d c r l =
+    let e = state setup t key file layouts i now size layout pairs mid later old on new after (Ok T.Failed) s d c r l in
+    record {
+      grown = both_grown pairs mid later old on new r.grown l.grown;
+      done = r.done ++ e.0 ∷ [];
+      tried = r.tried ++ layout.0 ∷ [];
+      between = e.1;
+      counted = let n : length (r.grown.asked ++ l.grown.asked) ≡ length r.grown.asked + length l.grown.asked = length-append r.grown.asked l.grown.asked in let k = l.counted refl in let j = r.counted in omega (arith, n, k, j);
+    }
+
+pub tries_end : (setup : Setup) (t : ℕ) (key : Parts) (file : List ℕ) (layouts : List (ℕ × ℕ)) (i now size : ℕ) (layout : ℕ × ℕ) (pairs mid later : List Asking) (old on new : Option (List Call)) (after : ℕ) (result : Result Went NoMemory) → key.size ≡ Some size
+    → drop i layouts ≡ layout ∷ drop (i + 1) layouts → (layout.1 == count_of size layout.0) ≡ true → TriesSoFar setup t key file layouts i now pairs mid old on → LayoutRan setup t key file layout.0 now after mid later on new result
+    → (result ≡ Ok T.Failed → ⊥) → TriesRan setup t key file layouts after pairs later old new result
+tries_end setup t key file layouts i now size layout pairs mid later old on new after result s d c r l bad = record {
+  grown = both_grown pairs mid later old on new r.grown l.grown;
+  goes = by_result result bad (state setup t key file layouts i now size layout pairs mid later old on new after result s d c r l);
+}
+  where
+    by_result : (x : Result Went NoMemory) → (x ≡ Ok T.Failed → ⊥)
+        → LayoutEnd (record { place = place_at setup t key file (sizes_tried key layouts); past = r.grown.asked; done = r.done; tried = r.tried; chunk = layout.0; rest = chunk_sizes key.size (drop (i + 1) layouts) ++ 0 ∷ [] }) r.grown.made l.grown.asked l.grown.made x
+        → TriesEnd (place_at setup t key file (sizes_tried key layouts)) (0 ∷ []) after (r.grown.asked ++ l.grown.asked) (r.grown.made ++ l.grown.made) x
+    by_result (Ok T.Whole) bad h = h
+    by_result (Ok T.Failed) bad h = absurd (bad refl)
+    by_result (Ok (T.Over answer)) bad h = h
+    by_result (Err e) bad h = h
+
+none_left : (size : Option ℕ) → chunk_sizes size [] ≡ []
+none_left None = refl
+none_left (Some n) = refl
+
+pub tries_all : (setup : Setup) (t : ℕ) (key : Parts) (file : List ℕ) (layouts : List (ℕ × ℕ)) (i now : ℕ) (pairs later : List Asking) (old new : Option (List Call)) → length layouts ≤ i → TriesSoFar setup t key file layouts i now pairs later old new
+    → TriesRan setup t key file layouts now pairs later old new (Ok T.Failed)
+tries_all setup t key file layouts i now pairs later old new h r = record {
+  grown = r.grown;
+  goes =
+      let e : chunk_sizes key.size (drop i layouts) ≡ [] = ap (chunk_sizes key.size) (drop_all i layouts h) ∙ none_left key.size in
+      let P : List ℕ → Type 0 = λ x. Between (place_at setup t key file (sizes_tried key layouts)) r.grown.asked r.done r.tried (x ++ 0 ∷ []) r.grown.made in
+      (r.done, r.tried, subst P e r.between, r.counted);
+}
