@@ -11,7 +11,7 @@ use std::alloc::{AllocError, Global};
 use std::str;
 use std::test::Fail;
 use talk_serial::Request;
-use task_run::{Setup, run_task};
+use task_run::{Setup, run_task, store_chunks};
 use task_text::{Task, Work, read_task};
 
 /// A task's line, the files that stand on its desk, which of the desk's calls fail, and the verdicts of its requests.
@@ -72,6 +72,37 @@ pub fn run_on(
         calls,
         desk,
     })
+}
+
+/// A store in chunks as task 1.
+pub fn run_chunks(alloc: Global, case: &Case<'_>, chunk: u64) -> Result<(Outcome, String), Fail> {
+    let task = read_task(alloc, case.line.as_bytes())?;
+    let mut desk = desk_of(alloc, case.files, case.fails)?;
+    let setup = Setup {
+        work: Text::copy(alloc, "w")?,
+        stamp: 5,
+        chunk,
+    };
+    let verdicts = Vec::from_slice(alloc, case.verdicts)?;
+    let mut asker = ScriptAsker::new(alloc, 1, true, Vec::new(alloc), verdicts);
+    let answer = store_chunks(alloc, &task, 1, &setup, &mut asker, &mut desk)?;
+    let answer = words(alloc, &answer)?;
+    let asked = asked_text(alloc, asker.asked())?;
+    let calls = calls_text(alloc, desk.log())?;
+    let mut notes = String::new(alloc);
+    for (chunk, count, behind) in asker.notes() {
+        let text = format!(in alloc; "{chunk} {count} {behind};")?;
+        notes.push_str(text.as_str())?;
+    }
+    Ok((
+        Outcome {
+            answer,
+            asked,
+            calls,
+            desk,
+        },
+        notes,
+    ))
 }
 
 /// The case as task 1.
