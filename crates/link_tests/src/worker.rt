@@ -1,14 +1,10 @@
-ghost use Rattle.std.specs.Prelude.{◌≡◌, true};
-ghost use Rattle.hall.specs.Passes.{IsPassOf, seen_of};
-ghost use Rattle.journal_model.specs.Journal.{is_started};
-ghost use Rattle.journal_model.specs.Legality.{Legal};
+ghost use Rattle.std.specs.Prelude.{◌≡◌};
 
 use crate::seat::Seat;
 use ann_key::{Key, KeyRef, NoMemory};
 use ann_outside::{Sink, Source};
 use crew_round::Role;
-use hall::{Hall, Pass};
-use host_core::{Core, Event, Reply};
+use host_core::{Event, Reply};
 use journal_model::{Answer, Verdict};
 use link_crew::{HallDoor, ask_job, run_ear, run_mouth};
 use link_roles::{Door, Ear, Lone, Mouth};
@@ -63,60 +59,99 @@ fn answer_of(verdict: Verdict) -> Answer {
     }
 }
 
-// Asks for each task that is left for the child, by any asker of it, and answers it.
-fn asks<R: Wait>(
-    alloc: Global,
-    rt: &R,
-    hall: &Hall<Core>,
-    pass: &mut Pass<Core>,
-    child: u32,
-) -> Result<Vec<(u32, Verdict)>, NoMemory>
-    requires pass { IsPassOf hall.now pass.old }
-    requires legal { Legal hall.now.fixed (seen_of pass.old) }
+// Claims a task for the seat's child, if one is left for it.
+fn claim<R: Wait>(seat: &mut Seat<'_, R>) -> Option<u32>
+    ensures child { seat.new.child ≡ seat.old.child }
 {
+    let child = seat.child;
+    let mut door = HallDoor {
+        rt: seat.rt,
+        hall: seat.hall,
+        pass: &mut seat.pass,
+    };
+    match door.step(Event::Claim { child }) {
+        Ok(Reply::Task(task)) => Some(task),
+        _ => None,
+    }
+}
+
+// Answers the task as its verdict says.
+fn answer<R: Wait>(seat: &mut Seat<'_, R>, task: u32, verdict: Verdict)
+    ensures child { seat.new.child ≡ seat.old.child }
+{
+    let answer = answer_of(verdict);
+    let mut door = HallDoor {
+        rt: seat.rt,
+        hall: seat.hall,
+        pass: &mut seat.pass,
+    };
+    let _told = door.step(Event::Answer { task, answer });
+}
+
+// Asks for the task, by whoever writes to the child and reads it.
+fn ask<R: Wait>(alloc: Global, seat: &mut Seat<'_, R>, task: u32) -> Result<Verdict, NoMemory>
+    ensures child { seat.new.child ≡ seat.old.child }
+{
+    let request = request_of(alloc, task)?;
+    let child = seat.child;
+    let rt = seat.rt;
+    let mut door = HallDoor {
+        rt,
+        hall: seat.hall,
+        pass: &mut seat.pass,
+    };
+    ask_job(rt, alloc, &mut door, child, task, &request)
+}
+
+// The same over a link of one's own.
+fn ask_over<I: Sink, O: Source, R: Wait>(
+    alloc: Global,
+    seat: &mut Seat<'_, R>,
+    link: &mut Lone<I, O>,
+    task: u32,
+) -> Result<Verdict, NoMemory>
+    requires one { link.old.ear.child ≡ seat.old.child }
+    ensures child { seat.new.child ≡ seat.old.child }
+{
+    let request = request_of(alloc, task)?;
+    let mut door = HallDoor {
+        rt: seat.rt,
+        hall: seat.hall,
+        pass: &mut seat.pass,
+    };
+    link.ask(&mut door, task, &request)
+}
+
+// Each task that is left for the child.
+fn asks<R: Wait>(alloc: Global, seat: &mut Seat<'_, R>) -> Result<Vec<(u32, Verdict)>, NoMemory> {
     let mut tasks = Vec::new(alloc);
-    let mut door = HallDoor { rt, hall, pass };
     for _ in 0..4 {
-        let Ok(Reply::Task(task)) = door.step(Event::Claim { child }) else {
+        let Some(task) = claim(seat) else {
             return Ok(tasks);
         };
-        let request = request_of(alloc, task)?;
-        let verdict = ask_job(rt, alloc, &mut door, child, task, &request)?;
+        let verdict = ask(alloc, seat, task)?;
         tasks.push((task, verdict))?;
-        door.step(Event::Answer {
-            task,
-            answer: answer_of(verdict),
-        })?;
+        answer(seat, task, verdict);
     }
     Ok(tasks)
 }
 
-// The same over a link of its own.
 fn works<I: Sink, O: Source, R: Wait>(
     alloc: Global,
-    rt: &R,
-    hall: &Hall<Core>,
-    pass: &mut Pass<Core>,
+    seat: &mut Seat<'_, R>,
     link: &mut Lone<I, O>,
-) -> Result<Vec<(u32, Verdict)>, NoMemory>
-    requires pass { IsPassOf hall.now pass.old }
-    requires started { is_started (seen_of pass.old) link.old.ear.child ≡ true }
-    requires legal { Legal hall.now.fixed (seen_of pass.old) }
-{
+) -> Result<Vec<(u32, Verdict)>, NoMemory> {
     let mut tasks = Vec::new(alloc);
-    let child = link.child();
-    let mut door = HallDoor { rt, hall, pass };
     for _ in 0..4 {
-        let Ok(Reply::Task(task)) = door.step(Event::Claim { child }) else {
+        let Some(task) = claim(seat) else {
             return Ok(tasks);
         };
-        let request = request_of(alloc, task)?;
-        let verdict = link.ask(&mut door, task, &request)?;
+        if link.child() != seat.child {
+            return Ok(tasks);
+        }
+        let verdict = ask_over(alloc, seat, link, task)?;
         tasks.push((task, verdict))?;
-        door.step(Event::Answer {
-            task,
-            answer: answer_of(verdict),
-        })?;
+        answer(seat, task, verdict);
     }
     Ok(tasks)
 }
@@ -134,17 +169,17 @@ fn came_of(alloc: Global, tasks: Result<Vec<(u32, Verdict)>, NoMemory>, rest: us
 // What the part does at the seat; nothing where it isn't of the seat's child.
 fn play<I: Sink + Drop, O: Source + Drop, R: Wait>(
     alloc: Global,
-    seat: Seat<'_, R>,
+    mut seat: Seat<'_, R>,
     part: Part<I, O>,
 ) -> Came {
-    let Seat {
-        rt,
-        hall,
-        mut pass,
-        child,
-    } = seat;
     match part {
         Part::Ear(mut ear) => {
+            let Seat {
+                rt,
+                hall,
+                mut pass,
+                child,
+            } = seat;
             if ear.child() == child {
                 run_ear(rt, hall, &mut pass, &mut ear);
             }
@@ -152,6 +187,12 @@ fn play<I: Sink + Drop, O: Source + Drop, R: Wait>(
             came_of(alloc, Err(NoMemory), rest.view().len())
         }
         Part::Mouth(mut mouth) => {
+            let Seat {
+                rt,
+                hall,
+                mut pass,
+                child,
+            } = seat;
             if mouth.child() == child {
                 run_mouth(rt, hall, &mut pass, &mut mouth);
             }
@@ -159,15 +200,11 @@ fn play<I: Sink + Drop, O: Source + Drop, R: Wait>(
             came_of(alloc, Err(NoMemory), 0)
         }
         Part::Lone(mut link) => {
-            let tasks = if link.child() == child {
-                works(alloc, rt, hall, &mut pass, &mut link)
-            } else {
-                Err(NoMemory)
-            };
+            let tasks = works(alloc, &mut seat, &mut link);
             let wire = link.finish();
             came_of(alloc, tasks, wire.rest.view().len())
         }
-        Part::Asks => came_of(alloc, asks(alloc, rt, hall, &mut pass, child), 0),
+        Part::Asks => came_of(alloc, asks(alloc, &mut seat), 0),
     }
 }
 
