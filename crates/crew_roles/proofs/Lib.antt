@@ -1,3 +1,4 @@
 pub mod Crewing
 pub mod TaggedRounds
 pub mod Coming
+pub mod Dealing
