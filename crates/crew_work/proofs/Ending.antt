@@ -18,7 +18,7 @@ use Rattle.gathering.specs.Posts.{Post, makes}
 use Rattle.gathering.specs.Rounds.{CorePass, WorkerEnds, since}
 use Rattle.gathering.proofs.Halls.{drop_start}
 use Rattle.gathering.proofs.Laboring.{started_lasts}
-use Rattle.journal_model.specs.Halves.{LinkWired}
+use Rattle.link_roles.specs.Writings.{LoneWired}
 use Rattle.task_run.specs.declared.setup.Setup.{Setup}
 use Rattle.task_rounds.specs.JournalRuns.{PlainRun}
 use Rattle.task_rounds.proofs.Lasting.{plain_lasts}
@@ -93,12 +93,12 @@ pub workers_end : WorkersEnd
 workers_end o setup calls c crew p desk desk' w pos told post = worker_ends o setup calls false c crew p (Unit {0}) (Unit {0}) desk desk' w pos told post
 
 pub lones_end : LonesEnd
-lones_end o setup calls crew p old new desk desk' w same wired pos told post = record {
-  works = worker_ends o setup calls true old.ear.child crew p (LinkWired p.start old.ear old.mouth) (LinkWired (seen_of p) new.ear new.mouth) desk desk' w pos told post;
+lones_end o setup calls crew p old new desk desk' w same wired written pos told post = record {
+  works = worker_ends o setup calls true old.ear.child crew p (LoneWired p.start old.ear old.mouth) (LoneWired (seen_of p) new.ear new.mouth) desk desk' w pos told post;
   wired = λ own. record {
     one_child = same.1.0 ∙ wired.one_child ∙ sym same.0.0;
     started = subst (λ (x : List Entry). is_started x new.ear.child ≡ true) (sym w.did.moved.is)
         (started_lasts p.start w.did.moved.more new.ear.child (ap (λ (c : ℕ). is_started p.start c) same.0.0 ∙ wired.started));
-    wired = w.did.moved.kept (subst (λ (c : ℕ). are_own (is_of_child c) p.number w.did.moved.more ≡ true) same.0.0 (subst (λ (x : List Entry). are_own (is_of_child new.ear.child) p.number x ≡ true) (new_is p w.did.moved.more w.did.moved.is) own)) wired.wired;
+    wired = (w.did.moved.kept (subst (λ (c : ℕ). are_own (is_of_child c) p.number w.did.moved.more ≡ true) same.0.0 (subst (λ (x : List Entry). are_own (is_of_child new.ear.child) p.number x ≡ true) (new_is p w.did.moved.more w.did.moved.is) own)) (record { link = wired.wired; written = written })).link;
   };
 }

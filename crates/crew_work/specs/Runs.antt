@@ -5,8 +5,8 @@ use Rattle.hall.specs.Passes.{seen_of}
 use Rattle.journal_model.specs.declared.entry.What.{What}
 use Rattle.journal_model.specs.declared.entry.Entry.{Entry}
 use Rattle.journal_model.specs.declared.opening.Opening.{Opening}
-use Rattle.journal_model.specs.Halves.{LinkWired}
 use Rattle.link_roles.specs.Moves.{IsSameLink}
+use Rattle.link_roles.specs.Writings.{LoneWired, is_written_first}
 use Rattle.gathering.specs.Posts.{Post, makes}
 use Rattle.gathering.specs.Rounds.{CorePass, LinkValue, IsWired, LoneEnds, WorkerEnds}
 use Rattle.gathering.specs.Tasks.{Lasts}
@@ -37,8 +37,8 @@ WorkersEnd =
 abbrev pub LonesEnd : Type 0
 LonesEnd =
     (o : Opening) (setup : Setup) (calls : ℕ → ℕ → List Call) (crew : ℕ → Post) (p : CorePass) (old new : LinkValue) (desk desk' : DeskTells)
-    → (w : Worked o setup true p.number false old.ear.child p.start (seen_of p) (LinkWired p.start old.ear old.mouth) (LinkWired (seen_of p) new.ear new.mouth) desk desk')
-    → IsSameLink old.ear new.ear old.mouth new.mouth → IsWired p.start old → 0 < p.number → ((t : ℕ) → calls p.number t ≡ calls_of w.done t)
+    → (w : Worked o setup true p.number false old.ear.child p.start (seen_of p) (LoneWired p.start old.ear old.mouth) (LoneWired (seen_of p) new.ear new.mouth) desk desk')
+    → IsSameLink old.ear new.ear old.mouth new.mouth → IsWired p.start old → is_written_first p.start old.ear.child ≡ true → 0 < p.number → ((t : ℕ) → calls p.number t ≡ calls_of w.done t)
     → ((w : What) → makes (post_of true old.ear.child) w ≡ true → makes (crew p.number) w ≡ true)
     → LoneEnds (HasPlainRun o setup calls) crew new p
 

@@ -3,13 +3,13 @@ ghost use Rattle.std.specs.Prelude.{ℕ, ◌≡◌, Bool, true, false, List, [],
 ghost use Rattle.annex_model.specs.Lines.{has_newline};
 ghost use Rattle.task_text.specs.TaskLines.{IsTask};
 ghost use Rattle.journal_model.specs.declared.entry.Entry.{Entry};
-ghost use Rattle.journal_model.specs.Halves.{LinkWired};
 ghost use Rattle.journal_model.specs.Journal.{any, is_started};
 ghost use Rattle.journal_model.specs.Shares.{Moved, is_of_child};
 ghost use Rattle.task_run.specs.Askings.{askings};
 ghost use Rattle.task_run.specs.Ran.{Ran, HasTaskCauses};
 ghost use Rattle.link_roles.specs.Doors.{IsSameDoor};
 ghost use Rattle.link_roles.specs.Moves.{IsSameLink};
+ghost use Rattle.link_roles.specs.Writings.{LoneWired};
 ghost use Rattle.door_asker.specs.AtTasks.{AtTask, notings};
 ghost use Rattle.crew_work.specs.Crews.{by_task};
 ghost use Rattle.crew_work.specs.Jobs.{JobsOn};
@@ -150,7 +150,7 @@ impl<I: Sink, O: Source> Way for Lone<I, O> {
 
     ghost owns = { λ s. true };
 
-    ghost wired = { λ s journal. LinkWired journal s.ear s.mouth };
+    ghost wired = { λ s journal. LoneWired journal s.ear s.mouth };
 
     ghost same = { λ a b. IsSameLink a.ear b.ear a.mouth b.mouth };
 
