@@ -1,6 +1,6 @@
 -- The begin of a run, the tasks that are left at its end, and what it leaves.
 use Rattle.std.proofs.Common.{◌≡◌, ◌⊎◌, ℕ, ◌+◌, ◌<◌, ◌≤◌, List, [], ◌∷◌, ◌++◌, refl, sym, ap, subst, ◌∙◌, append_assoc, append-nil, length, Bool, true, false, not, ◌==◌, cond, Some, None, Option, arith, inl, inr}
-use Rattle.std.specs.Prelude.{◌||◌}
+use Rattle.std.specs.Prelude.{◌&&◌, ◌||◌}
 use Rattle.std.specs.List.{list_all, list_any}
 use Rattle.ann_outside.specs.Starts.{Starts}
 use Rattle.ann_outside.specs.Causes.{AddsOne, Stays}
@@ -34,23 +34,25 @@ use Rattle.lone_rounds.proofs.Leaving.{adds_both, adds_none, adds_one, kept_next
 use Rattle.lone_rounds.proofs.Runs.{IsOfNoCall, all_runs, done_both, done_join, done_nothing, done_zero}
 use Rattle.lone_rounds.proofs.Tests.{any_same, children_up_to, count-append, count_fewer, count_none, no_children, none_came, none_left, offers_both, offers_none, or_false, some_left}
 use Rattle.lone_rounds.proofs.Turns.{claim_takes, none_fails}
+use Rattle.lone_rounds.proofs.Unready.{and_true}
 use Rattle.lone_rounds.proofs.Zeros.{rests_one}
 
 -- ---- the begin
 
-pub between_begin : (o : Opening) (setup : Setup) (limit : ℕ) (journal : List Entry) (desk : DeskTells) → journal ≡ [] → Between o setup limit 0 true journal desk desk
-between_begin o setup limit journal desk none = subst (λ (j : List Entry). Between o setup limit 0 true j desk desk) (sym none) record {
+pub between_begin : (o : Opening) (setup : Setup) (may : Bool) (limit : ℕ) (journal : List Entry) (desk : DeskTells) → journal ≡ [] → Between o setup may limit 0 may journal desk desk
+between_begin o setup may limit journal desk none = subst (λ (j : List Entry). Between o setup may limit 0 may j desk desk) (sym none) record {
   legal = record { stands = tt; nothing_due = refl };
   main = refl;
   slots = refl;
   starts = refl;
   offers = tt;
-  offered = refl;
+  offered = and_true may;
   ended = refl;
   asks = refl;
   done = done_nothing o setup limit [] desk;
   rest = λ t. refl;
   spent = inl refl;
+  last = λ all. record { past = []; closings = []; is = refl; answered = refl; closed = refl };
   untaken = refl;
   few = tt;
 }

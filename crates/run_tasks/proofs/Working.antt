@@ -1,5 +1,5 @@
 -- From what a run begins with and what was worked to its end.
-use Rattle.std.proofs.Common.{◌≡◌, ◌⊎◌, ℕ, List, [], ◌∷◌, sym, ap, subst, ◌∙◌, inl, inr, true, Option, Ok, Err}
+use Rattle.std.proofs.Common.{◌≡◌, ◌⊎◌, ℕ, List, [], ◌∷◌, sym, ap, subst, ◌∙◌, inl, inr, Bool, true, Option, Ok, Err}
 use Rattle.std.specs.Prelude.{Result}
 use Rattle.ann_outside.specs.Calls.{IsLogBlank}
 use Rattle.ann_outside.specs.Causes.{Rose}

@@ -1,5 +1,5 @@
 // The command `check`: a run of one task, over one child that is started once.
-ghost use Rattle.std.specs.Prelude.{◌≡◌, ◌≤◌, [], None, IfOk, IsErr, map, vec_capacity, false};
+ghost use Rattle.std.specs.Prelude.{◌≡◌, ◌≤◌, [], None, IfOk, IsErr, MatchResult, map, vec_capacity, false};
 ghost use Rattle.ann_key.specs.KeyRefs.{text_of};
 ghost use Rattle.annex_model.specs.Lines.{has_newline};
 ghost use Rattle.cli_words.specs.Refusals.{reason_refused};
@@ -8,6 +8,7 @@ ghost use Rattle.child_end.specs.Wires.{wire_value};
 ghost use Rattle.lone_work.specs.Works.{AreTasks, DeskTells};
 ghost use Rattle.lone_rounds.specs.Rounds.{EndsClosed, RanAlone};
 ghost use Rattle.run_tasks.specs.Runs.{AreAnswers};
+ghost use Rattle.special_cli.specs.declared.end.End.TheVariants.{Answered, Memory};
 ghost use Rattle.special_cli.specs.Commands.{HasChecked, IsPrepared, UnlessRefused};
 
 use crate::end::End;
@@ -117,6 +118,16 @@ where
     }
 }
 
+// What is told of it: the answer, or that no memory was found.
+fn ended(alloc: Global, answered: Result<Vec<Answer>, NoMemory>) -> (Vec<Answer>, End)
+    ensures { MatchResult answered (λ answers. (result.0.items ≡ answers.items) × (result.1 ≡ Answered)) (λ _. (result.0.items ≡ []) × (result.1 ≡ Memory)) }
+{
+    match answered {
+        Ok(answers) => (answers, End::Answered),
+        Err(NoMemory) => (Vec::new(alloc), End::Memory),
+    }
+}
+
 // The run of a check whose key is fit.
 fn check_key<P: Programs, K: Desks, C: Clock>(
     alloc: Global,
@@ -150,10 +161,7 @@ where
     } = outside;
     let tasks = tasks.view();
     let answered = do_task(alloc, &plan, tasks, &mut core, &mut programs, &mut wires);
-    let (answers, end) = match answered {
-        Ok(answers) => (answers, End::Answered),
-        Err(NoMemory) => (Vec::new(alloc), End::Memory),
-    };
+    let (answers, end) = ended(alloc, answered);
     Ran {
         outside: Outside { programs, desks },
         journal: journal_of(core),
