@@ -1,6 +1,7 @@
 use Rattle.std.proofs.Common.{◌-◌, ◌∙◌}
 use Rattle.link_roles.proofs.Roles.{same_both}
 use Rattle.lone_work.specs.Works.{desk_tells}
+use Rattle.lone_work.proofs.Layouts.{none_tried}
 use Rattle.lone_work.proofs.Turning.{is_task, task_is, task_there}
 use Rattle.crew_work.proofs.Working.{can_again, can_as, does, given_as, legal_as, stays_as}
 use Rattle.crew_work.proofs.task.do_task.Goals as goal
@@ -10,6 +11,11 @@ task_at-task-requires g c = task_there (g.D.Door.opening c.args.door.now) c.args
 
 pub run-outcome-requires-clause-task : goal.run-outcome-requires-clause-task
 run-outcome-requires-clause-task g c = is_task c.args.tasks.now (c.args.number - 1) c.task_at-task.result.now c.requires.tasks.1 c.task_at-task.ensures
+
+pub run-outcome-requires-clause-named : goal.run-outcome-requires-clause-named
+run-outcome-requires-clause-named g c =
+    let o = g.D.Door.opening c.args.door.now in
+    task_is o c.args.tasks.now c.args.number c.task_at-task.result.now c.requires.tasks.0 (task_there o c.args.tasks.now c.requires.begun.past c.args.number c.requires.tasks.0 c.requires.begun.least).0 c.task_at-task.ensures
 
 pub returns-clause-does : goal.returns-clause-does
 returns-clause-does g c =
@@ -22,7 +28,7 @@ returns-clause-does g c =
     c.run-outcome.result c.answer_of.result (g.W.Way.wired c.args.way.now (g.D.Door.seen c.args.door.now)) (g.W.Way.wired c.run-outcome.new.self)
     (stays_as (g.W.Way.wired c.run-outcome.new.self) (g.W.Way.serves c.args.way.now) (g.W.Way.serves c.run-outcome.new.self) c.run-outcome.ensures.child.0 (g.met.W.Way.apart c.run-outcome.new.self))
     c.requires.begun (task_is o c.args.tasks.now c.args.number c.task_at-task.result.now c.requires.tasks.0 there.0 c.task_at-task.ensures) c.answer_of.ensures
-    c.run-outcome.ensures.at c.run-outcome.ensures.moved c.run-outcome.ensures.ran c.run-outcome.ensures.causes
+    c.run-outcome.ensures.at c.run-outcome.ensures.moved (none_tried _ _ _ _ _ _ _ _ _ _ c.run-outcome.ensures.ran) c.run-outcome.ensures.causes
     (given_as c.answer_of.result d.opening d.number d.alone c.give.ensures.given)
 
 pub returns-clause-can : goal.returns-clause-can
