@@ -61,12 +61,7 @@ where
 
 // The core of a check, its task, and how it is to be run.
 #[tactic(auto, using(crate::proofs::Checked::check_begins))]
-fn prepare(
-    alloc: Global,
-    program: &str,
-    key: KeyRef<'_>,
-    stamp: u64,
-) -> Result<Ready, NoMemory>
+fn prepare(alloc: Global, program: &str, key: KeyRef<'_>, stamp: u64) -> Result<Ready, NoMemory>
     requires fit { reason_refused (text_of key) ≡ None }
     ensures { IfOk result (IsPrepared program.now (text_of key.entry) stamp) }
 {
