@@ -1,6 +1,6 @@
 -- What comes of a check.
-use Rattle.std.proofs.Common.{◌≡◌, ◌≤◌, ℕ, List, [], ◌∷◌, length, lit≤, refl, sym, ap, subst, ◌∙◌, Bool, false, true, All, None, Option, Some, arith}
-use Rattle.std.specs.Prelude.{IfSome, map}
+use Rattle.std.proofs.Common.{◌≡◌, ◌≤◌, ℕ, List, [], ◌∷◌, length, lit≤, refl, sym, ap, subst, ◌∙◌, Bool, false, true, All, None, Option, Some, Ok, Err, arith}
+use Rattle.std.specs.Prelude.{Result, IfOk, IfSome, IsErr, MatchResult, map}
 use Rattle.std.proofs.lemmas.List.Elements.{All-cons, All-nil}
 use Rattle.ann_key.specs.Keys.{key_reading}
 use Rattle.ann_key.proofs.Spelling.{read_of_spelled}
@@ -26,6 +26,16 @@ use Rattle.lone_work.specs.Works.{AreTasks, DeskTells, desk_tells}
 use Rattle.lone_rounds.specs.Rounds.{EndsClosed, HasRun, RanAlone}
 use Rattle.run_tasks.specs.Runs.{AreAnswers, answer_of}
 use Rattle.special_cli.specs.Openings.{check_opening, info_opening}
+use Rattle.lone_rounds.specs.declared.plan.Plan.{Plan}
+use Rattle.special_cli.specs.declared.check.Ready.{Ready}
+use Rattle.special_cli.specs.declared.end.End.{End}
+use Rattle.special_cli.specs.declared.end.End.TheVariants.{Answered, Memory}
+use Rattle.child_end.specs.Outsides.{OutsideValue}
+use Rattle.child_end.specs.Programs.{ProgramsValue, Leaves}
+use Rattle.special_cli.specs.Left.{Left, RanValue}
+use Rattle.special_cli.specs.Commands.{EndsCheck, HasChecked, HasNoDesk, IsPrepared}
+use Rattle.special_cli.proofs.Keeping.{leaves_named}
+use Rattle.special_cli.proofs.Leaving.{leaves_as}
 use Rattle.special_cli.specs.Endings.{IsAnswered, IsChecked, check_setup}
 
 -- what a check of a key that isn't refused begins with, and an info
@@ -58,6 +68,7 @@ pub silent : DeskTells
 silent = desk_tells None no_counts
 
 pub ran_nothing : (o : Opening) (setup : Setup) (may : Bool) (limit : ℕ) (journal : List Entry) → journal ≡ [] → RanAlone o setup may limit journal silent silent
+unfolding silent
 ran_nothing o setup may limit journal none =
     subst (λ (j : List Entry). RanAlone o setup may limit j silent silent) (sym none) record {
       legal = record { stands = tt; nothing_due = refl };
@@ -102,6 +113,42 @@ answered key stamp o journal answers begins are closed = go answers (answer_of j
     go [] given is h = absurd cc
     go (x ∷ []) given is h = (let said : Some x ≡ answer_of journal 1 = cc in (x, record { one = refl; given = sym said; closed = closed }))
     go (x ∷ y ∷ xs) given is h = absurd cc
+
+-- ---- as the run that a check makes ready
+
+pub checked_as : (clock : Option ℕ) (program key : List ℕ) (stamp : ℕ) (ready : Ready) (journal journal' : List Entry) → IfSome clock (λ n. stamp ≡ n) → IsPrepared program key stamp ready → journal' ≡ journal
+    → ((desk : DeskTells) × (desk' : DeskTells) × RanAlone ready.core.opening ready.plan.setup ready.plan.offers ready.plan.starts journal desk desk') → IsChecked clock key journal'
+checked_as clock program key stamp ready journal journal' at is same (desk, desk', ran) =
+    subst (λ (j : List Entry). IsChecked clock key j) (sym same)
+    (checked clock key stamp ready.core.opening ready.plan.setup ready.plan.offers ready.plan.starts journal desk desk' at is.opening
+    (ap (λ (p : Plan). p.setup) is.plan) (ap (λ (p : Plan). p.offers) is.plan) (ap (λ (p : Plan). p.starts) is.plan) ran)
+
+pub ends_as : {V E : Type 0} (r : Result V E) (items : V → List Answer) (key : List ℕ) (stamp : ℕ) (o : Opening) (journal : List Entry) (left : Left) (end : End) → o ≡ check_opening key stamp → left.journal ≡ journal
+    → IfOk r (λ v. AreAnswers o journal (items v) × EndsClosed journal)
+    → MatchResult r (λ v. (left.answers ≡ items v) × (end ≡ Answered)) (λ _. (left.answers ≡ []) × (end ≡ Memory)) → EndsCheck left end
+ends_as (Ok v) items key stamp o journal left end begins same (are, closed) (same_list, is) =
+    subst (λ (x : End). EndsCheck left x) (sym is)
+    (answered key stamp o left.journal left.answers begins
+    (subst (λ (j : List Entry). AreAnswers o j left.answers) (sym same) (subst (λ (xs : List Answer). AreAnswers o journal xs) (sym same_list) are))
+    (subst EndsClosed (sym same) closed))
+ends_as (Err e) items key stamp o journal left end begins same h (none, is) = subst (λ (x : End). EndsCheck left x) (sym is) none
+
+pub wanting : {V E : Type 0} (r : Result V E) (items : V → List Answer) (answers : List Answer) (end : End) → MatchResult r (λ v. (answers ≡ items v) × (end ≡ Answered)) (λ _. (answers ≡ []) × (end ≡ Memory)) → IsErr r → end ≡ Memory
+wanting (Ok v) items answers end h err = absurd (let bad : false ≡ true = err in cc)
+wanting (Err e) items answers end (none, is) err = is
+
+pub has_checked : {V E : Type 0} (r : Result V E) (items : V → List Answer) (clock : Option ℕ) (program key : List ℕ) (stamp : ℕ) (ready : Ready) (journal : List Entry) (programs : ProgramsValue) (before : OutsideValue) (ran : RanValue)
+    → IfSome clock (λ n. stamp ≡ n) → IsPrepared program key stamp ready → ran.left.journal ≡ journal
+    → ((desk : DeskTells) × (desk' : DeskTells) × RanAlone ready.core.opening ready.plan.setup ready.plan.offers ready.plan.starts journal desk desk')
+    → IfOk r (λ v. AreAnswers ready.core.opening journal (items v) × EndsClosed journal)
+    → MatchResult r (λ v. (ran.left.answers ≡ items v) × (ran.end ≡ Answered)) (λ _. (ran.left.answers ≡ []) × (ran.end ≡ Memory))
+    → Leaves (IsErr r) ready.plan.program journal programs ran.left.outside.programs ran.left.wires → before.programs ≡ programs → HasNoDesk before ran.left → HasChecked clock program key before ran
+has_checked r items clock program key stamp ready journal programs before ran at is same run answers told leaves begun desks = record {
+  checked = checked_as clock program key stamp ready journal ran.left.journal at is same run;
+  ends = ends_as r items key stamp ready.core.opening journal ran.left ran.end is.opening same answers told;
+  objects = leaves_as (λ e. wanting r items ran.left.answers ran.end told e) same begun (leaves_named (λ e. e) refl (ap (λ (p : Plan). p.program) is.plan) leaves);
+  desks = desks;
+}
 
 -- ---- what a check is done with
 

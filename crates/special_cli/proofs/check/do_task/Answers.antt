@@ -14,4 +14,4 @@ answers_of-requires g c =
     let journal = c.run_alone.new.core.journal in
     let ran = c.run_alone.ensures.ran in
     subst (λ (o : Opening). AreAllAnswered o journal) (sym c.run_alone.ensures.core.opening)
-    (all_answered c.args.core.now.opening journal ran.done ran.claimed ran.answered c.in-Ok.ensures.whole)
+    (all_answered c.args.core.now.opening journal ran.done ran.claimed ran.answered c.in-Ok-run_alone.ensures.whole)

@@ -3,4 +3,4 @@ use Rattle.special_cli.proofs.Checked.{check_begins}
 use Rattle.special_cli.proofs.check.prepare.Goals as goal
 
 pub new-requires : goal.new-requires
-new-requires g c = check_begins (text_of c.args.key) c.args.stamp c.in_ok-opening.opening c.requires.fit c.in_ok-opening.ensures
+new-requires g = check_begins (text_of g.args.key) g.args.stamp g.in_ok-opening.opening g.requires.fit g.in_ok-opening.ensures
