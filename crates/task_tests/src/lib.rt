@@ -2,6 +2,8 @@
 #![tactic(auto)]
 
 #[cfg(test)]
+mod chunk_rows;
+#[cfg(test)]
 mod faults;
 #[cfg(test)]
 mod layout_rows;

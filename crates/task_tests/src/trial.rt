@@ -2,7 +2,8 @@
 ghost use Rattle.std.specs.Prelude.{◌≡◌, [], ℕ, length, true, IfOk};
 ghost use Rattle.annex_model.specs.Lines.{has_newline};
 ghost use Rattle.task_asker.specs.Askings.{are_layouts};
-ghost use Rattle.task_run.specs.Ran.{may_note};
+ghost use Rattle.task_run.specs.Ran.{IsInChunks, may_note};
+ghost use Rattle.task_text.specs.declared.task.Work.TheVariants.{Store};
 ghost use Rattle.task_text.specs.TaskLines.{IsTask};
 
 use crate::script::ScriptAsker;
@@ -13,7 +14,7 @@ use std::alloc::{AllocError, Global};
 use std::str;
 use std::test::Fail;
 use talk_serial::Request;
-use task_run::{Setup, run_task};
+use task_run::{Setup, run_task, store_chunks};
 use task_text::{Task, Work, read_task};
 
 /// A task's line, the files that stand on its desk, which of the desk's calls fail, and the verdicts of its requests.
@@ -99,7 +100,17 @@ pub fn run_over(
     let verdicts = Vec::from_slice(alloc, verdicts)?;
     let mut asker = ScriptAsker::new(alloc, number, may_note(task.work), layouts, verdicts);
     let answer = run_task(alloc, task, number, &setup, &mut asker, &mut desk)?;
-    let answer = words(alloc, &answer)?;
+    told(alloc, &answer, &asker, desk)
+}
+
+// The answer, what was asked, noted and called, as text.
+fn told(
+    alloc: Global,
+    answer: &Answer,
+    asker: &ScriptAsker,
+    desk: MemDesk,
+) -> Result<Outcome, NoMemory> {
+    let answer = words(alloc, answer)?;
     let asked = asked_text(alloc, asker.asked())?;
     let noted = noted_text(alloc, asker.notes())?;
     let calls = calls_text(alloc, desk.log())?;
@@ -110,6 +121,47 @@ pub fn run_over(
         calls,
         desk,
     })
+}
+
+// A store of a key that has a size, in chunks that hold something.
+fn is_in_chunks(task: &Task, setup: &Setup) -> bool
+    ensures { result ≡ true → (task.now.work ≡ Store) × IsInChunks setup.now task.now }
+{
+    let key = task.key.view();
+    let Some(_) = key.size() else {
+        return false;
+    };
+    if setup.chunk == 0 {
+        return false;
+    }
+    match task.work {
+        Work::Store => true,
+        _ => false,
+    }
+}
+
+/// The task as task 1, stored in chunks of that many bytes. None where it isn't stored in chunks.
+pub fn run_chunks(
+    alloc: Global,
+    task: &Task,
+    chunk: u64,
+    verdicts: &[Verdict],
+    mut desk: MemDesk,
+) -> Result<Option<Outcome>, NoMemory>
+    requires { IsTask task.now }
+{
+    let setup = Setup {
+        work: Text::copy(alloc, "w")?,
+        stamp: 5,
+        chunk,
+    };
+    if !is_in_chunks(task, &setup) {
+        return Ok(None);
+    }
+    let verdicts = Vec::from_slice(alloc, verdicts)?;
+    let mut asker = ScriptAsker::new(alloc, 1, true, Vec::new(alloc), verdicts);
+    let answer = store_chunks(alloc, task, 1, &setup, &mut asker, &mut desk)?;
+    Ok(Some(told(alloc, &answer, &asker, desk)?))
 }
 
 /// The case as task 1.

@@ -1,0 +1,226 @@
+// Stores in chunks: what is asked and sent, which files are written, and what is noted.
+use crate::trial::{desk_of, run_chunks};
+use journal_model::{Verdict, Why};
+use std::test::Fail;
+use task_text::read_task;
+
+// A task's line, the name and the text of the desk's file, the chunk size, the verdicts, the calls that fail, and what comes of it.
+#[derive(Clone, Copy)]
+struct ChunkRow {
+    line: &'static str,
+    file: &'static str,
+    text: &'static str,
+    chunk: u64,
+    verdicts: &'static [Verdict],
+    fails: &'static [u64],
+    answer: &'static str,
+    asked: &'static str,
+    calls: &'static str,
+    noted: &'static str,
+}
+
+const DONE: Verdict = Verdict::Done { at: 1 };
+
+const ABSENT: Verdict = Verdict::Absent { at: 2 };
+
+const UNSUPPORTED: Verdict = Verdict::Unsupported { at: 3 };
+
+const FAILED: Verdict = Verdict::Failed { at: 4 };
+
+const ENDED: Verdict = Verdict::Ended { why: Why::Eof };
+
+const ROWS: [ChunkRow; 14] = [
+    // empty content has one chunk
+    ChunkRow {
+        line: "store WORM-s0--a f",
+        file: "f",
+        text: "",
+        chunk: 4,
+        verdicts: &[ABSENT, DONE],
+        fails: &[],
+        answer: "stored",
+        asked: "CHECKPRESENT WORM-s0-S4-C1--a; TRANSFER STORE WORM-s0-S4-C1--a w/5-1-2.chunk",
+        calls: "size f; create w/5-1-2.chunk; remove w/5-1-2.chunk",
+        noted: "1 of 4 behind 2",
+    },
+    // a remote that can't tell is sent the chunk
+    ChunkRow {
+        line: "store WORM-s1--a f",
+        file: "f",
+        text: "a",
+        chunk: 4,
+        verdicts: &[UNSUPPORTED, DONE],
+        fails: &[],
+        answer: "stored",
+        asked: "CHECKPRESENT WORM-s1-S4-C1--a; TRANSFER STORE WORM-s1-S4-C1--a w/5-1-2.chunk",
+        calls: "size f; create w/5-1-2.chunk; read f 0; append w/5-1-2.chunk; remove w/5-1-2.chunk",
+        noted: "1 of 4 behind 2",
+    },
+    // what is there is not sent again
+    ChunkRow {
+        line: "store WORM-s3--a f",
+        file: "f",
+        text: "abc",
+        chunk: 4,
+        verdicts: &[DONE],
+        fails: &[],
+        answer: "stored",
+        asked: "CHECKPRESENT WORM-s3-S4-C1--a",
+        calls: "size f",
+        noted: "1 of 4 behind 1",
+    },
+    ChunkRow {
+        line: "store WORM-s4--a f",
+        file: "f",
+        text: "abcd",
+        chunk: 4,
+        verdicts: &[ABSENT, DONE],
+        fails: &[],
+        answer: "stored",
+        asked: "CHECKPRESENT WORM-s4-S4-C1--a; TRANSFER STORE WORM-s4-S4-C1--a w/5-1-2.chunk",
+        calls: "size f; create w/5-1-2.chunk; read f 0; append w/5-1-2.chunk; remove w/5-1-2.chunk",
+        noted: "1 of 4 behind 2",
+    },
+    ChunkRow {
+        line: "store WORM-s5--a f",
+        file: "f",
+        text: "abcde",
+        chunk: 4,
+        verdicts: &[DONE, ABSENT, DONE],
+        fails: &[],
+        answer: "stored",
+        asked: "CHECKPRESENT WORM-s5-S4-C1--a; CHECKPRESENT WORM-s5-S4-C2--a; TRANSFER STORE WORM-s5-S4-C2--a w/5-1-3.chunk",
+        calls: "size f; create w/5-1-3.chunk; read f 4; append w/5-1-3.chunk; remove w/5-1-3.chunk",
+        noted: "2 of 4 behind 3",
+    },
+    ChunkRow {
+        line: "store WORM-s8--a f",
+        file: "f",
+        text: "abcdefgh",
+        chunk: 4,
+        verdicts: &[ABSENT, DONE, DONE],
+        fails: &[],
+        answer: "stored",
+        asked: "CHECKPRESENT WORM-s8-S4-C1--a; TRANSFER STORE WORM-s8-S4-C1--a w/5-1-2.chunk; TRANSFER STORE WORM-s8-S4-C2--a w/5-1-3.chunk",
+        calls: "size f; create w/5-1-2.chunk; read f 0; append w/5-1-2.chunk; remove w/5-1-2.chunk; create w/5-1-3.chunk; read f 4; append w/5-1-3.chunk; remove w/5-1-3.chunk",
+        noted: "2 of 4 behind 3",
+    },
+    // the second chunk fails
+    ChunkRow {
+        line: "store WORM-s2--a f",
+        file: "f",
+        text: "ab",
+        chunk: 1,
+        verdicts: &[ABSENT, DONE, FAILED],
+        fails: &[],
+        answer: "failed 4",
+        asked: "CHECKPRESENT WORM-s2-S1-C1--a; TRANSFER STORE WORM-s2-S1-C1--a w/5-1-2.chunk; TRANSFER STORE WORM-s2-S1-C2--a w/5-1-3.chunk",
+        calls: "size f; create w/5-1-2.chunk; read f 0; append w/5-1-2.chunk; remove w/5-1-2.chunk; create w/5-1-3.chunk; read f 1; append w/5-1-3.chunk; remove w/5-1-3.chunk",
+        noted: "",
+    },
+    ChunkRow {
+        line: "store WORM-s2--a f",
+        file: "f",
+        text: "ab",
+        chunk: 1,
+        verdicts: &[ABSENT, UNSUPPORTED],
+        fails: &[],
+        answer: "unsupported",
+        asked: "CHECKPRESENT WORM-s2-S1-C1--a; TRANSFER STORE WORM-s2-S1-C1--a w/5-1-2.chunk",
+        calls: "size f; create w/5-1-2.chunk; read f 0; append w/5-1-2.chunk",
+        noted: "",
+    },
+    ChunkRow {
+        line: "store WORM-s2--a f",
+        file: "f",
+        text: "ab",
+        chunk: 1,
+        verdicts: &[ENDED],
+        fails: &[],
+        answer: "ended eof",
+        asked: "CHECKPRESENT WORM-s2-S1-C1--a",
+        calls: "size f",
+        noted: "",
+    },
+    // the file has another size than the key
+    ChunkRow {
+        line: "store WORM-s3--a f",
+        file: "f",
+        text: "ab",
+        chunk: 4,
+        verdicts: &[ABSENT],
+        fails: &[],
+        answer: "size 2",
+        asked: "",
+        calls: "size f",
+        noted: "",
+    },
+    // each call of the desk that fails
+    ChunkRow {
+        line: "store WORM-s2--a f",
+        file: "f",
+        text: "ab",
+        chunk: 4,
+        verdicts: &[ABSENT, DONE],
+        fails: &[2],
+        answer: "filefault",
+        asked: "CHECKPRESENT WORM-s2-S4-C1--a",
+        calls: "size f; create w/5-1-2.chunk failed",
+        noted: "",
+    },
+    ChunkRow {
+        line: "store WORM-s2--a f",
+        file: "f",
+        text: "ab",
+        chunk: 4,
+        verdicts: &[ABSENT, DONE],
+        fails: &[3],
+        answer: "filefault",
+        asked: "CHECKPRESENT WORM-s2-S4-C1--a",
+        calls: "size f; create w/5-1-2.chunk; read f 0 failed",
+        noted: "",
+    },
+    ChunkRow {
+        line: "store WORM-s2--a f",
+        file: "f",
+        text: "ab",
+        chunk: 4,
+        verdicts: &[ABSENT, DONE],
+        fails: &[5],
+        answer: "filefault",
+        asked: "CHECKPRESENT WORM-s2-S4-C1--a; TRANSFER STORE WORM-s2-S4-C1--a w/5-1-2.chunk",
+        calls: "size f; create w/5-1-2.chunk; read f 0; append w/5-1-2.chunk; remove w/5-1-2.chunk failed",
+        noted: "",
+    },
+    // the file is the one that the chunk is written to
+    ChunkRow {
+        line: "store WORM-s2--a w/5-1-2.chunk",
+        file: "w/5-1-2.chunk",
+        text: "ab",
+        chunk: 4,
+        verdicts: &[ABSENT, DONE],
+        fails: &[],
+        answer: "size 0",
+        asked: "CHECKPRESENT WORM-s2-S4-C1--a",
+        calls: "size w/5-1-2.chunk; create w/5-1-2.chunk; read w/5-1-2.chunk 0",
+        noted: "",
+    },
+];
+
+#[test]
+fn stores_in_chunks(rt: HostRuntime) -> Result<(), Fail> {
+    let alloc = rt.alloc();
+    for (at, row) in ROWS.iter().enumerate() {
+        let task = read_task(alloc, row.line.as_bytes())?;
+        let desk = desk_of(alloc, &[(row.file, row.text)], row.fails)?;
+        let Some(came) = run_chunks(alloc, &task, row.chunk, row.verdicts, desk)? else {
+            assert!(rt; false, "row {at} isn't stored in chunks");
+            continue;
+        };
+        assert_eq!(rt; came.answer.as_str(), row.answer, "at row {at}");
+        assert_eq!(rt; came.asked.as_str(), row.asked, "at row {at}");
+        assert_eq!(rt; came.calls.as_str(), row.calls, "at row {at}");
+        assert_eq!(rt; came.noted.as_str(), row.noted, "at row {at}");
+    }
+    Ok(())
+}
