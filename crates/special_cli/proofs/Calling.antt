@@ -30,7 +30,7 @@ use Rattle.audit_run.specs.declared.error.AuditError.TheVariants as A
 use Rattle.journal_audit.specs.declared.found.Audit.{Audit}
 use Rattle.journal_audit.specs.declared.found.Audit.TheVariants.{Legal, Wrong}
 use Rattle.special_cli.specs.Audits.{HasAudited, end_of_audit}
-use Rattle.special_cli.proofs.Audited.{is_audit, other_words, nothing_audited}
+use Rattle.special_cli.proofs.Audited.{other_words, nothing_audited}
 use Rattle.special_cli.specs.Setups.{EndsInit, HasSetUp}
 use Rattle.special_cli.specs.Calls.{IsCalled}
 use Rattle.special_cli.specs.Commands.{ComesToNothing, EndsCheck, HasChecked, EndsInfo, HasInformed, UnlessRefused, Runs}

@@ -1,5 +1,5 @@
 -- What comes of a check.
-use Rattle.std.proofs.Common.{◌≡◌, ◌≤◌, ℕ, List, [], ◌∷◌, length, lit≤, refl, sym, ap, subst, ◌∙◌, Bool, false, true, All, None, Option, Some, Ok, Err, arith}
+use Rattle.std.proofs.Common.{◌≡◌, ◌≤◌, ℕ, List, [], ◌∷◌, length, lit≤, refl, sym, ap, subst, Bool, false, true, All, None, Option, Some, Ok, Err, arith}
 use Rattle.std.specs.Prelude.{Result, IfOk, IfSome, IsErr, MatchResult, map}
 use Rattle.std.proofs.lemmas.List.Elements.{All-cons, All-nil}
 use Rattle.ann_key.specs.Keys.{key_reading}
@@ -22,7 +22,7 @@ use Rattle.journal_model.specs.declared.entry.Entry.{Entry}
 use Rattle.journal_model.specs.declared.opening.Opening.{Opening}
 use Rattle.journal_model.proofs.Projecting.{parts_fit}
 use Rattle.task_run.specs.declared.setup.Setup.{Setup}
-use Rattle.lone_work.specs.Works.{AreTasks, DeskTells, desk_tells}
+use Rattle.lone_work.specs.Works.{DeskTells, desk_tells}
 use Rattle.lone_rounds.specs.Rounds.{EndsClosed, HasRun, RanAlone}
 use Rattle.run_tasks.specs.Runs.{AreAnswers, answer_of}
 use Rattle.special_cli.specs.Openings.{check_opening, info_opening}
@@ -149,9 +149,3 @@ has_checked r items clock program key stamp ready journal programs before ran at
   objects = leaves_as (λ e. wanting r items ran.left.answers ran.end told e) same begun (leaves_named (λ e. e) refl (ap (λ (p : Plan). p.program) is.plan) leaves);
   desks = desks;
 }
-
--- ---- what a check is done with
-
-pub one_task : (key : List ℕ) (stamp : ℕ) (o : Opening) (tasks : List Task) → reason_refused key ≡ None → o ≡ check_opening key stamp → tasks ≡ o.tasks → AreTasks tasks
-one_task key stamp o tasks h begins same =
-    subst AreTasks (sym (same ∙ ap (λ (x : Opening). x.tasks) begins)) (record { key_class = task_key_class key h; file_class = refl }, tt)

@@ -1,24 +1,19 @@
 -- What a run leaves of its programs and its child.
 use Rattle.std.proofs.Common.{◌≡◌, ◌⊎◌, inl, inr, ℕ, List, [], ◌∷◌, length, refl, sym, ap, subst, ◌∙◌, Bool, true, false, Some, None, Option, length-append}
-use Rattle.std.specs.Prelude.{IsTrue, filter_map, option_and_then, option_map}
+use Rattle.std.specs.Prelude.{IsTrue, filter_map, option_and_then}
 use Rattle.std.specs.List.{list_any}
 use Rattle.std.proofs.lemmas.List.{append-nil}
 use Rattle.ann_outside.specs.Starts.{Starts, IsNumbered}
 use Rattle.ann_outside.specs.Causes.{AddsOne, Rose, Stays}
-use Rattle.journal_model.specs.declared.verdict.Why.{Why}
-use Rattle.journal_model.specs.declared.verdict.Verdict.{Verdict}
-use Rattle.journal_model.specs.declared.answer.Answer.{Answer}
-use Rattle.journal_model.specs.declared.answer.Answer.TheVariants.{Unsent as UnsentAnswer, NotPrepared, Ended as EndedAnswer}
 use Rattle.journal_model.specs.declared.entry.What.{What}
 use Rattle.journal_model.specs.declared.entry.What.TheVariants.{Start, NoStart}
 use Rattle.journal_model.specs.declared.entry.Entry.{Entry}
 use Rattle.journal_model.specs.Journal.{any}
 use Rattle.journal_model.specs.Wires.{Wired, Caused, is_heard_in_turn}
-use Rattle.task_run.specs.TaskRuns.{refused_at}
-use Rattle.journal_model.specs.Halves.{EarValue, MouthValue, IsSameEar, IsSameMouth}
+use Rattle.journal_model.specs.Halves.{EarValue, MouthValue}
 use Rattle.link_roles.specs.Writings.{is_written_first, LoneWired}
 use Rattle.journal_model.proofs.Ears.{halves_wire}
-use Rattle.child_start.specs.Greetings.{Greeted, IsRefused, HasEnded, IsUnsent, AreNumbered}
+use Rattle.child_start.specs.Greetings.{AreNumbered}
 use Rattle.special_cli.specs.Endings.{start_in, starts_in}
 use Rattle.child_end.specs.Wires.{came_in, came, IsOfStart, IsWire, AreWires, IsLaid}
 use Rattle.child_end.specs.Programs.{told_in, told, AddsAll, HaveStarted, Leaves, is_failed_start}
@@ -91,10 +86,6 @@ of_start old new x None a h = tt
 of_start None new x (Some n) a h = tt
 of_start (Some xs) None x (Some n) a h = absurd a
 of_start (Some xs) (Some ys) x (Some n) a h = h ∙ ap (λ (zs : Starts). length zs) a ∙ length-append xs (x ∷ [])
-
--- halves of the same start have its number
-pub numbered_on : (starts : Option Starts) (e e' : EarValue) (m m' : MouthValue) → IsSameEar e e' → IsSameMouth m m' → AreNumbered starts e m → AreNumbered starts e' m'
-numbered_on starts e e' m m' same_ear same_mouth h = (subst (IsNumbered starts) (sym same_mouth.1) h.0, subst (IsNumbered starts) (sym same_ear.1) h.1)
 
 -- the one child's wire
 one_wire : (old new : Option Starts) (journal : List Entry) (x : List ℕ × Bool) (ear : EarValue) (mouth : MouthValue) (wires : List WireValue) → starts_in journal ≡ Start 1 0 false ∷ []

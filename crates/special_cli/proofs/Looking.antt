@@ -67,9 +67,6 @@ none_of f p quiet (e ∷ xs) h =
     let t = both (p e.what) (list_all (λ (x : Entry). p x.what) xs) h in
     rw (quiet e.what t.0, none_of f p quiet xs t.1) refl
 
-pub link_says_none : {X : Type 0} (f : What → Option X) → Vanishes f → (c : ℕ) (xs : List Entry) → list_all (λ (e : Entry). by_link c e.what) xs ≡ true → each_of f xs ≡ []
-link_says_none f v c xs h = none_of f (by_link c) (of_link f v c) xs h
-
 pub greeting_says_none : {X : Type 0} (f : What → Option X) → Vanishes f → (c : ℕ) (xs : List Entry) → list_all (λ (e : Entry). is_of_greeting c e.what) xs ≡ true → each_of f xs ≡ []
 greeting_says_none f v c xs h = none_of f (is_of_greeting c) (of_greeting f v c) xs h
 

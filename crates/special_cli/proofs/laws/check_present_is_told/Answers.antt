@@ -1,7 +1,5 @@
-use Rattle.std.proofs.Common.{◌≡◌, ◌++◌, List, [], ◌∷◌, true, false, take, refl, sym, ap, inl, inr}
+use Rattle.std.proofs.Common.{◌≡◌, ◌++◌, [], ◌∷◌, true, false, take, refl, sym, ap, inl, inr}
 use Rattle.std.specs.Prelude.{codes}
-use Rattle.journal_model.specs.declared.entry.Entry.{Entry}
-use Rattle.lone_rounds.specs.Rounds.{EndsClosed}
 use Rattle.special_cli.specs.Endings.{IsAnswered}
 use Rattle.std.specs.Fmt.{digits}
 use Rattle.journal_model.specs.declared.answer.Answer.TheVariants.{Present}
