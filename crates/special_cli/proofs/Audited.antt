@@ -1,4 +1,4 @@
--- An audit that found no memory before it began, and one that ends with status 0.
+-- An audit that found no memory before it began.
 use Rattle.std.proofs.Common.{◌≡◌, ◌∙◌, ◌==◌, ℕ, Bool, true, false, List, [], Option, Some, None, Ok, Err, refl, sym, ap, subst, inl, inr}
 use Rattle.std.specs.Prelude.{IfSome, Result}
 use Rattle.audit_run.specs.Inputs.{ComesTo, IsFound, audit_limits}
@@ -44,21 +44,3 @@ unread input h = record {
 
 pub nothing_audited : (before : OutsideValue) (input : InputFlow) (ran : RanValue) → ran.end ≡ Memory → IsIdle before ran.left → IsUnread input → HasAudited before input ran
 nothing_audited before input ran e idle h = record { outcome = Err NoMemory; audit = unread input h; idle = idle; end_is = e }
-
--- ---- status 0
-
-not_zero : {A : Type 0} (w : ℕ) (written : List ℕ) (f : Flow) → (w == 0) ≡ false → IsWritten w written 0 f → A
-not_zero w written f other (inl whole) = absurd (let bad : true ≡ false = ap (λ (s : ℕ). s == 0) whole.status_is ∙ other in cc)
-not_zero w written f other (inr cut) = absurd (let bad : 0 ≡ 5 = cut.status_is in cc)
-
-pub legal_at_zero : (input : InputFlow) (out err : Flow) (left : Left) (outcome : Result Audit AuditError) → IsAuditOf input outcome → IsToldOf left 0 out err (end_of_audit outcome)
-    → (bytes : List ℕ) × HasGiven input.given input.given' input.left input.left' bytes × IsFound audit_limits bytes Legal
-legal_at_zero input out err left (Ok Legal) a told = (a.bytes, a.gave, a.read.0)
-legal_at_zero input out err left (Ok (Wrong entry kind)) a (inl said) = not_zero 1 _ out refl said.0
-legal_at_zero input out err left (Ok (Wrong entry kind)) a (inr said) = not_zero 7 _ err refl said.0
-legal_at_zero input out err left (Err (Entry line)) a (inl w, silent) = not_zero 3 _ err refl w
-legal_at_zero input out err left (Err (Entry line)) a (inr w, silent) = not_zero 7 _ err refl w
-legal_at_zero input out err left (Err (Cut line)) a (inl w, silent) = not_zero 3 _ err refl w
-legal_at_zero input out err left (Err (Cut line)) a (inr w, silent) = not_zero 7 _ err refl w
-legal_at_zero input out err left (Err Failed) a told = not_zero 4 _ err refl told.0
-legal_at_zero input out err left (Err NoMemory) a told = not_zero 7 _ err refl told.0

@@ -32,7 +32,7 @@ use Rattle.journal_audit.specs.declared.found.Audit.TheVariants.{Legal, Wrong}
 use Rattle.special_cli.specs.Audits.{HasAudited, end_of_audit}
 use Rattle.special_cli.proofs.Audited.{other_words, nothing_audited}
 use Rattle.special_cli.specs.Setups.{EndsInit, HasSetUp}
-use Rattle.special_cli.specs.Calls.{IsCalled}
+use Rattle.special_cli.specs.Calls.{IsCalled, IsDone}
 use Rattle.special_cli.specs.Commands.{ComesToNothing, EndsCheck, HasChecked, EndsInfo, HasInformed, UnlessRefused, Runs}
 use Rattle.special_cli.specs.Endings.{is_well, status_of, IsChecked, IsPrinted, IsTold, LacksMemory}
 use Rattle.special_cli.specs.Informs.{IsInfoTold, info_status}
@@ -108,9 +108,9 @@ on_unkept journal answers cause status out err (inr said) = on_err (0 ∷ 1 ∷ 
 ends_with : (left : Left) (status : ℕ) (out err : Flow) (end : End) → IsToldOf left status out err end → EndsWith (wanted_of end) status out err
 unfolding wanted_of
 ends_with left status out err Usage told = on_err (2 ∷ []) 2 _ status out err refl told.0
-ends_with left status out err (Shown page) told = on_out (0 ∷ []) 0 told.0 status out err refl told.1.0
-ends_with left status out err (Refused line reason) (inl w, silent) = on_err (3 ∷ 7 ∷ []) 3 _ status out err refl w
-ends_with left status out err (Refused line reason) (inr w, silent) = on_err (3 ∷ 7 ∷ []) 7 _ status out err refl w
+ends_with left status out err (Shown page) told = on_out (0 ∷ []) 0 _ status out err refl told.0
+ends_with left status out err (Refused line reason) (inl said) = on_err (3 ∷ 7 ∷ []) 3 _ status out err refl said.0
+ends_with left status out err (Refused line reason) (inr said) = on_err (3 ∷ 7 ∷ []) 7 _ status out err refl said.0
 ends_with left status out err Memory told = on_err (7 ∷ []) 7 _ status out err refl told.0
 ends_with left status out err Answered told = on_either [] (list_all is_well left.answers) _ status out err told
 ends_with left status out err (Informed key) told = on_either [] (is_informed left.journal 1 key) _ status out err told
@@ -118,8 +118,8 @@ ends_with left status out err InputFailed told = on_err (4 ∷ []) 4 _ status ou
 ends_with left status out err (Done W.Done) told = on_either (6 ∷ []) (list_all is_well left.answers) _ status out err told
 ends_with left status out err (Done W.TooLarge) told = on_unkept left.journal left.answers _ status out err told
 ends_with left status out err (Done W.Fault) told = on_unkept left.journal left.answers _ status out err told
-ends_with left status out err (BadKept line) (inl w, silent) = on_err (6 ∷ 7 ∷ []) 6 _ status out err refl w
-ends_with left status out err (BadKept line) (inr w, silent) = on_err (6 ∷ 7 ∷ []) 7 _ status out err refl w
+ends_with left status out err (BadKept line) (inl said) = on_err (6 ∷ 7 ∷ []) 6 _ status out err refl said.0
+ends_with left status out err (BadKept line) (inr said) = on_err (6 ∷ 7 ∷ []) 7 _ status out err refl said.0
 ends_with left status out err KeptTooLarge told = on_err (6 ∷ []) 6 _ status out err refl told.0
 ends_with left status out err FileFailed told = on_err (6 ∷ []) 6 _ status out err refl told.0
 ends_with left status out err (SetUp W.Done) told = on_out (0 ∷ 6 ∷ []) 0 _ status out err refl told.0
@@ -652,6 +652,10 @@ pub called : (clock : Option ℕ) (before : OutsideValue) (input : InputFlow) (w
 called clock before input wish ran left status out err e runs told =
     (subst (λ (l : Left). IsCalled clock before input wish out err status l) (sym e) (called_left clock before input ran.left ran.end status out err told wish runs))
 
+pub done : (clock : Option ℕ) (before : OutsideValue) (input : InputFlow) (wish : Option Command) (ran : RanValue) (left : Left) (status : ℕ) (out err : Flow) → left ≡ ran.left → Runs clock before input wish ran
+    → IsToldOf ran.left status out err ran.end → IsDone clock before input wish out err status left
+done clock before input wish ran left status out err e runs told = subst (λ (l : Left). IsDone clock before input wish out err status l) (sym e) (ran.end, runs, told)
+
 -- ---- the answers are few
 
 none_few : (left : Left) → left.answers ≡ [] → length left.answers ≤ 65536
@@ -721,15 +725,3 @@ runs_nothing clock before input (Some (Init words)) ran e idle unread = inl (e, 
 runs_nothing clock before input (Some (Run words)) ran e idle unread =
     (R.Memory, inl (refl, record { outside = idle.outside; unread = unread; journal = idle.journal; answers = idle.answers; wires = idle.wires; tables = idle.tables }), e)
 runs_nothing clock before input (Some AuditWord) ran e idle unread = nothing_audited before input ran e idle unread
-
--- ---- an end is told
-
-pub told_as : (ran : RanValue) (end e : End) (status : ℕ) (out err : Flow) → end ≡ ran.end → end ≡ e → IsToldOf ran.left status out err e → IsToldOf ran.left status out err ran.end
-told_as ran end e status out err same is told = subst (λ (x : End). IsToldOf ran.left status out err x) (sym is ∙ same) told
-
-pub told_informed : (ran : RanValue) (end : End) (journal : List Entry) (key k : Option (List ℕ)) (status : ℕ) (out err : Flow) → end ≡ ran.end → journal ≡ ran.left.journal → end ≡ Informed key → k ≡ key
-    → IsPrintedOr (info_status journal k) (text (info_lines journal k)) status out err → IsToldOf ran.left status out err ran.end
-told_informed ran end journal key k status out err e j is same told =
-    subst (λ (x : End). IsToldOf ran.left status out err x) (sym is ∙ e)
-    (subst (λ (x : List Entry). IsPrintedOr (info_status x key) (text (info_lines x key)) status out err) j
-    (subst (λ (x : Option (List ℕ)). IsPrintedOr (info_status journal x) (text (info_lines journal x)) status out err) same told))

@@ -8,7 +8,6 @@ pub mod Informed
 pub mod Leaving
 pub mod Looking
 pub mod Talking
-pub mod Alone
 pub mod Keeping
 pub mod Settling
 pub mod Written

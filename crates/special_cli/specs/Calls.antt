@@ -13,6 +13,7 @@ use Rattle.special_cli.specs.Left.{Left, IsIdle}
 use Rattle.child_end.specs.Wires.{AreWires, came}
 use Rattle.child_end.specs.Programs.{HaveStarted, is_failed_start}
 use Rattle.child_end.specs.Outsides.{HaveMade}
+use Rattle.special_cli.specs.Commands.{Runs}
 use Rattle.special_cli.specs.Setups.{HasSetUp}
 use Rattle.special_cli.specs.Doings.{end_of, made_in}
 use Rattle.special_cli.specs.Audits.{IsAuditOf, end_of_audit}
@@ -38,6 +39,11 @@ abbrev pub IsAuditCalled : OutsideValue → InputFlow → ℕ → Flow → Flow 
 IsAuditCalled before input status out err left =
     (outcome : Result Audit AuditError) × IsAuditOf input outcome × IsIdle before left × IsToldOf left status out err (end_of_audit outcome)
 
+-- what the words ask for was done, and what came of it was told so
+abbrev pub IsDone : Option ℕ → OutsideValue → InputFlow → Option Command → Flow → Flow → ℕ → Left → Type 0
+IsDone clock before input wish out err status left = (end : End) × Runs clock before input wish (record { left = left; end = end }) × IsToldOf left status out err end
+
+-- what follows of it, and what each status says
 pub record IsCalled (clock : Option ℕ) (before : OutsideValue) (input : InputFlow) (wish : Option Command) (out err : Flow) (status : ℕ) (left : Left) : Type 0 where
   pub usage : status ≡ 2 → wish ≡ None
   pub words : wish ≡ None → (status ≡ 2) ⊎ (status ≡ 5) ⊎ (status ≡ 7)

@@ -5,7 +5,8 @@ use Rattle.special_cli.specs.declared.end.End.{End}
 use Rattle.special_cli.specs.declared.end.End.TheVariants.{Usage, Shown, Refused, Memory, Answered, Informed}
 use Rattle.cli_words.specs.declared.refusals.Reason.{Reason}
 use Rattle.special_cli.specs.declared.check.Ready.{Ready}
-use Rattle.special_cli.specs.Openings.{check_opening}
+use Rattle.special_cli.specs.declared.info.Ready.{Ready as InfoReady}
+use Rattle.special_cli.specs.Openings.{check_opening, info_opening}
 use Rattle.special_cli.specs.Endings.{IsChecked, IsAnswered, check_setup}
 use Rattle.special_cli.specs.Informs.{IsInformed, IsComplete}
 use Rattle.child_end.specs.Outsides.{OutsideValue}
@@ -51,6 +52,12 @@ pub record HasChecked (clock : Option ℕ) (program key : List ℕ) (before : Ou
   pub desks : HasNoDesk before ran.left
 
 -- ---- info
+
+-- what an info of the key is made with
+pub record IsReady (key : Option (List ℕ)) (r : InfoReady) : Type 0 where
+  pub opening : r.core.opening ≡ info_opening
+  pub empty : r.core.journal ≡ []
+  pub told : r.key ≡ key
 
 -- all was asked, or there is a cause, or no memory was found
 abbrev pub EndsInfo : Option (List ℕ) → Left → End → Type 0

@@ -7,8 +7,9 @@ pub mod Informs
 pub mod Left
 pub mod Objects
 pub mod Openings
-pub mod Rows
+pub mod Sayings
 pub mod Interviews
+pub mod Meetings
 pub mod Tells
 pub mod Wishes
 pub mod Setups

@@ -1,15 +1,17 @@
 -- What comes of a setup: what its child was asked, what it begins with, and what is kept.
 use Rattle.std.specs.Prelude.{ℕ, ◌≡◌, ◌⊎◌, ◌==◌, ◌&&◌, ◌<◌, not, Bool, true, false, List, [], ◌∷◌, length, Option, Some, None, Ok}
 use Rattle.std.specs.List.{list_all}
-use Rattle.ann_outside.specs.Causes.{AddsOne, Rose, Stays}
+use Rattle.ann_outside.specs.Causes.{AddsOne, Rose}
 use Rattle.ann_outside.specs.DeskCauses.{Counts}
-use Rattle.ann_outside.specs.Starts.{Starts}
 use Rattle.ann_outside.specs.Files.{Files, WhereTold, OthersStay}
 use Rattle.desk_file.specs.Writes.{new_name, IsReplacedBy}
 use Rattle.keep_text.specs.KeptFiles.{bad_line, kept_text}
 use Rattle.keep_desk.specs.declared.TheConstants.{MOST_BYTES}
 use Rattle.keep_desk.specs.declared.writing.KeptWritten.{KeptWritten}
 use Rattle.keep_desk.specs.declared.writing.KeptWritten.TheVariants as W
+use Rattle.chunk_log.specs.ChunkLines.{IsWrittenUuid}
+use Rattle.cli_words.specs.Identities.{IsFit}
+use Rattle.cli_words.specs.declared.command.Command.TheVariants.{Init as InitCommand}
 use Rattle.cli_words.specs.declared.command.InitWords.{InitWords}
 use Rattle.journal_model.specs.declared.entry.What.{What}
 use Rattle.journal_model.specs.declared.entry.What.TheVariants.{Start, NoStart, End}
@@ -26,18 +28,19 @@ use Rattle.child_start.specs.Greetings.{is_of_greeting_for}
 use Rattle.init_run.specs.Setups.{IsOpening, IsTextOf, outcome_of}
 use Rattle.init_run.specs.declared.setup.Setup.{Setup}
 use Rattle.init_run.specs.declared.setup.Setup.TheVariants.{Initialized, Stopped}
-use Rattle.ann_outside.specs.declared.Sink.{Ghosts as SinkGhosts}
-use Rattle.ann_outside.specs.declared.Source.{Ghosts as SourceGhosts}
-use Rattle.journal_model.specs.Halves.{EarValue, MouthValue}
-use Rattle.special_cli.specs.declared.init.asking.Talk.{Talk}
-use Rattle.special_cli.specs.declared.init.asking.Talk.TheVariants.{Over, StartFault, NoMemory}
-use Rattle.lone_rounds.specs.Stints.{main_entry}
 use Rattle.special_cli.specs.declared.end.End.{End as Ending}
 use Rattle.special_cli.specs.declared.end.End.TheVariants.{Memory, BadKept, KeptTooLarge, FileFailed, SetUp, NotSetUp}
 use Rattle.special_cli.specs.Endings.{starts_in}
 use Rattle.child_end.specs.Outsides.{OutsideValue, TableValue}
 use Rattle.special_cli.specs.Left.{RanValue, IsIdle}
 use Rattle.child_end.specs.Programs.{Leaves}
+
+-- ---- the words
+
+-- what cli_words says of the words that it reads
+pub record AreSound (words : InitWords) : Type 0 where
+  pub fit : IsFit (InitCommand words)
+  pub uuid : IsWrittenUuid words.uuid
 
 -- ---- the journal
 
@@ -139,21 +142,3 @@ pub record IsTalked (journal : List Entry) (c : ℕ) (setup : Setup) : Type 0 wh
   pub own : list_all (λ e. is_of_setup e.what) journal ≡ true
   pub settled : open_jobs journal c ≡ []
   pub outcome : outcome_of journal ≡ Some setup
-
-abbrev pub Talked : {I O S : Type 0} {sinks : SinkGhosts I} {sources : SourceGhosts O} → List Entry → Talk I O S sinks sources → Type 0
-Talked journal (Over link stub setup) = IsTalked journal link.ear.child setup
-Talked journal StartFault = journal ≡ main_entry (NoStart 0) ∷ []
-Talked journal NoMemory = journal ≡ []
-
--- the halves of the link of a child that there is
-abbrev pub IfTalked : {I O S : Type 0} {sinks : SinkGhosts I} {sources : SourceGhosts O} → (EarValue → MouthValue → Type 0) → Talk I O S sinks sources → Type 0
-IfTalked P (Over link stub setup) = P link.ear link.mouth
-IfTalked P StartFault = Unit {0}
-IfTalked P NoMemory = Unit {0}
-
--- Where programs tell, they were asked for the program once, which gave a child or not. Without memory they may not have been
--- asked, or it may have been for nothing.
-abbrev pub TalkStarts : {I O S : Type 0} {sinks : SinkGhosts I} {sources : SourceGhosts O} → Option Starts → Option Starts → List ℕ → Talk I O S sinks sources → Type 0
-TalkStarts old new program (Over link stub setup) = AddsOne old new (program, true)
-TalkStarts old new program StartFault = AddsOne old new (program, false)
-TalkStarts old new program NoMemory = Stays old new ⊎ ((b : Bool) × AddsOne old new (program, b))

@@ -18,6 +18,7 @@ use Rattle.special_cli.specs.declared.end.End.TheVariants.{Usage, Shown, Refused
 use Rattle.special_cli.specs.Endings.{is_well}
 use Rattle.special_cli.specs.Informs.{info_status}
 use Rattle.special_cli.specs.Left.{Left}
+use Rattle.cli_words.specs.Pages.{page_text}
 use Rattle.cli_words.specs.Texts.{usage_line, memory_line, refused_line, bad_kept_line, keep_large_line, file_line, input_line}
 
 -- what a sink counted and took, before and after
@@ -54,14 +55,26 @@ IsWritten wanted written status f = IsWhole wanted written status f ⊎ IsCut wr
 abbrev pub IsSaid : ℕ → List ℕ → ℕ → Flow → Flow → Type 0
 IsSaid wanted written status to other = IsWritten wanted written status to × IsSilent other
 
+-- no memory was found
+abbrev pub IsMemoryTold : ℕ → Flow → Flow → Type 0
+IsMemoryTold status out err = IsSaid 7 memory_line status err out
+
 -- the text is printed to out, or no memory was found for it
 abbrev pub IsPrintedOr : ℕ → List ℕ → ℕ → Flow → Flow → Type 0
-IsPrintedOr wanted written status out err = IsSaid wanted written status out err ⊎ IsSaid 7 memory_line status err out
+IsPrintedOr wanted written status out err = IsSaid wanted written status out err ⊎ IsMemoryTold status out err
+
+-- the text is printed to err, or no memory was found for it
+abbrev pub IsWarnedOr : ℕ → List ℕ → ℕ → Flow → Flow → Type 0
+IsWarnedOr wanted written status out err = IsSaid wanted written status err out ⊎ IsMemoryTold status out err
 
 -- the first text is written to out, and then the second to err; where a write of the first failed, nothing more is written
 abbrev pub IsSaidThen : ℕ → List ℕ → List ℕ → ℕ → Flow → Flow → Type 0
 IsSaidThen wanted first second status out err =
     (IsCut first status out × IsSilent err) ⊎ (Appends out.taken out.taken' first × IsWritten wanted second status err)
+
+-- or no memory was found for the first
+abbrev pub IsSaidThenOr : ℕ → List ℕ → List ℕ → ℕ → Flow → Flow → Type 0
+IsSaidThenOr wanted first second status out err = IsSaidThen wanted first second status out err ⊎ IsMemoryTold status out err
 
 -- ---- the answers
 
@@ -76,8 +89,7 @@ answers_status answers = if list_all is_well answers then 0 else 1
 
 -- the answers are printed, and then why what is known was not kept; or no memory was found for the answers
 abbrev pub IsUnkeptTold : List Entry → List Answer → List ℕ → ℕ → Flow → Flow → Type 0
-IsUnkeptTold journal answers cause status out err =
-    IsSaidThen 6 (answer_lines journal 1 answers) cause status out err ⊎ IsSaid 7 memory_line status err out
+IsUnkeptTold journal answers cause status out err = IsSaidThenOr 6 (answer_lines journal 1 answers) cause status out err
 
 -- each task was answered, and what is known was kept or not
 abbrev pub IsDoneTold : List Entry → List Answer → KeptWritten → ℕ → Flow → Flow → Type 0
@@ -95,18 +107,22 @@ IsSetUpTold W.Fault status out err = IsSaidThen 6 (codes "initialized" ++ 10 ∷
 
 -- ---- the end
 
+abbrev pub IsEndTold : List Entry → List Answer → ℕ → Flow → Flow → End → Type 0
+IsEndTold journal answers status out err Usage = IsSaid 2 usage_line status err out
+IsEndTold journal answers status out err (Shown page) = IsSaid 0 (page_text page) status out err
+IsEndTold journal answers status out err (Refused line reason) = IsWarnedOr 3 (refused_line line reason) status out err
+IsEndTold journal answers status out err Memory = IsMemoryTold status out err
+IsEndTold journal answers status out err Answered = IsPrintedOr (answers_status answers) (answer_lines journal 1 answers) status out err
+IsEndTold journal answers status out err (Informed key) = IsPrintedOr (info_status journal key) (text (info_lines journal key)) status out err
+IsEndTold journal answers status out err (BadKept line) = IsWarnedOr 6 (bad_kept_line line) status out err
+IsEndTold journal answers status out err KeptTooLarge = IsSaid 6 keep_large_line status err out
+IsEndTold journal answers status out err FileFailed = IsSaid 6 file_line status err out
+IsEndTold journal answers status out err InputFailed = IsSaid 4 input_line status err out
+IsEndTold journal answers status out err (SetUp written) = IsSetUpTold written status out err
+IsEndTold journal answers status out err (Done written) = IsDoneTold journal answers written status out err
+IsEndTold journal answers status out err (NotSetUp answer) = IsPrintedOr 1 (setup_text journal (Stopped answer)) status out err
+IsEndTold journal answers status out err (Audited found) = IsPrintedOr (found_status found) (found_line found) status out err
+
+-- the same of what a command left
 abbrev pub IsToldOf : Left → ℕ → Flow → Flow → End → Type 0
-IsToldOf left status out err Usage = IsSaid 2 usage_line status err out
-IsToldOf left status out err (Shown page) = (written : List ℕ) × IsSaid 0 written status out err
-IsToldOf left status out err (Refused line reason) = (IsWritten 3 (refused_line line reason) status err ⊎ IsWritten 7 memory_line status err) × IsSilent out
-IsToldOf left status out err Memory = IsSaid 7 memory_line status err out
-IsToldOf left status out err Answered = IsPrintedOr (answers_status left.answers) (answer_lines left.journal 1 left.answers) status out err
-IsToldOf left status out err (Informed key) = IsPrintedOr (info_status left.journal key) (text (info_lines left.journal key)) status out err
-IsToldOf left status out err (BadKept line) = (IsWritten 6 (bad_kept_line line) status err ⊎ IsWritten 7 memory_line status err) × IsSilent out
-IsToldOf left status out err KeptTooLarge = IsSaid 6 keep_large_line status err out
-IsToldOf left status out err FileFailed = IsSaid 6 file_line status err out
-IsToldOf left status out err InputFailed = IsSaid 4 input_line status err out
-IsToldOf left status out err (SetUp written) = IsSetUpTold written status out err
-IsToldOf left status out err (Done written) = IsDoneTold left.journal left.answers written status out err
-IsToldOf left status out err (NotSetUp answer) = IsPrintedOr 1 (setup_text left.journal (Stopped answer)) status out err
-IsToldOf left status out err (Audited found) = IsPrintedOr (found_status found) (found_line found) status out err
+IsToldOf left status out err end = IsEndTold left.journal left.answers status out err end

@@ -1,8 +1,10 @@
 -- What the words ask for.
-use Rattle.std.specs.Prelude.{ℕ, List, Option, Some}
+use Rattle.std.specs.Prelude.{ℕ, List, Option, Some, IfSome}
 use Rattle.chunk_log.specs.ChunkLines.{IsWrittenUuid}
 use Rattle.cli_words.specs.declared.command.Command.{Command}
 use Rattle.cli_words.specs.declared.command.Command.TheVariants.{Init, Run}
+use Rattle.cli_words.specs.Identities.{IsFit}
+use Rattle.cli_words.specs.Ranges.{HasRanges}
 use Rattle.cli_words.specs.Words.{command_of}
 
 -- each command is taken up
@@ -14,3 +16,9 @@ abbrev pub HasWrittenUuid : Option Command → Type 0
 HasWrittenUuid (Some (Init words)) = IsWrittenUuid words.uuid
 HasWrittenUuid (Some (Run words)) = IsWrittenUuid words.uuid
 HasWrittenUuid command = Unit {0}
+
+-- what cli_words says of the words that it reads
+pub record AreRead (command : Option Command) : Type 0 where
+  pub fit : IfSome command IsFit
+  pub uuid : HasWrittenUuid command
+  pub ranges : IfSome command HasRanges

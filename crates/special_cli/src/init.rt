@@ -1,18 +1,15 @@
 // The command `init`: a remote is set up, and what it is set to is kept.
 mod asking;
 
-ghost use Rattle.std.specs.Prelude.{◌≡◌, ◌<◌, [], map, IfOk, Ok, vec_len, vec_capacity};
+ghost use Rattle.std.specs.Prelude.{◌≡◌, ◌<◌, [], map, IfOk, Ok, vec_capacity};
 ghost use Rattle.ann_outside.specs.Desks.{no_counts};
-ghost use Rattle.chunk_log.specs.ChunkLines.{IsWrittenUuid};
-ghost use Rattle.cli_words.specs.Identities.{IsFit};
-ghost use Rattle.cli_words.specs.declared.command.Command.TheVariants.{Init};
 ghost use Rattle.init_run.specs.Setups.{Begins};
 ghost use Rattle.special_cli.specs.declared.end.End.TheVariants.{Memory};
 ghost use Rattle.child_end.specs.Wires.{wire_value};
 ghost use Rattle.child_end.specs.Programs.{programs_value};
 ghost use Rattle.child_end.specs.Outsides.{table_value};
 ghost use Rattle.child_end.specs.Programs.{Leaves};
-ghost use Rattle.special_cli.specs.Setups.{EndsInit, EndsKeep, HasSetUp};
+ghost use Rattle.special_cli.specs.Setups.{AreSound, EndsInit, EndsKeep, HasSetUp};
 
 use crate::end::End;
 use crate::outside::Outside;
@@ -43,8 +40,7 @@ struct Made {
 }
 
 fn nothing_made(alloc: Global, end: End) -> Made
-    ensures journal { result.journal.entries ≡ [] }
-    ensures end { result.end ≡ end }
+    ensures { (result.journal.entries ≡ []) × (result.end ≡ end) }
 {
     Made {
         journal: Journal::new(alloc),
@@ -57,8 +53,7 @@ where
     P::Inlet: Drop,
     P::Outlet: Drop,
     K::Desk: Drop,
-    ensures none { IfOk result (λ r. (r.wires.items ≡ []) × (r.tables.items ≡ [])) }
-    ensures room { IfOk result (λ r. (vec_len r.wires < vec_capacity r.wires) × (vec_len r.tables < vec_capacity r.tables)) }
+    ensures { IfOk result (λ r. (r.wires.items ≡ []) × (0 < vec_capacity r.wires) × (r.tables.items ≡ []) × (0 < vec_capacity r.tables)) }
 {
     let wires = Vec::with_capacity(alloc, 1)?;
     let tables = Vec::with_capacity(alloc, 1)?;
@@ -75,8 +70,7 @@ where
     P::Inlet: Drop,
     P::Outlet: Drop,
     K::Desk: Drop,
-    requires fit { IsFit (Init words.now) }
-    requires uuid { IsWrittenUuid words.now.uuid }
+    requires words { AreSound words.now }
     ensures { HasSetUp words.now outside result }
 {
     match take_room(alloc) {
@@ -96,10 +90,8 @@ where
     P::Inlet: Drop,
     P::Outlet: Drop,
     K::Desk: Drop,
-    requires fit { IsFit (Init words.now) }
-    requires uuid { IsWrittenUuid words.now.uuid }
-    requires none { (room.wires.items ≡ []) × (room.tables.items ≡ []) }
-    requires room { (vec_len room.wires < vec_capacity room.wires) × (vec_len room.tables < vec_capacity room.tables) }
+    requires words { AreSound words.now }
+    requires room { (room.wires.items ≡ []) × (0 < vec_capacity room.wires) × (room.tables.items ≡ []) × (0 < vec_capacity room.tables) }
     ensures { HasSetUp words.now outside result }
 {
     let Outside {
@@ -136,11 +128,9 @@ fn set_up<P: Programs, D: Desk>(
 where
     P::Inlet: Drop,
     P::Outlet: Drop,
-    requires fit { IsFit (Init words.now) }
-    requires uuid { IsWrittenUuid words.now.uuid }
+    requires words { AreSound words.now }
     requires fresh { D.counts desk.old ≡ no_counts }
-    requires room { vec_len wires.old < vec_capacity wires.old }
-    requires none { wires.old.items ≡ [] }
+    requires room { (wires.old.items ≡ []) × (0 < vec_capacity wires.old) }
     ensures ends { EndsInit words.now (D.files desk.old) (table_value D.counts D.files D.log desk.new) result.journal.entries result.end }
     ensures leaves { Leaves (result.end ≡ Memory) words.now.program result.journal.entries (programs_value (P.starts programs.old) (P.faults programs.old)) (programs_value (P.starts programs.new) (P.faults programs.new)) (map (wire_value P.Inlet.taken P.Inlet.faults P.Inlet.number P.Inlet.is_open P.Outlet.given P.Outlet.left P.Outlet.faults P.Outlet.number P.Outlet.is_open) wires.new.items) }
 {
@@ -165,11 +155,9 @@ fn run<P: Programs, D: Desk>(
 where
     P::Inlet: Drop,
     P::Outlet: Drop,
-    requires fit { IsFit (Init words.now) }
-    requires uuid { IsWrittenUuid words.now.uuid }
+    requires words { AreSound words.now }
     requires begins { Begins words.now (D.files desk.old) (Ok (Begun.Ready opening)) }
-    requires room { vec_len wires.old < vec_capacity wires.old }
-    requires none { wires.old.items ≡ [] }
+    requires room { (wires.old.items ≡ []) × (0 < vec_capacity wires.old) }
     ensures ends { EndsInit words.now (D.files desk.old) (table_value D.counts D.files D.log desk.new) result.journal.entries result.end }
     ensures leaves { Leaves (result.end ≡ Memory) words.now.program result.journal.entries (programs_value (P.starts programs.old) (P.faults programs.old)) (programs_value (P.starts programs.new) (P.faults programs.new)) (map (wire_value P.Inlet.taken P.Inlet.faults P.Inlet.number P.Inlet.is_open P.Outlet.given P.Outlet.left P.Outlet.faults P.Outlet.number P.Outlet.is_open) wires.new.items) }
 {

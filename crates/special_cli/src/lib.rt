@@ -2,18 +2,17 @@
 #![tactic(auto)]
 
 mod audit;
-pub mod audit_laws;
 mod check;
 mod closing;
 mod end;
 mod info;
-pub mod info_laws;
 mod init;
-pub mod laws;
+mod meeting;
 mod openings;
 mod outside;
 mod ran;
 mod run;
+mod saying;
 mod telling;
 mod top;
 

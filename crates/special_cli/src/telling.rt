@@ -1,27 +1,23 @@
-// The end of every command: the one place that knows which text goes where, with which status, and what a write that fails
-// makes of it.
-ghost use Rattle.std.specs.Prelude.{◌≡◌, ◌⊎◌, ◌≤◌, ◌++◌, ◌∷◌, [], codes, true, length, IfOk, option_map};
+// The end of every command: the one place that knows which text goes where, with which status.
+ghost use Rattle.std.specs.Prelude.{◌≡◌, ◌≤◌, ◌++◌, ◌∷◌, [], codes, true, length, IfOk, option_map};
 ghost use Rattle.std.specs.List.{list_all};
 ghost use Rattle.ann_key.specs.KeyRefs.{text_of};
-ghost use Rattle.annex_model.specs.Lines.{text};
-ghost use Rattle.info_run.specs.Infos.{info_lines};
 ghost use Rattle.init_run.specs.Setups.{setup_text};
 ghost use Rattle.init_run.specs.declared.setup.Setup.TheVariants.{Stopped};
 ghost use Rattle.special_cli.specs.Audits.{found_line, found_status};
 ghost use Rattle.special_cli.specs.Endings.{is_well};
 ghost use Rattle.special_cli.specs.Informs.{info_status};
-ghost use Rattle.special_cli.specs.Tells.{flow, IsWritten, IsPrintedOr, IsSaidThen, IsDoneTold, IsSetUpTold, IsToldOf, IsUnkeptTold, answer_lines, answers_status};
-ghost use Rattle.cli_words.specs.Texts.{memory_line, refused_line, bad_kept_line};
+ghost use Rattle.special_cli.specs.Sayings.{Says, SaysEnd};
+ghost use Rattle.special_cli.specs.declared.end.End.TheVariants.{Informed};
+ghost use Rattle.special_cli.specs.Tells.{flow, IsDoneTold, IsSetUpTold, IsToldOf, answer_lines, answers_status};
 
 use crate::closing::Closing;
 use crate::end::End;
 use crate::ran::Ran;
+use crate::saying::{Saying, Words};
 use ann_key::{Bytes, Key, KeyRef, NoMemory};
-use ann_outside::{Desks, Failed, Programs, Sink, write_all};
-use cli_words::{
-    Reason, bad_kept_line, file_line, input_line, keep_large_line, memory_line, refused_line,
-    usage_line,
-};
+use ann_outside::{Desks, Programs, Sink};
+use cli_words::{bad_kept_line, file_line, input_line, keep_large_line, refused_line, usage_line};
 use info_run::{is_informed, print_info};
 use journal_audit::Audit;
 use journal_look::Journal;
@@ -37,122 +33,49 @@ pub(crate) fn tell<P: Programs, K: Desks, O: Sink, E: Sink>(
     out: &mut O,
     err: &mut E,
 ) -> Closing<P, K>
-    requires out { O.is_open out.old ≡ true }
-    requires err { E.is_open err.old ≡ true }
+    requires open { (O.is_open out.old ≡ true) × (E.is_open err.old ≡ true) }
     requires few { length ran.left.answers ≤ 65536 }
     ensures left { result.left ≡ ran.left }
     ensures told { IsToldOf ran.left result.status (flow (O.faults out.old) (O.faults out.new) (O.taken out.old) (O.taken out.new)) (flow (E.faults err.old) (E.faults err.new) (E.taken err.old) (E.taken err.new)) ran.end }
 {
-    let status = told(alloc, &ran, out, err);
+    let saying = saying_of(alloc, &ran.end, &ran.journal, &ran.answers);
+    let status = saying.say(out, err);
     ran.close(status)
 }
 
-// Tells it, and answers the status.
-fn told<P: Programs, K: Desks, O: Sink, E: Sink>(
-    alloc: Global,
-    ran: &Ran<P, K>,
-    out: &mut O,
-    err: &mut E,
-) -> u8
-    requires out { O.is_open out.old ≡ true }
-    requires err { E.is_open err.old ≡ true }
-    requires few { length ran.now.left.answers ≤ 65536 }
-    ensures { IsToldOf ran.now.left result (flow (O.faults out.old) (O.faults out.new) (O.taken out.old) (O.taken out.new)) (flow (E.faults err.old) (E.faults err.new) (E.taken err.old) (E.taken err.new)) ran.now.end }
-{
-    match &ran.end {
-        End::Usage => write(err, usage_line(), 2),
-        End::Shown(page) => write(out, page.text().as_bytes(), 0),
-        End::Refused { line, reason } => tell_refused(alloc, *line, *reason, err),
-        End::Memory => write(err, memory_line(), 7),
-        End::Answered => tell_answers(alloc, &ran.journal, &ran.answers, out, err),
-        End::Informed(key) => tell_info(alloc, &ran.journal, lent(key), out, err),
-        End::BadKept(line) => tell_bad_kept(alloc, *line, err),
-        End::KeptTooLarge => write(err, keep_large_line(), 6),
-        End::FileFailed => write(err, file_line(), 6),
-        End::InputFailed => write(err, input_line(), 4),
-        End::SetUp(written) => tell_set_up(*written, out, err),
-        End::Done(written) => tell_done(alloc, &ran.journal, &ran.answers, *written, out, err),
-        End::NotSetUp(answer) => tell_not_set_up(alloc, &ran.journal, answer, out, err),
-        End::Audited(found) => tell_found(alloc, *found, out, err),
-    }
-}
-
-// Writes a text; the status is this one, or 5 where a write fails.
-fn write<S: Sink>(sink: &mut S, text: &[u8], status: u8) -> u8
-    requires { S.is_open sink.old ≡ true }
-    ensures { IsWritten status text.now result (flow (S.faults sink.old) (S.faults sink.new) (S.taken sink.old) (S.taken sink.new)) }
-{
-    match write_all(sink, text) {
-        Ok(()) => status,
-        Err(Failed) => 5,
-    }
-}
-
-fn tell_refused<E: Sink>(alloc: Global, line: u64, reason: Reason, err: &mut E) -> u8
-    requires { E.is_open err.old ≡ true }
-    ensures { IsWritten 3 (refused_line line reason) result (flow (E.faults err.old) (E.faults err.new) (E.taken err.old) (E.taken err.new)) ⊎ IsWritten 7 memory_line result (flow (E.faults err.old) (E.faults err.new) (E.taken err.old) (E.taken err.new)) }
-{
-    match refused_line(alloc, line, reason) {
-        Ok(text) => write(err, text.view(), 3),
-        Err(NoMemory) => write(err, memory_line(), 7),
-    }
-}
-
-fn tell_answers<O: Sink, E: Sink>(
-    alloc: Global,
-    journal: &Journal,
-    answers: &[Answer],
-    out: &mut O,
-    err: &mut E,
-) -> u8
-    requires out { O.is_open out.old ≡ true }
-    requires err { E.is_open err.old ≡ true }
+// What is said of an end.
+fn saying_of(alloc: Global, end: &End, journal: &Journal, answers: &[Answer]) -> Saying
     requires few { length answers.now ≤ 65536 }
-    ensures { IsPrintedOr (answers_status answers.now) (answer_lines journal.now.entries 1 answers.now) result (flow (O.faults out.old) (O.faults out.new) (O.taken out.old) (O.taken out.new)) (flow (E.faults err.old) (E.faults err.new) (E.taken err.old) (E.taken err.new)) }
+    ensures { SaysEnd journal.now.entries answers.now end.now result }
 {
-    match print_answers(alloc, journal, answers) {
-        Ok(lines) => write(out, lines.view(), answers_status(answers)),
-        Err(NoMemory) => write(err, memory_line(), 7),
+    match end {
+        End::Usage => Saying::OnErr(Words::Fixed(usage_line()), 2),
+        End::Shown(page) => Saying::OnOut(Words::Fixed(page.text().as_bytes()), 0),
+        End::Refused { line, reason } => Saying::on_err(refused_line(alloc, *line, *reason), 3),
+        End::Memory => Saying::no_memory(),
+        End::Answered => done_saying(alloc, journal, answers, KeptWritten::Done),
+        End::Informed(key) => info_saying(alloc, journal, key),
+        End::BadKept(line) => Saying::on_err(bad_kept_line(alloc, *line), 6),
+        End::KeptTooLarge => Saying::OnErr(Words::Fixed(keep_large_line()), 6),
+        End::FileFailed => Saying::OnErr(Words::Fixed(file_line()), 6),
+        End::InputFailed => Saying::OnErr(Words::Fixed(input_line()), 4),
+        End::SetUp(written) => set_up_saying(*written),
+        End::Done(written) => done_saying(alloc, journal, answers, *written),
+        End::NotSetUp(answer) => Saying::on_out(print_line(alloc, answer, journal), 1),
+        End::Audited(found) => Saying::on_out(found_line(alloc, *found), found_status(*found)),
     }
 }
 
-fn tell_done<O: Sink, E: Sink>(
-    alloc: Global,
-    journal: &Journal,
-    answers: &[Answer],
-    written: KeptWritten,
-    out: &mut O,
-    err: &mut E,
-) -> u8
-    requires out { O.is_open out.old ≡ true }
-    requires err { E.is_open err.old ≡ true }
+// The answers are printed, also where what is known was not kept.
+fn done_saying(alloc: Global, journal: &Journal, answers: &[Answer], written: KeptWritten) -> Saying
     requires few { length answers.now ≤ 65536 }
-    ensures { IsDoneTold journal.now.entries answers.now written result (flow (O.faults out.old) (O.faults out.new) (O.taken out.old) (O.taken out.new)) (flow (E.faults err.old) (E.faults err.new) (E.taken err.old) (E.taken err.new)) }
+    ensures { Says result (IsDoneTold journal.now.entries answers.now written) }
 {
+    let lines = print_answers(alloc, journal, answers);
     match written {
-        KeptWritten::Done => tell_answers(alloc, journal, answers, out, err),
-        KeptWritten::TooLarge => tell_unkept(alloc, journal, answers, keep_large_line(), out, err),
-        KeptWritten::Fault => tell_unkept(alloc, journal, answers, file_line(), out, err),
-    }
-}
-
-// The answers are printed though what is known was not kept.
-fn tell_unkept<O: Sink, E: Sink>(
-    alloc: Global,
-    journal: &Journal,
-    answers: &[Answer],
-    cause: &[u8],
-    out: &mut O,
-    err: &mut E,
-) -> u8
-    requires out { O.is_open out.old ≡ true }
-    requires err { E.is_open err.old ≡ true }
-    requires few { length answers.now ≤ 65536 }
-    ensures { IsUnkeptTold journal.now.entries answers.now cause.now result (flow (O.faults out.old) (O.faults out.new) (O.taken out.old) (O.taken out.new)) (flow (E.faults err.old) (E.faults err.new) (E.taken err.old) (E.taken err.new)) }
-{
-    match print_answers(alloc, journal, answers) {
-        Ok(lines) => write_then(out, lines.view(), err, cause, 6),
-        Err(NoMemory) => write(err, memory_line(), 7),
+        KeptWritten::Done => Saying::on_out(lines, answers_status(answers)),
+        KeptWritten::TooLarge => Saying::on_both(lines, keep_large_line(), 6),
+        KeptWritten::Fault => Saying::on_both(lines, file_line(), 6),
     }
 }
 
@@ -200,21 +123,11 @@ fn lent(key: &Option<Key>) -> Option<KeyRef<'_>>
     }
 }
 
-fn tell_info<O: Sink, E: Sink>(
-    alloc: Global,
-    journal: &Journal,
-    key: Option<KeyRef<'_>>,
-    out: &mut O,
-    err: &mut E,
-) -> u8
-    requires out { O.is_open out.old ≡ true }
-    requires err { E.is_open err.old ≡ true }
-    ensures { IsPrintedOr (info_status journal.now.entries (option_map text_of key.entry)) (text (info_lines journal.now.entries (option_map text_of key.entry))) result (flow (O.faults out.old) (O.faults out.new) (O.taken out.old) (O.taken out.new)) (flow (E.faults err.old) (E.faults err.new) (E.taken err.old) (E.taken err.new)) }
+fn info_saying(alloc: Global, journal: &Journal, key: &Option<Key>) -> Saying
+    ensures { SaysEnd journal.now.entries [] (Informed key.now) result }
 {
-    match print_info(alloc, journal, key) {
-        Ok(lines) => write(out, lines.view(), info_status(journal, key)),
-        Err(NoMemory) => write(err, memory_line(), 7),
-    }
+    let key = lent(key);
+    Saying::on_out(print_info(alloc, journal, key), info_status(journal, key))
 }
 
 fn info_status(journal: &Journal, key: Option<KeyRef<'_>>) -> u8
@@ -223,50 +136,20 @@ fn info_status(journal: &Journal, key: Option<KeyRef<'_>>) -> u8
     if is_informed(journal, key) { 0 } else { 1 }
 }
 
-// Writes a text to one sink, and then another one to the other.
-fn write_then<O: Sink, E: Sink>(
-    out: &mut O,
-    first: &[u8],
-    err: &mut E,
-    second: &[u8],
-    status: u8,
-) -> u8
-    requires out { O.is_open out.old ≡ true }
-    requires err { E.is_open err.old ≡ true }
-    ensures { IsSaidThen status first.now second.now result (flow (O.faults out.old) (O.faults out.new) (O.taken out.old) (O.taken out.new)) (flow (E.faults err.old) (E.faults err.new) (E.taken err.old) (E.taken err.new)) }
-{
-    match write_all(out, first) {
-        Ok(()) => write(err, second, status),
-        Err(Failed) => 5,
-    }
-}
-
-fn tell_bad_kept<E: Sink>(alloc: Global, line: u64, err: &mut E) -> u8
-    requires { E.is_open err.old ≡ true }
-    ensures { IsWritten 6 (bad_kept_line line) result (flow (E.faults err.old) (E.faults err.new) (E.taken err.old) (E.taken err.new)) ⊎ IsWritten 7 memory_line result (flow (E.faults err.old) (E.faults err.new) (E.taken err.old) (E.taken err.new)) }
-{
-    match bad_kept_line(alloc, line) {
-        Ok(text) => write(err, text.view(), 6),
-        Err(NoMemory) => write(err, memory_line(), 7),
-    }
-}
-
 fn initialized_line() -> &'static [u8]
     ensures { result.now ≡ codes "initialized" ++ 10 ∷ [] }
 {
     b"initialized\n"
 }
 
-fn tell_set_up<O: Sink, E: Sink>(written: KeptWritten, out: &mut O, err: &mut E) -> u8
-    requires out { O.is_open out.old ≡ true }
-    requires err { E.is_open err.old ≡ true }
-    ensures { IsSetUpTold written result (flow (O.faults out.old) (O.faults out.new) (O.taken out.old) (O.taken out.new)) (flow (E.faults err.old) (E.faults err.new) (E.taken err.old) (E.taken err.new)) }
+fn set_up_saying(written: KeptWritten) -> Saying
+    ensures { Says result (IsSetUpTold written) }
 {
-    let line = initialized_line();
+    let line = Words::Fixed(initialized_line());
     match written {
-        KeptWritten::Done => write(out, line, 0),
-        KeptWritten::TooLarge => write_then(out, line, err, keep_large_line(), 6),
-        KeptWritten::Fault => write_then(out, line, err, file_line(), 6),
+        KeptWritten::Done => Saying::OnOut(line, 0),
+        KeptWritten::TooLarge => Saying::OnBoth(line, keep_large_line(), 6),
+        KeptWritten::Fault => Saying::OnBoth(line, file_line(), 6),
     }
 }
 
@@ -277,23 +160,6 @@ fn print_line(alloc: Global, answer: &Answer, journal: &Journal) -> Result<Bytes
     let mut text = print_words(alloc, answer, journal)?.into_vec();
     text.push(b'\n')?;
     Ok(Bytes::from_vec(text))
-}
-
-fn tell_not_set_up<O: Sink, E: Sink>(
-    alloc: Global,
-    journal: &Journal,
-    answer: &Answer,
-    out: &mut O,
-    err: &mut E,
-) -> u8
-    requires out { O.is_open out.old ≡ true }
-    requires err { E.is_open err.old ≡ true }
-    ensures { IsPrintedOr 1 (setup_text journal.now.entries (Stopped answer.now)) result (flow (O.faults out.old) (O.faults out.new) (O.taken out.old) (O.taken out.new)) (flow (E.faults err.old) (E.faults err.new) (E.taken err.old) (E.taken err.new)) }
-{
-    match print_line(alloc, answer, journal) {
-        Ok(line) => write(out, line.view(), 1),
-        Err(NoMemory) => write(err, memory_line(), 7),
-    }
 }
 
 // What was found of a journal, as a line.
@@ -315,16 +181,5 @@ fn found_status(found: Audit) -> u8
     match found {
         Audit::Legal => 0,
         Audit::Wrong { .. } => 1,
-    }
-}
-
-fn tell_found<O: Sink, E: Sink>(alloc: Global, found: Audit, out: &mut O, err: &mut E) -> u8
-    requires out { O.is_open out.old ≡ true }
-    requires err { E.is_open err.old ≡ true }
-    ensures { IsPrintedOr (found_status found) (found_line found) result (flow (O.faults out.old) (O.faults out.new) (O.taken out.old) (O.taken out.new)) (flow (E.faults err.old) (E.faults err.new) (E.taken err.old) (E.taken err.new)) }
-{
-    match found_line(alloc, found) {
-        Ok(line) => write(out, line.view(), found_status(found)),
-        Err(NoMemory) => write(err, memory_line(), 7),
     }
 }

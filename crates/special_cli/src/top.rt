@@ -1,22 +1,11 @@
-ghost use Rattle.std.specs.Prelude.{◌≡◌, ◌⊎◌, [], Some, None, IfSome, IsSome, true};
-ghost use Rattle.journal_model.specs.Journal.{any};
-ghost use Rattle.ann_outside.specs.Causes.{Rose};
-ghost use Rattle.special_cli.specs.Calls.{IsAuditCalled, IsInitCalled, IsRunCalled};
+ghost use Rattle.std.specs.Prelude.{◌≡◌, true};
+ghost use Rattle.cli_words.specs.Values.{texts_of};
+ghost use Rattle.child_end.specs.Programs.{programs_value};
+ghost use Rattle.run_tasks.specs.Inputs.{input_flow};
+ghost use Rattle.special_cli.specs.Calls.{IsCalled, IsDone};
 ghost use Rattle.special_cli.specs.Commands.{Runs};
 ghost use Rattle.special_cli.specs.Tells.{flow};
-ghost use Rattle.special_cli.specs.Wishes.{wish_of, HasWrittenUuid};
-ghost use Rattle.cli_words.specs.Identities.{IsFit};
-ghost use Rattle.cli_words.specs.Ranges.{HasRanges};
-ghost use Rattle.cli_words.specs.declared.command.Command.TheVariants.{Audit};
-ghost use Rattle.run_tasks.specs.Inputs.{input_flow};
-ghost use Rattle.cli_words.specs.Values.{texts_of};
-ghost use Rattle.special_cli.specs.Endings.{refused_in, check_in, info_in, init_in, run_in, tasks_in, IsChecked, IsTold, LacksMemory};
-ghost use Rattle.special_cli.specs.Informs.{IsInformed, IsInfoTold};
-ghost use Rattle.child_end.specs.Programs.{programs_value};
-ghost use Rattle.special_cli.specs.Left.{IsIdle};
-ghost use Rattle.child_end.specs.Wires.{AreWires, came};
-ghost use Rattle.child_end.specs.Programs.{HaveStarted, is_failed_start};
-ghost use Rattle.child_end.specs.Outsides.{HaveMade};
+ghost use Rattle.special_cli.specs.Wishes.{wish_of, AreRead};
 
 use crate::audit::audit;
 use crate::check::check;
@@ -54,26 +43,9 @@ where
     P::Inlet: Drop,
     P::Outlet: Drop,
     K::Desk: Drop,
-    requires input { I.is_open input.old ≡ true }
-    requires out { O.is_open out.old ≡ true }
-    requires err { E.is_open err.old ≡ true }
-    ensures usage { result.status ≡ 2 → wish_of (texts_of words.now) ≡ None }
-    ensures words { wish_of (texts_of words.now) ≡ None → (result.status ≡ 2) ⊎ (result.status ≡ 5) ⊎ (result.status ≡ 7) }
-    ensures refused { result.status ≡ 3 → IsSome (refused_in (wish_of (texts_of words.now))) ⊎ IsSome (tasks_in (wish_of (texts_of words.now))) ⊎ (wish_of (texts_of words.now) ≡ Some Audit) }
-    ensures key { IsSome (refused_in (wish_of (texts_of words.now))) → (result.status ≡ 3) ⊎ (result.status ≡ 5) ⊎ (result.status ≡ 7) }
-    ensures early { run_in (wish_of (texts_of words.now)) ≡ None → IsIdle (record { programs = programs_value (P.starts programs) (P.faults programs); made = K.made desks }) result.left }
-    ensures output { result.status ≡ 5 → Rose (O.faults out.old) (O.faults out.new) ⊎ Rose (E.faults err.old) (E.faults err.new) }
-    ensures checked { IfSome (check_in (wish_of (texts_of words.now))) (λ c. IsChecked (C.answer clock.old) c.1 result.left.journal) }
-    ensures told { IfSome (check_in (wish_of (texts_of words.now))) (λ c. IsTold result.status (Rose (E.faults err.old) (E.faults err.new)) (O.taken out.old) (O.taken out.new) result.left.journal result.left.answers) }
-    ensures informed { IfSome (info_in (wish_of (texts_of words.now))) (λ c. IsInformed c.1 result.left.journal) }
-    ensures info_told { IfSome (info_in (wish_of (texts_of words.now))) (λ c. IsInfoTold result.status (O.taken out.old) (O.taken out.new) c.1 result.left.journal × (result.left.answers ≡ [])) }
-    ensures init { IfSome (init_in (wish_of (texts_of words.now))) (λ w. IsInitCalled w (record { programs = programs_value (P.starts programs) (P.faults programs); made = K.made desks }) result.status (flow (O.faults out.old) (O.faults out.new) (O.taken out.old) (O.taken out.new)) (flow (E.faults err.old) (E.faults err.new) (E.taken err.old) (E.taken err.new)) result.left) }
-    ensures run { IfSome (tasks_in (wish_of (texts_of words.now))) (λ w. IsRunCalled w (C.answer clock.old) (record { programs = programs_value (P.starts programs) (P.faults programs); made = K.made desks }) (input_flow (I.given input.old) (I.given input.new) (I.left input.old) (I.left input.new) (I.faults input.old) (I.faults input.new)) result.status (flow (O.faults out.old) (O.faults out.new) (O.taken out.old) (O.taken out.new)) (flow (E.faults err.old) (E.faults err.new) (E.taken err.old) (E.taken err.new)) result.left) }
-    ensures audit { wish_of (texts_of words.now) ≡ Some Audit → IsAuditCalled (record { programs = programs_value (P.starts programs) (P.faults programs); made = K.made desks }) (input_flow (I.given input.old) (I.given input.new) (I.left input.old) (I.left input.new) (I.faults input.old) (I.faults input.new)) result.status (flow (O.faults out.old) (O.faults out.new) (O.taken out.old) (O.taken out.new)) (flow (E.faults err.old) (E.faults err.new) (E.taken err.old) (E.taken err.new)) result.left }
-    ensures wires { IfSome (run_in (wish_of (texts_of words.now))) (λ program. AreWires (P.starts programs) result.left.journal 0 (came result.left.journal) result.left.wires) }
-    ensures starts { IfSome (run_in (wish_of (texts_of words.now))) (λ program. HaveStarted (LacksMemory result.status (Rose (E.faults err.old) (E.faults err.new))) program result.left.journal (P.starts programs) result.left.outside.programs.starts) }
-    ensures fault { IfSome (run_in (wish_of (texts_of words.now))) (λ program. any is_failed_start result.left.journal ≡ true → Rose (P.faults programs) result.left.outside.programs.faults) }
-    ensures desks { HaveMade (K.made desks) result.left.outside.made result.left.tables }
+    requires open { (I.is_open input.old ≡ true) × (O.is_open out.old ≡ true) × (E.is_open err.old ≡ true) }
+    ensures done { IsDone (C.answer clock.old) (record { programs = programs_value (P.starts programs) (P.faults programs); made = K.made desks }) (input_flow (I.given input.old) (I.given input.new) (I.left input.old) (I.left input.new) (I.faults input.old) (I.faults input.new)) (wish_of (texts_of words.now)) (flow (O.faults out.old) (O.faults out.new) (O.taken out.old) (O.taken out.new)) (flow (E.faults err.old) (E.faults err.new) (E.taken err.old) (E.taken err.new)) result.status result.left }
+    ensures called { IsCalled (C.answer clock.old) (record { programs = programs_value (P.starts programs) (P.faults programs); made = K.made desks }) (input_flow (I.given input.old) (I.given input.new) (I.left input.old) (I.left input.new) (I.faults input.old) (I.faults input.new)) (wish_of (texts_of words.now)) (flow (O.faults out.old) (O.faults out.new) (O.taken out.old) (O.taken out.new)) (flow (E.faults err.old) (E.faults err.new) (E.taken err.old) (E.taken err.new)) result.status result.left }
 {
     let outside = Outside { programs, desks };
     let ran = do_words(alloc, words, outside, input, clock);
@@ -113,9 +85,7 @@ where
     P::Inlet: Drop,
     P::Outlet: Drop,
     K::Desk: Drop,
-    requires fit { IfSome command.now IsFit }
-    requires uuid { HasWrittenUuid command.now }
-    requires ranges { IfSome command.now HasRanges }
+    requires words { AreRead command.now }
     requires input { I.is_open input.old ≡ true }
     ensures { Runs (C.answer clock.old) outside (input_flow (I.given input.old) (I.given input.new) (I.left input.old) (I.left input.new) (I.faults input.old) (I.faults input.new)) command.now result }
 {

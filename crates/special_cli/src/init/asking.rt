@@ -1,39 +1,23 @@
 // One start of the program, and what its child says of being set up.
-ghost use Rattle.std.specs.Prelude.{◌≡◌, ◌<◌, [], Some, map, IfOk, IsErr, vec_len, vec_capacity};
-ghost use Rattle.ann_outside.specs.Causes.{Rose};
-ghost use Rattle.journal_model.specs.Legality.{Legal};
-ghost use Rattle.link_roles.specs.Writings.{LoneWired};
+ghost use Rattle.std.specs.Prelude.{◌≡◌, ◌<◌, [], Some, map, IfOk, IsErr, vec_capacity};
 ghost use Rattle.child_start.specs.Cores.{IsSameCore};
-ghost use Rattle.child_start.specs.Greetings.{AreNumbered};
 ghost use Rattle.init_run.specs.Setups.{outcome_of};
 ghost use Rattle.child_end.specs.Wires.{wire_value};
 ghost use Rattle.child_end.specs.Programs.{programs_value};
 ghost use Rattle.child_end.specs.Programs.{Leaves};
-ghost use Rattle.special_cli.specs.Setups.{IsSetup, Talked, IfTalked, TalkStarts};
+ghost use Rattle.special_cli.specs.Setups.{IsSetup, IsTalked};
+ghost use Rattle.special_cli.specs.Meetings.{Met};
 
+use crate::meeting::Meeting;
 use ann_key::NoMemory;
-use ann_outside::{Programs, Sink, Source};
+use ann_outside::Programs;
 use child_end::{close_child, finish};
 use child_start::{Greeting, Mode, greet};
 use host_core::Core;
 use init_run::{Setup, setup_for};
 use journal_model::Answer;
-use link_roles::{Lone, Wire};
+use link_roles::Wire;
 use std::alloc::Global;
-
-// What became of a child that was to set the remote up.
-enum Talk<I: Sink, O: Source, S> {
-    // It came to this.
-    Over {
-        link: Lone<I, O>,
-        stub: S,
-        setup: Setup,
-    },
-    // The program couldn't be started.
-    StartFault,
-    // No memory was found before anything was noted.
-    NoMemory,
-}
 
 // Starts the program, and asks its child to set the remote up.
 fn hold_talk<P: Programs>(
@@ -41,17 +25,12 @@ fn hold_talk<P: Programs>(
     program: &str,
     programs: &mut P,
     core: &mut Core,
-) -> Talk<P::Inlet, P::Outlet, P::Stub>
+) -> Meeting<P::Inlet, P::Outlet, P::Stub, Setup>
 where
     P::Inlet: Drop,
     P::Outlet: Drop,
     requires empty { core.old.journal ≡ [] }
-    requires legal { Legal core.old.opening core.old.journal }
-    ensures talked { Talked core.new.journal result }
-    ensures wired { IfTalked (LoneWired core.new.journal) result }
-    ensures numbers { IfTalked (AreNumbered (P.starts programs.new)) result }
-    ensures starts { TalkStarts (P.starts programs.old) (P.starts programs.new) program.now result }
-    ensures fault { result ≡ Talk.StartFault → Rose (P.faults programs.old) (P.faults programs.new) }
+    ensures met { Met (IsTalked core.new.journal) core.new.journal (programs_value (P.starts programs.old) (P.faults programs.old)) (programs_value (P.starts programs.new) (P.faults programs.new)) program.now result }
     ensures core { IsSameCore core.old core.new }
 {
     match greet(alloc, programs, program, core, 0, false, Mode::Init) {
@@ -59,32 +38,32 @@ where
             link,
             stub,
             tagged: _,
-        } => Talk::Over {
+        } => Meeting::Over {
             link,
             stub,
-            setup: Setup::Initialized,
+            came: Setup::Initialized,
         },
         Greeting::Refused {
             verdict,
             link,
             stub,
-        } => Talk::Over {
+        } => Meeting::Over {
             link,
             stub,
-            setup: setup_for(verdict),
+            came: setup_for(verdict),
         },
-        Greeting::Ended { why, link, stub } => Talk::Over {
+        Greeting::Ended { why, link, stub } => Meeting::Over {
             link,
             stub,
-            setup: Setup::Stopped(Answer::Ended { why }),
+            came: Setup::Stopped(Answer::Ended { why }),
         },
-        Greeting::Unsent { link, stub } => Talk::Over {
+        Greeting::Unsent { link, stub } => Meeting::Over {
             link,
             stub,
-            setup: Setup::Stopped(Answer::Unsent),
+            came: Setup::Stopped(Answer::Unsent),
         },
-        Greeting::StartFault => Talk::StartFault,
-        Greeting::NoMemory => Talk::NoMemory,
+        Greeting::StartFault => Meeting::StartFault,
+        Greeting::NoMemory => Meeting::NoMemory,
     }
 }
 
@@ -100,21 +79,19 @@ where
     P::Inlet: Drop,
     P::Outlet: Drop,
     requires empty { core.old.journal ≡ [] }
-    requires legal { Legal core.old.opening core.old.journal }
-    requires room { vec_len wires.old < vec_capacity wires.old }
-    requires none { wires.old.items ≡ [] }
+    requires room { (wires.old.items ≡ []) × (0 < vec_capacity wires.old) }
     ensures asked { IsSetup core.new.journal }
     ensures outcome { IfOk result (λ setup. outcome_of core.new.journal ≡ Some setup) }
     ensures leaves { Leaves (IsErr result) program.now core.new.journal (programs_value (P.starts programs.old) (P.faults programs.old)) (programs_value (P.starts programs.new) (P.faults programs.new)) (map (wire_value P.Inlet.taken P.Inlet.faults P.Inlet.number P.Inlet.is_open P.Outlet.given P.Outlet.left P.Outlet.faults P.Outlet.number P.Outlet.is_open) wires.new.items) }
     ensures core { IsSameCore core.old core.new }
 {
     match hold_talk(alloc, program, programs, core) {
-        Talk::Over { link, stub, setup } => {
+        Meeting::Over { link, stub, came } => {
             close_child(&link, core);
             finish(programs, link, stub, wires);
-            Ok(setup)
+            Ok(came)
         }
-        Talk::StartFault => Ok(Setup::Stopped(Answer::StartFault)),
-        Talk::NoMemory => Err(NoMemory),
+        Meeting::StartFault => Ok(Setup::Stopped(Answer::StartFault)),
+        Meeting::NoMemory => Err(NoMemory),
     }
 }

@@ -9,7 +9,7 @@ pub returns : goal.returns
 returns g c = inr record {
   told = g.K.Desk.Desk.files c.in-Ok.desk;
   table = table_value g.K.Desk.Desk.counts g.K.Desk.Desk.files g.K.Desk.Desk.log c.set_up-made.new.desk;
-  tables = ap (map (table_value g.K.Desk.Desk.counts g.K.Desk.Desk.files g.K.Desk.Desk.log)) (c.push_reserved.ensures.items ∙ ap (λ xs. xs ++ c.set_up-made.new.desk ∷ []) c.requires.none.1);
+  tables = ap (map (table_value g.K.Desk.Desk.counts g.K.Desk.Desk.files g.K.Desk.Desk.log)) (c.push_reserved.ensures.items ∙ ap (λ xs. xs ++ c.set_up-made.new.desk ∷ []) c.requires.room.2);
   made = subst (λ (m : Option (List Made)). AddsOne m (g.K.Desks.made c.desk.new.self) (record { number = 0; files = g.K.Desk.Desk.files c.in-Ok.desk }))
       (ap (λ (o : OutsideValue). o.made) c.outside.view_is) c.in-Ok.ensures.made;
   ends = c.set_up-made.ensures.ends;

@@ -14,7 +14,7 @@ use Rattle.special_cli.proofs.init.run.Goals.{in-Ok-Initialized, in-Ok-Stopped, 
 pub returns-in_default-clause-leaves : goal.returns-in_default-clause-leaves
 returns-in_default-clause-leaves g c =
     leaves_nothing _ (programs_value (g.P.Programs.starts c.args.programs.now) (g.P.Programs.faults c.args.programs.now)) (programs_value (g.P.Programs.starts c.args.programs.now) (g.P.Programs.faults c.args.programs.now)) c.args.words.now.program
-    c.nothing_made.result.journal.entries _ refl c.nothing_made.ensures.journal (ap (map _) c.requires.none)
+    c.nothing_made.result.journal.entries _ refl c.nothing_made.ensures.0 (ap (map _) c.requires.room.0)
 
 pub returns-clause-ends : goal.returns-clause-ends
 returns-clause-ends g c =

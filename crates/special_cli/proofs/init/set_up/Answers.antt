@@ -13,4 +13,4 @@ returns-in-Ok-Ready-clause-ends g c =
 pub returns-in-Err-clause-leaves : goal.returns-in-Err-clause-leaves
 returns-in-Err-clause-leaves g c =
     leaves_nothing _ (programs_value (g.P.Programs.starts c.args.programs.now) (g.P.Programs.faults c.args.programs.now)) (programs_value (g.P.Programs.starts c.args.programs.now) (g.P.Programs.faults c.args.programs.now)) c.args.words.now.program
-    c.nothing_made-in-Err.result.journal.entries _ refl c.nothing_made-in-Err.ensures.journal (ap (map _) c.requires.none)
+    c.nothing_made-in-Err.result.journal.entries _ refl c.nothing_made-in-Err.ensures.0 (ap (map _) c.requires.room.0)

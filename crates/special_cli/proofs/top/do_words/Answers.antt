@@ -14,5 +14,9 @@ returns-in-Err g c =
     runs_nothing (g.C.Clock.answer c.args.clock.now) c.args.outside (input_flow given given left left faults faults) (command_of (texts_of c.args.words.now)) c.nothing.result c.nothing.ensures.end
     c.nothing.ensures.idle (record { given = refl; left = refl; faults = refl })
 
-pub do_command-requires-clause-uuid : goal.do_command-requires-clause-uuid
-do_command-requires-clause-uuid g c = λ κs lives. words_written (texts_of c.args.words.now) c.in-Ok.command c.in-Ok.ensures.command
+pub do_command-requires-clause-words : goal.do_command-requires-clause-words
+do_command-requires-clause-words g c = λ κs lives. record {
+  fit = c.in-Ok.ensures.fit;
+  uuid = words_written (texts_of c.args.words.now) c.in-Ok.command c.in-Ok.ensures.command;
+  ranges = c.in-Ok.ensures.ranges;
+}

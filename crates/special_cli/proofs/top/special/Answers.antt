@@ -2,7 +2,7 @@ use Rattle.cli_words.specs.Values.{texts_of}
 use Rattle.child_end.specs.Programs.{programs_value}
 use Rattle.child_end.specs.Outsides.{OutsideValue}
 use Rattle.special_cli.specs.Wishes.{wish_of}
-use Rattle.special_cli.proofs.Calling.{called, few}
+use Rattle.special_cli.proofs.Calling.{called, done, few}
 use Rattle.special_cli.proofs.top.special.Goals as goal
 
 pub tell-requires-clause-few : goal.tell-requires-clause-few
@@ -11,24 +11,7 @@ tell-requires-clause-few g c = λ κs lives.
     few (g.C.Clock.answer c.args.clock.now) before _ (wish_of (texts_of c.args.words.now)) c.do_words-ran.result c.do_words-ran.ensures
 
 pub returns : goal.returns
-returns g c =
-    let all = called _ _ _ _ _ _ _ _ _ c.tell.ensures.left c.do_words-ran.ensures c.tell.ensures.told in
-    record {
-      usage = all.usage;
-      words = all.words;
-      refused = all.refused;
-      key = all.key;
-      early = all.early;
-      output = all.output;
-      checked = all.checked;
-      told = all.told;
-      informed = all.informed;
-      info_told = all.info_told;
-      init = all.init;
-      run = all.run;
-      audit = all.audit;
-      wires = all.wires;
-      starts = all.starts;
-      fault = all.fault;
-      desks = all.desks;
-    }
+returns g c = record {
+  done = done _ _ _ _ _ _ _ _ _ c.tell.ensures.left c.do_words-ran.ensures c.tell.ensures.told;
+  called = called _ _ _ _ _ _ _ _ _ c.tell.ensures.left c.do_words-ran.ensures c.tell.ensures.told;
+}

@@ -8,40 +8,40 @@ use Rattle.special_cli.proofs.Talking.{may_close, closed_asked, closed_complete,
 use Rattle.special_cli.proofs.info.interview.inform.Goals as goal
 
 pub close_child-requires-clause-idle : goal.close_child-requires-clause-idle
-close_child-requires-clause-idle g c = may_close (option_map text_of c.args.key) c.hold_interview.new.core.journal c.in-Over.link.ear.child c.in-Over.ensures.interviewed.0
+close_child-requires-clause-idle g c = may_close (option_map text_of c.args.key) c.hold_interview.new.core.journal c.in-Over.link.ear.child c.in-Over.ensures.met.fits.0
 
 pub returns-in-Over-clause-asked : goal.returns-in-Over-clause-asked
 returns-in-Over-clause-asked g c =
-    closed_asked (option_map text_of c.args.key) c.hold_interview.new.core.journal c.close_child.new.core.journal c.in-Over.link.ear.child c.in-Over.ensures.interviewed.0 c.close_child.ensures.closes
+    closed_asked (option_map text_of c.args.key) c.hold_interview.new.core.journal c.close_child.new.core.journal c.in-Over.link.ear.child c.in-Over.ensures.met.fits.0 c.close_child.ensures.closes
 
 pub returns-in-Over-clause-complete : goal.returns-in-Over-clause-complete
 returns-in-Over-clause-complete g c =
-    if_ok c.in-Over.asked _ _ (closed_complete (option_map text_of c.args.key) c.hold_interview.new.core.journal c.close_child.new.core.journal c.in-Over.link.ear.child c.in-Over.ensures.interviewed.0 c.close_child.ensures.closes)
-    c.in-Over.ensures.interviewed.1
+    if_ok c.in-Over.came _ _ (closed_complete (option_map text_of c.args.key) c.hold_interview.new.core.journal c.close_child.new.core.journal c.in-Over.link.ear.child c.in-Over.ensures.met.fits.0 c.close_child.ensures.closes)
+    c.in-Over.ensures.met.fits.1
 
 pub returns-in-Over-clause-leaves : goal.returns-in-Over-clause-leaves
 returns-in-Over-clause-leaves g c =
     leaves_child _ (g.P.Programs.starts c.hold_interview.new.programs) (programs_value (g.P.Programs.starts c.args.programs.now) (g.P.Programs.faults c.args.programs.now)) (programs_value (g.P.Programs.starts c.finish.new.programs) (g.P.Programs.faults c.finish.new.programs)) c.args.program.now
     c.close_child.new.core.journal c.in-Over.link.ear c.in-Over.link.mouth _
-    (closed_starts (option_map text_of c.args.key) c.hold_interview.new.core.journal c.close_child.new.core.journal c.in-Over.link.ear.child c.in-Over.ensures.interviewed.0 c.close_child.ensures.closes)
-    c.in-Over.ensures.starts c.finish.ensures.starts c.in-Over.ensures.numbers c.in-Over.ensures.interviewed.0.first c.in-Over.link.one_child
-    (c.close_child.ensures.wired c.in-Over.ensures.wired) (one_laid c.finish.ensures.laid (ap (map _) c.requires.none))
+    (closed_starts (option_map text_of c.args.key) c.hold_interview.new.core.journal c.close_child.new.core.journal c.in-Over.link.ear.child c.in-Over.ensures.met.fits.0 c.close_child.ensures.closes)
+    c.in-Over.ensures.met.starts c.finish.ensures.starts c.in-Over.ensures.met.numbers c.in-Over.ensures.met.fits.0.first c.in-Over.link.one_child
+    (c.close_child.ensures.wired c.in-Over.ensures.met.wired) (one_laid c.finish.ensures.laid (ap (map _) c.requires.room.0))
 
 pub returns-in-StartFault-clause-asked : goal.returns-in-StartFault-clause-asked
-returns-in-StartFault-clause-asked g c = unstarted_asked (option_map text_of c.args.key) c.hold_interview.new.core.journal c.in-StartFault.ensures.interviewed
+returns-in-StartFault-clause-asked g c = unstarted_asked (option_map text_of c.args.key) c.hold_interview.new.core.journal c.in-StartFault.ensures.met.only
 
 pub returns-in-StartFault-clause-complete : goal.returns-in-StartFault-clause-complete
-returns-in-StartFault-clause-complete g c = unstarted_complete (option_map text_of c.args.key) c.hold_interview.new.core.journal c.in-StartFault.ensures.interviewed
+returns-in-StartFault-clause-complete g c = unstarted_complete (option_map text_of c.args.key) c.hold_interview.new.core.journal c.in-StartFault.ensures.met.only
 
 pub returns-in-StartFault-clause-leaves : goal.returns-in-StartFault-clause-leaves
 returns-in-StartFault-clause-leaves g c =
     leaves_failed _ (programs_value (g.P.Programs.starts c.args.programs.now) (g.P.Programs.faults c.args.programs.now)) (programs_value (g.P.Programs.starts c.hold_interview.new.programs) (g.P.Programs.faults c.hold_interview.new.programs)) c.args.program.now c.hold_interview.new.core.journal _
-    (ap starts_in c.in-StartFault.ensures.interviewed) (ap (map _) c.requires.none) c.in-StartFault.ensures.starts (c.in-StartFault.ensures.fault refl)
+    (ap starts_in c.in-StartFault.ensures.met.only) (ap (map _) c.requires.room.0) c.in-StartFault.ensures.met.starts c.in-StartFault.ensures.met.fault
 
 pub returns-in-NoMemory-clause-asked : goal.returns-in-NoMemory-clause-asked
-returns-in-NoMemory-clause-asked g c = nothing_asked (option_map text_of c.args.key) c.hold_interview.new.core.journal c.in-NoMemory.ensures.interviewed
+returns-in-NoMemory-clause-asked g c = nothing_asked (option_map text_of c.args.key) c.hold_interview.new.core.journal c.in-NoMemory.ensures.met.nothing
 
 pub returns-in-NoMemory-clause-leaves : goal.returns-in-NoMemory-clause-leaves
 returns-in-NoMemory-clause-leaves g c =
     leaves_unstarted _ (programs_value (g.P.Programs.starts c.args.programs.now) (g.P.Programs.faults c.args.programs.now)) (programs_value (g.P.Programs.starts c.hold_interview.new.programs) (g.P.Programs.faults c.hold_interview.new.programs)) c.args.program.now c.hold_interview.new.core.journal _
-    refl c.in-NoMemory.ensures.interviewed (ap (map _) c.requires.none) c.in-NoMemory.ensures.starts
+    refl c.in-NoMemory.ensures.met.nothing (ap (map _) c.requires.room.0) c.in-NoMemory.ensures.met.starts
