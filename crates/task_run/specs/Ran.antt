@@ -1,5 +1,5 @@
 -- What one call of run_task did.
-use Rattle.std.specs.Prelude.{ℕ, ◌≡◌, ◌≤◌, ◌+◌, Bool, true, false, List, [], ◌++◌, length, map, Option, Some, None, Result, Ok, Err}
+use Rattle.std.specs.Prelude.{ℕ, ◌≡◌, ◌≤◌, ◌+◌, ◌⊎◌, Bool, true, false, List, [], ◌++◌, length, map, Option, Some, None, Result, Ok, Err}
 use Rattle.ann_key.specs.declared.bytes.NoMemory.{NoMemory}
 use Rattle.journal_model.specs.declared.verdict.Verdict.{Verdict}
 use Rattle.journal_model.specs.declared.verdict.Verdict.TheVariants.{Done as DoneAt, Failed as FailedAt, Absent as AbsentAt, Unknown as UnknownAt, Unsupported as UnsupportedAt, Ended, Unsent}
@@ -133,8 +133,16 @@ may_follow_refusal (Ok answer) = false
 may_follow_refusal (Err e) = false
 
 -- The desk's counts have not fallen, and FileFault and NoFile come only where theirs rose. All other answers but Size and Hash leave
--- the counts as they were.
+-- the counts as they were, unless that of missing files rose: a get that begins a layout may find no part.
 pub record HasTaskCauses (old new : Counts) (result : Result Answer NoMemory) : Type 0 where
+  pub faults_later : old.faults ≤ new.faults
+  pub missing_later : old.missing ≤ new.missing
+  pub fault : result ≡ Ok FileFault → Rose old.faults new.faults
+  pub no_file : result ≡ Ok NoFile → Rose old.missing new.missing
+  pub quiet : may_follow_refusal result ≡ false → Rose old.missing new.missing ⊎ (new ≡ old)
+
+-- The same where such an answer leaves the counts as they were.
+pub record HasQuietCauses (old new : Counts) (result : Result Answer NoMemory) : Type 0 where
   pub faults_later : old.faults ≤ new.faults
   pub missing_later : old.missing ≤ new.missing
   pub fault : result ≡ Ok FileFault → Rose old.faults new.faults

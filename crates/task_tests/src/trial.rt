@@ -14,7 +14,9 @@ use std::alloc::{AllocError, Global};
 use std::str;
 use std::test::Fail;
 use talk_serial::Request;
-use task_run::{Setup, run_task, store_chunks};
+use task_run::Setup;
+use task_store::store_chunks;
+use task_works::run_task;
 use task_text::{Task, Work, read_task};
 
 /// A task's line, the files that stand on its desk, which of the desk's calls fail, and the verdicts of its requests.

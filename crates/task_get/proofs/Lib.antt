@@ -1,0 +1,5 @@
+pub mod FetchLaws
+pub mod LastCalls
+pub mod GetRuns
+pub mod GetEnds
+pub mod GetTasks

@@ -1,0 +1,4 @@
+// Fetching content.
+#![tactic(auto)]
+
+pub mod get;
