@@ -1,4 +1,10 @@
-// Fetching content.
+// Fetching content, over all layouts that are known.
 #![tactic(auto)]
 
-pub mod get;
+mod get_begin;
+mod get_chunk;
+mod get_layout;
+mod get_layouts;
+mod taking;
+
+pub use get_layouts::get_key;

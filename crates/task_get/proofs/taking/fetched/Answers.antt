@@ -1,6 +1,6 @@
 use Rattle.std.proofs.Common.{◌∙◌, sym}
 use Rattle.task_get.proofs.FetchLaws.{not_sized, wrong_size, is_moved}
-use Rattle.task_get.proofs.get.fetched.Goals as goal
+use Rattle.task_get.proofs.taking.fetched.Goals as goal
 
 pub returns-in-Err-clause-calls : goal.returns-in-Err-clause-calls
 returns-in-Err-clause-calls g c = rw c.refused.ensures (not_sized _ _ _ _ _ c.in-Err.ensures.log)

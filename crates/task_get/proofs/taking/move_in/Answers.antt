@@ -1,7 +1,7 @@
 use Rattle.std.proofs.Common.{[]}
 use Rattle.task_get.proofs.FetchLaws.{not_made, not_copied, not_removed, is_settled}
 use Rattle.ann_outside.specs.declared.file_desk.DeskError.TheVariants as E
-use Rattle.task_get.proofs.get.move_in.Goals as goal
+use Rattle.task_get.proofs.taking.move_in.Goals as goal
 
 pub returns-in-Err-clause-calls : goal.returns-in-Err-clause-calls
 returns-in-Err-clause-calls g c = rw c.refused-in-Err.ensures (not_made _ _ _ _ _ _ c.in-Err.ensures.log)
