@@ -1,14 +1,14 @@
 -- Laws of requests in rounds.
-use Rattle.std.proofs.Common.{◌≡◌, ◌∙◌, ℕ, suc, ◌+◌, ◌-◌, ◌≤◌, Bool, true, false, cond, not, List, [], ◌∷◌, ◌++◌, length, map, take, refl, sym, ap, subst, arith, append_assoc, append-nil, length-append}
-use Rattle.std.specs.Prelude.{◌&&◌, ◌||◌, filter, Option, Some, None, is_none, unwrap_or, count_by}
-use Rattle.std.specs.List.{list_all, filter_map, onto_first}
+use Rattle.std.proofs.Common.{◌≡◌, ◌∙◌, ℕ, ◌+◌, Bool, true, false, cond, not, List, [], ◌∷◌, ◌++◌, length, refl, sym, ap, subst, arith, append-nil}
+use Rattle.std.specs.Prelude.{count_by}
+use Rattle.std.specs.List.{list_all, onto_first}
 use Rattle.std.proofs.lemmas.Bool.{and_parts}
 use Rattle.std.proofs.lemmas.List.Sums.{sum_by-cons, sum_by-append}
 use Rattle.annex_model.specs.Messages.{HostMessage}
 use Rattle.ann_key.specs.Keys.{Parts}
 use Rattle.task_asker.specs.Askings.{Asking}
 use Rattle.task_run.specs.Stops.{is_done}
-use Rattle.task_run.specs.Requests.{AsksFor, AskInOrder, rounds, RoundsAsk}
+use Rattle.task_run.specs.Requests.{AskInOrder, rounds, RoundsAsk}
 use Rattle.task_run.specs.Gets.{item}
 use Rattle.task_get.proofs.LastCalls.{list_all-append}
 use Rattle.task_run.proofs.Texts.{apart}

@@ -1,5 +1,5 @@
 -- How the calls that begin part come about.
-use Rattle.std.proofs.Common.{◌≡◌, ◌∙◌, ℕ, ◌+◌, ◌-◌, ◌≤◌, List, [], ◌∷◌, ◌++◌, length, refl, sym, ap, subst, arith, append-nil, ◌⊎◌, inl, inr}
+use Rattle.std.proofs.Common.{◌≡◌, ◌∙◌, ℕ, ◌-◌, ◌≤◌, List, [], ◌∷◌, ◌++◌, length, refl, subst, arith, ◌⊎◌, inl, inr}
 use Rattle.std.specs.Prelude.{Option, Some, None, IfSome, OnOk, Result, Ok, Err, false}
 use Rattle.std.specs.List.{concat}
 use Rattle.ann_key.specs.declared.bytes.NoMemory.{NoMemory}
@@ -11,21 +11,20 @@ use Rattle.ann_outside.specs.Files.{Files, content, SizeIs, CanCut}
 use Rattle.ann_outside.specs.declared.file_desk.DeskError.{DeskError}
 use Rattle.ann_outside.specs.declared.file_desk.DeskError.TheVariants as E
 use Rattle.ann_outside.specs.declared.file_desk.Call.{Call}
-use Rattle.ann_outside.specs.declared.file_desk.Call.TheVariants.{Size, Create, Cut, ReadAt}
+use Rattle.ann_outside.specs.declared.file_desk.Call.TheVariants.{Size, Create, Cut}
 use Rattle.chunk_plan.specs.Layouts.{held_of}
-use Rattle.fetch_copy.specs.declared.copied.Copied.{Copied}
-use Rattle.fetch_copy.specs.declared.copied.Copied.TheVariants.{Done, Fault, Missing}
+use Rattle.fetch_copy.specs.declared.copied.Copied.TheVariants.{Done}
 use Rattle.fetch_copy.specs.Copies.{refusal_of}
-use Rattle.fetch_copy.specs.Resumes.{IsNotBegun, EndsReading, ReadsOn, Resumes, read_calls, refused_read}
+use Rattle.fetch_copy.specs.Resumes.{IsNotBegun, EndsReading, Resumes, read_calls, refused_read}
 use Rattle.fetch_copy.proofs.CopyLaws.{gained_more, gained_call}
 use Rattle.journal_model.specs.declared.answer.Answer.{Answer}
 use Rattle.journal_model.specs.declared.answer.Answer.TheVariants.{Got}
 use Rattle.task_get.specs.declared.get_begin.Begun.{Begun}
 use Rattle.task_get.specs.declared.get_begin.Begun.TheVariants as B
-use Rattle.task_run.specs.Ran.{refusal, may_follow_refusal, HasQuietCauses}
+use Rattle.task_run.specs.Ran.{refusal, may_follow_refusal}
 use Rattle.task_run.specs.Fetching.{if_made}
 use Rattle.task_get.specs.ChunkFetches.{over_with, answer_in}
-use Rattle.task_get.specs.PartBegins.{Begin, Unlooked, Unmade, Made, Uncut, Unread, Resumed, keep_of, begin_calls, unbegun, begin_result, BeginIs, Begins, answer_begun}
+use Rattle.task_get.specs.PartBegins.{Unlooked, Unmade, Made, Uncut, Unread, Resumed, keep_of, unbegun, Begins, answer_begun}
 use Rattle.task_run.specs.Ran.{HasTaskCauses}
 use Rattle.task_run.proofs.Gains.{gained_create, gained_size_refused}
 
@@ -95,15 +94,6 @@ begins_unresumed part size chunk n before after a b c e l (inr r) = record {
 }
 
 -- ---- causes
-
-pub causes_get : (old new : Counts) (result : Result Answer NoMemory) → HasQuietCauses old new result → HasTaskCauses old new result
-causes_get old new result h = record {
-  faults_later = h.faults_later;
-  missing_later = h.missing_later;
-  fault = h.fault;
-  no_file = h.no_file;
-  quiet = λ q. inr (h.quiet q);
-}
 
 pub causes_behind : (a b d : Counts) (before result : Result Answer NoMemory) → HasTaskCauses a b before → may_follow_refusal before ≡ false → HasTaskCauses b d result → HasTaskCauses a d result
 causes_behind a b d before result g calm h = record {

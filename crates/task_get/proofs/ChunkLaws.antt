@@ -1,6 +1,6 @@
 -- How the calls that fetch one chunk come about.
-use Rattle.std.proofs.Common.{◌≡◌, ◌∙◌, ℕ, ◌-◌, ◌==◌, List, [], ◌∷◌, ◌++◌, length, refl, ap, subst, append_assoc}
-use Rattle.std.specs.Prelude.{Option, Some, Result, Ok, Err, true, false, unwrap_or}
+use Rattle.std.proofs.Common.{◌≡◌, ◌∙◌, ℕ, ◌-◌, ◌==◌, List, [], ◌∷◌, ◌++◌, length, refl, subst}
+use Rattle.std.specs.Prelude.{Option, Result, Ok, Err, false}
 use Rattle.std.specs.List.{concat}
 use Rattle.ann_key.specs.declared.bytes.NoMemory.{NoMemory}
 use Rattle.ann_digest.specs.declared.checker.Checker.{Checker}
@@ -12,12 +12,11 @@ use Rattle.ann_outside.specs.declared.file_desk.Call.TheVariants.{Size, Remove}
 use Rattle.fetch_copy.specs.declared.copied.Copied.TheVariants.{Done}
 use Rattle.fetch_copy.specs.Copies.{copy_calls, Copies, EndsCopy, EndsRefused, refusal_of}
 use Rattle.fetch_copy.proofs.CopyLaws.{gained_more, gained_call}
-use Rattle.journal_model.specs.declared.answer.Answer.{Answer}
 use Rattle.task_get.specs.declared.get_chunk.Went.{Went}
 use Rattle.task_get.specs.declared.get_chunk.Went.TheVariants as T
 use Rattle.task_run.specs.Ran.{refusal}
-use Rattle.task_run.specs.Fetching.{Outcome, if_made, discarded}
-use Rattle.task_get.specs.ChunkFetches.{over_with, Come, Unmeasured, Misfit, Uncopied, Unremoved, Came, IsOfCopy, copied_calls, come_calls, come_result, ComeIs, CopiesOver, Comes}
+use Rattle.task_run.specs.Fetching.{Outcome, if_made}
+use Rattle.task_get.specs.ChunkFetches.{over_with, Come, Unmeasured, Misfit, Uncopied, Unremoved, Came, IsOfCopy, copied_calls, come_calls, come_result, CopiesOver, Comes}
 use Rattle.task_run.proofs.Gains.{gained_remove, gained_size_refused}
 
 refused_end : (fetch part : List ℕ) (at left : ℕ) (ending : List Call) (e : DeskError) → EndsCopy fetch part at left (refusal_of e) ending → EndsRefused e fetch part at ending

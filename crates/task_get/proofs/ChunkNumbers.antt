@@ -1,15 +1,14 @@
 -- Where chunks begin and end.
-use Rattle.std.proofs.Common.{◌≡◌, ◌∙◌, ℕ, zero, suc, ◌+◌, ◌-◌, ◌*◌, ◌/◌, ◌<◌, ◌≤◌, ◌==◌, ◌⊎◌, inl, inr, min, Bool, true, false, cond, List, [], ◌∷◌, ◌++◌, length, map, drop, refl, sym, ap, add-one, arith}
-use Rattle.std.specs.Prelude.{count_by, Option, Some, unwrap_or}
+use Rattle.std.proofs.Common.{◌≡◌, ℕ, ◌+◌, ◌-◌, ◌*◌, ◌/◌, ◌<◌, ◌≤◌, ◌==◌, ◌⊎◌, inl, inr, Bool, true, false, cond, refl, ap, add-one, arith}
 use Rattle.std.specs.List.{range_with_len}
 use Rattle.std.specs.Int.{div_ceil}
 use Rattle.std.proofs.Math.Nat.{zero-mul, suc-mul, mul-le-mul_right, div-mul-le_self}
-use Rattle.std.proofs.lemmas.Bool.{cases_lt, ne_eqb, eqb-true}
+use Rattle.std.proofs.lemmas.Bool.{cases_lt}
 use Rattle.std.proofs.lemmas.Grind.{div_ceil_times}
 use Rattle.std.proofs.lemmas.List.Sums.{count_by-le-length}
 use Rattle.std.proofs.lemmas.List.FromFn.{length-range_with_len}
 use Rattle.chunk_plan.specs.Layouts.{count_of, from_of, to_of, held_of, is_held}
-use Rattle.chunk_plan.proofs.Counted.{held_all, held_some}
+use Rattle.chunk_plan.proofs.Counted.{held_some}
 
 times_next : (i chunk : ℕ) → (i + 1) * chunk ≡ i * chunk + chunk
 times_next i chunk = rw add-one (suc-mul i chunk)

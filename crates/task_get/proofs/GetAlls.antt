@@ -1,6 +1,6 @@
 -- A get from its first layout on, as the run of its task.
-use Rattle.std.proofs.Common.{◌≡◌, ◌∙◌, ℕ, ◌+◌, ◌≤◌, ◌<◌, ◌==◌, eq-eqb, add-one, drop-cons, not, Bool, true, false, List, [], ◌∷◌, ◌++◌, length, map, refl, sym, ap, subst, arith, append-nil, length-append}
-use Rattle.std.specs.Prelude.{drop, slice_index_or, Option, Some, None, IfSome, filter, Result, Ok, Err}
+use Rattle.std.proofs.Common.{◌≡◌, ◌∙◌, ℕ, ◌+◌, ◌≤◌, ◌<◌, ◌==◌, eq-eqb, add-one, drop-cons, not, Bool, true, false, List, [], ◌∷◌, ◌++◌, length, refl, sym, ap, subst, arith, append-nil, length-append}
+use Rattle.std.specs.Prelude.{drop, slice_index_or, Option, Some, None, Result, Ok, Err}
 use Rattle.ann_key.specs.Keys.{Parts, key_reading}
 use Rattle.ann_key.specs.declared.bytes.NoMemory.{NoMemory}
 use Rattle.chunk_plan.specs.Layouts.{Part, count_of}
@@ -23,7 +23,7 @@ use Rattle.task_run.specs.Gets.{is_failed}
 use Rattle.task_run.specs.Runs.{RunOf, TaskRun}
 use Rattle.task_run.specs.Ran.{RanGet, answered}
 use Rattle.task_get.specs.Fronts.{Place, Between, Ended}
-use Rattle.task_get.specs.LayoutRuns.{Grown, Behind, place_at, LayoutEnd, LayoutRan, TriesEnd, TriesRan, WholeRan, GetRan}
+use Rattle.task_get.specs.LayoutRuns.{Grown, place_at, LayoutEnd, LayoutRan, TriesEnd, TriesRan, WholeRan, GetRan}
 use Rattle.fetch_copy.proofs.CopyLaws.{gained_nothing}
 use Rattle.task_get.proofs.LastCalls.{after_last-none}
 use Rattle.task_run.proofs.PlainRuns.{of_reading}
@@ -107,7 +107,7 @@ pub tries_skip : (setup : Setup) (t : ℕ) (key : Parts) (file : List ℕ) (layo
     → drop i layouts ≡ layout ∷ drop (i + 1) layouts → (layout.1 == count_of size layout.0) ≡ false → TriesSoFar setup t key file layouts i now pairs later old new → TriesSoFar setup t key file layouts (i + 1) now pairs later old new
 tries_skip setup t key file layouts i now size layout pairs later old new s d c r =
     let e : chunk_sizes key.size (drop i layouts) ≡ chunk_sizes key.size (drop (i + 1) layouts) =
-        ap (λ (o : Option ℕ). chunk_sizes o (drop i layouts)) s ∙ ap (chunk_sizes (Some size)) d ∙ sizes_skip size layout (drop (i + 1) layouts) c ∙ ap (λ (o : Option ℕ). chunk_sizes o (drop (i + 1) layouts)) (sym s) in
+    ap (λ (o : Option ℕ). chunk_sizes o (drop i layouts)) s ∙ ap (chunk_sizes (Some size)) d ∙ sizes_skip size layout (drop (i + 1) layouts) c ∙ ap (λ (o : Option ℕ). chunk_sizes o (drop (i + 1) layouts)) (sym s) in
     let P : List ℕ → Type 0 = λ l. Between (place_at setup t key file (sizes_tried key layouts)) r.grown.asked r.done r.tried (l ++ 0 ∷ []) r.grown.made in
     record { grown = r.grown; done = r.done; tried = r.tried; between = subst P e r.between; counted = r.counted }
 
@@ -116,7 +116,7 @@ state : (setup : Setup) (t : ℕ) (key : Parts) (file : List ℕ) (layouts : Lis
     → LayoutEnd (record { place = place_at setup t key file (sizes_tried key layouts); past = r.grown.asked; done = r.done; tried = r.tried; chunk = layout.0; rest = chunk_sizes key.size (drop (i + 1) layouts) ++ 0 ∷ [] }) r.grown.made l.grown.asked l.grown.made result
 state setup t key file layouts i now size layout pairs mid later old on new after result s d c r l =
     let e : chunk_sizes key.size (drop i layouts) ≡ layout.0 ∷ chunk_sizes key.size (drop (i + 1) layouts) =
-        ap (λ (o : Option ℕ). chunk_sizes o (drop i layouts)) s ∙ ap (chunk_sizes (Some size)) d ∙ sizes_take size layout (drop (i + 1) layouts) c ∙ ap (λ (o : Option ℕ). layout.0 ∷ chunk_sizes o (drop (i + 1) layouts)) (sym s) in
+    ap (λ (o : Option ℕ). chunk_sizes o (drop i layouts)) s ∙ ap (chunk_sizes (Some size)) d ∙ sizes_take size layout (drop (i + 1) layouts) c ∙ ap (λ (o : Option ℕ). layout.0 ∷ chunk_sizes o (drop (i + 1) layouts)) (sym s) in
     let P : List ℕ → Type 0 = λ x. Between (place_at setup t key file (sizes_tried key layouts)) r.grown.asked r.done r.tried (x ++ 0 ∷ []) r.grown.made in
     let one : List ℕ = 0 ∷ [] in
     let n : length (chunk_sizes key.size (drop (i + 1) layouts) ++ one) ≡ length (chunk_sizes key.size (drop (i + 1) layouts)) + 1 = length-append (chunk_sizes key.size (drop (i + 1) layouts)) one in

@@ -1,6 +1,6 @@
 -- The begin of a layout of chunks.
-use Rattle.std.proofs.Common.{◌≡◌, ◌∙◌, ℕ, zero, suc, ◌+◌, ◌-◌, ◌*◌, ◌≤◌, ◌<◌, ◌==◌, ◌⊎◌, inl, inr, min, Bool, true, false, cond, not, List, [], ◌∷◌, ◌++◌, length, map, drop, refl, sym, ap, subst, arith, append_assoc, append-nil, length-append}
-use Rattle.std.specs.Prelude.{◌&&◌, ◌||◌, if◌then◌else◌, Option, Some, None, is_none, unwrap_or, Result, Ok, Err}
+use Rattle.std.proofs.Common.{◌≡◌, ◌∙◌, ℕ, ◌+◌, ◌-◌, ◌*◌, ◌≤◌, ◌<◌, ◌==◌, ◌⊎◌, inl, inr, Bool, true, false, cond, not, List, [], ◌∷◌, ◌++◌, length, map, drop, refl, sym, ap, subst, arith, append_assoc, append-nil, length-append}
+use Rattle.std.specs.Prelude.{if◌then◌else◌, Option, Some, None, unwrap_or, Result, Ok, Err}
 use Rattle.std.specs.List.{list_all, filter_map, concat, range_with_len}
 use Rattle.std.specs.Int.{div_ceil}
 use Rattle.std.proofs.lemmas.Bool.{cases_lt, eqb-true}
@@ -11,13 +11,13 @@ use Rattle.std.proofs.lemmas.List.FromFn.{length-map-range_with_len}
 use Rattle.ann_key.specs.Keys.{Parts}
 use Rattle.ann_key.specs.declared.bytes.NoMemory.{NoMemory}
 use Rattle.ann_digest.specs.declared.checker.Checker.{Checker}
-use Rattle.chunk_plan.specs.Layouts.{Part, chunk_part, count_of, from_of, to_of, held_of, layout}
+use Rattle.chunk_plan.specs.Layouts.{Part, chunk_part, count_of, to_of, held_of, layout}
 use Rattle.ann_outside.specs.declared.file_desk.DeskError.{DeskError}
 use Rattle.ann_outside.specs.declared.file_desk.DeskError.TheVariants as E
 use Rattle.ann_outside.specs.declared.file_desk.Call.{Call}
 use Rattle.ann_outside.specs.declared.file_desk.Call.TheVariants.{Size, ReadAt, Create, Cut}
 use Rattle.fetch_copy.specs.Copies.{EndsWhole, Checks}
-use Rattle.fetch_copy.specs.Resumes.{read_calls, refused_read}
+use Rattle.fetch_copy.specs.Resumes.{read_calls}
 use Rattle.fetch_copy.proofs.CopyLaws.{checks_nothing}
 use Rattle.journal_model.specs.declared.answer.Answer.{Answer}
 use Rattle.journal_model.specs.declared.answer.Answer.TheVariants as A
@@ -31,16 +31,16 @@ use Rattle.task_run.specs.Requests.{AskInOrder}
 use Rattle.task_run.specs.Reads.{length_or_none, reads_of, read_of, bytes_of, is_run, is_reading, is_known, appended, piece_of}
 use Rattle.task_run.specs.Gets.{fetch_request, begins, lengths_at_begin, wanted, parts_wanted, held_reads, since_begin}
 use Rattle.task_run.specs.Ran.{answered, refusal}
-use Rattle.task_run.specs.Fetching.{Outcome, if_made}
-use Rattle.task_get.specs.Fronts.{Place, Turn, first_in, Tried, Sound, are_free, Within, Kept, Between, Ended, begin_of}
+use Rattle.task_run.specs.Fetching.{Outcome}
+use Rattle.task_get.specs.Fronts.{Place, Turn, first_in, Sound, are_free, Within, Kept, Between, Ended, begin_of}
 use Rattle.task_get.specs.LayoutRuns.{parts_from, parts_between}
 use Rattle.task_get.specs.PartBegins.{Begin, Unlooked, Unmade, Made, Uncut, Unread, Resumed, keep_of, begin_calls, begin_result, BeginIs}
-use Rattle.task_run.proofs.Texts.{apart, same_name}
+use Rattle.task_run.proofs.Texts.{same_name}
 use Rattle.task_get.proofs.LastCalls.{list_all-append, after_last-at}
 use Rattle.task_run.proofs.GetCallsLaws.{known_add, known_skip, placed, run_placed, bytes_placed, nat_same}
 use Rattle.task_get.proofs.GetEnds.{whole_reading, bytes_more, stop_is}
 use Rattle.task_get.proofs.GetFronts.{Fore, ended_memory, ended_stopped}
-use Rattle.task_get.proofs.GetChunks.{whole_of, none_from, first_from, none_between}
+use Rattle.task_get.proofs.GetChunks.{whole_of, none_from, first_from}
 use Rattle.task_get.proofs.ChunkNumbers.{held_within, begins_within, from_is, held_most}
 use Rattle.task_get.proofs.GetParts.{OfPart, of_none, of_more, of_size, of_create, of_cut, of_read, sound_part, between_fore}
 
@@ -73,10 +73,10 @@ wanted_are key size chunk n c s =
     let z : unwrap_or key.size 0 ≡ size = ap (λ (o : Option ℕ). unwrap_or o 0) s in
     let k = held_most size chunk n in
     let l : length (parts_between key size chunk 0 (held_of size chunk n)) ≡ held_of size chunk n =
-        length-map-range_with_len (chunk_part key size chunk) 1 (held_of size chunk n - 0) ∙ omega arith in
+    length-map-range_with_len (chunk_part key size chunk) 1 (held_of size chunk n - 0) ∙ omega arith in
     let all : map (chunk_part key size chunk) (range_with_len 1 (count_of size chunk)) ≡ parts_between key size chunk 0 (held_of size chunk n) ++ parts_from key size chunk (held_of size chunk n) =
-        let e : count_of size chunk ≡ count_of size chunk - 0 = omega arith in
-        ap (λ m. map (chunk_part key size chunk) (range_with_len 1 m)) e ∙ sym (whole_of key size chunk 0 (held_of size chunk n) (omega arith) k) in
+    let e : count_of size chunk ≡ count_of size chunk - 0 = omega arith in
+    ap (λ m. map (chunk_part key size chunk) (range_with_len 1 m)) e ∙ sym (whole_of key size chunk 0 (held_of size chunk n) (omega arith) k) in
     ap (λ (b : Bool). if b then parts_of_layout key 0 else drop (held_of (unwrap_or key.size 0) chunk n) (parts_of_layout key chunk)) c
     ∙ ap (λ (m : ℕ). drop (held_of m chunk n) (layout key m chunk)) z
     ∙ ap (λ (b : Bool). drop (held_of size chunk n) (if b then record { key = key; from = 0; to = size } ∷ [] else map (chunk_part key size chunk) (range_with_len 1 (count_of size chunk)))) c
@@ -120,7 +120,7 @@ looked_stopped u calls seg n y answer b r l o none held stop =
     let P : List Call → Type 0 = λ x. Ended u.place u.past x answer in
     let Q : List Call → Type 0 = λ x. Fore u.place u.past x in
     let found : filter_map (length_or_none (part_of u.place.file)) (seg ++ y ∷ []) ≡ n ∷ [] =
-        filter_map-append (length_or_none (part_of u.place.file)) seg (y ∷ []) ∙ rw (l.found, none) refl in
+    filter_map-append (length_or_none (part_of u.place.file)) seg (y ∷ []) ∙ rw (l.found, none) refl in
     subst P (append_assoc calls seg (y ∷ []))
     (ended_stopped u.place u.past (calls ++ seg) y answer
     (subst Q (sym (append_assoc calls seg (y ∷ []))) (between_fore u.place u.past u.done u.tried u.chunk u.rest calls (seg ++ y ∷ []) (n ∷ []) b (of_more u.place calls seg (y ∷ []) l.of_part o) found (omega arith) r held))
@@ -172,34 +172,37 @@ opened : (u : Turn) (size : ℕ) (calls seg : List Call) (n : ℕ) (reads : List
     → held_reads u.place.file (calls ++ seg) ≡ reads → is_known (part_of u.place.file) (calls ++ seg) ≡ true → appended (part_of u.place.file) (since_begin u.place.file (calls ++ seg)) ≡ []
     → is_reading 0 (keep_of size u.chunk n) reads ≡ true
     → Within u [] [] (parts_from u.place.key size u.chunk (held_of size u.chunk n)) (calls ++ seg) × Kept u [] [] (parts_from u.place.key size u.chunk (held_of size u.chunk n)) (calls ++ seg) reads []
-opened u size calls seg n reads b r l some c s held known unwritten reading = (record {
-  tries = b.tries;
-  all_done = refl;
-  in_order = λ more next h.
-      let e : first_in u + 0 ≡ first_in u = omega arith in
-      let P : ℕ → Type 0 = λ k. AskInOrder (fetch_request u.place.setup u.place.task) k more next in subst P e h;
-  aligned = refl;
-  wants = λ later.
-      ap (λ (x : List ℕ). wanted u.place.key u.place.sizes (x ++ later)) lengths
-      ∙ ap (wanted u.place.key u.place.sizes) (append_assoc (lengths_at_begin u.place.file calls) (n ∷ []) later)
-      ∙ b.wants (n ∷ later)
-      ∙ ap (λ (t : Bool). u.done ++ (if t then parts_wanted u.place.key 0 0 ∷ wanted u.place.key u.rest (n ∷ later) else parts_wanted u.place.key u.chunk n ∷ wanted u.place.key u.rest later)) c
-      ∙ ap (λ (x : List Part). u.done ++ x ∷ wanted u.place.key u.rest later) (wanted_are u.place.key size u.chunk n c s);
-  begun = omega (arith, count);
-  begun_chunked = let z : length u.place.sizes ≡ length u.tried + length (u.chunk ∷ u.rest) = ap length b.tries.sizes_are ∙ length-append u.tried (u.chunk ∷ u.rest) in let e = b.tries.each_done in omega (arith, count, z, e, r);
-  right = refl;
-  read = refl;
-  sound = let P : List Asking → Type 0 = λ x. Sound u.place x (calls ++ seg) in subst P (sym (append-nil u.past)) (sound_part u.place u.past calls seg b.sound l.of_part l.held);
-  free = looked_free u calls seg n b l;
-}, record {
-  begun = count;
-  known = known;
-  held_are = held;
-  held_whole = ap (λ k. is_reading 0 k reads) (keep_is u.place.key size u.chunk (held_of size u.chunk n) some s (held_most size u.chunk n)) ∙ reading;
-  bytes_are = refl;
-  moved = unwritten;
-  whole = refl;
-})
+opened u size calls seg n reads b r l some c s held known unwritten reading = (
+  record {
+    tries = b.tries;
+    all_done = refl;
+    in_order = λ more next h.
+        let e : first_in u + 0 ≡ first_in u = omega arith in
+        let P : ℕ → Type 0 = λ k. AskInOrder (fetch_request u.place.setup u.place.task) k more next in subst P e h;
+    aligned = refl;
+    wants = λ later.
+        ap (λ (x : List ℕ). wanted u.place.key u.place.sizes (x ++ later)) lengths
+        ∙ ap (wanted u.place.key u.place.sizes) (append_assoc (lengths_at_begin u.place.file calls) (n ∷ []) later)
+        ∙ b.wants (n ∷ later)
+        ∙ ap (λ (t : Bool). u.done ++ (if t then parts_wanted u.place.key 0 0 ∷ wanted u.place.key u.rest (n ∷ later) else parts_wanted u.place.key u.chunk n ∷ wanted u.place.key u.rest later)) c
+        ∙ ap (λ (x : List Part). u.done ++ x ∷ wanted u.place.key u.rest later) (wanted_are u.place.key size u.chunk n c s);
+    begun = omega (arith, count);
+    begun_chunked = let z : length u.place.sizes ≡ length u.tried + length (u.chunk ∷ u.rest) = ap length b.tries.sizes_are ∙ length-append u.tried (u.chunk ∷ u.rest) in let e = b.tries.each_done in omega (arith, count, z, e, r);
+    right = refl;
+    read = refl;
+    sound = let P : List Asking → Type 0 = λ x. Sound u.place x (calls ++ seg) in subst P (sym (append-nil u.past)) (sound_part u.place u.past calls seg b.sound l.of_part l.held);
+    free = looked_free u calls seg n b l;
+  },
+  record {
+    begun = count;
+    known = known;
+    held_are = held;
+    held_whole = ap (λ k. is_reading 0 k reads) (keep_is u.place.key size u.chunk (held_of size u.chunk n) some s (held_most size u.chunk n)) ∙ reading;
+    bytes_are = refl;
+    moved = unwritten;
+    whole = refl;
+  },
+)
   where
     lengths : lengths_at_begin u.place.file (calls ++ seg) ≡ lengths_at_begin u.place.file calls ++ n ∷ []
     lengths = filter_map-append (length_or_none (part_of u.place.file)) calls seg ∙ ap (λ x. lengths_at_begin u.place.file calls ++ x) l.found
@@ -314,7 +317,7 @@ looked_resumed u calls n keep pieces more r free = record {
   free = list_all-append _ (read_calls (part_of u.place.file) 0 pieces) more (reads_free u.place 0 pieces) free;
   found =
       let none : filter_map (length_or_none (part_of u.place.file)) (read_calls (part_of u.place.file) 0 pieces ++ more) ≡ [] =
-          filter_map-append (length_or_none (part_of u.place.file)) (read_calls (part_of u.place.file) 0 pieces) more ∙ rw (reads_found (part_of u.place.file) 0 pieces, r.no_length) refl in
+      filter_map-append (length_or_none (part_of u.place.file)) (read_calls (part_of u.place.file) 0 pieces) more ∙ rw (reads_found (part_of u.place.file) 0 pieces, r.no_length) refl in
       rw (same_name (part_of u.place.file)) (rw none refl);
   held = resumed_run u calls n keep pieces more r;
 }
@@ -343,7 +346,7 @@ unread_stopped u calls n keep pieces e b r ne =
     let rest : Rest u calls n keep pieces (y ∷ []) = rest_read u calls n keep pieces (Err e) (rw (same_name part) refl) in
     let split : resumed_calls part n keep pieces (y ∷ []) ≡ resumed_calls part n keep pieces [] ++ y ∷ [] = ap (λ l. Size part (Ok n) ∷ Cut part keep (Ok tt) ∷ (l ++ y ∷ [])) (sym (append-nil (read_calls part 0 pieces))) in
     let whole : (calls ++ cut_front part n keep) ++ read_calls part 0 pieces ≡ calls ++ resumed_calls part n keep pieces [] =
-        append_assoc calls (cut_front part n keep) (read_calls part 0 pieces) ∙ ap (λ l. calls ++ (Size part (Ok n) ∷ Cut part keep (Ok tt) ∷ l)) (sym (append-nil (read_calls part 0 pieces))) in
+    append_assoc calls (cut_front part n keep) (read_calls part 0 pieces) ∙ ap (λ l. calls ++ (Size part (Ok n) ∷ Cut part keep (Ok tt) ∷ l)) (sym (append-nil (read_calls part 0 pieces))) in
     let P : List Call → Type 0 = λ l. Ended u.place u.past (calls ++ l) (answered (refusal e)) in
     let Q : List Call → Type 0 = λ l. OfPart u.place l (y ∷ []) in
     let R : List Call → Type 0 = λ l. is_run 0 (held_reads u.place.file (calls ++ l)) ≡ true in
@@ -370,10 +373,10 @@ begin_end u size calls before after (Unmade E.Missing) b r some c s so =
 begin_end u size calls before after Made b r some c s so =
     let part : List ℕ = part_of u.place.file in
     let o = opened u size calls (Size part (Err E.Missing) ∷ Create part (Ok tt) ∷ []) 0 [] b r (looked_made u calls) some c s
-        (ap (reads_of part) (created_since u calls (Ok tt)))
-        (let P : List Call → Type 0 = λ l. is_known part l ≡ true in subst P (append_assoc calls (Size part (Err E.Missing) ∷ []) (Create part (Ok tt) ∷ [])) (known_add part (calls ++ Size part (Err E.Missing) ∷ []) (Create part (Ok tt)) (rw (same_name part) refl)))
-        (ap (appended part) (created_since u calls (Ok tt)))
-        (let w = held_within size u.chunk 0 some in let e : keep_of size u.chunk 0 ≡ 0 = omega (arith, w) in ap (λ k. is_reading 0 k []) e) in
+    (ap (reads_of part) (created_since u calls (Ok tt)))
+    (let P : List Call → Type 0 = λ l. is_known part l ≡ true in subst P (append_assoc calls (Size part (Err E.Missing) ∷ []) (Create part (Ok tt) ∷ [])) (known_add part (calls ++ Size part (Err E.Missing) ∷ []) (Create part (Ok tt)) (rw (same_name part) refl)))
+    (ap (appended part) (created_since u calls (Ok tt)))
+    (let w = held_within size u.chunk 0 some in let e : keep_of size u.chunk 0 ≡ 0 = omega (arith, w) in ap (λ k. is_reading 0 k []) e) in
     let P : Checker → Type 0 = λ k. Checks before k [] in
     ([], o.0, o.1, subst P (sym so) (checks_nothing before))
 begin_end u size calls before after (Uncut n E.NoMemory) b r some c s so = looked_memory u calls _ n b r (looked_size u calls n)
@@ -394,15 +397,15 @@ begin_end u size calls before after (Resumed n pieces ending) b r some c s so =
     let run : is_run 0 (placed 0 pieces ++ reads_of part ending) ≡ true = ap (is_run 0) (sym (resumed_reads u calls n keep pieces ending rest)) ∙ resumed_run u calls n keep pieces ending rest in
     let none : filter_map (piece_of part) (read_calls part 0 pieces ++ ending) ≡ [] = filter_map-append (piece_of part) (read_calls part 0 pieces) ending ∙ rw (reads_unwritten part 0 pieces, rest.unwritten) refl in
     let known : is_known part (calls ++ resumed_calls part n keep pieces ending) ≡ true =
-        let e : calls ++ resumed_calls part n keep pieces ending ≡ ((calls ++ cut_front part n keep) ++ read_calls part 0 pieces) ++ ending =
-            sym (append_assoc calls (cut_front part n keep) (read_calls part 0 pieces ++ ending)) ∙ sym (append_assoc (calls ++ cut_front part n keep) (read_calls part 0 pieces) ending) in
-        ap (is_known part) e ∙ known_ending part ((calls ++ cut_front part n keep) ++ read_calls part 0 pieces) (length (concat pieces)) (keep - length (concat pieces)) ending so.0 (known_pieces u calls n keep pieces) in
+    let e : calls ++ resumed_calls part n keep pieces ending ≡ ((calls ++ cut_front part n keep) ++ read_calls part 0 pieces) ++ ending =
+    sym (append_assoc calls (cut_front part n keep) (read_calls part 0 pieces ++ ending)) ∙ sym (append_assoc (calls ++ cut_front part n keep) (read_calls part 0 pieces) ending) in
+    ap (is_known part) e ∙ known_ending part ((calls ++ cut_front part n keep) ++ read_calls part 0 pieces) (length (concat pieces)) (keep - length (concat pieces)) ending so.0 (known_pieces u calls n keep pieces) in
     let o = opened u size calls (resumed_calls part n keep pieces ending) n (placed 0 pieces ++ reads_of part ending) b r
-        (looked_resumed u calls n keep pieces ending rest (ending_free u.place (length (concat pieces)) (keep - length (concat pieces)) ending so.0)) some c s
-        (resumed_reads u calls n keep pieces ending rest) known
-        (ap (appended part) (since_size u calls _ n (resumed_no_begin u calls n keep pieces ending rest)) ∙ ap concat none)
-        (whole_reading part keep pieces ending so.0 so.1 run) in
+    (looked_resumed u calls n keep pieces ending rest (ending_free u.place (length (concat pieces)) (keep - length (concat pieces)) ending so.0)) some c s
+    (resumed_reads u calls n keep pieces ending rest) known
+    (ap (appended part) (since_size u calls _ n (resumed_no_begin u calls n keep pieces ending rest)) ∙ ap concat none)
+    (whole_reading part keep pieces ending so.0 so.1 run) in
     let bytes : concat pieces ≡ bytes_of (placed 0 pieces ++ reads_of part ending) =
-        sym (bytes_more (placed 0 pieces) (reads_of part ending) ∙ ap (λ l. bytes_of (placed 0 pieces) ++ l) (ending_bytes part (length (concat pieces)) (keep - length (concat pieces)) ending so.0) ∙ append-nil (bytes_of (placed 0 pieces)) ∙ bytes_placed 0 pieces) in
+    sym (bytes_more (placed 0 pieces) (reads_of part ending) ∙ ap (λ l. bytes_of (placed 0 pieces) ++ l) (ending_bytes part (length (concat pieces)) (keep - length (concat pieces)) ending so.0) ∙ append-nil (bytes_of (placed 0 pieces)) ∙ bytes_placed 0 pieces) in
     let P : List ℕ → Type 0 = λ l. Checks before after l in
     (placed 0 pieces ++ reads_of part ending, o.0, o.1, subst P bytes so.2)

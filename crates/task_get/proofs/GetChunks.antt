@@ -7,12 +7,10 @@ use Rattle.std.proofs.lemmas.List.FromFn.{map-range_with_len_more, length-map-ra
 use Rattle.ann_key.specs.Keys.{Parts}
 use Rattle.ann_key.specs.declared.bytes.NoMemory.{NoMemory}
 use Rattle.ann_digest.specs.declared.checker.Checker.{Checker}
-use Rattle.ann_outside.specs.Calls.{Gained}
 use Rattle.ann_outside.specs.declared.file_desk.Call.{Call}
 use Rattle.chunk_plan.specs.Layouts.{Part, chunk_part, count_of}
 use Rattle.fetch_copy.specs.Copies.{Checks}
 use Rattle.fetch_copy.proofs.CopyLaws.{gained_nothing, gained_more, checks_nothing, checks_more}
-use Rattle.journal_model.specs.declared.answer.Answer.{Answer}
 use Rattle.journal_model.specs.declared.answer.Answer.TheVariants as A
 use Rattle.task_asker.specs.Askings.{Asking, IsSameTask}
 use Rattle.task_run.specs.declared.setup.Setup.{Setup}
@@ -56,7 +54,7 @@ whole_of key size chunk i k low high =
     let f : (i + 1) + (k - i) ≡ k + 1 = omega (arith, low) in
     sym (map-append (chunk_part key size chunk) (range_with_len (i + 1) (k - i)) (range_with_len (k + 1) (count_of size chunk - k)))
     ∙ ap (map (chunk_part key size chunk)) (ap (λ m. range_with_len (i + 1) (k - i) ++ range_with_len m (count_of size chunk - k)) (sym f)
-        ∙ sym (range_split (i + 1) (k - i) (count_of size chunk - k)) ∙ ap (range_with_len (i + 1)) (sym e))
+    ∙ sym (range_split (i + 1) (k - i) (count_of size chunk - k)) ∙ ap (range_with_len (i + 1)) (sym e))
 
 pub from_length : (key : Parts) (size chunk i : ℕ) → length (parts_from key size chunk i) ≡ count_of size chunk - i
 from_length key size chunk i = length-map-range_with_len (chunk_part key size chunk) (i + 1) (count_of size chunk - i)
@@ -105,7 +103,7 @@ stepped : (setup : Setup) (t : ℕ) (key : Parts) (size chunk held i : ℕ) (par
     → Within (turn_at setup t key file chunk b) [] [] (parts_from key size chunk held) calls
     → Kept (turn_at setup t key file chunk b) [] [] (parts_from key size chunk held) calls reads []
     → (bytes : List ℕ) × Checks before between bytes × PartEnd (turn_at setup t key file chunk b) s.grown.asked (parts_between key size chunk held i) (parts_from key size chunk (i + 1)) (chunk_part key size chunk (i + 1))
-        (calls ++ s.grown.made) reads bytes between after asked made result
+    (calls ++ s.grown.made) reads bytes between after asked made result
 stepped setup t key size chunk held i part first now pairs mid old on before between after asked made result s low there few next file b calls reads p n w k =
     let u = turn_at setup t key file chunk b in
     let st = s.stands file b calls reads p n w k in
@@ -114,9 +112,12 @@ stepped setup t key size chunk held i part first now pairs mid old on before bet
     let Q : List Part → Type 0 = λ l. Kept u s.grown.asked (parts_between key size chunk held i) l (calls ++ s.grown.made) reads st.0 in
     let c = s.counted in
     let m = s.as_many in
-    let l = from_length key size chunk (i + 1) in
-    (st.0, st.3, next file b s.grown.asked (parts_between key size chunk held i) (parts_from key size chunk (i + 1)) (calls ++ s.grown.made) reads st.0 p (omega (arith, c, n)) (omega (arith, c, m, l, low, there, few))
-        (subst P e st.1) (subst Q e st.2))
+    let l = from_length key size chunk (i + 1) in (
+      st.0,
+      st.3,
+      next file b s.grown.asked (parts_between key size chunk held i) (parts_from key size chunk (i + 1)) (calls ++ s.grown.made) reads st.0 p (omega (arith, c, n)) (omega (arith, c, m, l, low, there, few))
+          (subst P e st.1) (subst Q e st.2),
+    )
 
 pub so_far_more : (setup : Setup) (t : ℕ) (key : Parts) (size chunk held i : ℕ) (part : List ℕ) (first now : ℕ) (pairs mid later : List Asking) (old on new : Option (List Call)) (before between after : Checker)
     → SoFar setup t key size chunk held i part first now pairs mid old on before between → held ≤ i → i < count_of size chunk → first + count_of size chunk < 2 ^ 64
@@ -132,9 +133,9 @@ so_far_more setup t key size chunk held i part first now pairs mid later old on 
       let e = r.2 in
       let bytes : List ℕ = r.0 ++ e.0 in
       let P : List Part → Type 0 = λ l. (bytes : List ℕ) × Within u (s.grown.asked ++ g.asked) l (parts_from key size chunk (i + 1)) (calls ++ (s.grown.made ++ g.made))
-          × Kept u (s.grown.asked ++ g.asked) l (parts_from key size chunk (i + 1)) (calls ++ (s.grown.made ++ g.made)) reads bytes × Checks before after bytes in
+      × Kept u (s.grown.asked ++ g.asked) l (parts_from key size chunk (i + 1)) (calls ++ (s.grown.made ++ g.made)) reads bytes × Checks before after bytes in
       let Q : List Call → Type 0 = λ l. (bytes : List ℕ) × Within u (s.grown.asked ++ g.asked) (parts_between key size chunk held i ++ chunk_part key size chunk (i + 1) ∷ []) (parts_from key size chunk (i + 1)) l
-          × Kept u (s.grown.asked ++ g.asked) (parts_between key size chunk held i ++ chunk_part key size chunk (i + 1) ∷ []) (parts_from key size chunk (i + 1)) l reads bytes × Checks before after bytes in
+      × Kept u (s.grown.asked ++ g.asked) (parts_between key size chunk held i ++ chunk_part key size chunk (i + 1) ∷ []) (parts_from key size chunk (i + 1)) l reads bytes × Checks before after bytes in
       subst P (sym (between_more key size chunk held i low)) (subst Q (append_assoc calls s.grown.made g.made)
       (bytes, e.1, e.2, checks_more before between after r.0 e.0 r.1 e.3));
 }
@@ -179,7 +180,7 @@ chunks_ended setup t key size chunk held i part first now pairs mid later old on
       let u = turn_at setup t key file chunk b in
       let r = stepped setup t key size chunk held i part first now pairs mid old on before between after g.asked g.made result s low there few next file b calls reads p n w k in
       let all : parts_between key size chunk held i ++ chunk_part key size chunk (i + 1) ∷ parts_from key size chunk (i + 1) ≡ parts_from key size chunk held =
-          ap (λ l. parts_between key size chunk held i ++ l) (sym (first_from key size chunk i there)) ∙ whole_of key size chunk held i low (omega (arith, there)) in
+      ap (λ l. parts_between key size chunk held i ++ l) (sym (first_from key size chunk i there)) ∙ whole_of key size chunk held i low (omega (arith, there)) in
       ends_all u s.grown.asked (parts_between key size chunk held i) (parts_from key size chunk (i + 1)) (parts_from key size chunk held) (chunk_part key size chunk (i + 1)) calls s.grown.made reads r.0
       before between after g.asked g.made result all bad r.2;
   counted = λ e. let a : length (s.grown.asked ++ g.asked) ≡ length s.grown.asked + length g.asked = length-append s.grown.asked g.asked in let c = s.counted in let o = one e in omega (arith, a, c, o);

@@ -1,6 +1,6 @@
 -- How a get is answered behind its last layout's requests.
-use Rattle.std.proofs.Common.{◌≡◌, ◌∙◌, ℕ, ◌+◌, ◌-◌, ◌≤◌, ◌<◌, ◌==◌, Bool, true, false, not, List, [], ◌∷◌, ◌++◌, length, refl, sym, ap, subst, arith, append-nil, length-append, eq-eqb}
-use Rattle.std.specs.Prelude.{◌&&◌, ◌||◌, if◌then◌else◌, Option, Some, None, unwrap_or, count_by}
+use Rattle.std.proofs.Common.{◌≡◌, ◌∙◌, ℕ, ◌+◌, ◌==◌, Bool, true, false, not, List, [], ◌∷◌, ◌++◌, length, refl, sym, ap, subst, arith, length-append}
+use Rattle.std.specs.Prelude.{◌||◌, if◌then◌else◌, Option, Some, unwrap_or, count_by}
 use Rattle.std.specs.Bool.{MatchBool}
 use Rattle.std.specs.List.{list_all}
 use Rattle.std.proofs.lemmas.Bool.{ne_eqb}
@@ -10,12 +10,11 @@ use Rattle.ann_outside.specs.declared.file_desk.Call.{Call}
 use Rattle.journal_model.specs.declared.answer.Answer.{Answer}
 use Rattle.journal_model.specs.declared.answer.Answer.TheVariants as A
 use Rattle.task_asker.specs.Askings.{Asking}
-use Rattle.task_run.specs.declared.setup.Setup.{Setup}
 use Rattle.task_run.specs.Stops.{is_done, last_failed}
 use Rattle.task_run.specs.Names.{part_of}
 use Rattle.task_run.specs.Reads.{is_reading, is_removed, is_last_call_of, is_renaming, appended, bytes_of}
 use Rattle.task_run.specs.Gets.{lengths_at_begin, wanted, is_failed, failures, asked_last, first_asked, item, parts_last, is_plain_last, end_held, since_begin, held_reads, bytes_fetched, checked, are_read_whole, wrong_lengths, fit_in, is_got, IsSaid, IsChecked, IsKept, DecidesBy, Decides, GetAnswers}
-use Rattle.task_get.specs.Fronts.{Place, Turn, first_in, Tried, begin_of}
+use Rattle.task_get.specs.Fronts.{Turn, first_in, Tried, begin_of}
 use Rattle.task_get.proofs.AskLaws.{item_behind}
 use Rattle.task_get.proofs.GetFronts.{first_is, parts_are, failures_are}
 
@@ -74,8 +73,8 @@ answers_misfit u next parts calls m l wrong removed =
       begun = begun_of u next parts calls l;
       by_length =
           let P : List ℕ → Type 0 = λ ns. DecidesBy ns
-              (count_by is_done (asked_last (u.past ++ next)) ≡ length (parts_last u.place.key u.place.sizes (lengths_at_begin u.place.file calls) (u.past ++ next)))
-              (IsChecked u.place.setup u.place.task u.place.key u.place.sizes u.place.file (u.past ++ next) calls (A.Size m)) (A.Size m) in
+          (count_by is_done (asked_last (u.past ++ next)) ≡ length (parts_last u.place.key u.place.sizes (lengths_at_begin u.place.file calls) (u.past ++ next)))
+          (IsChecked u.place.setup u.place.task u.place.key u.place.sizes u.place.file (u.past ++ next) calls (A.Size m)) (A.Size m) in
           subst P (sym (wrongs_of u next parts calls l ∙ wrong)) refl;
       part = removed;
     })
@@ -91,17 +90,17 @@ pub answers_said : (u : Turn) (next : List Asking) (parts : List Part) (calls : 
     → ((u.chunk == 0) || is_reading 0 (begin_of u.place.key parts) (held_reads u.place.file calls)) ≡ true
     → are_read_whole u.place.setup u.place.task calls (first_in u) next ≡ true
     → MatchBool (is_got answer)
-        ((appended (part_of u.place.file) (since_begin u.place.file calls) ≡ bytes_fetched u.place.setup u.place.task calls (first_in u) next)
-        × (is_last_call_of (part_of u.place.file) (is_renaming (part_of u.place.file) u.place.file) calls ≡ true))
-        (is_removed (part_of u.place.file) calls ≡ true)
+    ((appended (part_of u.place.file) (since_begin u.place.file calls) ≡ bytes_fetched u.place.setup u.place.task calls (first_in u) next)
+    × (is_last_call_of (part_of u.place.file) (is_renaming (part_of u.place.file) u.place.file) calls ≡ true))
+    (is_removed (part_of u.place.file) calls ≡ true)
     → GetAnswers u.place.setup u.place.task u.place.key u.place.sizes u.place.file (u.past ++ next) calls answer
 answers_said u next parts calls answer l none count said held whole part =
     answers_of u next parts calls answer l (record {
       begun = begun_of u next parts calls l;
       by_length =
           let P : List ℕ → Type 0 = λ ns. DecidesBy ns
-              (count_by is_done (asked_last (u.past ++ next)) ≡ length (parts_last u.place.key u.place.sizes (lengths_at_begin u.place.file calls) (u.past ++ next)))
-              (IsChecked u.place.setup u.place.task u.place.key u.place.sizes u.place.file (u.past ++ next) calls answer) answer in
+          (count_by is_done (asked_last (u.past ++ next)) ≡ length (parts_last u.place.key u.place.sizes (lengths_at_begin u.place.file calls) (u.past ++ next)))
+          (IsChecked u.place.setup u.place.task u.place.key u.place.sizes u.place.file (u.past ++ next) calls answer) answer in
           subst P (sym (wrongs_of u next parts calls l ∙ none))
           (ap (count_by is_done) last ∙ count ∙ sym (ap length (parts_of_last u next parts calls l)), is_checked);
       part = by_test (is_got answer) part;
@@ -135,7 +134,7 @@ answers_said u next parts calls answer l none count said held whole part =
 
     by_test : (b : Bool)
         → MatchBool b ((appended (part_of u.place.file) (since_begin u.place.file calls) ≡ bytes_fetched u.place.setup u.place.task calls (first_in u) next)
-            × (is_last_call_of (part_of u.place.file) (is_renaming (part_of u.place.file) u.place.file) calls ≡ true)) (is_removed (part_of u.place.file) calls ≡ true)
+        × (is_last_call_of (part_of u.place.file) (is_renaming (part_of u.place.file) u.place.file) calls ≡ true)) (is_removed (part_of u.place.file) calls ≡ true)
         → MatchBool b (IsKept u.place.setup u.place.task u.place.file (u.past ++ next) calls) (is_removed (part_of u.place.file) calls ≡ true)
     by_test true k = record { moved = k.0 ∙ sym bytes; renamed = k.1 }
     by_test false k = k

@@ -1,14 +1,13 @@
 -- A file that is fetched within a get, copied onto part and removed.
-use Rattle.std.proofs.Common.{◌≡◌, ◌∙◌, ℕ, ◌+◌, ◌-◌, ◌≤◌, ◌<◌, ◌^◌, Bool, true, false, not, List, [], ◌∷◌, ◌++◌, length, refl, sym, ap, subst, arith, append_assoc, append-nil, zero-add}
-use Rattle.std.specs.Prelude.{◌&&◌, ◌||◌, Option, Some, None, is_none, bytes_eq, Result, Ok, Err}
-use Rattle.std.specs.List.{list_all, filter_map, concat}
+use Rattle.std.proofs.Common.{◌≡◌, ◌∙◌, ℕ, ◌+◌, ◌<◌, ◌^◌, true, false, List, [], ◌∷◌, ◌++◌, length, refl, sym, ap, subst, append_assoc, append-nil, zero-add}
+use Rattle.std.specs.Prelude.{Some, None, is_none, bytes_eq, Result, Ok, Err}
+use Rattle.std.specs.List.{list_all, concat}
 use Rattle.std.proofs.lemmas.List.Elements.{filter_map-append}
-use Rattle.ann_key.specs.Keys.{Parts}
 use Rattle.chunk_plan.specs.Layouts.{Part}
 use Rattle.ann_outside.specs.declared.file_desk.DeskError.{DeskError}
 use Rattle.ann_outside.specs.declared.file_desk.DeskError.TheVariants as E
 use Rattle.ann_outside.specs.declared.file_desk.Call.{Call}
-use Rattle.ann_outside.specs.declared.file_desk.Call.TheVariants.{Size, ReadAt, Create, Append, Rename, Remove}
+use Rattle.ann_outside.specs.declared.file_desk.Call.TheVariants.{Size, ReadAt, Append, Remove}
 use Rattle.fetch_copy.specs.Copies.{copy_calls, EndsWhole, EndsEarly, RefusedBy}
 use Rattle.task_asker.specs.Askings.{Asking}
 use Rattle.journal_model.specs.declared.answer.Answer.{Answer}
@@ -18,8 +17,8 @@ use Rattle.task_run.specs.Names.{part_of}
 use Rattle.task_run.specs.Reads.{reads_of, read_of, is_run, is_known}
 use Rattle.task_run.specs.Discipline.{are_found}
 use Rattle.task_run.specs.Ran.{answered, refusal}
-use Rattle.task_run.specs.Fetching.{Outcome, if_made}
-use Rattle.task_get.specs.Fronts.{Place, Turn, fetch_at, is_apart, are_free, Ended}
+use Rattle.task_run.specs.Fetching.{if_made}
+use Rattle.task_get.specs.Fronts.{Turn, fetch_at, is_apart, are_free, Ended}
 use Rattle.task_run.proofs.Texts.{same_name}
 use Rattle.task_get.proofs.LastCalls.{list_all-append}
 use Rattle.task_run.proofs.FileNames.{fetch_files_differ}
@@ -119,7 +118,7 @@ pub stopped_at : (h : Here) (seg : List Call) (y : Call) (answer : Answer) → F
     → call_stop (part_in h) y ≡ Some answer → Others h (y ∷ []) → read_of (fetch_in h) y ≡ None → EndedAt h (seg ++ y ∷ []) answer
 stopped_at h seg y answer f m fair found s others r =
     let fore : Fore h.turn.place (asked_in h) (h.calls ++ (seg ++ y ∷ [])) =
-        fetch_fore h.turn h.cur h.got h.left h.part h.x h.n h.calls (seg ++ y ∷ []) f more (rw (same_reads (fetch_in h) seg y r) m.run) in
+    fetch_fore h.turn h.cur h.got h.left h.part h.x h.n h.calls (seg ++ y ∷ []) f more (rw (same_reads (fetch_in h) seg y r) m.run) in
     let P : List Call → Type 0 = λ l. Fore h.turn.place (asked_in h) l in
     let Q : List Call → Type 0 = λ l. Ended h.turn.place (asked_in h) l answer in
     subst Q (append_assoc h.calls seg (y ∷ []))
@@ -276,8 +275,8 @@ pub part_known_moved : (h : Here) (pre : List Call) (left : ℕ) (pieces : List 
 part_known_moved h pre left pieces ending r w =
     let a = apart_in h in
     let whole : h.calls ++ (pre ++ moved_calls (file_in h) (fetch_in h) pieces ending) ≡ (h.calls ++ (pre ++ (copies_in h pieces ++ ending))) ++ Remove (fetch_in h) (Ok tt) ∷ [] =
-        ap (λ l. h.calls ++ l) (ap (λ l. pre ++ l) (sym (append_assoc (copies_in h pieces) ending (Remove (fetch_in h) (Ok tt) ∷ []))) ∙ sym (append_assoc pre (copies_in h pieces ++ ending) (Remove (fetch_in h) (Ok tt) ∷ [])))
-        ∙ sym (append_assoc h.calls (pre ++ (copies_in h pieces ++ ending)) (Remove (fetch_in h) (Ok tt) ∷ [])) in
+    ap (λ l. h.calls ++ l) (ap (λ l. pre ++ l) (sym (append_assoc (copies_in h pieces) ending (Remove (fetch_in h) (Ok tt) ∷ []))) ∙ sym (append_assoc pre (copies_in h pieces ++ ending) (Remove (fetch_in h) (Ok tt) ∷ [])))
+    ∙ sym (append_assoc h.calls (pre ++ (copies_in h pieces ++ ending)) (Remove (fetch_in h) (Ok tt) ∷ [])) in
     ap (is_known (part_in h)) whole
     ∙ known_skip (part_in h) (h.calls ++ (pre ++ (copies_in h pieces ++ ending))) (Remove (fetch_in h) (Ok tt)) (rw a.fetch_part refl)
-        (at_whole h (part_in h) pre pieces ending (tail_in h pre left pieces ending r w).known_part)
+    (at_whole h (part_in h) pre pieces ending (tail_in h pre left pieces ending r w).known_part)

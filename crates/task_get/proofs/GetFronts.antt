@@ -1,6 +1,6 @@
 -- What a get may ask so far, and how it ends where it is.
-use Rattle.std.proofs.Common.{◌≡◌, ◌∙◌, ℕ, zero, suc, ◌+◌, ◌-◌, ◌≤◌, ◌<◌, ◌^◌, min, Bool, true, false, not, List, [], ◌∷◌, ◌++◌, length, map, take, refl, sym, ap, subst, arith, append_assoc, append-nil, length-append}
-use Rattle.std.specs.Prelude.{◌&&◌, ◌||◌, filter, Option, Some, None, is_none, nat_le, unwrap_or}
+use Rattle.std.proofs.Common.{◌≡◌, ◌∙◌, ℕ, ◌+◌, ◌-◌, ◌≤◌, min, Bool, true, false, not, List, [], ◌∷◌, ◌++◌, length, map, take, refl, sym, ap, subst, arith, append-nil, length-append}
+use Rattle.std.specs.Prelude.{◌||◌, filter, Option, Some, is_none, nat_le, unwrap_or}
 use Rattle.std.specs.List.{list_all, filter_map}
 use Rattle.std.proofs.lemmas.Bool.{and_parts}
 use Rattle.std.proofs.lemmas.Bool.Decides.{nat_tests}
@@ -16,8 +16,8 @@ use Rattle.journal_model.specs.declared.answer.Answer.TheVariants as A
 use Rattle.task_text.specs.declared.task.Work.TheVariants as W
 use Rattle.ann_outside.specs.declared.file_desk.Call.{Call}
 use Rattle.task_asker.specs.Askings.{Asking}
-use Rattle.task_run.specs.Stops.{is_done, asking_stop, call_stop, is_stop_last, stops_of, AnsweredBy, all_but_last}
-use Rattle.task_run.specs.Names.{part_of, fetch_files}
+use Rattle.task_run.specs.Stops.{is_done, asking_stop, call_stop, stops_of, AnsweredBy, all_but_last}
+use Rattle.task_run.specs.Names.{part_of}
 use Rattle.task_run.specs.Requests.{rounds, RoundsAsk}
 use Rattle.task_run.specs.Reads.{is_run}
 use Rattle.task_run.specs.Gets.{fetch_request, lengths_at_begin, wanted, is_failed, failures, asked_last, first_asked, item, parts_last, held_reads, are_read, wrong_lengths, GetAsks, GetAnswers}
@@ -154,9 +154,9 @@ ended_stopped p asked front x answer f free s = record {
   get_asks = f.asks;
   answered =
       let last : filter_map (call_stop (part_of p.file)) (front ++ x ∷ []) ≡ answer ∷ [] =
-          filter_map-append (call_stop (part_of p.file)) front (x ∷ []) ∙ rw (none_stop (call_stop (part_of p.file)) front free) (rw s refl) in
+      filter_map-append (call_stop (part_of p.file)) front (x ∷ []) ∙ rw (none_stop (call_stop (part_of p.file)) front free) (rw s refl) in
       let e : stops_of W.Get (part_of p.file) asked (front ++ x ∷ []) ≡ answer ∷ [] =
-          ap (λ (l : List Answer). l ++ filter_map (call_stop (part_of p.file)) (front ++ x ∷ [])) (none_stop (asking_stop W.Get) asked (all_go_on asked f.calm)) ∙ last in
+      ap (λ (l : List Answer). l ++ filter_map (call_stop (part_of p.file)) (front ++ x ∷ [])) (none_stop (asking_stop W.Get) asked (all_go_on asked f.calm)) ∙ last in
       let P : List Answer → Type 0 = λ stops. AnsweredBy stops answer (GetAnswers p.setup p.task p.key p.sizes p.file asked (front ++ x ∷ []) answer) in
       subst P (sym e) refl;
 }
@@ -173,9 +173,9 @@ ended_asked p asked x calls answer calm asks sound free s = record {
   get_asks = asks;
   answered =
       let first : filter_map (asking_stop W.Get) (asked ++ x ∷ []) ≡ answer ∷ [] =
-          filter_map-append (asking_stop W.Get) asked (x ∷ []) ∙ rw (none_stop (asking_stop W.Get) asked (all_go_on asked calm)) (rw s refl) in
+      filter_map-append (asking_stop W.Get) asked (x ∷ []) ∙ rw (none_stop (asking_stop W.Get) asked (all_go_on asked calm)) (rw s refl) in
       let e : stops_of W.Get (part_of p.file) (asked ++ x ∷ []) calls ≡ answer ∷ [] =
-          ap (λ (l : List Answer). filter_map (asking_stop W.Get) (asked ++ x ∷ []) ++ l) (none_stop (call_stop (part_of p.file)) calls free) ∙ append-nil (filter_map (asking_stop W.Get) (asked ++ x ∷ [])) ∙ first in
+      ap (λ (l : List Answer). filter_map (asking_stop W.Get) (asked ++ x ∷ []) ++ l) (none_stop (call_stop (part_of p.file)) calls free) ∙ append-nil (filter_map (asking_stop W.Get) (asked ++ x ∷ [])) ∙ first in
       let P : List Answer → Type 0 = λ stops. AnsweredBy stops answer (GetAnswers p.setup p.task p.key p.sizes p.file (asked ++ x ∷ []) calls answer) in
       subst P (sym e) refl;
 }

@@ -1,7 +1,6 @@
 -- A layout of chunks, from its begin to its end.
-use Rattle.std.proofs.Common.{◌≡◌, ◌∙◌, ℕ, ◌+◌, ◌-◌, ◌*◌, ◌≤◌, ◌<◌, ◌==◌, Bool, true, false, List, [], ◌∷◌, ◌++◌, length, refl, sym, ap, subst, arith, append_assoc, append-nil}
+use Rattle.std.proofs.Common.{◌≡◌, ◌∙◌, ℕ, ◌+◌, ◌≤◌, ◌<◌, ◌==◌, false, List, [], ◌∷◌, ◌++◌, length, refl, sym, ap, subst, arith, append_assoc, append-nil}
 use Rattle.std.specs.Prelude.{Option, Some, Result, Ok, Err}
-use Rattle.std.specs.List.{concat}
 use Rattle.std.proofs.lemmas.Bool.{ne_eqb}
 use Rattle.ann_key.specs.Keys.{Parts}
 use Rattle.ann_key.specs.declared.bytes.NoMemory.{NoMemory}
@@ -9,12 +8,9 @@ use Rattle.ann_digest.specs.Fits.{IsSaidOf}
 use Rattle.ann_digest.specs.Checkers.{Holds, taken_of}
 use Rattle.ann_digest.specs.declared.fit.Fit.{Fit}
 use Rattle.ann_digest.specs.declared.checker.Checker.{Checker}
-use Rattle.ann_outside.specs.Calls.{Gained, logged}
-use Rattle.ann_outside.specs.declared.file_desk.DeskError.{DeskError}
-use Rattle.ann_outside.specs.declared.file_desk.DeskError.TheVariants as E
+use Rattle.ann_outside.specs.Calls.{logged}
 use Rattle.ann_outside.specs.declared.file_desk.Call.{Call}
 use Rattle.chunk_plan.specs.Layouts.{Part, count_of, from_of, to_of, held_of}
-use Rattle.fetch_copy.specs.Copies.{Checks}
 use Rattle.fetch_copy.proofs.CopyLaws.{gained_nothing, gained_more}
 use Rattle.journal_model.specs.declared.answer.Answer.{Answer}
 use Rattle.journal_model.specs.declared.answer.Answer.TheVariants as A
@@ -27,15 +23,14 @@ use Rattle.task_get.specs.declared.get_begin.Begun.TheVariants as B
 use Rattle.task_run.specs.Names.{part_of}
 use Rattle.task_run.specs.Reads.{bytes_of}
 use Rattle.task_run.specs.Ran.{answered, refusal}
-use Rattle.task_run.specs.Fetching.{Outcome, Files3, if_made, settling, settled}
+use Rattle.task_run.specs.Fetching.{Outcome, if_made, settling, settled}
 use Rattle.task_get.specs.ChunkFetches.{over_with}
-use Rattle.task_get.specs.Fronts.{Place, Turn, Within, Kept, Between, Ended}
-use Rattle.task_get.specs.LayoutRuns.{Grown, Behind, place_at, turn_at, parts_from, ChunksEnd, ChunksRan, LayoutEnd, LayoutRan}
+use Rattle.task_get.specs.Fronts.{Turn, Between, Ended}
+use Rattle.task_get.specs.LayoutRuns.{Behind, place_at, turn_at, parts_from, ChunksEnd, ChunksRan, LayoutEnd, LayoutRan}
 use Rattle.task_get.specs.PartBegins.{Begin, Unlooked, Unmade, Made, Uncut, Unread, Resumed, keep_of, begin_calls, unbegun, begin_result, BeginIs, Begins}
 use Rattle.task_get.proofs.FetchLaws.{gained_settling}
 use Rattle.task_get.proofs.ChunkNumbers.{held_most, from_is}
 use Rattle.task_get.proofs.GetFronts.{ended_memory}
-use Rattle.task_get.proofs.GetChunks.{both_grown}
 use Rattle.task_get.proofs.GetParts.{settle_end, between_fore, of_none}
 use Rattle.task_get.proofs.GetBegins.{BeginEnd, begin_end}
 
@@ -157,9 +152,13 @@ pub layout_settled : (setup : Setup) (t : ℕ) (key : Parts) (file part : List �
     → Holds before key [] → ((bytes : List ℕ) → Holds after key bytes → IsSaidOf key bytes fit) → new ≡ logged mid (settling (record { file = file; part = part; fetch = [] }) fit r)
     → part ≡ part_of file → key.size ≡ Some size → 0 < chunk → LayoutRan setup t key file chunk first now pairs later old new (over_with (settled fit r))
 layout_settled setup t key file part size chunk held first now pairs later before between after old on mid new fit r g c k said l p s some = record {
-  grown = record { asked = c.grown.asked; made = begin_calls part size chunk g.how ++ (c.grown.made ++ last part); pairs_are = c.grown.pairs_are;
-      log_is = gained_more old on new (begin_calls part size chunk g.how) (c.grown.made ++ last part) g.calls
-          (gained_more on mid new c.grown.made (last part) c.grown.log_is (gained_settling (record { file = file; part = part; fetch = [] }) fit mid new r l)) };
+  grown = record {
+    asked = c.grown.asked;
+    made = begin_calls part size chunk g.how ++ (c.grown.made ++ last part);
+    pairs_are = c.grown.pairs_are;
+    log_is = gained_more old on new (begin_calls part size chunk g.how) (c.grown.made ++ last part) g.calls
+        (gained_more on mid new c.grown.made (last part) c.grown.log_is (gained_settling (record { file = file; part = part; fetch = [] }) fit mid new r l));
+  };
   goes = λ b n d w.
       let u = turn_at setup t key file chunk b in
       let made : List Call = begin_calls part size chunk g.how in

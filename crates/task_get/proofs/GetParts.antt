@@ -1,13 +1,10 @@
 -- Calls of part within a get: those at a layout's begin, and the one at its end.
-use Rattle.std.proofs.Common.{◌≡◌, ◌∙◌, ℕ, zero, suc, ◌+◌, ◌-◌, ◌*◌, ◌≤◌, ◌<◌, ◌^◌, ◌==◌, Bool, true, false, not, List, [], ◌∷◌, ◌++◌, length, map, take, drop, refl, sym, ap, subst, arith, append_assoc, append-nil, length-append, eq-eqb, zero-add}
-use Rattle.std.specs.Prelude.{◌&&◌, ◌||◌, if◌then◌else◌, Option, Some, None, is_none, unwrap_or, Result, Ok, Err, bytes_eq, count_by}
+use Rattle.std.proofs.Common.{◌≡◌, ◌∙◌, ℕ, ◌+◌, ◌-◌, ◌≤◌, ◌==◌, Bool, true, false, not, List, [], ◌∷◌, ◌++◌, length, map, refl, sym, ap, subst, arith, append-nil, length-append, eq-eqb}
+use Rattle.std.specs.Prelude.{if◌then◌else◌, Some, None, Result, Ok, Err}
 use Rattle.std.specs.Bool.{MatchBool}
-use Rattle.std.specs.List.{list_all, filter_map, concat}
-use Rattle.std.proofs.lemmas.Bool.{ne_eqb}
+use Rattle.std.specs.List.{list_all, filter_map}
 use Rattle.std.proofs.lemmas.List.{take-append-le}
 use Rattle.std.proofs.lemmas.List.Elements.{filter_map-append}
-use Rattle.ann_key.specs.Keys.{Parts}
-use Rattle.ann_key.specs.declared.bytes.NoMemory.{NoMemory}
 use Rattle.ann_digest.specs.Fits.{IsSaidOf}
 use Rattle.ann_digest.specs.declared.fit.Fit.{Fit}
 use Rattle.ann_digest.specs.declared.fit.Fit.TheVariants as F
@@ -21,24 +18,24 @@ use Rattle.journal_model.specs.declared.answer.Answer.TheVariants as A
 use Rattle.task_asker.specs.Askings.{Asking}
 use Rattle.task_run.specs.Stops.{is_done, call_stop, AnsweredBy, all_but_last}
 use Rattle.task_run.specs.Names.{part_of, fetch_files}
-use Rattle.task_run.specs.Requests.{AskInOrder, rounds, RoundsAsk}
+use Rattle.task_run.specs.Requests.{rounds, RoundsAsk}
 use Rattle.task_run.specs.Reads.{length_or_none, reads_of, read_of, bytes_of, is_run, is_reading, is_known, appended, takes_away, is_renaming, is_last_call_of, is_removed, piece_of}
 use Rattle.task_run.specs.Discipline.{are_found, name_only, changes_as_result, size_of_only}
-use Rattle.task_run.specs.Gets.{fetch_request, begins, lengths_at_begin, wanted, parts_wanted, wrong_lengths, held_reads, since_begin, bytes_fetched, are_read, are_read_whole, fit_in, is_got, IsSaid, GetAsks, GetAnswers}
+use Rattle.task_run.specs.Gets.{fetch_request, begins, lengths_at_begin, wanted, wrong_lengths, held_reads, since_begin, bytes_fetched, fit_in, is_got, IsSaid, GetAsks, GetAnswers}
 use Rattle.task_run.specs.Runs.{fetched_files}
-use Rattle.task_run.specs.Ran.{answered, refusal}
-use Rattle.task_run.specs.Fetching.{Files3, Outcome, if_made, discarded, kept, settling, settled}
-use Rattle.task_get.specs.Fronts.{Place, Turn, first_in, fetch_at, keys_in, is_calm, is_apart, Tried, Sound, are_free, Within, Kept, Between, Ended, begin_of}
+use Rattle.task_run.specs.Ran.{answered}
+use Rattle.task_run.specs.Fetching.{Outcome, if_made, discarded, settling, settled}
+use Rattle.task_get.specs.Fronts.{Place, Turn, first_in, fetch_at, keys_in, is_calm, is_apart, Sound, Within, Kept, Between, Ended, begin_of}
 use Rattle.task_run.proofs.Texts.{apart, same_name}
 use Rattle.task_get.proofs.LastCalls.{list_all-append}
-use Rattle.task_get.proofs.AskLaws.{asks_done, count_all}
+use Rattle.task_get.proofs.AskLaws.{count_all}
 use Rattle.task_run.proofs.GetCallsLaws.{Apart, found_more}
-use Rattle.task_get.proofs.GetEnds.{last_call, stop_is}
+use Rattle.task_get.proofs.GetEnds.{last_call}
 use Rattle.task_run.proofs.Lists.{all_taken}
 use Rattle.task_get.proofs.GetTasks.{names_apart}
 use Rattle.task_get.proofs.ReadLaws.{Sub, sub_cons, names_sub, changes_sub, sizes_sub, begin_lengths, held_run, held_more, appended_more, same_read, same_wrong, same_bytes, same_whole, wrong_taken, right_or}
 use Rattle.task_get.proofs.GetFronts.{asks_of, Fore, ended_memory, ended_stopped, ended_finished}
-use Rattle.task_get.proofs.GetDecides.{Last, answers_said}
+use Rattle.task_get.proofs.GetDecides.{answers_said}
 use Rattle.task_get.proofs.GetWithin.{none_failed, within_order, within_fore}
 
 pub part_apart : (p : Place) (n : ℕ) → Apart p.file (fetch_at p n)
@@ -169,7 +166,7 @@ within_part u cur got left calls seg w o no_length no_read = record {
       (let b = w.begun_chunked in let n : length (lengths_at_begin u.place.file (calls ++ seg)) ≡ length (lengths_at_begin u.place.file calls) = ap length same in omega (arith, n, b))
       (ap (λ (l : List Part). wrong_lengths u.place.setup u.place.task u.place.key.size (calls ++ seg) (first_in u) l) (take-append-le (length cur - 1) got left (let a = w.aligned in omega (arith, a)))
       ∙ wrong_taken u.place.setup u.place.task u.place.key.size (calls ++ seg) (first_in u) (length cur - 1) got
-          (same_wrong u.place.setup u.place.task u.place.key.size (first_in u) got calls seg (λ i low high. o.others i) ∙ w.right))
+      (same_wrong u.place.setup u.place.task u.place.key.size (first_in u) got calls seg (λ i low high. o.others i) ∙ w.right))
       held
       (same_read u.place.setup u.place.task (first_in u) cur calls seg (λ i low high. o.others i) ∙ w.read);
   sound = sound_part u.place (u.past ++ cur) calls seg w.sound o held;
@@ -213,8 +210,8 @@ settle_end u cur parts calls held bytes fit r w k c said = by_fit fit said r
         let moved : appended (part_of p.file) (since_begin p.file (calls ++ y ∷ [])) ≡ bytes = appended_more p.file calls (y ∷ []) behind ∙ ap (λ l. appended (part_of p.file) (since_begin p.file calls) ++ l) nothing ∙ append-nil (appended (part_of p.file) (since_begin p.file calls)) ∙ k.moved in
         let P : List ℕ → Type 0 = λ l. IsSaid p.key l (fit_in answer) in
         let all : (if u.chunk == 0 then [] else bytes_of (held_reads p.file (calls ++ y ∷ []))) ++ bytes_fetched p.setup p.task (calls ++ y ∷ []) (first_in u) cur ≡ bytes_of held ++ bytes =
-            ap (λ (b : Bool). (if b then [] else bytes_of (held_reads p.file (calls ++ y ∷ []))) ++ bytes_fetched p.setup p.task (calls ++ y ∷ []) (first_in u) cur) c
-            ∙ ap (λ (l : List (ℕ × List ℕ)). bytes_of l ++ bytes_fetched p.setup p.task (calls ++ y ∷ []) (first_in u) cur) reads ∙ ap (λ (l : List ℕ). bytes_of held ++ l) fetched in
+        ap (λ (b : Bool). (if b then [] else bytes_of (held_reads p.file (calls ++ y ∷ []))) ++ bytes_fetched p.setup p.task (calls ++ y ∷ []) (first_in u) cur) c
+        ∙ ap (λ (l : List (ℕ × List ℕ)). bytes_of l ++ bytes_fetched p.setup p.task (calls ++ y ∷ []) (first_in u) cur) reads ∙ ap (λ (l : List ℕ). bytes_of held ++ l) fetched in
         let parts_same : parts ++ [] ≡ parts = append-nil parts in
         answers_said u cur parts (calls ++ y ∷ []) answer
         (record {
@@ -227,7 +224,7 @@ settle_end u cur parts calls held bytes fit r w k c said = by_fit fit said r
         (count_all is_done cur w.all_done ∙ sym w.aligned)
         (subst P (sym all) s)
         (right_or (u.chunk == 0) (is_reading 0 (begin_of p.key parts) (held_reads p.file (calls ++ y ∷ [])))
-            (ap (is_reading 0 (begin_of p.key parts)) reads ∙ ap (λ (l : List Part). is_reading 0 (begin_of p.key l) held) (sym parts_same) ∙ k.held_whole))
+        (ap (is_reading 0 (begin_of p.key parts)) reads ∙ ap (λ (l : List Part). is_reading 0 (begin_of p.key l) held) (sym parts_same) ∙ k.held_whole))
         (same_whole p.setup p.task (first_in u) cur calls (y ∷ []) (λ i low high. o.others i) ∙ k.whole)
         (by_test _ _ _ (is_got answer) (moved ∙ sym fetched) last)
       where

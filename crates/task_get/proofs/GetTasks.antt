@@ -1,8 +1,8 @@
 -- A get of its task's own names, and one that did nothing.
-use Rattle.std.proofs.Common.{◌≡◌, ◌∙◌, ℕ, ◌≤◌, List, [], sym, ap, subst, append-nil}
-use Rattle.std.specs.Prelude.{Bool, true, nat_le, Option, Err}
+use Rattle.std.proofs.Common.{◌≡◌, ℕ, List, [], sym, ap, subst, append-nil}
+use Rattle.std.specs.Prelude.{true, nat_le, Option, Err}
 use Rattle.std.proofs.lemmas.Bool.Decides.{nat_tests}
-use Rattle.ann_key.specs.Keys.{Parts, key_reading}
+use Rattle.ann_key.specs.Keys.{Parts}
 use Rattle.ann_key.specs.declared.bytes.NoMemory.{NoMemory}
 use Rattle.task_text.specs.declared.task.Task.{Task}
 use Rattle.task_text.specs.declared.task.Work.TheVariants as W

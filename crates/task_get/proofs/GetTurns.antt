@@ -1,9 +1,8 @@
 -- How a get within a layout goes on behind one request.
-use Rattle.std.proofs.Common.{◌≡◌, ◌∙◌, ℕ, zero, suc, ◌+◌, ◌-◌, ◌≤◌, ◌<◌, ◌^◌, ◌==◌, Bool, true, false, not, List, [], ◌∷◌, ◌++◌, length, map, take, refl, sym, ap, subst, arith, append_assoc, append-nil, length-append, eq-eqb}
-use Rattle.std.specs.Prelude.{◌&&◌, ◌||◌, filter, Option, Some, None, is_none, unwrap_or, Result, Ok, Err, bytes_eq}
-use Rattle.std.specs.List.{list_all, filter_map, concat}
+use Rattle.std.proofs.Common.{◌≡◌, ◌∙◌, ℕ, ◌+◌, ◌-◌, ◌≤◌, ◌<◌, ◌^◌, ◌==◌, Bool, true, false, not, List, [], ◌∷◌, ◌++◌, length, map, refl, sym, ap, subst, arith, append_assoc, append-nil, length-append, eq-eqb}
+use Rattle.std.specs.Prelude.{◌&&◌, ◌||◌, filter, Option, Some, None, Result, Ok, Err}
+use Rattle.std.specs.List.{list_all, concat}
 use Rattle.std.proofs.lemmas.List.{map-append}
-use Rattle.std.proofs.lemmas.List.Elements.{filter_map-append}
 use Rattle.ann_key.specs.Keys.{Parts, key_reading}
 use Rattle.ann_key.specs.declared.bytes.NoMemory.{NoMemory}
 use Rattle.ann_digest.specs.declared.checker.Checker.{Checker}
@@ -16,36 +15,35 @@ use Rattle.journal_model.specs.declared.answer.Answer.{Answer}
 use Rattle.journal_model.specs.declared.answer.Answer.TheVariants as A
 use Rattle.task_text.specs.declared.task.Work.TheVariants as W
 use Rattle.ann_outside.specs.Calls.{Gained}
-use Rattle.ann_outside.specs.declared.file_desk.DeskError.{DeskError}
 use Rattle.ann_outside.specs.declared.file_desk.DeskError.TheVariants as E
 use Rattle.ann_outside.specs.declared.file_desk.Call.{Call}
 use Rattle.ann_outside.specs.declared.file_desk.Call.TheVariants.{Size, Remove}
-use Rattle.fetch_copy.specs.Copies.{copy_calls, EndsWhole, Checks}
+use Rattle.fetch_copy.specs.Copies.{EndsWhole, Checks}
 use Rattle.fetch_copy.proofs.CopyLaws.{gained_nothing}
-use Rattle.task_asker.specs.Askings.{Asking, IsKept, AsksOne}
+use Rattle.task_asker.specs.Askings.{Asking, IsKept}
 use Rattle.task_run.specs.declared.setup.Setup.{Setup}
 use Rattle.task_get.specs.declared.get_chunk.Went.{Went}
 use Rattle.task_get.specs.declared.get_chunk.Went.TheVariants as T
 use Rattle.task_run.specs.Stops.{is_done, is_done_at, asking_stop, call_stop, AnsweredBy}
 use Rattle.task_run.specs.Names.{part_of, fetch_file}
 use Rattle.task_run.specs.Requests.{AsksFor, AskInOrder, rounds, RoundsAsk}
-use Rattle.task_run.specs.Reads.{length_found, lengths_found, reads_of, read_of, bytes_of, is_known, is_run, is_reading, takes_away, is_last_call_of, is_removed, appended, piece_of}
-use Rattle.task_run.specs.Gets.{fetch_request, begins, lengths_at_begin, wanted, wrong_lengths, is_wrong, is_failed, failures, asked_last, GetAsks, GetAnswers}
-use Rattle.task_run.specs.Ran.{answered, refusal, is_verdict_of, undone_answer}
-use Rattle.task_run.specs.Fetching.{Outcome, if_made, discarded}
-use Rattle.task_get.specs.Fronts.{Place, Turn, first_in, fetch_at, keys_in, is_calm, is_apart, Tried, Sound, are_free, Within, Kept, Between, Ended}
-use Rattle.task_get.specs.ChunkFetches.{over_with, Come, Unmeasured, Misfit, Uncopied, Unremoved, Came, come_calls, come_result, ComeIs, Take, Unmade, Undone, Fetched, undone_went, Unasked, IsUndone, IsFetched, TakeIs, Takes}
+use Rattle.task_run.specs.Reads.{lengths_found, reads_of, is_known, is_run, is_reading, takes_away, is_removed}
+use Rattle.task_run.specs.Gets.{fetch_request, lengths_at_begin, wanted, wrong_lengths, is_wrong, is_failed, failures, asked_last, GetAsks}
+use Rattle.task_run.specs.Ran.{refusal, is_verdict_of}
+use Rattle.task_run.specs.Fetching.{Outcome, discarded}
+use Rattle.task_get.specs.Fronts.{Turn, first_in, fetch_at, keys_in, is_calm, is_apart, Tried, Sound, are_free, Within, Kept, Between, Ended}
+use Rattle.task_get.specs.ChunkFetches.{over_with, Come, Unmeasured, Misfit, Uncopied, Unremoved, Came, come_calls, come_result, ComeIs, Take, Unmade, Undone, Fetched, undone_went, TakeIs}
 use Rattle.task_get.specs.LayoutRuns.{Grown, PartEnd}
 use Rattle.task_run.proofs.Texts.{apart, same_name}
 use Rattle.task_get.proofs.LastCalls.{list_all-append, after_last-at}
 use Rattle.task_get.proofs.AskLaws.{round_ended, count_more, count_none, count_all}
-use Rattle.task_run.proofs.GetCallsLaws.{Apart, fair_size, fair_remove_part, known_add, known_skip, placed, nat_same}
-use Rattle.task_get.proofs.GetEnds.{Facts, moved_facts, whole_reading, moved_calls, regrouped, last_call}
-use Rattle.task_get.proofs.GetFronts.{Fore, ended_memory, ended_asked, ended_finished, first_is, parts_are, failures_are}
+use Rattle.task_run.proofs.GetCallsLaws.{fair_size, fair_remove_part, known_add, known_skip}
+use Rattle.task_get.proofs.GetEnds.{Facts, moved_facts, whole_reading, moved_calls, last_call}
+use Rattle.task_get.proofs.GetFronts.{ended_memory, ended_asked, ended_finished}
 use Rattle.task_get.proofs.ReadLaws.{weaken, begin_lengths, reads_behind, right_or, lengths_behind, same_wrong, none_wrong, wrong_more}
-use Rattle.task_get.proofs.GetDecides.{Last, answers_misfit, answers_said}
-use Rattle.task_get.proofs.GetWithin.{own_apart, Segment, Fetching, none_failed, sound_asked, within_asks, within_fore, within_next, kept_next}
-use Rattle.task_get.proofs.GetFetch.{Here, FetchingAt, file_in, part_in, fetch_in, asked_in, EndedAt, apart_in, Others, others_size, Moving, moving_none, moving_step, segment_of, fore_of, free_of, memory_at, stopped_at, Ready, copies_in, copy_early, copy_refused, tail_in, fetch_unremoved, moving_moved, part_known_moved}
+use Rattle.task_get.proofs.GetDecides.{Last, answers_misfit}
+use Rattle.task_get.proofs.GetWithin.{own_apart, none_failed, sound_asked, within_asks, within_fore, within_next, kept_next}
+use Rattle.task_get.proofs.GetFetch.{Here, FetchingAt, file_in, part_in, fetch_in, asked_in, EndedAt, apart_in, others_size, Moving, moving_none, moving_step, segment_of, fore_of, free_of, memory_at, stopped_at, Ready, copies_in, copy_early, copy_refused, tail_in, fetch_unremoved, moving_moved, part_known_moved}
 
 -- ---- a layout that failed
 
@@ -83,23 +81,23 @@ pub failed_tried : (u : Turn) (cur : List Asking) (got left : List Part) (part :
     → n ≡ first_in u + length cur → AsksFor (fetch_request u.place.setup u.place.task) n part.key a → is_failed a ≡ true
     → Tried u.place (u.past ++ (cur ++ a ∷ [])) (u.done ++ (got ++ part ∷ left) ∷ []) (u.tried ++ u.chunk ∷ []) u.rest
 failed_tried u cur got left part a n calls w is asks f = record {
-    sizes_are = w.tries.sizes_are ∙ sym (append_assoc u.tried (u.chunk ∷ []) u.rest);
-    each_done =
-        let t : length (u.tried ++ u.chunk ∷ []) ≡ length u.tried + 1 = length-append u.tried (u.chunk ∷ []) in
-        let d : length (u.done ++ (got ++ part ∷ left) ∷ []) ≡ length u.done + 1 = length-append u.done ((got ++ part ∷ left) ∷ []) in
-        omega (arith, t, d, w.tries.each_done);
-    failed =
-        let o = one_failed u.past cur a w.all_done f in
-        let d : length (u.done ++ (got ++ part ∷ left) ∷ []) ≡ length u.done + 1 = length-append u.done ((got ++ part ∷ left) ∷ []) in
-        omega (arith, o, d, w.tries.failed);
-    calm = list_all-append is_calm u.past (cur ++ a ∷ []) w.tries.calm
-        (list_all-append is_calm cur (a ∷ []) (done_all_calm cur w.all_done) (rw (failed_calm a f) refl));
-    in_order = order;
-    last = λ next none.
-        let e : (u.past ++ (cur ++ a ∷ [])) ++ next ≡ (u.past ++ cur) ++ a ∷ next =
-            ap (λ l. l ++ next) (sym (append_assoc u.past cur (a ∷ []))) ∙ append_assoc (u.past ++ cur) (a ∷ []) next in
-        ap asked_last e ∙ after_last-at is_failed (u.past ++ cur) a next none f;
-  }
+  sizes_are = w.tries.sizes_are ∙ sym (append_assoc u.tried (u.chunk ∷ []) u.rest);
+  each_done =
+      let t : length (u.tried ++ u.chunk ∷ []) ≡ length u.tried + 1 = length-append u.tried (u.chunk ∷ []) in
+      let d : length (u.done ++ (got ++ part ∷ left) ∷ []) ≡ length u.done + 1 = length-append u.done ((got ++ part ∷ left) ∷ []) in
+      omega (arith, t, d, w.tries.each_done);
+  failed =
+      let o = one_failed u.past cur a w.all_done f in
+      let d : length (u.done ++ (got ++ part ∷ left) ∷ []) ≡ length u.done + 1 = length-append u.done ((got ++ part ∷ left) ∷ []) in
+      omega (arith, o, d, w.tries.failed);
+  calm = list_all-append is_calm u.past (cur ++ a ∷ []) w.tries.calm
+      (list_all-append is_calm cur (a ∷ []) (done_all_calm cur w.all_done) (rw (failed_calm a f) refl));
+  in_order = order;
+  last = λ next none.
+      let e : (u.past ++ (cur ++ a ∷ [])) ++ next ≡ (u.past ++ cur) ++ a ∷ next =
+      ap (λ l. l ++ next) (sym (append_assoc u.past cur (a ∷ []))) ∙ append_assoc (u.past ++ cur) (a ∷ []) next in
+      ap asked_last e ∙ after_last-at is_failed (u.past ++ cur) a next none f;
+}
   where
     done_all_calm : (ds : List Asking) → list_all is_done ds ≡ true → list_all is_calm ds ≡ true
     done_all_calm ds h = weaken is_done is_calm ds (λ d e. rw e refl) h
@@ -111,18 +109,18 @@ failed_tried u cur got left part a n calls w is asks f = record {
         let K : List Parts → Type 0 = λ ks. AskInOrder ask (first_in u) ks (cur ++ a ∷ []) in
         let N : ℕ → Type 0 = λ k. AsksFor ask k part.key a in
         let own : AskInOrder ask (first_in u) (keys_in (got ++ part ∷ left)) (cur ++ a ∷ []) =
-            subst K (sym (map-append (λ (q : Part). q.key) got (part ∷ left))) (w.in_order (keys_in (part ∷ left)) (a ∷ []) (subst N is asks, tt)) in
+        subst K (sym (map-append (λ (q : Part). q.key) got (part ∷ left))) (w.in_order (keys_in (part ∷ left)) (a ∷ []) (subst N is asks, tt)) in
         let num : length (u.past ++ (cur ++ a ∷ [])) + 1 ≡ first_in u + length (cur ++ a ∷ []) = let l : length (u.past ++ (cur ++ a ∷ [])) ≡ length u.past + length (cur ++ a ∷ []) = length-append u.past (cur ++ a ∷ []) in omega (arith, l) in
         let M : ℕ → Type 0 = λ k. RoundsAsk ask k more (rounds next) in
         let R : List (List Asking) → Type 0 = λ rs. RoundsAsk ask (first_in u) (keys_in (got ++ part ∷ left) ∷ more) rs in
         let round : RoundsAsk ask (first_in u) (keys_in (got ++ part ∷ left) ∷ more) (rounds ((cur ++ a ∷ []) ++ next)) =
-            subst R (sym (round_ended cur a next w.all_done (failed_undone a f))) (own, subst M num h) in
+        subst R (sym (round_ended cur a next w.all_done (failed_undone a f))) (own, subst M num h) in
         let all : RoundsAsk ask 1 (map keys_in u.done ++ keys_in (got ++ part ∷ left) ∷ more) (rounds (u.past ++ ((cur ++ a ∷ []) ++ next))) =
-            w.tries.in_order (keys_in (got ++ part ∷ left) ∷ more) ((cur ++ a ∷ []) ++ next) round in
+        w.tries.in_order (keys_in (got ++ part ∷ left) ∷ more) ((cur ++ a ∷ []) ++ next) round in
         let L : List (List Parts) → Type 0 = λ ks. RoundsAsk ask 1 ks (rounds (u.past ++ ((cur ++ a ∷ []) ++ next))) in
         let S : List Asking → Type 0 = λ l. RoundsAsk ask 1 (map keys_in (u.done ++ (got ++ part ∷ left) ∷ []) ++ more) (rounds l) in
         let keys : map keys_in u.done ++ keys_in (got ++ part ∷ left) ∷ more ≡ map keys_in (u.done ++ (got ++ part ∷ left) ∷ []) ++ more =
-            sym (append_assoc (map keys_in u.done) (keys_in (got ++ part ∷ left) ∷ []) more) ∙ ap (λ l. l ++ more) (sym (map-append keys_in u.done ((got ++ part ∷ left) ∷ []))) in
+        sym (append_assoc (map keys_in u.done) (keys_in (got ++ part ∷ left) ∷ []) more) ∙ ap (λ l. l ++ more) (sym (map-append keys_in u.done ((got ++ part ∷ left) ∷ []))) in
         subst S (sym (append_assoc u.past (cur ++ a ∷ []) next)) (subst L keys all)
 
 pub failed_between : (u : Turn) (cur : List Asking) (got left : List Part) (part : Part) (a : Asking) (n : ℕ) (calls : List Call) → Within u cur got (part ∷ left) calls
@@ -193,8 +191,8 @@ misfit h m size r f s wrong begun room free gone by =
     later : wrong_lengths u.place.setup u.place.task u.place.key.size (h.calls ++ seg) (h.n + 1) h.left ≡ []
     later = none_wrong u.place.setup u.place.task u.place.key.size (h.n + 1) h.left (h.calls ++ seg)
         (λ i low high. list_all-append (is_apart (fetch_at u.place i)) h.calls seg
-            (f.within.sound.fresh i (let o = own_number u h.cur h.n f.number in omega (arith, o, low)) (omega (arith, high, room)))
-            (moving.others i (omega (arith, high, room)) (λ e. omega (arith, e, low))))
+        (f.within.sound.fresh i (let o = own_number u h.cur h.n f.number in omega (arith, o, low)) (omega (arith, high, room)))
+        (moving.others i (omega (arith, high, room)) (λ e. omega (arith, e, low))))
 
     is_wrong_now : is_wrong u.place.key.size h.part m ≡ true
     is_wrong_now = let P : Option ℕ → Type 0 = λ o. is_wrong o h.part m ≡ true in subst P (sym s) (ap not wrong)
@@ -204,7 +202,7 @@ misfit h m size r f s wrong begun room free gone by =
         let number : first_in u + length h.got ≡ h.n = let a = f.within.aligned in let b = f.number in omega (arith, a, b) in
         wrong_more u.place.setup u.place.task u.place.key.size (h.calls ++ seg) (first_in u) h.got (h.part ∷ h.left)
         ∙ ap (λ l. l ++ wrong_lengths u.place.setup u.place.task u.place.key.size (h.calls ++ seg) (first_in u + length h.got) (h.part ∷ h.left))
-            (same_wrong u.place.setup u.place.task u.place.key.size (first_in u) h.got h.calls seg (λ i low high. moving.others i (let a = f.within.aligned in let b = f.number in let c = f.few in omega (arith, a, b, c, high)) (λ e. let a = f.within.aligned in let b = f.number in omega (arith, a, b, e, high))) ∙ f.within.right)
+        (same_wrong u.place.setup u.place.task u.place.key.size (first_in u) h.got h.calls seg (λ i low high. moving.others i (let a = f.within.aligned in let b = f.number in let c = f.few in omega (arith, a, b, c, high)) (λ e. let a = f.within.aligned in let b = f.number in omega (arith, a, b, e, high))) ∙ f.within.right)
         ∙ ap (λ k. wrong_lengths u.place.setup u.place.task u.place.key.size (h.calls ++ seg) k (h.part ∷ h.left)) number
         ∙ ap (λ l. filter (is_wrong u.place.key.size h.part) l ++ wrong_lengths u.place.setup u.place.task u.place.key.size (h.calls ++ seg) (h.n + 1) h.left) size_found
         ∙ ap (λ l. filter (is_wrong u.place.key.size h.part) (m ∷ []) ++ l) later
@@ -222,11 +220,13 @@ came : (h : Here) (len size : ℕ) (held : List (ℕ × List ℕ)) (bytes : List
     → PartEnd h.turn h.cur h.got h.left h.part h.calls held bytes before after (h.x ∷ []) (Size (fetch_in h) (Ok len) ∷ ((copies_in h pieces ++ ending) ++ Remove (fetch_in h) (Ok tt) ∷ [])) (Ok T.Whole)
 came h len size held bytes before after pieces ending f k s is w most c =
     let P : List Call → Type 0 = λ l. PartEnd u h.cur h.got h.left h.part h.calls held bytes before after (h.x ∷ []) l (Ok T.Whole) in
-    subst P (ap (λ l. Size (fetch_in h) (Ok len) ∷ l) (sym (append_assoc (copies_in h pieces) ending (Remove (fetch_in h) (Ok tt) ∷ []))))
-    (concat pieces,
-    within_next u h.cur h.got h.left h.part h.x h.n h.calls seg f (segment_of h seg moving) moving.run moving.good.free (ap (filter (is_wrong u.place.key.size h.part)) sized ∙ rw right refl),
-    kept_next u h.cur h.got h.left h.part h.x h.n h.calls seg held bytes (concat pieces) f k (segment_of h seg moving) (rw (apart_in h).fetch_part facts.no_begin) known facts.bytes facts.written whole,
-    c, refl)
+    subst P (ap (λ l. Size (fetch_in h) (Ok len) ∷ l) (sym (append_assoc (copies_in h pieces) ending (Remove (fetch_in h) (Ok tt) ∷ [])))) (
+      concat pieces,
+      within_next u h.cur h.got h.left h.part h.x h.n h.calls seg f (segment_of h seg moving) moving.run moving.good.free (ap (filter (is_wrong u.place.key.size h.part)) sized ∙ rw right refl),
+      kept_next u h.cur h.got h.left h.part h.x h.n h.calls seg held bytes (concat pieces) f k (segment_of h seg moving) (rw (apart_in h).fetch_part facts.no_begin) known facts.bytes facts.written whole,
+      c,
+      refl,
+    )
   where
     u : Turn
     u = h.turn
@@ -306,9 +306,9 @@ pub asked_end : (u : Turn) (cur : List Asking) (got left : List Part) (part : Pa
     → Ended u.place (u.past ++ (cur ++ a ∷ [])) (calls ++ []) answer
 asked_end u cur got left part a n calls answer w is few asks ok stop =
     let fresh : reads_of (fetch_at u.place n) (calls ++ []) ≡ [] =
-        reads_behind (fetch_at u.place n) calls [] (w.sound.fresh n (let o = own_number u cur n is in omega (arith, o)) few) in
+    reads_behind (fetch_at u.place n) calls [] (w.sound.fresh n (let o = own_number u cur n is in omega (arith, o)) few) in
     let asked : GetAsks u.place.setup u.place.task u.place.key u.place.sizes u.place.file (u.past ++ (cur ++ a ∷ [])) (calls ++ []) =
-        within_asks u cur got left part a n calls [] w is asks ok refl refl (λ i low high. refl) (ap (is_run 0) fresh) in
+    within_asks u cur got left part a n calls [] w is asks ok refl refl (λ i low high. refl) (ap (is_run 0) fresh) in
     let P : List Asking → Type 0 = λ l. Ended u.place l (calls ++ []) answer in
     let Q : List Asking → Type 0 = λ l. GetAsks u.place.setup u.place.task u.place.key u.place.sizes u.place.file l (calls ++ []) in
     let S : List Call → Type 0 = λ l. Sound u.place ((u.past ++ cur) ++ a ∷ []) l in
@@ -368,8 +368,8 @@ pub take_end : (u : Turn) (cur : List Asking) (got left : List Part) (part : Par
     → Within u cur got (part ∷ left) calls → Kept u cur got (part ∷ left) calls held bytes → n ≡ first_in u + length cur → n + length left < 2 ^ 64
     → key_reading text ≡ Some part.key → u.place.key.size ≡ Some size → len ≡ part.to - part.from
     → PartEnd u cur got left part calls held bytes before after
-        (grown_by text (part_of u.place.file) (fetch_at u.place n) len before after pairs later old new result how so).asked
-        (grown_by text (part_of u.place.file) (fetch_at u.place n) len before after pairs later old new result how so).made result
+    (grown_by text (part_of u.place.file) (fetch_at u.place n) len before after pairs later old new result how so).asked
+    (grown_by text (part_of u.place.file) (fetch_at u.place n) len before after pairs later old new result how so).made result
 take_end u cur got left part n calls held bytes len size text before after pairs later old new result Unmade so w k is room r s l = rw so.no_memory (unasked_end u cur got (part ∷ left) calls w)
 take_end u cur got left part n calls held bytes len size text before after pairs later old new result (Undone v) so w k is room r s l =
     rw so.goes (undone_end u cur got left part n calls held bytes before after so.asks.request v text (fetch_at u.place n) w k.begun is (omega (arith, room))
@@ -385,13 +385,13 @@ pub take_ran : (u : Turn) (cur : List Asking) (got left : List Part) (part : Par
     → Within u cur got (part ∷ left) calls → Kept u cur got (part ∷ left) calls held bytes → n ≡ first_in u + length cur → n + length left < 2 ^ 64
     → key_reading text ≡ Some part.key → u.place.key.size ≡ Some size → len ≡ part.to - part.from
     → PartEnd u cur got left part calls held bytes before after
-        (grown_by text name fetch len before after pairs later old new result how so).asked
-        (grown_by text name fetch len before after pairs later old new result how so).made result
+    (grown_by text name fetch len before after pairs later old new result how so).asked
+    (grown_by text name fetch len before after pairs later old new result how so).made result
 take_ran u cur got left part n calls held bytes len size text name fetch before after pairs later old new result how so p q w k is room r s l =
     let P : List ℕ → Type 0 = λ x. (so : TakeIs text x fetch len before after pairs later old new result how) → PartEnd u cur got left part calls held bytes before after
-        (grown_by text x fetch len before after pairs later old new result how so).asked (grown_by text x fetch len before after pairs later old new result how so).made result in
+    (grown_by text x fetch len before after pairs later old new result how so).asked (grown_by text x fetch len before after pairs later old new result how so).made result in
     let Q : List ℕ → Type 0 = λ x. (so : TakeIs text (part_of u.place.file) x len before after pairs later old new result how) → PartEnd u cur got left part calls held bytes before after
-        (grown_by text (part_of u.place.file) x len before after pairs later old new result how so).asked (grown_by text (part_of u.place.file) x len before after pairs later old new result how so).made result in
+    (grown_by text (part_of u.place.file) x len before after pairs later old new result how so).asked (grown_by text (part_of u.place.file) x len before after pairs later old new result how so).made result in
     subst P (sym p) (subst Q (sym q) (λ so. take_end u cur got left part n calls held bytes len size text before after pairs later old new result how so w k is room r s l)) so
 
 -- ---- how much is taken in

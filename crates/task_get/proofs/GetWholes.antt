@@ -1,6 +1,6 @@
 -- The plain layout, tried behind others.
 use Rattle.std.proofs.Common.{◌≡◌, ◌∙◌, ℕ, ◌+◌, ◌-◌, ◌≤◌, ◌<◌, ◌^◌, ◌==◌, Bool, true, false, not, List, [], ◌∷◌, ◌++◌, length, refl, sym, ap, subst, arith, append_assoc, append-nil, length-append, eq-eqb}
-use Rattle.std.specs.Prelude.{◌&&◌, ◌||◌, Option, Some, None, is_none, unwrap_or, filter, Result, Ok, Err, if◌then◌else◌}
+use Rattle.std.specs.Prelude.{◌&&◌, Option, Some, None, unwrap_or, filter, Result, Ok, Err}
 use Rattle.std.specs.Bool.{MatchBool}
 use Rattle.std.specs.List.{list_all, filter_map, concat}
 use Rattle.std.proofs.lemmas.List.Elements.{filter_map-append}
@@ -9,11 +9,10 @@ use Rattle.ann_key.specs.declared.bytes.NoMemory.{NoMemory}
 use Rattle.ann_digest.specs.Fits.{IsSaidOf}
 use Rattle.ann_digest.specs.declared.fit.Fit.TheVariants as F
 use Rattle.chunk_plan.specs.Layouts.{Part}
-use Rattle.ann_outside.specs.declared.file_desk.DeskError.{DeskError}
 use Rattle.ann_outside.specs.declared.file_desk.DeskError.TheVariants as E
 use Rattle.ann_outside.specs.declared.file_desk.Call.{Call}
 use Rattle.ann_outside.specs.declared.file_desk.Call.TheVariants.{Size, Create, Rename, Remove}
-use Rattle.fetch_copy.specs.Copies.{copy_calls, EndsWhole}
+use Rattle.fetch_copy.specs.Copies.{EndsWhole}
 use Rattle.journal_model.specs.declared.answer.Answer.{Answer}
 use Rattle.journal_model.specs.declared.answer.Answer.TheVariants as A
 use Rattle.task_asker.specs.Askings.{Asking, AsksOne}
@@ -26,18 +25,18 @@ use Rattle.task_run.specs.declared.setup.Setup.{Setup}
 use Rattle.task_run.specs.Names.{part_of, fetch_file}
 use Rattle.task_run.specs.Stores.{is_size}
 use Rattle.task_run.specs.Requests.{AsksFor, AskInOrder}
-use Rattle.task_run.specs.Reads.{lengths_found, reads_of, read_of, bytes_of, is_known, is_run, is_reading, takes_away, is_last_call_of, is_removed, is_renaming, appended, length_found, piece_of}
+use Rattle.task_run.specs.Reads.{lengths_found, reads_of, read_of, bytes_of, is_known, is_reading, takes_away, is_last_call_of, is_removed, is_renaming, appended, piece_of}
 use Rattle.task_run.specs.Discipline.{are_found}
-use Rattle.task_run.specs.Gets.{fetch_request, begins, since_begin, lengths_at_begin, wanted, wrong_lengths, is_wrong, held_reads, bytes_fetched, are_read_whole, IsSaid, fit_in, is_got, is_failed, failures, GetAsks, Decides, GetAnswers}
-use Rattle.task_run.specs.Ran.{answered, refusal, is_verdict_of, undone_answer}
-use Rattle.task_run.specs.Fetching.{Fetches, Files3, Outcome, if_made, discarded, kept, settling, settled, Move, NotMade, NotCopied, NotRemoved, Settled, move_calls, move_result, MoveIs, Fetch, NotSized, WrongSize, Moved, fetch_calls, fetch_result, FetchIs}
-use Rattle.task_get.specs.Fronts.{Place, Turn, first_in, fetch_at, is_apart, is_calm, Tried, Sound, Within, Between, Ended, begin_of}
+use Rattle.task_run.specs.Gets.{fetch_request, begins, since_begin, lengths_at_begin, wanted, is_wrong, bytes_fetched, IsSaid, fit_in, is_got, is_failed, failures, GetAsks, Decides, GetAnswers}
+use Rattle.task_run.specs.Ran.{answered, is_verdict_of, undone_answer}
+use Rattle.task_run.specs.Fetching.{Fetches, Files3, Outcome, if_made, discarded, kept, Move, NotMade, NotCopied, NotRemoved, Settled, move_calls, move_result, MoveIs, Fetch, NotSized, WrongSize, Moved, fetch_calls, fetch_result, FetchIs}
+use Rattle.task_get.specs.Fronts.{Place, Turn, fetch_at, is_apart, is_calm, Tried, Sound, Within, Between, Ended}
 use Rattle.task_get.specs.LayoutRuns.{place_at, WholeRan}
 use Rattle.fetch_copy.proofs.CopyLaws.{gained_nothing}
 use Rattle.task_run.proofs.Texts.{apart, same_name}
-use Rattle.task_get.proofs.LastCalls.{list_all-append, after_last-at}
+use Rattle.task_get.proofs.LastCalls.{after_last-at}
 use Rattle.task_get.proofs.AskLaws.{count_all}
-use Rattle.task_run.proofs.GetCallsLaws.{Apart, Fair, fair_size, fair_create, fair_remove_part, fair_rename, known_add, known_skip, placed}
+use Rattle.task_run.proofs.GetCallsLaws.{Fair, fair_size, fair_create, fair_remove_part, fair_rename, known_add, known_skip}
 use Rattle.task_get.proofs.GetEnds.{Facts, moved_facts, whole_reading, moved_calls, regrouped, last_call}
 use Rattle.task_get.proofs.ReadLaws.{begin_lengths, reads_behind, lengths_behind}
 use Rattle.task_get.proofs.GetFronts.{Fore, asks_of, ended_finished}
@@ -46,7 +45,7 @@ use Rattle.task_get.proofs.GetWithin.{own_apart, none_failed, sound_asked}
 use Rattle.task_get.proofs.GetRuns.{wrong_if}
 use Rattle.task_run.proofs.Lists.{all_taken}
 use Rattle.task_get.proofs.GetTurns.{failed_tried, moving_sized, asked_end, unasked_end, asks_for_part}
-use Rattle.task_get.proofs.GetFetch.{Here, FetchingAt, file_in, part_in, fetch_in, asked_in, EndedAt, apart_in, Others, others_size, Moving, moving_none, moving_step, fore_of, free_of, memory_at, stopped_at, Ready, copies_in, copy_early, copy_refused, tail_in, fetch_unremoved, moving_moved, part_known_moved}
+use Rattle.task_get.proofs.GetFetch.{Here, FetchingAt, file_in, part_in, fetch_in, EndedAt, apart_in, Others, others_size, Moving, moving_none, moving_step, fore_of, free_of, memory_at, stopped_at, Ready, copies_in, copy_early, copy_refused, tail_in, fetch_unremoved, moving_moved, part_known_moved}
 
 -- the whole content, as a part
 abbrev pub whole_part : Parts → Part
@@ -78,7 +77,13 @@ plain_within p past done tried calls b = record {
 abbrev pub plain_here : Place → List Asking → List (List Part) → List ℕ → Asking → List Call → Here
 plain_here p past done tried x calls = record {
   turn = record { place = p; past = past; done = done; tried = tried; chunk = 0; rest = [] };
-  cur = []; got = []; left = []; part = whole_part p.key; x = x; n = length past + 1; calls = calls;
+  cur = [];
+  got = [];
+  left = [];
+  part = whole_part p.key;
+  x = x;
+  n = length past + 1;
+  calls = calls;
 }
 
 -- the calls before the copy
@@ -122,7 +127,7 @@ plain_said : (p : Place) (past : List Asking) (done : List (List Part)) (tried :
     → Moving (plain_here p past done tried x calls) seg → is_size p.key.size m ≡ true → lengths_found (fetch_at p (length past + 1)) seg ≡ m ∷ [] → bytes_of (reads_of (fetch_at p (length past + 1)) seg) ≡ bytes
     → is_reading 0 m (reads_of (fetch_at p (length past + 1)) seg) ≡ true → IsSaid p.key bytes (fit_in answer)
     → MatchBool (is_got answer) ((appended (part_of p.file) (since_begin p.file (calls ++ seg)) ≡ bytes) × (is_last_call_of (part_of p.file) (is_renaming (part_of p.file) p.file) (calls ++ seg) ≡ true))
-        (is_removed (part_of p.file) (calls ++ seg) ≡ true)
+    (is_removed (part_of p.file) (calls ++ seg) ≡ true)
     → GetAnswers p.setup p.task p.key p.sizes p.file (past ++ x ∷ []) (calls ++ seg) answer
 plain_said p past done tried x calls seg m bytes answer f g s l b whole said part =
     answers_said (record { place = p; past = past; done = done; tried = tried; chunk = 0; rest = [] }) (x ∷ []) (whole_part p.key ∷ []) (calls ++ seg) answer (plain_last p past done tried x calls seg f g)
@@ -189,7 +194,7 @@ plain_settled : (p : Place) (past : List Asking) (done : List (List Part)) (trie
     → call_stop (part_of p.file) y ≡ None → Others (plain_here p past done tried x calls) (y ∷ []) → read_of (fetch_at p (length past + 1)) y ≡ None
     → is_size p.key.size n ≡ true → IsSaid p.key (concat pieces) (fit_in answer) → ((X : Type 0) → X → AnsweredBy [] answer X)
     → MatchBool (is_got answer) (is_last_call_of (part_of p.file) (is_renaming (part_of p.file) p.file) ((calls ++ (plain_pre (plain_here p past done tried x calls) n ++ moved_calls p.file (fetch_at p (length past + 1)) pieces ending)) ++ y ∷ []) ≡ true)
-        (is_removed (part_of p.file) ((calls ++ (plain_pre (plain_here p past done tried x calls) n ++ moved_calls p.file (fetch_at p (length past + 1)) pieces ending)) ++ y ∷ []) ≡ true)
+    (is_removed (part_of p.file) ((calls ++ (plain_pre (plain_here p past done tried x calls) n ++ moved_calls p.file (fetch_at p (length past + 1)) pieces ending)) ++ y ∷ []) ≡ true)
     → EndedAt (plain_here p past done tried x calls) (plain_pre (plain_here p past done tried x calls) n ++ (moved_calls p.file (fetch_at p (length past + 1)) pieces ending ++ y ∷ [])) answer
 plain_settled p past done tried x calls n pieces ending y answer f w most o fair found free others unread s said by last =
     ended_finished p (past ++ x ∷ []) (calls ++ seg) answer (fore_of h seg f moving) (free_of h seg f moving)

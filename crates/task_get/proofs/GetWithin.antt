@@ -1,8 +1,7 @@
 -- A get within a layout: a part more that is asked for, and the calls that fetch it.
-use Rattle.std.proofs.Common.{◌≡◌, ◌∙◌, ℕ, zero, suc, ◌+◌, ◌-◌, ◌≤◌, ◌<◌, ◌^◌, Bool, true, false, not, List, [], ◌∷◌, ◌++◌, length, map, take, refl, sym, ap, subst, arith, append_assoc, append-nil, length-append}
-use Rattle.std.specs.Prelude.{◌&&◌, ◌||◌, filter, Option, Some, None, is_none, unwrap_or}
-use Rattle.std.specs.List.{list_all, filter_map, concat}
-use Rattle.std.proofs.lemmas.Bool.{and_parts}
+use Rattle.std.proofs.Common.{◌≡◌, ◌∙◌, ℕ, ◌+◌, ◌-◌, ◌<◌, ◌^◌, true, not, List, [], ◌∷◌, ◌++◌, length, map, take, refl, sym, ap, subst, arith, append_assoc, append-nil, length-append}
+use Rattle.std.specs.Prelude.{◌&&◌, filter, Option, is_none}
+use Rattle.std.specs.List.{list_all, filter_map}
 use Rattle.std.proofs.lemmas.List.{map-append, take-append-le}
 use Rattle.std.proofs.Math.Seq.{take-append_seam}
 use Rattle.ann_key.specs.Keys.{Parts}
@@ -13,19 +12,19 @@ use Rattle.journal_model.specs.declared.verdict.Verdict.TheVariants as V
 use Rattle.ann_outside.specs.declared.file_desk.Call.{Call}
 use Rattle.task_asker.specs.Askings.{Asking}
 use Rattle.task_run.specs.Stops.{is_done, call_stop, all_but_last}
-use Rattle.task_run.specs.Names.{part_of, fetch_files, is_among}
+use Rattle.task_run.specs.Names.{part_of, fetch_files}
 use Rattle.task_run.specs.Requests.{AsksFor, AskInOrder, rounds, RoundsAsk}
 use Rattle.task_run.specs.Reads.{length_or_none, lengths_found, reads_of, bytes_of, is_run, is_reading, is_known, appended}
-use Rattle.task_run.specs.Discipline.{are_found, name_only, size_of_only}
-use Rattle.task_run.specs.Gets.{fetch_request, begins, lengths_at_begin, wanted, is_failed, failures, asked_last, held_reads, since_begin, are_read, are_read_whole, bytes_fetched, wrong_lengths, is_wrong, GetAsks}
+use Rattle.task_run.specs.Discipline.{are_found}
+use Rattle.task_run.specs.Gets.{fetch_request, begins, lengths_at_begin, wanted, is_failed, held_reads, are_read, are_read_whole, bytes_fetched, wrong_lengths, is_wrong, GetAsks}
 use Rattle.task_run.specs.Runs.{fetched_files}
-use Rattle.task_get.specs.Fronts.{Place, Turn, first_in, fetch_at, keys_in, is_calm, is_apart, Tried, Sound, are_free, Within, Kept, Between}
+use Rattle.task_get.specs.Fronts.{Place, Turn, first_in, fetch_at, keys_in, is_calm, is_apart, Sound, are_free, Within, Kept}
 use Rattle.task_run.proofs.Texts.{apart}
-use Rattle.task_get.proofs.LastCalls.{list_all-append, after_last-at}
-use Rattle.task_get.proofs.AskLaws.{asks_done, asks_last, round_ended, count_more, count_none}
+use Rattle.task_get.proofs.LastCalls.{list_all-append}
+use Rattle.task_get.proofs.AskLaws.{asks_done, asks_last}
 use Rattle.task_run.proofs.GetCallsLaws.{Fair, found_more}
 use Rattle.task_run.proofs.Lists.{but_last, all_taken}
-use Rattle.task_get.proofs.ReadLaws.{Apart, Sub, sub_cons, sub_front, sub_behind, names_sub, changes_sub, sizes_sub, fetch_files_more, fetched_files_more, apart_reads, apart_lengths, reads_behind, reads_before, lengths_behind, same_read, same_bytes, same_whole, same_wrong, none_wrong, read_more, bytes_more, whole_more, wrong_more, wrong_taken, begin_lengths, held_more, held_run, appended_more, weaken}
+use Rattle.task_get.proofs.ReadLaws.{Apart, Sub, sub_cons, sub_front, sub_behind, names_sub, changes_sub, sizes_sub, fetch_files_more, fetched_files_more, reads_behind, lengths_behind, same_read, same_bytes, same_whole, same_wrong, read_more, bytes_more, whole_more, wrong_more, wrong_taken, begin_lengths, held_more, held_run, appended_more, weaken}
 use Rattle.task_get.proofs.GetFronts.{asks_of, Fore}
 
 -- ---- verdicts
@@ -237,7 +236,7 @@ within_next u cur got left part x n calls seg f g run free right = record {
       let Q : ℕ → Type 0 = λ k. AskInOrder ask k (part.key ∷ more) (x ∷ next) in
       let one : AskInOrder ask (first_in u + length cur) (part.key ∷ more) (x ∷ next) = subst Q f.number (f.asks, subst P num h) in
       let keys : keys_in got ++ part.key ∷ more ≡ keys_in (got ++ part ∷ []) ++ more =
-          sym (append_assoc (keys_in got) (part.key ∷ []) more) ∙ ap (λ l. l ++ more) (sym (map-append (λ (q : Part). q.key) got (part ∷ []))) in
+      sym (append_assoc (keys_in got) (part.key ∷ []) more) ∙ ap (λ l. l ++ more) (sym (map-append (λ (q : Part). q.key) got (part ∷ []))) in
       let R : List Parts → Type 0 = λ ks. AskInOrder ask (first_in u) ks (cur ++ x ∷ next) in
       let S : List Asking → Type 0 = λ l. AskInOrder ask (first_in u) (keys_in (got ++ part ∷ []) ++ more) l in
       subst S (sym (append_assoc cur (x ∷ []) next)) (subst R keys (f.within.in_order (part.key ∷ more) (x ∷ next) one));
@@ -250,7 +249,7 @@ within_next u cur got left part x n calls seg f g run free right = record {
   right =
       wrong_more u.place.setup u.place.task u.place.key.size (calls ++ seg) (first_in u) got (part ∷ [])
       ∙ ap (λ l. l ++ wrong_lengths u.place.setup u.place.task u.place.key.size (calls ++ seg) (first_in u + length got) (part ∷ [])) (same_wrong u.place.setup u.place.task u.place.key.size (first_in u) got calls seg
-          (λ i low high. others i low (omega (arith, high, f.within.aligned))) ∙ f.within.right)
+      (λ i low high. others i low (omega (arith, high, f.within.aligned))) ∙ f.within.right)
       ∙ ap (λ k. wrong_lengths u.place.setup u.place.task u.place.key.size (calls ++ seg) k (part ∷ [])) number
       ∙ append-nil (filter (is_wrong u.place.key.size part) (lengths_found (fetch_at u.place n) (calls ++ seg)))
       ∙ ap (filter (is_wrong u.place.key.size part)) (lengths_behind (fetch_at u.place n) calls seg (own_apart u cur got left part x n calls f))

@@ -1,12 +1,11 @@
 -- What calls read and wrote by name, of lists of calls put together.
-use Rattle.std.proofs.Common.{◌≡◌, ◌∙◌, ◌⊎◌, inl, inr, ℕ, zero, suc, ◌+◌, ◌-◌, ◌≤◌, ◌<◌, ◌^◌, Bool, true, false, not, List, [], ◌∷◌, ◌++◌, length, map, take, refl, sym, ap, subst, arith, append_assoc, append-nil, length-append}
-use Rattle.std.specs.Prelude.{◌&&◌, ◌||◌, filter, Option, Some, None, is_none, bytes_eq, Result, Ok, Err, if◌then◌else◌}
-use Rattle.std.specs.List.{list_all, list_any, filter_map, concat, range_with_len}
+use Rattle.std.proofs.Common.{◌≡◌, ◌∙◌, ◌⊎◌, inl, inr, ℕ, zero, suc, ◌+◌, ◌≤◌, ◌<◌, Bool, true, false, not, List, [], ◌∷◌, ◌++◌, length, take, refl, sym, ap, arith, append_assoc, append-nil}
+use Rattle.std.specs.Prelude.{◌&&◌, ◌||◌, filter, Option, None, bytes_eq, if◌then◌else◌}
+use Rattle.std.specs.List.{list_all, filter_map, concat}
 use Rattle.std.proofs.lemmas.Bool.{and_parts}
-use Rattle.std.proofs.lemmas.List.Elements.{filter_map-append, filter-append}
+use Rattle.std.proofs.lemmas.List.Elements.{filter_map-append}
 use Rattle.std.proofs.lemmas.List.Folds.{list_any-append}
 use Rattle.std.proofs.lemmas.List.FromFn.{map-range_with_len_more}
-use Rattle.ann_outside.specs.declared.file_desk.DeskError.{DeskError}
 use Rattle.ann_outside.specs.declared.file_desk.Call.{Call}
 use Rattle.ann_outside.specs.declared.file_desk.Call.TheVariants.{Size, ReadAt, Create, Append, Cut, Rename, Remove}
 use Rattle.chunk_plan.specs.Layouts.{Part}
@@ -19,7 +18,7 @@ use Rattle.task_run.specs.Discipline.{are_among, names_in, name_only, changes_as
 use Rattle.task_run.specs.Gets.{begins, lengths_at_begin, since_begin, held_reads, bytes_fetched, are_read, are_read_whole, wrong_lengths, is_wrong}
 use Rattle.task_run.specs.Runs.{fetched_files}
 use Rattle.task_get.specs.Fronts.{is_apart}
-use Rattle.task_get.proofs.LastCalls.{list_all-append, after_last-at, after_last-more, Last, last_of}
+use Rattle.task_get.proofs.LastCalls.{after_last-at, after_last-more, Last, last_of}
 use Rattle.task_run.proofs.Texts.{apart}
 
 -- ---- tests of all
@@ -101,7 +100,7 @@ fetched_files_more setup t n [] x = let e : n + 0 ≡ n = omega arith in ap (λ 
 fetched_files_more setup t n (a ∷ more) x =
     let e : (n + 1) + length more ≡ n + length (a ∷ more) = omega arith in
     let rest : fetched_files setup t (n + 1) (more ++ x ∷ []) ≡ fetched_files setup t (n + 1) more ++ fetched_files setup t (n + length (a ∷ more)) (x ∷ []) =
-        fetched_files_more setup t (n + 1) more x ∙ ap (λ k. fetched_files setup t (n + 1) more ++ fetched_files setup t k (x ∷ [])) e in
+    fetched_files_more setup t (n + 1) more x ∙ ap (λ k. fetched_files setup t (n + 1) more ++ fetched_files setup t k (x ∷ [])) e in
     ap (λ l. (if is_done a then fetch_file setup t n ∷ [] else []) ++ l) rest
     ∙ sym (append_assoc (if is_done a then fetch_file setup t n ∷ [] else []) (fetched_files setup t (n + 1) more) (fetched_files setup t (n + length (a ∷ more)) (x ∷ [])))
 
@@ -240,7 +239,7 @@ whole_more setup t n calls [] ys = let e : n + 0 ≡ n = omega arith in ap (λ k
 whole_more setup t n calls (x ∷ xs) ys =
     let e : (n + 1) + length xs ≡ n + length (x ∷ xs) = omega arith in
     ap (λ b. list_all (λ k. is_reading 0 k (reads_of (fetch_file setup t n) calls)) (lengths_found (fetch_file setup t n) calls) && b)
-        (whole_more setup t (n + 1) calls xs ys ∙ ap (λ k. are_read_whole setup t calls (n + 1) xs && are_read_whole setup t calls k ys) e)
+    (whole_more setup t (n + 1) calls xs ys ∙ ap (λ k. are_read_whole setup t calls (n + 1) xs && are_read_whole setup t calls k ys) e)
     ∙ both_and (list_all (λ k. is_reading 0 k (reads_of (fetch_file setup t n) calls)) (lengths_found (fetch_file setup t n) calls)) (are_read_whole setup t calls (n + 1) xs) (are_read_whole setup t calls (n + length (x ∷ xs)) ys)
 
 pub wrong_more : (setup : Setup) (t : ℕ) (size : Option ℕ) (calls : List Call) (n : ℕ) (xs ys : List Part)
@@ -266,7 +265,7 @@ wrong_taken setup t size calls n (suc k) [] h = refl
 wrong_taken setup t size calls n (suc k) (part ∷ more) h =
     let one : filter (is_wrong size part) (lengths_found (fetch_file setup t n) calls) ≡ [] = nil_front _ (wrong_lengths setup t size calls (n + 1) more) h in
     let rest : wrong_lengths setup t size calls (n + 1) (take k more) ≡ [] =
-        wrong_taken setup t size calls (n + 1) k more (nil_behind (filter (is_wrong size part) (lengths_found (fetch_file setup t n) calls)) _ h) in
+    wrong_taken setup t size calls (n + 1) k more (nil_behind (filter (is_wrong size part) (lengths_found (fetch_file setup t n) calls)) _ h) in
     rw (one, rest) refl
 
 -- ---- of part
@@ -304,6 +303,6 @@ held_run file xs ys none h = by_case (last_of (begins (part_of file)) ys)
         let since : since_begin file (xs ++ ys) ≡ l.rest = ap (since_begin file) whole ∙ after_last-at (begins (part_of file)) (xs ++ l.front) l.one l.rest l.none l.kind in
         let split : ys ≡ (l.front ++ l.one ∷ []) ++ l.rest = l.is ∙ sym (append_assoc l.front (l.one ∷ []) l.rest) in
         let e : reads_of (part_of file) (l.front ++ l.one ∷ []) ++ reads_of (part_of file) l.rest ≡ [] =
-            sym (filter_map-append (read_of (part_of file)) (l.front ++ l.one ∷ []) l.rest) ∙ ap (reads_of (part_of file)) (sym split) ∙ none in
+        sym (filter_map-append (read_of (part_of file)) (l.front ++ l.one ∷ []) l.rest) ∙ ap (reads_of (part_of file)) (sym split) ∙ none in
         let empty : reads_of (part_of file) l.rest ≡ [] = nil_behind (reads_of (part_of file) (l.front ++ l.one ∷ [])) (reads_of (part_of file) l.rest) e in
         ap (λ l. is_run 0 (reads_of (part_of file) l)) since ∙ ap (is_run 0) empty

@@ -3,7 +3,7 @@ use Rattle.std.specs.Prelude.{ℕ, ◌≡◌, ◌≤◌, ◌-◌, ◌==◌, List
 use Rattle.std.specs.List.{concat}
 use Rattle.ann_key.specs.declared.bytes.NoMemory.{NoMemory}
 use Rattle.ann_digest.specs.declared.checker.Checker.{Checker}
-use Rattle.annex_model.specs.Messages.{HostMessage, Transfer}
+use Rattle.annex_model.specs.Messages.{Transfer}
 use Rattle.ann_outside.specs.Calls.{Gained}
 use Rattle.ann_outside.specs.declared.file_desk.DeskError.{DeskError}
 use Rattle.ann_outside.specs.declared.file_desk.Call.{Call}

@@ -1,11 +1,9 @@
 -- How part is begun in a layout of chunks.
-use Rattle.std.specs.Prelude.{ℕ, ◌≡◌, ◌≤◌, ◌-◌, ◌⊎◌, List, [], ◌∷◌, ◌++◌, length, Option, Result, Ok, Err, true, false}
+use Rattle.std.specs.Prelude.{ℕ, ◌≡◌, ◌≤◌, ◌-◌, List, [], ◌∷◌, ◌++◌, length, Option, Result, Ok, Err}
 use Rattle.std.specs.List.{concat}
 use Rattle.ann_key.specs.declared.bytes.NoMemory.{NoMemory}
 use Rattle.ann_digest.specs.declared.checker.Checker.{Checker}
 use Rattle.ann_outside.specs.Calls.{Gained}
-use Rattle.ann_outside.specs.Causes.{Rose}
-use Rattle.ann_outside.specs.DeskCauses.{Counts}
 use Rattle.ann_outside.specs.declared.file_desk.DeskError.{DeskError}
 use Rattle.ann_outside.specs.declared.file_desk.DeskError.TheVariants as E
 use Rattle.ann_outside.specs.declared.file_desk.Call.{Call}
@@ -14,11 +12,11 @@ use Rattle.chunk_plan.specs.Layouts.{held_of, to_of}
 use Rattle.fetch_copy.specs.Copies.{EndsWhole, Checks}
 use Rattle.fetch_copy.specs.Resumes.{read_calls, refused_read}
 use Rattle.journal_model.specs.declared.answer.Answer.{Answer}
-use Rattle.journal_model.specs.declared.answer.Answer.TheVariants.{Got, FileFault, NoFile}
+use Rattle.journal_model.specs.declared.answer.Answer.TheVariants.{Got}
 use Rattle.task_get.specs.declared.get_begin.Begun.{Begun}
 use Rattle.task_get.specs.declared.get_begin.Begun.TheVariants as B
-use Rattle.task_run.specs.Ran.{refusal, may_follow_refusal}
-use Rattle.task_run.specs.Fetching.{Outcome, if_made}
+use Rattle.task_run.specs.Ran.{refusal}
+use Rattle.task_run.specs.Fetching.{if_made}
 
 -- part couldn't be looked up; or it was missing, and couldn't be made, or was; or it was found with n bytes, and couldn't be cut, or read
 -- then, or could

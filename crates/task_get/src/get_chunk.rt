@@ -8,8 +8,6 @@ ghost use Rattle.task_asker.specs.Askings.{IsSameTask};
 ghost use Rattle.task_get.specs.ChunkFetches.{over_with, answer_in, Comes, CopiesOver, undone_went, Takes};
 ghost use Rattle.task_run.specs.Ran.{HasQuietCauses, undone_answer};
 
-use task_run::answers::{is_done, refused, undone_answer};
-use task_run::ask;
 use crate::taking::discard;
 use ann_digest::Checker;
 use ann_key::{KeyRef, NoMemory};
@@ -18,6 +16,8 @@ use fetch_copy::{Copied, copy_in};
 use journal_model::{Answer, Verdict};
 use std::alloc::Global;
 use task_asker::Asker;
+use task_run::answers::{is_done, refused, undone_answer};
+use task_run::ask;
 
 /// How a part of a get went.
 pub enum Went {

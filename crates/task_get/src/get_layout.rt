@@ -13,17 +13,17 @@ ghost use Rattle.task_run.specs.Ran.{HasTaskCauses};
 ghost use Rattle.task_run.specs.Ran.{HasQuietCauses};
 ghost use Rattle.task_get.specs.declared.get_chunk.Went.TheVariants as T;
 
-use crate::taking::settle;
 use crate::get_begin::{Begun, begin_part};
 use crate::get_chunk::{Went, over, take_chunk};
-use task_run::names::fetch_name;
-use task_run::Setup;
+use crate::taking::settle;
 use ann_digest::Checker;
 use ann_key::{KeyRef, NoMemory};
 use ann_outside::Desk;
 use chunk_plan::{count, piece, range};
 use std::alloc::Global;
 use task_asker::Asker;
+use task_run::Setup;
+use task_run::names::fetch_name;
 
 // Asks for the chunk behind the first i, as the next request, and adds it to part.
 fn next_chunk<A: Asker, D: Desk>(
@@ -161,7 +161,18 @@ pub fn get_layout<A: Asker, D: Desk>(
     let mut checker = Checker::new(key);
     match begin_part(alloc, desk, size, chunk, part, &mut checker) {
         Ok(Begun::Held(held)) => match chunks(
-            alloc, number, setup, key, size, chunk, held, part, asked, asker, desk, &mut checker,
+            alloc,
+            number,
+            setup,
+            key,
+            size,
+            chunk,
+            held,
+            part,
+            asked,
+            asker,
+            desk,
+            &mut checker,
         ) {
             Ok(Went::Whole) => over(settle(desk, checker.finish(), file, part)),
             Ok(Went::Failed) => Ok(Went::Failed),

@@ -13,19 +13,18 @@ ghost use Rattle.task_run.specs.declared.setup.Setup.{Setup};
 ghost use Rattle.task_text.specs.TaskLines.{IsTask};
 ghost use Rattle.task_text.specs.declared.task.Work.TheVariants as W;
 
-use task_run::answers::{is_done, undone_answer};
-use task_run::ask;
-use crate::taking::fetched;
 use crate::get_chunk::Went;
 use crate::get_layout::get_layout;
-use task_run::names::{fetch_name, part_name};
-use task_run::Setup;
+use crate::taking::fetched;
 use ann_key::{KeyRef, NoMemory};
 use ann_outside::Desk;
 use chunk_plan::count;
 use journal_model::Answer;
 use std::alloc::Global;
 use task_asker::Asker;
+use task_run::answers::{is_done, undone_answer};
+use task_run::names::{fetch_name, part_name};
+use task_run::{Setup, ask};
 use task_text::Task;
 
 // Fetches the key whole, by this name of the fetched file.

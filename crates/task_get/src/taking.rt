@@ -7,13 +7,13 @@ ghost use Rattle.task_run.specs.Names.{fetch_file, part_of};
 ghost use Rattle.ann_outside.specs.Calls.{logged};
 ghost use Rattle.ann_outside.specs.declared.file_desk.Call.TheVariants.{Remove};
 
-use task_run::answers::{is_size, refused};
 use ann_digest::{Checker, Fit};
 use ann_key::{KeyRef, NoMemory};
 use ann_outside::{Desk, DeskError};
 use fetch_copy::{Copied, copy_in};
 use journal_model::Answer;
 use std::alloc::Global;
+use task_run::answers::{is_size, refused};
 
 // Removes part, where it is there, and gives the answer.
 pub fn discard<D: Desk>(desk: &mut D, part: &str, answer: Answer) -> Result<Answer, NoMemory>

@@ -6,7 +6,7 @@ use Rattle.journal_model.specs.declared.verdict.Verdict.TheVariants.{Done as Don
 use Rattle.annex_model.specs.Messages.{HostMessage, Checkpresent}
 use Rattle.task_text.specs.declared.task.Task.{Task}
 use Rattle.task_text.specs.declared.task.Work.{Work}
-use Rattle.task_text.specs.declared.task.Work.TheVariants.{Store, Check, Drop}
+use Rattle.task_text.specs.declared.task.Work.TheVariants.{Store, Drop}
 use Rattle.ann_outside.specs.Causes.{Rose}
 use Rattle.ann_outside.specs.DeskCauses.{Counts}
 use Rattle.ann_outside.specs.Calls.{Gained}
@@ -44,12 +44,6 @@ abbrev pub may_note : Work → Bool
 may_note Store = true
 may_note Drop = true
 may_note _ = false
-
--- the layouts that a task of this work tries, of those in which the remote is known to have its key: content is fetched whole still
-abbrev pub layouts_for : Work → List (ℕ × ℕ) → List (ℕ × ℕ)
-layouts_for Check layouts = layouts
-layouts_for Drop layouts = layouts
-layouts_for _ layouts = []
 
 -- a verdict that such a request of a task can have: only a check is answered by Absent and Unknown, and none fails
 abbrev pub is_verdict_of : HostMessage → Verdict → Bool

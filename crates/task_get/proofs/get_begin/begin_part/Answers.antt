@@ -1,10 +1,8 @@
-use Rattle.std.proofs.Common.{◌∙◌, sym, refl, ap, arith, ◌≡◌, ◌≤◌}
-use Rattle.std.specs.Prelude.{IfSome, Option, Some, None, Ok}
-use Rattle.ann_outside.specs.Files.{Files, CanCut, SizeIs}
+use Rattle.std.proofs.Common.{refl, ◌≤◌}
+use Rattle.std.specs.Prelude.{Ok}
 use Rattle.ann_outside.specs.declared.file_desk.DeskError.TheVariants as E
-use Rattle.chunk_plan.specs.Layouts.{to_of, held_of}
 use Rattle.task_get.proofs.ChunkNumbers.{held_most, held_within}
-use Rattle.task_get.proofs.BeginLaws.{begins_unlooked, begins_unmade, begins_made, begins_resumed, begins_unresumed, causes_get, causes_behind, can_cut, causes_call, causes_missed, causes_done, back}
+use Rattle.task_get.proofs.BeginLaws.{begins_unlooked, begins_unmade, begins_made, begins_resumed, begins_unresumed, causes_behind, can_cut, causes_call, causes_missed, causes_done, back}
 use Rattle.journal_model.specs.declared.answer.Answer.TheVariants.{Got}
 use Rattle.task_get.proofs.get_begin.begin_part.Goals as goal
 

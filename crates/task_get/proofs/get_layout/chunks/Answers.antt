@@ -1,5 +1,5 @@
-use Rattle.std.proofs.Common.{◌≡◌, ◌∙◌, sym, refl, ap, arith}
-use Rattle.std.specs.Prelude.{Ok, Err, ◌+◌}
+use Rattle.std.proofs.Common.{◌≡◌, ◌∙◌, refl, arith}
+use Rattle.std.specs.Prelude.{◌+◌}
 use Rattle.chunk_plan.specs.Layouts.{count_of}
 use Rattle.task_get.specs.declared.get_chunk.Went.TheVariants as T
 use Rattle.task_get.proofs.GetChunks.{so_far_none, so_far_more, chunks_whole, chunks_ended, same_both}

@@ -1,9 +1,9 @@
-use Rattle.std.proofs.Common.{◌∙◌, sym, refl, ap}
+use Rattle.std.proofs.Common.{refl}
 use Rattle.std.specs.Prelude.{Ok}
 use Rattle.ann_key.specs.KeyRefs.{parts_of}
 use Rattle.journal_model.specs.declared.answer.Answer.TheVariants.{Got}
-use Rattle.task_get.proofs.BeginLaws.{causes_get, causes_behind, over_back}
-use Rattle.task_get.specs.ChunkFetches.{over_with}
+use Rattle.task_run.proofs.Causes.{from_quiet}
+use Rattle.task_get.proofs.BeginLaws.{causes_behind, over_back}
 use Rattle.task_get.proofs.GetLayouts.{begins_held, begins_room, layout_unbegun, layout_begun, layout_lacked, layout_unwhole, layout_settled}
 use Rattle.task_get.proofs.get_layout.get_layout.Goals as goal
 
@@ -25,8 +25,8 @@ returns-in-Ok-Whole-clause-ran g c =
 pub returns-in-Ok-Whole-clause-causes : goal.returns-in-Ok-Whole-clause-causes
 returns-in-Ok-Whole-clause-causes g c =
     let b = rw c.in-Ok-Held.field-0-is at c.in-Ok-Held.ensures.causes in
-    let d = causes_get _ _ _ (rw c.in-Ok-Whole.field-0-is at c.in-Ok-Whole.ensures.causes) in
-    rw c.over.ensures (over_back _ _ _ (causes_behind _ _ _ (Ok Got) _ b refl (causes_behind _ _ _ (Ok Got) _ d refl (causes_get _ _ _ c.settle.ensures.causes))))
+    let d = from_quiet _ _ _ (rw c.in-Ok-Whole.field-0-is at c.in-Ok-Whole.ensures.causes) in
+    rw c.over.ensures (over_back _ _ _ (causes_behind _ _ _ (Ok Got) _ b refl (causes_behind _ _ _ (Ok Got) _ d refl (from_quiet _ _ _ c.settle.ensures.causes))))
 
 pub returns-in-Ok-Failed-clause-ran : goal.returns-in-Ok-Failed-clause-ran
 returns-in-Ok-Failed-clause-ran g c =
@@ -34,7 +34,7 @@ returns-in-Ok-Failed-clause-ran g c =
 
 pub returns-in-Ok-Failed-clause-causes : goal.returns-in-Ok-Failed-clause-causes
 returns-in-Ok-Failed-clause-causes g c =
-    causes_behind _ _ _ (Ok Got) _ (rw c.in-Ok-Held.field-0-is at c.in-Ok-Held.ensures.causes) refl (causes_get _ _ _ (rw c.in-Ok-Failed.field-0-is at c.in-Ok-Failed.ensures.causes))
+    causes_behind _ _ _ (Ok Got) _ (rw c.in-Ok-Held.field-0-is at c.in-Ok-Held.ensures.causes) refl (from_quiet _ _ _ (rw c.in-Ok-Failed.field-0-is at c.in-Ok-Failed.ensures.causes))
 
 pub returns-in-Ok-Over-chunks-clause-ran : goal.returns-in-Ok-Over-chunks-clause-ran
 returns-in-Ok-Over-chunks-clause-ran g c =
@@ -42,7 +42,7 @@ returns-in-Ok-Over-chunks-clause-ran g c =
 
 pub returns-in-Ok-Over-chunks-clause-causes : goal.returns-in-Ok-Over-chunks-clause-causes
 returns-in-Ok-Over-chunks-clause-causes g c =
-    causes_behind _ _ _ (Ok Got) _ (rw c.in-Ok-Held.field-0-is at c.in-Ok-Held.ensures.causes) refl (causes_get _ _ _ (rw c.in-Ok-Over-chunks.field-0-is at c.in-Ok-Over-chunks.ensures.causes))
+    causes_behind _ _ _ (Ok Got) _ (rw c.in-Ok-Held.field-0-is at c.in-Ok-Held.ensures.causes) refl (from_quiet _ _ _ (rw c.in-Ok-Over-chunks.field-0-is at c.in-Ok-Over-chunks.ensures.causes))
 
 pub returns-in-Err-chunks-clause-ran : goal.returns-in-Err-chunks-clause-ran
 returns-in-Err-chunks-clause-ran g c =
@@ -50,7 +50,7 @@ returns-in-Err-chunks-clause-ran g c =
 
 pub returns-in-Err-chunks-clause-causes : goal.returns-in-Err-chunks-clause-causes
 returns-in-Err-chunks-clause-causes g c =
-    causes_behind _ _ _ (Ok Got) _ (rw c.in-Ok-Held.field-0-is at c.in-Ok-Held.ensures.causes) refl (causes_get _ _ _ c.in-Err-chunks.ensures.causes)
+    causes_behind _ _ _ (Ok Got) _ (rw c.in-Ok-Held.field-0-is at c.in-Ok-Held.ensures.causes) refl (from_quiet _ _ _ c.in-Err-chunks.ensures.causes)
 
 pub returns-in-Ok-Over-clause-ran : goal.returns-in-Ok-Over-clause-ran
 returns-in-Ok-Over-clause-ran g c =

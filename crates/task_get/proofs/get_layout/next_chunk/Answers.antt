@@ -1,13 +1,13 @@
-use Rattle.std.proofs.Common.{◌∙◌, sym, refl, ap, arith, append-nil, []}
-use Rattle.std.specs.Prelude.{◌+◌, ◌-◌, ℕ, length, Some, Ok}
+use Rattle.std.proofs.Common.{◌∙◌, sym, ap, arith, append-nil, []}
+use Rattle.std.specs.Prelude.{◌+◌, ◌-◌, ℕ}
 use Rattle.ann_key.specs.Keys.{with_chunk, key_reading}
 use Rattle.ann_key.specs.KeyRefs.{parts_of, text_of}
 use Rattle.ann_key.proofs.Spelling.{read_of_spelled}
 use Rattle.fetch_copy.proofs.CopyLaws.{gained_nothing}
-use Rattle.chunk_plan.specs.Layouts.{chunk_part, from_of, to_of}
+use Rattle.chunk_plan.specs.Layouts.{chunk_part}
 use Rattle.task_get.specs.LayoutRuns.{turn_at}
 use Rattle.task_run.proofs.SentKeys.{chunk_sent}
-use Rattle.task_get.proofs.ChunkNumbers.{in_order, room_next, room_one}
+use Rattle.task_get.proofs.ChunkNumbers.{in_order, room_next}
 use Rattle.task_run.proofs.FileNames.{fetch_differs}
 use Rattle.task_get.proofs.GetTurns.{grown_by, take_ran, take_most, take_one, unasked_end}
 use Rattle.task_get.proofs.get_layout.next_chunk.Goals as goal

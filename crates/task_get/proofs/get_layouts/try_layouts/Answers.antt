@@ -1,5 +1,5 @@
-use Rattle.std.proofs.Common.{◌≡◌, ◌∙◌, sym, refl, ap, arith}
-use Rattle.std.specs.Prelude.{Ok, Err}
+use Rattle.std.proofs.Common.{◌∙◌, refl, arith}
+use Rattle.std.specs.Prelude.{Ok}
 use Rattle.journal_model.specs.declared.answer.Answer.TheVariants.{Got}
 use Rattle.task_run.proofs.Causes.{from_nothing}
 use Rattle.task_get.proofs.BeginLaws.{causes_behind}
@@ -47,7 +47,7 @@ returns-in-Err-clause-on g c = g.met.A.Asker.goes_both c.args.asker.now c.loop-i
 pub loop-i-preserved : goal.loop-i-preserved
 loop-i-preserved g c =
     elim c.if-chunks-count.branch [
-      then-chunks-count+in-Ok-Failed w ↦
+      | then-chunks-count+in-Ok-Failed w ↦
           let r = rw w.in-Ok-Failed.field-0-is at w.in-Ok-Failed.ensures.ran in
           let k = rw w.in-Ok-Failed.field-0-is at w.in-Ok-Failed.ensures.causes in
           rw (w.asked-is, w.asker-is, w.desk-is) record {
