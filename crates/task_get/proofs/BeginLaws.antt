@@ -21,7 +21,7 @@ use Rattle.journal_model.specs.declared.answer.Answer.{Answer}
 use Rattle.journal_model.specs.declared.answer.Answer.TheVariants.{Got}
 use Rattle.task_get.specs.declared.get_begin.Begun.{Begun}
 use Rattle.task_get.specs.declared.get_begin.Begun.TheVariants as B
-use Rattle.task_run.specs.Ran.{refusal, may_follow_refusal}
+use Rattle.task_run.specs.Ran.{refusal, tells_of_refusal, HasQuietCauses}
 use Rattle.task_run.specs.Fetching.{if_made}
 use Rattle.task_get.specs.ChunkFetches.{over_with, answer_in}
 use Rattle.task_get.specs.PartBegins.{Unlooked, Unmade, Made, Uncut, Unread, Resumed, keep_of, unbegun, Begins, answer_begun}
@@ -95,13 +95,13 @@ begins_unresumed part size chunk n before after a b c e l (inr r) = record {
 
 -- ---- causes
 
-pub causes_behind : (a b d : Counts) (before result : Result Answer NoMemory) → HasTaskCauses a b before → may_follow_refusal before ≡ false → HasTaskCauses b d result → HasTaskCauses a d result
+pub causes_behind : (a b d : Counts) (before result : Result Answer NoMemory) → HasTaskCauses a b before → tells_of_refusal before ≡ false → HasTaskCauses b d result → HasTaskCauses a d result
 causes_behind a b d before result g calm h = record {
   faults_later = let e = g.faults_later in let f = h.faults_later in omega (arith, e, f);
   missing_later = let e = g.missing_later in let f = h.missing_later in omega (arith, e, f);
   fault = λ is. let e = g.faults_later in let r = h.fault is in omega (arith, e, r);
   no_file = λ is. let e = g.missing_later in let r = h.no_file is in omega (arith, e, r);
-  quiet = λ q. both (g.quiet calm) (h.quiet q);
+  untold = λ q. both (g.untold calm) (h.untold q);
 }
   where
     both : Rose a.missing b.missing ⊎ (b ≡ a) → Rose b.missing d.missing ⊎ (d ≡ b) → Rose a.missing d.missing ⊎ (d ≡ a)
@@ -110,16 +110,16 @@ causes_behind a b d before result g calm h = record {
     both (inr e) (inr f) = inr (f ∙ e)
 
 pub causes_call : {T : Type 0} (old new : Counts) (e : DeskError) (r : Result T DeskError) → r ≡ Err e → HasCauses old new r → HasTaskCauses old new (refusal e)
-causes_call old new E.NoMemory r is h = record { faults_later = h.faults_later; missing_later = h.missing_later; fault = λ e. absurd cc; no_file = λ e. absurd cc; quiet = λ q. inr (h.no_memory is) }
-causes_call old new E.Failed r is h = record { faults_later = h.faults_later; missing_later = h.missing_later; fault = λ e. h.failed is; no_file = λ e. absurd cc; quiet = λ q. absurd cc }
-causes_call old new E.Missing r is h = record { faults_later = h.faults_later; missing_later = h.missing_later; fault = λ e. absurd cc; no_file = λ e. h.missing is; quiet = λ q. absurd cc }
+causes_call old new E.NoMemory r is h = record { faults_later = h.faults_later; missing_later = h.missing_later; fault = λ e. absurd cc; no_file = λ e. absurd cc; untold = λ q. inr (h.no_memory is) }
+causes_call old new E.Failed r is h = record { faults_later = h.faults_later; missing_later = h.missing_later; fault = λ e. h.failed is; no_file = λ e. absurd cc; untold = λ q. absurd cc }
+causes_call old new E.Missing r is h = record { faults_later = h.faults_later; missing_later = h.missing_later; fault = λ e. absurd cc; no_file = λ e. h.missing is; untold = λ q. absurd cc }
 
 -- part was missing
 pub causes_missed : {T : Type 0} (old new : Counts) (r : Result T DeskError) → r ≡ Err E.Missing → HasCauses old new r → HasTaskCauses old new (Ok Got)
-causes_missed old new r is h = record { faults_later = h.faults_later; missing_later = h.missing_later; fault = λ e. absurd cc; no_file = λ e. absurd cc; quiet = λ q. inl (h.missing is) }
+causes_missed old new r is h = record { faults_later = h.faults_later; missing_later = h.missing_later; fault = λ e. absurd cc; no_file = λ e. absurd cc; untold = λ q. inl (h.missing is) }
 
 pub causes_done : {T : Type 0} (old new : Counts) (x : T) (r : Result T DeskError) → r ≡ Ok x → HasCauses old new r → HasTaskCauses old new (Ok Got)
-causes_done old new x r is h = let P : Result _ DeskError → Type 0 = λ r. OnOk r (new ≡ old) in record { faults_later = h.faults_later; missing_later = h.missing_later; fault = λ e. absurd cc; no_file = λ e. absurd cc; quiet = λ q. inr (subst P is h.done) }
+causes_done old new x r is h = let P : Result _ DeskError → Type 0 = λ r. OnOk r (new ≡ old) in record { faults_later = h.faults_later; missing_later = h.missing_later; fault = λ e. absurd cc; no_file = λ e. absurd cc; untold = λ q. inr (subst P is h.done) }
 
 -- ---- what a found length allows
 
@@ -138,3 +138,12 @@ back old new (Err e) h = h
 pub over_back : (old new : Counts) (r : Result Answer NoMemory) → HasTaskCauses old new r → HasTaskCauses old new (answer_in (over_with r))
 over_back old new (Ok answer) h = h
 over_back old new (Err e) h = h
+
+-- a call that was refused behind calls that weren't
+pub quiet_refused : {T : Type 0} (old mid new : Counts) (e : DeskError) → mid ≡ old → HasCauses {T = T} mid new (Err e) → HasQuietCauses old new (answer_in (over_with (refusal e)))
+quiet_refused {T} old mid new e m h = let P : Counts → Type 0 = λ x. HasQuietCauses x new (answer_in (over_with (refusal e))) in subst P m (by_error e h)
+  where
+    by_error : (e : DeskError) → HasCauses {T = T} mid new (Err e) → HasQuietCauses mid new (answer_in (over_with (refusal e)))
+    by_error E.NoMemory h = record { faults_later = h.faults_later; missing_later = h.missing_later; fault = λ e. absurd cc; no_file = λ e. absurd cc; untold = λ q. inr (h.no_memory refl); quiet = λ q. h.no_memory refl }
+    by_error E.Failed h = record { faults_later = h.faults_later; missing_later = h.missing_later; fault = λ e. h.failed refl; no_file = λ e. absurd cc; untold = λ q. absurd cc; quiet = λ q. absurd cc }
+    by_error E.Missing h = record { faults_later = h.faults_later; missing_later = h.missing_later; fault = λ e. absurd cc; no_file = λ e. h.missing refl; untold = λ q. absurd cc; quiet = λ q. absurd cc }

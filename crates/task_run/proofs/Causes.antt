@@ -13,7 +13,7 @@ from_quiet old new result h = record {
   missing_later = h.missing_later;
   fault = h.fault;
   no_file = h.no_file;
-  quiet = λ q. inr (h.quiet q);
+  untold = h.untold;
 }
 
 -- no call was made
@@ -23,7 +23,7 @@ from_nothing counts result q = record {
   missing_later = omega arith;
   fault = λ e. absurd (told A.FileFault result e refl q);
   no_file = λ e. absurd (told A.NoFile result e refl q);
-  quiet = λ h. inr refl;
+  untold = λ h. inr refl;
 }
   where
     told : (answer : Answer) (result : Result Answer NoMemory) → result ≡ Ok answer → may_follow_refusal (Ok answer) ≡ true → may_follow_refusal result ≡ false → ⊥

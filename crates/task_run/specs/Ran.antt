@@ -126,21 +126,28 @@ may_follow_refusal (Ok (Hash digest)) = true
 may_follow_refusal (Ok answer) = false
 may_follow_refusal (Err e) = false
 
--- The desk's counts have not fallen, and FileFault and NoFile come only where theirs rose. All other answers but Size and Hash leave
--- the counts as they were, unless that of missing files rose: a get that begins a layout may find no part.
+-- the answer tells of a call of the desk that was refused
+abbrev pub tells_of_refusal : Result Answer NoMemory → Bool
+tells_of_refusal (Ok FileFault) = true
+tells_of_refusal (Ok NoFile) = true
+tells_of_refusal result = false
+
+-- The desk's counts have not fallen, and FileFault and NoFile come only where theirs rose. All other answers leave the counts as they
+-- were, unless that of missing files rose: a get may miss part.
 pub record HasTaskCauses (old new : Counts) (result : Result Answer NoMemory) : Type 0 where
   pub faults_later : old.faults ≤ new.faults
   pub missing_later : old.missing ≤ new.missing
   pub fault : result ≡ Ok FileFault → Rose old.faults new.faults
   pub no_file : result ≡ Ok NoFile → Rose old.missing new.missing
-  pub quiet : may_follow_refusal result ≡ false → Rose old.missing new.missing ⊎ (new ≡ old)
+  pub untold : tells_of_refusal result ≡ false → Rose old.missing new.missing ⊎ (new ≡ old)
 
--- The same where such an answer leaves the counts as they were.
+-- The same, where all other answers but Size and Hash leave the counts as they were.
 pub record HasQuietCauses (old new : Counts) (result : Result Answer NoMemory) : Type 0 where
   pub faults_later : old.faults ≤ new.faults
   pub missing_later : old.missing ≤ new.missing
   pub fault : result ≡ Ok FileFault → Rose old.faults new.faults
   pub no_file : result ≡ Ok NoFile → Rose old.missing new.missing
+  pub untold : tells_of_refusal result ≡ false → Rose old.missing new.missing ⊎ (new ≡ old)
   pub quiet : may_follow_refusal result ≡ false → new ≡ old
 
 -- the answer is neither FileFault nor NoFile

@@ -1,4 +1,6 @@
 use Rattle.ann_outside.specs.declared.file_desk.DeskError.TheVariants as E
+use Rattle.std.proofs.Common.{refl}
+use Rattle.task_get.proofs.BeginLaws.{quiet_refused}
 use Rattle.task_get.proofs.ChunkLaws.{over_uncopied, over_unremoved, over_came}
 use Rattle.task_get.proofs.get_chunk.copy_over.Goals as goal
 
@@ -17,3 +19,8 @@ returns-in-Ok-Missing-clause-copied g c = over_uncopied _ _ _ _ _ _ _ E.Missing 
 
 pub returns-in-Err-clause-copied : goal.returns-in-Err-clause-copied
 returns-in-Err-clause-copied g c = over_uncopied _ _ _ _ _ _ _ E.NoMemory c.in-Err.ensures.moved
+
+pub returns-in-Err-remove-clause-causes : goal.returns-in-Err-remove-clause-causes
+returns-in-Err-remove-clause-causes g c =
+    let q = rw c.in-Ok-Done.field-0-is at c.in-Ok-Done.ensures.causes in
+    rw (c.over.ensures, c.refused.ensures) (quiet_refused _ _ _ _ (q.quiet refl) c.in-Err-remove.ensures.causes)
