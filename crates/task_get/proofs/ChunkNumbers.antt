@@ -43,9 +43,6 @@ room_next size chunk i before after some there b a =
     let f : from_of chunk (i + 2) ≡ (i + 1) * chunk = ap (λ k. k * chunk) e in
     omega (arith, o, f, b, a)
 
-pub room_one : (size chunk i before : ℕ) → 0 < chunk → i < count_of size chunk → before ≤ from_of chunk (i + 1) → before + (to_of size chunk (i + 1) - from_of chunk (i + 1)) ≤ size
-room_one size chunk i before some there b = let o = in_order size chunk i some there in omega (arith, o, b)
-
 -- ---- what is held
 
 pub held_most : (size chunk part : ℕ) → held_of size chunk part ≤ count_of size chunk

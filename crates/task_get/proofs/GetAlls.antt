@@ -182,10 +182,6 @@ pub got_over : (setup : Setup) (t : ℕ) (key : Parts) (file : List ℕ) (layout
     → TriesRan setup t key file layouts now pairs later old new (Ok (T.Over answer)) → GetRan setup t key file layouts pairs later old new (Ok answer)
 got_over setup t key file layouts now pairs later old new answer r = record { grown = r.grown; goes = r.goes }
 
-pub got_none : (setup : Setup) (t : ℕ) (key : Parts) (file : List ℕ) (layouts : List (ℕ × ℕ)) (now : ℕ) (pairs later : List Asking) (old new : Option (List Call)) (e : NoMemory)
-    → TriesRan setup t key file layouts now pairs later old new (Err e) → GetRan setup t key file layouts pairs later old new (Err e)
-got_none setup t key file layouts now pairs later old new e r = record { grown = r.grown; goes = r.goes }
-
 pub got_plain : (setup : Setup) (t : ℕ) (key : Parts) (file : List ℕ) (layouts : List (ℕ × ℕ)) (now : ℕ) (pairs mid later : List Asking) (old on new : Option (List Call)) (result : Result Answer NoMemory)
     → TriesRan setup t key file layouts now pairs mid old on (Ok T.Failed) → WholeRan setup t key file now mid later on new result → GetRan setup t key file layouts pairs later old new result
 got_plain setup t key file layouts now pairs mid later old on new result r w = record {

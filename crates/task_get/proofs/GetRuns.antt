@@ -1,11 +1,9 @@
 -- Runs of gets in the plain layout.
-use Rattle.std.proofs.Common.{◌≡◌, ℕ, zero, suc, ◌-◌, List, [], ◌∷◌, ◌++◌, refl, ap, arith, append-nil, drop}
-use Rattle.std.specs.Prelude.{Bool, true, false, not, Option, Some, None, is_none, unwrap_or}
+use Rattle.std.proofs.Common.{◌≡◌, ℕ, zero, suc, ◌-◌, List, [], ◌∷◌, refl, ap, arith, drop}
+use Rattle.std.specs.Prelude.{Bool, true, not, Option, Some, None, is_none, unwrap_or}
 use Rattle.std.specs.List.{filter_map, cons_option}
-use Rattle.std.specs.Bool.{MatchBool}
 use Rattle.task_run.specs.Stores.{is_size}
 use Rattle.chunk_plan.specs.Layouts.{Part}
-use Rattle.std.proofs.lemmas.List.Elements.{filter_map-append}
 use Rattle.ann_key.specs.Keys.{Parts}
 use Rattle.journal_model.specs.declared.verdict.Verdict.TheVariants.{Done}
 use Rattle.annex_model.specs.Messages.{HostMessage}
@@ -20,12 +18,11 @@ use Rattle.task_run.specs.Stops.{call_stop, AnsweredBy}
 use Rattle.task_run.specs.Names.{part_of, fetch_file}
 use Rattle.task_run.specs.Requests.{AsksFor}
 use Rattle.task_run.specs.Layouts.{chunk_sizes, sizes_tried}
-use Rattle.task_run.specs.Reads.{length_or_none, lengths_found, bytes_of, is_removed, is_reading, reads_of, read_of, is_run}
-use Rattle.task_run.specs.Discipline.{are_found}
-use Rattle.task_run.specs.Gets.{fetch_request, GetAsks, GetAnswers, held_reads, IsSaid, IsKept as KeepsPart, fit_in, is_got, is_wrong}
+use Rattle.task_run.specs.Reads.{reads_of, read_of, is_run}
+use Rattle.task_run.specs.Gets.{fetch_request, GetAsks, GetAnswers, held_reads, is_wrong}
 use Rattle.task_run.specs.Runs.{RunOf, GetCalls}
-use Rattle.task_run.proofs.GetCallsLaws.{Fair, Good, fair_more, found_more}
-use Rattle.task_run.proofs.Lists.{all_taken, none_stop, but_last}
+use Rattle.task_run.proofs.GetCallsLaws.{Fair, Good}
+use Rattle.task_run.proofs.Lists.{all_taken, none_stop}
 
 pub no_chunks : (size : Option ℕ) → chunk_sizes size [] ≡ []
 no_chunks None = refl
@@ -96,27 +93,6 @@ run_finished setup t key text file request at calls answer g h = record {
   answered = rw (none_stop (call_stop (part_of file)) calls g.good.free) h;
 }
 
--- a call that stops the task, behind others
-pub run_stopped : (setup : Setup) (t : ℕ) (key : Parts) (text file : List ℕ) (request : Option HostMessage) (at : ℕ) (front : List Call) (x : Call) (answer : Answer)
-    → Going setup t key file request at front → Fair file (fetch_file setup t 1) (x ∷ []) → are_found (part_of file) front (x ∷ []) ≡ true
-    → call_stop (part_of file) x ≡ Some answer → read_of (fetch_file setup t 1) x ≡ None → Run setup t key text file request at (front ++ x ∷ []) answer
-run_stopped setup t key text file request at front x answer g f found s r = record {
-  asked_till_stop = refl;
-  calls_till_stop = rw (but_last front x) g.good.free;
-  found = found_more (part_of file) [] front (x ∷ []) g.good.found found;
-  work = (get_calls setup t file request at (front ++ x ∷ []) fair, get_asks setup t key file request at (front ++ x ∷ []) g.asks fair run, refl);
-  answered = rw (filter_map-append (call_stop (part_of file)) front (x ∷ [])) (rw (none_stop (call_stop (part_of file)) front g.good.free) (rw s refl));
-}
-  where
-    fair : Fair file (fetch_file setup t 1) (front ++ x ∷ [])
-    fair = fair_more file (fetch_file setup t 1) front (x ∷ []) g.good.fair f
-
-    same : reads_of (fetch_file setup t 1) (front ++ x ∷ []) ≡ reads_of (fetch_file setup t 1) front
-    same = rw (filter_map-append (read_of (fetch_file setup t 1)) front (x ∷ [])) (rw r (append-nil (reads_of (fetch_file setup t 1) front)))
-
-    run : is_run 0 (reads_of (fetch_file setup t 1) (front ++ x ∷ [])) ≡ true
-    run = rw same g.run
-
 -- ---- answers
 
 whole_part : (key : Parts) → Part
@@ -125,27 +101,3 @@ whole_part key = record { key = key; from = 0; to = unwrap_or key.size 0 }
 pub wrong_if : (size : Option ℕ) (part : Part) (n : ℕ) (b : Bool) → part.from ≡ 0 → part.to ≡ unwrap_or size 0 → is_size size n ≡ b → is_wrong size part n ≡ not b
 wrong_if None part n b f e h = ap not h
 wrong_if (Some s) part n b f e h = let k : part.to - part.from ≡ s = omega (arith, f, e) in rw k (ap not h)
-
-pub get_wrong : (setup : Setup) (t : ℕ) (key : Parts) (file : List ℕ) (request : Option HostMessage) (at : ℕ) (calls : List Call) (n : ℕ)
-    → is_size key.size n ≡ false → lengths_found (fetch_file setup t 1) calls ≡ n ∷ [] → filter_map (length_or_none (part_of file)) calls ≡ []
-    → is_removed (part_of file) calls ≡ true → GetAnswers setup t key (sizes_tried key []) file (done request at ∷ []) calls (A.Size n)
-get_wrong setup t key file request at calls n s l none r = record {
-  answered = rw (no_chunks key.size) (record {
-    begun = refl;
-    by_length = rw (none, l) (rw (wrong_if key.size (record { key = key; from = 0; to = unwrap_or key.size 0 }) n false refl refl s) refl);
-    part = r;
-  });
-}
-
-pub get_said : (setup : Setup) (t : ℕ) (key : Parts) (file : List ℕ) (request : Option HostMessage) (at : ℕ) (calls : List Call) (n : ℕ) (bytes : List ℕ) (answer : Answer)
-    → is_size key.size n ≡ true → lengths_found (fetch_file setup t 1) calls ≡ n ∷ [] → filter_map (length_or_none (part_of file)) calls ≡ []
-    → bytes_of (reads_of (fetch_file setup t 1) calls) ≡ bytes → is_reading 0 n (reads_of (fetch_file setup t 1) calls) ≡ true → IsSaid key bytes (fit_in answer)
-    → MatchBool (is_got answer) (KeepsPart setup t file (done request at ∷ []) calls) (is_removed (part_of file) calls ≡ true)
-    → GetAnswers setup t key (sizes_tried key []) file (done request at ∷ []) calls answer
-get_said setup t key file request at calls n bytes answer s l none b whole said part = record {
-  answered = rw (no_chunks key.size) (record {
-    begun = refl;
-    by_length = rw (none, l) (rw (wrong_if key.size (record { key = key; from = 0; to = unwrap_or key.size 0 }) n true refl refl s) (refl, record { said = rw (b, append-nil bytes) said; held_whole = refl; fetched_whole = rw l (rw whole refl) }));
-    part = part;
-  });
-}

@@ -11,7 +11,7 @@ use Rattle.std.proofs.lemmas.Slice.Eq.{bytes_eq-Decides}
 use Rattle.ann_outside.specs.declared.file_desk.Call.{Call}
 use Rattle.ann_outside.specs.declared.file_desk.Call.TheVariants as K
 use Rattle.ann_outside.specs.declared.file_desk.Call.TheVariants.{Size, ReadAt, Create, Append, Cut, Rename, Remove}
-use Rattle.fetch_copy.specs.Copies.{copy_calls, EndsWhole, EndsEarly}
+use Rattle.fetch_copy.specs.Copies.{copy_calls}
 use Rattle.fetch_copy.specs.CopiesOut.{reads_before}
 use Rattle.task_run.specs.declared.setup.Setup.{Setup}
 use Rattle.task_run.specs.Stops.{call_stop}
@@ -21,7 +21,7 @@ use Rattle.task_run.specs.Discipline.{are_among, names_in, changed_by, size_amon
 use Rattle.task_run.specs.Stores.{is_size_call, is_front}
 use Rattle.task_store.specs.ChunkStoring.{cut_calls}
 use Rattle.task_run.proofs.Texts.{same_name, apart}
-use Rattle.task_run.proofs.GetCallsLaws.{known_skip, known_add, copy_reads, copy_appends, placed, run_placed, bytes_placed, nat_same}
+use Rattle.task_run.proofs.GetCallsLaws.{known_skip, known_add, copy_reads, copy_appends, placed, run_placed, bytes_placed}
 
 pub lt_true : (a b : ℕ) → a < b → nat_lt a b ≡ true
 lt_true a b h = grind (arith, nat_tests)
@@ -236,9 +236,6 @@ pub record Cutting (file name : List ℕ) (from to : ℕ) (calls : List Call) : 
   pub front : is_front (appended name calls) (bytes_of (reads_of file calls)) ≡ true
   pub within : list_all (λ (r : ℕ × List ℕ). nat_le from r.0 && nat_lt r.0 to) (reads_of file calls) ≡ true
 
-pub cutting_none : (file name : List ℕ) (from to : ℕ) → Cutting file name from to []
-cutting_none file name from to = record { own_all = refl; run = refl; front = refl; within = refl }
-
 pub cutting_create : (file name : List ℕ) (from to : ℕ) (r : _) → Cutting file name from to (Create name r ∷ [])
 cutting_create file name from to r = record { own_all = rw (same_name name) refl; run = refl; front = refl; within = refl }
 
@@ -301,24 +298,6 @@ cutting_removed file name from to calls r c = record {
     wrote = ap concat (filter_map-append (piece_of name) calls (Remove name r ∷ []) ∙ append-nil (filter_map (piece_of name) calls))
 
 -- ---- how the pieces end
-
-pub ending_whole : (file name : List ℕ) (from at left : ℕ) (ending : List Call) → from ≤ at → EndsWhole file at left ending → Ending file name from at ending
-ending_whole file name from at left [] h e = record { own_all = refl; run = refl; unwritten = refl }
-ending_whole file name from at left (call ∷ []) h e = rw e (record {
-  own_all = let low : nat_le from at ≡ true = le_true from at h in rw (same_name file, low) refl;
-  run = rw (same_name file) (rw (nat_same at) refl);
-  unwritten = refl;
-})
-ending_whole file name from at left (call ∷ next ∷ more) h e = absurd e
-
-pub ending_early : (file name : List ℕ) (from at : ℕ) (ending : List Call) → from ≤ at → EndsEarly file at ending → Ending file name from at ending
-ending_early file name from at [] h e = record { own_all = refl; run = refl; unwritten = refl }
-ending_early file name from at (call ∷ []) h e = rw e.1 (record {
-  own_all = let low : nat_le from at ≡ true = le_true from at h in rw (same_name file, low) refl;
-  run = rw (same_name file) (rw (nat_same at) refl);
-  unwritten = refl;
-})
-ending_early file name from at (call ∷ next ∷ more) h e = absurd e
 
 -- ---- files that are there
 

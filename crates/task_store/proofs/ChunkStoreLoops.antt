@@ -47,9 +47,6 @@ pub record Seeking (key : Parts) (chunk count : ℕ) (before after : List Asking
   pub each_there : list_all is_done there ≡ true
   pub so_many : length there ≡ n
 
-pub seeking_none : (key : Parts) (chunk count : ℕ) (pairs : List Asking) → Seeking key chunk count pairs pairs 0
-seeking_none key chunk count pairs = record { there = []; pairs_are = sym (append-nil pairs); in_order = tt; each_there = refl; so_many = refl }
-
 present_any : (n m : ℕ) (key : Parts) (request : Option HostMessage) (v : Verdict) → AsksFor present_request n key (record { request = request; verdict = v })
     → AsksFor present_request m key (record { request = request; verdict = v })
 present_any n m key None v h = h
@@ -80,16 +77,6 @@ seeking_more key chunk count n before between after v s low o d = record {
   so_many = length-append s.there (record { request = o.request; verdict = v } ∷ []) ∙ ap (λ k. k + 1) s.so_many;
 }
 
-pub seeks_all : (key : Parts) (chunk count n : ℕ) (before after : List Asking) → Seeking key chunk count before after n → n ≤ count → count ≤ n → Seeks key chunk count before after (Ok All)
-seeks_all key chunk count n before after s low high = record {
-  there = s.there;
-  last = [];
-  pairs_are = s.pairs_are ∙ ap (λ l. before ++ l) (sym (append-nil s.there));
-  in_order = rw append-nil s.in_order;
-  each_there = s.each_there;
-  ends = (refl, omega (arith, s.so_many));
-}
-
 pub seeks_missing : (key : Parts) (chunk count n : ℕ) (before between after : List Asking) (v : Verdict) → Seeking key chunk count before between n → n < count
     → AsksOneFor present_request (with_chunk chunk (n + 1) key) between after v → is_missing_at v ≡ true → Seeks key chunk count before after (Ok (Missing n))
 seeks_missing key chunk count n before between after v s low o d = record {
@@ -110,17 +97,6 @@ seeks_over key chunk count n before between after v answer s low o d = record {
   in_order = one_more key chunk count n before between after v s low o;
   each_there = s.each_there;
   ends = (record { request = o.request; verdict = v }, refl, d);
-}
-
-pub seeks_without : (key : Parts) (chunk count n : ℕ) (before between after : List Asking) (e : NoMemory) → Seeking key chunk count before between n → after ≡ between
-    → Seeks key chunk count before after (Err e)
-seeks_without key chunk count n before between after e s same = record {
-  there = s.there;
-  last = [];
-  pairs_are = same ∙ s.pairs_are ∙ ap (λ l. before ++ l) (sym (append-nil s.there));
-  in_order = rw append-nil s.in_order;
-  each_there = s.each_there;
-  ends = refl;
 }
 
 -- ---- chunks

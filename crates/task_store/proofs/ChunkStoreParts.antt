@@ -14,7 +14,7 @@ use Rattle.journal_model.specs.declared.verdict.Verdict.TheVariants.{Done, Faile
 use Rattle.ann_outside.specs.declared.file_desk.Call.{Call}
 use Rattle.task_asker.specs.Askings.{Asking, is_gone}
 use Rattle.task_run.specs.declared.setup.Setup.{Setup}
-use Rattle.task_run.specs.Stops.{all_but_last, is_done, is_done_at, is_question}
+use Rattle.task_run.specs.Stops.{is_done, is_done_at, is_question}
 use Rattle.task_run.specs.Names.{chunk_file}
 use Rattle.task_run.specs.Requests.{AsksFor, AskInOrder}
 use Rattle.task_run.specs.Layouts.{parts_of_layout, keys_of_layout}
@@ -23,7 +23,6 @@ use Rattle.task_run.specs.Checks.{present_request}
 use Rattle.task_run.specs.Stores.{is_copied, are_whole, are_removed, is_next_copied, questions, found, transfers}
 use Rattle.task_store.specs.ChunkStoring.{chunk_keys, is_missing_at}
 use Rattle.task_run.proofs.Texts.{apart}
-use Rattle.task_run.proofs.Lists.{but_last}
 use Rattle.task_store.proofs.ChunkStoreCalls.{all_imp}
 use Rattle.task_store.proofs.ChunkStoreRuns.{WholeAt, with_size}
 
@@ -162,9 +161,6 @@ order_front n keys [] ys o = tt
 order_front n [] (x ∷ xs) ys o = absurd o
 order_front n (key ∷ keys) (x ∷ xs) ys o = (o.0, order_front (n + 1) keys xs ys o.1)
 
-there_done : (a : Asking) → is_question a ≡ true → is_done a ≡ true → (is_question a && is_done a) ≡ true
-there_done a h k = rw (h, k) refl
-
 all_pairs : (p q : Asking → Bool) (xs : List Asking) → list_all p xs ≡ true → list_all q xs ≡ true → list_all (λ a. p a && q a) xs ≡ true
 all_pairs p q [] a b = refl
 all_pairs p q (x ∷ xs) a b =
@@ -211,6 +207,3 @@ pub next_of : (setup : Setup) (t : ℕ) (key : Parts) (file : List ℕ) (size n 
     → is_next_copied setup t file calls n (chunk_parts setup key size m k) ≡ true
 next_of setup t key file size n m zero calls h = refl
 next_of setup t key file size n m (suc k) calls h = h (omega arith)
-
-pub short_all : {X : Type 0} (x : X) (xs : List X) → length (all_but_last (xs ++ x ∷ [])) ≡ length xs
-short_all x xs = ap length (but_last xs x)

@@ -122,6 +122,3 @@ module _ (query : Query) (a b c : List Asking) (key : Parts) (chunk at : ℕ) (t
 pub asked_all : (query : Query) (a b : List Asking) (key : Parts) (chunk at : ℕ) → Asked query a b (keys_of_layout key chunk) at → at ≡ key_count key.size chunk
     → RoundAsks query a b (keys_of_layout key chunk) (Ok None)
 asked_all query a b key chunk at m e = record { round = m.round; pairs_are = m.pairs_are; in_order = m.in_order; ends = (m.each_done, m.so_many ∙ e ∙ sym (length_keys key chunk)) }
-
-pub asked_short : (query : Query) (a b : List Asking) (keys : List Parts) (at : ℕ) (e : NoMemory) → Asked query a b keys at → RoundAsks query a b keys (Err e)
-asked_short query a b keys at e m = record { round = m.round; pairs_are = m.pairs_are; in_order = m.in_order; ends = m.each_done }
