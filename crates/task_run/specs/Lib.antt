@@ -13,8 +13,6 @@ pub mod Runs
 pub mod Rows
 pub mod TaskRuns
 pub mod Ran
-pub mod Rounds
 pub mod Fetching
 pub mod RunLaws
 pub mod StretchRows
-pub mod ChunkStoring

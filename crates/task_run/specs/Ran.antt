@@ -1,12 +1,12 @@
 -- What one call of run_task did.
-use Rattle.std.specs.Prelude.{ℕ, ◌≡◌, ◌≤◌, ◌+◌, Bool, true, false, List, [], ◌++◌, length, map, Option, Some, None, Result, Ok, Err}
+use Rattle.std.specs.Prelude.{ℕ, ◌≡◌, ◌≤◌, ◌+◌, ◌⊎◌, Bool, true, false, List, [], ◌++◌, length, map, Option, Some, None, Result, Ok, Err}
 use Rattle.ann_key.specs.declared.bytes.NoMemory.{NoMemory}
 use Rattle.journal_model.specs.declared.verdict.Verdict.{Verdict}
 use Rattle.journal_model.specs.declared.verdict.Verdict.TheVariants.{Done as DoneAt, Failed as FailedAt, Absent as AbsentAt, Unknown as UnknownAt, Unsupported as UnsupportedAt, Ended, Unsent}
 use Rattle.annex_model.specs.Messages.{HostMessage, Checkpresent}
 use Rattle.task_text.specs.declared.task.Task.{Task}
 use Rattle.task_text.specs.declared.task.Work.{Work}
-use Rattle.task_text.specs.declared.task.Work.TheVariants.{Store, Check, Drop}
+use Rattle.task_text.specs.declared.task.Work.TheVariants.{Store, Drop}
 use Rattle.ann_outside.specs.Causes.{Rose}
 use Rattle.ann_outside.specs.DeskCauses.{Counts}
 use Rattle.ann_outside.specs.Calls.{Gained}
@@ -44,12 +44,6 @@ abbrev pub may_note : Work → Bool
 may_note Store = true
 may_note Drop = true
 may_note _ = false
-
--- the layouts that a task of this work tries, of those in which the remote is known to have its key: content is fetched whole still
-abbrev pub layouts_for : Work → List (ℕ × ℕ) → List (ℕ × ℕ)
-layouts_for Check layouts = layouts
-layouts_for Drop layouts = layouts
-layouts_for _ layouts = []
 
 -- a verdict that such a request of a task can have: only a check is answered by Absent and Unknown, and none fails
 abbrev pub is_verdict_of : HostMessage → Verdict → Bool
@@ -132,13 +126,28 @@ may_follow_refusal (Ok (Hash digest)) = true
 may_follow_refusal (Ok answer) = false
 may_follow_refusal (Err e) = false
 
--- The desk's counts have not fallen, and FileFault and NoFile come only where theirs rose. All other answers but Size and Hash leave
--- the counts as they were.
+-- the answer tells of a call of the desk that was refused
+abbrev pub tells_of_refusal : Result Answer NoMemory → Bool
+tells_of_refusal (Ok FileFault) = true
+tells_of_refusal (Ok NoFile) = true
+tells_of_refusal result = false
+
+-- The desk's counts have not fallen, and FileFault and NoFile come only where theirs rose. All other answers leave the counts as they
+-- were, unless that of missing files rose: a get may miss part.
 pub record HasTaskCauses (old new : Counts) (result : Result Answer NoMemory) : Type 0 where
   pub faults_later : old.faults ≤ new.faults
   pub missing_later : old.missing ≤ new.missing
   pub fault : result ≡ Ok FileFault → Rose old.faults new.faults
   pub no_file : result ≡ Ok NoFile → Rose old.missing new.missing
+  pub untold : tells_of_refusal result ≡ false → Rose old.missing new.missing ⊎ (new ≡ old)
+
+-- The same, where all other answers but Size and Hash leave the counts as they were.
+pub record HasQuietCauses (old new : Counts) (result : Result Answer NoMemory) : Type 0 where
+  pub faults_later : old.faults ≤ new.faults
+  pub missing_later : old.missing ≤ new.missing
+  pub fault : result ≡ Ok FileFault → Rose old.faults new.faults
+  pub no_file : result ≡ Ok NoFile → Rose old.missing new.missing
+  pub untold : tells_of_refusal result ≡ false → Rose old.missing new.missing ⊎ (new ≡ old)
   pub quiet : may_follow_refusal result ≡ false → new ≡ old
 
 -- the answer is neither FileFault nor NoFile

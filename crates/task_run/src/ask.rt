@@ -14,7 +14,7 @@ use std::alloc::Global;
 use talk_serial::Request;
 use task_asker::Asker;
 
-// Whether the key is there.
+/// Whether the key is there.
 pub fn present<A: Asker>(
     alloc: Global,
     asker: &mut A,
@@ -35,7 +35,7 @@ pub fn present<A: Asker>(
     asker.ask(alloc, number, &Request::CheckPresent { key })
 }
 
-// That the key be removed.
+/// That the key be removed.
 pub fn remove<A: Asker>(
     alloc: Global,
     asker: &mut A,
@@ -56,7 +56,7 @@ pub fn remove<A: Asker>(
     asker.ask(alloc, number, &Request::Remove { key })
 }
 
-// That the file be stored as the key, or the key fetched into the file.
+/// That the file be stored as the key, or the key fetched into the file.
 pub fn transfer<A: Asker>(
     alloc: Global,
     asker: &mut A,

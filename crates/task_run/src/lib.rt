@@ -1,22 +1,13 @@
-// How the tasks of a run are done.
+// What the tasks of a run ask, do and answer, and what all of them share.
 #![tactic(auto)]
 
-mod answers;
-mod ask;
+pub mod answers;
+pub mod ask;
 mod check;
-mod check_layouts;
-mod chunk_store;
-mod drop_layouts;
-mod get;
 pub mod laws;
-mod layouts;
-mod names;
-mod run;
+pub mod names;
 pub mod run_laws;
 mod setup;
-mod store;
 
 pub use check::check_answer;
-pub use chunk_store::store_chunks;
-pub use run::run_task;
 pub use setup::Setup;

@@ -7,8 +7,8 @@ use crate::setup::Setup;
 use ann_key::{NoMemory, Text};
 use std::alloc::Global;
 
-// What request n of the task fetches into.
-pub fn fetch_name(alloc: Global, setup: &Setup, number: u32, n: u32) -> Result<Text, NoMemory>
+/// What request n of the task fetches into.
+pub fn fetch_name(alloc: Global, setup: &Setup, number: u32, n: u64) -> Result<Text, NoMemory>
     requires { has_newline setup.now.work ≡ false }
     ensures name { IfOk result (λ name. name ≡ fetch_file setup.now number n) }
     ensures line { IfOk result (λ name. has_newline name ≡ false) }
@@ -19,7 +19,7 @@ pub fn fetch_name(alloc: Global, setup: &Setup, number: u32, n: u32) -> Result<T
     }
 }
 
-fn fetch_text(alloc: Global, setup: &Setup, number: u32, n: u32) -> Result<Text, NoMemory>
+fn fetch_text(alloc: Global, setup: &Setup, number: u32, n: u64) -> Result<Text, NoMemory>
     ensures { IfOk result (λ name. name ≡ fetch_file setup.now number n) }
 {
     let work = setup.work.view();
@@ -28,7 +28,7 @@ fn fetch_text(alloc: Global, setup: &Setup, number: u32, n: u32) -> Result<Text,
     Ok(Text::from_string(name))
 }
 
-// What request n of the task stores a chunk from.
+/// What request n of the task stores a chunk from.
 pub fn chunk_name(alloc: Global, setup: &Setup, number: u32, n: u64) -> Result<Text, NoMemory>
     requires { has_newline setup.now.work ≡ false }
     ensures name { IfOk result (λ name. name ≡ chunk_file setup.now number n) }
@@ -49,7 +49,7 @@ fn chunk_text(alloc: Global, setup: &Setup, number: u32, n: u64) -> Result<Text,
     Ok(Text::from_string(name))
 }
 
-// What a get has fetched so far of a file.
+/// What a get has fetched so far of a file.
 pub fn part_name(alloc: Global, file: &str) -> Result<Text, NoMemory>
     ensures { IfOk result (λ name. name ≡ part_of file.now) }
 {

@@ -1,2 +1,1 @@
-pub mod Chunked
 pub mod Scripting

@@ -29,7 +29,7 @@ const FAILED: Verdict = Verdict::Failed { at: 4 };
 
 const ENDED: Verdict = Verdict::Ended { why: Why::Eof };
 
-const ROWS: [ChunkRow; 14] = [
+const ROWS: [ChunkRow; 16] = [
     // empty content has one chunk
     ChunkRow {
         line: "store WORM-s0--a f",
@@ -192,6 +192,31 @@ const ROWS: [ChunkRow; 14] = [
         calls: "size f; create w/5-1-2.chunk; read f 0; append w/5-1-2.chunk; remove w/5-1-2.chunk failed",
         noted: "",
     },
+    // without a chunk size, or a size in the key, content is stored whole
+    ChunkRow {
+        line: "store WORM-s2--a f",
+        file: "f",
+        text: "ab",
+        chunk: 0,
+        verdicts: &[DONE],
+        fails: &[],
+        answer: "stored",
+        asked: "TRANSFER STORE WORM-s2--a f",
+        calls: "size f",
+        noted: "",
+    },
+    ChunkRow {
+        line: "store WORM--a f",
+        file: "f",
+        text: "ab",
+        chunk: 4,
+        verdicts: &[DONE],
+        fails: &[],
+        answer: "stored",
+        asked: "TRANSFER STORE WORM--a f",
+        calls: "size f",
+        noted: "",
+    },
     // the file is the one that the chunk is written to
     ChunkRow {
         line: "store WORM-s2--a w/5-1-2.chunk",
@@ -213,10 +238,7 @@ fn stores_in_chunks(rt: HostRuntime) -> Result<(), Fail> {
     for (at, row) in ROWS.iter().enumerate() {
         let task = read_task(alloc, row.line.as_bytes())?;
         let desk = desk_of(alloc, &[(row.file, row.text)], row.fails)?;
-        let Some(came) = run_chunks(alloc, &task, row.chunk, row.verdicts, desk)? else {
-            assert!(rt; false, "row {at} isn't stored in chunks");
-            continue;
-        };
+        let came = run_chunks(alloc, &task, row.chunk, row.verdicts, desk)?;
         assert_eq!(rt; came.answer.as_str(), row.answer, "at row {at}");
         assert_eq!(rt; came.asked.as_str(), row.asked, "at row {at}");
         assert_eq!(rt; came.calls.as_str(), row.calls, "at row {at}");

@@ -6,6 +6,8 @@ mod chunk_rows;
 #[cfg(test)]
 mod faults;
 #[cfg(test)]
+mod get_rows;
+#[cfg(test)]
 mod layout_rows;
 #[cfg(test)]
 mod rows;

@@ -1,21 +1,24 @@
 // One task over a desk in memory and a script of verdicts, and what came of it.
-ghost use Rattle.std.specs.Prelude.{◌≡◌, [], ℕ, length, true, IfOk};
+ghost use Rattle.std.specs.Prelude.{◌≡◌, [], ℕ, length, true, false, IfOk};
+ghost use Rattle.std.specs.List.{list_any};
 ghost use Rattle.annex_model.specs.Lines.{has_newline};
+ghost use Rattle.chunk_log.specs.ChunkLines.{is_space};
 ghost use Rattle.task_asker.specs.Askings.{are_layouts};
-ghost use Rattle.task_run.specs.Ran.{IsInChunks, may_note};
-ghost use Rattle.task_text.specs.declared.task.Work.TheVariants.{Store};
+ghost use Rattle.task_run.specs.Ran.{may_note};
 ghost use Rattle.task_text.specs.TaskLines.{IsTask};
 
 use crate::script::ScriptAsker;
-use ann_key::{Bytes, NoMemory, Text};
+use ann_key::{Bytes, KeyRef, NoMemory, Text};
 use ann_outside::{Call, DeskError, MemDesk};
+use chunk_log::{Layouts, NoteBook, read_line};
 use journal_model::{Answer, Verdict, Why};
 use std::alloc::{AllocError, Global};
 use std::str;
 use std::test::Fail;
 use talk_serial::Request;
-use task_run::{Setup, run_task, store_chunks};
+use task_run::Setup;
 use task_text::{Task, Work, read_task};
+use task_works::run_task;
 
 /// A task's line, the files that stand on its desk, which of the desk's calls fail, and the verdicts of its requests.
 #[derive(Clone, Copy)]
@@ -87,7 +90,7 @@ pub fn run_over(
     task: &Task,
     layouts: &[(u64, u64)],
     verdicts: &[Verdict],
-    mut desk: MemDesk,
+    desk: MemDesk,
 ) -> Result<Outcome, NoMemory>
     requires { IsTask task.now }
 {
@@ -96,10 +99,78 @@ pub fn run_over(
         stamp: 1_700_000_000_000_000,
         chunk: 0,
     };
+    run_in(alloc, number, task, &setup, layouts, verdicts, desk)
+}
+
+const UUID: &str = "c0ffee00-0000-4000-8000-000000000001";
+
+fn has_space(bytes: &[u8]) -> bool
+    ensures { result ≡ list_any is_space bytes.now }
+{
+    bytes.iter().any(|b| *b == b' ')
+}
+
+// The layouts in which the remote has the key by these lines of notes.
+fn noted(alloc: Global, key: KeyRef<'_>, notes: &[&str]) -> Result<Layouts, NoMemory> {
+    let mut book = NoteBook::new(alloc);
+    for note in notes {
+        if !has_space(key.text())
+            && let Ok(line) = read_line(alloc, note.as_bytes())
+        {
+            book.add(alloc, key, line)?;
+        }
+    }
+    book.current(alloc, key, UUID)
+}
+
+/// The same as task 1, where these lines of notes say which layouts the remote has.
+pub fn run_noted(
+    alloc: Global,
+    task: &Task,
+    notes: &[&str],
+    verdicts: &[Verdict],
+    desk: MemDesk,
+) -> Result<Outcome, NoMemory>
+    requires { IsTask task.now }
+{
+    let layouts = noted(alloc, task.key.view(), notes)?;
+    run_over(alloc, 1, task, layouts.view(), verdicts, desk)
+}
+
+/// The task as task 1, stored in chunks of that many bytes.
+pub fn run_chunks(
+    alloc: Global,
+    task: &Task,
+    chunk: u64,
+    verdicts: &[Verdict],
+    desk: MemDesk,
+) -> Result<Outcome, NoMemory>
+    requires { IsTask task.now }
+{
+    let setup = Setup {
+        work: Text::copy(alloc, "w")?,
+        stamp: 5,
+        chunk,
+    };
+    run_in(alloc, 1, task, &setup, &[], verdicts, desk)
+}
+
+fn run_in(
+    alloc: Global,
+    number: u32,
+    task: &Task,
+    setup: &Setup,
+    layouts: &[(u64, u64)],
+    verdicts: &[Verdict],
+    mut desk: MemDesk,
+) -> Result<Outcome, NoMemory>
+    requires task { IsTask task.now }
+    requires folder { has_newline setup.now.work ≡ false }
+{
     let layouts = layouts_of(alloc, layouts)?;
     let verdicts = Vec::from_slice(alloc, verdicts)?;
     let mut asker = ScriptAsker::new(alloc, number, may_note(task.work), layouts, verdicts);
-    let answer = run_task(alloc, task, number, &setup, &mut asker, &mut desk)?;
+    let answer = run_task(alloc, task, number, setup, &mut asker, &mut desk)?;
     told(alloc, &answer, &asker, desk)
 }
 
@@ -121,47 +192,6 @@ fn told(
         calls,
         desk,
     })
-}
-
-// A store of a key that has a size, in chunks that hold something.
-fn is_in_chunks(task: &Task, setup: &Setup) -> bool
-    ensures { result ≡ true → (task.now.work ≡ Store) × IsInChunks setup.now task.now }
-{
-    let key = task.key.view();
-    let Some(_) = key.size() else {
-        return false;
-    };
-    if setup.chunk == 0 {
-        return false;
-    }
-    match task.work {
-        Work::Store => true,
-        _ => false,
-    }
-}
-
-/// The task as task 1, stored in chunks of that many bytes. None where it isn't stored in chunks.
-pub fn run_chunks(
-    alloc: Global,
-    task: &Task,
-    chunk: u64,
-    verdicts: &[Verdict],
-    mut desk: MemDesk,
-) -> Result<Option<Outcome>, NoMemory>
-    requires { IsTask task.now }
-{
-    let setup = Setup {
-        work: Text::copy(alloc, "w")?,
-        stamp: 5,
-        chunk,
-    };
-    if !is_in_chunks(task, &setup) {
-        return Ok(None);
-    }
-    let verdicts = Vec::from_slice(alloc, verdicts)?;
-    let mut asker = ScriptAsker::new(alloc, 1, true, Vec::new(alloc), verdicts);
-    let answer = store_chunks(alloc, task, 1, &setup, &mut asker, &mut desk)?;
-    Ok(Some(told(alloc, &answer, &asker, desk)?))
 }
 
 /// The case as task 1.

@@ -1,1 +1,5 @@
-pub mod Nothing
+pub mod KeysAt
+pub mod RoundLaws
+pub mod CheckRuns
+pub mod DropRuns
+pub mod AllRuns

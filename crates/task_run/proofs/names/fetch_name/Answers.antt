@@ -1,4 +1,4 @@
-use Rattle.task_run.proofs.GetTasks.{fetch_has_none}
+use Rattle.task_run.proofs.FileNames.{fetch_has_none}
 use Rattle.task_run.proofs.names.fetch_name.Goals as goal
 
 pub returns-in-Ok-clause-line : goal.returns-in-Ok-clause-line

@@ -1,0 +1,17 @@
+use Rattle.std.proofs.Common.{◌≡◌}
+use Rattle.std.specs.Prelude.{Ok}
+use Rattle.ann_key.specs.KeyRefs.{parts_of}
+use Rattle.journal_model.specs.declared.answer.Answer.TheVariants.{Got}
+use Rattle.task_asker.specs.Askings.{IsSameTask}
+use Rattle.task_run.specs.Ran.{HasTaskCauses}
+use Rattle.task_get.proofs.GetAlls.{TriesSoFar}
+use Rattle.task_get.proofs.get_layouts.try_layouts.Given as goal
+
+abbrev pub invariant-loop-i : goal.invariant-loop-i
+invariant-loop-i g l = record {
+  so_far : TriesSoFar l.setup l.number (parts_of l.key) l.file l.layouts l.i l.asked (g.A.Asker.pairs l.fn.asker) (g.A.Asker.pairs l.asker) (g.D.Desk.log l.fn.desk) (g.D.Desk.log l.desk);
+  on : g.A.Asker.goes_on l.fn.asker l.asker;
+  notes : g.A.Asker.notes l.asker ≡ g.A.Asker.notes l.fn.asker;
+  same : IsSameTask (g.A.Asker.task l.fn.asker) (g.A.Asker.task l.asker) (g.A.Asker.may_note l.fn.asker) (g.A.Asker.may_note l.asker) (g.A.Asker.loans l.fn.asker) (g.A.Asker.loans l.asker);
+  causes : HasTaskCauses (g.D.Desk.counts l.fn.desk) (g.D.Desk.counts l.desk) (Ok Got);
+}

@@ -1,0 +1,4 @@
+pub mod Fronts
+pub mod ChunkFetches
+pub mod PartBegins
+pub mod LayoutRuns

@@ -1,0 +1,136 @@
+// One chunk of a get.
+ghost use Rattle.std.specs.Prelude.{◌≡◌, ◌≢◌, ◌+◌, ◌<◌, ◌^◌, true, false, is_some};
+ghost use Rattle.ann_digest.specs.Checkers.{taken_of};
+ghost use Rattle.ann_key.specs.KeyRefs.{text_of};
+ghost use Rattle.annex_model.specs.Lines.{has_newline};
+ghost use Rattle.annex_model.specs.Messages.{is_sent_key};
+ghost use Rattle.task_asker.specs.Askings.{IsSameTask};
+ghost use Rattle.task_get.specs.ChunkFetches.{over_with, answer_in, Comes, CopiesOver, undone_went, Takes};
+ghost use Rattle.task_run.specs.Ran.{HasQuietCauses, undone_answer};
+
+use crate::taking::discard;
+use ann_digest::Checker;
+use ann_key::{KeyRef, NoMemory};
+use ann_outside::Desk;
+use fetch_copy::{Copied, copy_in};
+use journal_model::{Answer, Verdict};
+use std::alloc::Global;
+use task_asker::Asker;
+use task_run::answers::{is_done, refused, undone_answer};
+use task_run::ask;
+
+/// How a part of a get went.
+pub enum Went {
+    /// All that was wanted is there.
+    Whole,
+    /// The remote didn't send it, and the next layout is tried.
+    Failed,
+    /// The task is over with this answer.
+    Over(Answer),
+}
+
+pub fn over(answer: Result<Answer, NoMemory>) -> Result<Went, NoMemory>
+    ensures { result ≡ over_with answer }
+{
+    match answer {
+        Ok(answer) => Ok(Went::Over(answer)),
+        Err(error) => Err(error),
+    }
+}
+
+fn undone(verdict: Verdict) -> Went
+    requires { is_some (undone_answer verdict) ≡ true }
+    ensures { result ≡ undone_went verdict }
+{
+    match verdict {
+        Verdict::Failed { .. } => Went::Failed,
+        _ => Went::Over(undone_answer(verdict)),
+    }
+}
+
+// Appends the fetched file to part, and removes it.
+fn copy_over<D: Desk>(
+    alloc: Global,
+    desk: &mut D,
+    part: &str,
+    fetch: &str,
+    n: u64,
+    checker: &mut Checker<'_>,
+) -> Result<Went, NoMemory>
+    requires names { fetch.now ≢ part.now }
+    requires room { taken_of checker.old + n < 2 ^ 64 }
+    ensures copied { CopiesOver part.now fetch.now n checker.old checker.new (D.log desk.old) (D.log desk.new) result }
+    ensures causes { HasQuietCauses (D.counts desk.old) (D.counts desk.new) (answer_in result) }
+{
+    match copy_in(alloc, desk, fetch, part, n, checker) {
+        Ok(Copied::Done(_)) => match desk.remove(fetch) {
+            Ok(()) => Ok(Went::Whole),
+            Err(error) => over(refused(error)),
+        },
+        Ok(Copied::Fault) => Ok(Went::Over(Answer::FileFault)),
+        Ok(Copied::Missing) => Ok(Went::Over(Answer::NoFile)),
+        Err(error) => Err(error),
+    }
+}
+
+// Takes in the fetched file, where it has n bytes.
+fn come_in<D: Desk>(
+    alloc: Global,
+    desk: &mut D,
+    part: &str,
+    fetch: &str,
+    n: u64,
+    checker: &mut Checker<'_>,
+) -> Result<Went, NoMemory>
+    requires names { fetch.now ≢ part.now }
+    requires room { taken_of checker.old + n < 2 ^ 64 }
+    ensures came { Comes part.now fetch.now n checker.old checker.new (D.log desk.old) (D.log desk.new) result }
+    ensures causes { HasQuietCauses (D.counts desk.old) (D.counts desk.new) (answer_in result) }
+{
+    match desk.size(fetch) {
+        Ok(m) => {
+            if m == n {
+                copy_over(alloc, desk, part, fetch, n, checker)
+            } else {
+                over(discard(desk, part, Answer::Size { bytes: m }))
+            }
+        }
+        Err(error) => over(refused(error)),
+    }
+}
+
+/// Asks for the chunk of this key, and adds its n bytes to part.
+pub fn take_chunk<A: Asker, D: Desk>(
+    alloc: Global,
+    number: u32,
+    key: KeyRef<'_>,
+    n: u64,
+    part: &str,
+    fetch: &str,
+    asker: &mut A,
+    desk: &mut D,
+    checker: &mut Checker<'_>,
+) -> Result<Went, NoMemory>
+    requires key { is_sent_key (text_of key) ≡ true }
+    requires line { has_newline fetch.now ≡ false }
+    requires names { fetch.now ≢ part.now }
+    requires room { taken_of checker.old + n < 2 ^ 64 }
+    requires number { number ≡ A.task asker.old }
+    requires ready { A.ready asker.old }
+    ensures took { Takes (text_of key.entry) part.now fetch.now n checker.old checker.new (A.pairs asker.old) (A.pairs asker.new) (D.log desk.old) (D.log desk.new) result }
+    ensures notes { A.notes asker.new ≡ A.notes asker.old }
+    ensures same { IsSameTask (A.task asker.old) (A.task asker.new) (A.may_note asker.old) (A.may_note asker.new) (A.loans asker.old) (A.loans asker.new) }
+    ensures on { A.goes_on asker.old asker.new }
+    ensures causes { HasQuietCauses (D.counts desk.old) (D.counts desk.new) (answer_in result) }
+{
+    match ask::transfer(alloc, asker, number, false, key, fetch) {
+        Ok(verdict) => {
+            if is_done(verdict) {
+                come_in(alloc, desk, part, fetch, n, checker)
+            } else {
+                Ok(undone(verdict))
+            }
+        }
+        Err(error) => Err(error),
+    }
+}

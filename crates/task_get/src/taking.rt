@@ -1,0 +1,101 @@
+// Taking in a file that was fetched whole.
+ghost use Rattle.std.specs.Prelude.{◌≡◌, ◌≢◌, ◌+◌, ◌<◌, ◌^◌, [], true, false, Some, Ok};
+ghost use Rattle.ann_key.specs.KeyRefs.{parts_of};
+ghost use Rattle.task_run.specs.Fetching.{Outcome, Files3, Moves, Fetches, discarded, settling, settled, if_made};
+ghost use Rattle.task_run.specs.Ran.{refusal, RanGet, is_of_content, may_follow_refusal, HasQuietCauses};
+ghost use Rattle.task_run.specs.Names.{fetch_file, part_of};
+ghost use Rattle.ann_outside.specs.Calls.{logged};
+ghost use Rattle.ann_outside.specs.declared.file_desk.Call.TheVariants.{Remove};
+
+use ann_digest::{Checker, Fit};
+use ann_key::{KeyRef, NoMemory};
+use ann_outside::{Desk, DeskError};
+use fetch_copy::{Copied, copy_in};
+use journal_model::Answer;
+use std::alloc::Global;
+use task_run::answers::{is_size, refused};
+
+// Removes part, where it is there, and gives the answer.
+pub fn discard<D: Desk>(desk: &mut D, part: &str, answer: Answer) -> Result<Answer, NoMemory>
+    requires content { is_of_content answer ≡ true }
+    requires misfit { may_follow_refusal (Ok answer) ≡ true }
+    ensures calls { (r : Outcome) × (D.log desk.new ≡ logged (D.log desk.old) (Remove part.now r)) × (result ≡ discarded answer r) }
+    ensures causes { HasQuietCauses (D.counts desk.old) (D.counts desk.new) result }
+{
+    match desk.remove(part) {
+        Ok(()) => Ok(answer),
+        Err(DeskError::Missing) => Ok(answer),
+        Err(error) => refused(error),
+    }
+}
+
+// Keeps part as the file where its bytes fit, and else removes it.
+pub fn settle<D: Desk>(desk: &mut D, fit: Fit, file: &str, part: &str) -> Result<Answer, NoMemory>
+    ensures calls { (r : Outcome) × (D.log desk.new ≡ logged (D.log desk.old) (settling (record { file = file.now; part = part.now; fetch = [] }) fit r)) × (result ≡ settled fit r) }
+    ensures causes { HasQuietCauses (D.counts desk.old) (D.counts desk.new) result }
+{
+    match fit {
+        Fit::Fits => match desk.rename(part, file) {
+            Ok(()) => Ok(Answer::Got),
+            Err(error) => refused(error),
+        },
+        Fit::Size(bytes) => discard(desk, part, Answer::Size { bytes }),
+        Fit::Hash(digest) => discard(desk, part, Answer::Hash { digest }),
+    }
+}
+
+// Moves the fetched file, which has n bytes, to part, and settles what it is.
+fn move_in<D: Desk>(
+    alloc: Global,
+    desk: &mut D,
+    key: KeyRef<'_>,
+    file: &str,
+    part: &str,
+    fetch: &str,
+    n: u64,
+) -> Result<Answer, NoMemory>
+    requires { fetch.now ≢ part.now }
+    ensures calls { Moves (record { file = file.now; part = part.now; fetch = fetch.now }) (parts_of key.entry) n (D.log desk.old) (D.log desk.new) result }
+    ensures causes { HasQuietCauses (D.counts desk.old) (D.counts desk.new) result }
+{
+    match desk.create(part) {
+        Ok(()) => {
+            let mut checker = Checker::new(key);
+            match copy_in(alloc, desk, fetch, part, n, &mut checker) {
+                Ok(Copied::Done(_)) => match desk.remove(fetch) {
+                    Ok(()) => settle(desk, checker.finish(), file, part),
+                    Err(error) => refused(error),
+                },
+                Ok(Copied::Fault) => Ok(Answer::FileFault),
+                Ok(Copied::Missing) => Ok(Answer::NoFile),
+                Err(error) => Err(error),
+            }
+        }
+        Err(error) => refused(error),
+    }
+}
+
+// Takes in the fetched file, where it has the key's size.
+pub fn fetched<D: Desk>(
+    alloc: Global,
+    desk: &mut D,
+    key: KeyRef<'_>,
+    file: &str,
+    part: &str,
+    fetch: &str,
+) -> Result<Answer, NoMemory>
+    requires { fetch.now ≢ part.now }
+    ensures calls { Fetches (record { file = file.now; part = part.now; fetch = fetch.now }) (parts_of key.entry) (D.log desk.old) (D.log desk.new) result }
+    ensures causes { HasQuietCauses (D.counts desk.old) (D.counts desk.new) result }
+{
+    match desk.size(fetch) {
+        Ok(n) => {
+            if is_size(key.size(), n) {
+                move_in(alloc, desk, key, file, part, fetch, n)
+            } else {
+                discard(desk, part, Answer::Size { bytes: n })
+            }
+        }
+        Err(error) => refused(error),
+    }
+}

@@ -1,0 +1,11 @@
+pub mod StoreRuns
+pub mod ChunkStoreCalls
+pub mod ChunkStoreRuns
+pub mod ChunkStoreParts
+pub mod ChunkStoreEnds
+pub mod ChunkStoreSteps
+pub mod ChunkStoreTasks
+pub mod ChunkStoreAll
+pub mod ChunkStoreWays
+pub mod ChunkStoreLoops
+pub mod ChunkStoreRan

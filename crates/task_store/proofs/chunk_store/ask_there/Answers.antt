@@ -1,0 +1,10 @@
+use Rattle.ann_key.specs.KeyRefs.{parts_of, text_of}
+use Rattle.task_run.proofs.SentKeys.{chunk_sent}
+use Rattle.task_store.proofs.ChunkStoreWays.{chunk_there}
+use Rattle.task_store.proofs.chunk_store.ask_there.Goals as goal
+
+pub present-requires-clause-key : goal.present-requires-clause-key
+present-requires-clause-key g c = rw c.view.ensures (chunk_sent (text_of c.args.key) (parts_of c.args.key) _ _ _ c.args.key.spelled c.requires.sent c.in-Ok.ensures)
+
+pub returns-clause-pairs : goal.returns-clause-pairs
+returns-clause-pairs g c = chunk_there _ _ _ _ _ c.in-Ok.ensures (rw c.view.ensures at c.present.ensures.pairs)

@@ -1,0 +1,22 @@
+use Rattle.std.proofs.Common.{◌∙◌, arith}
+use Rattle.task_store.proofs.ChunkStoreLoops.{seeking_more, seeks_missing, seeks_over}
+use Rattle.task_store.proofs.chunk_store.seek.Goals as goal
+
+pub loop-there-preserved : goal.loop-there-preserved
+loop-there-preserved g c =
+    let i = c.loop-there.invariant in
+    let h = c.in-Ok.ensures in
+    record {
+      seeking = seeking_more _ _ _ _ _ _ _ _ i.seeking c.loop-there-test.true h.pairs c.in-There.ensures.said;
+      most = omega (arith, c.loop-there-test.true);
+      notes = h.notes ∙ i.notes;
+      same = record { task_is = h.same.task_is ∙ i.same.task_is; may_note_is = h.same.may_note_is ∙ i.same.may_note_is; loans_are = h.same.loans_are ∙ i.same.loans_are };
+      on = g.met.A.Asker.goes_both _ _ _ i.on h.on;
+      ready = g.met.A.Asker.is_ready _ _ h.on;
+    }
+
+pub returns-in-Missing-clause-pairs : goal.returns-in-Missing-clause-pairs
+returns-in-Missing-clause-pairs g c = seeks_missing _ _ _ _ _ _ _ _ c.loop-there.invariant.seeking c.loop-there-test.true c.in-Ok.ensures.pairs c.in-Missing.ensures.said
+
+pub returns-in-Over-clause-pairs : goal.returns-in-Over-clause-pairs
+returns-in-Over-clause-pairs g c = seeks_over _ _ _ _ _ _ _ _ _ c.loop-there.invariant.seeking c.loop-there-test.true c.in-Ok.ensures.pairs c.in-Over.ensures.said.0

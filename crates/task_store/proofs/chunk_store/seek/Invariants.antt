@@ -1,0 +1,18 @@
+use Rattle.std.proofs.Common.{◌-◌, ◌≡◌, ◌≤◌}
+use Rattle.ann_key.specs.KeyRefs.{parts_of}
+use Rattle.task_asker.specs.Askings.{IsSameTask}
+use Rattle.task_store.proofs.ChunkStoreLoops.{Seeking}
+use Rattle.task_store.proofs.chunk_store.seek.Given as goal
+
+abbrev pub invariant-loop-there : goal.invariant-loop-there
+invariant-loop-there g l = record {
+  seeking : Seeking (parts_of l.key) l.chunk l.count (g.A.Asker.pairs l.fn.asker) (g.A.Asker.pairs l.asker) l.there;
+  most : l.there ≤ l.count;
+  notes : g.A.Asker.notes l.asker ≡ g.A.Asker.notes l.fn.asker;
+  same : IsSameTask (g.A.Asker.task l.fn.asker) (g.A.Asker.task l.asker) (g.A.Asker.may_note l.fn.asker) (g.A.Asker.may_note l.asker) (g.A.Asker.loans l.fn.asker) (g.A.Asker.loans l.asker);
+  on : g.A.Asker.goes_on l.fn.asker l.asker;
+  ready : g.A.Asker.ready l.asker;
+}
+
+abbrev pub decreases-loop-there : goal.decreases-loop-there
+decreases-loop-there g l = l.count - l.there

@@ -1,0 +1,449 @@
+// Storing content in chunks.
+ghost use Rattle.std.specs.Prelude.{◌≡◌, ◌≤◌, ◌<◌, ◌+◌, ◌^◌, [], None, Some, Ok, IfOk, length, true, false};
+ghost use Rattle.ann_key.specs.Keys.{with_chunk, key_reading};
+ghost use Rattle.ann_key.specs.KeyRefs.{parts_of, text_of};
+ghost use Rattle.annex_model.specs.Lines.{has_newline};
+ghost use Rattle.annex_model.specs.Messages.{Checkpresent, Transfer, is_sent_key};
+ghost use Rattle.ann_outside.specs.Calls.{logged};
+ghost use Rattle.ann_outside.specs.declared.file_desk.Call.TheVariants.{Remove, Size};
+ghost use Rattle.chunk_plan.specs.Layouts.{count_of, from_of, to_of};
+ghost use Rattle.task_text.specs.TaskLines.{IsTask};
+ghost use Rattle.task_text.specs.declared.task.Work.TheVariants as W;
+ghost use Rattle.task_asker.specs.Askings.{IsSameTask};
+ghost use Rattle.task_run.specs.Checks.{present_request};
+ghost use Rattle.task_store.specs.ChunkStoring.{AsksNext, from_file, Seeks, StoresChunk, CopiesChunk, SettlesChunk, StoresFrom, StoresSized, StandsAs, IsQuiet, NotesChunks, removal_result, so_far};
+ghost use Rattle.task_run.specs.Fetching.{Outcome};
+ghost use Rattle.task_run.specs.Names.{chunk_file};
+ghost use Rattle.task_run.specs.Ran.{RanStore, IsInChunks, HasQuietCauses, is_verdict_of, undone_answer, may_follow_refusal};
+ghost use Rattle.task_run.specs.declared.setup.Setup.{Setup};
+
+use ann_key::{KeyRef, NoMemory};
+use ann_outside::{Desk, DeskError};
+use chunk_plan::{count, piece, range};
+use fetch_copy::{Copied, copy_out};
+use journal_model::{Answer, Verdict};
+use std::alloc::Global;
+use task_asker::Asker;
+use task_run::answers::refused;
+use task_run::names::chunk_name;
+use task_run::{Setup, ask};
+use task_text::Task;
+
+// What a remote has of a key's chunks, or how asking for them ended the task.
+pub enum Sought {
+    All,
+    /// The first that isn't there stands behind so many.
+    Missing(u64),
+    Over(Answer),
+}
+
+// What a verdict says of one chunk.
+pub enum Standing {
+    There,
+    Missing,
+    Over(Answer),
+}
+
+fn said_of(verdict: Verdict) -> Standing
+    requires { is_verdict_of (Checkpresent []) verdict ≡ true }
+    ensures said { StandsAs verdict result }
+{
+    match verdict {
+        Verdict::Done { .. } => Standing::There,
+        Verdict::Absent { .. } | Verdict::Unknown { .. } | Verdict::Unsupported { .. } => {
+            Standing::Missing
+        }
+        Verdict::Ended { why } => Standing::Over(Answer::Ended { why }),
+        Verdict::Unsent => Standing::Over(Answer::Unsent),
+        Verdict::Failed { .. } => unreachable!(),
+    }
+}
+
+// Whether a chunk is there.
+fn ask_there<A: Asker>(
+    alloc: Global,
+    asker: &mut A,
+    number: u32,
+    key: KeyRef<'_>,
+    chunk: u64,
+    n: u64,
+) -> Result<Verdict, NoMemory>
+    requires task { number ≡ A.task asker.old }
+    requires ready { A.ready asker.old }
+    requires sent { is_sent_key (text_of key) ≡ true }
+    requires whole { (parts_of key).chunk ≡ None }
+    requires chunk { 0 < chunk }
+    requires first { 0 < n }
+    ensures pairs { AsksNext present_request (with_chunk chunk n (parts_of key.entry)) (A.pairs asker.old) (A.pairs asker.new) result }
+    ensures verdict { IfOk result (λ v. is_verdict_of (Checkpresent []) v ≡ true) }
+    ensures notes { A.notes asker.new ≡ A.notes asker.old }
+    ensures same { IsSameTask (A.task asker.old) (A.task asker.new) (A.may_note asker.old) (A.may_note asker.new) (A.loans asker.old) (A.loans asker.new) }
+    ensures on { A.goes_on asker.old asker.new }
+{
+    let Ok(key) = piece(alloc, key, chunk, n) else {
+        return Err(NoMemory);
+    };
+    ask::present(alloc, asker, number, key.view())
+}
+
+// That a chunk be stored from the named file.
+fn ask_stored<A: Asker>(
+    alloc: Global,
+    asker: &mut A,
+    number: u32,
+    key: KeyRef<'_>,
+    chunk: u64,
+    n: u64,
+    name: &str,
+) -> Result<Verdict, NoMemory>
+    requires task { number ≡ A.task asker.old }
+    requires ready { A.ready asker.old }
+    requires sent { is_sent_key (text_of key) ≡ true }
+    requires whole { (parts_of key).chunk ≡ None }
+    requires chunk { 0 < chunk }
+    requires first { 0 < n }
+    requires line { has_newline name.now ≡ false }
+    ensures pairs { AsksNext (from_file name.now) (with_chunk chunk n (parts_of key.entry)) (A.pairs asker.old) (A.pairs asker.new) result }
+    ensures verdict { IfOk result (λ v. is_verdict_of (Transfer true [] []) v ≡ true) }
+    ensures notes { A.notes asker.new ≡ A.notes asker.old }
+    ensures same { IsSameTask (A.task asker.old) (A.task asker.new) (A.may_note asker.old) (A.may_note asker.new) (A.loans asker.old) (A.loans asker.new) }
+    ensures on { A.goes_on asker.old asker.new }
+{
+    let Ok(key) = piece(alloc, key, chunk, n) else {
+        return Err(NoMemory);
+    };
+    ask::transfer(alloc, asker, number, true, key.view(), name)
+}
+
+// Asks for the chunks in their order, until one isn't there.
+fn seek<A: Asker>(
+    alloc: Global,
+    asker: &mut A,
+    number: u32,
+    key: KeyRef<'_>,
+    chunk: u64,
+    count: u64,
+) -> Result<Sought, NoMemory>
+    requires task { number ≡ A.task asker.old }
+    requires ready { A.ready asker.old }
+    requires sent { is_sent_key (text_of key) ≡ true }
+    requires whole { (parts_of key).chunk ≡ None }
+    requires chunk { 0 < chunk }
+    ensures pairs { Seeks (parts_of key.entry) chunk count (A.pairs asker.old) (A.pairs asker.new) result }
+    ensures answer { IfOk result (λ sought. IsQuiet sought) }
+    ensures notes { A.notes asker.new ≡ A.notes asker.old }
+    ensures same { IsSameTask (A.task asker.old) (A.task asker.new) (A.may_note asker.old) (A.may_note asker.new) (A.loans asker.old) (A.loans asker.new) }
+    ensures on { A.goes_on asker.old asker.new }
+{
+    let mut there = 0;
+    while there < count {
+        match ask_there(alloc, asker, number, key, chunk, there + 1) {
+            Ok(verdict) => match said_of(verdict) {
+                Standing::There => there += 1,
+                Standing::Missing => return Ok(Sought::Missing(there)),
+                Standing::Over(answer) => return Ok(Sought::Over(answer)),
+            },
+            Err(error) => return Err(error),
+        }
+    }
+    Ok(Sought::All)
+}
+
+// Copies a chunk to a file of its own. There is no answer where it is whole.
+fn copy_chunk<D: Desk>(
+    alloc: Global,
+    desk: &mut D,
+    file: &str,
+    from: u64,
+    to: u64,
+    name: &str,
+) -> Result<Option<Answer>, NoMemory>
+    requires { from ≤ to }
+    ensures copied { CopiesChunk file.now name.now from to (D.log desk.old) (D.log desk.new) result }
+    ensures causes { HasQuietCauses (D.counts desk.old) (D.counts desk.new) (so_far result) }
+{
+    match copy_out(alloc, desk, file, from, to, name) {
+        Ok(Copied::Done(n)) => {
+            if n < to - from {
+                Ok(Some(Answer::Size { bytes: n }))
+            } else {
+                Ok(None)
+            }
+        }
+        Ok(Copied::Fault) => Ok(Some(Answer::FileFault)),
+        Ok(Copied::Missing) => Ok(Some(Answer::NoFile)),
+        Err(error) => Err(error),
+    }
+}
+
+// Removes the file of a chunk, and gives what is said then.
+fn remove_chunk<D: Desk>(
+    desk: &mut D,
+    name: &str,
+    said: Option<Answer>,
+) -> Result<Option<Answer>, NoMemory>
+    requires { may_follow_refusal (so_far (Ok said)) ≡ false }
+    ensures calls { (r : Outcome) × (D.log desk.new ≡ logged (D.log desk.old) (Remove name.now r)) × (result ≡ removal_result said r) }
+    ensures causes { HasQuietCauses (D.counts desk.old) (D.counts desk.new) (so_far result) }
+{
+    match desk.remove(name) {
+        Ok(()) => Ok(said),
+        Err(DeskError::Failed) => Ok(Some(Answer::FileFault)),
+        Err(DeskError::Missing) => Ok(Some(Answer::NoFile)),
+        Err(DeskError::NoMemory) => Err(NoMemory),
+    }
+}
+
+// What the verdict of a chunk's request says. Behind done and failed the chunk's file goes.
+fn settle_chunk<D: Desk>(
+    desk: &mut D,
+    name: &str,
+    verdict: Verdict,
+) -> Result<Option<Answer>, NoMemory>
+    requires { is_verdict_of (Transfer true [] []) verdict ≡ true }
+    ensures settled { SettlesChunk name.now verdict (D.log desk.old) (D.log desk.new) result }
+    ensures causes { HasQuietCauses (D.counts desk.old) (D.counts desk.new) (so_far result) }
+{
+    match verdict {
+        Verdict::Done { .. } => remove_chunk(desk, name, None),
+        Verdict::Failed { at } => remove_chunk(desk, name, Some(Answer::Failed { at })),
+        Verdict::Unsupported { .. } => Ok(Some(Answer::Unsupported)),
+        Verdict::Ended { why } => Ok(Some(Answer::Ended { why })),
+        Verdict::Unsent => Ok(Some(Answer::Unsent)),
+        Verdict::Absent { .. } | Verdict::Unknown { .. } => unreachable!(),
+    }
+}
+
+// Stores one chunk, by a file of this name.
+fn store_range<A: Asker, D: Desk>(
+    alloc: Global,
+    key: KeyRef<'_>,
+    chunk: u64,
+    n: u64,
+    file: &str,
+    from: u64,
+    to: u64,
+    name: &str,
+    number: u32,
+    asker: &mut A,
+    desk: &mut D,
+) -> Result<Option<Answer>, NoMemory>
+    requires range { from ≤ to }
+    requires task { number ≡ A.task asker.old }
+    requires ready { A.ready asker.old }
+    requires sent { is_sent_key (text_of key) ≡ true }
+    requires whole { (parts_of key).chunk ≡ None }
+    requires chunk { 0 < chunk }
+    requires first { 0 < n }
+    requires line { has_newline name.now ≡ false }
+    ensures stored { StoresChunk file.now name.now from to (with_chunk chunk n (parts_of key.entry)) (A.pairs asker.old) (A.pairs asker.new) (D.log desk.old) (D.log desk.new) result }
+    ensures notes { A.notes asker.new ≡ A.notes asker.old }
+    ensures same { IsSameTask (A.task asker.old) (A.task asker.new) (A.may_note asker.old) (A.may_note asker.new) (A.loans asker.old) (A.loans asker.new) }
+    ensures on { A.goes_on asker.old asker.new }
+    ensures causes { HasQuietCauses (D.counts desk.old) (D.counts desk.new) (so_far result) }
+{
+    match copy_chunk(alloc, desk, file, from, to, name) {
+        Ok(None) => match ask_stored(alloc, asker, number, key, chunk, n, name) {
+            Ok(verdict) => settle_chunk(desk, name, verdict),
+            Err(error) => Err(error),
+        },
+        Ok(Some(answer)) => Ok(Some(answer)),
+        Err(error) => Err(error),
+    }
+}
+
+// Stores one chunk. Its request is the one behind as many as chunks stand before it, and the question that found one missing.
+fn store_chunk<A: Asker, D: Desk>(
+    alloc: Global,
+    key: KeyRef<'_>,
+    n: u64,
+    file: &str,
+    size: u64,
+    number: u32,
+    setup: &Setup,
+    asker: &mut A,
+    desk: &mut D,
+) -> Result<Option<Answer>, NoMemory>
+    requires folder { has_newline setup.now.work ≡ false }
+    requires task { number ≡ A.task asker.old }
+    requires ready { A.ready asker.old }
+    requires sent { is_sent_key (text_of key) ≡ true }
+    requires whole { (parts_of key).chunk ≡ None }
+    requires chunk { 0 < setup.now.chunk }
+    requires first { 0 < n }
+    requires last { n ≤ count_of size setup.now.chunk }
+    requires small { n + 1 < 2 ^ 64 }
+    ensures stored { StoresChunk file.now (chunk_file setup.now number (n + 1)) (from_of setup.now.chunk n) (to_of size setup.now.chunk n)
+        (with_chunk setup.now.chunk n (parts_of key.entry)) (A.pairs asker.old) (A.pairs asker.new) (D.log desk.old) (D.log desk.new) result }
+    ensures notes { A.notes asker.new ≡ A.notes asker.old }
+    ensures same { IsSameTask (A.task asker.old) (A.task asker.new) (A.may_note asker.old) (A.may_note asker.new) (A.loans asker.old) (A.loans asker.new) }
+    ensures on { A.goes_on asker.old asker.new }
+    ensures causes { HasQuietCauses (D.counts desk.old) (D.counts desk.new) (so_far result) }
+{
+    let Ok(name) = chunk_name(alloc, setup, number, n + 1) else {
+        return Err(NoMemory);
+    };
+    let (from, to) = range(size, setup.chunk, n);
+    let name = name.view();
+    store_range(
+        alloc,
+        key,
+        setup.chunk,
+        n,
+        file,
+        from,
+        to,
+        name,
+        number,
+        asker,
+        desk,
+    )
+}
+
+// Notes that the chunks are there.
+fn note_chunks<A: Asker>(
+    asker: &mut A,
+    number: u32,
+    chunk: u64,
+    count: u64,
+) -> Result<Answer, NoMemory>
+    requires task { number ≡ A.task asker.old }
+    requires ready { A.ready asker.old }
+    requires may { A.may_note asker.old ≡ true }
+    requires chunk { 0 < chunk }
+    ensures notes { NotesChunks chunk count (length (A.pairs asker.old)) (A.notes asker.old) (A.notes asker.new) result }
+    ensures pairs { A.pairs asker.new ≡ A.pairs asker.old }
+    ensures same { IsSameTask (A.task asker.old) (A.task asker.new) (A.may_note asker.old) (A.may_note asker.new) (A.loans asker.old) (A.loans asker.new) }
+    ensures on { A.goes_on asker.old asker.new }
+{
+    match asker.note(number, chunk, count) {
+        Ok(()) => Ok(Answer::Stored),
+        Err(error) => Err(error),
+    }
+}
+
+// Stores the chunks behind the first n, and notes them all.
+fn store_from<A: Asker, D: Desk>(
+    alloc: Global,
+    key: KeyRef<'_>,
+    n: u64,
+    file: &str,
+    size: u64,
+    number: u32,
+    setup: &Setup,
+    asker: &mut A,
+    desk: &mut D,
+) -> Result<Answer, NoMemory>
+    requires folder { has_newline setup.now.work ≡ false }
+    requires task { number ≡ A.task asker.old }
+    requires ready { A.ready asker.old }
+    requires may { A.may_note asker.old ≡ true }
+    requires sent { is_sent_key (text_of key) ≡ true }
+    requires whole { (parts_of key).chunk ≡ None }
+    requires size { (parts_of key).size ≡ Some size }
+    requires chunk { 0 < setup.now.chunk }
+    requires missing { n < count_of size setup.now.chunk }
+    requires small { count_of size setup.now.chunk + 1 < 2 ^ 64 }
+    ensures stored { StoresFrom setup.now number (parts_of key.entry) file.now size n (A.pairs asker.old) (A.pairs asker.new)
+        (A.notes asker.old) (A.notes asker.new) (D.log desk.old) (D.log desk.new) result }
+    ensures same { IsSameTask (A.task asker.old) (A.task asker.new) (A.may_note asker.old) (A.may_note asker.new) (A.loans asker.old) (A.loans asker.new) }
+    ensures on { A.goes_on asker.old asker.new }
+    ensures causes { HasQuietCauses (D.counts desk.old) (D.counts desk.new) result }
+{
+    let all = count(size, setup.chunk);
+    let mut stored = n;
+    while stored < all {
+        match store_chunk(
+            alloc,
+            key,
+            stored + 1,
+            file,
+            size,
+            number,
+            setup,
+            asker,
+            desk,
+        ) {
+            Ok(None) => stored += 1,
+            Ok(Some(answer)) => return Ok(answer),
+            Err(error) => return Err(error),
+        }
+    }
+    note_chunks(asker, number, setup.chunk, all)
+}
+
+// Stores what is missing of the content, which has the key's size.
+fn store_missing<A: Asker, D: Desk>(
+    alloc: Global,
+    key: KeyRef<'_>,
+    file: &str,
+    size: u64,
+    number: u32,
+    setup: &Setup,
+    asker: &mut A,
+    desk: &mut D,
+) -> Result<Answer, NoMemory>
+    requires folder { has_newline setup.now.work ≡ false }
+    requires task { number ≡ A.task asker.old }
+    requires ready { A.ready asker.old }
+    requires may { A.may_note asker.old ≡ true }
+    requires sent { is_sent_key (text_of key) ≡ true }
+    requires whole { (parts_of key).chunk ≡ None }
+    requires size { (parts_of key).size ≡ Some size }
+    requires chunk { 0 < setup.now.chunk }
+    ensures stored { StoresSized setup.now number (parts_of key.entry) file.now size (A.pairs asker.old) (A.pairs asker.new)
+        (A.notes asker.old) (A.notes asker.new) (D.log desk.old) (D.log desk.new) result }
+    ensures same { IsSameTask (A.task asker.old) (A.task asker.new) (A.may_note asker.old) (A.may_note asker.new) (A.loans asker.old) (A.loans asker.new) }
+    ensures on { A.goes_on asker.old asker.new }
+    ensures causes { HasQuietCauses (D.counts desk.old) (D.counts desk.new) result }
+{
+    let all = count(size, setup.chunk);
+    // No memory holds the requests of so many chunks.
+    if all > u64::MAX - 2 {
+        return Err(NoMemory);
+    }
+    match seek(alloc, asker, number, key, setup.chunk, all) {
+        Ok(Sought::All) => note_chunks(asker, number, setup.chunk, all),
+        Ok(Sought::Missing(n)) => store_from(alloc, key, n, file, size, number, setup, asker, desk),
+        Ok(Sought::Over(answer)) => Ok(answer),
+        Err(error) => Err(error),
+    }
+}
+
+/// Has the file stored as those of the key's chunks that the remote hasn't, if it has the key's size.
+pub fn store_chunks<A: Asker, D: Desk>(
+    alloc: Global,
+    task: &Task,
+    number: u32,
+    setup: &Setup,
+    asker: &mut A,
+    desk: &mut D,
+) -> Result<Answer, NoMemory>
+    requires task { IsTask task.now }
+    requires work { task.now.work ≡ W.Store }
+    requires folder { has_newline setup.now.work ≡ false }
+    requires chunked { IsInChunks setup.now task.now }
+    requires number { number ≡ A.task asker.old }
+    requires ready { A.ready asker.old }
+    requires may { A.may_note asker.old ≡ true }
+    ensures ran { RanStore task.now number setup.now (A.pairs asker.old) (A.pairs asker.new) (A.notes asker.old) (A.notes asker.new) (D.log desk.old) (D.log desk.new) result }
+    ensures same { IsSameTask (A.task asker.old) (A.task asker.new) (A.may_note asker.old) (A.may_note asker.new) (A.loans asker.old) (A.loans asker.new) }
+    ensures on { A.goes_on asker.old asker.new }
+    ensures causes { HasQuietCauses (D.counts desk.old) (D.counts desk.new) result }
+{
+    let key = task.key.view();
+    let file = task.file.view();
+    let Some(size) = key.size() else {
+        unreachable!()
+    };
+    match desk.size(file) {
+        Ok(n) => {
+            if n == size {
+                store_missing(alloc, key, file, size, number, setup, asker, desk)
+            } else {
+                Ok(Answer::Size { bytes: n })
+            }
+        }
+        Err(error) => refused(error),
+    }
+}

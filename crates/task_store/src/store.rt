@@ -1,0 +1,50 @@
+// Storing content whole.
+ghost use Rattle.std.specs.Prelude.{◌≡◌, [], true, false, Some};
+ghost use Rattle.task_text.specs.TaskLines.{IsTask};
+ghost use Rattle.task_text.specs.declared.task.Work.TheVariants as W;
+ghost use Rattle.task_run.specs.Ran.{RanPlain, HasQuietCauses};
+ghost use Rattle.task_asker.specs.Askings.{IsSameTask};
+
+use ann_key::NoMemory;
+use ann_outside::Desk;
+use journal_model::Answer;
+use std::alloc::Global;
+use task_asker::Asker;
+use task_run::answers::{change_answer, is_size, refused};
+use task_run::ask;
+use task_text::Task;
+
+/// Has the file stored as the key, if it has the key's size.
+pub fn store_whole<A: Asker, D: Desk>(
+    alloc: Global,
+    task: &Task,
+    number: u32,
+    asker: &mut A,
+    desk: &mut D,
+) -> Result<Answer, NoMemory>
+    requires task { IsTask task.now }
+    requires work { task.now.work ≡ W.Store }
+    requires number { number ≡ A.task asker.old }
+    requires ready { A.ready asker.old }
+    ensures ran { RanPlain task.now number [] (A.pairs asker.old) (A.pairs asker.new) (D.log desk.old) (D.log desk.new) result }
+    ensures notes { A.notes asker.new ≡ A.notes asker.old }
+    ensures same { IsSameTask (A.task asker.old) (A.task asker.new) (A.may_note asker.old) (A.may_note asker.new) (A.loans asker.old) (A.loans asker.new) }
+    ensures on { A.goes_on asker.old asker.new }
+    ensures causes { HasQuietCauses (D.counts desk.old) (D.counts desk.new) result }
+{
+    let key = task.key.view();
+    let file = task.file.view();
+    match desk.size(file) {
+        Ok(n) => {
+            if is_size(key.size(), n) {
+                match ask::transfer(alloc, asker, number, true, key, file) {
+                    Ok(verdict) => Ok(change_answer(Answer::Stored, verdict)),
+                    Err(error) => Err(error),
+                }
+            } else {
+                Ok(Answer::Size { bytes: n })
+            }
+        }
+        Err(error) => refused(error),
+    }
+}

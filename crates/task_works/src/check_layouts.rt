@@ -1,0 +1,76 @@
+// Checking whether content is there, in any layout.
+ghost use Rattle.std.specs.Prelude.{◌≡◌, true, false, Some, Ok, IfOk, is_some};
+ghost use Rattle.task_text.specs.TaskLines.{IsTask};
+ghost use Rattle.task_text.specs.declared.task.Work.TheVariants as W;
+ghost use Rattle.task_asker.specs.Askings.{IsSameTask};
+ghost use Rattle.task_run.specs.Ran.{RanAsking, may_follow_refusal};
+ghost use Rattle.task_works.specs.Rounds.{missing_more};
+ghost use Rattle.task_run.specs.Stops.{verdict_stop};
+
+use crate::layouts::{Query, ask_layout, sizes_tried};
+use ann_key::NoMemory;
+use journal_model::{Answer, Verdict};
+use std::alloc::Global;
+use task_asker::Asker;
+use task_run::check_answer;
+use task_text::Task;
+
+// Whether the verdict ends the check, whatever layouts are left.
+fn is_stop(verdict: Verdict) -> bool
+    ensures { result ≡ is_some (verdict_stop false verdict) }
+{
+    match verdict {
+        Verdict::Unsupported { .. } | Verdict::Ended { .. } | Verdict::Unsent => true,
+        _ => false,
+    }
+}
+
+// What is answered where one more layout lacks a key: the first Unknown, or else Absent.
+fn missing_more(missing: Answer, verdict: Verdict) -> Answer
+    ensures { result ≡ missing_more missing verdict }
+{
+    match (missing, verdict) {
+        (Answer::Absent, Verdict::Unknown { at }) => Answer::Unknown { at },
+        _ => missing,
+    }
+}
+
+/// Whether the remote has the key in one of the layouts that are tried.
+pub fn check<A: Asker>(
+    alloc: Global,
+    task: &Task,
+    number: u32,
+    asker: &mut A,
+) -> Result<Answer, NoMemory>
+    requires task { IsTask task.now }
+    requires work { task.now.work ≡ W.Check }
+    requires number { number ≡ A.task asker.old }
+    requires ready { A.ready asker.old }
+    ensures ran { RanAsking task.now number (A.current asker.old) (A.pairs asker.old) (A.pairs asker.new) result }
+    ensures notes { A.notes asker.new ≡ A.notes asker.old }
+    ensures same { IsSameTask (A.task asker.old) (A.task asker.new) (A.may_note asker.old) (A.may_note asker.new) (A.loans asker.old) (A.loans asker.new) }
+    ensures on { A.goes_on asker.old asker.new }
+    ensures content { IfOk result (λ answer. may_follow_refusal (Ok answer) ≡ false) }
+{
+    let key = task.key.view();
+    let Ok(layouts) = asker.layouts(alloc, number) else {
+        return Err(NoMemory);
+    };
+    let Ok(sizes) = sizes_tried(alloc, key.size(), &layouts) else {
+        return Err(NoMemory);
+    };
+    let mut missing = Answer::Absent;
+    for chunk in &sizes {
+        match ask_layout(alloc, asker, number, Query::Present, key, *chunk) {
+            Ok(None) => return Ok(Answer::Present),
+            Ok(Some(verdict)) => {
+                if is_stop(verdict) {
+                    return Ok(check_answer(verdict));
+                }
+                missing = missing_more(missing, verdict);
+            }
+            Err(error) => return Err(error),
+        }
+    }
+    Ok(missing)
+}

@@ -1,0 +1,70 @@
+// Removing content in each layout.
+ghost use Rattle.std.specs.Prelude.{◌≡◌, true, false, Ok, IfOk, length};
+ghost use Rattle.task_text.specs.TaskLines.{IsTask};
+ghost use Rattle.task_text.specs.declared.task.Work.TheVariants as W;
+ghost use Rattle.task_asker.specs.Askings.{IsSameTask};
+ghost use Rattle.task_run.specs.Ran.{may_follow_refusal};
+ghost use Rattle.task_works.specs.Rounds.{NotesNone, RanNoting};
+
+use crate::layouts::{Query, ask_layout, sizes_tried};
+use ann_key::NoMemory;
+use journal_model::Answer;
+use std::alloc::Global;
+use task_asker::Asker;
+use task_run::answers::undone_answer;
+use task_text::Task;
+
+// Notes that the remote has no chunks of this size. The plain layout has none to note.
+fn note_none<A: Asker>(asker: &mut A, number: u32, chunk: u64) -> Result<(), NoMemory>
+    requires number { number ≡ A.task asker.old }
+    requires ready { A.ready asker.old }
+    requires may_note { A.may_note asker.old ≡ true }
+    ensures notes { NotesNone (A.notes asker.old) (A.notes asker.new) (length (A.pairs asker.old)) chunk result }
+    ensures pairs { A.pairs asker.new ≡ A.pairs asker.old }
+    ensures same { IsSameTask (A.task asker.old) (A.task asker.new) (A.may_note asker.old) (A.may_note asker.new) (A.loans asker.old) (A.loans asker.new) }
+    ensures on { A.goes_on asker.old asker.new }
+{
+    if chunk > 0 {
+        asker.note(number, chunk, 0)
+    } else {
+        Ok(())
+    }
+}
+
+/// Removes the key from the remote, in each layout that is tried.
+pub fn drop_key<A: Asker>(
+    alloc: Global,
+    task: &Task,
+    number: u32,
+    asker: &mut A,
+) -> Result<Answer, NoMemory>
+    requires task { IsTask task.now }
+    requires work { task.now.work ≡ W.Drop }
+    requires number { number ≡ A.task asker.old }
+    requires ready { A.ready asker.old }
+    requires may_note { A.may_note asker.old ≡ true }
+    ensures ran { RanNoting task.now number (A.current asker.old) (A.pairs asker.old) (A.pairs asker.new) (A.notes asker.old) (A.notes asker.new) result }
+    ensures same { IsSameTask (A.task asker.old) (A.task asker.new) (A.may_note asker.old) (A.may_note asker.new) (A.loans asker.old) (A.loans asker.new) }
+    ensures on { A.goes_on asker.old asker.new }
+    ensures content { IfOk result (λ answer. may_follow_refusal (Ok answer) ≡ false) }
+{
+    let key = task.key.view();
+    let Ok(layouts) = asker.layouts(alloc, number) else {
+        return Err(NoMemory);
+    };
+    let Ok(sizes) = sizes_tried(alloc, key.size(), &layouts) else {
+        return Err(NoMemory);
+    };
+    for chunk in &sizes {
+        match ask_layout(alloc, asker, number, Query::Remove, key, *chunk) {
+            Ok(None) => {
+                if let Err(error) = note_none(asker, number, *chunk) {
+                    return Err(error);
+                }
+            }
+            Ok(Some(verdict)) => return Ok(undone_answer(verdict)),
+            Err(error) => return Err(error),
+        }
+    }
+    Ok(Answer::Dropped)
+}

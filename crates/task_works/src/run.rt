@@ -1,0 +1,82 @@
+// One task.
+ghost use Rattle.std.specs.Prelude.{◌≡◌, true, false, IfSome};
+ghost use Rattle.ann_key.specs.Keys.{key_reading};
+ghost use Rattle.annex_model.specs.Lines.{has_newline};
+ghost use Rattle.task_asker.specs.Askings.{IsSameTask};
+ghost use Rattle.task_run.specs.Ran.{Ran, HasTaskCauses, HasQuietCauses, RanStore, may_note};
+ghost use Rattle.task_run.specs.Runs.{is_chunked};
+ghost use Rattle.task_text.specs.TaskLines.{IsTask};
+ghost use Rattle.task_text.specs.declared.task.Work.TheVariants as W;
+
+use crate::check_layouts::check;
+use crate::drop_layouts::drop_key;
+use ann_key::NoMemory;
+use ann_outside::Desk;
+use journal_model::Answer;
+use std::alloc::Global;
+use task_asker::Asker;
+use task_get::get_key;
+use task_run::Setup;
+use task_store::{store_chunks, store_whole};
+use task_text::{Task, Work};
+
+// Whether the content is stored in chunks.
+fn is_chunked(task: &Task, setup: &Setup) -> bool
+    ensures { IfSome (key_reading task.now.key) (λ key. result ≡ is_chunked setup.now key) }
+{
+    setup.chunk != 0 && task.key.view().size().is_some()
+}
+
+// Stores the content, whole or in chunks.
+fn store<A: Asker, D: Desk>(
+    alloc: Global,
+    task: &Task,
+    number: u32,
+    setup: &Setup,
+    asker: &mut A,
+    desk: &mut D,
+) -> Result<Answer, NoMemory>
+    requires task { IsTask task.now }
+    requires work { task.now.work ≡ W.Store }
+    requires folder { has_newline setup.now.work ≡ false }
+    requires number { number ≡ A.task asker.old }
+    requires ready { A.ready asker.old }
+    requires may { A.may_note asker.old ≡ true }
+    ensures ran { RanStore task.now number setup.now (A.pairs asker.old) (A.pairs asker.new) (A.notes asker.old) (A.notes asker.new) (D.log desk.old) (D.log desk.new) result }
+    ensures same { IsSameTask (A.task asker.old) (A.task asker.new) (A.may_note asker.old) (A.may_note asker.new) (A.loans asker.old) (A.loans asker.new) }
+    ensures on { A.goes_on asker.old asker.new }
+    ensures causes { HasQuietCauses (D.counts desk.old) (D.counts desk.new) result }
+{
+    if is_chunked(task, setup) {
+        store_chunks(alloc, task, number, setup, asker, desk)
+    } else {
+        store_whole(alloc, task, number, asker, desk)
+    }
+}
+
+/// Does the task by what its child is asked and what stands on the desk.
+pub fn run_task<A: Asker, D: Desk>(
+    alloc: Global,
+    task: &Task,
+    number: u32,
+    setup: &Setup,
+    asker: &mut A,
+    desk: &mut D,
+) -> Result<Answer, NoMemory>
+    requires task { IsTask task.now }
+    requires folder { has_newline setup.now.work ≡ false }
+    requires number { number ≡ A.task asker.old }
+    requires ready { A.ready asker.old }
+    requires notes { may_note task.now.work ≡ true → A.may_note asker.old ≡ true }
+    ensures ran { Ran task.now number setup.now (A.current asker.old) (A.pairs asker.old) (A.pairs asker.new) (A.notes asker.old) (A.notes asker.new) (D.log desk.old) (D.log desk.new) result }
+    ensures same { IsSameTask (A.task asker.old) (A.task asker.new) (A.may_note asker.old) (A.may_note asker.new) (A.loans asker.old) (A.loans asker.new) }
+    ensures on { A.goes_on asker.old asker.new }
+    ensures causes { HasTaskCauses (D.counts desk.old) (D.counts desk.new) result }
+{
+    match task.work {
+        Work::Store => store(alloc, task, number, setup, asker, desk),
+        Work::Get => get_key(alloc, task, number, setup, asker, desk),
+        Work::Check => check(alloc, task, number, asker),
+        Work::Drop => drop_key(alloc, task, number, asker),
+    }
+}
