@@ -1,14 +1,18 @@
 -- The layouts of a task stay while it notes nothing, and the core tells them.
 use Rattle.std.proofs.Common.{◌≡◌, ◌∙◌, ℕ, ◌+◌, List, [], ◌∷◌, ◌++◌, length, refl, sym, ap, subst, arith, length-append, append-nil, Bool, true, false, not, cond, ◌==◌, Option, Some, None}
-use Rattle.std.specs.Prelude.{◌||◌}
+use Rattle.std.specs.Prelude.{◌||◌, Result, Ok, Err, OnErr}
 use Rattle.std.specs.List.{cons_option}
+use Rattle.ann_key.specs.declared.bytes.NoMemory.{NoMemory}
+use Rattle.annex_model.specs.Messages.{HostMessage}
 use Rattle.task_text.specs.declared.task.Task.{Task}
+use Rattle.journal_model.specs.declared.verdict.Verdict.{Verdict}
 use Rattle.journal_model.specs.declared.entry.What.{What}
 use Rattle.journal_model.specs.declared.entry.What.TheVariants.{Note}
 use Rattle.journal_model.specs.declared.entry.Entry.{Entry}
 use Rattle.journal_model.specs.declared.opening.Opening.{Opening}
 use Rattle.journal_model.specs.Journal.{any}
 use Rattle.journal_model.specs.Legality.{Legal, answers, holder, is_answered, is_claimed, is_claimed_by, task_of}
+use Rattle.journal_model.specs.Shares.{Moved}
 use Rattle.journal_model.proofs.Looks.{any-append, both, either_right}
 use Rattle.journal_model.proofs.Holding.{held_busy, held_unanswered}
 use Rattle.host_core.specs.declared.event.Event.TheVariants.{Layouts as LayoutsEvent}
@@ -17,12 +21,13 @@ use Rattle.host_core.specs.Steps.{Step, step_of, layouts_for}
 use Rattle.task_asker.specs.Askings.{Noting}
 use Rattle.task_run.specs.Askings.{askings, asking_of, noting_of, notings_from}
 use Rattle.link_roles.specs.Doors.{Passed, Made}
-use Rattle.door_asker.specs.AtTasks.{AtTask, SameTask, notings}
+use Rattle.door_asker.specs.AtTasks.{AskedFor, AtTask, NotedFor, SameTask, notings}
 use Rattle.door_asker.specs.Noting.{by_noting}
 use Rattle.door_asker.specs.KnownLayouts.{known_in, known_layouts, layouts_at}
 use Rattle.door_asker.proofs.Noted.{notings-append}
 use Rattle.door_asker.proofs.Pairs.{passed}
 use Rattle.door_asker.proofs.KeyNotes.{layouts_stay}
+use Rattle.door_asker.proofs.Serving.{at_asked}
 
 -- what gives no notes notes nothing
 none_noted : (j : List Entry) (t : ℕ) (past : List Entry) (behind : ℕ) (xs : List Entry) → notings_from j t past behind xs ≡ [] → any (by_noting t) xs ≡ false
@@ -72,6 +77,36 @@ pub known_same : (o : Opening) (n t : ℕ) {a : Bool} {old new : List Entry} →
 known_same o n t {a} {old} {new} at same p =
     ap (λ (j : List Entry). known_layouts o j t) p.is
     ∙ known_stay o n t old p.others at (subst (λ (j : List Entry). AtTask o n t j) p.is same.at) (ap (λ (j : List Entry). notings j t) (sym p.is) ∙ same.noted)
+
+-- a request and a note of nothing leave them
+pub known_grown : {P Q : Type 0} (o : Opening) (n t : ℕ) {a : Bool} {makes mine : What → Bool} {old new : List Entry} → AtTask o n t old → AtTask o n t new → notings new t ≡ notings old t
+    → Moved n a makes mine old new P Q → known_layouts o new t ≡ known_layouts o old t
+known_grown o n t {a} {makes} {mine} {old} {new} before after same s =
+    ap (λ (j : List Entry). known_layouts o j t) s.is
+    ∙ known_stay o n t old s.more before (subst (λ (j : List Entry). AtTask o n t j) s.is after) (ap (λ (j : List Entry). notings j t) (sym s.is) ∙ same)
+
+noted_asked : (o : Opening) (n t : ℕ) (old new : List Entry) (q : HostMessage) (result : Result Verdict NoMemory) → AskedFor o n t old new q result → notings new t ≡ notings old t
+noted_asked o n t old new q (Ok v) h = h.noted
+noted_asked o n t old new q (Err e) h = h.noted
+
+-- the same of an asker, whose door has the same opening and whose task is the same
+module _ {P Q : Type 0} (o o' : Opening) (n t u : ℕ) {a : Bool} {makes mine : What → Bool} {old new : List Entry} (same_opening : o' ≡ o) (same_task : t ≡ u)
+    (before : AtTask o n t old) (s : Moved n a makes mine old new P Q) where
+  known_now : known_layouts o new t ≡ known_layouts o old t → known_layouts o' new u ≡ known_layouts o old u
+  known_now is =
+      ap (λ (w : Opening). known_layouts w new u) same_opening
+      ∙ subst (λ (k : ℕ). known_layouts o new k ≡ known_layouts o old k) same_task is
+
+  pub known_asked : (q : HostMessage) (result : Result Verdict NoMemory) → AskedFor o n t old new q result → known_layouts o' new u ≡ known_layouts o old u
+  known_asked q result h = known_now (known_grown o n t before (at_asked o n t old new q result h) (noted_asked o n t old new q result h) s)
+
+  -- without memory nothing was noted
+  pub known_noted : (chunk count : ℕ) (result : Result (Unit {0}) NoMemory) → NotedFor o n t old new chunk count result → OnErr result (known_layouts o' new u ≡ known_layouts o old u)
+  known_noted chunk count (Ok done) h = tt
+  known_noted chunk count (Err e) h = known_now (known_grown o n t before h.at h.noted s)
+
+  pub known_told : SameTask o n t old new → known_layouts o' new u ≡ known_layouts o old u
+  known_told h = known_now (known_grown o n t before h.at h.noted s)
 
 -- what the core tells
 pub told_so : (o : Opening) (n t : ℕ) {a : Bool} {old new : List Entry} {reply : Reply} → AtTask o n t old → Legal o new → Made o n a old new (LayoutsEvent t) reply

@@ -3,3 +3,4 @@ pub mod Pairs
 pub mod Serving
 pub mod KeyNotes
 pub mod Knowing
+pub mod Sizes

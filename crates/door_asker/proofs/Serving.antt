@@ -28,7 +28,7 @@ use Rattle.journal_model.proofs.Verdicts.{unasked_none}
 use Rattle.host_core.specs.Steps.{may_request, next_job}
 use Rattle.task_asker.specs.Askings.{names_in_line}
 use Rattle.link_roles.specs.Doors.{Passed}
-use Rattle.link_roles.specs.Asks.{Grows, HasAsked}
+use Rattle.link_roles.specs.Asks.{Grows, HasAsked, never}
 use Rattle.link_roles.proofs.Writings.{lone_apart}
 use Rattle.link_roles.proofs.Roles.{moved_both, moved_by, moved_wider, none_made, started_on}
 use Rattle.door_asker.specs.AtTasks.{AtTask, AskedFor, NotedFor}
@@ -284,17 +284,21 @@ may_later o n c t a seen q s later askable line text lone = rw (s.started, asks_
 -- ---- what asking and noting leave
 
 -- behind a request, or where none was asked, the number holds the task still
-at_asked : (o : Opening) (n t : ℕ) (old new : List Entry) (q : HostMessage) (result : Result Verdict NoMemory) → AskedFor o n t old new q result → AtTask o n t new
+pub at_asked : (o : Opening) (n t : ℕ) (old new : List Entry) (q : HostMessage) (result : Result Verdict NoMemory) → AskedFor o n t old new q result → AtTask o n t new
 at_asked o n t old new q (Ok v) h = h.at
 at_asked o n t old new q (Err e) h = h.at
 
-at_noted : (o : Opening) (n t : ℕ) (old new : List Entry) (chunk count : ℕ) (result : Result (Unit {0}) NoMemory) → NotedFor o n t old new chunk count result → AtTask o n t new
+pub at_noted : (o : Opening) (n t : ℕ) (old new : List Entry) (chunk count : ℕ) (result : Result (Unit {0}) NoMemory) → NotedFor o n t old new chunk count result → AtTask o n t new
 at_noted o n t old new chunk count (Ok v) h = h.at
 at_noted o n t old new chunk count (Err e) h = h.at
 
 note_apart : (c t : ℕ) (w : What) → by_noting t w ≡ true → is_of_child c w ≡ false
 note_apart c t (Note task chunk count) h = refl
 note_apart c t w h = absurd cc
+
+-- who makes nothing notes nothing
+pub never_notes : {n : ℕ} {a : Bool} {old new : List Entry} (t : ℕ) → Grows n a never old new → Grows n a (by_noting t) old new
+never_notes t s = moved_wider (λ w h. absurd cc) (λ w k. k) s (λ own k. k)
 
 -- what is of a kind is of a wider one
 wider : (p q : What → Bool) → ((w : What) → p w ≡ true → q w ≡ true) → (n : ℕ) (xs : List Entry) → makes_only p n xs ≡ true → makes_only q n xs ≡ true
@@ -312,17 +316,19 @@ module _ (o : Opening) (n t u : ℕ) (a : Bool) (old new : List Entry) (is : t �
       → Moved n a (by_server c t) (is_of_child c) old new P Q → ServesOn o n a c u old new P Q
   serves_asked c q result {P} {Q} s asked turn moved =
       subst (λ (k : ℕ). ServesOn o n a c k old new P Q) is record {
-        serves = record { at = at_asked o n t old new q result asked; started = started_on c moved s.started; turn = λ lone. turn lone (s.turn lone) };
+        serves = record { at = at_asked o n t old new q result asked; started = started_on c moved s.started; book = s.book; turn = λ lone. turn lone (s.turn lone) };
         moved = moved;
       }
 
-  pub serves_noted : (e : EarValue) (m : MouthValue) (chunk count : ℕ) (result : Result (Unit {0}) NoMemory) → m.child ≡ e.child → Serves o n a e.child t old → NotedFor o n t old new chunk count result
+  -- notes of the task, or nothing
+  pub serves_grown : (e : EarValue) (m : MouthValue) → m.child ≡ e.child → Serves o n a e.child t old → AtTask o n t new
       → Grows n a (by_noting t) old new → ServesOn o n a e.child u old new (LoneWired old e m) (LoneWired new e m)
-  serves_noted e m chunk count result one s noted grows =
+  serves_grown e m one s at grows =
       subst (λ (k : ℕ). ServesOn o n a e.child k old new (LoneWired old e m) (LoneWired new e m)) is record {
         serves = record {
-          at = at_noted o n t old new chunk count result noted;
+          at = at;
           started = started_on e.child grows s.started;
+          book = s.book;
           turn = λ lone. turn_noted e.child t lone grows (s.turn lone);
         };
         moved = record {

@@ -1,5 +1,7 @@
 -- The layouts in which the remote is known to have a task's key, and what stays of them.
-use Rattle.std.specs.Prelude.{ℕ, ◌≡◌, true, false, List, [], ◌∷◌, ◌++◌, Option, Some, None, IsTrue}
+use Rattle.std.specs.Prelude.{ℕ, ◌≡◌, ◌==◌, not, Bool, true, false, List, [], ◌∷◌, ◌++◌, Option, Some, None, IsTrue}
+use Rattle.std.specs.List.{list_all}
+use Rattle.chunk_log.specs.declared.note.Note.{Note}
 use Rattle.chunk_log.specs.NoteBooks.{in_order}
 use Rattle.chunk_log.specs.Current.{layouts_of}
 use Rattle.task_text.specs.declared.task.Task.{Task}
@@ -13,6 +15,16 @@ use Rattle.host_core.specs.Books.{notes_after}
 use Rattle.host_core.specs.declared.event.Reply.{Reply}
 use Rattle.host_core.specs.declared.event.Reply.TheVariants.{Layouts as Known}
 use Rattle.door_asker.specs.Noting.{by_noting}
+
+-- a note is of chunks that hold something
+abbrev pub is_sized : Note → Bool
+is_sized note = not (note.line.chunk == 0)
+
+-- One line for each key, UUID and chunk size, in their order, and each of chunks that hold something: each book that code makes
+-- is so, and so the one that a run begins with.
+pub record IsBook (notes : List Note) : Type 0 where
+  pub order : IsTrue (in_order notes)
+  pub sized : list_all is_sized notes ≡ true
 
 abbrev pub layouts_at : Opening → List Entry → Option Task → List (ℕ × ℕ)
 layouts_at o journal None = []

@@ -14,6 +14,7 @@ use Rattle.link_roles.specs.Writings.{LoneWired}
 use Rattle.link_roles.specs.Doors.{IsSameDoor}
 use Rattle.link_roles.specs.Moves.{IsSameLink}
 use Rattle.door_asker.specs.AtTasks.{AtTask}
+use Rattle.door_asker.specs.KnownLayouts.{IsBook}
 
 -- task t is the child's, which is prepared and has no open job
 pub record HasTurn (seen : List Entry) (c t : ℕ) : Type 0 where
@@ -21,11 +22,12 @@ pub record HasTurn (seen : List Entry) (c t : ℕ) : Type 0 where
   pub busy : is_busy_with seen c t ≡ true
   pub idle : open_jobs seen c ≡ []
 
--- the number holds task t, no job of which is open, over a child that was started; where nobody else steps the core, it is the
--- child's turn
+-- the number holds task t, no job of which is open, over a child that was started, in a run that began with a book; where nobody
+-- else steps the core, it is the child's turn
 pub record Serves (o : Opening) (number : ℕ) (alone : Bool) (c t : ℕ) (seen : List Entry) : Type 0 where
   pub at : AtTask o number t seen
   pub started : is_started seen c ≡ true
+  pub book : IsBook o.notes
   pub turn : alone ≡ true → HasTurn seen c t
 
 -- requests for t over c, which may be lost, notes of t, and what c's link does

@@ -36,6 +36,7 @@ impl<'l, 'd, I: Sink, O: Source, D: Door> Asker for LoneAsker<'l, 'd, I, O, D> {
     ghost use Rattle.journal_model.specs.Legality.{may_note as can_note, task_of};
     ghost use Rattle.task_run.specs.Askings.{askings};
     ghost use Rattle.door_asker.specs.AtTasks.{notings};
+    ghost use Rattle.door_asker.specs.KnownLayouts.{known_layouts};
     ghost use Rattle.door_asker.specs.Servings.{Serves, AskerGoes};
     ghost use Rattle.door_asker.specs.ServingLaws.{goes_still, goes_ready, goes_behind};
 
@@ -47,7 +48,7 @@ impl<'l, 'd, I: Sink, O: Source, D: Door> Asker for LoneAsker<'l, 'd, I, O, D> {
 
     ghost may_note = { λ s. can_note (task_of (D.opening s.door.now) s.task) };
 
-    ghost current = { λ s. [] };
+    ghost current = { λ s. known_layouts (D.opening s.door.now) (D.seen s.door.now) s.task };
 
     ghost loans = { λ s. s.link.ghost_name ∷ s.door.ghost_name ∷ D.loans s.door.now };
 
@@ -67,7 +68,7 @@ impl<'l, 'd, I: Sink, O: Source, D: Door> Asker for LoneAsker<'l, 'd, I, O, D> {
     }
 
     fn layouts(&mut self, alloc: Global, number: u32) -> Result<Layouts, NoMemory> {
-        Ok(Layouts::from_vec(Vec::new(alloc)))
+        notes::layouts(self.door, alloc, number)
     }
 
     fn note(&mut self, number: u32, chunk: u64, count: u64) -> Result<(), NoMemory> {

@@ -2,10 +2,11 @@
 ghost use Rattle.std.specs.Prelude.{◌≡◌, ◌<◌, true, IfOk, OnErr};
 ghost use Rattle.host_core.specs.declared.event.Event.TheVariants.{Note};
 ghost use Rattle.journal_model.specs.Legality.{may_note, task_of};
+ghost use Rattle.task_asker.specs.Askings.{are_layouts};
 ghost use Rattle.link_roles.specs.Doors.{IsSameDoor, Passed};
 ghost use Rattle.link_roles.specs.Asks.{Grows, never};
 ghost use Rattle.door_asker.specs.AtTasks.{AtTask, NotesNow, NotedFor, SameTask};
-ghost use Rattle.door_asker.specs.KnownLayouts.{known_in, known_layouts};
+ghost use Rattle.door_asker.specs.KnownLayouts.{IsBook, known_in, known_layouts};
 ghost use Rattle.door_asker.specs.Noting.{is_done, by_noting};
 
 use ann_key::NoMemory;
@@ -55,10 +56,12 @@ fn layouts_in(alloc: Global, reply: Reply) -> Layouts
     }
 }
 
-/// The layouts in which the remote is known to have the task's key, by all notes so far. The door's number holds the task.
+/// The layouts in which the remote is known to have the task's key, by all notes so far. The door's number holds the task. None
+/// of their chunks is empty, in a run that began with a book.
 pub fn layouts<D: Door>(door: &mut D, alloc: Global, task: u32) -> Result<Layouts, NoMemory>
     requires at { AtTask (D.opening door.old) (D.number door.old) task (D.seen door.old) }
     ensures known { IfOk result (λ layouts. layouts ≡ known_layouts (D.opening door.old) (D.seen door.old) task) }
+    ensures sizes { IsBook (D.opening door.old).notes → are_layouts (known_layouts (D.opening door.old) (D.seen door.old) task) ≡ true }
     ensures stays { known_layouts (D.opening door.old) (D.seen door.new) task ≡ known_layouts (D.opening door.old) (D.seen door.old) task }
     ensures same { SameTask (D.opening door.old) (D.number door.old) task (D.seen door.old) (D.seen door.new) }
     ensures grows { Grows (D.number door.old) (D.alone door.old) never (D.seen door.old) (D.seen door.new) }

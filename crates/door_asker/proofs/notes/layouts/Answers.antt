@@ -4,6 +4,7 @@ use Rattle.journal_model.specs.declared.opening.Opening.{Opening}
 use Rattle.link_roles.proofs.Asking.{grows_on}
 use Rattle.door_asker.proofs.Pairs.{passed}
 use Rattle.door_asker.proofs.Knowing.{known_same, told_so}
+use Rattle.door_asker.proofs.Sizes.{known_sized}
 use Rattle.door_asker.proofs.notes.layouts.Goals as goal
 
 pub returns-in-Ok-clause-known : goal.returns-in-Ok-clause-known
@@ -13,6 +14,12 @@ returns-in-Ok-clause-known g c =
     let legal = subst (λ (o : Opening). Legal o (g.D.Door.seen c.step.new.self)) c.in-Ok.ensures.opening (c.in-Ok.ensures.legal c.requires.at.legal) in
     let told = told_so o n c.args.task c.requires.at legal c.in-Ok.ensures.stepped in
     c.layouts_in.ensures ∙ told.1 ∙ known_same o n c.args.task c.requires.at (passed o n c.args.task c.requires.at legal told.0) told.0
+
+pub returns-in-Ok-clause-sizes : goal.returns-in-Ok-clause-sizes
+returns-in-Ok-clause-sizes g c = λ book. known_sized (g.D.Door.opening c.args.door.now) (g.D.Door.seen c.args.door.now) c.args.task book.sized c.requires.at.legal
+
+pub returns-in-Err-clause-sizes : goal.returns-in-Err-clause-sizes
+returns-in-Err-clause-sizes g c = λ book. known_sized (g.D.Door.opening c.args.door.now) (g.D.Door.seen c.args.door.now) c.args.task book.sized c.requires.at.legal
 
 pub returns-in-Ok-clause-stays : goal.returns-in-Ok-clause-stays
 returns-in-Ok-clause-stays g c =
