@@ -128,18 +128,28 @@ more_asked past more t run shut = askings_alike (past ++ more) past t (past_clai
 more_noted : (past more : List Entry) (t : ℕ) (run : TaskStretch past t) → has_open_job past t ≡ false → run_notings (stretch_more past more t run) ≡ run_notings run
 more_noted past more t run shut = notings_alike (past ++ more) past t (past_claim run) 0 run.within (within_alike past more t run shut)
 
-pub run_lasts : (o : Opening) (setup : Setup) (calls : ℕ → ℕ → List Call) (n t : ℕ) (past more : List Entry) → any (is_of_task t) more ≡ false → has_open_job past t ≡ false
-    → JournalRun o setup (calls n t) n t past → JournalRun o setup (calls n t) n t (past ++ more)
-run_lasts o setup calls n t past more none shut r = record {
+run_longer : (o : Opening) (setup : Setup) (calls : List Call) (n t : ℕ) (past more : List Entry) → has_open_job past t ≡ false
+    → JournalRun o setup calls n t past → JournalRun o setup calls n t (past ++ more)
+run_longer o setup calls n t past more shut r = record {
   task = r.task;
   is = r.is;
   run = stretch_more past more t r.run;
   by_it = r.by_it;
   layouts = r.layouts;
   known = r.known;
-  ran = subst (λ (xs : List Asking). TaskRun r.task t setup r.layouts xs (calls n t) (run_notings (stretch_more past more t r.run)) r.run.answer) (sym (more_asked past more t r.run shut))
-      (subst (λ (xs : List Noting). TaskRun r.task t setup r.layouts (run_askings r.run) (calls n t) xs r.run.answer) (sym (more_noted past more t r.run shut)) r.ran);
+  ran = subst (λ (xs : List Asking). TaskRun r.task t setup r.layouts xs calls (run_notings (stretch_more past more t r.run)) r.run.answer) (sym (more_asked past more t r.run shut))
+      (subst (λ (xs : List Noting). TaskRun r.task t setup r.layouts (run_askings r.run) calls xs r.run.answer) (sym (more_noted past more t r.run shut)) r.ran);
 }
+
+pub run_lasts : (o : Opening) (setup : Setup) (calls : ℕ → ℕ → List Call) (n t : ℕ) (past more : List Entry) → any (is_of_task t) more ≡ false → has_open_job past t ≡ false
+    → JournalRun o setup (calls n t) n t past → JournalRun o setup (calls n t) n t (past ++ more)
+run_lasts o setup calls n t past more none shut r = run_longer o setup (calls n t) n t past more shut r
+
+-- of the same child, and with the same answer
+pub run_stays : (o : Opening) (setup : Setup) (calls : List Call) (n t : ℕ) (past more : List Entry) → has_open_job past t ≡ false
+    → (r : JournalRun o setup calls n t past) → (s : JournalRun o setup calls n t (past ++ more)) × (s.run.child ≡ r.run.child) × (s.run.answer ≡ r.run.answer)
+unfolding run_longer
+run_stays o setup calls n t past more shut r = (run_longer o setup calls n t past more shut r, refl, refl)
 
 pub plain_lasts : (o : Opening) (setup : Setup) (calls : List Call) (n t : ℕ) (past more : List Entry) → has_open_job past t ≡ false
     → PlainRun o setup calls n t past → PlainRun o setup calls n t (past ++ more)
