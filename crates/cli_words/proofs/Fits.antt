@@ -15,7 +15,7 @@ use Rattle.cli_words.specs.Grammar.{is_without, run_grammar, value_at}
 use Rattle.cli_words.specs.Identities.{nobody, IsFit}
 use Rattle.cli_words.specs.Settings.{is_setting, setting_at, settings_in, spells_setting}
 use Rattle.cli_words.specs.Values.{has_end, is_text, is_word_of_command, number_in, uuid_in}
-use Rattle.cli_words.specs.Words.{are_texts, check_of, command_of, info_of, init_of, init_with, is_help, of_command, page_alone, page_of, run_from, run_of, run_with}
+use Rattle.cli_words.specs.Words.{are_texts, check_of, command_of, info_of, init_of, init_with, is_help, of_command, page_alone, page_of, most_chunk, run_from, run_of, run_with}
 use Rattle.cli_words.specs.declared.command.Command.{Command}
 use Rattle.cli_words.specs.declared.command.Command.TheVariants.{Run, Audit, Show}
 use Rattle.cli_words.specs.declared.command.Page.{Page}
@@ -139,13 +139,13 @@ from_fits : (rows : List Row) → Fits (option_map Run (run_from rows))
 from_fits rows = go (are_texts rows) refl
   where
     go : (b : Bool) → are_texts rows ≡ b → Fits (option_map Run (cond b (run_with rows (uuid_in (value_at rows (codes "uuid"))) (number_in 1 64 (value_at rows (codes "jobs")))
-        (number_in 0 0 (value_at rows (codes "chunk"))) (number_in 1 16 (value_at rows (codes "starts")))) None))
+        (number_in 0 most_chunk (value_at rows (codes "chunk"))) (number_in 1 16 (value_at rows (codes "starts")))) None))
     go false h = tt
     go true h =
         let behind_program = both (is_text (value_at rows (codes "program"))) _ h in
         let name = both (is_text (value_at rows (codes "name"))) _ behind_program.1 in
         let gitdir = both (is_text (value_at rows (codes "gitdir"))) _ name.1 in
-        with_fits rows (uuid_in (value_at rows (codes "uuid"))) (number_in 1 64 (value_at rows (codes "jobs"))) (number_in 0 0 (value_at rows (codes "chunk")))
+        with_fits rows (uuid_in (value_at rows (codes "uuid"))) (number_in 1 64 (value_at rows (codes "jobs"))) (number_in 0 most_chunk (value_at rows (codes "chunk")))
         (number_in 1 16 (value_at rows (codes "starts"))) (written_fits (parsed (value_at rows (codes "uuid"))))
         (text_fits (value_at rows (codes "name")) name.0) (text_fits (value_at rows (codes "gitdir")) gitdir.0)
 

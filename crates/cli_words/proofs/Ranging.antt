@@ -12,7 +12,7 @@ use Rattle.cli_words.specs.Grammar.{is_without, run_grammar, value_at}
 use Rattle.cli_words.specs.Ranges.{HasRanges}
 use Rattle.cli_words.specs.Values.{has_end, is_text, is_word_of_command, number_in, uuid_in, IsNumberIn}
 use Rattle.cli_words.specs.Settings.{settings_in}
-use Rattle.cli_words.specs.Words.{are_texts, check_of, command_of, info_of, init_of, init_with, is_help, of_command, page_alone, page_of, run_from, run_of, run_with}
+use Rattle.cli_words.specs.Words.{are_texts, check_of, command_of, info_of, init_of, init_with, is_help, of_command, page_alone, page_of, most_chunk, run_from, run_of, run_with}
 use Rattle.cli_words.specs.declared.command.Command.{Command}
 use Rattle.cli_words.specs.declared.command.Command.TheVariants.{Run, Audit, Show}
 use Rattle.cli_words.specs.declared.command.Page.{Page}
@@ -48,12 +48,11 @@ read_in least most text = go (number_in least most text) refl
     go None e = tt
     go (Some n) e = let is : IsNumberIn least most text n = number_read least most text n e in (is.least_one, is.most_one)
 
-with_ranged : (rows : List Row) (uuid : Option (List ℕ)) (jobs chunk starts : Option ℕ) → IsRead 0 0 chunk → IsRead 1 16 starts
+with_ranged : (rows : List Row) (uuid : Option (List ℕ)) (jobs chunk starts : Option ℕ) → IsRead 0 most_chunk chunk → IsRead 1 16 starts
     → has_newline (value_at rows (codes "work")) ≡ false → Ranged (option_map Run (run_with rows uuid jobs chunk starts))
 with_ranged rows (Some uuid) (Some jobs) (Some chunk) (Some starts) c s w =
-    let most = c.1 in
     let least = s.0 in
-    record { whole = omega arith; some = omega arith; few = s.1; work = w }
+    record { chunk = c.1; some = omega arith; few = s.1; work = w }
 with_ranged rows (Some uuid) (Some jobs) (Some chunk) None c s w = tt
 with_ranged rows (Some uuid) (Some jobs) None starts c s w = tt
 with_ranged rows (Some uuid) None chunk starts c s w = tt
@@ -63,15 +62,15 @@ from_ranged : (rows : List Row) → Ranged (option_map Run (run_from rows))
 from_ranged rows = go (are_texts rows) refl
   where
     go : (b : Bool) → are_texts rows ≡ b → Ranged (option_map Run (cond b (run_with rows (uuid_in (value_at rows (codes "uuid"))) (number_in 1 64 (value_at rows (codes "jobs")))
-        (number_in 0 0 (value_at rows (codes "chunk"))) (number_in 1 16 (value_at rows (codes "starts")))) None))
+        (number_in 0 most_chunk (value_at rows (codes "chunk"))) (number_in 1 16 (value_at rows (codes "starts")))) None))
     go false h = tt
     go true h =
         let behind_program = both (is_text (value_at rows (codes "program"))) _ h in
         let behind_name = both (is_text (value_at rows (codes "name"))) _ behind_program.1 in
         let behind_gitdir = both (is_text (value_at rows (codes "gitdir"))) _ behind_name.1 in
         let work = both (is_text (value_at rows (codes "work"))) _ behind_gitdir.1 in
-        with_ranged rows (uuid_in (value_at rows (codes "uuid"))) (number_in 1 64 (value_at rows (codes "jobs"))) (number_in 0 0 (value_at rows (codes "chunk")))
-        (number_in 1 16 (value_at rows (codes "starts"))) (read_in 0 0 (value_at rows (codes "chunk"))) (read_in 1 16 (value_at rows (codes "starts")))
+        with_ranged rows (uuid_in (value_at rows (codes "uuid"))) (number_in 1 64 (value_at rows (codes "jobs"))) (number_in 0 most_chunk (value_at rows (codes "chunk")))
+        (number_in 1 16 (value_at rows (codes "starts"))) (read_in 0 most_chunk (value_at rows (codes "chunk"))) (read_in 1 16 (value_at rows (codes "starts")))
         (text_whole (value_at rows (codes "work")) work.0)
 
 run_ranged : (words : List (List ℕ)) → Ranged (option_map Run (run_of words))
@@ -99,11 +98,11 @@ from_uuid : (rows : List Row) → IsOfText (run_from rows)
 from_uuid rows = go (are_texts rows)
   where
     go : (b : Bool) → IsOfText (cond b (run_with rows (uuid_in (value_at rows (codes "uuid"))) (number_in 1 64 (value_at rows (codes "jobs")))
-        (number_in 0 0 (value_at rows (codes "chunk"))) (number_in 1 16 (value_at rows (codes "starts")))) None)
+        (number_in 0 most_chunk (value_at rows (codes "chunk"))) (number_in 1 16 (value_at rows (codes "starts")))) None)
     go false = tt
     go true =
         with_uuid rows (value_at rows (codes "uuid")) (uuid_in (value_at rows (codes "uuid"))) (number_in 1 64 (value_at rows (codes "jobs")))
-        (number_in 0 0 (value_at rows (codes "chunk"))) (number_in 1 16 (value_at rows (codes "starts"))) refl
+        (number_in 0 most_chunk (value_at rows (codes "chunk"))) (number_in 1 16 (value_at rows (codes "starts"))) refl
 
 pub run_uuid : (words : List (List ℕ)) → IfSome (run_of words) (λ run. (text : List ℕ) × (uuid_in text ≡ Some run.uuid))
 unfolding run_of

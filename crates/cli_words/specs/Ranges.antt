@@ -4,10 +4,11 @@ use Rattle.annex_model.specs.Lines.{has_newline}
 use Rattle.cli_words.specs.declared.command.Command.{Command}
 use Rattle.cli_words.specs.declared.command.Command.TheVariants.{Run}
 use Rattle.cli_words.specs.declared.command.RunWords.{RunWords}
+use Rattle.cli_words.specs.Words.{most_chunk}
 
--- files are stored whole, a child may be started 1 to 16 times, and the folder's name holds no line's end
+-- chunks have at most so many bytes, and 0 stands for whole files; a child may be started 1 to 16 times, and the folder's name holds no line's end
 pub record IsRanged (words : RunWords) : Type 0 where
-  pub whole : words.chunk ≡ 0
+  pub chunk : words.chunk ≤ most_chunk
   pub some : 0 < words.starts
   pub few : words.starts ≤ 16
   pub work : has_newline words.work ≡ false

@@ -78,12 +78,16 @@ run_with rows (Some uuid) (Some jobs) (Some chunk) (Some starts) = Some (record 
 })
 run_with rows uuid jobs chunk starts = None
 
--- what a parse found: 1 to 64 jobs, no chunks, 1 to 16 starts
+-- the greatest size of a chunk
+abbrev pub most_chunk : ℕ
+most_chunk = 1099511627776
+
+-- what a parse found: 1 to 64 jobs, a chunk size of at most that or none, 1 to 16 starts
 abbrev pub run_from : List Row → Option RunWords
 run_from rows =
     if are_texts rows then run_with rows
     (uuid_in (value_at rows (codes "uuid"))) (number_in 1 64 (value_at rows (codes "jobs")))
-    (number_in 0 0 (value_at rows (codes "chunk"))) (number_in 1 16 (value_at rows (codes "starts")))
+    (number_in 0 most_chunk (value_at rows (codes "chunk"))) (number_in 1 16 (value_at rows (codes "starts")))
     else None
 
 -- the words, `run` among them, where a parse takes them

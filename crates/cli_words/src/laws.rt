@@ -82,7 +82,9 @@ pub fn worked_runs()
     ensures plus { command_of (run_words (codes "--jobs" ∷ codes "+4" ∷ [])) ≡ None }
     ensures twice { command_of (run_words (codes "--jobs" ∷ codes "4" ∷ codes "--jobs" ∷ codes "4" ∷ [])) ≡ None }
     ensures no_chunks { command_of (run_words (codes "--chunk" ∷ codes "0" ∷ [])) ≡ Some (Run least_run) }
-    ensures chunks { command_of (run_words (codes "--chunk" ∷ codes "1" ∷ [])) ≡ None }
+    ensures chunks { command_of (run_words (codes "--chunk" ∷ codes "1" ∷ [])) ≡ Some (Run (record least_run { chunk = 1 })) }
+    ensures most_chunk { command_of (run_words (codes "--chunk" ∷ codes "1099511627776" ∷ [])) ≡ Some (Run (record least_run { chunk = 1099511627776 })) }
+    ensures larger_chunk { command_of (run_words (codes "--chunk" ∷ codes "1099511627777" ∷ [])) ≡ None }
     ensures keep { command_of (run_words (codes "--keep" ∷ codes "f" ∷ [])) ≡ Some (Run (record least_run { keep = Some (codes "f") })) }
     ensures empty_keep { command_of (run_words (codes "--keep=" ∷ [])) ≡ None }
     ensures dash { command_of (run_words (codes "--work" ∷ codes "-x" ∷ [])) ≡ None }

@@ -52,7 +52,7 @@ const RUN: &str = "special run --program PROGRAM --uuid UUID [OPTIONS]\n\
     --program PROGRAM  the program that serves the remote\n\
     --uuid UUID        the remote's UUID\n\
     --jobs NUMBER      how many tasks are done at a time, 1 to 64 (default 4)\n\
-    --chunk BYTES      the size of the chunks that files are stored in; 0: whole files, the only choice yet (default 0)\n\
+    --chunk BYTES      the size of the chunks that files are stored in, at most 1099511627776; 0: whole files (default 0)\n\
     --name NAME        the remote's name (default remote)\n\
     --gitdir FOLDER    the repository's git directory (default .git)\n\
     --keep FILE        the kept file, which is read before the tasks and written after them (default: none)\n\

@@ -16,6 +16,9 @@ use clap::ArgMatches;
 use clap::error::ErrorKind;
 use std::alloc::Global;
 
+// The greatest size of a chunk, in bytes.
+const MOST_CHUNK: u64 = 1_099_511_627_776;
+
 /// What the words of a run say, `run` among them; None where they aren't in the grammar.
 pub(super) fn run_of(alloc: Global, words: &[String]) -> Result<Option<RunWords>, NoMemory>
     ensures { IfOk result (λ run. run ≡ run_of (texts_of words.now)) }
@@ -92,7 +95,7 @@ fn run_from(alloc: Global, matches: &ArgMatches<'_>) -> Result<Option<RunWords>,
     let Some(jobs) = number_in(value_at(matches, "jobs"), 1, 64) else {
         return Ok(None);
     };
-    let Some(chunk) = number_in(value_at(matches, "chunk"), 0, 0) else {
+    let Some(chunk) = number_in(value_at(matches, "chunk"), 0, MOST_CHUNK) else {
         return Ok(None);
     };
     let Some(starts) = number_in(value_at(matches, "starts"), 1, 16) else {
