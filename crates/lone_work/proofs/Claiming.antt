@@ -97,6 +97,7 @@ module _ (o : Opening) (n c : ℕ) (old : List Entry) (can : CanWork o c old) wh
           shut = jobs_stay_closed old (entry n (Claim t c) ∷ []) t refl unopened;
         };
         started = any-append (starts c) old (entry n (Claim t c) ∷ []) ∙ or_left (is_started old c) (is_started (entry n (Claim t c) ∷ []) c) can.started;
+        book = can.book;
         turn = λ lone. record {
           prepared = prepared_on old (entry n (Claim t c) ∷ []) c can.prepared;
           busy = ap (is_held_for c) (holder_append old (entry n (Claim t c) ∷ []) t) ∙ (rw (same t) (same c));

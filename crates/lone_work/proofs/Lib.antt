@@ -1,4 +1,4 @@
-pub mod Layouts
+pub mod Notes
 pub mod Claiming
 pub mod Running
 pub mod Working

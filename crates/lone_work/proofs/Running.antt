@@ -14,6 +14,7 @@ use Rattle.journal_model.specs.declared.opening.Opening.{Opening}
 use Rattle.journal_model.specs.Journal.{any, is_started, starts}
 use Rattle.journal_model.specs.Legality.{Legal, has_open_job, holder, is_busy, task_of}
 use Rattle.journal_model.specs.Makers.{is_of_task}
+use Rattle.journal_model.specs.Notes.{AreCurrentAt}
 use Rattle.journal_model.specs.Shares.{are_by, makes_only}
 use Rattle.journal_model.proofs.Holding.{claimed, answered as answered_task, holder_append}
 use Rattle.journal_model.proofs.Looks.{any-append, both, entry}
@@ -26,10 +27,12 @@ use Rattle.task_run.specs.Runs.{TaskRun}
 use Rattle.task_run.proofs.Askings.{asks_for, askings_from-append, askings_from-none, askings-unasked}
 use Rattle.link_roles.proofs.Linked.{any_narrower}
 use Rattle.door_asker.specs.AtTasks.{notings}
+use Rattle.door_asker.specs.KnownLayouts.{known_layouts}
 use Rattle.door_asker.specs.Servings.{HasTurn, ServesOn, by_server}
+use Rattle.door_asker.proofs.KeyNotes.{layouts_since_claim}
 use Rattle.door_asker.proofs.Noted.{notes_for, notings_from-append, notings_from-none, notings-unnoted}
 use Rattle.door_asker.proofs.Serving.{gives_none, held_on, idle_on, prepared_on, server_answers, server_claims}
-use Rattle.task_rounds.specs.JournalRuns.{PlainRun}
+use Rattle.task_rounds.specs.JournalRuns.{JournalRun}
 use Rattle.lone_work.specs.Works.{Begun, CanWork, DeskTells, Does, RanFor}
 
 -- ---- entries of a task
@@ -112,10 +115,10 @@ module _ (o : Opening) (setup : Setup) (task : Task) (n c t : ℕ) (past within 
       ∙ ap (λ (b : ℕ). notings_from ended t begun b within) zero_more
       )
 
-  pub plain_run : (asked : List Asking) (calls : List Call) (noted : List Noting) → askings came t ≡ askings begun t ++ asked
-      → notings came t ≡ notings begun t ++ map (behind_more (length (askings begun t))) noted → TaskRun task t setup [] asked calls noted (answered result)
+  pub journal_run : (layouts : List (ℕ × ℕ)) (asked : List Asking) (calls : List Call) (noted : List Noting) → AreCurrentAt o past task.key layouts → askings came t ≡ askings begun t ++ asked
+      → notings came t ≡ notings begun t ++ map (behind_more (length (askings begun t))) noted → TaskRun task t setup layouts asked calls noted (answered result)
       → has_open_job came t ≡ false → makes_only (by_server c t) n within ≡ true → are_by n within ≡ true → RanFor o setup calls n c t (answered result) ended
-  plain_run asked calls noted pairs_are notes_are ran shut own by = record { run = plain; child = refl; answer_is = refl }
+  journal_run layouts asked calls noted known pairs_are notes_are ran shut own by = record { run = whole; child = refl; answer_is = refl }
     where
       run : TaskStretch ended t
       run = record {
@@ -143,14 +146,16 @@ module _ (o : Opening) (setup : Setup) (task : Task) (n c t : ℕ) (past within 
           ∙ ap (λ (l : List Asking). map (behind_more (length l)) noted) none_before
           ∙ behind_none noted
 
-      plain : PlainRun o setup calls n t ended
-      plain = record {
+      whole : JournalRun o setup calls n t ended
+      whole = record {
         task = task;
         is = is;
         run = run;
         by_it = refl;
-        ran = subst (λ (xs : List Asking). TaskRun task t setup [] xs calls (run_notings run) (answered result)) (sym its_askings)
-            (subst (λ (xs : List Noting). TaskRun task t setup [] asked calls xs (answered result)) (sym its_notings) ran);
+        layouts = layouts;
+        known = known;
+        ran = subst (λ (xs : List Asking). TaskRun task t setup layouts xs calls (run_notings run) (answered result)) (sym its_askings)
+            (subst (λ (xs : List Noting). TaskRun task t setup layouts asked calls xs (answered result)) (sym its_notings) ran);
       }
 
 -- ---- behind the answer
@@ -184,6 +189,7 @@ module _ (o : Opening) (n c t : ℕ) (past within : List Entry) (answer : Answer
     prepared = prepared_on ran_now (entry n (Answered t answer) ∷ []) c turn.prepared;
     idle = idle_on ran_now (entry n (Answered t answer) ∷ []) c refl turn.idle;
     rest = rests;
+    book = could.book;
   }
 
 -- ---- the whole task
@@ -201,7 +207,7 @@ causes_answered old new (Err e) h = record {
 
 module _ (o : Opening) (setup : Setup) (task : Task) (n c t : ℕ) (old ran new : List Entry) (desk desk' : DeskTells) (result : Result Answer NoMemory) where
   pub does : {P Q : Type 0} (b : Begun o n c t old) → task_of o t ≡ Some task → (s : ServesOn o n true c t old ran P Q)
-      → Ran task t setup [] (askings old t) (askings ran t) (notings old t) (notings ran t) desk.log desk'.log result → HasTaskCauses desk.counts desk'.counts result
+      → Ran task t setup (known_layouts o old t) (askings old t) (askings ran t) (notings old t) (notings ran t) desk.log desk'.log result → HasTaskCauses desk.counts desk'.counts result
       → new ≡ ran ++ entry n (Answered t (answered result)) ∷ [] → Does o setup n c t old new desk desk'
   does b is s r causes given = record {
     within = s.moved.more;
@@ -229,8 +235,14 @@ module _ (o : Opening) (setup : Setup) (task : Task) (n c t : ℕ) (old ran new 
           ap (λ (x : List Entry). notings x t) (sym came) ∙ r.notes_are
           ∙ ap (λ (x : List Entry). notings x t ++ map (behind_more (length (askings x t))) r.noted) b.is
 
+      -- what is known of the key, since the claim
+      known : AreCurrentAt o b.past task.key (known_layouts o old t)
+      known =
+          subst (λ (x : List Entry). AreCurrentAt o b.past task.key (known_layouts o x t)) (sym b.is)
+          (layouts_since_claim o b.past [] n c t task b.serves.book.order is (subst (Legal o) b.is b.serves.at.legal) refl refl)
+
       whole : RanFor o setup r.calls n c t (answered result) (((b.past ++ entry n (Claim t c) ∷ []) ++ s.moved.more) ++ entry n (Answered t (answered result)) ∷ [])
-      whole = plain_run o setup task n c t b.past s.moved.more result is b.fresh r.asked r.calls r.noted pairs notes r.run
+      whole = journal_run o setup task n c t b.past s.moved.more result is b.fresh (known_layouts o old t) r.asked r.calls r.noted known pairs notes r.run
           (subst (λ (x : List Entry). has_open_job x t ≡ false) came s.serves.at.shut) s.moved.own (s.moved.lone refl)
 
   pub again : {P Q : Type 0} (b : Begun o n c t old) → (s : ServesOn o n true c t old ran P Q) → (answer : Answer)

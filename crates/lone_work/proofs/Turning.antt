@@ -21,6 +21,7 @@ use Rattle.link_roles.specs.Moves.{IsSameLink}
 use Rattle.link_roles.proofs.Writings.{lone_apart}
 use Rattle.link_roles.proofs.Roles.{by_own}
 use Rattle.door_asker.specs.AtTasks.{AtTask, notings}
+use Rattle.door_asker.specs.KnownLayouts.{known_layouts}
 use Rattle.door_asker.specs.Servings.{Serves, ServesOn}
 use Rattle.journal_model.specs.Shares.{is_of_child}
 use Rattle.lone_work.specs.Works.{AreTasks, Begun, CanWork, DeskTells, Does, Worked}
@@ -73,7 +74,7 @@ module _ (o : Opening) (setup : Setup) (task : Task) (n c t : ℕ) (a : Bool) (o
   given_so : new ≡ ran ++ entry n (Answered t (answered result)) ∷ []
   given_so = given ∙ ap (λ (k : ℕ). ran ++ entry k (Answered t answer) ∷ []) same ∙ ap (λ (x : Answer). ran ++ entry n (Answered t x) ∷ []) is
 
-  pub does_so : task_of o t ≡ Some task → Ran task t setup [] (askings old t) (askings ran t) (notings old t) (notings ran t) desk.log desk'.log result → HasTaskCauses desk.counts desk'.counts result → Does o setup n c t old new desk desk'
+  pub does_so : task_of o t ≡ Some task → Ran task t setup (known_layouts o old t) (askings old t) (askings ran t) (notings old t) (notings ran t) desk.log desk'.log result → HasTaskCauses desk.counts desk'.counts result → Does o setup n c t old new desk desk'
   does_so there r causes = does o setup task n c t old ran new desk desk' result b there on r causes given_so
 
   pub again_so : Legal o new → CanWork o c new

@@ -22,8 +22,8 @@ use Rattle.task_run.specs.declared.setup.Setup.{Setup}
 use Rattle.fetch_copy.proofs.CopyLaws.{gained_nothing, gained_more}
 use Rattle.door_asker.specs.Servings.{by_server}
 use Rattle.door_asker.proofs.Serving.{gives_none}
-use Rattle.task_rounds.specs.JournalRuns.{PlainRun}
-use Rattle.task_rounds.proofs.Lasting.{plain_stays}
+use Rattle.task_rounds.specs.JournalRuns.{JournalRun}
+use Rattle.task_rounds.proofs.Lasting.{run_stays}
 use Rattle.lone_work.specs.Works.{AllRan, CausedInTurn, DeskTells, Does, RanFor, TaskDone, Worked, all_calls, by_worker, claimed_task, claims_in, ends_answered}
 use Rattle.lone_work.proofs.Claiming.{free_unclaimed}
 
@@ -65,7 +65,7 @@ ran_both o setup n c journal (r ∷ xs) ys h k = (h.0, ran_both o setup n c jour
 -- ---- what stays
 
 -- a task that has a run was claimed
-ran_claimed : (o : Opening) (setup : Setup) (calls : List Call) (n t : ℕ) (journal : List Entry) → PlainRun o setup calls n t journal → is_claimed journal t ≡ true
+ran_claimed : (o : Opening) (setup : Setup) (calls : List Call) (n t : ℕ) (journal : List Entry) → JournalRun o setup calls n t journal → is_claimed journal t ≡ true
 ran_claimed o setup calls n t journal r =
     let head : List Entry = r.run.past ++ entry r.run.by (Claim t r.run.child) ∷ r.run.within in
     let tail : List Entry = entry r.run.answered_by (Answered t r.run.answer) ∷ r.run.rest in
@@ -81,7 +81,7 @@ pub run_lasts : (o : Opening) (setup : Setup) (calls : List Call) (n c t : ℕ) 
     → RanFor o setup calls n c t answer past → RanFor o setup calls n c t answer (past ++ more)
 run_lasts o setup calls n c t answer past more legal rest h =
     let pos : 0 < t = claimed_positive o past legal t (ran_claimed o setup calls n t past h.run) in
-    let still = plain_stays o setup calls n t past more (idle_shut o past legal t pos (rest t)) h.run in
+    let still = run_stays o setup calls n t past more (idle_shut o past legal t pos (rest t)) h.run in
     record { run = still.0; child = still.1 ∙ h.child; answer_is = still.2 ∙ h.answer_is }
 
 -- and so does each

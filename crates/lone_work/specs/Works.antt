@@ -18,15 +18,16 @@ use Rattle.journal_model.specs.Output.{answer_in, answers_in}
 use Rattle.journal_model.specs.Shares.{are_by, by_link, makes_only}
 use Rattle.host_core.specs.declared.event.Reply.{Reply}
 use Rattle.host_core.specs.declared.event.Reply.TheVariants.{Task as TaskReply}
+use Rattle.door_asker.specs.KnownLayouts.{IsBook}
 use Rattle.door_asker.specs.Servings.{Serves, by_server}
 use Rattle.gathering.specs.Tasks.{IsThrough}
 use Rattle.task_run.specs.declared.setup.Setup.{Setup}
 use Rattle.task_run.specs.Ran.{HasTaskCauses}
-use Rattle.task_rounds.specs.JournalRuns.{PlainRun}
+use Rattle.task_rounds.specs.JournalRuns.{JournalRun}
 
 -- ---- between two tasks
 
--- the child was got ready and has no open job, and no task is busy
+-- the child was got ready and has no open job, and no task is busy, in a run that began with a book
 pub record CanWork (o : Opening) (c : ℕ) (seen : List Entry) : Type 0 where
   pub legal : Legal o seen
   pub number : 0 < c
@@ -34,6 +35,7 @@ pub record CanWork (o : Opening) (c : ℕ) (seen : List Entry) : Type 0 where
   pub prepared : is_prepared seen c ≡ true
   pub idle : open_jobs seen c ≡ []
   pub rest : (t : ℕ) → is_busy seen t ≡ false
+  pub book : IsBook o.notes
 
 -- each task is one that some line spells
 abbrev pub AreTasks : List Task → Type 0
@@ -97,7 +99,7 @@ by_worker c w = by_link c w
 
 -- the journal has a run of the task by this number, claimed for c, with these calls and this answer
 pub record RanFor (o : Opening) (setup : Setup) (calls : List Call) (number c t : ℕ) (answer : Answer) (journal : List Entry) : Type 0 where
-  pub run : PlainRun o setup calls number t journal
+  pub run : JournalRun o setup calls number t journal
   pub child : run.run.child ≡ c
   pub answer_is : run.run.answer ≡ answer
 

@@ -1,15 +1,16 @@
 // One task that was claimed: it is run over the child's link, and answered.
-ghost use Rattle.std.specs.Prelude.{◌≡◌, ◌≤◌, ◌<◌, ◌-◌, [], Some, true, false, length, slice_get};
+ghost use Rattle.std.specs.Prelude.{◌≡◌, ◌≤◌, ◌<◌, ◌-◌, Some, true, false, length, slice_get};
 ghost use Rattle.annex_model.specs.Lines.{has_newline};
 ghost use Rattle.task_text.specs.TaskLines.{IsTask};
 ghost use Rattle.journal_model.specs.Legality.{task_of};
 ghost use Rattle.link_roles.specs.Writings.{LoneWired};
 ghost use Rattle.task_run.specs.Askings.{askings};
-ghost use Rattle.task_run.specs.Ran.{Ran, HasTaskCauses, answered, layouts_for};
+ghost use Rattle.task_run.specs.Ran.{Ran, HasTaskCauses, answered};
 ghost use Rattle.link_roles.specs.Doors.{IsSameDoor};
 ghost use Rattle.link_roles.specs.Moves.{IsSameLink};
 ghost use Rattle.link_roles.specs.Alone.{KeepsLink};
 ghost use Rattle.door_asker.specs.AtTasks.{notings};
+ghost use Rattle.door_asker.specs.KnownLayouts.{known_layouts};
 ghost use Rattle.door_asker.specs.Servings.{Serves, ServesOn};
 ghost use Rattle.lone_work.specs.Works.{AreTasks, Begun, CanWork, Does, desk_tells};
 
@@ -20,8 +21,9 @@ use door_asker::LoneAsker;
 use journal_model::Answer;
 use link_roles::{Door, Lone};
 use std::alloc::Global;
-use task_run::{Setup, run_task};
+use task_run::Setup;
 use task_text::Task;
+use task_works::run_task;
 
 // The task of that number, counted from 1.
 fn task_at(tasks: &[Task], number: u32) -> &Task
@@ -52,10 +54,10 @@ fn run_over<I: Sink, O: Source, D: Door, K: Desk>(
     desk: &mut K,
 ) -> Result<Answer, NoMemory>
     requires task { IsTask task.now }
-    requires setup { (has_newline setup.now.work ≡ false) × (setup.now.chunk ≡ 0) }
+    requires folder { has_newline setup.now.work ≡ false }
     requires named { task_of (D.opening door.old) number ≡ Some task.now }
     requires serves { Serves (D.opening door.old) (D.number door.old) (D.alone door.old) link.old.ear.child number (D.seen door.old) }
-    ensures ran { Ran task.now number setup.now (layouts_for task.now.work []) (askings (D.seen door.old) number) (askings (D.seen door.new) number) (notings (D.seen door.old) number) (notings (D.seen door.new) number) (K.log desk.old) (K.log desk.new) result }
+    ensures ran { Ran task.now number setup.now (known_layouts (D.opening door.old) (D.seen door.old) number) (askings (D.seen door.old) number) (askings (D.seen door.new) number) (notings (D.seen door.old) number) (notings (D.seen door.new) number) (K.log desk.old) (K.log desk.new) result }
     ensures causes { HasTaskCauses (K.counts desk.old) (K.counts desk.new) result }
     ensures on { ServesOn (D.opening door.old) (D.number door.old) (D.alone door.old) link.old.ear.child number (D.seen door.old) (D.seen door.new)
         (LoneWired (D.seen door.old) link.old.ear link.old.mouth) (LoneWired (D.seen door.new) link.new.ear link.new.mouth) }
@@ -82,7 +84,7 @@ pub(crate) fn do_task<I: Sink, O: Source, D: Door, K: Desk>(
 )
     requires alone { D.alone door.old ≡ true }
     requires tasks { ((D.opening door.old).tasks ≡ tasks.now) × AreTasks tasks.now }
-    requires setup { (has_newline setup.now.work ≡ false) × (setup.now.chunk ≡ 0) }
+    requires folder { has_newline setup.now.work ≡ false }
     requires begun { Begun (D.opening door.old) (D.number door.old) link.old.ear.child number (D.seen door.old) }
     ensures does { Does (D.opening door.old) setup.now (D.number door.old) link.old.ear.child number (D.seen door.old) (D.seen door.new) (desk_tells (K.log desk.old) (K.counts desk.old)) (desk_tells (K.log desk.new) (K.counts desk.new)) }
     ensures can { CanWork (D.opening door.new) link.new.ear.child (D.seen door.new) }

@@ -26,7 +26,7 @@ fn turn<I: Sink, O: Source, D: Door, K: Desk>(
 ) -> bool
     requires alone { D.alone door.old ≡ true }
     requires tasks { ((D.opening door.old).tasks ≡ tasks.now) × AreTasks tasks.now }
-    requires setup { (has_newline setup.now.work ≡ false) × (setup.now.chunk ≡ 0) }
+    requires folder { has_newline setup.now.work ≡ false }
     requires can { CanWork (D.opening door.old) link.old.ear.child (D.seen door.old) }
     ensures worked { Worked (D.opening door.old) setup.now (D.number door.old) link.old.ear.child (D.seen door.old) (D.seen door.new) (desk_tells (K.log desk.old) (K.counts desk.old)) (desk_tells (K.log desk.new) (K.counts desk.new)) }
     ensures can { CanWork (D.opening door.new) link.new.ear.child (D.seen door.new) }
@@ -56,7 +56,7 @@ pub fn work<I: Sink, O: Source, D: Door, K: Desk>(
 )
     requires alone { D.alone door.old ≡ true }
     requires tasks { ((D.opening door.old).tasks ≡ tasks.now) × AreTasks tasks.now }
-    requires setup { (has_newline setup.now.work ≡ false) × (setup.now.chunk ≡ 0) }
+    requires folder { has_newline setup.now.work ≡ false }
     requires can { CanWork (D.opening door.old) link.old.ear.child (D.seen door.old) }
     ensures worked { Worked (D.opening door.old) setup.now (D.number door.old) link.old.ear.child (D.seen door.old) (D.seen door.new) (desk_tells (K.log desk.old) (K.counts desk.old)) (desk_tells (K.log desk.new) (K.counts desk.new)) }
     ensures can { CanWork (D.opening door.new) link.new.ear.child (D.seen door.new) }

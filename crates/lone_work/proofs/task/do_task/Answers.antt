@@ -4,7 +4,6 @@ use Rattle.journal_model.specs.Legality.{Legal}
 use Rattle.link_roles.proofs.Roles.{same_both}
 use Rattle.lone_work.specs.Works.{desk_tells}
 use Rattle.lone_work.proofs.Turning.{task_there, is_task, task_is, serves_alone, at_now, can_now, does_so, again_so, link_kept}
-use Rattle.lone_work.proofs.Layouts.{none_tried}
 use Rattle.lone_work.proofs.task.do_task.Goals as goal
 
 pub task_at-task-requires : goal.task_at-task-requires
@@ -36,7 +35,7 @@ returns-clause-does g c =
     (desk_tells (g.K.Desk.log c.args.desk.now) (g.K.Desk.counts c.args.desk.now)) (desk_tells (g.K.Desk.log c.run_over-outcome.new.desk) (g.K.Desk.counts c.run_over-outcome.new.desk))
     c.run_over-outcome.result c.answer_of.result (g.D.Door.number c.run_over-outcome.new.door)
     c.requires.alone c.requires.begun c.run_over-outcome.ensures.on c.run_over-outcome.ensures.door.number c.answer_of.ensures c.give.ensures.given
-    (task_is o c.args.tasks.now c.args.number c.task_at-task.result.now c.requires.tasks.0 there.0 c.task_at-task.ensures) (none_tried _ _ _ _ _ _ _ _ _ _ c.run_over-outcome.ensures.ran) c.run_over-outcome.ensures.causes
+    (task_is o c.args.tasks.now c.args.number c.task_at-task.result.now c.requires.tasks.0 there.0 c.task_at-task.ensures) c.run_over-outcome.ensures.ran c.run_over-outcome.ensures.causes
 
 pub returns-clause-can : goal.returns-clause-can
 returns-clause-can g c =
