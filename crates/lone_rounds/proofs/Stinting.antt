@@ -26,6 +26,7 @@ use Rattle.journal_model.specs.Halves.{EarValue, MouthValue}
 use Rattle.link_roles.specs.Writings.{LoneWired}
 use Rattle.journal_model.specs.declared.answer.Answer.{Answer}
 use Rattle.child_start.specs.Greetings.{Greeted, IsReady, is_greeting_line, is_of_greeting}
+use Rattle.door_asker.specs.KnownLayouts.{IsBook}
 use Rattle.lone_work.specs.Works.{CanWork, by_worker, claimed_task, claims_in, ends_answered}
 use Rattle.lone_work.proofs.Working.{ends_behind}
 use Rattle.lone_rounds.specs.Rounds.{EndsClosed, is_closing, is_of_run}
@@ -126,14 +127,15 @@ module _ (old new : List Entry) (offer : Bool) (c : ℕ) (g : Greeted old new 0 
   pub greeting_claims_none : (t : ℕ) → is_claimed (first ∷ g.more) t ≡ false
   greeting_claims_none t = any_none (is_of_greeting c) (claims t) (greeting_unclaimed c t) g.more g.own
 
-  pub greeting_works : (o : Opening) → Legal o new → IsReady new c → ((t : ℕ) → is_busy old t ≡ false) → CanWork o c new
-  greeting_works o legal ready rest = record {
+  pub greeting_works : (o : Opening) → Legal o new → IsReady new c → IsBook o.notes → ((t : ℕ) → is_busy old t ≡ false) → CanWork o c new
+  greeting_works o legal ready book rest = record {
     legal = legal;
     number = (let n = g.next in omega (arith, n));
     started = greeting_started;
     prepared = ready.prepared;
     idle = g.idle;
     rest = greeting_rests rest;
+    book = book;
   }
 
 -- ---- tasks

@@ -17,7 +17,7 @@ use Rattle.journal_model.specs.Shares.{are_by, is_closed}
 use Rattle.host_core.specs.Steps.{are_all_claimed}
 use Rattle.task_run.specs.declared.setup.Setup.{Setup}
 use Rattle.task_run.specs.TaskRuns.{failed_start}
-use Rattle.task_rounds.specs.JournalRuns.{PlainRun}
+use Rattle.task_rounds.specs.JournalRuns.{JournalRun}
 use Rattle.child_start.specs.Greetings.{is_greeting_line}
 use Rattle.lone_work.specs.Works.{DeskTells, TaskDone, CausedInTurn, all_calls, claims_in, ends_answered}
 use Rattle.lone_rounds.specs.Starting.{AreStarts, AreSpent, AreEnded, is_any_start}
@@ -59,9 +59,9 @@ pub record ZeroRun (limit : ℕ) (journal : List Entry) (t : ℕ) (answer : Answ
 
 -- ---- a task
 
--- It was claimed for a child, run over it in the plain layout, and answered so.
+-- It was claimed for a child, run over it, and answered so.
 pub record ChildRun (o : Opening) (setup : Setup) (journal : List Entry) (r : TaskDone) : Type 0 where
-  pub run : PlainRun o setup r.calls 0 r.task journal
+  pub run : JournalRun o setup r.calls 0 r.task journal
   pub child : 0 < run.run.child
   pub answer : run.run.answer ≡ r.answer
 

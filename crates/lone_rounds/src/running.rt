@@ -34,7 +34,7 @@ where
     requires empty { core.old.journal ≡ [] }
     requires tasks { (core.old.opening.tasks ≡ tasks.now) × AreTasks tasks.now }
     requires starts { (0 < plan.now.starts) × (plan.now.starts ≤ 16) }
-    requires setup { (has_newline plan.now.setup.work ≡ false) × (plan.now.setup.chunk ≡ 0) }
+    requires folder { has_newline plan.now.setup.work ≡ false }
     requires room { plan.now.starts ≤ vec_capacity wires.old }
     requires none { wires.old.items ≡ [] }
     ensures ran { RanAlone core.old.opening plan.now.setup plan.now.offers plan.now.starts core.new.journal (desk_tells (K.log desk.old) (K.counts desk.old)) (desk_tells (K.log desk.new) (K.counts desk.new)) }

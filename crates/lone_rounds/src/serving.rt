@@ -31,7 +31,7 @@ fn work_over<I: Sink, O: Source, K: Desk>(
     desk: &mut K,
 )
     requires tasks { (core.old.opening.tasks ≡ tasks.now) × AreTasks tasks.now }
-    requires setup { (has_newline setup.now.work ≡ false) × (setup.now.chunk ≡ 0) }
+    requires folder { has_newline setup.now.work ≡ false }
     requires can { CanWork core.old.opening link.old.ear.child core.old.journal }
     ensures worked { Worked core.old.opening setup.now 0 link.old.ear.child core.old.journal core.new.journal (desk_tells (K.log desk.old) (K.counts desk.old)) (desk_tells (K.log desk.new) (K.counts desk.new)) }
     ensures can { CanWork core.old.opening link.old.ear.child core.new.journal }
@@ -54,7 +54,7 @@ pub(crate) fn serve<I: Sink, O: Source, K: Desk>(
     desk: &mut K,
 )
     requires tasks { (core.old.opening.tasks ≡ tasks.now) × AreTasks tasks.now }
-    requires setup { (has_newline setup.now.work ≡ false) × (setup.now.chunk ≡ 0) }
+    requires folder { has_newline setup.now.work ≡ false }
     requires can { CanWork core.old.opening link.old.ear.child core.old.journal }
     ensures serves { HasServed core.old.opening setup.now link.old.ear.child core.old.journal core.new.journal (desk_tells (K.log desk.old) (K.counts desk.old)) (desk_tells (K.log desk.new) (K.counts desk.new)) }
     ensures link { KeepsLink core.old.journal core.new.journal link.old.ear link.new.ear link.old.mouth link.new.mouth }

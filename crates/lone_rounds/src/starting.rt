@@ -18,6 +18,7 @@ use ann_key::NoMemory;
 use ann_outside::{Desk, Programs};
 use child_end::finish;
 use child_start::{Greeting, Mode, greet};
+use door_asker::know_book;
 use host_core::Core;
 use journal_model::{Answer, Verdict};
 use link_roles::Wire;
@@ -62,7 +63,7 @@ where
     requires few { count is_start core.old.journal < 4294967295 }
     requires left { are_all_claimed core.old.opening core.old.journal ≡ false }
     requires tasks { (core.old.opening.tasks ≡ tasks.now) × AreTasks tasks.now }
-    requires setup { (has_newline plan.now.setup.work ≡ false) × (plan.now.setup.chunk ≡ 0) }
+    requires folder { has_newline plan.now.setup.work ≡ false }
     requires room { vec_len wires.old < vec_capacity wires.old }
     ensures starts { MatchResult result
         (λ next. OneStart core.old.opening plan.now.setup plan.now.starts offer next plan.now.program core.old.journal core.new.journal (desk_tells (K.log desk.old) (K.counts desk.old)) (desk_tells (K.log desk.new) (K.counts desk.new)) (programs_value (P.starts programs.old) (P.faults programs.old)) (programs_value (P.starts programs.new) (P.faults programs.new)) (map (wire_value P.Inlet.taken P.Inlet.faults P.Inlet.number P.Inlet.is_open P.Outlet.given P.Outlet.left P.Outlet.faults P.Outlet.number P.Outlet.is_open) wires.old.items) (map (wire_value P.Inlet.taken P.Inlet.faults P.Inlet.number P.Inlet.is_open P.Outlet.given P.Outlet.left P.Outlet.faults P.Outlet.number P.Outlet.is_open) wires.new.items))
@@ -77,6 +78,7 @@ where
             stub,
             tagged,
         } => {
+            know_book(&core.opening().notes);
             serve(alloc, tasks, &plan.setup, &mut link, core, desk);
             finish(programs, link, stub, wires);
             Ok(is_offered(offer, tagged))
@@ -125,7 +127,7 @@ where
     requires empty { core.old.journal ≡ [] }
     requires tasks { (core.old.opening.tasks ≡ tasks.now) × AreTasks tasks.now }
     requires starts { (0 < plan.now.starts) × (plan.now.starts ≤ 16) }
-    requires setup { (has_newline plan.now.setup.work ≡ false) × (plan.now.setup.chunk ≡ 0) }
+    requires folder { has_newline plan.now.setup.work ≡ false }
     requires room { plan.now.starts ≤ vec_capacity wires.old }
     requires none { wires.old.items ≡ [] }
     ensures started { HasStarted core.old.opening plan.now.setup plan.now.offers plan.now.starts core.new.journal (desk_tells (K.log desk.old) (K.counts desk.old)) (desk_tells (K.log desk.new) (K.counts desk.new)) result }

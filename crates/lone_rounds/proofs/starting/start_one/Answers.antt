@@ -5,6 +5,7 @@ use Rattle.journal_model.specs.declared.entry.What.TheVariants.{Start, NoStart}
 use Rattle.journal_model.specs.declared.opening.Opening.{Opening}
 use Rattle.journal_model.specs.Legality.{Legal}
 use Rattle.child_end.specs.Programs.{programs_value}
+use Rattle.door_asker.specs.KnownLayouts.{IsBook}
 use Rattle.lone_work.specs.Works.{desk_tells}
 use Rattle.lone_rounds.specs.Stints.{AnswersOne, HasServed, Stint, TurnsAway}
 use Rattle.lone_rounds.proofs.Leaving.{may_ask, starts_child, starts_kept, starts_none}
@@ -18,7 +19,8 @@ not_prepared-answer-requires g c = refused_some c.greet.new.core.journal c.in-Re
 
 pub serve-requires-clause-can : goal.serve-requires-clause-can
 serve-requires-clause-can g c =
-    greeting_works c.args.core.now.journal c.greet.new.core.journal c.args.offer c.in-Ready.link.ear.child c.in-Ready.ensures.tells.0 c.greet.new.core.opening (c.greet.ensures.core.legal c.requires.legal) c.in-Ready.ensures.tells.1 c.requires.rest
+    greeting_works c.args.core.now.journal c.greet.new.core.journal c.args.offer c.in-Ready.link.ear.child c.in-Ready.ensures.tells.0 c.greet.new.core.opening (c.greet.ensures.core.legal c.requires.legal) c.in-Ready.ensures.tells.1
+    (subst (λ (w : Opening). IsBook w.notes) c.opening.ensures c.know_book.ensures) c.requires.rest
 
 pub turn_away-requires-clause-rest : goal.turn_away-requires-clause-rest
 turn_away-requires-clause-rest g c = greeting_rests c.args.core.now.journal c.greet.new.core.journal c.args.offer c.in-Refused.link.ear.child c.in-Refused.ensures.tells.0 c.requires.rest
