@@ -94,7 +94,6 @@ where
     requires uuid { IsWrittenUuid words.now.uuid }
     requires starts { (0 < words.now.starts) × (words.now.starts ≤ 16) }
     requires text { has_newline words.now.work ≡ false }
-    requires whole { words.now.chunk ≡ 0 }
     requires input { I.is_open input.old ≡ true }
     ensures { HasDone words.now (C.answer clock.old) (record { programs = programs_value (P.starts programs.old) (P.faults programs.old); made = K.made desks.old }) (input_flow (I.given input.old) (I.given input.new) (I.left input.old) (I.left input.new) (I.faults input.old) (I.faults input.new)) (record { programs = programs_value (P.starts programs.new) (P.faults programs.new); made = K.made desks.new }) result }
 {

@@ -107,7 +107,6 @@ where
     requires may { MayBegin ready.core.opening }
     requires starts { (0 < words.now.starts) × (words.now.starts ≤ 16) }
     requires text { has_newline words.now.work ≡ false }
-    requires whole { words.now.chunk ≡ 0 }
     requires fresh { (D.counts worker ≡ no_counts) × IsLogBlank (D.log worker) }
     requires room { words.now.starts ≤ vec_capacity wires.old }
     requires none { wires.old.items ≡ [] }
@@ -158,7 +157,6 @@ where
     requires may { MayBegin opening }
     requires starts { (0 < words.now.starts) × (words.now.starts ≤ 16) }
     requires text { has_newline words.now.work ≡ false }
-    requires whole { words.now.chunk ≡ 0 }
     requires room { words.now.starts ≤ vec_capacity wires.old }
     requires none { wires.old.items ≡ [] }
     ensures ends { EndsWork words.now (K.Desk.files desk.old) (table_value K.Desk.counts K.Desk.files K.Desk.log desk.new) opening (map (table_value K.Desk.counts K.Desk.files K.Desk.log) (listed result.worker)) result.journal.entries result.answers.items result.end }
@@ -191,7 +189,6 @@ where
     requires may { IfOk begun MayBegin }
     requires starts { (0 < words.now.starts) × (words.now.starts ≤ 16) }
     requires text { has_newline words.now.work ≡ false }
-    requires whole { words.now.chunk ≡ 0 }
     requires room { words.now.starts ≤ vec_capacity wires.old }
     requires none { wires.old.items ≡ [] }
     ensures goes_on { GoesOn words.now (table_value K.Desk.counts K.Desk.files K.Desk.log desk.old) (table_value K.Desk.counts K.Desk.files K.Desk.log desk.new) (map (table_value K.Desk.counts K.Desk.files K.Desk.log) (listed result.worker)) result.journal.entries result.answers.items begun result.end }
