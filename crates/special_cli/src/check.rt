@@ -97,7 +97,7 @@ where
     requires empty { core.old.journal ≡ [] }
     requires tasks { (core.old.opening.tasks ≡ tasks.now) × AreTasks tasks.now }
     requires starts { plan.now.starts ≡ 1 }
-    requires setup { (has_newline plan.now.setup.work ≡ false) × (plan.now.setup.chunk ≡ 0) }
+    requires folder { has_newline plan.now.setup.work ≡ false }
     requires room { 1 ≤ vec_capacity wires.old }
     requires none { wires.old.items ≡ [] }
     ensures ran { (desk : DeskTells) × (desk' : DeskTells) × RanAlone core.old.opening plan.now.setup plan.now.offers plan.now.starts core.new.journal desk desk' }
