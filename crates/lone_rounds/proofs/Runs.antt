@@ -13,7 +13,8 @@ use Rattle.journal_model.specs.Legality.{Legal, is_busy}
 use Rattle.journal_model.specs.Output.{answer_in, answers_in}
 use Rattle.journal_model.proofs.Looks.{each_of-append}
 use Rattle.task_run.specs.declared.setup.Setup.{Setup}
-use Rattle.task_run.specs.Ran.{HasTaskCauses, may_follow_refusal}
+use Rattle.task_run.specs.Ran.{may_follow_refusal}
+use Rattle.task_run.proofs.Causes.{from_nothing}
 use Rattle.task_run.specs.TaskRuns.{failed_start}
 use Rattle.lone_work.specs.Works.{AllRan, CausedInTurn, DeskTells, RanFor, TaskDone, all_calls, claimed_task, claims_in}
 use Rattle.lone_work.proofs.Working.{run_lasts}
@@ -141,15 +142,6 @@ done_same o setup limit journal xs ys a b e f k = record {
 abbrev pub IsOfNoCall : Answer → Type 0
 IsOfNoCall answer = may_follow_refusal (Ok answer) ≡ false
 
-no_cause : (counts : Counts) (answer : Answer) → IsOfNoCall answer → HasTaskCauses counts counts (Ok answer)
-no_cause counts answer quiet = record {
-  faults_later = omega arith;
-  missing_later = omega arith;
-  fault = λ is. absurd (let bad : true ≡ false = sym (ap may_follow_refusal is) ∙ quiet in cc);
-  no_file = λ is. absurd (let bad : true ≡ false = sym (ap may_follow_refusal is) ∙ quiet in cc);
-  quiet = λ is. refl;
-}
-
 -- the task was claimed behind past and answered so
 pub done_zero : (o : Opening) (setup : Setup) (limit : ℕ) (journal past rest : List Entry) (t : ℕ) (answer : Answer) (desk : DeskTells)
     → journal ≡ past ++ main_entry (Claim t 0) ∷ main_entry (Answered t answer) ∷ rest → ZeroAnswers limit past (failed_start past (start_untaken past)) answer → IsOfNoCall answer
@@ -160,5 +152,5 @@ done_zero o setup limit journal past rest t answer desk is answers quiet = recor
   answered = refl;
   ran = (inr (record { past = past; rest = rest; is = is; answers = answers }, refl), tt);
   log_is = gained_nothing desk.log;
-  caused = (no_cause desk.counts answer quiet, refl);
+  caused = (from_nothing desk.counts (Ok answer) quiet, refl);
 }

@@ -202,7 +202,7 @@ causes_answered old new (Err e) h = record {
   missing_later = h.missing_later;
   fault = λ is. absurd cc;
   no_file = λ is. absurd cc;
-  quiet = λ is. h.quiet refl;
+  untold = λ is. h.untold refl;
 }
 
 module _ (o : Opening) (setup : Setup) (task : Task) (n c t : ℕ) (old ran new : List Entry) (desk desk' : DeskTells) (result : Result Answer NoMemory) where
