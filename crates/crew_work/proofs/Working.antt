@@ -66,7 +66,7 @@ causes_answered old new (Err e) h = record {
   missing_later = h.missing_later;
   fault = λ is. absurd cc;
   no_file = λ is. absurd cc;
-  quiet = λ is. h.quiet refl;
+  untold = λ is. h.untold refl;
 }
 
 -- ---- under other names

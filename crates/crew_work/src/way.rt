@@ -7,7 +7,7 @@ ghost use Rattle.journal_model.specs.Legality.{task_of};
 ghost use Rattle.journal_model.specs.Journal.{any, is_started};
 ghost use Rattle.journal_model.specs.Shares.{Moved, is_of_child};
 ghost use Rattle.task_run.specs.Askings.{askings};
-ghost use Rattle.task_run.specs.Ran.{Ran, HasTaskCauses, layouts_for};
+ghost use Rattle.task_run.specs.Ran.{Ran, HasTaskCauses};
 ghost use Rattle.link_roles.specs.Doors.{IsSameDoor};
 ghost use Rattle.link_roles.specs.Moves.{IsSameLink};
 ghost use Rattle.link_roles.specs.Writings.{LoneWired};
@@ -23,8 +23,9 @@ use journal_model::Answer;
 use link_roles::{Door, Lone};
 use std::alloc::Global;
 use std::sync::Wait;
-use task_run::{Setup, run_task};
+use task_run::Setup;
 use task_text::Task;
+use task_works::run_task;
 
 /// How a worker's tasks reach its child.
 pub trait Way {
@@ -59,7 +60,7 @@ pub trait Way {
         requires named { task_of (D.opening door.old) number ≡ Some task.now }
         requires at { AtTask (D.opening door.old) (D.number door.old) number (D.seen door.old) }
         requires started { is_started (D.seen door.old) (serves self.old) ≡ true }
-        ensures ran { Ran task.now number setup.now (layouts_for task.now.work []) (askings (D.seen door.old) number) (askings (D.seen door.new) number) (notings (D.seen door.old) number) (notings (D.seen door.new) number) (K.log desk.old) (K.log desk.new) result }
+        ensures ran { Ran task.now number setup.now [] (askings (D.seen door.old) number) (askings (D.seen door.new) number) (notings (D.seen door.old) number) (notings (D.seen door.new) number) (K.log desk.old) (K.log desk.new) result }
         ensures causes { HasTaskCauses (K.counts desk.old) (K.counts desk.new) result }
         ensures at { AtTask (D.opening door.old) (D.number door.old) number (D.seen door.new) }
         ensures moved { Moved (D.number door.old) (D.alone door.old) (by_task (owns self.old) (serves self.old) number) (is_of_child (serves self.old)) (D.seen door.old) (D.seen door.new) (wired self.old (D.seen door.old)) (wired self.new (D.seen door.new)) }
@@ -97,7 +98,7 @@ fn run_jobs<D: Door, K: Desk, R: Wait>(
     requires setup { (has_newline setup.now.work ≡ false) × (setup.now.chunk ≡ 0) }
     requires named { task_of (D.opening door.old) number ≡ Some task.now }
     requires at { AtTask (D.opening door.old) (D.number door.old) number (D.seen door.old) }
-    ensures ran { Ran task.now number setup.now (layouts_for task.now.work []) (askings (D.seen door.old) number) (askings (D.seen door.new) number) (notings (D.seen door.old) number) (notings (D.seen door.new) number) (K.log desk.old) (K.log desk.new) result }
+    ensures ran { Ran task.now number setup.now [] (askings (D.seen door.old) number) (askings (D.seen door.new) number) (notings (D.seen door.old) number) (notings (D.seen door.new) number) (K.log desk.old) (K.log desk.new) result }
     ensures causes { HasTaskCauses (K.counts desk.old) (K.counts desk.new) result }
     ensures on { JobsOn (D.opening door.old) (D.number door.old) (D.alone door.old) child number (D.seen door.old) (D.seen door.new) }
     ensures door { IsSameDoor D.opening D.number D.seen D.alone D.loans D.home door.old door.new }

@@ -1,7 +1,6 @@
 use Rattle.std.proofs.Common.{◌-◌, ◌∙◌}
 use Rattle.link_roles.proofs.Roles.{same_both}
 use Rattle.lone_work.specs.Works.{desk_tells}
-use Rattle.lone_work.proofs.Layouts.{none_tried}
 use Rattle.lone_work.proofs.Turning.{is_task, task_is, task_there}
 use Rattle.crew_work.proofs.Working.{can_again, can_as, does, given_as, legal_as, stays_as}
 use Rattle.crew_work.proofs.task.do_task.Goals as goal
@@ -28,7 +27,7 @@ returns-clause-does g c =
     c.run-outcome.result c.answer_of.result (g.W.Way.wired c.args.way.now (g.D.Door.seen c.args.door.now)) (g.W.Way.wired c.run-outcome.new.self)
     (stays_as (g.W.Way.wired c.run-outcome.new.self) (g.W.Way.serves c.args.way.now) (g.W.Way.serves c.run-outcome.new.self) c.run-outcome.ensures.child.0 (g.met.W.Way.apart c.run-outcome.new.self))
     c.requires.begun (task_is o c.args.tasks.now c.args.number c.task_at-task.result.now c.requires.tasks.0 there.0 c.task_at-task.ensures) c.answer_of.ensures
-    c.run-outcome.ensures.at c.run-outcome.ensures.moved (none_tried _ _ _ _ _ _ _ _ _ _ c.run-outcome.ensures.ran) c.run-outcome.ensures.causes
+    c.run-outcome.ensures.at c.run-outcome.ensures.moved c.run-outcome.ensures.ran c.run-outcome.ensures.causes
     (given_as c.answer_of.result d.opening d.number d.alone c.give.ensures.given)
 
 pub returns-clause-can : goal.returns-clause-can
