@@ -126,12 +126,14 @@ where
     } = outside;
     let asked = interview::inform(alloc, program, key, &mut programs, &mut core, &mut wires);
     let end = ended(asked, told);
+    let answers = Vec::new(alloc);
+    let tables = Vec::new(alloc);
     Ran {
         outside: Outside { programs, desks },
         journal: journal_of(core),
-        answers: Vec::new(alloc),
+        answers,
         wires,
-        tables: Vec::new(alloc),
+        tables,
         end,
     }
 }

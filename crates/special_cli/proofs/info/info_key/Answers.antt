@@ -20,4 +20,4 @@ returns g c =
     has_informed c.args.program.now (option_map text_of c.args.key) c.in-Ok.ready c.inform-asked.new.core.opening c.inform-asked.new.core.journal _ c.args.outside _ c.inform-asked.result
     c.in-Ok.ensures c.journal_of.ensures c.inform-asked.ensures.core.opening c.inform-asked.ensures.core.legal c.inform-asked.ensures.asked c.inform-asked.ensures.complete c.ended-end.ensures
     c.inform-asked.ensures.leaves (sym (ap (λ (o : OutsideValue). o.programs) c.outside.view_is))
-    (record { made = ap (λ (o : OutsideValue). o.made) c.outside.view_is; tables = ap (map _) c.new.ensures.items }) c.new.ensures.items
+    (record { made = ap (λ (o : OutsideValue). o.made) c.outside.view_is; tables = ap (map _) c.new-tables.ensures.items }) c.new-answers.ensures.items
