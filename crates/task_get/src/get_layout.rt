@@ -1,5 +1,5 @@
 // One layout of a get, in chunks.
-ghost use Rattle.std.specs.Prelude.{◌≡◌, ◌≢◌, ◌+◌, ◌-◌, ◌<◌, ◌≤◌, ◌^◌, ◌∷◌, ℕ, List, [], length, true, false, None, Some, Ok};
+ghost use Rattle.std.specs.Prelude.{◌≡◌, ◌+◌, ◌-◌, ◌<◌, ◌≤◌, ◌^◌, ℕ, List, true, false, None, Some, Ok};
 ghost use Rattle.ann_digest.specs.Checkers.{taken_of};
 ghost use Rattle.ann_key.specs.KeyRefs.{parts_of, text_of};
 ghost use Rattle.annex_model.specs.Lines.{has_newline};

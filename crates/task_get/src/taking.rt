@@ -1,9 +1,8 @@
 // Taking in a file that was fetched whole.
-ghost use Rattle.std.specs.Prelude.{◌≡◌, ◌≢◌, ◌+◌, ◌<◌, ◌^◌, [], true, false, Some, Ok};
+ghost use Rattle.std.specs.Prelude.{◌≡◌, ◌≢◌, ◌<◌, [], true, Ok};
 ghost use Rattle.ann_key.specs.KeyRefs.{parts_of};
-ghost use Rattle.task_run.specs.Fetching.{Outcome, Files3, Moves, Fetches, discarded, settling, settled, if_made};
-ghost use Rattle.task_run.specs.Ran.{refusal, RanGet, is_of_content, may_follow_refusal, HasQuietCauses};
-ghost use Rattle.task_run.specs.Names.{fetch_file, part_of};
+ghost use Rattle.task_run.specs.Fetching.{Outcome, Moves, Fetches, discarded, settling, settled};
+ghost use Rattle.task_run.specs.Ran.{is_of_content, may_follow_refusal, HasQuietCauses};
 ghost use Rattle.ann_outside.specs.Calls.{logged};
 ghost use Rattle.ann_outside.specs.declared.file_desk.Call.TheVariants.{Remove};
 

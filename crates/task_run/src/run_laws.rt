@@ -1,16 +1,16 @@
 // Laws over the definitions, each the contract of a function with nothing to do.
-ghost use Rattle.std.specs.Prelude.{take, drop, ◌≡◌, ◌++◌, [], ◌∷◌, ℕ, codes, Ok, Err, Some, None};
+ghost use Rattle.std.specs.Prelude.{take, drop, ◌≡◌, ◌++◌, [], ◌∷◌, codes, Ok, Err, Some};
 ghost use Rattle.journal_model.specs.declared.verdict.Why.TheVariants.{Eof};
-ghost use Rattle.journal_model.specs.declared.verdict.Verdict.TheVariants.{Done, Failed, Unsupported, Ended, Unsent};
+ghost use Rattle.journal_model.specs.declared.verdict.Verdict.TheVariants.{Done, Failed, Ended};
 ghost use Rattle.ann_outside.specs.declared.file_desk.DeskError.TheVariants.{Missing, Failed as CallFailed};
-ghost use Rattle.ann_outside.specs.declared.file_desk.Call.TheVariants.{Size, Create, Remove};
-ghost use Rattle.journal_model.specs.declared.answer.Answer.TheVariants.{Stored, Got, Present, Dropped, Absent as AbsentAnswer, Unsupported as UnsupportedAnswer, Unsent as UnsentAnswer, FileFault, NoFile, Memory, Failed as FailedAnswer, Ended as EndedAnswer, Size as SizeAnswer, Hash as HashAnswer};
-ghost use Rattle.task_run.specs.Rows.{task_of, setup_of, asks, notes, store_a, stores_a, sized, get_abc, fetched_1, gets_abc, moved, got_abc, renamed, part_gone, ten, store_ten, stores_ten, stored_ten, finds_ten, lost_ten, stored_short, stores_empty, stored_empty, empty_key, get_ten, gets_ten, resumed_ten, unread_ten, half_read_ten, get_none, goes_on_ten, short_then_more, drop_ten, drops_ten, check_ten, checks_ten, abc, get_md5, gets_md5, resumed_foo, gets_whole_md5, fetched_foo, gets_hi, got_hi};
+ghost use Rattle.ann_outside.specs.declared.file_desk.Call.TheVariants.{Size, Create};
+ghost use Rattle.journal_model.specs.declared.answer.Answer.TheVariants.{Stored, Got, Present, Dropped, Absent as AbsentAnswer, FileFault, NoFile, Memory, Failed as FailedAnswer, Ended as EndedAnswer, Size as SizeAnswer, Hash as HashAnswer};
+ghost use Rattle.task_run.specs.Rows.{task_of, setup_of, asks, notes, store_a, stores_a, sized, get_abc, fetched_1, gets_abc, got_abc, renamed, part_gone, store_ten, stores_ten, stored_ten, finds_ten, lost_ten, stored_short, stores_empty, stored_empty, empty_key, get_ten, gets_ten, resumed_ten, unread_ten, half_read_ten, get_none, goes_on_ten, short_then_more, drop_ten, drops_ten, check_ten, checks_ten, abc, get_md5, gets_md5, resumed_foo, gets_whole_md5, fetched_foo, gets_hi, got_hi};
 ghost use Rattle.ann_key.specs.Keys.{Parts, key_reading};
 ghost use Rattle.ann_digest.specs.Fits.{IsDigestFor, FitsKey};
 ghost use Rattle.task_run.specs.Runs.{TaskRun};
 ghost use Rattle.annex_model.specs.Messages.{Transfer};
-ghost use Rattle.std.specs.Prelude.{true, false};
+ghost use Rattle.std.specs.Prelude.{true};
 ghost use Rattle.task_text.specs.declared.task.Work.TheVariants.{Store, Get};
 ghost use Rattle.task_run.specs.RunLaws.{GotNeedsFit};
 ghost use Rattle.task_run.specs.Askings.{TaskStretch, run_askings, run_notings, desk_of};

@@ -1,6 +1,6 @@
 // Storing content in chunks.
 ghost use Rattle.std.specs.Prelude.{◌≡◌, ◌≤◌, ◌<◌, ◌+◌, ◌^◌, [], None, Some, Ok, IfOk, length, true, false};
-ghost use Rattle.ann_key.specs.Keys.{with_chunk, key_reading};
+ghost use Rattle.ann_key.specs.Keys.{with_chunk};
 ghost use Rattle.ann_key.specs.KeyRefs.{parts_of, text_of};
 ghost use Rattle.annex_model.specs.Lines.{has_newline};
 ghost use Rattle.annex_model.specs.Messages.{Checkpresent, Transfer, is_sent_key};
@@ -14,7 +14,7 @@ ghost use Rattle.task_run.specs.Checks.{present_request};
 ghost use Rattle.task_store.specs.ChunkStoring.{AsksNext, from_file, Seeks, StoresChunk, CopiesChunk, SettlesChunk, StoresFrom, StoresSized, StandsAs, IsQuiet, NotesChunks, removal_result, so_far};
 ghost use Rattle.task_run.specs.Fetching.{Outcome};
 ghost use Rattle.task_run.specs.Names.{chunk_file};
-ghost use Rattle.task_run.specs.Ran.{RanStore, IsInChunks, HasQuietCauses, is_verdict_of, undone_answer, may_follow_refusal};
+ghost use Rattle.task_run.specs.Ran.{RanStore, IsInChunks, HasQuietCauses, is_verdict_of, may_follow_refusal};
 ghost use Rattle.task_run.specs.declared.setup.Setup.{Setup};
 
 use ann_key::{KeyRef, NoMemory};

@@ -1,5 +1,5 @@
 // Storing content whole.
-ghost use Rattle.std.specs.Prelude.{◌≡◌, [], true, false, Some};
+ghost use Rattle.std.specs.Prelude.{◌≡◌, [], true};
 ghost use Rattle.task_text.specs.TaskLines.{IsTask};
 ghost use Rattle.task_text.specs.declared.task.Work.TheVariants as W;
 ghost use Rattle.task_run.specs.Ran.{RanPlain, HasQuietCauses};

@@ -1,5 +1,5 @@
 // One task over a desk in memory and a script of verdicts, and what came of it.
-ghost use Rattle.std.specs.Prelude.{◌≡◌, [], ℕ, length, true, false, IfOk};
+ghost use Rattle.std.specs.Prelude.{◌≡◌, [], true, false, IfOk};
 ghost use Rattle.std.specs.List.{list_any};
 ghost use Rattle.annex_model.specs.Lines.{has_newline};
 ghost use Rattle.chunk_log.specs.ChunkLines.{is_space};

@@ -1,6 +1,6 @@
 -- How the askings of one layout's keys grow.
 use Rattle.std.proofs.Common.{◌≡◌, ◌∙◌, ℕ, zero, suc, ◌+◌, ◌<◌, List, [], ◌∷◌, ◌++◌, length, map, refl, sym, ap, arith, append_assoc, append-nil, length-append, add-zero}
-use Rattle.std.specs.Prelude.{Bool, true, false, ◌==◌, Option, Some, None, Ok, Err, unwrap_or, if◌then◌else◌}
+use Rattle.std.specs.Prelude.{Bool, true, false, ◌==◌, Option, Some, None, Ok, unwrap_or, if◌then◌else◌}
 use Rattle.std.specs.List.{list_all, range_with_len}
 use Rattle.std.specs.Int.{div_ceil}
 use Rattle.std.proofs.lemmas.Grind.{div_ceil_times}
@@ -10,7 +10,6 @@ use Rattle.std.proofs.lemmas.List.Folds.{list_all-append}
 use Rattle.std.proofs.lemmas.List.FromFn.{length-map-range_with_len}
 use Rattle.std.proofs.lemmas.Simd.{map-map}
 use Rattle.ann_key.specs.Keys.{Parts, key_reading}
-use Rattle.ann_key.specs.declared.bytes.NoMemory.{NoMemory}
 use Rattle.chunk_plan.specs.Layouts.{Part, count_of, chunk_part}
 use Rattle.annex_model.specs.Messages.{HostMessage}
 use Rattle.journal_model.specs.declared.verdict.Verdict.{Verdict}

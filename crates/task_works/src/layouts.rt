@@ -1,5 +1,5 @@
 // The layouts that a task tries, and what it asks of the keys of each.
-ghost use Rattle.std.specs.Prelude.{◌≡◌, ◌++◌, ◌∷◌, [], ◌<◌, ◌==◌, ◌&&◌, not, true, Some, None, IfOk};
+ghost use Rattle.std.specs.Prelude.{◌≡◌, ◌++◌, ◌∷◌, [], ◌<◌, ◌==◌, not, true, Some, None, IfOk};
 ghost use Rattle.annex_model.specs.Messages.{is_sent_key};
 ghost use Rattle.ann_key.specs.Keys.{key_reading};
 ghost use Rattle.ann_key.specs.KeyRefs.{parts_of, text_of};
