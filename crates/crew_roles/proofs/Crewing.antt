@@ -16,7 +16,7 @@ use Rattle.gathering.proofs.Halls.{drop_start}
 use Rattle.task_run.specs.declared.setup.Setup.{Setup}
 use Rattle.lone_work.specs.Works.{DeskTells, TaskDone, claims_in}
 use Rattle.crew_work.specs.Crews.{calls_of}
-use Rattle.crew_work.specs.Runs.{HasPlainRun}
+use Rattle.task_rounds.specs.JournalRuns.{HasJournalRun}
 use Rattle.crew_work.proofs.Ending.{worker_ends}
 use Rattle.crew_roles.specs.Crewing.{AllManned, DeskDid, DesksDid, Manned, WorkerTells, calls_from}
 
@@ -49,19 +49,19 @@ module _ (h : HallValue Entry Opening) (setup : Setup) (c : ℕ) where
   dones_of first (d ∷ ds) (e ∷ es) all = all.0.worked.done ∷ dones_of (first + 1) ds es all.1
 
   ends_one : (calls : ℕ → ℕ → List Call) (first : ℕ) (d : DeskTells) (e : WorkerTells) → (m : Manned h setup c first d e) → 3 < first → ((t : ℕ) → calls first t ≡ calls_of m.worked.done t)
-      → WorkerEnds (HasPlainRun h.fixed setup calls) (tagged_crew c) e.pass
+      → WorkerEnds (HasJournalRun h.fixed setup calls) (tagged_crew c) e.pass
   ends_one calls first d e m far told =
       worker_ends h.fixed setup calls false c (tagged_crew c) e.pass (Unit {0}) (Unit {0}) d e.desk m.worked (let is = m.number_is in omega (arith, is, far))
       (λ t. ap (λ (n : ℕ). calls n t) m.number_is ∙ told t)
       (λ w k. subst (λ (q : Post). makes q w ≡ true) (sym (worker_post c e.pass.number (let is = m.number_is in omega (arith, is, far)))) k)
 
   pub ends_all : (calls : ℕ → ℕ → List Call) (first : ℕ) (ds : List DeskTells) (es : List WorkerTells) → (all : AllManned h setup c first ds es) → 3 < first
-      → Agree calls first (dones_of first ds es all) → All (WorkerEnds (HasPlainRun h.fixed setup calls) (tagged_crew c)) (map (λ (e : WorkerTells). e.pass) es)
-  ends_all calls first [] [] all far agree = All-nil (WorkerEnds (HasPlainRun h.fixed setup calls) (tagged_crew c))
+      → Agree calls first (dones_of first ds es all) → All (WorkerEnds (HasJournalRun h.fixed setup calls) (tagged_crew c)) (map (λ (e : WorkerTells). e.pass) es)
+  ends_all calls first [] [] all far agree = All-nil (WorkerEnds (HasJournalRun h.fixed setup calls) (tagged_crew c))
   ends_all calls first [] (e ∷ es) all far agree = absurd all
   ends_all calls first (d ∷ ds) [] all far agree = absurd all
   ends_all calls first (d ∷ ds) (e ∷ es) all far agree =
-      All-cons (WorkerEnds (HasPlainRun h.fixed setup calls) (tagged_crew c)) e.pass (map (λ (x : WorkerTells). x.pass) es)
+      All-cons (WorkerEnds (HasJournalRun h.fixed setup calls) (tagged_crew c)) e.pass (map (λ (x : WorkerTells). x.pass) es)
       (ends_one calls first d e all.0 far (agree_here calls first all.0.worked.done (dones_of (first + 1) ds es all.1) agree))
       (ends_all calls (first + 1) ds es all.1 (omega (arith, far)) (agree_later calls first all.0.worked.done (dones_of (first + 1) ds es all.1) agree))
 

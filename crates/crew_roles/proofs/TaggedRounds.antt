@@ -12,8 +12,8 @@ use Rattle.gathering.specs.Laws.{GoesOn, numbers_of}
 use Rattle.gathering.proofs.Gathering.{Closed, closed, own_in}
 use Rattle.gathering.proofs.WholeRounds.{tagged_gathers}
 use Rattle.lone_work.specs.Works.{TaskDone}
-use Rattle.crew_work.specs.Runs.{HasPlainRun}
-use Rattle.crew_work.proofs.Ending.{plain_runs_last}
+use Rattle.task_rounds.specs.JournalRuns.{HasJournalRun}
+use Rattle.task_rounds.proofs.Lasting.{run_lasts}
 use Rattle.crew_roles.specs.Crewing.{WorkerTells, calls_from}
 use Rattle.crew_roles.specs.TaggedRounds.{TaggedCloses, passes_of}
 use Rattle.crew_roles.proofs.Crewing.{did_all, dones_of, ends_all}
@@ -47,7 +47,7 @@ tagged_closes h setup final fixed l main ear mouth desks workers over legal calm
     dones = dones_of h setup c 4 desks workers manned
 
     means : ℕ → ℕ → List Entry → Type 0
-    means = HasPlainRun h.fixed setup (calls_from 4 dones)
+    means = HasJournalRun h.fixed setup (calls_from 4 dones)
 
     ends : All (WorkerEnds means (tagged_crew c)) (passes_of workers)
     ends = ends_all h setup c (calls_from 4 dones) 4 desks workers manned (omega arith) (λ n t far. refl)
@@ -56,7 +56,7 @@ tagged_closes h setup final fixed l main ear mouth desks workers over legal calm
     rest = flat over.0.log
 
     goes : GoesOn h.start final (λ x. Round h.fixed means (tagged_crew c) (numbers_of (main ∷ ear ∷ mouth ∷ passes_of workers)) h.start x (l ∷ []))
-    goes = tagged_gathers means (plain_runs_last h.fixed setup (calls_from 4 dones)) h final fixed l main ear mouth (passes_of workers) over legal calm begins one_child one two three
+    goes = tagged_gathers means (run_lasts h.fixed setup (calls_from 4 dones)) h final fixed l main ear mouth (passes_of workers) over legal calm begins one_child one two three
         keeps hears speaks ends i p there through
 
     same : goes.0 ≡ rest

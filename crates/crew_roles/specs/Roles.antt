@@ -41,12 +41,11 @@ pub record MouthRan (h : HallValue Entry Opening) (p q : CorePass) (m w : MouthV
   pub same : IsSameMouth m w
   pub over : Says h.fixed p.number (seen_of q) (Fetch m.child) Over
 
--- the tasks are the run's, which lines spell, the folder's name has no line's end, and content is stored whole
+-- the tasks are the run's, which lines spell, and the folder's name has no line's end
 pub record CanRunTasks (h : HallValue Entry Opening) (tasks : List Task) (setup : Setup) : Type 0 where
   pub tasks_are : h.fixed.tasks ≡ tasks
   pub spelled : AreTasks tasks
   pub folder : has_newline setup.work ≡ false
-  pub whole : setup.chunk ≡ 0
 
 pub record CanWork (h : HallValue Entry Opening) (p : CorePass) (tasks : List Task) (setup : Setup) (c : ℕ) : Type 0 where
   pub pass : IsPassOf h p

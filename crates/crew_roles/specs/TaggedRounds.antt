@@ -10,7 +10,7 @@ use Rattle.gathering.specs.Rounds.{CorePass, LinkValue, KeepsPost, EarEnds, Mout
 use Rattle.gathering.specs.Laws.{GoesOn, MayBeginTagged, Over, numbers_of}
 use Rattle.task_run.specs.declared.setup.Setup.{Setup}
 use Rattle.lone_work.specs.Works.{DeskTells, TaskDone}
-use Rattle.crew_work.specs.Runs.{HasPlainRun}
+use Rattle.task_rounds.specs.JournalRuns.{HasJournalRun}
 use Rattle.crew_roles.specs.Crewing.{AllManned, DesksDid, WorkerTells, calls_from}
 
 abbrev pub passes_of : List WorkerTells → List CorePass
@@ -24,7 +24,7 @@ desks_of es = map (λ (e : WorkerTells). e.desk) es
 -- the numbers from 4 on.
 pub record TaggedLeaves (o : Opening) (setup : Setup) (numbers : List ℕ) (start rest : List Entry) (l : LinkValue) (desks desks' : List DeskTells) : Type 0 where
   pub dones : List (List TaskDone)
-  pub round : Round o (HasPlainRun o setup (calls_from 4 dones)) (tagged_crew l.ear.child) numbers start rest (l ∷ [])
+  pub round : Round o (HasJournalRun o setup (calls_from 4 dones)) (tagged_crew l.ear.child) numbers start rest (l ∷ [])
   pub desks_did : DesksDid rest 4 dones desks desks'
 
 -- What the roles of a round over a tagged child leave gives that, when the hall is closed. One of the passes is through.

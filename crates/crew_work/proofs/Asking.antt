@@ -1,6 +1,6 @@
 -- What a request of a task adds, over a child that others read and write.
 use Rattle.std.proofs.Common.{◌≡◌, ℕ, List, refl, subst, Bool, true, inl, inr}
-use Rattle.std.specs.Prelude.{Result, Ok, Err}
+use Rattle.std.specs.Prelude.{Result}
 use Rattle.ann_key.specs.declared.bytes.NoMemory.{NoMemory}
 use Rattle.annex_model.specs.Messages.{HostMessage}
 use Rattle.journal_model.specs.declared.verdict.Verdict.{Verdict}
@@ -12,8 +12,10 @@ use Rattle.journal_model.specs.Shares.{Moved, is_of_child}
 use Rattle.journal_model.proofs.Looks.{same}
 use Rattle.link_roles.specs.Asks.{Grows, HasAsked, never}
 use Rattle.link_roles.proofs.Roles.{moved_both, moved_by, moved_wider}
-use Rattle.door_asker.specs.AtTasks.{AtTask, AskedFor, NotedFor}
+use Rattle.door_asker.specs.AtTasks.{AtTask, AskedFor}
+use Rattle.door_asker.specs.KnownLayouts.{IsBook}
 use Rattle.door_asker.specs.Noting.{by_noting}
+use Rattle.door_asker.proofs.Serving.{at_asked}
 use Rattle.crew_work.specs.Jobs.{JobsOn, by_jobs}
 
 never_jobs : (c t : ℕ) (w : What) → never w ≡ true → by_jobs c t w ≡ true
@@ -33,18 +35,13 @@ note_jobs c t w h = absurd cc
 
 -- ---- what asking and noting leave
 
-module _ (o : Opening) (n t u : ℕ) (a : Bool) (old new : List Entry) (is : t ≡ u) where
-  pub jobs_on_asked : (c : ℕ) (q : HostMessage) (result : Result Verdict NoMemory) → AskedFor o n t old new q result → Grows n a (by_jobs c t) old new → JobsOn o n a c u old new
-  jobs_on_asked c q result h grows = subst (λ (k : ℕ). JobsOn o n a c k old new) is record { at = at result h; grows = grows }
-    where
-      at : (r : Result Verdict NoMemory) → AskedFor o n t old new q r → AtTask o n t new
-      at (Ok v) h = h.at
-      at (Err e) h = h.at
+module _ (o : Opening) (n t u : ℕ) (a : Bool) (old new : List Entry) (is : t ≡ u) (book : IsBook o.notes) where
+  jobs_on : (c : ℕ) → AtTask o n t new → Grows n a (by_jobs c t) old new → JobsOn o n a c u old new
+  jobs_on c at grows = subst (λ (k : ℕ). JobsOn o n a c k old new) is record { may = record { at = at; book = book }; grows = grows }
 
-  pub jobs_on_noted : (c chunk count : ℕ) (result : Result (Unit {0}) NoMemory) → NotedFor o n t old new chunk count result → Grows n a (by_noting t) old new → JobsOn o n a c u old new
-  jobs_on_noted c chunk count result h grows =
-      subst (λ (k : ℕ). JobsOn o n a c k old new) is record { at = at result h; grows = moved_wider (note_jobs c t) (λ w k. k) grows (λ own k p. p) }
-    where
-      at : (r : Result (Unit {0}) NoMemory) → NotedFor o n t old new chunk count r → AtTask o n t new
-      at (Ok v) h = h.at
-      at (Err e) h = h.at
+  pub jobs_on_asked : (c : ℕ) (q : HostMessage) (result : Result Verdict NoMemory) → AskedFor o n t old new q result → Grows n a (by_jobs c t) old new → JobsOn o n a c u old new
+  jobs_on_asked c q result h grows = jobs_on c (at_asked o n t old new q result h) grows
+
+  -- notes of the task, or nothing
+  pub jobs_on_noted : (c : ℕ) → AtTask o n t new → Grows n a (by_noting t) old new → JobsOn o n a c u old new
+  jobs_on_noted c at grows = jobs_on c at (moved_wider (note_jobs c t) (λ w k. k) grows (λ own k p. p))

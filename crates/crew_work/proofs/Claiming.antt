@@ -33,6 +33,7 @@ can_on {o} {c} old more is legal can = record {
   number = can.number;
   started = ap (λ (x : List Entry). is_started x c) is ∙ started_lasts old more c can.started;
   prepared = ap (λ (x : List Entry). is_prepared x c) is ∙ prepared_lasts old more c can.prepared;
+  book = can.book;
 }
 
 -- ---- a claim

@@ -20,16 +20,12 @@ use Rattle.gathering.proofs.Halls.{drop_start}
 use Rattle.gathering.proofs.Laboring.{started_lasts}
 use Rattle.link_roles.specs.Writings.{LoneWired}
 use Rattle.task_run.specs.declared.setup.Setup.{Setup}
-use Rattle.task_rounds.specs.JournalRuns.{PlainRun}
-use Rattle.task_rounds.proofs.Lasting.{plain_lasts}
+use Rattle.task_rounds.specs.JournalRuns.{HasJournalRun, JournalRun}
 use Rattle.lone_work.specs.Works.{DeskTells, TaskDone, claimed_task}
 use Rattle.crew_work.specs.Crews.{AllRan, Worked, calls_of, claims_by, post_of, tasks_of}
-use Rattle.crew_work.specs.Runs.{HasPlainRun, LonesEnd, PlainRunsLast, WorkersEnd}
+use Rattle.crew_work.specs.Runs.{LonesEnd, WorkersEnd}
 use Rattle.crew_work.proofs.Doing.{wider_made}
 use Rattle.crew_work.proofs.Running.{stretch_answered}
-
-pub plain_runs_last : PlainRunsLast
-plain_runs_last o setup calls n t past more none shut r = plain_lasts o setup (calls n t) n t past more shut r
 
 -- a task that the number took is one that it claimed
 claimed_one : (t : ℕ) (w : What) (rest : List ℕ) → claims t w ≡ true → list_any (λ u. u == t) (cons_option (claimed_task w) rest) ≡ true
@@ -52,13 +48,13 @@ taken_claimed n t (e ∷ xs) h = go (e.by == n) (claims t e.what) refl h (taken_
 
 -- its run
 run_of : (o : Opening) (setup : Setup) (n c t : ℕ) (journal : List Entry) (done : List TaskDone) → AllRan o setup n c journal done → list_any (λ u. u == t) (tasks_of done) ≡ true
-    → PlainRun o setup (calls_of done t) n t journal
+    → JournalRun o setup (calls_of done t) n t journal
 run_of o setup n c t journal [] all h = absurd cc
 run_of o setup n c t journal (r ∷ done) all h = go (r.task == t) refl h (run_of o setup n c t journal done all.1)
   where
     go : (b : Bool) → (r.task == t) ≡ b → (b || list_any (λ u. u == t) (tasks_of done)) ≡ true
-        → (list_any (λ u. u == t) (tasks_of done) ≡ true → PlainRun o setup (calls_of done t) n t journal) → PlainRun o setup (cond b r.calls (calls_of done t)) n t journal
-    go true e k rest = subst (λ (u : ℕ). PlainRun o setup r.calls n u journal) (same_number r.task t e) all.0.run
+        → (list_any (λ u. u == t) (tasks_of done) ≡ true → JournalRun o setup (calls_of done t) n t journal) → JournalRun o setup (cond b r.calls (calls_of done t)) n t journal
+    go true e k rest = subst (λ (u : ℕ). JournalRun o setup r.calls n u journal) (same_number r.task t e) all.0.run
     go false e k rest = rest k
 
 -- what it has seen since the begin
@@ -67,7 +63,7 @@ new_is p more is = ap (λ (x : List Entry). drop (length p.start) x) is ∙ drop
 
 pub worker_ends : (o : Opening) (setup : Setup) (calls : ℕ → ℕ → List Call) (owns : Bool) (c : ℕ) (crew : ℕ → Post) (p : CorePass) (Before After : Type 0) (desk desk' : DeskTells)
     → (w : Worked o setup owns p.number false c p.start (seen_of p) Before After desk desk') → 0 < p.number → ((t : ℕ) → calls p.number t ≡ calls_of w.done t)
-    → ((w : What) → makes (post_of owns c) w ≡ true → makes (crew p.number) w ≡ true) → WorkerEnds (HasPlainRun o setup calls) crew p
+    → ((w : What) → makes (post_of owns c) w ≡ true → makes (crew p.number) w ≡ true) → WorkerEnds (HasJournalRun o setup calls) crew p
 worker_ends o setup calls owns c crew p Before After desk desk' w pos told post = record {
   keeps = record {
     number = pos;
@@ -75,7 +71,7 @@ worker_ends o setup calls owns c crew p Before After desk desk' w pos told post 
         (wider_made (makes (post_of owns c)) (makes (crew p.number)) post p.number more w.did.moved.own);
     answered = λ t h. stretch_answered (seen_of p) t (run t h).run;
   };
-  ran = λ t h. subst (λ (l : List Call). PlainRun o setup l p.number t (seen_of p)) (sym (told t)) (run t h);
+  ran = λ t h. subst (λ (l : List Call). JournalRun o setup l p.number t (seen_of p)) (sym (told t)) (run t h);
 }
   where
     more : List Entry
@@ -84,7 +80,7 @@ worker_ends o setup calls owns c crew p Before After desk desk' w pos told post 
     new : since p ≡ more
     new = new_is p more w.did.moved.is
 
-    run : (t : ℕ) → is_taken_by (since p) p.number t ≡ true → PlainRun o setup (calls_of w.done t) p.number t (seen_of p)
+    run : (t : ℕ) → is_taken_by (since p) p.number t ≡ true → JournalRun o setup (calls_of w.done t) p.number t (seen_of p)
     run t h =
         run_of o setup p.number c t (seen_of p) w.done w.ran
         (ap (list_any (λ (u : ℕ). u == t)) (sym w.did.claimed) ∙ taken_claimed p.number t more (ap (λ (x : List Entry). is_taken_by x p.number t) (sym new) ∙ h))

@@ -11,6 +11,7 @@ use Rattle.journal_model.specs.declared.opening.Opening.{Opening}
 use Rattle.journal_model.specs.Journal.{any}
 use Rattle.journal_model.specs.Legality.{Legal, answers, claims, has_open_job, is_claimed, is_claimed_by, task_of}
 use Rattle.journal_model.specs.Makers.{is_of_task, is_taken_by}
+use Rattle.journal_model.specs.Notes.{AreCurrentAt}
 use Rattle.journal_model.specs.Shares.{are_own, makes_only}
 use Rattle.journal_model.proofs.Idling.{claimed_positive, not_busy}
 use Rattle.journal_model.proofs.Looks.{any-append, entry, same}
@@ -27,8 +28,8 @@ use Rattle.task_run.proofs.Askings.{asks_for, askings_from-append, askings_from-
 use Rattle.door_asker.specs.AtTasks.{notings}
 use Rattle.door_asker.specs.Servings.{by_server}
 use Rattle.door_asker.proofs.Noted.{notes_for, notings_from-append, notings_from-none, notings-unnoted}
-use Rattle.task_rounds.specs.JournalRuns.{PlainRun}
-use Rattle.task_rounds.proofs.Lasting.{plain_stays}
+use Rattle.task_rounds.specs.JournalRuns.{JournalRun}
+use Rattle.task_rounds.proofs.Lasting.{run_stays}
 use Rattle.crew_work.specs.Crews.{RanSo}
 
 -- ---- entries of a task
@@ -114,10 +115,10 @@ module _ (o : Opening) (setup : Setup) (task : Task) (n c t : ℕ) (past within 
       ∙ ap (λ (b : ℕ). notings_from ended t begun b within) zero_more
       )
 
-  pub ran_so : (asked : List Asking) (calls : List Call) (noted : List Noting) → askings came t ≡ askings begun t ++ asked
-      → notings came t ≡ notings begun t ++ map (behind_more (length (askings begun t))) noted → TaskRun task t setup [] asked calls noted answer
+  pub ran_so : (layouts : List (ℕ × ℕ)) (asked : List Asking) (calls : List Call) (noted : List Noting) → AreCurrentAt o past task.key layouts → askings came t ≡ askings begun t ++ asked
+      → notings came t ≡ notings begun t ++ map (behind_more (length (askings begun t))) noted → TaskRun task t setup layouts asked calls noted answer
       → has_open_job came t ≡ false → any (bounds_run t) within ≡ false → RanSo o setup calls n c t answer ended
-  ran_so asked calls noted pairs_are notes_are ran shut one = record { run = plain; child = refl; answer_is = refl }
+  ran_so layouts asked calls noted known pairs_are notes_are ran shut one = record { run = whole; child = refl; answer_is = refl }
     where
       run : TaskStretch ended t
       run = record {
@@ -145,14 +146,16 @@ module _ (o : Opening) (setup : Setup) (task : Task) (n c t : ℕ) (past within 
           ∙ ap (λ (l : List Asking). map (behind_more (length l)) noted) none_before
           ∙ behind_none noted
 
-      plain : PlainRun o setup calls n t ended
-      plain = record {
+      whole : JournalRun o setup calls n t ended
+      whole = record {
         task = task;
         is = is;
         run = run;
         by_it = refl;
-        ran = subst (λ (xs : List Asking). TaskRun task t setup [] xs calls (run_notings run) answer) (sym its_askings)
-            (subst (λ (xs : List Noting). TaskRun task t setup [] asked calls xs answer) (sym its_notings) ran);
+        layouts = layouts;
+        known = known;
+        ran = subst (λ (xs : List Asking). TaskRun task t setup layouts xs calls (run_notings run) answer) (sym its_askings)
+            (subst (λ (xs : List Noting). TaskRun task t setup layouts asked calls xs answer) (sym its_notings) ran);
       }
 
 -- ---- a run stays
@@ -178,5 +181,5 @@ pub ran_stays : (o : Opening) (setup : Setup) (calls : List Call) (n c t : ℕ) 
 ran_stays o setup calls n c t answer past more legal h =
     let pos = claimed_positive o past legal t (stretch_claimed past t h.run.run) in
     let shut = idle_shut o past legal t pos (not_busy o past legal t (stretch_answered past t h.run.run)) in
-    let still = plain_stays o setup calls n t past more shut h.run in
+    let still = run_stays o setup calls n t past more shut h.run in
     record { run = still.0; child = still.1 ∙ h.child; answer_is = still.2 ∙ h.answer_is }

@@ -13,12 +13,15 @@ use Rattle.journal_model.specs.declared.entry.Entry.{Entry}
 use Rattle.journal_model.specs.declared.opening.Opening.{Opening}
 use Rattle.journal_model.specs.Journal.{any}
 use Rattle.journal_model.specs.Legality.{Legal, has_open_job, is_claimed_by, task_of}
+use Rattle.journal_model.specs.Notes.{AreCurrentAt}
 use Rattle.journal_model.specs.Shares.{Moved, is_of_child, makes_only}
 use Rattle.journal_model.proofs.Looks.{entry, same}
 use Rattle.journal_model.proofs.Testing.{all-join}
 use Rattle.link_roles.specs.Doors.{Appended, Passed}
 use Rattle.link_roles.proofs.Roles.{others_make}
 use Rattle.door_asker.specs.AtTasks.{AtTask, SameTask, notings}
+use Rattle.door_asker.specs.KnownLayouts.{known_layouts}
+use Rattle.door_asker.proofs.KeyNotes.{layouts_since_claim}
 use Rattle.door_asker.proofs.Pairs.{passed}
 use Rattle.task_run.specs.declared.setup.Setup.{Setup}
 use Rattle.task_run.specs.Askings.{askings, bounds_run}
@@ -83,7 +86,7 @@ module _ (o : Opening) (setup : Setup) (owns : Bool) (n : ℕ) (a : Bool) (c t :
     (stays : (past more : List Entry) → any (is_of_child c) more ≡ false → X past → X (past ++ more)) where
   pub does : (b : Begun o n c t begun) → task_of o t ≡ Some task → answer ≡ answered result → AtTask o n t ran
       → (m : Moved n a (by_task owns c t) (is_of_child c) begun ran P (X ran))
-      → Ran task t setup [] (askings begun t) (askings ran t) (notings begun t) (notings ran t) desk.log desk'.log result → HasTaskCauses desk.counts desk'.counts result
+      → Ran task t setup (known_layouts o begun t) (askings begun t) (askings ran t) (notings begun t) (notings ran t) desk.log desk'.log result → HasTaskCauses desk.counts desk'.counts result
       → Appended o n a ran new (Answered t answer) (AtTask o n t) → Does o setup owns n a c t begun new P (X new) desk desk'
   does b there is at m r causes g = record {
     answer = answer;
@@ -125,10 +128,16 @@ module _ (o : Opening) (setup : Setup) (owns : Bool) (n : ℕ) (a : Bool) (c t :
           none_bounds o n t (by_task owns c t) (λ w h. server_bounds c t w (task_serves owns c t w h)) first within
           (subst (Legal o) came still.at.legal) (subst (λ (x : List Entry). is_claimed_by x n t ≡ true) b.is b.at.held) own
 
+      -- what is known of the key, since the claim
+      known : AreCurrentAt o b.past task.key (known_layouts o begun t)
+      known =
+          subst (λ (x : List Entry). AreCurrentAt o b.past task.key (known_layouts o x t)) (sym b.is)
+          (layouts_since_claim o b.past [] n c t task b.can.book.order there (subst (Legal o) b.is b.at.legal) refl refl)
+
       whole : RanSo o setup r.calls n c t answer ((first ++ within) ++ entry n (Answered t answer) ∷ [])
       whole =
-          ran_so o setup task n c t b.past within answer there b.fresh r.asked r.calls r.noted pairs notes
-          (subst (λ (x : Answer). TaskRun task t setup [] r.asked r.calls r.noted x) (sym is) r.run)
+          ran_so o setup task n c t b.past within answer there b.fresh (known_layouts o begun t) r.asked r.calls r.noted known pairs notes
+          (subst (λ (x : Answer). TaskRun task t setup (known_layouts o begun t) r.asked r.calls r.noted x) (sym is) r.run)
           (subst (λ (x : List Entry). has_open_job x t ≡ false) came still.at.shut) one
 
   pub can_again : Begun o n c t begun → Moved n a (by_task owns c t) (is_of_child c) begun ran P (X ran) → Appended o n a ran new (Answered t answer) (AtTask o n t) → Legal o new → CanServe o c new

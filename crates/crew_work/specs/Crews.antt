@@ -16,12 +16,13 @@ use Rattle.host_core.specs.declared.event.Reply.{Reply}
 use Rattle.host_core.specs.declared.event.Reply.TheVariants.{Task as TaskReply, Wait as WaitReply}
 use Rattle.link_roles.specs.Doors.{Passed}
 use Rattle.door_asker.specs.AtTasks.{AtTask}
+use Rattle.door_asker.specs.KnownLayouts.{IsBook}
 use Rattle.door_asker.specs.Servings.{by_server}
 use Rattle.gathering.specs.Posts.{Post, Worker, Lone, makes}
 use Rattle.gathering.specs.Tasks.{IsThrough}
 use Rattle.task_run.specs.declared.setup.Setup.{Setup}
 use Rattle.task_run.specs.Ran.{HasTaskCauses}
-use Rattle.task_rounds.specs.JournalRuns.{PlainRun}
+use Rattle.task_rounds.specs.JournalRuns.{JournalRun}
 use Rattle.lone_work.specs.Works.{CausedInTurn, DeskTells, TaskDone, all_calls, claims_in}
 use Rattle.crew_work.specs.declared.claims.Claimed.{Claimed}
 use Rattle.crew_work.specs.declared.claims.Claimed.TheVariants.{Task, Wait, Over}
@@ -29,12 +30,13 @@ use Rattle.crew_work.specs.Jobs.{by_jobs}
 
 -- ---- between two tasks
 
--- the child was got ready, in a legal journal
+-- the child was got ready, in a legal journal, in a run that began with a book
 pub record CanServe (o : Opening) (c : ℕ) (seen : List Entry) : Type 0 where
   pub legal : Legal o seen
   pub number : 0 < c
   pub started : is_started seen c ≡ true
   pub prepared : is_prepared seen c ≡ true
+  pub book : IsBook o.notes
 
 -- ---- a claim
 
@@ -87,7 +89,7 @@ pub record Did (owns : Bool) (number : ℕ) (alone : Bool) (c : ℕ) (old new : 
 
 -- the journal has a run of the task by this number, claimed for c, with these calls and this answer
 pub record RanSo (o : Opening) (setup : Setup) (calls : List Call) (number c t : ℕ) (answer : Answer) (journal : List Entry) : Type 0 where
-  pub run : PlainRun o setup calls number t journal
+  pub run : JournalRun o setup calls number t journal
   pub child : run.run.child ≡ c
   pub answer_is : run.run.answer ≡ answer
 

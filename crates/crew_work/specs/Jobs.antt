@@ -7,6 +7,7 @@ use Rattle.journal_model.specs.declared.opening.Opening.{Opening}
 use Rattle.link_roles.specs.Asks.{Grows}
 use Rattle.link_roles.specs.Doors.{IsSameDoor}
 use Rattle.door_asker.specs.AtTasks.{AtTask}
+use Rattle.door_asker.specs.KnownLayouts.{IsBook}
 
 -- requests for t of c, which may be lost, and notes of t
 abbrev pub by_jobs : ℕ → ℕ → What → Bool
@@ -15,9 +16,14 @@ by_jobs c t (Lost child task) = child == c && task == t
 by_jobs c t (Note task chunk count) = task == t
 by_jobs c t w = false
 
--- it holds the task still, and made nothing else
+-- the number holds task t, no job of which is open, in a run that began with a book
+pub record MayAsk (o : Opening) (number t : ℕ) (seen : List Entry) : Type 0 where
+  pub at : AtTask o number t seen
+  pub book : IsBook o.notes
+
+-- it may ask for the task still, and made nothing else
 pub record JobsOn (o : Opening) (number : ℕ) (alone : Bool) (c t : ℕ) (old new : List Entry) : Type 0 where
-  pub at : AtTask o number t new
+  pub may : MayAsk o number t new
   pub grows : Grows number alone (by_jobs c t) old new
 
 -- what an asker over a door made of it: it is the same door, and the asker holds the same task still, over the same child

@@ -3,26 +3,15 @@ use Rattle.std.specs.Prelude.{ℕ, ◌≡◌, ◌<◌, true, false, List}
 use Rattle.ann_outside.specs.declared.file_desk.Call.{Call}
 use Rattle.hall.specs.Passes.{seen_of}
 use Rattle.journal_model.specs.declared.entry.What.{What}
-use Rattle.journal_model.specs.declared.entry.Entry.{Entry}
 use Rattle.journal_model.specs.declared.opening.Opening.{Opening}
 use Rattle.link_roles.specs.Moves.{IsSameLink}
 use Rattle.link_roles.specs.Writings.{LoneWired, is_written_first}
 use Rattle.gathering.specs.Posts.{Post, makes}
 use Rattle.gathering.specs.Rounds.{CorePass, LinkValue, IsWired, LoneEnds, WorkerEnds}
-use Rattle.gathering.specs.Tasks.{Lasts}
-use Rattle.gathering.specs.Laws.{TaggedRound, PoolRound, AloneRound}
 use Rattle.task_run.specs.declared.setup.Setup.{Setup}
-use Rattle.task_rounds.specs.JournalRuns.{PlainRun}
+use Rattle.task_rounds.specs.JournalRuns.{HasJournalRun}
 use Rattle.lone_work.specs.Works.{DeskTells}
 use Rattle.crew_work.specs.Crews.{Worked, calls_of, post_of}
-
--- the journal has the number's run of the task, in the plain layout, with the calls that are told of them
-abbrev pub HasPlainRun : Opening → Setup → (ℕ → ℕ → List Call) → ℕ → ℕ → List Entry → Type 0
-HasPlainRun o setup calls number t journal = PlainRun o setup (calls number t) number t journal
-
--- such a run stays while nothing is made of its task and no job of it is open
-abbrev pub PlainRunsLast : Type 0
-PlainRunsLast = (o : Opening) (setup : Setup) (calls : ℕ → ℕ → List Call) → Lasts (HasPlainRun o setup calls)
 
 -- What a worker over a child that others read and write did with its pass since the hall's begin, at a post that makes what it
 -- makes, is what a worker promises at its end, where the calls that are told of its number are those of its desk.
@@ -31,7 +20,7 @@ WorkersEnd =
     (o : Opening) (setup : Setup) (calls : ℕ → ℕ → List Call) (c : ℕ) (crew : ℕ → Post) (p : CorePass) (desk desk' : DeskTells)
     → (w : Worked o setup false p.number false c p.start (seen_of p) (Unit {0}) (Unit {0}) desk desk') → 0 < p.number → ((t : ℕ) → calls p.number t ≡ calls_of w.done t)
     → ((w : What) → makes (post_of false c) w ≡ true → makes (crew p.number) w ≡ true)
-    → WorkerEnds (HasPlainRun o setup calls) crew p
+    → WorkerEnds (HasJournalRun o setup calls) crew p
 
 -- the same of a worker that has its child for itself
 abbrev pub LonesEnd : Type 0
@@ -40,14 +29,4 @@ LonesEnd =
     → (w : Worked o setup true p.number false old.ear.child p.start (seen_of p) (LoneWired p.start old.ear old.mouth) (LoneWired (seen_of p) new.ear new.mouth) desk desk')
     → IsSameLink old.ear new.ear old.mouth new.mouth → IsWired p.start old → is_written_first p.start old.ear.child ≡ true → 0 < p.number → ((t : ℕ) → calls p.number t ≡ calls_of w.done t)
     → ((w : What) → makes (post_of true old.ear.child) w ≡ true → makes (crew p.number) w ≡ true)
-    → LoneEnds (HasPlainRun o setup calls) crew new p
-
--- the contracts of the rounds, where each task that a worker took has such a run
-abbrev pub TaggedPlainRuns : Type 0
-TaggedPlainRuns = (o : Opening) (setup : Setup) (calls : ℕ → ℕ → List Call) → TaggedRound (HasPlainRun o setup calls)
-
-abbrev pub PoolPlainRuns : Type 0
-PoolPlainRuns = (o : Opening) (setup : Setup) (calls : ℕ → ℕ → List Call) → PoolRound (HasPlainRun o setup calls)
-
-abbrev pub AlonePlainRuns : Type 0
-AlonePlainRuns = (o : Opening) (setup : Setup) (calls : ℕ → ℕ → List Call) → AloneRound (HasPlainRun o setup calls)
+    → LoneEnds (HasJournalRun o setup calls) crew new p

@@ -1,5 +1,5 @@
 // The asker of one task over a child that other threads read and write.
-ghost use Rattle.std.specs.Prelude.{◌≡◌, ◌∷◌, [], IfOk};
+ghost use Rattle.std.specs.Prelude.{◌≡◌, ◌∷◌, IfOk};
 ghost use Rattle.journal_model.specs.Projection.{IsNamed};
 ghost use Rattle.talk_serial.specs.Requests.{message_of};
 ghost use Rattle.link_roles.specs.Asks.{Grows};
@@ -9,7 +9,7 @@ ghost use Rattle.crew_work.specs.Jobs.{by_jobs};
 
 use ann_key::NoMemory;
 use chunk_log::Layouts;
-use door_asker::note;
+use door_asker::{layouts, note};
 use journal_model::Verdict;
 use link_crew::ask_job;
 use link_roles::Door;
@@ -51,8 +51,9 @@ pub struct JobAsker<'r, 'd, R: Wait, D: Door> {
 impl<'r, 'd, R: Wait, D: Door> Asker for JobAsker<'r, 'd, R, D> {
     ghost use Rattle.journal_model.specs.Legality.{may_note as can_note, task_of};
     ghost use Rattle.task_run.specs.Askings.{askings};
-    ghost use Rattle.door_asker.specs.AtTasks.{AtTask, notings};
-    ghost use Rattle.crew_work.specs.Jobs.{JobsGo};
+    ghost use Rattle.door_asker.specs.AtTasks.{notings};
+    ghost use Rattle.door_asker.specs.KnownLayouts.{known_layouts};
+    ghost use Rattle.crew_work.specs.Jobs.{JobsGo, MayAsk};
     ghost use Rattle.crew_work.specs.JobLaws.{jobs_still, jobs_ready, jobs_behind};
 
     ghost pairs = { λ s. askings (D.seen s.door.now) s.task };
@@ -63,11 +64,11 @@ impl<'r, 'd, R: Wait, D: Door> Asker for JobAsker<'r, 'd, R, D> {
 
     ghost may_note = { λ s. can_note (task_of (D.opening s.door.now) s.task) };
 
-    ghost current = { λ s. [] };
+    ghost current = { λ s. known_layouts (D.opening s.door.now) (D.seen s.door.now) s.task };
 
     ghost loans = { λ s. s.door.ghost_name ∷ D.loans s.door.now };
 
-    ghost ready = { λ s. AtTask (D.opening s.door.now) (D.number s.door.now) s.task (D.seen s.door.now) };
+    ghost ready = { λ s. MayAsk (D.opening s.door.now) (D.number s.door.now) s.task (D.seen s.door.now) };
 
     ghost goes_on = { λ a b. JobsGo D.opening D.number D.seen D.alone D.loans D.home a.door.now b.door.now a.child b.child a.task b.task };
 
@@ -81,9 +82,8 @@ impl<'r, 'd, R: Wait, D: Door> Asker for JobAsker<'r, 'd, R, D> {
         ask_for(self.rt, alloc, self.door, self.child, number, request)
     }
 
-    // What the remote has is not asked of the core yet, so the task is tried in the plain layout alone.
     fn layouts(&mut self, alloc: Global, number: u32) -> Result<Layouts, NoMemory> {
-        Ok(Layouts::from_vec(Vec::new(alloc)))
+        layouts(self.door, alloc, number)
     }
 
     fn note(&mut self, number: u32, chunk: u64, count: u64) -> Result<(), NoMemory> {

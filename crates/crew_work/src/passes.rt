@@ -30,7 +30,7 @@ pub fn run_worker<W: Way, K: Desk, R: Wait>(
 )
     requires pass { IsPassOf hall.now pass.old }
     requires tasks { (hall.now.fixed.tasks ≡ tasks.now) × AreTasks tasks.now }
-    requires setup { (has_newline setup.now.work ≡ false) × (setup.now.chunk ≡ 0) }
+    requires folder { has_newline setup.now.work ≡ false }
     requires can { CanServe hall.now.fixed (W.serves way.old) (seen_of pass.old) }
     ensures pass { IsPassOf hall.now pass.new × (pass.new.number ≡ pass.old.number) }
     ensures worked { Worked hall.now.fixed setup.now (W.owns way.old) pass.old.number false (W.serves way.old) (seen_of pass.old) (seen_of pass.new) (W.wired way.old (seen_of pass.old)) (W.wired way.new (seen_of pass.new)) (desk_tells (K.log desk.old) (K.counts desk.old)) (desk_tells (K.log desk.new) (K.counts desk.new)) }

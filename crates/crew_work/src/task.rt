@@ -46,7 +46,7 @@ pub(crate) fn do_task<W: Way, D: Door, K: Desk>(
 )
     requires shared { D.alone door.old ≡ false }
     requires tasks { ((D.opening door.old).tasks ≡ tasks.now) × AreTasks tasks.now }
-    requires setup { (has_newline setup.now.work ≡ false) × (setup.now.chunk ≡ 0) }
+    requires folder { has_newline setup.now.work ≡ false }
     requires begun { Begun (D.opening door.old) (D.number door.old) (W.serves way.old) number (D.seen door.old) }
     ensures does { Does (D.opening door.old) setup.now (W.owns way.old) (D.number door.old) (D.alone door.old) (W.serves way.old) number (D.seen door.old) (D.seen door.new) (W.wired way.old (D.seen door.old)) (W.wired way.new (D.seen door.new)) (desk_tells (K.log desk.old) (K.counts desk.old)) (desk_tells (K.log desk.new) (K.counts desk.new)) }
     ensures can { CanServe (D.opening door.new) (W.serves way.new) (D.seen door.new) }

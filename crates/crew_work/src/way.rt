@@ -1,5 +1,5 @@
 // A worker's way to its child: over a child that others read and write, or over a link of its own.
-ghost use Rattle.std.specs.Prelude.{ℕ, ◌≡◌, Bool, true, false, Some, List, [], ◌++◌};
+ghost use Rattle.std.specs.Prelude.{ℕ, ◌≡◌, Bool, true, false, Some, List, ◌++◌};
 ghost use Rattle.annex_model.specs.Lines.{has_newline};
 ghost use Rattle.task_text.specs.TaskLines.{IsTask};
 ghost use Rattle.journal_model.specs.declared.entry.Entry.{Entry};
@@ -12,8 +12,9 @@ ghost use Rattle.link_roles.specs.Doors.{IsSameDoor};
 ghost use Rattle.link_roles.specs.Moves.{IsSameLink};
 ghost use Rattle.link_roles.specs.Writings.{LoneWired};
 ghost use Rattle.door_asker.specs.AtTasks.{AtTask, notings};
+ghost use Rattle.door_asker.specs.KnownLayouts.{IsBook, known_layouts};
 ghost use Rattle.crew_work.specs.Crews.{by_task};
-ghost use Rattle.crew_work.specs.Jobs.{JobsOn};
+ghost use Rattle.crew_work.specs.Jobs.{JobsOn, MayAsk};
 
 use crate::job_asker::JobAsker;
 use ann_key::NoMemory;
@@ -56,11 +57,12 @@ pub trait Way {
     ) -> Result<Answer, NoMemory>
         requires shared { D.alone door.old ≡ false }
         requires task { IsTask task.now }
-        requires setup { (has_newline setup.now.work ≡ false) × (setup.now.chunk ≡ 0) }
+        requires folder { has_newline setup.now.work ≡ false }
         requires named { task_of (D.opening door.old) number ≡ Some task.now }
         requires at { AtTask (D.opening door.old) (D.number door.old) number (D.seen door.old) }
+        requires book { IsBook (D.opening door.old).notes }
         requires started { is_started (D.seen door.old) (serves self.old) ≡ true }
-        ensures ran { Ran task.now number setup.now [] (askings (D.seen door.old) number) (askings (D.seen door.new) number) (notings (D.seen door.old) number) (notings (D.seen door.new) number) (K.log desk.old) (K.log desk.new) result }
+        ensures ran { Ran task.now number setup.now (known_layouts (D.opening door.old) (D.seen door.old) number) (askings (D.seen door.old) number) (askings (D.seen door.new) number) (notings (D.seen door.old) number) (notings (D.seen door.new) number) (K.log desk.old) (K.log desk.new) result }
         ensures causes { HasTaskCauses (K.counts desk.old) (K.counts desk.new) result }
         ensures at { AtTask (D.opening door.old) (D.number door.old) number (D.seen door.new) }
         ensures moved { Moved (D.number door.old) (D.alone door.old) (by_task (owns self.old) (serves self.old) number) (is_of_child (serves self.old)) (D.seen door.old) (D.seen door.new) (wired self.old (D.seen door.old)) (wired self.new (D.seen door.new)) }
@@ -95,10 +97,10 @@ fn run_jobs<D: Door, K: Desk, R: Wait>(
     desk: &mut K,
 ) -> Result<Answer, NoMemory>
     requires task { IsTask task.now }
-    requires setup { (has_newline setup.now.work ≡ false) × (setup.now.chunk ≡ 0) }
+    requires folder { has_newline setup.now.work ≡ false }
     requires named { task_of (D.opening door.old) number ≡ Some task.now }
-    requires at { AtTask (D.opening door.old) (D.number door.old) number (D.seen door.old) }
-    ensures ran { Ran task.now number setup.now [] (askings (D.seen door.old) number) (askings (D.seen door.new) number) (notings (D.seen door.old) number) (notings (D.seen door.new) number) (K.log desk.old) (K.log desk.new) result }
+    requires may { MayAsk (D.opening door.old) (D.number door.old) number (D.seen door.old) }
+    ensures ran { Ran task.now number setup.now (known_layouts (D.opening door.old) (D.seen door.old) number) (askings (D.seen door.old) number) (askings (D.seen door.new) number) (notings (D.seen door.old) number) (notings (D.seen door.new) number) (K.log desk.old) (K.log desk.new) result }
     ensures causes { HasTaskCauses (K.counts desk.old) (K.counts desk.new) result }
     ensures on { JobsOn (D.opening door.old) (D.number door.old) (D.alone door.old) child number (D.seen door.old) (D.seen door.new) }
     ensures door { IsSameDoor D.opening D.number D.seen D.alone D.loans D.home door.old door.new }

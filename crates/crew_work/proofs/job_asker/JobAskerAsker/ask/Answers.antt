@@ -1,15 +1,29 @@
-use Rattle.std.proofs.Common.{refl}
+use Rattle.std.proofs.Common.{ℕ, sym, subst, refl}
 use Rattle.talk_serial.specs.Requests.{message_of}
+use Rattle.door_asker.specs.AtTasks.{AtTask}
+use Rattle.door_asker.proofs.Knowing.{known_asked}
 use Rattle.crew_work.proofs.Asking.{jobs_on_asked}
 use Rattle.crew_work.proofs.job_asker.JobAskerAsker.ask.Goals as goal
+
+pub returns-clause-layouts : goal.returns-clause-layouts
+returns-clause-layouts g c =
+    let s = c.args.self.now in
+    let o = g.D.Door.opening s.door.now in
+    let n = g.D.Door.number s.door.now in
+    let seen = g.D.Door.seen s.door.now in
+    known_asked o (g.D.Door.opening c.ask_for.new.door) n c.args.number s.task c.ask_for.ensures.door.opening c.requires.task
+    (subst (λ (k : ℕ). AtTask o n k seen) (sym c.requires.task) c.requires.ready.at) c.ask_for.ensures.grows (message_of c.args.request.now) c.ask_for.result c.ask_for.ensures.asked
 
 pub returns-clause-on : goal.returns-clause-on
 returns-clause-on g c =
     let s = c.args.self.now in
+    let o = g.D.Door.opening s.door.now in
+    let n = g.D.Door.number s.door.now in
+    let seen = g.D.Door.seen s.door.now in
     record {
       door = c.ask_for.ensures.door;
       child = refl;
       task = refl;
-      on = jobs_on_asked (g.D.Door.opening s.door.now) (g.D.Door.number s.door.now) c.args.number s.task (g.D.Door.alone s.door.now) (g.D.Door.seen s.door.now) (g.D.Door.seen c.ask_for.new.door) c.requires.task
+      on = jobs_on_asked o n c.args.number s.task (g.D.Door.alone s.door.now) seen (g.D.Door.seen c.ask_for.new.door) c.requires.task c.requires.ready.book
           s.child (message_of c.args.request.now) c.ask_for.result c.ask_for.ensures.asked c.ask_for.ensures.grows;
     }

@@ -1,7 +1,29 @@
-use Rattle.crew_work.specs.JobLaws.{jobs_still}
+use Rattle.std.proofs.Common.{ℕ, sym, subst, refl}
+use Rattle.door_asker.specs.AtTasks.{AtTask}
+use Rattle.door_asker.proofs.Knowing.{known_told}
+use Rattle.door_asker.proofs.Serving.{never_notes}
+use Rattle.crew_work.proofs.Asking.{jobs_on_noted}
 use Rattle.crew_work.proofs.job_asker.JobAskerAsker.layouts.Goals as goal
+
+pub returns-clause-layouts : goal.returns-clause-layouts
+returns-clause-layouts g c =
+    let s = c.args.self.now in
+    let o = g.D.Door.opening s.door.now in
+    let n = g.D.Door.number s.door.now in
+    let seen = g.D.Door.seen s.door.now in
+    known_told o (g.D.Door.opening c.layouts.new.door) n c.args.number s.task c.layouts.ensures.door.opening c.requires.task
+    (subst (λ (k : ℕ). AtTask o n k seen) (sym c.requires.task) c.requires.ready.at) c.layouts.ensures.grows c.layouts.ensures.same
 
 pub returns-clause-on : goal.returns-clause-on
 returns-clause-on g c =
     let s = c.args.self.now in
-    jobs_still g.D.Door.opening g.D.Door.number g.D.Door.seen g.D.Door.alone g.D.Door.loans g.D.Door.home s.door.now s.child s.task c.requires.ready
+    let o = g.D.Door.opening s.door.now in
+    let n = g.D.Door.number s.door.now in
+    let seen = g.D.Door.seen s.door.now in
+    record {
+      door = c.layouts.ensures.door;
+      child = refl;
+      task = refl;
+      on = jobs_on_noted o n c.args.number s.task (g.D.Door.alone s.door.now) seen (g.D.Door.seen c.layouts.new.door) c.requires.task c.requires.ready.book
+          s.child c.layouts.ensures.same.at (never_notes c.args.number c.layouts.ensures.grows);
+    }
