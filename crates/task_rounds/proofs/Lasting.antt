@@ -20,7 +20,7 @@ use Rattle.task_run.specs.Askings.{TaskStretch, past_claim, run_askings, run_not
 use Rattle.task_run.specs.Runs.{TaskRun}
 use Rattle.journal_model.specs.Makers.{is_of_task}
 use Rattle.journal_model.proofs.Working.{AllAsked, all_asked, kept_verdict}
-use Rattle.task_rounds.specs.JournalRuns.{JournalRun, PlainRun, PlainIsWhole}
+use Rattle.task_rounds.specs.JournalRuns.{JournalRun}
 
 -- ---- the same verdicts
 
@@ -150,23 +150,3 @@ pub run_stays : (o : Opening) (setup : Setup) (calls : List Call) (n t : ℕ) (p
     → (r : JournalRun o setup calls n t past) → (s : JournalRun o setup calls n t (past ++ more)) × (s.run.child ≡ r.run.child) × (s.run.answer ≡ r.run.answer)
 unfolding run_longer
 run_stays o setup calls n t past more shut r = (run_longer o setup calls n t past more shut r, refl, refl)
-
-pub plain_lasts : (o : Opening) (setup : Setup) (calls : List Call) (n t : ℕ) (past more : List Entry) → has_open_job past t ≡ false
-    → PlainRun o setup calls n t past → PlainRun o setup calls n t (past ++ more)
-plain_lasts o setup calls n t past more shut r = record {
-  task = r.task;
-  is = r.is;
-  run = stretch_more past more t r.run;
-  by_it = r.by_it;
-  ran = subst (λ (xs : List Asking). TaskRun r.task t setup [] xs calls (run_notings (stretch_more past more t r.run)) r.run.answer) (sym (more_asked past more t r.run shut))
-      (subst (λ (xs : List Noting). TaskRun r.task t setup [] (run_askings r.run) calls xs r.run.answer) (sym (more_noted past more t r.run shut)) r.ran);
-}
-
--- of the same child, and with the same answer
-pub plain_stays : (o : Opening) (setup : Setup) (calls : List Call) (n t : ℕ) (past more : List Entry) → has_open_job past t ≡ false
-    → (r : PlainRun o setup calls n t past) → (s : PlainRun o setup calls n t (past ++ more)) × (s.run.child ≡ r.run.child) × (s.run.answer ≡ r.run.answer)
-unfolding plain_lasts
-plain_stays o setup calls n t past more shut r = (plain_lasts o setup calls n t past more shut r, refl, refl)
-
-pub plain_is_whole : PlainIsWhole
-plain_is_whole o setup calls number t journal r known = record { task = r.task; is = r.is; run = r.run; by_it = r.by_it; layouts = []; known = known; ran = r.ran }

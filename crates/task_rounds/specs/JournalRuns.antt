@@ -1,5 +1,5 @@
 -- A run of a task as a journal has it.
-use Rattle.std.specs.Prelude.{ℕ, ◌≡◌, List, [], Some}
+use Rattle.std.specs.Prelude.{ℕ, ◌≡◌, List, Some}
 use Rattle.task_text.specs.declared.task.Task.{Task}
 use Rattle.journal_model.specs.declared.entry.Entry.{Entry}
 use Rattle.journal_model.specs.declared.opening.Opening.{Opening}
@@ -24,17 +24,3 @@ pub record JournalRun (o : Opening) (setup : Setup) (calls : List Call) (number 
 -- the same, where the calls of each number for each task are told
 abbrev pub HasJournalRun : Opening → Setup → (ℕ → ℕ → List Call) → ℕ → ℕ → List Entry → Type 0
 HasJournalRun o setup calls number t journal = JournalRun o setup (calls number t) number t journal
-
--- The same run in the plain layout alone, whatever layouts the remote is known to have.
-pub record PlainRun (o : Opening) (setup : Setup) (calls : List Call) (number t : ℕ) (journal : List Entry) : Type 0 where
-  pub task : Task
-  pub is : task_of o t ≡ Some task
-  pub run : TaskStretch journal t
-  pub by_it : run.by ≡ number
-  pub ran : TaskRun task t setup [] (run_askings run) calls (run_notings run) run.answer
-
--- where the remote is known to have no layout of the key, a run in the plain layout is a run
-abbrev pub PlainIsWhole : Type 0
-PlainIsWhole =
-    (o : Opening) (setup : Setup) (calls : List Call) (number t : ℕ) (journal : List Entry) → (r : PlainRun o setup calls number t journal)
-    → AreCurrentAt o r.run.past r.task.key [] → JournalRun o setup calls number t journal

@@ -1,15 +1,9 @@
 // Laws over the definitions, each the contract of a function with nothing to do.
-ghost use Rattle.task_rounds.specs.JournalRuns.{PlainIsWhole};
 ghost use Rattle.task_rounds.specs.Laws.{RunsLast, TaggedRuns, PoolRuns, AloneRuns, EarlierRunsStay};
 
 /// A run of a task stays in a journal as it was.
 pub fn runs_last()
     ensures { RunsLast }
-{}
-
-/// Where the remote is known to have no layout of the key, a run in the plain layout is a run.
-pub fn plain_runs_are_runs()
-    ensures { PlainIsWhole }
 {}
 
 /// What a round leaves, where each task that a worker took ran as Task run says; and that earlier runs stay.
