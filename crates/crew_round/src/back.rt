@@ -1,6 +1,7 @@
 // A role that comes back from its thread.
 ghost use Rattle.std.specs.Prelude.{◌≡◌};
-ghost use Rattle.crew_round.specs.BackRole.{role_of};
+ghost use Rattle.std.specs.List.{list_any};
+ghost use Rattle.crew_round.specs.BackRole.{has_run, role_of};
 
 /// What came back: the role as it was, or as its run left it.
 #[derive(Drop)]
@@ -19,4 +20,18 @@ impl<E> Back<E> {
             Back::Ran(role) => role,
         }
     }
+
+    /// Whether it ran.
+    pub fn has_run(&self) -> bool
+        ensures { result ≡ has_run self.now }
+    {
+        matches!(self, Back::Ran(_))
+    }
+}
+
+/// Whether one of them ran.
+pub fn any_ran<E>(backs: &[Back<E>]) -> bool
+    ensures { result ≡ list_any has_run backs.now }
+{
+    backs.iter().any(|back| back.has_run())
 }

@@ -6,7 +6,8 @@ ghost use Rattle.crew_round.specs.Slots.{AllCameBack};
 use super::back::Back;
 use super::gate::Gate;
 use super::role::Role;
-use super::slot::{Slot, begin, begin_all, end, end_all};
+use super::room::Room;
+use super::slot::{begin, begin_all, end, end_all};
 use std::alloc::Global;
 use std::marker::{Send, Sync};
 use std::sync::Wait;
@@ -19,24 +20,6 @@ pub struct Crew<A, B, C> {
     pub ear: A,
     pub mouth: B,
     pub workers: Vec<C>,
-}
-
-pub(crate) type Room<C> = (Vec<Slot<C>>, Vec<Back<C>>);
-
-/// Room for as many slots and for what comes back.
-pub(crate) fn room<C: Role>(alloc: Global, n: usize) -> Option<Room<C>>
-    ensures { IfSome result (λ r. (r.0.items ≡ []) × (n ≤ vec_capacity r.0) × (r.1.items ≡ []) × (n ≤ vec_capacity r.1)) }
-{
-    let Ok(slots) = Vec::with_capacity(alloc, n) else {
-        return None;
-    };
-    match Vec::with_capacity(alloc, n) {
-        Ok(backs) => Some((slots, backs)),
-        Err(_) => {
-            slots.destroy_empty();
-            None
-        }
-    }
 }
 
 fn within<
@@ -56,8 +39,7 @@ fn within<
 ) -> Crew<Back<A>, Back<B>, Back<C>>
     requires few { vec_len crew.workers < 1000 }
     requires can { A.can_run crew.ear × B.can_run crew.mouth × All C.can_run crew.workers.items }
-    requires slots { (room.0.items ≡ []) × (vec_len crew.workers ≤ vec_capacity room.0) }
-    requires backs { (room.1.items ≡ []) × (vec_len crew.workers ≤ vec_capacity room.1) }
+    requires room { vec_len crew.workers ≤ room }
     ensures ear { CameBack A.ran crew.ear result.ear }
     ensures mouth { CameBack B.ran crew.mouth result.mouth }
     ensures workers { AllCameBack C.ran crew.workers.items result.workers.items }
@@ -67,7 +49,7 @@ fn within<
         mouth,
         workers,
     } = crew;
-    let (slots, backs) = room;
+    let (slots, backs) = room.part();
     let ear = begin(scope, rt, gate, 0, most, ear);
     let mouth = begin(scope, rt, gate, 1, most, mouth);
     let workers = begin_all(scope, rt, gate, 2, most, workers, slots);
@@ -82,9 +64,39 @@ fn within<
     }
 }
 
-/// Runs the roles, each in a thread of its own, of which it tries to start `most`. None of them takes its first step before it
-/// is known which threads were started; without an ear, a mouth or any worker none takes one. Where memory keeps the round from
-/// beginning, all is handed back.
+/// Runs the roles, each in a thread of its own, of which it tries to start `most`, in room that was taken before. None of them
+/// takes its first step before it is known which threads were started; without an ear, a mouth or any worker none takes one.
+pub fn run_crew<
+    A: Role + Send + Drop,
+    B: Role + Send + Drop,
+    C: Role + Send + Drop,
+    R: Threads + Wait + Sync,
+>(
+    rt: &R,
+    room: Room<C>,
+    most: usize,
+    crew: Crew<A, B, C>,
+) -> Crew<Back<A>, Back<B>, Back<C>>
+    requires few { vec_len crew.workers < 1000 }
+    requires can { A.can_run crew.ear × B.can_run crew.mouth × All C.can_run crew.workers.items }
+    requires room { vec_len crew.workers ≤ room }
+    ensures ear { CameBack A.ran crew.ear result.ear }
+    ensures mouth { CameBack B.ran crew.mouth result.mouth }
+    ensures workers { AllCameBack C.ran crew.workers.items result.workers.items }
+{
+    let gate = Gate::new();
+    let gate = &gate;
+    thread::scope(
+        thread::scope_env(),
+        rt,
+        move |scope| -> Crew<Back<A>, Back<B>, Back<C>>
+            requires { A.can_run crew.ear × B.can_run crew.mouth × All C.can_run crew.workers.items × (vec_len crew.workers < 1000) × (vec_len crew.workers ≤ room) }
+            ensures { CameBack A.ran crew.ear result.ear × CameBack B.ran crew.mouth result.mouth × AllCameBack C.ran crew.workers.items result.workers.items }
+        { within(scope, rt, gate, most, crew, room) },
+    )
+}
+
+/// The same, where memory may keep the round from beginning: then all is handed back.
 pub fn run_some<
     A: Role + Send + Drop,
     B: Role + Send + Drop,
@@ -103,19 +115,10 @@ pub fn run_some<
     ensures workers { IfOk result (λ r. AllCameBack C.ran crew.workers.items r.workers.items) }
     ensures short { IfErr result (λ r. r ≡ crew) }
 {
-    let Some(room) = room(alloc, crew.workers.len()) else {
+    let Some(room) = Room::new(alloc, crew.workers.len()) else {
         return Err(crew);
     };
-    let gate = Gate::new();
-    let gate = &gate;
-    Ok(thread::scope(
-        thread::scope_env(),
-        rt,
-        move |scope| -> Crew<Back<A>, Back<B>, Back<C>>
-            requires { A.can_run crew.ear × B.can_run crew.mouth × All C.can_run crew.workers.items × (vec_len crew.workers < 1000) × (room.0.items ≡ []) × (vec_len crew.workers ≤ vec_capacity room.0) × (room.1.items ≡ []) × (vec_len crew.workers ≤ vec_capacity room.1) }
-            ensures { CameBack A.ran crew.ear result.ear × CameBack B.ran crew.mouth result.mouth × AllCameBack C.ran crew.workers.items result.workers.items }
-        { within(scope, rt, gate, most, crew, room) },
-    ))
+    Ok(run_crew(rt, room, most, crew))
 }
 
 /// The same with as many threads as there are roles.

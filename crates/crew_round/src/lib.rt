@@ -7,9 +7,11 @@ mod crew;
 mod gate;
 mod pool;
 mod role;
+mod room;
 mod slot;
 
-pub use back::Back;
-pub use crew::{Crew, run_round, run_some};
-pub use pool::{run_pool, run_pool_some};
+pub use back::{Back, any_ran};
+pub use crew::{Crew, run_crew, run_round, run_some};
+pub use pool::{run_pool, run_pool_some, run_workers};
 pub use role::{RanFrom, Role};
+pub use room::Room;

@@ -3,9 +3,9 @@ ghost use Rattle.std.specs.Prelude.{◌≡◌, All, ◌^◌, ◌+◌, ◌<◌, �
 ghost use Rattle.crew_round.specs.Slots.{AllCameBack};
 
 use super::back::Back;
-use super::crew::{Room, room};
 use super::gate::Gate;
 use super::role::Role;
+use super::room::Room;
 use super::slot::{begin_all, end_all};
 use std::alloc::Global;
 use std::marker::{Send, Sync};
@@ -23,19 +23,42 @@ fn within<'s, M: 's, C: Role + Send + Drop + 's, R: Threads + Wait + Sync>(
 ) -> Vec<Back<C>>
     requires few { vec_len workers < 1000 }
     requires can { All C.can_run workers.items }
-    requires slots { (room.0.items ≡ []) × (vec_len workers ≤ vec_capacity room.0) }
-    requires backs { (room.1.items ≡ []) × (vec_len workers ≤ vec_capacity room.1) }
+    requires room { vec_len workers ≤ room }
     ensures { AllCameBack C.ran workers.items result.items }
 {
-    let (slots, backs) = room;
+    let (slots, backs) = room.part();
     let workers = begin_all(scope, rt, gate, 0, most, workers, slots);
     let begins = workers.iter().any(|slot| slot.is_started());
     gate.open(rt, begins);
     end_all(rt, workers, backs)
 }
 
-/// Runs the workers, each in a thread of its own, of which it tries to start `most`. None of them takes its first step before it
-/// is known which threads were started. Where memory keeps the round from beginning, all is handed back.
+/// Runs the workers, each in a thread of its own, of which it tries to start `most`, in room that was taken before. None of them
+/// takes its first step before it is known which threads were started.
+pub fn run_workers<C: Role + Send + Drop, R: Threads + Wait + Sync>(
+    rt: &R,
+    room: Room<C>,
+    most: usize,
+    workers: Vec<C>,
+) -> Vec<Back<C>>
+    requires few { vec_len workers < 1000 }
+    requires can { All C.can_run workers.items }
+    requires room { vec_len workers ≤ room }
+    ensures { AllCameBack C.ran workers.items result.items }
+{
+    let gate = Gate::new();
+    let gate = &gate;
+    thread::scope(
+        thread::scope_env(),
+        rt,
+        move |scope| -> Vec<Back<C>>
+            requires { All C.can_run workers.items × (vec_len workers < 1000) × (vec_len workers ≤ room) }
+            ensures { AllCameBack C.ran workers.items result.items }
+        { within(scope, rt, gate, most, workers, room) },
+    )
+}
+
+/// The same, where memory may keep the round from beginning: then all is handed back.
 pub fn run_pool_some<C: Role + Send + Drop, R: Threads + Wait + Sync>(
     rt: &R,
     alloc: Global,
@@ -47,19 +70,10 @@ pub fn run_pool_some<C: Role + Send + Drop, R: Threads + Wait + Sync>(
     ensures workers { IfOk result (λ r. AllCameBack C.ran workers.items r.items) }
     ensures short { IfErr result (λ r. r ≡ workers) }
 {
-    let Some(room) = room(alloc, workers.len()) else {
+    let Some(room) = Room::new(alloc, workers.len()) else {
         return Err(workers);
     };
-    let gate = Gate::new();
-    let gate = &gate;
-    Ok(thread::scope(
-        thread::scope_env(),
-        rt,
-        move |scope| -> Vec<Back<C>>
-            requires { All C.can_run workers.items × (vec_len workers < 1000) × (room.0.items ≡ []) × (vec_len workers ≤ vec_capacity room.0) × (room.1.items ≡ []) × (vec_len workers ≤ vec_capacity room.1) }
-            ensures { AllCameBack C.ran workers.items result.items }
-        { within(scope, rt, gate, most, workers, room) },
-    ))
+    Ok(run_workers(rt, room, most, workers))
 }
 
 /// The same with as many threads as there are workers.
