@@ -206,7 +206,7 @@ pub(crate) fn play<
     requires child { site.now.child ≡ kit.link.ear.child }
     requires can { TaggedCan site.now.hall.now.fixed site.now.hall.now.start (link_of kit.link.ear kit.link.mouth) }
     requires tasks { (site.now.hall.now.fixed.tasks ≡ site.now.tasks.now) × AreTasks site.now.tasks.now }
-    requires setup { (has_newline site.now.setup.now.work ≡ false) × (site.now.setup.now.chunk ≡ 0) }
+    requires folder { has_newline site.now.setup.now.work ≡ false }
     ensures own { All (IsPassOf site.now.hall.now) result.0.passes.items × (length result.0.passes.items ≡ length kit.passes.items) }
     ensures left { IfDone result.1 (CrewLeft site.now.hall.now site.now.setup.now kit.link.ear.child (link_of result.0.link.ear result.0.link.mouth) result.0.passes.items (map (λ k. desk_tells (K.log k) (K.counts k)) kit.desks.items) (map (λ k. desk_tells (K.log k) (K.counts k)) result.0.desks.items)) }
     ensures kept { IfKept result.1 ((result.0.passes.items ≡ kit.passes.items) × IsAsBefore kit.link.ear result.0.link.ear kit.link.mouth result.0.link.mouth kit.desks.items result.0.desks.items) }

@@ -52,7 +52,7 @@ pub fn round_tagged_some<
     requires desks { (0 < vec_len desks) × (vec_len desks ≤ 64) }
     requires can { TaggedCan core.opening core.journal (link_of link.ear link.mouth) }
     requires tasks { (core.opening.tasks ≡ tasks.now) × AreTasks tasks.now }
-    requires setup { (has_newline setup.now.work ≡ false) × (setup.now.chunk ≡ 0) }
+    requires folder { has_newline setup.now.work ≡ false }
     ensures round { IfDone result.outcome (GoesOn core.journal result.core.journal (λ rest. TaggedLeaves core.opening setup.now (range_with_len 1 (3 + vec_len desks)) core.journal rest (link_of result.link.ear result.link.mouth) (map (λ k. desk_tells (K.log k) (K.counts k)) desks.items) (map (λ k. desk_tells (K.log k) (K.counts k)) result.desks.items))) }
     ensures kept { IfKept result.outcome ((result.core.journal ≡ core.journal) × IsAsBefore link.ear result.link.ear link.mouth result.link.mouth desks.items result.desks.items) }
     ensures opening { result.core.opening ≡ core.opening }
@@ -115,7 +115,7 @@ pub fn round_tagged<
     requires desks { (0 < vec_len desks) × (vec_len desks ≤ 64) }
     requires can { TaggedCan core.opening core.journal (link_of link.ear link.mouth) }
     requires tasks { (core.opening.tasks ≡ tasks.now) × AreTasks tasks.now }
-    requires setup { (has_newline setup.now.work ≡ false) × (setup.now.chunk ≡ 0) }
+    requires folder { has_newline setup.now.work ≡ false }
     ensures round { IfDone result.outcome (GoesOn core.journal result.core.journal (λ rest. TaggedLeaves core.opening setup.now (range_with_len 1 (3 + vec_len desks)) core.journal rest (link_of result.link.ear result.link.mouth) (map (λ k. desk_tells (K.log k) (K.counts k)) desks.items) (map (λ k. desk_tells (K.log k) (K.counts k)) result.desks.items))) }
     ensures kept { IfKept result.outcome ((result.core.journal ≡ core.journal) × IsAsBefore link.ear result.link.ear link.mouth result.link.mouth desks.items result.desks.items) }
     ensures opening { result.core.opening ≡ core.opening }

@@ -27,7 +27,7 @@ run_crew-backs-requires-clause-can g c κs within =
       may_all (λ w. w.pass) h (λ w. (w.hall.now ≡ h) × (w.tasks.now ≡ c.args.site.now.tasks.now) × (w.setup.now ≡ c.args.site.now.setup.now) × (w.way.child ≡ c.args.site.now.child))
           (λ w. CanWork w.hall.now w.pass w.tasks.now w.setup.now w.way.child)
           (λ w p f. may_work h _ _ _ _ _ _ _ _ p.0 p.1 p.2 (p.3 ∙ c.requires.child) f
-          (record { tasks_are = c.requires.tasks.0; spelled = c.requires.tasks.1; folder = c.requires.setup.0; whole = c.requires.setup.1 }) c.requires.can.serves)
+          (record { tasks_are = c.requires.tasks.0; spelled = c.requires.tasks.1; folder = c.requires.folder }) c.requires.can.serves)
           4 c.cast-crew.result.0.workers.items k.placed fresh.1.1.1,
     )
 
