@@ -1,5 +1,5 @@
 // One round of an ear, a mouth and workers.
-ghost use Rattle.std.specs.Prelude.{◌≡◌, All, ◌^◌, ◌+◌, ◌<◌, ◌≤◌, [], IfOk, IfErr, IfSome, vec_len, vec_capacity};
+ghost use Rattle.std.specs.Prelude.{◌≡◌, All, ◌<◌, ◌≤◌, IfOk, IfErr, vec_len};
 ghost use Rattle.crew_round.specs.Back.{CameBack};
 ghost use Rattle.crew_round.specs.Slots.{AllCameBack};
 
@@ -71,12 +71,7 @@ pub fn run_crew<
     B: Role + Send + Drop,
     C: Role + Send + Drop,
     R: Threads + Wait + Sync,
->(
-    rt: &R,
-    room: Room<C>,
-    most: usize,
-    crew: Crew<A, B, C>,
-) -> Crew<Back<A>, Back<B>, Back<C>>
+>(rt: &R, room: Room<C>, most: usize, crew: Crew<A, B, C>) -> Crew<Back<A>, Back<B>, Back<C>>
     requires few { vec_len crew.workers < 1000 }
     requires can { A.can_run crew.ear × B.can_run crew.mouth × All C.can_run crew.workers.items }
     requires room { vec_len crew.workers ≤ room }

@@ -1,5 +1,5 @@
 // One round of workers that have a child each.
-ghost use Rattle.std.specs.Prelude.{◌≡◌, All, ◌^◌, ◌+◌, ◌<◌, ◌≤◌, [], IfOk, IfErr, vec_len, vec_capacity};
+ghost use Rattle.std.specs.Prelude.{◌≡◌, All, ◌<◌, ◌≤◌, IfOk, IfErr, vec_len};
 ghost use Rattle.crew_round.specs.Slots.{AllCameBack};
 
 use super::back::Back;
