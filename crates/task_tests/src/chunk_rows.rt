@@ -1,8 +1,8 @@
 // Stores in chunks: what is asked and sent, which files are written, and what is noted.
-use crate::trial::{desk_of, run_chunks};
+use crate::expect::expect;
 use journal_model::{Verdict, Why};
 use std::test::Fail;
-use task_text::read_task;
+use task_trials::trial::{Case, run_chunks};
 
 // A task's line, the name and the text of the desk's file, the chunk size, the verdicts, the calls that fail, and what comes of it.
 #[derive(Clone, Copy)]
@@ -29,7 +29,7 @@ const FAILED: Verdict = Verdict::Failed { at: 4 };
 
 const ENDED: Verdict = Verdict::Ended { why: Why::Eof };
 
-const ROWS: [ChunkRow; 16] = [
+static ROWS: [ChunkRow; 16] = [
     // empty content has one chunk
     ChunkRow {
         line: "store WORM-s0--a f",
@@ -234,15 +234,18 @@ const ROWS: [ChunkRow; 16] = [
 
 #[test]
 fn stores_in_chunks(rt: HostRuntime) -> Result<(), Fail> {
-    let alloc = rt.alloc();
     for (at, row) in ROWS.iter().enumerate() {
-        let task = read_task(alloc, row.line.as_bytes())?;
-        let desk = desk_of(alloc, &[(row.file, row.text)], row.fails)?;
-        let came = run_chunks(alloc, &task, row.chunk, row.verdicts, desk)?;
-        assert_eq!(rt; came.answer.as_str(), row.answer, "at row {at}");
-        assert_eq!(rt; came.asked.as_str(), row.asked, "at row {at}");
-        assert_eq!(rt; came.calls.as_str(), row.calls, "at row {at}");
-        assert_eq!(rt; came.noted.as_str(), row.noted, "at row {at}");
+        let case = Case {
+            line: row.line,
+            files: &[(row.file, row.text)],
+            fails: row.fails,
+            verdicts: row.verdicts,
+        };
+        let came = run_chunks(rt.alloc(), row.chunk, &case)?;
+        expect(&rt, "answer", at, came.answer.as_str(), row.answer);
+        expect(&rt, "asked", at, came.asked.as_str(), row.asked);
+        expect(&rt, "calls", at, came.calls.as_str(), row.calls);
+        expect(&rt, "noted", at, came.noted.as_str(), row.noted);
     }
     Ok(())
 }
