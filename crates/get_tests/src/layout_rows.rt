@@ -19,7 +19,7 @@ const UNSENT: Verdict = Verdict::Unsent;
 
 const TEN: &str = "get WORM-s10--ten o";
 
-static GETS: [GetRow; 23] = [
+static HELD: [GetRow; 3] = [
     // what part held is checked with what was fetched
     GetRow {
         line: ABC,
@@ -49,6 +49,9 @@ static GETS: [GetRow; 23] = [
         asked: "",
         left: &[("o", "old"), ("o.part", "-")],
     },
+];
+
+static TURNS: [GetRow; 8] = [
     // each layout in its turn, from what part holds then
     GetRow {
         line: TEN,
@@ -123,6 +126,9 @@ static GETS: [GetRow; 23] = [
         asked: "TRANSFER RETRIEVE WORM-s10-S4-C1--ten w/1700000000000000-1-1.fetch; TRANSFER RETRIEVE WORM-s10-S5-C1--ten w/1700000000000000-1-2.fetch; TRANSFER RETRIEVE WORM-s10-S5-C2--ten w/1700000000000000-1-3.fetch; TRANSFER RETRIEVE WORM-s10--ten w/1700000000000000-1-4.fetch",
         left: &[("o", "-"), ("o.part", "abcde"), (FETCH_2, "-")],
     },
+];
+
+static ENDS: [GetRow; 6] = [
     // what ends the task at once
     GetRow {
         line: TEN,
@@ -179,6 +185,9 @@ static GETS: [GetRow; 23] = [
         asked: "TRANSFER RETRIEVE WORM-s10-S4-C2--ten w/1700000000000000-1-1.fetch",
         left: &[("o", "-"), ("o.part", "abcd")],
     },
+];
+
+static ODD: [GetRow; 6] = [
     // chunks of this size would be three
     GetRow {
         line: TEN,
@@ -239,6 +248,21 @@ static GETS: [GetRow; 23] = [
 ];
 
 #[test]
-fn gets_over_layouts(rt: HostRuntime) -> Result<(), Fail> {
-    expect_gets(&rt, rt.alloc(), &GETS)
+fn a_digest_with_what_part_held(rt: HostRuntime) -> Result<(), Fail> {
+    expect_gets(&rt, rt.alloc(), &HELD)
+}
+
+#[test]
+fn each_layout_in_its_turn(rt: HostRuntime) -> Result<(), Fail> {
+    expect_gets(&rt, rt.alloc(), &TURNS)
+}
+
+#[test]
+fn what_ends_a_get_over_layouts(rt: HostRuntime) -> Result<(), Fail> {
+    expect_gets(&rt, rt.alloc(), &ENDS)
+}
+
+#[test]
+fn layouts_that_do_not_fit(rt: HostRuntime) -> Result<(), Fail> {
+    expect_gets(&rt, rt.alloc(), &ODD)
 }

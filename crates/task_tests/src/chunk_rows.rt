@@ -1,6 +1,8 @@
 // Stores in chunks: what is asked and sent, which files are written, and what is noted.
 use crate::expect::expect;
 use journal_model::{Verdict, Why};
+use std::alloc::Global;
+use std::process::Abort;
 use std::test::Fail;
 use task_trials::trial::{Case, run_chunks};
 
@@ -29,7 +31,7 @@ const FAILED: Verdict = Verdict::Failed { at: 4 };
 
 const ENDED: Verdict = Verdict::Ended { why: Why::Eof };
 
-static ROWS: [ChunkRow; 16] = [
+static SENT: [ChunkRow; 6] = [
     // empty content has one chunk
     ChunkRow {
         line: "store WORM-s0--a f",
@@ -105,6 +107,9 @@ static ROWS: [ChunkRow; 16] = [
         calls: "size f; create w/5-1-2.chunk; read f 0; append w/5-1-2.chunk; remove w/5-1-2.chunk; create w/5-1-3.chunk; read f 4; append w/5-1-3.chunk; remove w/5-1-3.chunk",
         noted: "2 of 4 behind 3",
     },
+];
+
+static STOPPED: [ChunkRow; 7] = [
     // the second chunk fails
     ChunkRow {
         line: "store WORM-s2--a f",
@@ -192,6 +197,9 @@ static ROWS: [ChunkRow; 16] = [
         calls: "size f; create w/5-1-2.chunk; read f 0; append w/5-1-2.chunk; remove w/5-1-2.chunk failed",
         noted: "",
     },
+];
+
+static ODD: [ChunkRow; 3] = [
     // without a chunk size, or a size in the key, content is stored whole
     ChunkRow {
         line: "store WORM-s2--a f",
@@ -232,20 +240,34 @@ static ROWS: [ChunkRow; 16] = [
     },
 ];
 
-#[test]
-fn stores_in_chunks(rt: HostRuntime) -> Result<(), Fail> {
-    for (at, row) in ROWS.iter().enumerate() {
+fn expect_rows(rt: &impl Abort, alloc: Global, rows: &[ChunkRow]) -> Result<(), Fail> {
+    for (at, row) in rows.iter().enumerate() {
         let case = Case {
             line: row.line,
             files: &[(row.file, row.text)],
             fails: row.fails,
             verdicts: row.verdicts,
         };
-        let came = run_chunks(rt.alloc(), row.chunk, &case)?;
-        expect(&rt, "answer", at, came.answer.as_str(), row.answer);
-        expect(&rt, "asked", at, came.asked.as_str(), row.asked);
-        expect(&rt, "calls", at, came.calls.as_str(), row.calls);
-        expect(&rt, "noted", at, came.noted.as_str(), row.noted);
+        let came = run_chunks(alloc, row.chunk, &case)?;
+        expect(rt, "answer", at, came.answer.as_str(), row.answer);
+        expect(rt, "asked", at, came.asked.as_str(), row.asked);
+        expect(rt, "calls", at, came.calls.as_str(), row.calls);
+        expect(rt, "noted", at, came.noted.as_str(), row.noted);
     }
     Ok(())
+}
+
+#[test]
+fn stores_in_chunks(rt: HostRuntime) -> Result<(), Fail> {
+    expect_rows(&rt, rt.alloc(), &SENT)
+}
+
+#[test]
+fn what_ends_a_store_in_chunks(rt: HostRuntime) -> Result<(), Fail> {
+    expect_rows(&rt, rt.alloc(), &STOPPED)
+}
+
+#[test]
+fn stores_whole_and_a_file_that_is_in_the_way(rt: HostRuntime) -> Result<(), Fail> {
+    expect_rows(&rt, rt.alloc(), &ODD)
 }
