@@ -126,7 +126,7 @@ fn noted(alloc: Global, key: KeyRef<'_>, notes: &[&str]) -> Result<Layouts, NoMe
     book.current(alloc, key, UUID)
 }
 
-/// The same, where these lines of notes say which layouts the remote has.
+/// The case as task 1, where these lines of notes say which layouts the remote has.
 pub fn run_noted(alloc: Global, notes: &[&str], case: &Case<'_>) -> Result<Outcome, TaskError> {
     let task = read_task(alloc, case.line.as_bytes())?;
     let layouts = noted(alloc, task.key.view(), notes)?;
