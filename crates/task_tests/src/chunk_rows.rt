@@ -1,8 +1,10 @@
 // Stores in chunks: what is asked and sent, which files are written, and what is noted.
-use crate::trial::{desk_of, run_chunks};
+use crate::expect::expect;
 use journal_model::{Verdict, Why};
+use std::alloc::Global;
+use std::process::Abort;
 use std::test::Fail;
-use task_text::read_task;
+use task_trials::trial::{Case, run_chunks};
 
 // A task's line, the name and the text of the desk's file, the chunk size, the verdicts, the calls that fail, and what comes of it.
 #[derive(Clone, Copy)]
@@ -29,7 +31,7 @@ const FAILED: Verdict = Verdict::Failed { at: 4 };
 
 const ENDED: Verdict = Verdict::Ended { why: Why::Eof };
 
-const ROWS: [ChunkRow; 16] = [
+static SENT: [ChunkRow; 6] = [
     // empty content has one chunk
     ChunkRow {
         line: "store WORM-s0--a f",
@@ -105,6 +107,9 @@ const ROWS: [ChunkRow; 16] = [
         calls: "size f; create w/5-1-2.chunk; read f 0; append w/5-1-2.chunk; remove w/5-1-2.chunk; create w/5-1-3.chunk; read f 4; append w/5-1-3.chunk; remove w/5-1-3.chunk",
         noted: "2 of 4 behind 3",
     },
+];
+
+static STOPPED: [ChunkRow; 7] = [
     // the second chunk fails
     ChunkRow {
         line: "store WORM-s2--a f",
@@ -192,6 +197,9 @@ const ROWS: [ChunkRow; 16] = [
         calls: "size f; create w/5-1-2.chunk; read f 0; append w/5-1-2.chunk; remove w/5-1-2.chunk failed",
         noted: "",
     },
+];
+
+static ODD: [ChunkRow; 3] = [
     // without a chunk size, or a size in the key, content is stored whole
     ChunkRow {
         line: "store WORM-s2--a f",
@@ -232,17 +240,34 @@ const ROWS: [ChunkRow; 16] = [
     },
 ];
 
-#[test]
-fn stores_in_chunks(rt: HostRuntime) -> Result<(), Fail> {
-    let alloc = rt.alloc();
-    for (at, row) in ROWS.iter().enumerate() {
-        let task = read_task(alloc, row.line.as_bytes())?;
-        let desk = desk_of(alloc, &[(row.file, row.text)], row.fails)?;
-        let came = run_chunks(alloc, &task, row.chunk, row.verdicts, desk)?;
-        assert_eq!(rt; came.answer.as_str(), row.answer, "at row {at}");
-        assert_eq!(rt; came.asked.as_str(), row.asked, "at row {at}");
-        assert_eq!(rt; came.calls.as_str(), row.calls, "at row {at}");
-        assert_eq!(rt; came.noted.as_str(), row.noted, "at row {at}");
+fn expect_rows(rt: &impl Abort, alloc: Global, rows: &[ChunkRow]) -> Result<(), Fail> {
+    for (at, row) in rows.iter().enumerate() {
+        let case = Case {
+            line: row.line,
+            files: &[(row.file, row.text)],
+            fails: row.fails,
+            verdicts: row.verdicts,
+        };
+        let came = run_chunks(alloc, row.chunk, &case)?;
+        expect(rt, "answer", at, came.answer.as_str(), row.answer);
+        expect(rt, "asked", at, came.asked.as_str(), row.asked);
+        expect(rt, "calls", at, came.calls.as_str(), row.calls);
+        expect(rt, "noted", at, came.noted.as_str(), row.noted);
     }
     Ok(())
+}
+
+#[test]
+fn stores_in_chunks(rt: HostRuntime) -> Result<(), Fail> {
+    expect_rows(&rt, rt.alloc(), &SENT)
+}
+
+#[test]
+fn what_ends_a_store_in_chunks(rt: HostRuntime) -> Result<(), Fail> {
+    expect_rows(&rt, rt.alloc(), &STOPPED)
+}
+
+#[test]
+fn stores_whole_and_a_file_that_is_in_the_way(rt: HostRuntime) -> Result<(), Fail> {
+    expect_rows(&rt, rt.alloc(), &ODD)
 }

@@ -1,8 +1,10 @@
 // Checks and drops of keys that the remote is known to have in chunks.
-use crate::trial::{desk_of, run_over};
+use crate::expect::expect;
 use journal_model::{Verdict, Why};
+use std::alloc::Global;
+use std::process::Abort;
 use std::test::Fail;
-use task_text::read_task;
+use task_trials::trial::{Case, run_over};
 
 // A task's line, the layouts of its key, the verdicts of its requests, and what comes of it.
 #[derive(Clone, Copy)]
@@ -29,7 +31,7 @@ const UNSUPPORTED: Verdict = Verdict::Unsupported { at: 13 };
 
 const ENDED: Verdict = Verdict::Ended { why: Why::Eof };
 
-const ROWS: [LayoutRow; 17] = [
+static CHECKS: [LayoutRow; 9] = [
     LayoutRow {
         line: "check WORM-s10--a",
         layouts: &[(4, 3)],
@@ -105,6 +107,9 @@ const ROWS: [LayoutRow; 17] = [
         asked: "CHECKPRESENT WORM--a",
         noted: "",
     },
+];
+
+static DROPS: [LayoutRow; 8] = [
     LayoutRow {
         line: "drop WORM-s10--a",
         layouts: &[(4, 3)],
@@ -172,16 +177,28 @@ const ROWS: [LayoutRow; 17] = [
     },
 ];
 
-#[test]
-fn checks_and_drops_in_layouts(rt: HostRuntime) -> Result<(), Fail> {
-    let alloc = rt.alloc();
-    for (at, row) in ROWS.iter().enumerate() {
-        let task = read_task(alloc, row.line.as_bytes())?;
-        let desk = desk_of(alloc, &[], &[])?;
-        let came = run_over(alloc, 1, &task, row.layouts, row.verdicts, desk)?;
-        assert_eq!(rt; came.answer.as_str(), row.answer, "at row {at}");
-        assert_eq!(rt; came.asked.as_str(), row.asked, "at row {at}");
-        assert_eq!(rt; came.noted.as_str(), row.noted, "at row {at}");
+fn expect_rows(rt: &impl Abort, alloc: Global, rows: &[LayoutRow]) -> Result<(), Fail> {
+    for (at, row) in rows.iter().enumerate() {
+        let case = Case {
+            line: row.line,
+            files: &[],
+            fails: &[],
+            verdicts: row.verdicts,
+        };
+        let came = run_over(alloc, row.layouts, &case)?;
+        expect(rt, "answer", at, came.answer.as_str(), row.answer);
+        expect(rt, "asked", at, came.asked.as_str(), row.asked);
+        expect(rt, "noted", at, came.noted.as_str(), row.noted);
     }
     Ok(())
+}
+
+#[test]
+fn checks_in_layouts(rt: HostRuntime) -> Result<(), Fail> {
+    expect_rows(&rt, rt.alloc(), &CHECKS)
+}
+
+#[test]
+fn drops_in_layouts(rt: HostRuntime) -> Result<(), Fail> {
+    expect_rows(&rt, rt.alloc(), &DROPS)
 }

@@ -1,16 +1,13 @@
-// Tests of the tasks of a run, over desks in memory and children whose verdicts are a script.
+// Tests of stores, checks and drops: one task over a desk in memory and a script of verdicts.
 #![tactic(auto)]
 
 #[cfg(test)]
 mod chunk_rows;
 #[cfg(test)]
-mod faults;
+mod expect;
 #[cfg(test)]
-mod get_rows;
+mod faults;
 #[cfg(test)]
 mod layout_rows;
 #[cfg(test)]
 mod rows;
-pub mod script;
-#[cfg(test)]
-mod trial;

@@ -1,10 +1,10 @@
-// Tasks and their answers, row by row.
-use crate::trial::{Case, desk_of, held, run, run_on};
+// Stores, checks and drops and their answers, row by row.
+use crate::expect::expect;
 use journal_model::{Verdict, Why};
 use std::alloc::Global;
 use std::process::Abort;
 use std::test::Fail;
-use task_text::read_task;
+use task_trials::trial::{Case, desk_of, run, run_on};
 
 const DONE: Verdict = Verdict::Done { at: 13 };
 
@@ -20,8 +20,6 @@ const ENDED: Verdict = Verdict::Ended { why: Why::Eof };
 
 const UNSENT: Verdict = Verdict::Unsent;
 
-const FETCH: &str = "w/1700000000000000-1-1.fetch";
-
 // A task's line, its desk's files, its request's verdict, and what is wanted: the answer, what was asked, and of some
 // files what they hold in the end.
 struct Row {
@@ -33,7 +31,7 @@ struct Row {
     left: &'static [(&'static str, &'static str)],
 }
 
-const STORES: [Row; 9] = [
+static STORES: [Row; 9] = [
     Row {
         line: "store WORM--a f",
         files: &[("f", "hi")],
@@ -108,95 +106,7 @@ const STORES: [Row; 9] = [
     },
 ];
 
-const ABC: &str = "get MD5-s3--900150983cd24fb0d6963f7d28e17f72 o";
-
-const ASKS_ABC: &str =
-    "TRANSFER RETRIEVE MD5-s3--900150983cd24fb0d6963f7d28e17f72 w/1700000000000000-1-1.fetch";
-
-const GETS: [Row; 10] = [
-    Row {
-        line: ABC,
-        files: &[(FETCH, "abc"), ("o", "old"), ("o.part", "broken off")],
-        verdict: DONE,
-        answer: "got",
-        asked: ASKS_ABC,
-        left: &[("o", "abc"), ("o.part", "-"), (FETCH, "-")],
-    },
-    Row {
-        line: ABC,
-        files: &[(FETCH, "foo")],
-        verdict: DONE,
-        answer: "hash acbd18db4cc2f85cedef654fccc4a4d8",
-        asked: ASKS_ABC,
-        left: &[("o", "-"), ("o.part", "-"), (FETCH, "-")],
-    },
-    Row {
-        line: ABC,
-        files: &[(FETCH, "ab"), ("o", "old"), ("o.part", "broken off")],
-        verdict: DONE,
-        answer: "size 2",
-        asked: ASKS_ABC,
-        left: &[("o", "old"), ("o.part", "-"), (FETCH, "ab")],
-    },
-    Row {
-        line: ABC,
-        files: &[("o", "old")],
-        verdict: DONE,
-        answer: "nofile",
-        asked: ASKS_ABC,
-        left: &[("o", "old"), ("o.part", "-")],
-    },
-    Row {
-        line: ABC,
-        files: &[(FETCH, "abc"), ("o.part", "broken off")],
-        verdict: FAILED,
-        answer: "failed 13",
-        asked: ASKS_ABC,
-        left: &[("o", "-"), ("o.part", "broken off"), (FETCH, "abc")],
-    },
-    Row {
-        line: ABC,
-        files: &[(FETCH, "abc")],
-        verdict: UNSUPPORTED,
-        answer: "unsupported",
-        asked: ASKS_ABC,
-        left: &[("o", "-"), (FETCH, "abc")],
-    },
-    Row {
-        line: ABC,
-        files: &[(FETCH, "abc")],
-        verdict: ENDED,
-        answer: "ended eof",
-        asked: ASKS_ABC,
-        left: &[("o", "-"), (FETCH, "abc")],
-    },
-    Row {
-        line: "get WORM--a two  words.txt",
-        files: &[(FETCH, "any length")],
-        verdict: DONE,
-        answer: "got",
-        asked: "TRANSFER RETRIEVE WORM--a w/1700000000000000-1-1.fetch",
-        left: &[("two  words.txt", "any length"), (FETCH, "-")],
-    },
-    Row {
-        line: "get WORM-s0--a größe",
-        files: &[(FETCH, "")],
-        verdict: DONE,
-        answer: "got",
-        asked: "TRANSFER RETRIEVE WORM-s0--a w/1700000000000000-1-1.fetch",
-        left: &[("größe", ""), ("größe.part", "-"), (FETCH, "-")],
-    },
-    Row {
-        line: "get WORM-s2--a w/1700000000000000-1-1.fetch",
-        files: &[(FETCH, "hi")],
-        verdict: DONE,
-        answer: "got",
-        asked: "TRANSFER RETRIEVE WORM-s2--a w/1700000000000000-1-1.fetch",
-        left: &[(FETCH, "hi")],
-    },
-];
-
-const QUESTIONS: [Row; 11] = [
+static QUESTIONS: [Row; 11] = [
     Row {
         line: "check WORM--a",
         files: &[],
@@ -289,20 +199,16 @@ const QUESTIONS: [Row; 11] = [
 
 fn expect_rows(rt: &impl Abort, alloc: Global, rows: &[Row]) -> Result<(), Fail> {
     for (at, row) in rows.iter().enumerate() {
-        let verdicts = [row.verdict];
         let case = Case {
             line: row.line,
             files: row.files,
             fails: &[],
-            verdicts: &verdicts,
+            verdicts: &[row.verdict],
         };
         let came = run(alloc, &case)?;
-        assert_eq!(rt; came.answer.as_str(), row.answer, "at row {at}");
-        assert_eq!(rt; came.asked.as_str(), row.asked, "at row {at}");
-        for (name, want) in row.left {
-            let holds = held(alloc, &came.desk, name)?;
-            assert_eq!(rt; holds.as_str(), *want, "{name} at row {at}");
-        }
+        expect(rt, "answer", at, came.answer.as_str(), row.answer);
+        expect(rt, "asked", at, came.asked.as_str(), row.asked);
+        expect(rt, "other", at, came.other(row.left), "");
     }
     Ok(())
 }
@@ -310,11 +216,6 @@ fn expect_rows(rt: &impl Abort, alloc: Global, rows: &[Row]) -> Result<(), Fail>
 #[test]
 fn stores(rt: HostRuntime) -> Result<(), Fail> {
     expect_rows(&rt, rt.alloc(), &STORES)
-}
-
-#[test]
-fn gets(rt: HostRuntime) -> Result<(), Fail> {
-    expect_rows(&rt, rt.alloc(), &GETS)
 }
 
 #[test]
@@ -326,19 +227,19 @@ fn checks_and_drops(rt: HostRuntime) -> Result<(), Fail> {
 #[test]
 fn stored_then_got(rt: HostRuntime) -> Result<(), Fail> {
     let alloc = rt.alloc();
-    let store = read_task(alloc, b"store WORM-s2--a f")?;
-    let get = read_task(alloc, b"get WORM-s2--a o")?;
     let files = [("f", "hi"), ("w/1700000000000000-2-1.fetch", "hi")];
     let desk = desk_of(alloc, &files, &[])?;
-    let stored = run_on(alloc, 1, &store, &[DONE], desk)?;
-    assert_eq!(rt; stored.answer.as_str(), "stored");
-    let got = run_on(alloc, 2, &get, &[DONE], stored.desk)?;
-    assert_eq!(rt; got.answer.as_str(), "got");
-    assert_eq!(rt;
+    let stored = run_on(alloc, 1, "store WORM-s2--a f", &[DONE], desk)?;
+    expect(&rt, "answer", 0, stored.answer.as_str(), "stored");
+    let got = run_on(alloc, 2, "get WORM-s2--a o", &[DONE], stored.desk)?;
+    expect(&rt, "answer", 1, got.answer.as_str(), "got");
+    expect(
+        &rt,
+        "asked",
+        1,
         got.asked.as_str(),
-        "TRANSFER RETRIEVE WORM-s2--a w/1700000000000000-2-1.fetch"
+        "TRANSFER RETRIEVE WORM-s2--a w/1700000000000000-2-1.fetch",
     );
-    let holds = held(alloc, &got.desk, "o")?;
-    assert_eq!(rt; holds.as_str(), "hi");
+    expect(&rt, "other", 1, got.other(&[("o", "hi")]), "");
     Ok(())
 }

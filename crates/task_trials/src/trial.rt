@@ -14,10 +14,9 @@ use chunk_log::{Layouts, NoteBook, read_line};
 use journal_model::{Answer, Verdict, Why};
 use std::alloc::{AllocError, Global};
 use std::str;
-use std::test::Fail;
 use talk_serial::Request;
 use task_run::Setup;
-use task_text::{Task, Work, read_task};
+use task_text::{Task, TaskError, Work, read_task};
 use task_works::run_task;
 
 /// A task's line, the files that stand on its desk, which of the desk's calls fail, and the verdicts of its requests.
@@ -70,36 +69,40 @@ fn layouts_of(alloc: Global, layouts: &[(u64, u64)]) -> Result<Vec<(u64, u64)>, 
     Ok(list)
 }
 
-/// The task as the run's task of that number, over that desk.
+/// The task of that line as the run's task of that number, over that desk.
 pub fn run_on(
     alloc: Global,
     number: u32,
-    task: &Task,
+    line: &str,
     verdicts: &[Verdict],
     desk: MemDesk,
-) -> Result<Outcome, NoMemory>
-    requires { IsTask task.now }
-{
-    run_over(alloc, number, task, &[], verdicts, desk)
+) -> Result<Outcome, TaskError> {
+    let task = read_task(alloc, line.as_bytes())?;
+    let setup = whole(alloc)?;
+    Ok(run_in(alloc, number, &task, &setup, &[], verdicts, desk)?)
 }
 
-/// The same, where the remote is known to have the key in these layouts.
+/// The case as task 1, where the remote is known to have the key in these layouts.
 pub fn run_over(
     alloc: Global,
-    number: u32,
-    task: &Task,
     layouts: &[(u64, u64)],
-    verdicts: &[Verdict],
-    desk: MemDesk,
-) -> Result<Outcome, NoMemory>
-    requires { IsTask task.now }
+    case: &Case<'_>,
+) -> Result<Outcome, TaskError> {
+    let task = read_task(alloc, case.line.as_bytes())?;
+    let desk = desk_of(alloc, case.files, case.fails)?;
+    let setup = whole(alloc)?;
+    Ok(run_in(alloc, 1, &task, &setup, layouts, case.verdicts, desk)?)
+}
+
+// What a run begins with that stores whole.
+fn whole(alloc: Global) -> Result<Setup, NoMemory>
+    ensures { IfOk result (λ setup. has_newline setup.work ≡ false) }
 {
-    let setup = Setup {
+    Ok(Setup {
         work: Text::copy(alloc, "w")?,
         stamp: 1_700_000_000_000_000,
         chunk: 0,
-    };
-    run_in(alloc, number, task, &setup, layouts, verdicts, desk)
+    })
 }
 
 const UUID: &str = "c0ffee00-0000-4000-8000-000000000001";
@@ -123,36 +126,23 @@ fn noted(alloc: Global, key: KeyRef<'_>, notes: &[&str]) -> Result<Layouts, NoMe
     book.current(alloc, key, UUID)
 }
 
-/// The same as task 1, where these lines of notes say which layouts the remote has.
-pub fn run_noted(
-    alloc: Global,
-    task: &Task,
-    notes: &[&str],
-    verdicts: &[Verdict],
-    desk: MemDesk,
-) -> Result<Outcome, NoMemory>
-    requires { IsTask task.now }
-{
+/// The case as task 1, where these lines of notes say which layouts the remote has.
+pub fn run_noted(alloc: Global, notes: &[&str], case: &Case<'_>) -> Result<Outcome, TaskError> {
+    let task = read_task(alloc, case.line.as_bytes())?;
     let layouts = noted(alloc, task.key.view(), notes)?;
-    run_over(alloc, 1, task, layouts.view(), verdicts, desk)
+    run_over(alloc, layouts.view(), case)
 }
 
-/// The task as task 1, stored in chunks of that many bytes.
-pub fn run_chunks(
-    alloc: Global,
-    task: &Task,
-    chunk: u64,
-    verdicts: &[Verdict],
-    desk: MemDesk,
-) -> Result<Outcome, NoMemory>
-    requires { IsTask task.now }
-{
+/// The case as task 1, stored in chunks of that many bytes.
+pub fn run_chunks(alloc: Global, chunk: u64, case: &Case<'_>) -> Result<Outcome, TaskError> {
+    let task = read_task(alloc, case.line.as_bytes())?;
+    let desk = desk_of(alloc, case.files, case.fails)?;
     let setup = Setup {
         work: Text::copy(alloc, "w")?,
         stamp: 5,
         chunk,
     };
-    run_in(alloc, 1, task, &setup, &[], verdicts, desk)
+    Ok(run_in(alloc, 1, &task, &setup, &[], case.verdicts, desk)?)
 }
 
 fn run_in(
@@ -194,18 +184,28 @@ fn told(
     })
 }
 
-/// The case as task 1.
-pub fn run(alloc: Global, case: &Case<'_>) -> Result<Outcome, Fail> {
-    let task = read_task(alloc, case.line.as_bytes())?;
-    let desk = desk_of(alloc, case.files, case.fails)?;
-    Ok(run_on(alloc, 1, &task, case.verdicts, desk)?)
+/// The case as task 1, where the remote is known to have no layout.
+pub fn run(alloc: Global, case: &Case<'_>) -> Result<Outcome, TaskError> {
+    run_over(alloc, &[], case)
 }
 
-/// What the file holds, or a dash where there is none.
-pub fn held(alloc: Global, desk: &MemDesk, name: &str) -> Result<String, AllocError> {
-    match desk.content(name) {
-        Some(bytes) => String::from_utf8_lossy(alloc, bytes.view()),
-        None => String::from_str(alloc, "-"),
+impl Outcome {
+    /// Whether the file holds this in the end; a dash stands for no file.
+    pub fn holds(&self, name: &str, want: &str) -> bool {
+        match self.desk.content(name) {
+            Some(bytes) => bytes.view() == want.as_bytes(),
+            None => want == "-",
+        }
+    }
+
+    /// The first of these files that holds something else in the end; no name where there is none.
+    pub fn other<'a>(&self, left: &[(&'a str, &'a str)]) -> &'a str {
+        for (name, want) in left {
+            if !self.holds(name, want) {
+                return name;
+            }
+        }
+        ""
     }
 }
 

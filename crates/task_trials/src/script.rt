@@ -5,7 +5,7 @@ ghost use Rattle.annex_model.specs.Turns.{turn_of};
 ghost use Rattle.journal_model.specs.Projection.{IsNamed};
 ghost use Rattle.talk_serial.specs.Requests.{message_of};
 ghost use Rattle.task_asker.specs.Askings.{Asking, Noting, AskAdds, NoteAdds, IsSameTask, names_in_line, are_layouts};
-ghost use Rattle.task_tests.specs.Scripts.{pair_of, note_of, can_have};
+ghost use Rattle.task_trials.specs.Scripts.{pair_of, note_of, can_have};
 
 use ann_key::NoMemory;
 use chunk_log::Layouts;

@@ -7,7 +7,7 @@ use Rattle.annex_model.specs.Talks.{is_same}
 use Rattle.journal_model.specs.declared.verdict.Verdict.{Verdict}
 use Rattle.journal_model.specs.declared.verdict.Verdict.TheVariants.{Done, Failed, Absent, Unknown, Unsupported, Ended, Unsent}
 use Rattle.journal_model.specs.Projection.{IsNamed}
-use Rattle.task_tests.specs.Scripts.{can_have, can_be_done, can_fail, is_question}
+use Rattle.task_trials.specs.Scripts.{can_have, can_be_done, can_fail, is_question}
 
 same_bytes : (bytes : List ℕ) → bytes_eq bytes bytes ≡ true
 same_bytes bytes = (bytes_eq-Decides bytes bytes).1 refl
