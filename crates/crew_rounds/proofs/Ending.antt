@@ -1,0 +1,59 @@
+-- The main thread's pass, where it ended the child.
+use Rattle.std.proofs.Common.{◌≡◌, ℕ, ◌<◌, List, [], ◌∷◌, ◌++◌, refl, sym, ap, subst, ◌∙◌, true, false, inl, inr, length, drop, arith}
+use Rattle.std.specs.Prelude.{map}
+use Rattle.std.specs.List.{list_all}
+use Rattle.hall.specs.Passes.{HallValue, IsPassOf, seen_of}
+use Rattle.journal_model.specs.declared.verdict.Why.TheVariants.{Memory}
+use Rattle.journal_model.specs.declared.verdict.Verdict.TheVariants.{Ended}
+use Rattle.journal_model.specs.declared.entry.What.{What}
+use Rattle.journal_model.specs.declared.entry.What.TheVariants.{Claim, End, Verdict as Settled}
+use Rattle.journal_model.specs.declared.entry.Entry.{Entry}
+use Rattle.journal_model.specs.declared.opening.Opening.{Opening}
+use Rattle.journal_model.specs.Due.{ended_jobs}
+use Rattle.journal_model.specs.Journal.{open_jobs}
+use Rattle.journal_model.specs.Legality.{claims}
+use Rattle.journal_model.specs.Makers.{is_taken_by}
+use Rattle.journal_model.specs.Shares.{Moved, makes_only}
+use Rattle.journal_model.proofs.Looks.{same, true_not_false}
+use Rattle.gathering.specs.Posts.{Post, Ender, gives_up, makes, tagged_crew}
+use Rattle.gathering.specs.Rounds.{CorePass, KeepsPost, since}
+use Rattle.gathering.proofs.Halls.{drop_start}
+use Rattle.gathering.proofs.Rounding.{unclaiming_only}
+use Rattle.link_roles.specs.Doors.{Ends}
+use Rattle.link_roles.proofs.Roles.{moved_by, moved_on}
+
+verdicts_given_up : (c : ℕ) (jobs : List ℕ) → list_all (gives_up c) (map (λ j. Settled c j (Ended Memory)) jobs) ≡ true
+verdicts_given_up c [] = refl
+verdicts_given_up c (j ∷ jobs) = rw (same c, verdicts_given_up c jobs) refl
+
+end_given_up : (past : List Entry) (c : ℕ) → list_all (gives_up c) (End c Memory ∷ ended_jobs past c Memory) ≡ true
+end_given_up past c = rw (same c, verdicts_given_up c (open_jobs past c)) refl
+
+
+-- it ended the child or found it ended
+gave_up : {o : Opening} {n c : ℕ} {old new : List Entry} → Ends o n false old new c Memory → Moved n false (gives_up c) (gives_up c) old new (Unit {0}) (Unit {0})
+gave_up {c = c} (inl s) = moved_by s (end_given_up s.past c) (λ none u. tt)
+gave_up (inr s) = moved_on s.0 (λ none u. tt)
+
+claim_not_given_up : (c t : ℕ) (w : What) → claims t w ≡ true → gives_up c w ≡ false
+claim_not_given_up c t (Claim task child) h = refl
+claim_not_given_up c t w h = absurd cc
+
+-- so it keeps the post of who may end the child
+pub ender_keeps : (o : Opening) (crew : ℕ → Post) (c : ℕ) (q : CorePass) → 0 < q.number → crew q.number ≡ Ender c → Ends o q.number false q.start (seen_of q) c Memory → KeepsPost crew q
+ender_keeps o crew c q pos post ends = record {
+  number = pos;
+  only = only;
+  answered = λ t h. true_not_false (is_taken_by (since q) q.number t) h
+      (unclaiming_only crew q only (λ u w k. subst (λ (p : Post). makes p w ≡ false) (sym post) (claim_not_given_up c u w k)) t);
+}
+  where
+    m : Moved q.number false (gives_up c) (gives_up c) q.start (seen_of q) (Unit {0}) (Unit {0})
+    m = gave_up ends
+
+    new_is : since q ≡ m.more
+    new_is = ap (λ (x : List Entry). drop (length q.start) x) m.is ∙ drop_start q.start m.more
+
+    only : makes_only (makes (crew q.number)) q.number (since q) ≡ true
+    only = subst (λ (x : List Entry). makes_only (makes (crew q.number)) q.number x ≡ true) (sym new_is)
+        (subst (λ (p : Post). makes_only (makes p) q.number m.more ≡ true) (sym post) m.own)

@@ -1,0 +1,4 @@
+pub mod Backs
+pub mod Outcomes
+pub mod Settled
+pub mod Tagged

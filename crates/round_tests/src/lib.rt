@@ -1,0 +1,11 @@
+//! Tests of rounds in threads, over children in memory that answer when they are asked.
+#![tactic(auto)]
+
+#[cfg(test)]
+mod children;
+#[cfg(test)]
+mod openings;
+#[cfg(test)]
+mod rounds;
+#[cfg(test)]
+mod tagged;
