@@ -1,16 +1,15 @@
 -- What came back of the roles of a round over a tagged child.
-use Rattle.std.proofs.Common.{◌≡◌, ℕ, ◌+◌, ◌<◌, List, [], ◌∷◌, map, Bool, true, false, refl, sym, ap, subst, ◌∙◌, zero, suc, Some, arith, slice_get}
+use Rattle.std.proofs.Common.{◌≡◌, ℕ, ◌+◌, ◌<◌, List, [], ◌∷◌, map, true, false, refl, sym, subst, zero, suc}
 use Rattle.std.specs.Prelude.{All}
 use Rattle.std.specs.List.{list_any}
 use Rattle.std.proofs.lemmas.List.Elements.{All-nil, All-cons, All-head, All-tail}
-use Rattle.hall.specs.Passes.{HallValue, IsPassOf, seen_of}
+use Rattle.hall.specs.Passes.{HallValue, IsPassOf}
 use Rattle.journal_model.specs.declared.entry.Entry.{Entry}
 use Rattle.journal_model.specs.declared.opening.Opening.{Opening}
 use Rattle.journal_model.specs.Halves.{EarValue, MouthValue, EarWired, MouthWired, IsSameEar, IsSameMouth}
 use Rattle.gathering.specs.Pairs.{Pairwise}
 use Rattle.gathering.specs.Posts.{Post, Ear, Mouth}
 use Rattle.gathering.specs.Rounds.{CorePass, EarEnds, MouthEnds}
-use Rattle.gathering.specs.Tasks.{IsThrough}
 use Rattle.gathering.proofs.Ending.{stayed_ear, stayed_mouth}
 use Rattle.task_run.specs.declared.setup.Setup.{Setup}
 use Rattle.lone_work.specs.Works.{DeskTells}

@@ -1,11 +1,11 @@
 -- The hall of a round over a tagged child is closed.
-use Rattle.std.proofs.Common.{◌≡◌, ℕ, suc, ◌+◌, List, [], ◌∷◌, ◌++◌, map, cond, true, false, ◌==◌, refl, sym, ap, subst, ◌∙◌, Some, length, arith, append-nil, slice_get, eq-eqb}
+use Rattle.std.proofs.Common.{◌≡◌, ℕ, suc, ◌+◌, List, [], ◌∷◌, ◌++◌, true, ◌==◌, refl, sym, ap, subst, ◌∙◌, Some, length, arith, append-nil, slice_get, eq-eqb}
 use Rattle.std.specs.Prelude.{All}
 use Rattle.std.specs.List.{range_with_len}
 use Rattle.std.proofs.lemmas.List.Elements.{All-nil, All-cons, All-head, All-tail}
 use Rattle.hall.specs.declared.view.Link.{Link}
 use Rattle.hall.specs.Log.{flat, groups_by}
-use Rattle.hall.specs.Passes.{HallValue, HasAllOf, IsPassOf, seen_of}
+use Rattle.hall.specs.Passes.{HallValue, HasAllOf, IsPassOf}
 use Rattle.hall.proofs.Logs.{get-from_all}
 use Rattle.journal_model.specs.declared.entry.Entry.{Entry}
 use Rattle.journal_model.specs.declared.opening.Opening.{Opening}
@@ -120,6 +120,6 @@ module _ (h : HallValue Entry Opening) (opening : Opening) (start : List Entry) 
       (if_done o (closes h setup l l' passes final fixed desks desks' over
       (subst (λ (x : List Entry). TaggedCan h.fixed x l) (sym start_is) (subst (λ (x : Opening). TaggedCan x start l) (sym fixed_is) can))) left)))
 
-  pub closes_kept : {Same : Type 0} (before : List CorePass) → AreFresh h 1 before → IfKept o ((passes ≡ before) × Same) → IfKept o ((final ≡ start) × Same)
-  closes_kept before fresh kept =
+  pub closes_kept : (Same : Type 0) (before : List CorePass) → AreFresh h 1 before → IfKept o ((passes ≡ before) × Same) → IfKept o ((final ≡ start) × Same)
+  closes_kept Same before fresh kept =
       if_kept o (λ same. (kept_same h 1 passes final fixed over (subst (AreFresh h 1) (sym same.0) fresh) ∙ start_is, same.1)) kept

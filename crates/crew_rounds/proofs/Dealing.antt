@@ -23,9 +23,9 @@ pub all_pushed : {W : Type 0} (ws vs : List W) (w : W) → vs ≡ ws ++ w ∷ []
 all_pushed ws vs w is P all h = subst (All P) (sym is) (all_snoc P ws w all h)
 
 -- the last that came back is taken back before the others
-pub taken_back : {E X : Type 0} (f : E → X) (bs cs : List (Back E)) (b : Back E) (old new all : List X) → bs ≡ cs ++ b ∷ [] → new ≡ old ++ f (role_of b) ∷ []
+pub taken_back : {E X : Type 0} (f : E → X) (bs cs : List (Back E)) (b : Back E) (r : E) (old new all : List X) → bs ≡ cs ++ b ∷ [] → r ≡ role_of b → new ≡ old ++ f r ∷ []
     → old ++ map f (reverse (roles_of bs)) ≡ all → new ++ map f (reverse (roles_of cs)) ≡ all
-taken_back {E} {X} f bs cs b old new all popped pushed is =
-    ap (λ (l : List X). l ++ map f (reverse (roles_of cs))) pushed ∙ append_assoc old (f (role_of b) ∷ []) (map f (reverse (roles_of cs)))
+taken_back {E} {X} f bs cs b r old new all popped role pushed is =
+    ap (λ (l : List X). l ++ map f (reverse (roles_of cs))) (pushed ∙ ap (λ (x : E). old ++ f x ∷ []) role) ∙ append_assoc old (f (role_of b) ∷ []) (map f (reverse (roles_of cs)))
     ∙ ap (λ (l : List E). old ++ map f l) (sym (reverse-append (roles_of cs) (role_of b ∷ []))) ∙ ap (λ (l : List E). old ++ map f (reverse l)) (sym (map-append role_of cs (b ∷ [])))
     ∙ ap (λ (l : List (Back E)). old ++ map f (reverse (roles_of l))) (sym popped) ∙ is

@@ -1,8 +1,8 @@
 -- The main thread's pass, where it ended the child.
-use Rattle.std.proofs.Common.{◌≡◌, ℕ, ◌<◌, List, [], ◌∷◌, ◌++◌, refl, sym, ap, subst, ◌∙◌, true, false, inl, inr, length, drop, arith}
+use Rattle.std.proofs.Common.{◌≡◌, ℕ, ◌<◌, List, [], ◌∷◌, refl, sym, ap, subst, ◌∙◌, true, false, inl, inr, length, drop}
 use Rattle.std.specs.Prelude.{map}
 use Rattle.std.specs.List.{list_all}
-use Rattle.hall.specs.Passes.{HallValue, IsPassOf, seen_of}
+use Rattle.hall.specs.Passes.{seen_of}
 use Rattle.journal_model.specs.declared.verdict.Why.TheVariants.{Memory}
 use Rattle.journal_model.specs.declared.verdict.Verdict.TheVariants.{Ended}
 use Rattle.journal_model.specs.declared.entry.What.{What}
@@ -15,7 +15,7 @@ use Rattle.journal_model.specs.Legality.{claims}
 use Rattle.journal_model.specs.Makers.{is_taken_by}
 use Rattle.journal_model.specs.Shares.{Moved, makes_only}
 use Rattle.journal_model.proofs.Looks.{same, true_not_false}
-use Rattle.gathering.specs.Posts.{Post, Ender, gives_up, makes, tagged_crew}
+use Rattle.gathering.specs.Posts.{Post, Ender, gives_up, makes}
 use Rattle.gathering.specs.Rounds.{CorePass, KeepsPost, since}
 use Rattle.gathering.proofs.Halls.{drop_start}
 use Rattle.gathering.proofs.Rounding.{unclaiming_only}
@@ -28,7 +28,6 @@ verdicts_given_up c (j ∷ jobs) = rw (same c, verdicts_given_up c jobs) refl
 
 end_given_up : (past : List Entry) (c : ℕ) → list_all (gives_up c) (End c Memory ∷ ended_jobs past c Memory) ≡ true
 end_given_up past c = rw (same c, verdicts_given_up c (open_jobs past c)) refl
-
 
 -- it ended the child or found it ended
 gave_up : {o : Opening} {n c : ℕ} {old new : List Entry} → Ends o n false old new c Memory → Moved n false (gives_up c) (gives_up c) old new (Unit {0}) (Unit {0})

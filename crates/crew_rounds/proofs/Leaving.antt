@@ -1,10 +1,9 @@
 -- What the roles of a round over a tagged child leave, put together.
-use Rattle.std.proofs.Common.{◌≡◌, ℕ, ◌+◌, ◌<◌, List, [], ◌∷◌, ◌++◌, map, Bool, true, false, refl, sym, ap, subst, ◌∙◌, zero, suc, Some, arith, slice_get, length, inl, inr, append-nil}
+use Rattle.std.proofs.Common.{◌≡◌, ℕ, ◌+◌, List, [], ◌∷◌, ◌++◌, map, Bool, true, false, refl, sym, ap, subst, ◌∙◌, zero, suc, Some, arith, slice_get, length, inl, inr, append-nil}
 use Rattle.std.specs.Prelude.{◌||◌, All, reverse}
 use Rattle.std.specs.List.{list_any}
 use Rattle.std.proofs.lemmas.List.{length-map, reverse-reverse}
 use Rattle.std.proofs.lemmas.List.Elements.{All-nil, All-cons, All-head, All-tail}
-use Rattle.annex_model.specs.Lines.{has_newline}
 use Rattle.task_text.specs.declared.task.Task.{Task}
 use Rattle.hall.specs.Log.{flat}
 use Rattle.hall.specs.Passes.{HallValue, IsPassOf, seen_of}
@@ -14,7 +13,7 @@ use Rattle.journal_model.specs.declared.verdict.Why.TheVariants.{Memory}
 use Rattle.journal_model.specs.Journal.{is_ended, is_started}
 use Rattle.journal_model.specs.Halves.{EarValue, MouthValue}
 use Rattle.gathering.specs.Pairs.{Pairwise}
-use Rattle.gathering.specs.Posts.{Post, Ear, Mouth, tagged_crew}
+use Rattle.gathering.specs.Posts.{Mouth, tagged_crew}
 use Rattle.gathering.specs.Rounds.{CorePass, KeepsPost}
 use Rattle.gathering.proofs.Ending.{stayed_keeps}
 use Rattle.link_roles.specs.Doors.{Ends}
@@ -105,7 +104,7 @@ module _ {A B W K : Type 0} (ep : A → CorePass) (ee : A → EarValue) (mp : B 
     pub worked : (last : CorePass) → list_any has_run bs ≡ true → HasThrough h (ee a).child (last ∷ ep (role_of a') ∷ mp (role_of b') ∷ map wp (reverse (roles_of bs)))
     worked last some =
         let it = through_one wp (λ w. tells (wd w)) wran h setup (ee a).child Placed k.works (reverse ws) (reverse bs) (all_reverse Placed ws k.placed)
-            (pairwise_reverse (CameBack wran) ws bs all) (any_reverse has_run bs ∙ some) in
+        (pairwise_reverse (CameBack wran) ws bs all) (any_reverse has_run bs ∙ some) in
         record {
           place = suc (suc (suc it.place));
           pass = it.pass;
@@ -171,8 +170,8 @@ module _ {A B W K : Type 0} (ep : A → CorePass) (ee : A → EarValue) (mp : B 
     length_left : (last : CorePass) → length (last ∷ ep (role_of a') ∷ mp (role_of b') ∷ map wp (reverse (roles_of bs))) ≡ length passes
     length_left last =
         let same : length (map wp (reverse (roles_of bs))) ≡ length (map wp (reverse ws)) =
-            ap length (roles_order wp bs) ∙ length-map (reverse bs) (λ x. wp (role_of x)) ∙ sym (pairwise_length (CameBack wran) (reverse ws) (reverse bs) (pairwise_reverse (CameBack wran) ws bs all))
-            ∙ sym (length-map (reverse ws) wp) in
+        ap length (roles_order wp bs) ∙ length-map (reverse bs) (λ x. wp (role_of x)) ∙ sym (pairwise_length (CameBack wran) (reverse ws) (reverse bs) (pairwise_reverse (CameBack wran) ws bs all))
+        ∙ sym (length-map (reverse ws) wp) in
         ap (λ (n : ℕ). suc (suc (suc n))) same ∙ sym (ap length k.passes_are)
 
     last_own : (last : CorePass) (d : ℕ) (o : Outcome) → Settles h d (list_any has_run bs) (has_run a' || has_run b') main last o → IsPassOf h last

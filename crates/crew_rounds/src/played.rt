@@ -47,8 +47,11 @@ struct Rest<K: Drop> {
 
 type Roles<'a, I, O, K, R> = Crew<EarRole<'a, O, R>, MouthRole<'a, I, R>, SharedWorker<'a, K, R>>;
 
-type Backs<'a, I, O, K, R> =
-    Crew<Back<EarRole<'a, O, R>>, Back<MouthRole<'a, I, R>>, Back<SharedWorker<'a, K, R>>>;
+type Backs<'a, I, O, K, R> = Crew<
+    Back<EarRole<'a, O, R>>,
+    Back<MouthRole<'a, I, R>>,
+    Back<SharedWorker<'a, K, R>>,
+>;
 
 type Rooms<'a, K, R> = (Room<SharedWorker<'a, K, R>>, Vec<SharedWorker<'a, K, R>>);
 
@@ -138,10 +141,14 @@ fn gather<'a, I: Sink, O: Source, K: Desk + Drop, R: Wait>(
         workers,
     } = backs;
     let EarRole {
-        pass: second, ear, ..
+        pass: second,
+        ear,
+        ..
     } = ear.role();
     let MouthRole {
-        pass: third, mouth, ..
+        pass: third,
+        mouth,
+        ..
     } = mouth.role();
     passes.push_reserved(main);
     passes.push_reserved(second);
@@ -193,11 +200,7 @@ pub(crate) fn play<
     O: Source + Send + Drop,
     K: Desk + Send + Drop,
     R: Threads + Wait + Sync,
->(
-    site: &Site<'a, R>,
-    most: usize,
-    kit: Kit<I, O, K>,
-) -> (Kit<I, O, K>, Outcome)
+>(site: &Site<'a, R>, most: usize, kit: Kit<I, O, K>) -> (Kit<I, O, K>, Outcome)
     requires desks { (vec_len kit.desks ≤ 64) × (vec_len kit.passes ≡ 3 + vec_len kit.desks) }
     requires fresh { AreFresh site.now.hall.now 1 kit.passes.items }
     requires child { site.now.child ≡ kit.link.ear.child }

@@ -1,10 +1,9 @@
-use Rattle.std.proofs.Common.{◌≡◌, ℕ, ◌∙◌, refl, sym, ap, subst, false, length, arith}
+use Rattle.std.proofs.Common.{◌≡◌, ℕ, ◌∙◌, refl, sym, ap, subst, false, arith}
 use Rattle.std.specs.Prelude.{◌||◌}
 use Rattle.std.specs.List.{list_any}
 use Rattle.journal_model.specs.Halves.{EarValue, MouthValue}
 use Rattle.lone_work.specs.Works.{desk_tells}
 use Rattle.crew_round.specs.BackRole.{has_run}
-use Rattle.crew_round.specs.Back.{CameBack}
 use Rattle.crew_roles.specs.Roles.{CanHold, CanWork, EarRan, MouthRan, WorkerRan}
 use Rattle.crew_rounds.specs.Settled.{Settles}
 use Rattle.crew_rounds.specs.Tagged.{AreFresh, TaggedCan, link_of}
@@ -22,8 +21,7 @@ run_crew-backs-requires-clause-can g c κs within =
     let h = c.args.site.now.hall.now in
     let fresh = subst (AreFresh h 1) k.passes c.requires.fresh in
     let ear_child = ap (λ (e : EarValue). e.child) k.link.0 in
-    let mouth_child = ap (λ (m : MouthValue). m.child) k.link.1 ∙ c.args.kit.link.one_child in
-    (
+    let mouth_child = ap (λ (m : MouthValue). m.child) k.link.1 ∙ c.args.kit.link.one_child in (
       subst (λ (n : ℕ). CanHold c.cast-crew.result.0.ear.hall.now c.cast-crew.result.0.ear.pass n) (sym ear_child) (may_hold h _ _ _ k.holders.0 fresh.1.0.0 c.requires.can.serves.started),
       subst (λ (n : ℕ). CanHold c.cast-crew.result.0.mouth.hall.now c.cast-crew.result.0.mouth.pass n) (sym mouth_child) (may_hold h _ _ _ k.holders.1 fresh.1.1.0.0 c.requires.can.serves.started),
       may_all (λ w. w.pass) h (λ w. (w.hall.now ≡ h) × (w.tasks.now ≡ c.args.site.now.tasks.now) × (w.setup.now ≡ c.args.site.now.setup.now) × (w.way.child ≡ c.args.site.now.child))
