@@ -1,4 +1,8 @@
 // A round over a child that answers by its cues, and what it left.
+ghost use Rattle.std.specs.Prelude.{◌≡◌, ◌≤◌, ◌<◌, [], IfOk, vec_len, false};
+ghost use Rattle.annex_model.specs.Lines.{has_newline};
+ghost use Rattle.crew_rounds.specs.Tagged.{TaggedCan, link_of};
+
 use crate::children::greeting;
 use crate::openings::opening;
 use ann_key::{NoMemory, Text};
@@ -19,15 +23,19 @@ use task_run::Setup;
 pub(crate) type Left<'a, R> = TaggedRound<CueInlet<'a, R>, CueOutlet<'a, R>, MemDesk>;
 
 // Desks in memory, without files.
-fn desks(alloc: Global, count: usize) -> Result<Vec<MemDesk>, NoMemory> {
+fn desks(alloc: Global, count: usize) -> Result<Vec<MemDesk>, NoMemory>
+    ensures { IfOk result (λ v. vec_len v ≡ count) }
+{
     let mut all = Vec::new(alloc);
-    for _ in 0..count {
+    for _i in 0..count {
         all.push(MemDesk::new(alloc, Vec::new(alloc), Vec::new(alloc))?)?;
     }
     Ok(all)
 }
 
-fn setup(alloc: Global) -> Result<Setup, NoMemory> {
+fn setup(alloc: Global) -> Result<Setup, NoMemory>
+    ensures { IfOk result (λ s. (has_newline s.work ≡ false) × (s.chunk ≡ 0)) }
+{
     Ok(Setup {
         work: Text::copy(alloc, "work")?,
         stamp: 0,
@@ -46,6 +54,9 @@ where
     P::Inlet: Drop,
     P::Outlet: Drop,
     P::Stub: Drop,
+    requires { core.old.journal ≡ [] }
+    ensures can { TaggedCan core.new.opening core.new.journal (link_of result.ear result.mouth) }
+    ensures opening { core.new.opening ≡ core.old.opening }
 {
     match greet(alloc, programs, "child", core, 0, true, Mode::Serve) {
         Greeting::Ready {
@@ -72,7 +83,9 @@ pub(crate) fn round<'a, R: Threads + Wait + Abort + Sync>(
     lines: &[String],
     cues: Vec<Cue>,
     workers: usize,
-) -> Result<Left<'a, R>, NoMemory> {
+) -> Result<Left<'a, R>, NoMemory>
+    requires { (0 < workers) × (workers ≤ 64) }
+{
     let mut all = greeting(alloc)?;
     for cue in cues {
         all.push(cue)?;
