@@ -129,10 +129,6 @@ asked_grown o {n} {a} {old} {mid} c t q x h = grows_asked o c t q x refl refl h 
 
 -- ---- its verdict is one that the request may have
 
-answer_none : (why : Option Why) (q : HostMessage) → IsNamed q (lost_as why)
-answer_none None q = tt
-answer_none (Some why) q = tt
-
 job_named : (o : Opening) (past more : List Entry) (n c t job : ℕ) (q : HostMessage) (verdict : Verdict) → IsJob n c t q job past → job < 2 ^ 64 → Legal o past
     → Legal o (past ++ record { by = n; what = Ask c job t (on_wire past c job (host_line q)) } ∷ more)
     → verdict_of (past ++ record { by = n; what = Ask c job t (on_wire past c job (host_line q)) } ∷ more) c job ≡ Some verdict → IsNamed q verdict
@@ -157,9 +153,6 @@ settled_named o o' n m a b old mid new c t q j v same_o small before after h s e
     job_named o k.past s.more n c t j q v k.found.0 small (k.legal before)
     (subst (λ (l : List Entry). Legal o l) is (subst (λ (x : Opening). Legal x new) same_o after))
     (subst (λ (l : List Entry). verdict_of l c j ≡ Some v) is e)
-
-pub lost_named : (why : Option Why) (q : HostMessage) → IsNamed q (lost_as why)
-lost_named why q = answer_none why q
 
 -- what a role made, as far as the child is concerned
 pub grows_child : {n : ℕ} {a : Bool} {makes mine : What → Bool} {x y : List Entry} → Grows n a makes x y → Moved n a makes mine x y (Unit {0}) (Unit {0})

@@ -1,16 +1,16 @@
 -- What an ear's steps come to.
 use Rattle.std.proofs.Common.{◌≡◌, ◌<◌, ◌≤◌, ℕ, List, [], ◌∷◌, ◌++◌, refl, sym, ap, subst, ◌∙◌, Bool, true, false, not, inl, inr, length, arith}
-use Rattle.std.specs.Prelude.{IfSome, IsTrue, map, ◌⊎◌, ◌||◌}
+use Rattle.std.specs.Prelude.{IfSome, IsTrue, map, ◌⊎◌}
 use Rattle.journal_model.specs.declared.verdict.Why.{Why}
 use Rattle.journal_model.specs.declared.verdict.Why.TheVariants.{Eof, ReadFault, LongLine, Full}
 use Rattle.journal_model.specs.declared.verdict.Verdict.TheVariants.{Ended}
 use Rattle.journal_model.specs.declared.entry.What.TheVariants.{Got, End}
 use Rattle.journal_model.specs.declared.entry.Entry.{Entry}
 use Rattle.journal_model.specs.declared.opening.Opening.{Opening}
-use Rattle.journal_model.specs.Journal.{got_from, has_spoken, is_started, is_ended, open_jobs}
+use Rattle.journal_model.specs.Journal.{has_spoken, is_started, is_ended, open_jobs}
 use Rattle.journal_model.specs.Legality.{is_empty}
-use Rattle.journal_model.proofs.Looks.{same, any-append}
-use Rattle.host_core.specs.Steps.{group_of, is_awaited, unless_shut}
+use Rattle.journal_model.proofs.Looks.{same}
+use Rattle.host_core.specs.Steps.{is_awaited}
 use Rattle.link_roles.specs.declared.events.Listening.{Listening}
 use Rattle.link_roles.specs.declared.events.Listening.TheVariants.{Read as ToRead, Rest as ToRest, Over as IsOver}
 use Rattle.journal_model.specs.Due.{due_by}
@@ -128,20 +128,9 @@ ended_listen o n c journal s e = (false, (rw (s, e) refl))
 pub ended_fetch : (o : Opening) (n c : ℕ) (journal : List Entry) → is_started journal c ≡ true → is_ended journal c ≡ true → Says o n journal (Fetch c) Over
 ended_fetch o n c journal s e = (false, (rw (s, e) refl))
 
--- a line was fed, so the child has spoken
-pub takes_spoken : (o : Opening) (n : ℕ) (a : Bool) (old new : List Entry) (c : ℕ) (line : List ℕ) (b : Bool) → b ≡ true → Takes o n a old new c line b → has_spoken new c ≡ true
-takes_spoken o n a old new c line b t s' =
-    let s = subst (λ (x : Bool). Takes o n a old new c line x) t s' in
-    let group : List Entry = group_of o s.past n (Got c line) in
-    let own : has_spoken group c ≡ true = rw (same c) refl in
-    ap (λ (j : List Entry). has_spoken j c) s.is ∙ any-append (got_from c) s.past group ∙ ap (λ (x : Bool). has_spoken s.past c || x) own ∙ or_true (has_spoken s.past c)
-
 abbrev is_read_reply : Reply → Bool
 is_read_reply Read = true
 is_read_reply r = false
-
-shut_reads : (shut : Bool) → unless_shut shut Read ≡ Read
-shut_reads shut = refl
 
 settled_by : (o : Opening) (n c : ℕ) (journal : List Entry) → is_started journal c ≡ true → (r : Reply) → is_read_reply r ≡ false → Says o n journal (Listen c) r
     → (is_ended journal c ≡ true) ⊎ (has_spoken journal c ≡ true)

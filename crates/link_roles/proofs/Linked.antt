@@ -24,10 +24,6 @@ use Rattle.link_roles.proofs.Turns.{InTurn}
 
 -- ---- the kinds
 
-not_true : (b : Bool) → not b ≡ true → b ≡ false
-not_true false h = refl
-not_true true h = absurd cc
-
 one : (a b : Bool) → (a && b) ≡ true → a ≡ true
 one true b h = refl
 one false b h = absurd cc

@@ -5,7 +5,7 @@ use Rattle.std.specs.List.{list_all, list_any}
 use Rattle.journal_model.specs.declared.entry.What.{What}
 use Rattle.journal_model.specs.declared.entry.Entry.{Entry}
 use Rattle.journal_model.specs.declared.opening.Opening.{Opening}
-use Rattle.journal_model.specs.Journal.{any, starts, is_started, ends, is_ended, asks, asked_jobs}
+use Rattle.journal_model.specs.Journal.{any, starts, is_started, asks, asked_jobs}
 use Rattle.journal_model.specs.Legality.{Legal}
 use Rattle.journal_model.specs.Due.{made_by, due_by}
 use Rattle.journal_model.proofs.Looks.{both, same, any-append, each_of-append}
@@ -217,6 +217,3 @@ asked_on old more new c j e a =
 
 pub started_on : {n : ℕ} {a : Bool} {makes mine : What → Bool} {old new : List Entry} {P Q : Type 0} (c : ℕ) → Moved n a makes mine old new P Q → is_started old c ≡ true → is_started new c ≡ true
 started_on {old = old} {new = new} c s h = any_on (starts c) old s.more new s.is h
-
-pub ended_on : {n : ℕ} {a : Bool} {makes mine : What → Bool} {old new : List Entry} {P Q : Type 0} (c : ℕ) → Moved n a makes mine old new P Q → is_ended old c ≡ true → is_ended new c ≡ true
-ended_on {old = old} {new = new} c s h = any_on (ends c) old s.more new s.is h
