@@ -1,12 +1,14 @@
 -- What is left of a child's link when it is over, and of all children of a run, in their order.
-use Rattle.std.specs.Prelude.{ℕ, ◌≡◌, ◌+◌, Bool, false, List, [], ◌∷◌, ◌++◌, length, Option, Some, None, IsTrue}
+use Rattle.std.specs.Prelude.{ℕ, ◌≡◌, ◌+◌, ◌==◌, ◌||◌, not, Bool, true, false, List, [], ◌∷◌, ◌++◌, length, Option, Some, None, IsTrue}
+use Rattle.std.specs.List.{list_all}
 use Rattle.ann_outside.specs.Starts.{Starts}
 use Rattle.journal_model.specs.declared.entry.What.{What}
 use Rattle.journal_model.specs.declared.entry.What.TheVariants.{Start, NoStart}
 use Rattle.journal_model.specs.declared.entry.Entry.{Entry}
 use Rattle.journal_model.specs.Journal.{each_of}
 use Rattle.journal_model.specs.Wires.{Wired, Caused, is_heard_in_turn}
-use Rattle.journal_model.specs.Halves.{EarValue, MouthValue}
+use Rattle.journal_model.specs.Halves.{EarValue, MouthValue, LinkWired}
+use Rattle.journal_model.specs.Shares.{is_of_child}
 use Rattle.link_roles.specs.declared.wire.Wire.{Wire}
 use Rattle.link_roles.specs.Writings.{is_written_first}
 
@@ -61,13 +63,24 @@ IsOfStart starts n None = Unit {0}
 IsOfStart None n (Some number) = Unit {0}
 IsOfStart (Some xs) n (Some number) = number ≡ length xs + n
 
--- The wire's bytes are the journal's lines, its child's end and mute have their causes, each line was fed in its turn, each
--- request was written before a line answered it, its halves are those that the nth start gave, and both are closed.
+-- the main thread made all that the journal has of the child
+abbrev pub is_mains : List Entry → ℕ → Bool
+is_mains journal c = list_all (λ e. not (is_of_child c e.what) || e.by == 0) journal
+
+-- The halves are wired to the journal. Where the main thread served the child alone, each request was written before a line
+-- answered it.
+pub record IsHeld (journal : List Entry) (ear : EarValue) (mouth : MouthValue) : Type 0 where
+  pub link : LinkWired journal ear mouth
+  pub written : is_mains journal ear.child ≡ true → is_written_first journal ear.child ≡ true
+
+-- The wire's bytes are the journal's lines, its child's end and mute have their causes, each line was fed in its turn; where the
+-- main thread served the child alone, each request was written before a line answered it; its halves are those that the nth
+-- start gave, and both are closed.
 pub record IsWire (starts : Option Starts) (journal : List Entry) (n : ℕ) (wire : WireValue) : Type 0 where
   pub wired : Wired journal wire.child wire.given wire.taken wire.rest
   pub caused : Caused journal wire.child wire.left wire.read_faults wire.write_faults
   pub heard : IsTrue (is_heard_in_turn journal wire.child)
-  pub written : IsTrue (is_written_first journal wire.child)
+  pub written : is_mains journal wire.child ≡ true → IsTrue (is_written_first journal wire.child)
   pub inlet : IsOfStart starts n wire.inlet_number
   pub outlet : IsOfStart starts n wire.outlet_number
   pub closed : (wire.is_inlet_open ≡ false) × (wire.is_outlet_open ≡ false)

@@ -7,7 +7,7 @@ ghost use Rattle.journal_model.specs.Legality.{may_stop};
 ghost use Rattle.link_roles.specs.Writings.{LoneWired};
 ghost use Rattle.link_roles.specs.Alone.{Closes};
 ghost use Rattle.child_start.specs.Cores.{IsSameCore};
-ghost use Rattle.child_end.specs.Wires.{IsLaid, wire_value};
+ghost use Rattle.child_end.specs.Wires.{IsHeld, IsLaid, wire_value};
 
 use ann_outside::{Programs, Sink, Source};
 use host_core::Core;
@@ -19,6 +19,7 @@ pub fn close_child<I: Sink, O: Source>(link: &Lone<I, O>, core: &mut Core)
     requires idle { may_stop core.old.journal link.now.ear.child Closed ≡ true }
     ensures closes { Closes 0 link.now.ear.child core.old.journal core.new.journal }
     ensures wired { LoneWired core.old.journal link.now.ear link.now.mouth → LoneWired core.new.journal link.now.ear link.now.mouth }
+    ensures held { IsHeld core.old.journal link.now.ear link.now.mouth → IsHeld core.new.journal link.now.ear link.now.mouth }
     ensures core { IsSameCore core.old core.new }
 {
     let mut door = OwnDoor { core };

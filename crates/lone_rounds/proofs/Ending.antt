@@ -27,7 +27,7 @@ use Rattle.child_end.specs.Wires.{AreWires, IsWire, WireValue, came, came_in}
 use Rattle.child_end.specs.Programs.{AddsAll, HaveStarted as HaveStartedSo, Leaves, ProgramsValue, told}
 use Rattle.lone_rounds.specs.Starting.{AllOffer, AreSpent, children, is_any_start, is_elsewhere, is_offered, is_ready_untagged, is_spent, started_in}
 use Rattle.lone_rounds.specs.Rounds.{EndsClosed, RanAlone, ZeroAnswers, ends_for_memory, is_of_run, left_answer, start_untaken}
-use Rattle.lone_rounds.specs.Stints.{AnswersLeft, AreLinked, AreUpTo, Between, IsLinked, IsOver, Kept, MayHaveAsked, OneStart, Stint, TasksDone, answered_so, ear_of, main_entry, mouth_of}
+use Rattle.lone_rounds.specs.Stints.{AnswersLeft, AreLinked, AreUpTo, Between, IsLinked, IsOver, Kept, MayHaveAsked, OneStart, Spaced, Stint, TasksDone, answered_so, ear_of, main_entry, mouth_of}
 use Rattle.lone_rounds.proofs.Apart.{ended_on, ready_same, spent_on}
 use Rattle.lone_rounds.proofs.Growing.{apart, between_next, starts_none}
 use Rattle.lone_rounds.proofs.Leaving.{adds_both, adds_none, adds_one, kept_next, kept_still, rose_on, stays_none}
@@ -41,20 +41,22 @@ use Rattle.lone_rounds.proofs.Zeros.{rests_one}
 
 pub between_begin : (o : Opening) (setup : Setup) (may : Bool) (limit : ℕ) (journal : List Entry) (desk : DeskTells) → journal ≡ [] → Between o setup may limit 0 may journal desk desk
 between_begin o setup may limit journal desk none = subst (λ (j : List Entry). Between o setup may limit 0 may j desk desk) (sym none) record {
-  legal = record { stands = tt; nothing_due = refl };
+  spaced = record {
+    legal = record { stands = tt; nothing_due = refl };
+    slots = refl;
+    starts = refl;
+    offers = tt;
+    offered = and_true may;
+    ended = refl;
+    asks = refl;
+    rest = λ t. refl;
+    spent = inl refl;
+    untaken = refl;
+    few = tt;
+  };
   main = refl;
-  slots = refl;
-  starts = refl;
-  offers = tt;
-  offered = and_true may;
-  ended = refl;
-  asks = refl;
   done = done_nothing o setup limit [] desk;
-  rest = λ t. refl;
-  spent = inl refl;
   last = λ all. record { past = []; closings = []; is = refl; answered = refl; closed = refl };
-  untaken = refl;
-  few = tt;
 }
 
 pub kept_begin : (program : List ℕ) (journal : List Entry) (before : ProgramsValue) (wires : List WireValue) → journal ≡ [] → wires ≡ [] → Kept program journal before before wires
@@ -139,12 +141,11 @@ left_quiet past = go (any ends_for_memory past)
     go true = refl
     go false = refl
 
-module _ {o : Opening} {setup : Setup} {may : Bool} {limit made : ℕ} {offer : Bool} {old new : List Entry} {desk0 desk : DeskTells} (b : Between o setup may limit made offer old desk0 desk)
-    (all : made ≡ limit) (spent : AreSpent old) (a : AnswersLeft o old new (left_answer old)) (legal : Legal o new) where
-  abbrev more : List Entry
+module _ {o : Opening} {may : Bool} {made : ℕ} {offer : Bool} {old new : List Entry} (b : Spaced o may made offer old) (spent : AreSpent old) (a : AnswersLeft o old new (left_answer old)) (legal : Legal o new) where
+  abbrev pub more : List Entry
   more = answered_so (left_answer old) a.tasks
 
-  none : any is_any_start more ≡ false
+  pub none : any is_any_start more ≡ false
   none = left_starts (left_answer old) a.tasks
 
   children_are : children new ≡ children old
@@ -158,10 +159,9 @@ module _ {o : Opening} {setup : Setup} {may : Bool} {limit made : ℕ} {offer : 
       ∙ ready_same old more d (left_apart (left_answer old) a.tasks d) o b.legal (left_none (left_answer old) (offers d) (λ t. refl) (λ t. refl) a.tasks))
       (children old) (children_up_to (count is_start old) old b.few))
 
-  pub between_left : Between o setup may limit made offer new desk0 desk
-  between_left = record {
+  pub spaced_left : Spaced o may made offer new
+  spaced_left = record {
     legal = legal;
-    main = ap (are_by 0) a.is ∙ all-join (λ (e : Entry). e.by == 0) old more b.main (left_main (left_answer old) a.tasks);
     slots = ap (any is_elsewhere) a.is ∙ any-append is_elsewhere old more ∙ neither (any is_elsewhere old) (any is_elsewhere more) b.slots (left_none (left_answer old) is_elsewhere (λ t. refl) (λ t. refl) a.tasks);
     starts = ap (count is_any_start) a.is ∙ same_count (left_answer old) old more none ∙ b.starts;
     offers = subst (AllOffer may []) (sym a.is) (offers_both may [] old more b.offers (offers_none may old more none));
@@ -169,12 +169,36 @@ module _ {o : Opening} {setup : Setup} {may : Bool} {limit made : ℕ} {offer : 
     ended = ap (list_all (is_ended new)) children_are
         ∙ all-each (is_ended old) (is_ended new) (λ d k. ap (λ (j : List Entry). is_ended j d) a.is ∙ ended_on old more d k) (children old) b.ended;
     asks = ap (list_all (λ (e : Entry). is_of_run e.what)) a.is ∙ all-join (λ (e : Entry). is_of_run e.what) old more b.asks (left_all (left_answer old) is_of_run (λ t. refl) (λ t. refl) a.tasks);
-    done = done_now;
     rest = λ u. ap (λ (j : List Entry). is_busy j u) a.is ∙ left_rests (left_answer old) old a.tasks b.rest u;
     spent = inl (subst AreSpent (sym a.is) (still_spent (left_answer old) old more none spent));
-    last = λ claimed. last_now a.tasks a.is claimed;
     untaken = subst (λ (j : List Entry). failed_start j (start_untaken j) ≡ None) (sym a.is) (left_untaken (left_answer old) old a.tasks b.untaken);
     few = subst (λ (n : ℕ). AreUpTo n (came new)) (sym starts_same) (subst (AreUpTo (count is_start old)) (sym came_same) b.few);
+  }
+    where
+      came_same : came new ≡ came old
+      came_same = ap came a.is ∙ each_of-append came_in old more ∙ ap (λ (cs : List (Option ℕ)). came old ++ cs) (none_came more none) ∙ append-nil (came old)
+
+      starts_same : count is_start new ≡ count is_start old
+      starts_same = ap (count is_start) a.is ∙ count-append is_start old more ∙ (let n = count_none is_start more (left_none (left_answer old) is_start (λ t. refl) (λ t. refl) a.tasks) in omega (arith, n))
+
+  pub kept_left : {program : List ℕ} {start after : ProgramsValue} {wires : List WireValue} → Kept program old start after wires → Kept program new start after wires
+  kept_left k = kept_still k b.few new more a.is none (left_apart (left_answer old) a.tasks)
+
+  -- the tasks that were left are done by any desk, with no call
+  pub done_left : (setup : Setup) (limit : ℕ) (desk : DeskTells) → made ≡ limit → TasksDone o setup limit (old ++ more) more desk desk
+  done_left setup limit desk all = left_done (left_answer old) o setup limit (old ++ more) desk (left_quiet old) old a.tasks refl (b.starts ∙ all) spent refl b.untaken
+
+module _ {o : Opening} {setup : Setup} {may : Bool} {limit made : ℕ} {offer : Bool} {old new : List Entry} {desk0 desk : DeskTells} (b : Between o setup may limit made offer old desk0 desk)
+    (all : made ≡ limit) (spent : AreSpent old) (a : AnswersLeft o old new (left_answer old)) (legal : Legal o new) where
+  abbrev left : List Entry
+  left = answered_so (left_answer old) a.tasks
+
+  pub between_left : Between o setup may limit made offer new desk0 desk
+  between_left = record {
+    spaced = spaced_left b.spaced spent a legal;
+    main = ap (are_by 0) a.is ∙ all-join (λ (e : Entry). e.by == 0) old left b.main (left_main (left_answer old) a.tasks);
+    done = done_now;
+    last = λ claimed. last_now a.tasks a.is claimed;
   }
     where
       last_now : (ts : List ℕ) → new ≡ old ++ answered_so (left_answer old) ts → are_all_claimed o new ≡ true → EndsClosed new
@@ -187,30 +211,18 @@ module _ {o : Opening} {setup : Setup} {may : Bool} {limit made : ℕ} {offer : 
         closed = refl;
       }
 
-      came_same : came new ≡ came old
-      came_same = ap came a.is ∙ each_of-append came_in old more ∙ ap (λ (cs : List (Option ℕ)). came old ++ cs) (none_came more none) ∙ append-nil (came old)
-
-      starts_same : count is_start new ≡ count is_start old
-      starts_same = ap (count is_start) a.is ∙ count-append is_start old more ∙ (let n = count_none is_start more (left_none (left_answer old) is_start (λ t. refl) (λ t. refl) a.tasks) in omega (arith, n))
-
-      its : TasksDone o setup limit (old ++ more) more desk desk
-      its = left_done (left_answer old) o setup limit (old ++ more) desk (left_quiet old) old a.tasks refl (b.starts ∙ all) spent refl b.untaken
-
       done_now : TasksDone o setup limit new new desk0 desk
-      done_now = subst (λ (j : List Entry). TasksDone o setup limit j j desk0 desk) (sym a.is) (done_both o setup limit old more old more desk0 desk desk b.legal b.rest b.done its)
-
-  pub kept_left : {program : List ℕ} {start after : ProgramsValue} {wires : List WireValue} → Kept program old start after wires → Kept program new start after wires
-  kept_left k = kept_still k b.few new more a.is none (left_apart (left_answer old) a.tasks)
+      done_now = subst (λ (j : List Entry). TasksDone o setup limit j j desk0 desk) (sym a.is) (done_both o setup limit old left old left desk0 desk desk b.spaced.legal b.spaced.rest b.done (done_left b.spaced spent a legal setup limit desk all))
 
 -- ---- what a run leaves
 
 pub ran_alone : {o : Opening} {setup : Setup} {may : Bool} {limit made : ℕ} {offer : Bool} {journal : List Entry} {desk desk' : DeskTells} → made ≤ limit → Between o setup may limit made offer journal desk desk' → RanAlone o setup may limit journal desk desk'
 ran_alone {o} {setup} {may} {limit} {made} {offer} {journal} le b = record {
-  legal = b.legal;
+  legal = b.spaced.legal;
   main = b.main;
-  starts = record { slots = b.slots; few = (let n = b.starts in omega (arith, n, le)); offers = b.offers };
-  ended = b.ended;
-  asks = b.asks;
+  starts = record { slots = b.spaced.slots; few = (let n = b.spaced.starts in omega (arith, n, le)); offers = b.spaced.offers };
+  ended = b.spaced.ended;
+  asks = b.spaced.asks;
   done = b.done.done;
   claimed = b.done.claimed;
   answered = b.done.answered;
@@ -260,9 +272,9 @@ pub left_nothing : (o : Opening) (journal : List Entry) (n : ℕ) → n ≡ leng
 left_nothing o journal n is z = none_left (is_claimed journal) (numbers_of o) (sym is ∙ z)
 
 -- where tasks are left behind all starts, each child is spent
-pub over_spent : {o : Opening} {setup : Setup} {may : Bool} {limit made : ℕ} {offer : Bool} {journal : List Entry} {desk desk' : DeskTells} → Between o setup may limit made offer journal desk desk' → IsOver o limit made journal → are_all_claimed o journal ≡ false
+pub over_spent : {o : Opening} {may : Bool} {limit made : ℕ} {offer : Bool} {journal : List Entry} → Spaced o may made offer journal → IsOver o limit made journal → are_all_claimed o journal ≡ false
     → (made ≡ limit) × AreSpent journal
-over_spent {o} {setup} {may} {limit} {made} {offer} {journal} b over left = (first over, second b.spent)
+over_spent {o} {may} {limit} {made} {offer} {journal} b over left = (first over, second b.spent)
   where
     first : IsOver o limit made journal → made ≡ limit
     first (inl e) = e
@@ -290,4 +302,4 @@ pub next_start : (o p : Opening) (setup : Setup) (may : Bool) (limit made : ℕ)
     → Between o setup may limit (made + 1) next new desk0 desk' × Kept program new start after wires'
 next_start o p setup may limit made offer next program old new desk0 desk desk' start before after wires wires' same_opening b k (first, stint, objects) legal =
     let s : Stint o setup limit offer next first old new desk desk' = subst (λ (q : Opening). Stint q setup limit offer next first old new desk desk') same_opening stint in
-    (between_next s b legal, kept_next k b.few new first s.later after wires' s.is (starts_none s) (apart s) objects)
+    (between_next s b legal, kept_next k b.spaced.few new first s.stretch.later after wires' s.stretch.is (starts_none s.stretch) (apart s.stretch) objects)

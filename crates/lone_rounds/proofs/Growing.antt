@@ -19,7 +19,7 @@ use Rattle.lone_work.specs.Works.{DeskTells, claimed_task}
 use Rattle.child_end.specs.Wires.{came, came_in}
 use Rattle.lone_rounds.specs.Starting.{AllOffer, AreSpent, OffersWell, children, is_any_start, is_elsewhere, is_offered, is_ready_untagged, is_spent, started_in}
 use Rattle.lone_rounds.specs.Rounds.{is_of_run}
-use Rattle.lone_rounds.specs.Stints.{AreUpTo, Between, IsStart, Stint, TasksDone, in_stint, main_entry, next_child}
+use Rattle.lone_rounds.specs.Stints.{AreUpTo, Between, IsStart, Spaced, Stint, Stretch, TasksDone, in_stint, main_entry, next_child}
 use Rattle.lone_rounds.proofs.Apart.{apart_in, ended_on, no_offer, no_start_in, ready_same, spent_on}
 use Rattle.lone_rounds.proofs.Runs.{done_both, done_same}
 use Rattle.lone_rounds.proofs.Tests.{and_behind, any_none, any_same, children_up_to, claimed_on, count-append, count_none, neither_nor, no_children, none_came, offers_both, offers_none, up_to_both, up_to_more}
@@ -58,7 +58,7 @@ says_start past offer first (inr e) = subst (SaysStart past offer) (sym e) recor
 
 -- ---- what stands behind the start
 
-module _ {o : Opening} {setup : Setup} {limit : ℕ} {offer next : Bool} {first : What} {old new : List Entry} {desk desk' : DeskTells} (s : Stint o setup limit offer next first old new desk desk') where
+module _ {o : Opening} {offer next : Bool} {first : What} {old new : List Entry} (s : Stretch o offer next first old new) where
   abbrev pub tail : List Entry
   tail = main_entry first ∷ s.later
 
@@ -123,7 +123,7 @@ module _ {o : Opening} {setup : Setup} {limit : ℕ} {offer next : Bool} {first 
 
   -- ---- between two starts
 
-  module _ {may : Bool} {made : ℕ} {desk0 : DeskTells} (b : Between o setup may limit made offer old desk0 desk) (legal : Legal o new) where
+  module _ {may : Bool} {made : ℕ} (b : Spaced o may made offer old) (legal : Legal o new) where
     earlier_same : list_any (is_ready_untagged new) (children old) ≡ list_any (is_ready_untagged old) (children old)
     earlier_same =
         any_same (count is_start old) (is_ready_untagged new) (is_ready_untagged old)
@@ -154,27 +154,42 @@ module _ {o : Opening} {setup : Setup} {limit : ℕ} {offer next : Bool} {first 
     spent_now (inr all) (inl k) = inr (ap (are_all_claimed o) s.is ∙ claimed_on o old tail all)
     spent_now (inl h) (inl k) = inl (earlier is_spent (λ d x. spent_on old tail d x) h k)
 
-    pub between_next : Between o setup may limit (made + 1) next new desk0 desk'
-    between_next = record {
+    pub spaced_next : Spaced o may (made + 1) next new
+    spaced_next = record {
       legal = legal;
-      main = ap (are_by 0) s.is ∙ all-join (λ (e : Entry). e.by == 0) old tail b.main s.main;
       slots = ap (any is_elsewhere) s.is ∙ any-append is_elsewhere old tail ∙ neither (any is_elsewhere old) (any is_elsewhere tail) b.slots (neither (is_elsewhere first) (any is_elsewhere s.later) its.here elsewhere_none);
       starts = one_start ∙ ap (λ (n : ℕ). n + 1) b.starts;
       offers = subst (AllOffer may []) (sym s.is) (offers_both may [] old tail b.offers (its.offers_well may b.offered, offers_none may (old ++ main_entry first ∷ []) s.later starts_none));
       offered = offered_now;
       ended = earlier is_ended (λ d x. ended_on old tail d x) b.ended s.ended;
       asks = ap (list_all (λ (e : Entry). is_of_run e.what)) s.is ∙ all-join (λ (e : Entry). is_of_run e.what) old tail b.asks (rw (its.asks, s.asks) refl);
-      done = done_now;
       rest = s.rest;
       spent = spent_now b.spent s.spent;
-      last = s.last;
       untaken = s.untaken;
       few = subst (λ (n : ℕ). AreUpTo n (came new)) (sym starts_are) (subst (AreUpTo (count is_start old + count is_start (main_entry first ∷ []))) (sym came_are)
           (up_to_both (count is_start old + count is_start (main_entry first ∷ [])) (came old) (came (main_entry first ∷ []))
           (up_to_more (count is_start old) (count is_start old + count is_start (main_entry first ∷ [])) (omega arith) (came old) b.few) its.up_to));
     }
+
+-- ---- by the main thread alone
+
+module _ {o : Opening} {setup : Setup} {limit : ℕ} {offer next : Bool} {first : What} {old new : List Entry} {desk desk' : DeskTells} (t : Stint o setup limit offer next first old new desk desk') where
+  abbrev s : Stretch o offer next first old new
+  s = t.stretch
+
+  abbrev its_tail : List Entry
+  its_tail = main_entry first ∷ s.later
+
+  module _ {may : Bool} {made : ℕ} {desk0 : DeskTells} (b : Between o setup may limit made offer old desk0 desk) (legal : Legal o new) where
+    pub between_next : Between o setup may limit (made + 1) next new desk0 desk'
+    between_next = record {
+      spaced = spaced_next s b.spaced legal;
+      main = ap (are_by 0) s.is ∙ all-join (λ (e : Entry). e.by == 0) old its_tail b.main t.main;
+      done = done_now;
+      last = t.last;
+    }
       where
-        unclaimed_first : {X : Type 0} (f : What → Option X) → f first ≡ None → each_of f tail ≡ each_of f s.later
+        unclaimed_first : {X : Type 0} (f : What → Option X) → f first ≡ None → each_of f its_tail ≡ each_of f s.later
         unclaimed_first f e = ap (λ (x : Option _). cons_option x (each_of f s.later)) e
 
         first_takes : claimed_task first ≡ None
@@ -193,7 +208,7 @@ module _ {o : Opening} {setup : Setup} {limit : ℕ} {offer next : Bool} {first 
 
         done_now : TasksDone o setup limit new new desk0 desk'
         done_now =
-            let at_new : TasksDone o setup limit (old ++ tail) s.later desk desk' = subst (λ (j : List Entry). TasksDone o setup limit j s.later desk desk') s.is s.done in
-            let of_tail : TasksDone o setup limit (old ++ tail) tail desk desk' =
-            done_same o setup limit (old ++ tail) s.later tail desk desk' (unclaimed_first claimed_task first_takes) (unclaimed_first answer_in first_gives) at_new in
-            subst (λ (j : List Entry). TasksDone o setup limit j j desk0 desk') (sym s.is) (done_both o setup limit old tail old tail desk0 desk desk' b.legal b.rest b.done of_tail)
+            let at_new : TasksDone o setup limit (old ++ its_tail) s.later desk desk' = subst (λ (j : List Entry). TasksDone o setup limit j s.later desk desk') s.is t.done in
+            let of_tail : TasksDone o setup limit (old ++ its_tail) its_tail desk desk' =
+            done_same o setup limit (old ++ its_tail) s.later its_tail desk desk' (unclaimed_first claimed_task first_takes) (unclaimed_first answer_in first_gives) at_new in
+            subst (λ (j : List Entry). TasksDone o setup limit j j desk0 desk') (sym s.is) (done_both o setup limit old its_tail old its_tail desk0 desk desk' b.spaced.legal b.spaced.rest b.done of_tail)

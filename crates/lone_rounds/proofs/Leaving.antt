@@ -10,14 +10,13 @@ use Rattle.journal_model.specs.declared.entry.Entry.{Entry}
 use Rattle.journal_model.specs.Journal.{any}
 use Rattle.journal_model.specs.Legality.{count, is_start}
 use Rattle.journal_model.specs.Halves.{EarValue, MouthValue, IsSameEar, IsSameMouth}
-use Rattle.link_roles.specs.Writings.{LoneWired}
 use Rattle.journal_model.specs.Shares.{is_of_child}
 use Rattle.journal_model.proofs.Looks.{any-append, each_of-append}
 use Rattle.journal_model.proofs.Testing.{by_either}
 use Rattle.link_roles.proofs.Linked.{any_narrower}
-use Rattle.link_roles.proofs.Writings.{lone_apart}
 use Rattle.child_start.specs.Greetings.{AreNumbered}
-use Rattle.child_end.specs.Wires.{IsLaid, IsLeft, IsOfStart, WireValue, came, came_in}
+use Rattle.child_end.specs.Wires.{IsHeld, IsLaid, IsLeft, IsOfStart, WireValue, came, came_in}
+use Rattle.child_end.proofs.Held.{held_apart}
 use Rattle.child_end.specs.Programs.{AddsAll, ProgramsValue, is_failed_start, told, told_in}
 use Rattle.lone_rounds.specs.Starting.{is_any_start}
 use Rattle.lone_rounds.specs.Stints.{AreLinked, AreUpTo, IsLinked, Kept, StartsOne, ear_of, main_entry, mouth_of}
@@ -118,7 +117,7 @@ failed_start_is w h = absurd cc
 -- a wire of which nothing more is made stays
 linked_stays : (starts : Option Starts) (past more : List Entry) (n : ℕ) (wire : WireValue) → any (is_of_child wire.child) more ≡ false → IsLinked starts past n wire → IsLinked starts (past ++ more) n wire
 linked_stays starts past more n wire none l = record {
-  linked = lone_apart past more (ear_of wire) (mouth_of wire) refl none l.linked;
+  linked = held_apart past more (ear_of wire) (mouth_of wire) refl none l.linked;
   inlet = l.inlet;
   outlet = l.outlet;
   closed = l.closed;
@@ -158,13 +157,13 @@ module _ (journal : List Entry) (ear : EarValue) (mouth : MouthValue) (wire : Wi
   mouth_is : mouth_of wire ≡ mouth
   mouth_is = let same_child : wire.child ≡ mouth.child = is.child ∙ sym one in rw (same_child, is.taken_is, is.faults.0, is.numbers.0) refl
 
-  left_linked : LoneWired journal ear mouth → LoneWired journal (ear_of wire) (mouth_of wire)
-  left_linked h = subst (λ (x : EarValue). LoneWired journal x (mouth_of wire)) (sym ear_is) (subst (λ (x : MouthValue). LoneWired journal ear x) (sym mouth_is) h)
+  left_linked : IsHeld journal ear mouth → IsHeld journal (ear_of wire) (mouth_of wire)
+  left_linked h = subst (λ (x : EarValue). IsHeld journal x (mouth_of wire)) (sym ear_is) (subst (λ (x : MouthValue). IsHeld journal ear x) (sym mouth_is) h)
 
 -- one child was started, and its link is closed
 pub starts_child : (program : List ℕ) (journal : List Entry) (c : ℕ) (offer : Bool) (before : ProgramsValue) (mid : Option Starts) (after : ProgramsValue) (faults : ℕ) (ear : EarValue) (mouth : MouthValue) (wires wires' : List WireValue)
     → AddsOne before.starts mid (program, true) → Stays mid after.starts → before.faults ≤ faults → faults ≤ after.faults → AreNumbered mid ear mouth → ear.child ≡ c → mouth.child ≡ ear.child
-    → LoneWired journal ear mouth → IsLaid ear mouth wires wires' → StartsOne program journal (Start c 0 offer) before after wires wires'
+    → IsHeld journal ear mouth → IsLaid ear mouth wires wires' → StartsOne program journal (Start c 0 offer) before after wires wires'
 starts_child program journal c offer before mid after faults ear mouth wires wires' adds stays le le' numbered its one linked (wire, laid, is) = record {
   adds = adds_stays before.starts mid after.starts (program, true) adds stays;
   new = wire ∷ [];
@@ -186,7 +185,7 @@ starts_child program journal c offer before mid after faults ear mouth wires wir
 -- the halves of a link that did something
 pub starts_kept : (program : List ℕ) (journal : List Entry) (c : ℕ) (offer : Bool) (before : ProgramsValue) (mid : Option Starts) (after : ProgramsValue) (faults : ℕ) (e ear : EarValue) (m mouth : MouthValue) (wires wires' : List WireValue)
     → AddsOne before.starts mid (program, true) → Stays mid after.starts → before.faults ≤ faults → faults ≤ after.faults → AreNumbered mid e m → IsSameEar e ear → IsSameMouth m mouth → e.child ≡ c → mouth.child ≡ ear.child
-    → LoneWired journal ear mouth → IsLaid ear mouth wires wires' → StartsOne program journal (Start c 0 offer) before after wires wires'
+    → IsHeld journal ear mouth → IsLaid ear mouth wires wires' → StartsOne program journal (Start c 0 offer) before after wires wires'
 starts_kept program journal c offer before mid after faults e ear m mouth wires wires' adds stays le le' numbered se sm its one linked laid =
     starts_child program journal c offer before mid after faults ear mouth wires wires' adds stays le le' (numbered_on mid e ear m mouth se sm numbered) (se.0 ∙ its) one linked laid
 

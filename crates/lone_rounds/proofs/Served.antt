@@ -223,18 +223,20 @@ module _ (o : Opening) (setup : Setup) (limit : ℕ) (offer tagged : Bool) (old 
 
   pub served_stint : Stint o setup limit offer (offer && tagged) (Start c 0 offer) old new desk desk'
   served_stint = record {
-    later = later;
-    is = whole;
-    start = inl (ap (λ (n : ℕ). Start n 0 offer) greeted.next);
-    within = subst (λ (n : ℕ). list_all (λ (e : Entry). in_stint n e.what) later ≡ true) greeted.next part.within;
+    stretch = record {
+      later = later;
+      is = whole;
+      start = inl (ap (λ (n : ℕ). Start n 0 offer) greeted.next);
+      within = subst (λ (n : ℕ). list_all (λ (e : Entry). in_stint n e.what) later ≡ true) greeted.next part.within;
+      asks = part.asks;
+      rest = λ u. ap (λ (j : List Entry). is_busy j u) k.is ∙ closing_rests c k.tail k.one s.mid s.can.rest u;
+      ended = ap (λ (b : Bool). b && true) k.ended;
+      spent = over;
+      untaken = subst (λ (j : List Entry). failed_start j (start_untaken j) ≡ None) (sym whole)
+          (ready_untaken old later c offer c part.within (subst (λ (j : List Entry). unready_answer j c ≡ None) whole unready_none));
+      offers = untagged offer tagged ∙ ap (λ (b : Bool). offer && not (b || false)) (sym ready_said);
+    };
     main = part.main;
-    asks = part.asks;
     done = done;
-    rest = λ u. ap (λ (j : List Entry). is_busy j u) k.is ∙ closing_rests c k.tail k.one s.mid s.can.rest u;
-    ended = ap (λ (b : Bool). b && true) k.ended;
-    spent = over;
     last = ends_now;
-    untaken = subst (λ (j : List Entry). failed_start j (start_untaken j) ≡ None) (sym whole)
-        (ready_untaken old later c offer c part.within (subst (λ (j : List Entry). unready_answer j c ≡ None) whole unready_none));
-    offers = untagged offer tagged ∙ ap (λ (b : Bool). offer && not (b || false)) (sym ready_said);
   }

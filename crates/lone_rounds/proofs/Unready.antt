@@ -162,20 +162,22 @@ module _ (o : Opening) (setup : Setup) (limit : ℕ) (offer : Bool) (old g new :
 
     pub turned_away : Stint o setup limit offer offer (Start c 0 offer) old new desk desk
     turned_away = record {
-      later = later;
-      is = whole;
-      start = inl (ap (λ (n : ℕ). Start n 0 offer) greeted.next);
-      within = subst (λ (n : ℕ). list_all (λ (e : Entry). in_stint n e.what) later ≡ true) greeted.next part.within;
+      stretch = record {
+        later = later;
+        is = whole;
+        start = inl (ap (λ (n : ℕ). Start n 0 offer) greeted.next);
+        within = subst (λ (n : ℕ). list_all (λ (e : Entry). in_stint n e.what) later ≡ true) greeted.next part.within;
+        asks = part.asks;
+        rest = λ u. ap (λ (j : List Entry). is_busy j u) (k.is ∙ ap (λ (x : List Entry). x ++ k.tail) is)
+            ∙ closing_rests c k.tail k.one (g ++ zero) (rests_one g t answer (greeting_rests old g offer c greeted rest)) u;
+        ended = ap (λ (b : Bool). b && true) k.ended;
+        spent = inl (ap (λ (b : Bool). b && true) (ap (λ (j : List Entry). is_spent j c) behind ∙ spent_on g (zero ++ k.tail) c unready.spent));
+        untaken = none_fails new (ap start_untaken behind ∙ claim_takes g k.tail t answer (of_closing c k.tail k.one (λ (x : List Entry). each_of turn_of x ≡ []) refl refl));
+        offers = and_true offer ∙ ap (λ (b : Bool). offer && not (b || false)) (sym unprepared);
+      };
       main = part.main;
-      asks = part.asks;
       done = done;
-      rest = λ u. ap (λ (j : List Entry). is_busy j u) (k.is ∙ ap (λ (x : List Entry). x ++ k.tail) is)
-          ∙ closing_rests c k.tail k.one (g ++ zero) (rests_one g t answer (greeting_rests old g offer c greeted rest)) u;
-      ended = ap (λ (b : Bool). b && true) k.ended;
       last = λ all. closing_ends c k.tail k.one g new (main_entry (Claim t 0)) (main_entry (Answered t answer) ∷ []) (k.is ∙ ap (λ (x : List Entry). x ++ k.tail) is) refl;
-      spent = inl (ap (λ (b : Bool). b && true) (ap (λ (j : List Entry). is_spent j c) behind ∙ spent_on g (zero ++ k.tail) c unready.spent));
-      untaken = none_fails new (ap start_untaken behind ∙ claim_takes g k.tail t answer (of_closing c k.tail k.one (λ (x : List Entry). each_of turn_of x ≡ []) refl refl));
-      offers = and_true offer ∙ ap (λ (b : Bool). offer && not (b || false)) (sym unprepared);
     }
 
   pub away_stint : TurnsAway o c g new answer → Stint o setup limit offer offer (Start c 0 offer) old new desk desk
@@ -200,17 +202,21 @@ module _ (o : Opening) (setup : Setup) (limit : ℕ) (offer : Bool) (old g new :
 
   fault_one : (t : ℕ) → new ≡ g ++ main_entry (Claim t 0) ∷ main_entry (Answered t StartFault) ∷ [] → Stint o setup limit offer offer (NoStart 0) old new desk desk
   fault_one t is = record {
-    later = main_entry (Claim t 0) ∷ main_entry (Answered t StartFault) ∷ [];
-    is = is ∙ ap (λ (x : List Entry). x ++ main_entry (Claim t 0) ∷ main_entry (Answered t StartFault) ∷ []) failed
-        ∙ append_assoc old (main_entry (NoStart 0) ∷ []) (main_entry (Claim t 0) ∷ main_entry (Answered t StartFault) ∷ []);
-    start = inr refl;
-    within = refl;
+    stretch = record {
+      later = main_entry (Claim t 0) ∷ main_entry (Answered t StartFault) ∷ [];
+      is = is ∙ ap (λ (x : List Entry). x ++ main_entry (Claim t 0) ∷ main_entry (Answered t StartFault) ∷ []) failed
+          ∙ append_assoc old (main_entry (NoStart 0) ∷ []) (main_entry (Claim t 0) ∷ main_entry (Answered t StartFault) ∷ []);
+      start = inr refl;
+      within = refl;
+      asks = refl;
+      rest = λ u. ap (λ (j : List Entry). is_busy j u) is ∙ rests_one g t StartFault fault_rests u;
+      ended = refl;
+      spent = inl refl;
+      untaken = none_fails new (ap start_untaken is ∙ claim_takes g [] t StartFault refl);
+      offers = and_true offer;
+    };
     main = refl;
-    asks = refl;
     done = done_zero o setup limit new g [] t StartFault desk is fault_answers refl;
-    rest = λ u. ap (λ (j : List Entry). is_busy j u) is ∙ rests_one g t StartFault fault_rests u;
-    ended = refl;
-    spent = inl refl;
     last = λ all. record {
       past = g ++ main_entry (Claim t 0) ∷ main_entry (Answered t StartFault) ∷ [];
       closings = [];
@@ -218,8 +224,6 @@ module _ (o : Opening) (setup : Setup) (limit : ℕ) (offer : Bool) (old g new :
       answered = ends_behind g (main_entry (Claim t 0)) (main_entry (Answered t StartFault) ∷ []) refl;
       closed = refl;
     };
-    untaken = none_fails new (ap start_untaken is ∙ claim_takes g [] t StartFault refl);
-    offers = and_true offer;
   }
 
   pub fault_stint : (b : Bool) → AnswersOne o g new StartFault b → Stint o setup limit offer offer (NoStart 0) old new desk desk

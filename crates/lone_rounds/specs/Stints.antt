@@ -15,14 +15,13 @@ use Rattle.journal_model.specs.Legality.{Legal, count, is_busy, is_start, least_
 use Rattle.journal_model.specs.Output.{answers_in}
 use Rattle.journal_model.specs.Shares.{are_by}
 use Rattle.journal_model.specs.Halves.{EarValue, MouthValue}
-use Rattle.link_roles.specs.Writings.{LoneWired}
 use Rattle.host_core.specs.Steps.{are_all_claimed}
 use Rattle.link_roles.specs.Alone.{Closes}
 use Rattle.gathering.specs.Tasks.{IsThrough}
 use Rattle.task_run.specs.declared.setup.Setup.{Setup}
 use Rattle.task_run.specs.TaskRuns.{failed_start}
 use Rattle.lone_work.specs.Works.{CanWork, DeskTells, TaskDone, Worked, CausedInTurn, all_calls, claims_in}
-use Rattle.child_end.specs.Wires.{WireValue, IsOfStart, came}
+use Rattle.child_end.specs.Wires.{WireValue, IsHeld, IsOfStart, came}
 use Rattle.child_end.specs.Programs.{ProgramsValue, AddsAll, is_failed_start, told}
 use Rattle.lone_rounds.specs.Starting.{AllOffer, AreEnded, AreSpent, children, is_any_start, is_elsewhere, is_offered, is_ready_untagged, is_spent}
 use Rattle.lone_rounds.specs.Rounds.{EndsClosed, HasRun, ends_for_memory, is_of_run, start_untaken}
@@ -115,22 +114,26 @@ next_child past = count is_start past + 1
 abbrev pub IsStart : List Entry → Bool → What → Type 0
 IsStart past offer first = (first ≡ Start (next_child past) 0 offer) ⊎ (first ≡ NoStart 0)
 
--- The journal has one start more, and what followed it. Its child has ended; it is spent, or all tasks are claimed. `next` says
--- whether ASYNC is offered from then on.
-pub record Stint (o : Opening) (setup : Setup) (limit : ℕ) (offer next : Bool) (first : What) (old new : List Entry) (desk desk' : DeskTells) : Type 0 where
+-- The journal has one start more, and what followed it, whoever made that. No task is busy behind it; its child has ended; it is
+-- spent, or all tasks are claimed. `next` says whether ASYNC is offered from then on.
+pub record Stretch (o : Opening) (offer next : Bool) (first : What) (old new : List Entry) : Type 0 where
   pub later : List Entry
   pub is : new ≡ old ++ main_entry first ∷ later
   pub start : IsStart old offer first
   pub within : list_all (λ e. in_stint (next_child old) e.what) later ≡ true
-  pub main : are_by 0 later ≡ true
   pub asks : list_all (λ e. is_of_run e.what) later ≡ true
-  pub done : TasksDone o setup limit new later desk desk'
   pub rest : (t : ℕ) → is_busy new t ≡ false
   pub ended : list_all (is_ended new) (children (main_entry first ∷ [])) ≡ true
   pub spent : (list_all (is_spent new) (children (main_entry first ∷ [])) ≡ true) ⊎ (are_all_claimed o new ≡ true)
-  pub last : are_all_claimed o new ≡ true → EndsClosed new
   pub untaken : failed_start new (start_untaken new) ≡ None
   pub offers : next ≡ (offer && not (list_any (is_ready_untagged new) (children (main_entry first ∷ []))))
+
+-- the same, where the main thread made it, did the tasks and closed the child
+pub record Stint (o : Opening) (setup : Setup) (limit : ℕ) (offer next : Bool) (first : What) (old new : List Entry) (desk desk' : DeskTells) : Type 0 where
+  pub stretch : Stretch o offer next first old new
+  pub main : are_by 0 stretch.later ≡ true
+  pub done : TasksDone o setup limit new stretch.later desk desk'
+  pub last : are_all_claimed o new ≡ true → EndsClosed new
 
 -- ---- wires and programs
 
@@ -141,9 +144,10 @@ ear_of wire = record { child = wire.child; given = wire.given; left = wire.left;
 abbrev pub mouth_of : WireValue → MouthValue
 mouth_of wire = record { child = wire.child; taken = wire.taken; faults = wire.write_faults; number = wire.inlet_number }
 
--- its halves are wired to the journal, are those of the nth start, and are closed
+-- its halves are wired to the journal, where the main thread served the child alone its requests were written before they were
+-- answered; the halves are those of the nth start, and are closed
 pub record IsLinked (starts : Option Starts) (journal : List Entry) (n : ℕ) (wire : WireValue) : Type 0 where
-  pub linked : LoneWired journal (ear_of wire) (mouth_of wire)
+  pub linked : IsHeld journal (ear_of wire) (mouth_of wire)
   pub inlet : IsOfStart starts n wire.inlet_number
   pub outlet : IsOfStart starts n wire.outlet_number
   pub closed : (wire.is_inlet_open ≡ false) × (wire.is_outlet_open ≡ false)
@@ -189,23 +193,27 @@ AreUpTo n [] = Unit {0}
 AreUpTo n (None ∷ cs) = AreUpTo n cs
 AreUpTo n (Some c ∷ cs) = (c ≤ n) × AreUpTo n cs
 
--- So many starts were made. Their children have ended, and are spent unless all tasks are claimed; each task that was claimed is
--- done, and no start is left for one to take.
-pub record Between (o : Opening) (setup : Setup) (may : Bool) (limit made : ℕ) (offer : Bool) (journal : List Entry) (desk desk' : DeskTells) : Type 0 where
+-- So many starts were made, all in slot 0, each offering ASYNC where it was to. Their children have ended, and are spent unless all
+-- tasks are claimed; no task is busy, and no start is left for one to take.
+pub record Spaced (o : Opening) (may : Bool) (made : ℕ) (offer : Bool) (journal : List Entry) : Type 0 where
   pub legal : Legal o journal
-  pub main : are_by 0 journal ≡ true
   pub slots : any is_elsewhere journal ≡ false
   pub starts : count is_any_start journal ≡ made
   pub offers : AllOffer may [] journal
   pub offered : offer ≡ (may && is_offered journal)
   pub ended : AreEnded journal
   pub asks : list_all (λ e. is_of_run e.what) journal ≡ true
-  pub done : TasksDone o setup limit journal journal desk desk'
   pub rest : (t : ℕ) → is_busy journal t ≡ false
   pub spent : AreSpent journal ⊎ (are_all_claimed o journal ≡ true)
-  pub last : are_all_claimed o journal ≡ true → EndsClosed journal
   pub untaken : failed_start journal (start_untaken journal) ≡ None
   pub few : AreUpTo (count is_start journal) (came journal)
+
+-- the same, where the main thread made all of it; each task that was claimed is done
+pub record Between (o : Opening) (setup : Setup) (may : Bool) (limit made : ℕ) (offer : Bool) (journal : List Entry) (desk desk' : DeskTells) : Type 0 where
+  pub spaced : Spaced o may made offer journal
+  pub main : are_by 0 journal ≡ true
+  pub done : TasksDone o setup limit journal journal desk desk'
+  pub last : are_all_claimed o journal ≡ true → EndsClosed journal
 
 -- the programs were asked for what the journal says, each of its children has its wire, and a fault was counted where one failed
 pub record Kept (program : List ℕ) (journal : List Entry) (before after : ProgramsValue) (wires : List WireValue) : Type 0 where

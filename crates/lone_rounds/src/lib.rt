@@ -10,4 +10,6 @@ mod zero;
 
 pub use plan::Plan;
 pub use running::run_alone;
-pub use zero::left_answer;
+pub use serving::{serve, turn_away};
+pub use starting::{is_offered, not_prepared};
+pub use zero::{answer_left, answer_one, left_answer};

@@ -45,7 +45,7 @@ fn work_over<I: Sink, O: Source, K: Desk>(
 }
 
 /// Does tasks over a child that is ready until it is gone or all tasks are claimed, and closes it.
-pub(crate) fn serve<I: Sink, O: Source, K: Desk>(
+pub fn serve<I: Sink, O: Source, K: Desk>(
     alloc: Global,
     tasks: &[Task],
     setup: &Setup,
@@ -65,7 +65,7 @@ pub(crate) fn serve<I: Sink, O: Source, K: Desk>(
 }
 
 /// Answers one task for a child that isn't ready, and closes it.
-pub(crate) fn turn_away<I: Sink, O: Source>(link: &Lone<I, O>, core: &mut Core, answer: Answer)
+pub fn turn_away<I: Sink, O: Source>(link: &Lone<I, O>, core: &mut Core, answer: Answer)
     requires legal { Legal core.old.opening core.old.journal }
     requires rest { (t : ℕ) → is_busy core.old.journal t ≡ false }
     requires started { is_started core.old.journal link.now.ear.child ≡ true }

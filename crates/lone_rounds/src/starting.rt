@@ -25,8 +25,8 @@ use link_roles::Wire;
 use std::alloc::Global;
 use task_text::Task;
 
-// The answer where a line refused to get ready, with that line's place.
-fn not_prepared(verdict: Verdict) -> Answer
+/// The answer where a line refused to get ready, with that line's place.
+pub fn not_prepared(verdict: Verdict) -> Answer
     requires { is_some (refused_at verdict) ≡ true }
     ensures { Some result ≡ option_map NotPrepared (refused_at verdict) }
 {
@@ -36,8 +36,8 @@ fn not_prepared(verdict: Verdict) -> Answer
     }
 }
 
-// Whether ASYNC is offered behind a child that is ready, tagged or not.
-fn is_offered(offer: bool, tagged: bool) -> bool
+/// Whether ASYNC is offered behind a child that is ready, tagged or not.
+pub fn is_offered(offer: bool, tagged: bool) -> bool
     ensures { result ≡ (offer && tagged) }
 {
     offer && tagged

@@ -44,7 +44,7 @@ fn give(core: &mut Core, task: u32, answer: Answer)
 }
 
 /// Claims the next task without a child, and answers it so. Whether there was one.
-pub(crate) fn answer_one(core: &mut Core, answer: Answer) -> bool
+pub fn answer_one(core: &mut Core, answer: Answer) -> bool
     requires legal { Legal core.old.opening core.old.journal }
     requires rest { (t : ℕ) → is_busy core.old.journal t ≡ false }
     ensures answers { AnswersOne core.old.opening core.old.journal core.new.journal answer result }
@@ -71,7 +71,7 @@ pub fn left_answer(journal: &Journal) -> Answer
 }
 
 /// Answers all tasks that are left, where no child can be started any more.
-pub(crate) fn answer_left(core: &mut Core)
+pub fn answer_left(core: &mut Core)
     requires legal { Legal core.old.opening core.old.journal }
     requires rest { (t : ℕ) → is_busy core.old.journal t ≡ false }
     ensures answers { AnswersLeft core.old.opening core.old.journal core.new.journal (left_answer core.old.journal) }

@@ -17,10 +17,10 @@ returns-then-unclaimed-gt0-clause-ran g c =
     let same_opening = c.start_children.ensures.core.opening in
     let left : are_all_claimed o mid ≡ false =
     ap (λ (w : Opening). are_all_claimed w mid) (sym same_opening) ∙ left_some p mid c.unclaimed.result c.unclaimed.ensures (λ z. (let some = c.if-unclaimed-gt0.true in omega (arith, some, z))) in
-    let over = over_spent t.2 t.4 left in
+    let over = over_spent t.2.spaced t.4 left in
     let a : AnswersLeft o mid new (left_answer mid) = subst (λ (w : Opening). AnswersLeft w mid new (left_answer mid)) same_opening c.answer_left.ensures.answers in
     let legal : Legal o new =
-    subst (λ (w : Opening). Legal w new) (c.answer_left.ensures.core.opening ∙ same_opening) (c.answer_left.ensures.core.legal (subst (λ (w : Opening). Legal w mid) (sym same_opening) t.2.legal)) in
+    subst (λ (w : Opening). Legal w new) (c.answer_left.ensures.core.opening ∙ same_opening) (c.answer_left.ensures.core.legal (subst (λ (w : Opening). Legal w mid) (sym same_opening) t.2.spaced.legal)) in
     ran_alone t.3 (between_left t.2 over.0 over.1 a legal)
 
 pub returns-then-unclaimed-gt0-clause-last : goal.returns-then-unclaimed-gt0-clause-last
@@ -33,10 +33,10 @@ returns-then-unclaimed-gt0-clause-last g c =
     let same_opening = c.start_children.ensures.core.opening in
     let left : are_all_claimed o mid ≡ false =
     ap (λ (w : Opening). are_all_claimed w mid) (sym same_opening) ∙ left_some p mid c.unclaimed.result c.unclaimed.ensures (λ z. (let some = c.if-unclaimed-gt0.true in omega (arith, some, z))) in
-    let over = over_spent t.2 t.4 left in
+    let over = over_spent t.2.spaced t.4 left in
     let a : AnswersLeft o mid new (left_answer mid) = subst (λ (w : Opening). AnswersLeft w mid new (left_answer mid)) same_opening c.answer_left.ensures.answers in
     let legal : Legal o new =
-    subst (λ (w : Opening). Legal w new) (c.answer_left.ensures.core.opening ∙ same_opening) (c.answer_left.ensures.core.legal (subst (λ (w : Opening). Legal w mid) (sym same_opening) t.2.legal)) in
+    subst (λ (w : Opening). Legal w new) (c.answer_left.ensures.core.opening ∙ same_opening) (c.answer_left.ensures.core.legal (subst (λ (w : Opening). Legal w mid) (sym same_opening) t.2.spaced.legal)) in
     (between_left t.2 over.0 over.1 a legal).last a.all
 
 pub returns-then-unclaimed-gt0-clause-leaves : goal.returns-then-unclaimed-gt0-clause-leaves
@@ -49,11 +49,11 @@ returns-then-unclaimed-gt0-clause-leaves g c =
     let same_opening = c.start_children.ensures.core.opening in
     let left : are_all_claimed o mid ≡ false =
     ap (λ (w : Opening). are_all_claimed w mid) (sym same_opening) ∙ left_some p mid c.unclaimed.result c.unclaimed.ensures (λ z. (let some = c.if-unclaimed-gt0.true in omega (arith, some, z))) in
-    let over = over_spent t.2 t.4 left in
+    let over = over_spent t.2.spaced t.4 left in
     let a : AnswersLeft o mid new (left_answer mid) = subst (λ (w : Opening). AnswersLeft w mid new (left_answer mid)) same_opening c.answer_left.ensures.answers in
     let legal : Legal o new =
-    subst (λ (w : Opening). Legal w new) (c.answer_left.ensures.core.opening ∙ same_opening) (c.answer_left.ensures.core.legal (subst (λ (w : Opening). Legal w mid) (sym same_opening) t.2.legal)) in
-    leaves_kept _ (kept_left t.2 over.0 over.1 a legal c.in-Ok.ensures.kept)
+    subst (λ (w : Opening). Legal w new) (c.answer_left.ensures.core.opening ∙ same_opening) (c.answer_left.ensures.core.legal (subst (λ (w : Opening). Legal w mid) (sym same_opening) t.2.spaced.legal)) in
+    leaves_kept _ (kept_left t.2.spaced over.1 a legal c.in-Ok.ensures.kept)
 
 pub returns-else-unclaimed-gt0-clause-ran : goal.returns-else-unclaimed-gt0-clause-ran
 returns-else-unclaimed-gt0-clause-ran g c = (let t = c.in-Ok.ensures.started in ran_alone t.3 t.2)

@@ -23,7 +23,7 @@ start_one-requires-clause-few g c = λ κs fresh. (
     let below = c.children-test.true in
     let end = c.children.auto.made-end in
     let most = c.requires.starts.1 in
-    few_starts c.children.core.journal c.children.made c.children.invariant.between.starts (omega (arith, below, end, most)))
+    few_starts c.children.core.journal c.children.made c.children.invariant.between.spaced.starts (omega (arith, below, end, most)))
 
 pub start_one-requires-clause-left : goal.start_one-requires-clause-left
 start_one-requires-clause-left g c = λ κs fresh. left_some c.children.core.opening c.children.core.journal c.unclaimed.result c.unclaimed.ensures c.if-unclaimed-eq0.false
@@ -34,7 +34,7 @@ children-preserved g c =
     let cur = c.children.core.journal in
     let new = c.start_one.new.core.journal in
     let same_opening = c.children.invariant.core.opening in
-    let legal : Legal o new = subst (λ (w : Opening). Legal w new) (c.start_one.ensures.core.opening ∙ same_opening) (c.start_one.ensures.core.legal (subst (λ (w : Opening). Legal w cur) (sym same_opening) c.children.invariant.between.legal)) in
+    let legal : Legal o new = subst (λ (w : Opening). Legal w new) (c.start_one.ensures.core.opening ∙ same_opening) (c.start_one.ensures.core.legal (subst (λ (w : Opening). Legal w cur) (sym same_opening) c.children.invariant.between.spaced.legal)) in
     let after = next_start o c.children.core.opening c.args.plan.now.setup c.args.plan.now.offers c.args.plan.now.starts c.children.made c.children.offer c.in-Ok.next c.args.plan.now.program cur new
     (desk_tells (g.K.Desk.log c.args.desk.now) (g.K.Desk.counts c.args.desk.now)) (desk_tells (g.K.Desk.log c.children.desk) (g.K.Desk.counts c.children.desk)) (desk_tells (g.K.Desk.log c.start_one.new.desk) (g.K.Desk.counts c.start_one.new.desk))
     (programs_value (g.P.Programs.starts c.args.programs.now) (g.P.Programs.faults c.args.programs.now)) (programs_value (g.P.Programs.starts c.children.programs) (g.P.Programs.faults c.children.programs)) (programs_value (g.P.Programs.starts c.start_one.new.programs) (g.P.Programs.faults c.start_one.new.programs))

@@ -5,6 +5,7 @@ use Rattle.journal_model.specs.declared.entry.What.TheVariants.{Start, NoStart}
 use Rattle.journal_model.specs.declared.opening.Opening.{Opening}
 use Rattle.journal_model.specs.Legality.{Legal}
 use Rattle.child_end.specs.Programs.{programs_value}
+use Rattle.child_end.proofs.Held.{lone_held}
 use Rattle.door_asker.specs.KnownLayouts.{IsBook}
 use Rattle.lone_work.specs.Works.{desk_tells}
 use Rattle.lone_rounds.specs.Stints.{AnswersOne, HasServed, Stint, TurnsAway}
@@ -49,7 +50,7 @@ returns-in-Ready-clause-starts g c =
       starts_kept c.args.plan.now.program new child c.args.offer (programs_value (g.P.Programs.starts c.args.programs.now) (g.P.Programs.faults c.args.programs.now)) (g.P.Programs.starts c.greet.new.programs)
           (programs_value (g.P.Programs.starts c.finish.new.programs) (g.P.Programs.faults c.finish.new.programs)) (g.P.Programs.faults c.greet.new.programs)
           c.in-Ready.link.ear c.serve.new.link.ear c.in-Ready.link.mouth c.serve.new.link.mouth _ _ (subst (λ (p : List ℕ). AddsOne (g.P.Programs.starts c.args.programs.now) (g.P.Programs.starts c.greet.new.programs) (p, true)) c.view-program.ensures c.in-Ready.ensures.starts) c.finish.ensures.starts c.in-Ready.ensures.later c.finish.ensures.later c.in-Ready.ensures.numbers
-          link.same_ear link.same_mouth refl c.serve.new.link.one_child (link.wired c.in-Ready.ensures.wired) c.finish.ensures.laid,
+          link.same_ear link.same_mouth refl c.serve.new.link.one_child (lone_held new c.serve.new.link.ear c.serve.new.link.mouth (link.wired c.in-Ready.ensures.wired)) c.finish.ensures.laid,
     )
 
 pub returns-in-Refused-clause-starts : goal.returns-in-Refused-clause-starts
@@ -67,7 +68,7 @@ returns-in-Refused-clause-starts g c =
       starts_child c.args.plan.now.program new child c.args.offer (programs_value (g.P.Programs.starts c.args.programs.now) (g.P.Programs.faults c.args.programs.now)) (g.P.Programs.starts c.greet.new.programs)
           (programs_value (g.P.Programs.starts c.finish-in-Refused.new.programs) (g.P.Programs.faults c.finish-in-Refused.new.programs)) (g.P.Programs.faults c.greet.new.programs)
           c.in-Refused.link.ear c.in-Refused.link.mouth _ _ (subst (λ (p : List ℕ). AddsOne (g.P.Programs.starts c.args.programs.now) (g.P.Programs.starts c.greet.new.programs) (p, true)) c.view-program.ensures c.in-Refused.ensures.starts) c.finish-in-Refused.ensures.starts c.in-Refused.ensures.later c.finish-in-Refused.ensures.later c.in-Refused.ensures.numbers refl c.in-Refused.link.one_child
-          (c.turn_away.ensures.wired c.in-Refused.ensures.wired) c.finish-in-Refused.ensures.laid,
+          (lone_held new c.in-Refused.link.ear c.in-Refused.link.mouth (c.turn_away.ensures.wired c.in-Refused.ensures.wired)) c.finish-in-Refused.ensures.laid,
     )
 
 pub returns-in-Ended-clause-starts : goal.returns-in-Ended-clause-starts
@@ -85,7 +86,7 @@ returns-in-Ended-clause-starts g c =
       starts_child c.args.plan.now.program new child c.args.offer (programs_value (g.P.Programs.starts c.args.programs.now) (g.P.Programs.faults c.args.programs.now)) (g.P.Programs.starts c.greet.new.programs)
           (programs_value (g.P.Programs.starts c.finish-in-Ended.new.programs) (g.P.Programs.faults c.finish-in-Ended.new.programs)) (g.P.Programs.faults c.greet.new.programs)
           c.in-Ended.link.ear c.in-Ended.link.mouth _ _ (subst (λ (p : List ℕ). AddsOne (g.P.Programs.starts c.args.programs.now) (g.P.Programs.starts c.greet.new.programs) (p, true)) c.view-program.ensures c.in-Ended.ensures.starts) c.finish-in-Ended.ensures.starts c.in-Ended.ensures.later c.finish-in-Ended.ensures.later c.in-Ended.ensures.numbers refl c.in-Ended.link.one_child
-          (c.turn_away-in-Ended.ensures.wired c.in-Ended.ensures.wired) c.finish-in-Ended.ensures.laid,
+          (lone_held new c.in-Ended.link.ear c.in-Ended.link.mouth (c.turn_away-in-Ended.ensures.wired c.in-Ended.ensures.wired)) c.finish-in-Ended.ensures.laid,
     )
 
 pub returns-in-Unsent-clause-starts : goal.returns-in-Unsent-clause-starts
@@ -103,7 +104,7 @@ returns-in-Unsent-clause-starts g c =
       starts_child c.args.plan.now.program new child c.args.offer (programs_value (g.P.Programs.starts c.args.programs.now) (g.P.Programs.faults c.args.programs.now)) (g.P.Programs.starts c.greet.new.programs)
           (programs_value (g.P.Programs.starts c.finish-in-Unsent.new.programs) (g.P.Programs.faults c.finish-in-Unsent.new.programs)) (g.P.Programs.faults c.greet.new.programs)
           c.in-Unsent.link.ear c.in-Unsent.link.mouth _ _ (subst (λ (p : List ℕ). AddsOne (g.P.Programs.starts c.args.programs.now) (g.P.Programs.starts c.greet.new.programs) (p, true)) c.view-program.ensures c.in-Unsent.ensures.starts) c.finish-in-Unsent.ensures.starts c.in-Unsent.ensures.later c.finish-in-Unsent.ensures.later c.in-Unsent.ensures.numbers refl c.in-Unsent.link.one_child
-          (c.turn_away-in-Unsent.ensures.wired c.in-Unsent.ensures.wired) c.finish-in-Unsent.ensures.laid,
+          (lone_held new c.in-Unsent.link.ear c.in-Unsent.link.mouth (c.turn_away-in-Unsent.ensures.wired c.in-Unsent.ensures.wired)) c.finish-in-Unsent.ensures.laid,
     )
 
 pub returns-in-StartFault-clause-starts : goal.returns-in-StartFault-clause-starts

@@ -1,0 +1,54 @@
+-- A link that is held stays so where nothing of its child is made, and where it is closed.
+use Rattle.std.proofs.Common.{◌≡◌, ℕ, List, [], ◌∷◌, ◌++◌, refl, sym, ap, subst, ◌∙◌, Bool, true, false, not, ◌==◌, cond}
+use Rattle.std.specs.Prelude.{◌||◌}
+use Rattle.std.specs.List.{list_all}
+use Rattle.journal_model.specs.declared.verdict.Why.TheVariants.{Closed}
+use Rattle.journal_model.specs.declared.entry.What.TheVariants.{End}
+use Rattle.journal_model.specs.declared.entry.Entry.{Entry}
+use Rattle.journal_model.specs.Journal.{any, is_ended}
+use Rattle.journal_model.specs.Halves.{EarValue, MouthValue, EarWired}
+use Rattle.journal_model.specs.Shares.{is_heard, is_of_child, is_said}
+use Rattle.journal_model.proofs.Ears.{ear_stop}
+use Rattle.journal_model.proofs.Heard.{heard_on}
+use Rattle.journal_model.proofs.Mouths.{mouth_apart}
+use Rattle.journal_model.proofs.Soft.{IsSoft, soft_stretch}
+use Rattle.link_roles.specs.Alone.{Closes}
+use Rattle.link_roles.specs.Writings.{LoneWired}
+use Rattle.link_roles.proofs.Linked.{any_narrower, heard_of, link_apart, said_of}
+use Rattle.link_roles.proofs.Roles.{all_left}
+use Rattle.link_roles.proofs.Writings.{written_apart, written_on}
+use Rattle.child_end.specs.Wires.{IsHeld, is_mains}
+
+-- a link whose requests are written before they are answered, whoever serves the child
+pub lone_held : (journal : List Entry) (e : EarValue) (m : MouthValue) → LoneWired journal e m → IsHeld journal e m
+lone_held journal e m w = record { link = w.link; written = λ mains. w.written }
+
+mains_before : (past more : List Entry) (c : ℕ) → is_mains (past ++ more) c ≡ true → is_mains past c ≡ true
+mains_before past more c h = all_left (λ (e : Entry). not (is_of_child c e.what) || e.by == 0) past more h
+
+pub held_apart : (past more : List Entry) (e : EarValue) (m : MouthValue) → m.child ≡ e.child → any (is_of_child e.child) more ≡ false → IsHeld past e m → IsHeld (past ++ more) e m
+held_apart past more e m one none h = record {
+  link = link_apart past more e m one (any_narrower (is_heard e.child) (is_of_child e.child) (heard_of e.child) more none) (any_narrower (is_said e.child) (is_of_child e.child) (said_of e.child) more none) h.link;
+  written = λ mains. written_apart past more e.child none (h.written (mains_before past more e.child mains));
+}
+
+pub held_closed : (n c : ℕ) (old new : List Entry) (e : EarValue) (m : MouthValue) → e.child ≡ c → Closes n c old new → IsHeld old e m → IsHeld new e m
+held_closed n c old new e m ec h w = go (is_ended old c) refl h
+  where
+    one : List Entry
+    one = record { by = n; what = End c Closed } ∷ []
+
+    nothing : IsSoft e.child []
+    nothing = soft_stretch e.child n [] refl
+
+    go : (b : Bool) → is_ended old c ≡ b → new ≡ cond b old (old ++ one) → IsHeld new e m
+    go true f h = subst (λ (j : List Entry). IsHeld j e m) (sym h) w
+    go false f h = subst (λ (j : List Entry). IsHeld j e m) (sym h) (record {
+      link = record {
+        ear = subst (λ (k : ℕ). EarWired (old ++ record { by = n; what = End k Closed } ∷ []) e) ec
+            (ear_stop old [] n Closed e nothing (subst (λ (k : ℕ). is_ended old k ≡ false) (sym ec) f) tt (λ x. absurd cc) (λ x. absurd cc) w.link.ear);
+        mouth = mouth_apart old one m refl w.link.mouth;
+        turn = heard_on e.child old one refl w.link.turn;
+      };
+      written = λ mains. written_on old one e.child refl (w.written (mains_before old one e.child mains));
+    })

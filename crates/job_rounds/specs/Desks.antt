@@ -1,0 +1,64 @@
+-- Which tasks the desk of each worker was used for, and what it did for them.
+use Rattle.std.specs.Prelude.{ℕ, ◌≡◌, ◌⊎◌, ◌+◌, ◌-◌, ◌<◌, ◌==◌, Bool, if◌then◌else◌, List, [], ◌∷◌, ◌++◌, map, Option, Some, None, nat_lt}
+use Rattle.std.specs.List.{cons_option}
+use Rattle.ann_outside.specs.Calls.{Gained}
+use Rattle.journal_model.specs.declared.entry.What.{What}
+use Rattle.journal_model.specs.declared.entry.What.TheVariants.{Claim}
+use Rattle.journal_model.specs.declared.entry.Entry.{Entry}
+use Rattle.journal_model.specs.declared.opening.Opening.{Opening}
+use Rattle.journal_model.specs.Journal.{is_tagged}
+use Rattle.task_run.specs.declared.setup.Setup.{Setup}
+use Rattle.task_rounds.specs.JournalRuns.{JournalRun}
+use Rattle.lone_work.specs.Works.{CausedInTurn, DeskTells, TaskDone, all_calls}
+use Rattle.lone_rounds.specs.Rounds.{ZeroRun}
+
+-- ---- which desk
+
+-- The desk, from 1, of a number that claims a task for the child behind past. The main thread works with the first. In a round over a
+-- child that takes tags the workers have the numbers from 4 on, in one over children that don't, the numbers from 2 on.
+abbrev pub desk_of : List Entry → ℕ → ℕ → ℕ
+desk_of past by child = if nat_lt by 2 then 1 else if is_tagged past child then by - 3 else by - 1
+
+-- the task that the entry behind past claims for the kth desk
+abbrev pub claimed_for : ℕ → List Entry → ℕ → What → Option ℕ
+claimed_for k past by (Claim task child) = if desk_of past by child == k then Some task else None
+claimed_for k past by w = None
+
+-- the tasks that are claimed for it among the entries, which stand behind past, in order
+abbrev pub claims_for : ℕ → List Entry → List Entry → List ℕ
+claims_for k past [] = []
+claims_for k past (e ∷ rest) = cons_option (claimed_for k past e.by e.what) (claims_for k (past ++ e ∷ []) rest)
+
+-- ---- a task that is done
+
+-- It was claimed for a child, and run over it by the number that claimed it, in the layouts that were current then, and answered so.
+pub record WorkerRun (o : Opening) (setup : Setup) (journal : List Entry) (r : TaskDone) : Type 0 where
+  pub number : ℕ
+  pub run : JournalRun o setup r.calls number r.task journal
+  pub child : 0 < run.run.child
+  pub answer : run.run.answer ≡ r.answer
+
+-- over a child, or without one, by the main thread and without a call of its desk
+abbrev pub IsDone : Opening → Setup → ℕ → List Entry → TaskDone → Type 0
+IsDone o setup limit journal r = WorkerRun o setup journal r ⊎ (ZeroRun limit journal r.task r.answer × (r.calls ≡ []))
+
+abbrev pub AreDone : Opening → Setup → ℕ → List Entry → List TaskDone → Type 0
+AreDone o setup limit journal [] = Unit {0}
+AreDone o setup limit journal (r ∷ rs) = IsDone o setup limit journal r × AreDone o setup limit journal rs
+
+-- ---- what a desk did
+
+-- Each task that the entries behind past claim for the kth desk has its run in the journal, and the desk made the calls of these runs,
+-- in the order of their claims, and no others.
+pub record DeskDid (o : Opening) (setup : Setup) (limit : ℕ) (journal past entries : List Entry) (k : ℕ) (desk desk' : DeskTells) : Type 0 where
+  pub done : List TaskDone
+  pub claimed : map (λ (r : TaskDone). r.task) done ≡ claims_for k past entries
+  pub ran : AreDone o setup limit journal done
+  pub log_is : Gained desk.log desk'.log (all_calls done)
+  pub caused : CausedInTurn desk.counts done desk'.counts
+
+-- so did each desk, from the kth on
+abbrev pub DesksDid : Opening → Setup → ℕ → List Entry → List Entry → List Entry → ℕ → List DeskTells → List DeskTells → Type 0
+DesksDid o setup limit journal past entries k [] [] = Unit {0}
+DesksDid o setup limit journal past entries k (d ∷ ds) (e ∷ es) = DeskDid o setup limit journal past entries k d e × DesksDid o setup limit journal past entries (k + 1) ds es
+DesksDid o setup limit journal past entries k ds es = ⊥

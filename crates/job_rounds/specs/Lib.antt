@@ -1,0 +1,4 @@
+pub mod Desks
+pub mod JobRuns
+pub mod Servings
+pub mod Starts

@@ -1,0 +1,46 @@
+-- What is done over a child that is ready.
+use Rattle.std.specs.Prelude.{ℕ, ◌≡◌, ◌≢◌, ◌⊎◌, ◌+◌, Bool, true, List, [], ◌∷◌, Some, length}
+use Rattle.std.specs.List.{range_with_len}
+use Rattle.journal_model.specs.declared.verdict.Why.TheVariants.{Closed}
+use Rattle.journal_model.specs.declared.entry.Entry.{Entry}
+use Rattle.journal_model.specs.declared.opening.Opening.{Opening}
+use Rattle.journal_model.specs.Halves.{EarValue, MouthValue}
+use Rattle.journal_model.specs.Journal.{is_tagged, why_of}
+use Rattle.link_roles.specs.Alone.{Closes}
+use Rattle.link_roles.specs.Writings.{LoneWired}
+use Rattle.gathering.specs.Laws.{GoesOn}
+use Rattle.gathering.specs.Rounds.{IsAtRest, LinkValue}
+use Rattle.task_run.specs.declared.setup.Setup.{Setup}
+use Rattle.lone_work.specs.Works.{CanWork, DeskTells}
+use Rattle.crew_roles.specs.TaggedRounds.{TaggedLeaves}
+use Rattle.lone_rounds.specs.Stints.{HasServed}
+
+-- the child is ready and idle, no task is busy and no job is open, and its link is wired; it takes tags or not
+pub record CanBeServed (o : Opening) (journal : List Entry) (ear : EarValue) (mouth : MouthValue) (tagged : Bool) : Type 0 where
+  pub can : CanWork o ear.child journal
+  pub calm : IsAtRest journal
+  pub wired : LoneWired journal ear mouth
+  pub unclosed : why_of journal ear.child ≡ Some Closed → ⊥
+  pub tag : tagged ≡ is_tagged journal ear.child
+
+-- the main thread did tasks with the first desk until the child was gone or all were claimed, and closed it
+pub record ServesAlone (o : Opening) (setup : Setup) (c : ℕ) (old new : List Entry) (desks desks' : List DeskTells) : Type 0 where
+  pub desk : DeskTells
+  pub desk' : DeskTells
+  pub others : List DeskTells
+  pub before : desks ≡ desk ∷ others
+  pub after : desks' ≡ desk' ∷ others
+  pub served : HasServed o setup c old new desk desk'
+
+-- a round over the tagged child, with all desks, and then the main thread closed it
+pub record ServesRound (o : Opening) (setup : Setup) (c : ℕ) (old new : List Entry) (desks desks' : List DeskTells) : Type 0 where
+  pub many : (length desks ≡ 1) → ⊥
+  pub tagged : is_tagged old c ≡ true
+  pub link : LinkValue
+  pub child : link.ear.child ≡ c
+  pub mid : List Entry
+  pub round : GoesOn old mid (λ rest. TaggedLeaves o setup (range_with_len 1 (3 + length desks)) old rest link desks desks')
+  pub closes : Closes 0 c mid new
+
+abbrev pub Serves : Opening → Setup → ℕ → List Entry → List Entry → List DeskTells → List DeskTells → Type 0
+Serves o setup c old new desks desks' = ServesAlone o setup c old new desks desks' ⊎ ServesRound o setup c old new desks desks'

@@ -1,0 +1,10 @@
+// A whole run by as many workers as there are desks: children are started one after the other, and each does tasks until it is gone.
+#![tactic(auto)]
+
+mod bench;
+mod running;
+mod serving;
+mod starting;
+
+pub use bench::Bench;
+pub use running::run_jobs;

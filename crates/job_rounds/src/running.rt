@@ -1,0 +1,60 @@
+ghost use Rattle.std.specs.Prelude.{◌≡◌, ◌≤◌, ◌<◌, [], map, IsErr, vec_len, vec_capacity, false};
+ghost use Rattle.annex_model.specs.Lines.{has_newline};
+ghost use Rattle.child_end.specs.Programs.{Leaves, programs_value};
+ghost use Rattle.child_end.specs.Wires.{wire_value};
+ghost use Rattle.child_start.specs.Cores.{IsSameCore};
+ghost use Rattle.job_rounds.specs.JobRuns.{RanJobs};
+ghost use Rattle.lone_rounds.specs.Rounds.{IsWhole};
+ghost use Rattle.lone_work.specs.Works.{AreTasks, desk_tells};
+
+use crate::bench::Bench;
+use crate::starting::start_children;
+use ann_key::NoMemory;
+use ann_outside::{Desk, Programs};
+use link_roles::Wire;
+use lone_rounds::{Plan, answer_left};
+use std::alloc::Global;
+use std::marker::{Send, Sync};
+use std::sync::Wait;
+use std::thread::Threads;
+use task_text::Task;
+
+/// Does all tasks over children that are started one after the other, and answers each. Over a child that takes tags, a worker for each
+/// desk does tasks side by side, in a thread of its own; over another, or where there are no threads, one worker does. Where a child is
+/// lost the next one goes on; where no start is left, the tasks that are left are answered `nochild`. `NoMemory` is answered where no
+/// memory was found to start a child; what was done until then stands in the journal.
+pub fn run_jobs<P: Programs, K: Desk + Send + Drop, R: Threads + Wait + Sync>(
+    rt: &R,
+    alloc: Global,
+    programs: &mut P,
+    plan: &Plan,
+    tasks: &[Task],
+    bench: Bench<K>,
+    wires: &mut Vec<Wire<P::Inlet, P::Outlet>>,
+) -> (Bench<K>, Result<(), NoMemory>)
+where
+    P::Inlet: Send + Drop,
+    P::Outlet: Send + Drop,
+    requires empty { bench.core.journal ≡ [] }
+    requires tasks { (bench.core.opening.tasks ≡ tasks.now) × AreTasks tasks.now }
+    requires starts { (0 < plan.now.starts) × (plan.now.starts ≤ 16) }
+    requires folder { has_newline plan.now.setup.work ≡ false }
+    requires desks { (0 < vec_len bench.desks) × (vec_len bench.desks ≤ 64) }
+    requires room { plan.now.starts ≤ vec_capacity wires.old }
+    requires none { wires.old.items ≡ [] }
+    ensures ran { RanJobs bench.core.opening plan.now.setup plan.now.offers plan.now.starts result.0.core.journal (map (λ k. desk_tells (K.log k) (K.counts k)) bench.desks.items) (map (λ k. desk_tells (K.log k) (K.counts k)) result.0.desks.items) }
+    ensures whole { IsWhole bench.core.opening result.0.core.journal result.1 }
+    ensures leaves { Leaves (IsErr result.1) plan.now.program result.0.core.journal (programs_value (P.starts programs.old) (P.faults programs.old)) (programs_value (P.starts programs.new) (P.faults programs.new)) (map (wire_value P.Inlet.taken P.Inlet.faults P.Inlet.number P.Inlet.is_open P.Outlet.given P.Outlet.left P.Outlet.faults P.Outlet.number P.Outlet.is_open) wires.new.items) }
+    ensures core { IsSameCore bench.core result.0.core }
+    ensures desks { vec_len result.0.desks ≡ vec_len bench.desks }
+{
+    let (bench, started) = start_children(rt, alloc, programs, plan, tasks, bench, wires);
+    let mut bench = bench;
+    if let Err(NoMemory) = started {
+        return (bench, Err(NoMemory));
+    }
+    if bench.core.unclaimed() > 0 {
+        answer_left(&mut bench.core);
+    }
+    (bench, Ok(()))
+}
