@@ -4,6 +4,7 @@ use Rattle.ann_key.specs.declared.bytes.NoMemory.{NoMemory}
 use Rattle.journal_model.specs.declared.entry.What.{What}
 use Rattle.journal_model.specs.declared.entry.Entry.{Entry}
 use Rattle.journal_model.specs.declared.opening.Opening.{Opening}
+use Rattle.journal_model.specs.Journal.{open_jobs}
 use Rattle.journal_model.specs.Shares.{are_by}
 use Rattle.task_run.specs.declared.setup.Setup.{Setup}
 use Rattle.lone_work.specs.Works.{DeskTells}
@@ -17,6 +18,7 @@ pub record JobStretch (o : Opening) (setup : Setup) (limit : ℕ) (offer next : 
   pub stretch : Stretch o offer next first old new
   pub did : DesksDid o setup limit new (old ++ main_entry first ∷ []) stretch.later 1 desks desks'
   pub alone : length desks ≡ 1 → are_by 0 stretch.later ≡ true
+  pub shut : ((c : ℕ) → open_jobs old c ≡ []) → (c : ℕ) → open_jobs new c ≡ []
 
 -- in the journal and of the objects
 abbrev pub OneJobStart : Opening → Setup → ℕ → Bool → Bool → List ℕ → List Entry → List Entry → List DeskTells → List DeskTells → ProgramsValue → ProgramsValue → List WireValue → List WireValue → Type 0
@@ -35,6 +37,7 @@ pub record JobsBetween (o : Opening) (setup : Setup) (may : Bool) (limit made : 
   pub spaced : Spaced o may made offer journal
   pub did : DesksDid o setup limit journal [] journal 1 desks desks'
   pub alone : length desks ≡ 1 → are_by 0 journal ≡ true
+  pub shut : (c : ℕ) → open_jobs journal c ≡ []
 
 -- the children were started, one after the other, until all starts were made or all tasks claimed, or no memory was found to start one
 abbrev pub JobsStarted : Opening → Setup → Bool → ℕ → List Entry → List DeskTells → List DeskTells → Result (Unit {0}) NoMemory → Type 0

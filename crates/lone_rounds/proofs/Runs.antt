@@ -29,7 +29,7 @@ child_lasts o setup past more r legal rest h =
     let after = run_lasts o setup r.calls 0 h.run.run.child r.task r.answer past more legal rest before in
     record { run = after.run; child = subst (λ (c : ℕ). 0 < c) (sym after.child) h.child; answer = after.answer_is }
 
-zero_lasts : (limit : ℕ) (past more : List Entry) (t : ℕ) (answer : Answer) → ZeroRun limit past t answer → ZeroRun limit (past ++ more) t answer
+pub zero_lasts : (limit : ℕ) (past more : List Entry) (t : ℕ) (answer : Answer) → ZeroRun limit past t answer → ZeroRun limit (past ++ more) t answer
 zero_lasts limit past more t answer z = record {
   past = z.past;
   rest = z.rest ++ more;
@@ -65,11 +65,11 @@ module _ (o : Opening) (setup : Setup) (limit : ℕ) where
 
 -- ---- lists
 
-calls_both : (xs ys : List TaskDone) → all_calls (xs ++ ys) ≡ all_calls xs ++ all_calls ys
+pub calls_both : (xs ys : List TaskDone) → all_calls (xs ++ ys) ≡ all_calls xs ++ all_calls ys
 calls_both [] ys = refl
 calls_both (r ∷ xs) ys = ap (λ (l : List Call). r.calls ++ l) (calls_both xs ys) ∙ sym (append_assoc r.calls (all_calls xs) (all_calls ys))
 
-tasks_both : (xs ys : List TaskDone) → map (λ (r : TaskDone). r.task) (xs ++ ys) ≡ map (λ (r : TaskDone). r.task) xs ++ map (λ (r : TaskDone). r.task) ys
+pub tasks_both : (xs ys : List TaskDone) → map (λ (r : TaskDone). r.task) (xs ++ ys) ≡ map (λ (r : TaskDone). r.task) xs ++ map (λ (r : TaskDone). r.task) ys
 tasks_both [] ys = refl
 tasks_both (r ∷ xs) ys = ap (λ (l : List ℕ). r.task ∷ l) (tasks_both xs ys)
 
@@ -80,15 +80,15 @@ answers_both : (xs ys : List TaskDone) → map told (xs ++ ys) ≡ map told xs +
 answers_both [] ys = refl
 answers_both (r ∷ xs) ys = ap (λ (l : List (ℕ × Answer)). (r.task, r.answer) ∷ l) (answers_both xs ys)
 
-caused_both : (a b d : Counts) (xs ys : List TaskDone) → CausedInTurn a xs b → CausedInTurn b ys d → CausedInTurn a (xs ++ ys) d
+pub caused_both : (a b d : Counts) (xs ys : List TaskDone) → CausedInTurn a xs b → CausedInTurn b ys d → CausedInTurn a (xs ++ ys) d
 caused_both a b d [] ys h k = subst (λ (w : Counts). CausedInTurn w ys d) h k
 caused_both a b d (r ∷ xs) ys h k = (h.0, caused_both r.counts b d xs ys h.1 k)
 
-gained_nothing : (log : Option (List Call)) → Gained log log []
+pub gained_nothing : (log : Option (List Call)) → Gained log log []
 gained_nothing None = refl
 gained_nothing (Some calls) = ap (λ (l : List Call). Some l) (sym (append-nil calls))
 
-gained_more : (a b d : Option (List Call)) (xs ys : List Call) → Gained a b xs → Gained b d ys → Gained a d (xs ++ ys)
+pub gained_more : (a b d : Option (List Call)) (xs ys : List Call) → Gained a b xs → Gained b d ys → Gained a d (xs ++ ys)
 gained_more None b d xs ys h k = k ∙ ap (λ (o : Option (List Call)). option_map (λ (log : List Call). log ++ ys) o) h
 gained_more (Some calls) b d xs ys h k = k ∙ ap (λ (o : Option (List Call)). option_map (λ (log : List Call). log ++ ys) o) h ∙ ap (λ (l : List Call). Some l) (append_assoc calls xs ys)
 

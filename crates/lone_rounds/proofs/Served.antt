@@ -70,7 +70,7 @@ module _ (o : Opening) (g more : List Entry) (c : ℕ) (legal : Legal o g) (read
   unoffered : any (offers c) (g ++ more) ≡ any (offers c) g
   unoffered = any-append (offers c) g more ∙ ap (λ (b : Bool). any (offers c) g || b) (any_none (in_stint c) (offers c) (λ w h. no_offer c w (no_start_in c w h)) more within) ∙ or_false (any (offers c) g)
 
-  tag_same : is_tagged (g ++ more) c ≡ is_tagged g c
+  pub tag_same : is_tagged (g ++ more) c ≡ is_tagged g c
   tag_same =
       ap (λ (b : Bool). b && accepts_async (g ++ more) (verdict_of (g ++ more) c 0)) unoffered
       ∙ ap (λ (v : Option Verdict). any (offers c) g && accepts_async (g ++ more) v) first_same
@@ -79,15 +79,15 @@ module _ (o : Opening) (g more : List Entry) (c : ℕ) (legal : Legal o g) (read
   done_still : is_done (verdict_of (g ++ more) c 1) ≡ true
   done_still = ap is_done (verdict_of-append c 1 g more) ∙ done_more (verdict_of g c 1) (verdict_of more c 1) (both (is_done (verdict_of g c 1)) (any (prepares c) g) ready.prepared).0
 
-  prepared_still : is_prepared (g ++ more) c ≡ true
+  pub prepared_still : is_prepared (g ++ more) c ≡ true
   prepared_still =
       let asked : any (prepares c) (g ++ more) ≡ true = any-append (prepares c) g more ∙ or_left (any (prepares c) g) (any (prepares c) more) (both (is_done (verdict_of g c 1)) (any (prepares c) g) ready.prepared).1 in
       rw (done_still, asked) refl
 
-  ready_now : is_ready_untagged (g ++ more) c ≡ not (is_tagged g c)
+  pub ready_now : is_ready_untagged (g ++ more) c ≡ not (is_tagged g c)
   ready_now = ap (λ (b : Bool). b && not (is_tagged (g ++ more) c)) prepared_still ∙ ap not tag_same
 
-  answers_nothing : unready_answer (g ++ more) c ≡ None
+  pub answers_nothing : unready_answer (g ++ more) c ≡ None
   answers_nothing = ap (λ (b : Bool). cond b None (or_refusal (gone_answer (g ++ more) c) (refusal_of (g ++ more) c))) done_still
 
 -- ---- what ends a child that works
@@ -119,7 +119,7 @@ module _ (o : Opening) (old xs : List Entry) (c : ℕ) (legal : Legal o old) (ne
 
 -- ---- the stint
 
-untagged : (a b : Bool) → (a && b) ≡ (a && not (not b || false))
+pub untagged : (a b : Bool) → (a && b) ≡ (a && not (not b || false))
 untagged true true = refl
 untagged true false = refl
 untagged false b = refl

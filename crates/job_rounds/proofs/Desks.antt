@@ -1,0 +1,173 @@
+-- What the desks did, as the journal grows.
+use Rattle.std.proofs.Common.{◌≡◌, ◌⊎◌, ℕ, ◌+◌, ◌<◌, List, [], ◌∷◌, ◌++◌, refl, sym, ap, subst, ◌∙◌, append_assoc, append-nil, Bool, true, false, ◌==◌, cond, Some, None, Option, arith, inl, inr, length, suc}
+use Rattle.std.specs.Prelude.{map, nat_lt, ◌-◌}
+use Rattle.std.specs.List.{list_all, cons_option}
+use Rattle.ann_outside.specs.Calls.{Gained}
+use Rattle.journal_model.specs.declared.entry.What.{What}
+use Rattle.journal_model.specs.declared.entry.What.TheVariants.{Claim}
+use Rattle.journal_model.specs.declared.entry.Entry.{Entry}
+use Rattle.journal_model.specs.declared.opening.Opening.{Opening}
+use Rattle.journal_model.specs.Journal.{each_of, is_tagged}
+use Rattle.journal_model.specs.Legality.{Legal, is_busy}
+use Rattle.journal_model.specs.Shares.{are_by}
+use Rattle.journal_model.proofs.Looks.{both, differ, same_number}
+use Rattle.task_run.specs.declared.setup.Setup.{Setup}
+use Rattle.lone_work.specs.Works.{CausedInTurn, DeskTells, RanFor, TaskDone, all_calls, claimed_task, claims_in}
+use Rattle.lone_work.proofs.Working.{run_lasts}
+use Rattle.lone_rounds.specs.Rounds.{ChildRun, HasRun, ZeroRun}
+use Rattle.lone_rounds.specs.Stints.{AllHaveRun, TasksDone}
+use Rattle.lone_rounds.proofs.Runs.{calls_both, caused_both, gained_more, gained_nothing, tasks_both, zero_lasts}
+use Rattle.job_rounds.specs.Desks.{AreDone, DeskDid, DesksDid, IsDone, WorkerRun, claimed_for, claims_for, desk_of}
+
+-- ---- what is claimed for a desk
+
+cons_both : {A : Type 0} (x : Option A) (ys zs : List A) → cons_option x (ys ++ zs) ≡ cons_option x ys ++ zs
+cons_both None ys zs = refl
+cons_both (Some a) ys zs = refl
+
+pub claims_both : (k : ℕ) (past xs ys : List Entry) → claims_for k past (xs ++ ys) ≡ claims_for k past xs ++ claims_for k (past ++ xs) ys
+claims_both k past [] ys = ap (λ (p : List Entry). claims_for k p ys) (sym (append-nil past))
+claims_both k past (e ∷ xs) ys =
+    ap (λ (l : List ℕ). cons_option (claimed_for k past e.by e.what) l)
+    (claims_both k (past ++ e ∷ []) xs ys ∙ ap (λ (p : List Entry). claims_for k (past ++ e ∷ []) xs ++ claims_for k p ys) (append_assoc past (e ∷ []) xs))
+    ∙ cons_both (claimed_for k past e.by e.what) (claims_for k (past ++ e ∷ []) xs) (claims_for k (past ++ e ∷ xs) ys)
+
+-- entries that claim nothing
+unclaimed : (k by : ℕ) (past : List Entry) (w : What) → claimed_task w ≡ None → claimed_for k past by w ≡ None
+unclaimed k by past (Claim task child) h = absurd cc
+unclaimed k by past w h = refl
+
+pub claims_none : (k : ℕ) (past xs : List Entry) → claims_in xs ≡ [] → claims_for k past xs ≡ []
+claims_none k past [] h = refl
+claims_none k past (e ∷ xs) h = go (claimed_task e.what) refl h
+  where
+    go : (x : Option ℕ) → claimed_task e.what ≡ x → cons_option x (claims_in xs) ≡ [] → cons_option (claimed_for k past e.by e.what) (claims_for k (past ++ e ∷ []) xs) ≡ []
+    go None is none = rw (unclaimed k e.by past e.what is, claims_none k (past ++ e ∷ []) xs none) refl
+    go (Some t) is none = absurd cc
+
+-- what the main thread claims is done with the first desk
+main_first : (past : List Entry) (by : ℕ) (w : What) → by ≡ 0 → claimed_for 1 past by w ≡ claimed_task w
+main_first past by (Claim task child) e = (let first : desk_of past by child ≡ 1 = rw e refl in rw first refl)
+main_first past by w e = refl
+
+main_no_other : (k : ℕ) (past : List Entry) (by : ℕ) (w : What) → 1 < k → by ≡ 0 → claimed_for k past by w ≡ None
+main_no_other k past by (Claim task child) far e =
+    let first : desk_of past by child ≡ 1 = rw e refl in
+    let other : (1 == k) ≡ false = differ 1 k (λ x. absurd (omega (arith, x, far))) in
+    rw first (rw other refl)
+main_no_other k past by w far e = refl
+
+pub main_claims : (past xs : List Entry) → are_by 0 xs ≡ true → claims_for 1 past xs ≡ claims_in xs
+main_claims past [] h = refl
+main_claims past (e ∷ xs) h =
+    let t = both (e.by == 0) (are_by 0 xs) h in
+    rw (main_first past e.by e.what (same_number e.by 0 t.0), main_claims (past ++ e ∷ []) xs t.1) refl
+
+pub main_claims_no_other : (k : ℕ) (past xs : List Entry) → 1 < k → are_by 0 xs ≡ true → claims_for k past xs ≡ []
+main_claims_no_other k past [] far h = refl
+main_claims_no_other k past (e ∷ xs) far h =
+    let t = both (e.by == 0) (are_by 0 xs) h in
+    rw (main_no_other k past e.by e.what far (same_number e.by 0 t.0), main_claims_no_other k (past ++ e ∷ []) xs far t.1) refl
+
+-- ---- tasks that are done stay so
+
+module _ (o : Opening) (setup : Setup) (limit : ℕ) where
+  worker_lasts : (past more : List Entry) (r : TaskDone) → Legal o past → ((t : ℕ) → is_busy past t ≡ false) → WorkerRun o setup past r → WorkerRun o setup (past ++ more) r
+  worker_lasts past more r legal rest h =
+      let before : RanFor o setup r.calls h.number h.run.run.child r.task r.answer past = record { run = h.run; child = refl; answer_is = h.answer } in
+      let after = run_lasts o setup r.calls h.number h.run.run.child r.task r.answer past more legal rest before in
+      record { number = h.number; run = after.run; child = subst (λ (c : ℕ). 0 < c) (sym after.child) h.child; answer = after.answer_is }
+
+  done_lasts : (past more : List Entry) (r : TaskDone) → Legal o past → ((t : ℕ) → is_busy past t ≡ false) → IsDone o setup limit past r → IsDone o setup limit (past ++ more) r
+  done_lasts past more r legal rest (inl h) = inl (worker_lasts past more r legal rest h)
+  done_lasts past more r legal rest (inr z) = inr (zero_lasts limit past more r.task r.answer z.0, z.1)
+
+  pub all_last : (past more : List Entry) (rs : List TaskDone) → Legal o past → ((t : ℕ) → is_busy past t ≡ false) → AreDone o setup limit past rs → AreDone o setup limit (past ++ more) rs
+  all_last past more [] legal rest h = tt
+  all_last past more (r ∷ rs) legal rest h = (done_lasts past more r legal rest h.0, all_last past more rs legal rest h.1)
+
+  all_both : (journal : List Entry) (xs ys : List TaskDone) → AreDone o setup limit journal xs → AreDone o setup limit journal ys → AreDone o setup limit journal (xs ++ ys)
+  all_both journal [] ys h k = k
+  all_both journal (r ∷ xs) ys h k = (h.0, all_both journal xs ys h.1 k)
+
+  -- what the main thread did
+  main_done : (journal : List Entry) (r : TaskDone) → HasRun o setup limit journal r → IsDone o setup limit journal r
+  main_done journal r (inl h) = inl (record { number = 0; run = h.run; child = h.child; answer = h.answer })
+  main_done journal r (inr z) = inr z
+
+  all_main : (journal : List Entry) (rs : List TaskDone) → AllHaveRun o setup limit journal rs → AreDone o setup limit journal rs
+  all_main journal [] h = tt
+  all_main journal (r ∷ rs) h = (main_done journal r h.0, all_main journal rs h.1)
+
+  -- ---- one desk
+
+  did_nothing : (journal past xs : List Entry) (k : ℕ) (desk : DeskTells) → claims_for k past xs ≡ [] → DeskDid o setup limit journal past xs k desk desk
+  did_nothing journal past xs k desk none = record { done = []; claimed = sym none; ran = tt; log_is = gained_nothing desk.log; caused = refl }
+
+  did_join : (journal past xs ys : List Entry) (k : ℕ) (a b d : DeskTells) → DeskDid o setup limit journal past xs k a b → DeskDid o setup limit journal (past ++ xs) ys k b d
+      → DeskDid o setup limit journal past (xs ++ ys) k a d
+  did_join journal past xs ys k a b d s t = record {
+    done = s.done ++ t.done;
+    claimed = tasks_both s.done t.done ∙ ap (λ (l : List ℕ). l ++ map (λ (r : TaskDone). r.task) t.done) s.claimed
+        ∙ ap (λ (l : List ℕ). claims_for k past xs ++ l) t.claimed ∙ sym (claims_both k past xs ys);
+    ran = all_both journal s.done t.done s.ran t.ran;
+    log_is = subst (Gained a.log d.log) (sym (calls_both s.done t.done)) (gained_more a.log b.log d.log (all_calls s.done) (all_calls t.done) s.log_is t.log_is);
+    caused = caused_both a.counts b.counts d.counts s.done t.done s.caused t.caused;
+  }
+
+  did_on : (journal more past xs : List Entry) (k : ℕ) (a b : DeskTells) → Legal o journal → ((t : ℕ) → is_busy journal t ≡ false) → DeskDid o setup limit journal past xs k a b
+      → DeskDid o setup limit (journal ++ more) past xs k a b
+  did_on journal more past xs k a b legal rest s = record {
+    done = s.done;
+    claimed = s.claimed;
+    ran = all_last journal more s.done legal rest s.ran;
+    log_is = s.log_is;
+    caused = s.caused;
+  }
+
+  -- ---- all desks
+
+  pub desks_nothing : (journal past xs : List Entry) (k : ℕ) (desks : List DeskTells) → claims_in xs ≡ [] → DesksDid o setup limit journal past xs k desks desks
+  desks_nothing journal past xs k [] none = tt
+  desks_nothing journal past xs k (d ∷ ds) none = (did_nothing journal past xs k d (claims_none k past xs none), desks_nothing journal past xs (k + 1) ds none)
+
+  pub desks_join : (journal past xs ys : List Entry) (k : ℕ) (as bs ds : List DeskTells) → DesksDid o setup limit journal past xs k as bs → DesksDid o setup limit journal (past ++ xs) ys k bs ds
+      → DesksDid o setup limit journal past (xs ++ ys) k as ds
+  desks_join journal past xs ys k [] [] [] s t = tt
+  desks_join journal past xs ys k [] [] (d ∷ ds) s t = absurd t
+  desks_join journal past xs ys k [] (b ∷ bs) ds s t = absurd s
+  desks_join journal past xs ys k (a ∷ as) [] ds s t = absurd s
+  desks_join journal past xs ys k (a ∷ as) (b ∷ bs) [] s t = absurd t
+  desks_join journal past xs ys k (a ∷ as) (b ∷ bs) (d ∷ ds) s t = (did_join journal past xs ys k a b d s.0 t.0, desks_join journal past xs ys (k + 1) as bs ds s.1 t.1)
+
+  pub desks_on : (journal more past xs : List Entry) (k : ℕ) (as bs : List DeskTells) → Legal o journal → ((t : ℕ) → is_busy journal t ≡ false) → DesksDid o setup limit journal past xs k as bs
+      → DesksDid o setup limit (journal ++ more) past xs k as bs
+  desks_on journal more past xs k [] [] legal rest s = tt
+  desks_on journal more past xs k [] (b ∷ bs) legal rest s = absurd s
+  desks_on journal more past xs k (a ∷ as) [] legal rest s = absurd s
+  desks_on journal more past xs k (a ∷ as) (b ∷ bs) legal rest s = (did_on journal more past xs k a b legal rest s.0, desks_on journal more past xs (k + 1) as bs legal rest s.1)
+
+  -- the desks from the second on are not the main thread's
+  others_nothing : (journal past xs : List Entry) (k : ℕ) (desks : List DeskTells) → 1 < k → are_by 0 xs ≡ true → DesksDid o setup limit journal past xs k desks desks
+  others_nothing journal past xs k [] far main = tt
+  others_nothing journal past xs k (d ∷ ds) far main = (did_nothing journal past xs k d (main_claims_no_other k past xs far main), others_nothing journal past xs (k + 1) ds (omega (arith, far)) main)
+
+  pub desks_main : (journal past xs : List Entry) (desk desk' : DeskTells) (others : List DeskTells) → are_by 0 xs ≡ true → TasksDone o setup limit journal xs desk desk'
+      → DesksDid o setup limit journal past xs 1 (desk ∷ others) (desk' ∷ others)
+  desks_main journal past xs desk desk' others main t = (
+    record {
+      done = t.done;
+      claimed = t.claimed ∙ sym (main_claims past xs main);
+      ran = all_main journal t.done t.ran;
+      log_is = t.log_is;
+      caused = t.caused;
+    },
+    others_nothing journal past xs 2 others (omega arith) main,
+  )
+
+-- as many desks before as behind
+pub desks_as_many : (o : Opening) (setup : Setup) (limit : ℕ) (journal past xs : List Entry) (k : ℕ) (as bs : List DeskTells) → DesksDid o setup limit journal past xs k as bs → length as ≡ length bs
+desks_as_many o setup limit journal past xs k [] [] s = refl
+desks_as_many o setup limit journal past xs k [] (b ∷ bs) s = absurd s
+desks_as_many o setup limit journal past xs k (a ∷ as) [] s = absurd s
+desks_as_many o setup limit journal past xs k (a ∷ as) (b ∷ bs) s = ap (λ (n : ℕ). suc n) (desks_as_many o setup limit journal past xs (k + 1) as bs s.1)
