@@ -79,7 +79,7 @@ module _ (answer : Answer) where
   left_none p c a [] = refl
   left_none p c a (t ∷ ts) = rw (c t, a t, left_none p c a ts) refl
 
-  left_main : (ts : List ℕ) → are_by 0 (answered_so answer ts) ≡ true
+  pub left_main : (ts : List ℕ) → are_by 0 (answered_so answer ts) ≡ true
   left_main [] = refl
   left_main (t ∷ ts) = left_main ts
 

@@ -92,7 +92,7 @@ module _ (o : Opening) (g more : List Entry) (c : ℕ) (legal : Legal o g) (read
 
 -- ---- what ends a child that works
 
-greeting_unclosed : (c : ℕ) (w : What) → is_of_greeting c w ≡ true → is_unclosed_end w ≡ true
+pub greeting_unclosed : (c : ℕ) (w : What) → is_of_greeting c w ≡ true → is_unclosed_end w ≡ true
 greeting_unclosed c (End child why) h = (both (child == c) (not (is_closed why)) h).1
 greeting_unclosed c w h = refl
 
@@ -100,7 +100,7 @@ worker_unclosed : (c : ℕ) (w : What) → by_worker c w ≡ true → is_unclose
 worker_unclosed c (End child why) h = (both (child == c) (not (is_closed why)) h).1
 worker_unclosed c w h = refl
 
-all_unclosed : (p : What → Bool) → ((w : What) → p w ≡ true → is_unclosed_end w ≡ true) → (xs : List Entry) → list_all (λ (e : Entry). p e.what) xs ≡ true → list_all (λ (e : Entry). is_unclosed_end e.what) xs ≡ true
+pub all_unclosed : (p : What → Bool) → ((w : What) → p w ≡ true → is_unclosed_end w ≡ true) → (xs : List Entry) → list_all (λ (e : Entry). p e.what) xs ≡ true → list_all (λ (e : Entry). is_unclosed_end e.what) xs ≡ true
 all_unclosed p f [] h = refl
 all_unclosed p f (e ∷ xs) h =
     let t = both (p e.what) (list_all (λ (x : Entry). p x.what) xs) h in

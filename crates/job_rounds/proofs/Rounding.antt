@@ -1,0 +1,134 @@
+-- A child that takes tags: a round of workers does tasks over it, and it is closed.
+use Rattle.std.proofs.Common.{◌≡◌, ◌⊎◌, ℕ, ◌+◌, ◌≤◌, List, [], ◌∷◌, ◌++◌, refl, sym, ap, subst, ◌∙◌, append_assoc, length, Bool, true, false, not, ◌==◌, arith, inl, inr, absurd}
+use Rattle.std.specs.Prelude.{◌&&◌, ◌||◌, None}
+use Rattle.std.specs.List.{list_all, range_with_len}
+use Rattle.journal_model.specs.declared.entry.What.TheVariants.{Start}
+use Rattle.journal_model.specs.declared.entry.Entry.{Entry}
+use Rattle.journal_model.specs.declared.opening.Opening.{Opening}
+use Rattle.journal_model.specs.Journal.{asked_jobs, is_tagged, open_jobs}
+use Rattle.journal_model.specs.Legality.{Legal, is_busy}
+use Rattle.journal_model.proofs.Testing.{all-join}
+use Rattle.host_core.specs.Steps.{are_all_claimed}
+use Rattle.gathering.specs.Rounds.{IsAtRest, LinkValue}
+use Rattle.crew_roles.specs.TaggedRounds.{TaggedLeaves}
+use Rattle.child_start.specs.Greetings.{Greeted, IsReady}
+use Rattle.task_run.specs.declared.setup.Setup.{Setup}
+use Rattle.task_run.specs.TaskRuns.{failed_start, unready_answer}
+use Rattle.lone_work.specs.Works.{DeskTells, claimed_task, claims_in}
+use Rattle.lone_rounds.specs.Starting.{is_ready_untagged, is_spent}
+use Rattle.lone_rounds.specs.Rounds.{is_of_run, start_untaken}
+use Rattle.lone_rounds.specs.Stints.{Stretch, in_stint, main_entry}
+use Rattle.lone_rounds.proofs.Apart.{spent_on}
+use Rattle.lone_rounds.proofs.Served.{answers_nothing, ready_now, untagged}
+use Rattle.lone_rounds.proofs.Stinting.{Closing, closing, closing_part, closing_rests, greeting_part, greeting_takes_none, of_closing}
+use Rattle.lone_rounds.proofs.Tests.{claimed_on}
+use Rattle.lone_rounds.proofs.Turns.{ready_untaken}
+use Rattle.job_rounds.specs.Desks.{DesksDid}
+use Rattle.job_rounds.specs.Servings.{ServesRound}
+use Rattle.job_rounds.specs.Starts.{JobStretch}
+use Rattle.job_rounds.proofs.Desks.{desks_join, desks_nothing, desks_on}
+use Rattle.job_rounds.proofs.RoundDid.{round_asks, round_did, round_over, round_within}
+use Rattle.job_rounds.proofs.Shutting.{AreShut, rest_shut}
+use Rattle.job_rounds.proofs.Stretching.{closed_idle, start_shuts}
+
+module _ (o : Opening) (setup : Setup) (limit : ℕ) (offer tagged : Bool) (old g new : List Entry) (c : ℕ) (desks desks' : List DeskTells)
+    (legal : Legal o old) (greeted : Greeted old g 0 offer c) (legal' : Legal o g) (ready : IsReady g c) (tag : tagged ≡ is_tagged g c) (s : ServesRound o setup c g new desks desks') where
+  abbrev first : Entry
+  first = main_entry (Start c 0 offer)
+
+  abbrev rest : List Entry
+  rest = s.round.0
+
+  leaves : TaggedLeaves o setup (range_with_len 1 (3 + length desks)) g rest s.link desks desks'
+  leaves = s.round.2
+
+  k : Closing c s.mid new
+  k = closing c s.mid new s.closes
+
+  abbrev later : List Entry
+  later = greeted.more ++ (rest ++ k.tail)
+
+  behind : new ≡ g ++ (rest ++ k.tail)
+  behind = k.is ∙ ap (λ (x : List Entry). x ++ k.tail) s.round.1 ∙ append_assoc g rest k.tail
+
+  whole : new ≡ old ++ first ∷ later
+  whole = behind ∙ ap (λ (x : List Entry). x ++ (rest ++ k.tail)) greeted.grown ∙ append_assoc old (first ∷ greeted.more) (rest ++ k.tail)
+
+  two : 2 ≤ length (asked_jobs g c)
+  two = (let n = ap length ready.jobs in omega (arith, n))
+
+  calm : IsAtRest (g ++ rest)
+  calm = leaves.round.rounded.at_rest
+
+  rest_within : list_all (λ (e : Entry). in_stint c e.what) rest ≡ true
+  rest_within = subst (λ (d : ℕ). list_all (λ (e : Entry). in_stint d e.what) rest ≡ true) s.child (round_within o setup _ g rest s.link desks desks' leaves)
+
+  rest_asks : list_all (λ (e : Entry). is_of_run e.what) rest ≡ true
+  rest_asks = round_asks o setup _ g rest s.link desks desks' legal' (subst (λ (d : ℕ). 2 ≤ length (asked_jobs g d)) (sym s.child) two) leaves
+
+  end_within : list_all (λ (e : Entry). in_stint c e.what) (rest ++ k.tail) ≡ true
+  end_within = all-join (λ (e : Entry). in_stint c e.what) rest k.tail rest_within (closing_part c k.tail k.one).within
+
+  within : list_all (λ (e : Entry). in_stint c e.what) later ≡ true
+  within = all-join (λ (e : Entry). in_stint c e.what) greeted.more (rest ++ k.tail) (greeting_part c greeted.more greeted.own greeted.main).within end_within
+
+  asks : list_all (λ (e : Entry). is_of_run e.what) later ≡ true
+  asks =
+      all-join (λ (e : Entry). is_of_run e.what) greeted.more (rest ++ k.tail) (greeting_part c greeted.more greeted.own greeted.main).asks
+      (all-join (λ (e : Entry). is_of_run e.what) rest k.tail rest_asks (closing_part c k.tail k.one).asks)
+
+  no_more : claims_in k.tail ≡ []
+  no_more = of_closing c k.tail k.one (λ (x : List Entry). claims_in x ≡ []) refl refl
+
+  -- the greeting claims nothing, the round's tasks are its desks', and the closing claims nothing
+  did : DesksDid o setup limit new (old ++ first ∷ []) later 1 desks desks'
+  did = subst (λ (j : List Entry). DesksDid o setup limit j (old ++ first ∷ []) later 1 desks desks') (sym (k.is ∙ ap (λ (x : List Entry). x ++ k.tail) s.round.1)) (
+      desks_join o setup limit all (old ++ first ∷ []) greeted.more (rest ++ k.tail) 1 desks desks desks'
+      (desks_nothing o setup limit all (old ++ first ∷ []) greeted.more 1 desks (greeting_takes_none old g offer c greeted))
+      (subst (λ (p : List Entry). DesksDid o setup limit all p (rest ++ k.tail) 1 desks desks') (greeted.grown ∙ sym (append_assoc old (first ∷ []) greeted.more))
+      (desks_join o setup limit all g rest k.tail 1 desks desks' desks' of_round (desks_nothing o setup limit all (g ++ rest) k.tail 1 desks' no_more))))
+    where
+      all : List Entry
+      all = (g ++ rest) ++ k.tail
+
+      of_round : DesksDid o setup limit all g rest 1 desks desks'
+      of_round = desks_on o setup limit (g ++ rest) k.tail g rest 1 desks desks' leaves.round.rounded.legal calm.idle
+          (round_did o setup limit _ g rest s.link desks desks' legal' (ap (is_tagged g) s.child ∙ s.tagged) leaves)
+
+  over : (list_all (is_spent new) (c ∷ []) ≡ true) ⊎ (are_all_claimed o new ≡ true)
+  over = go (round_over o setup _ g rest s.link desks desks' leaves)
+    where
+      mid_is : new ≡ (g ++ rest) ++ k.tail
+      mid_is = k.is ∙ ap (λ (x : List Entry). x ++ k.tail) s.round.1
+
+      go : (are_all_claimed o (g ++ rest) ≡ true) ⊎ (is_spent (g ++ rest) s.link.ear.child ≡ true) → (list_all (is_spent new) (c ∷ []) ≡ true) ⊎ (are_all_claimed o new ≡ true)
+      go (inl claimed) = inr (ap (are_all_claimed o) mid_is ∙ claimed_on o (g ++ rest) k.tail claimed)
+      go (inr spent) = inl (ap (λ (b : Bool). b && true) (
+          ap (λ (j : List Entry). is_spent j c) mid_is ∙ spent_on (g ++ rest) k.tail c (ap (is_spent (g ++ rest)) (sym s.child) ∙ spent)))
+
+  unready_none : unready_answer new c ≡ None
+  unready_none = ap (λ (j : List Entry). unready_answer j c) behind ∙ answers_nothing o g (rest ++ k.tail) c legal' ready greeted.idle end_within
+
+  ready_said : is_ready_untagged new c ≡ not tagged
+  ready_said = ap (λ (j : List Entry). is_ready_untagged j c) behind ∙ ready_now o g (rest ++ k.tail) c legal' ready greeted.idle end_within ∙ ap not (sym tag)
+
+  pub round_stretch : JobStretch o setup limit offer (offer && tagged) (Start c 0 offer) old new desks desks'
+  round_stretch = record {
+    stretch = record {
+      later = later;
+      is = whole;
+      start = inl (ap (λ (n : ℕ). Start n 0 offer) greeted.next);
+      within = subst (λ (n : ℕ). list_all (λ (e : Entry). in_stint n e.what) later ≡ true) greeted.next within;
+      asks = asks;
+      rest = λ u. ap (λ (j : List Entry). is_busy j u) k.is ∙ closing_rests c k.tail k.one s.mid (λ t. ap (λ (j : List Entry). is_busy j t) s.round.1 ∙ calm.idle t) u;
+      ended = ap (λ (b : Bool). b && true) k.ended;
+      spent = over;
+      untaken = subst (λ (j : List Entry). failed_start j (start_untaken j) ≡ None) (sym whole)
+          (ready_untaken old later c offer c within (subst (λ (j : List Entry). unready_answer j c ≡ None) whole unready_none));
+      offers = untagged offer tagged ∙ ap (λ (b : Bool). offer && not (b || false)) (sym ready_said);
+    };
+    did = did;
+    alone = λ one. absurd (s.many one);
+    shut = start_shuts old new later offer (Start c 0 offer) c (inl (ap (λ (n : ℕ). Start n 0 offer) greeted.next)) whole within
+        (λ shut. closed_idle c s.mid new s.closes (ap (λ (j : List Entry). open_jobs j c) s.round.1 ∙ rest_shut (g ++ rest) calm c));
+  }
