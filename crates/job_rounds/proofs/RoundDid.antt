@@ -1,7 +1,7 @@
 -- What a round over a tagged child leaves, as a run says it: what the desks did, that it made entries of its child alone, what its
 -- jobs are, and that the child is spent where tasks are left.
 use Rattle.std.proofs.Common.{◌≡◌, zero, suc, ℕ, ◌+◌, ◌-◌, ◌<◌, ◌≤◌, List, [], ◌∷◌, ◌++◌, refl, sym, ap, subst, ◌∙◌, Bool, true, false, not, ◌==◌, cond, Some, None, Option, ◌⊎◌, inl, inr, length, length-append, append_assoc, arith}
-use Rattle.std.specs.Prelude.{◌&&◌, ◌||◌, nat_lt, filter, map, is_some}
+use Rattle.std.specs.Prelude.{◌&&◌, ◌||◌, nat_lt, filter, is_some}
 use Rattle.std.specs.List.{list_all, list_any, cons_option}
 use Rattle.std.proofs.lemmas.Bool.Decides.{nat_tests}
 use Rattle.std.proofs.lemmas.List.{map-append}
@@ -28,7 +28,7 @@ use Rattle.journal_model.proofs.Looks.{any-append, both, differ, either_left, ei
 use Rattle.journal_model.proofs.Testing.{all-each, all-split, by_either, neither, or_left, or_right}
 use Rattle.journal_model.proofs.Turns.{tagged_on}
 use Rattle.journal_model.proofs.Working.{claimed_once, due_untasked, taken_claimed, unanswered_in}
-use Rattle.host_core.specs.Steps.{are_all_claimed, is_gone}
+use Rattle.host_core.specs.Steps.{are_all_claimed}
 use Rattle.gathering.specs.Posts.{Ear, Ender, Mouth, Post, Worker, gives_up, is_mains, makes, tagged_crew, works}
 use Rattle.gathering.specs.Rounds.{IsAmong, IsLostChild, LinkValue, Round, Rounded}
 use Rattle.task_run.specs.declared.setup.Setup.{Setup}
@@ -37,7 +37,7 @@ use Rattle.task_rounds.specs.JournalRuns.{JournalRun}
 use Rattle.child_start.specs.Greetings.{asks_for}
 use Rattle.child_start.specs.declared.greeting.Mode.TheVariants.{Serve}
 use Rattle.lone_work.specs.Works.{DeskTells, TaskDone, claims_in}
-use Rattle.lone_rounds.specs.Starting.{is_any_start, is_spent, is_unclosed, started_in}
+use Rattle.lone_rounds.specs.Starting.{is_spent, is_unclosed, started_in}
 use Rattle.lone_rounds.specs.Rounds.{is_of_run}
 use Rattle.lone_rounds.specs.Stints.{in_stint}
 use Rattle.lone_rounds.proofs.Apart.{is_unclosed_end}
@@ -319,8 +319,8 @@ equal_test m n e = subst (λ (x : ℕ). (m == x) ≡ true) e (same m)
 
 -- the kth desk is that of number k + 3
 desk_is : (past : List Entry) (by c k : ℕ) → is_tagged past c ≡ true → 3 < by → (desk_of past by c == k) ≡ (by == k + 3)
-desk_is past by c k tag late = rw (two, tag) (same_test (by - 3 == k) (by == k + 3)
-    (λ h. equal_test by (k + 3) (let is = same_number (by - 3) k h in omega (arith, is, late)))
+desk_is past by c k tag high = rw (two, tag) (same_test (by - 3 == k) (by == k + 3)
+    (λ h. equal_test by (k + 3) (let is = same_number (by - 3) k h in omega (arith, is, high)))
     (λ h. equal_test (by - 3) k (let is = same_number by (k + 3) h in omega (arith, is))))
   where
     two : nat_lt by 2 ≡ false
