@@ -1,3 +1,5 @@
 pub mod Desks
+pub mod RoundDid
 pub mod Shutting
 pub mod Stretching
+pub mod Rounding
