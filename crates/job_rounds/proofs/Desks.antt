@@ -1,5 +1,5 @@
 -- What the desks did, as the journal grows.
-use Rattle.std.proofs.Common.{◌≡◌, ◌⊎◌, ℕ, ◌+◌, ◌<◌, List, [], ◌∷◌, ◌++◌, refl, sym, ap, subst, ◌∙◌, append_assoc, append-nil, Bool, true, false, ◌==◌, cond, Some, None, Option, arith, inl, inr, length, suc}
+use Rattle.std.proofs.Common.{◌≡◌, ◌⊎◌, ℕ, ◌+◌, ◌<◌, ◌≤◌, List, [], ◌∷◌, ◌++◌, refl, sym, ap, subst, ◌∙◌, append_assoc, append-nil, Bool, true, false, ◌==◌, cond, Some, None, Option, arith, inl, inr, length, suc}
 use Rattle.std.specs.Prelude.{map, nat_lt, ◌-◌}
 use Rattle.std.specs.List.{list_all, cons_option}
 use Rattle.ann_outside.specs.Calls.{Gained}
@@ -17,7 +17,7 @@ use Rattle.lone_work.proofs.Working.{run_lasts}
 use Rattle.lone_rounds.specs.Rounds.{ChildRun, HasRun, ZeroRun}
 use Rattle.lone_rounds.specs.Stints.{AllHaveRun, TasksDone}
 use Rattle.lone_rounds.proofs.Runs.{calls_both, caused_both, gained_more, gained_nothing, tasks_both, zero_lasts}
-use Rattle.job_rounds.specs.Desks.{AreDone, DeskDid, DesksDid, IsDone, WorkerRun, claimed_for, claims_for, desk_of}
+use Rattle.job_rounds.specs.Desks.{AreDone, DeskDid, DesksDid, HasDesk, HaveDesks, IsDone, WorkerRun, claimed_for, claims_for, desk_of}
 
 -- ---- what is claimed for a desk
 
@@ -68,6 +68,36 @@ main_claims_no_other k past [] far h = refl
 main_claims_no_other k past (e ∷ xs) far h =
     let t = both (e.by == 0) (are_by 0 xs) h in
     rw (main_no_other k past e.by e.what far (same_number e.by 0 t.0), main_claims_no_other k (past ++ e ∷ []) xs far t.1) refl
+
+-- ---- each claim has a desk
+
+pub have_both : (n : ℕ) (past xs ys : List Entry) → HaveDesks n past xs → HaveDesks n (past ++ xs) ys → HaveDesks n past (xs ++ ys)
+have_both n past [] ys h k = subst (λ (p : List Entry). HaveDesks n p ys) (append-nil past) k
+have_both n past (e ∷ xs) ys h k = (h.0, have_both n (past ++ e ∷ []) xs ys h.1 (subst (λ (p : List Entry). HaveDesks n p ys) (sym (append_assoc past (e ∷ []) xs)) k))
+
+unclaimed_has : (n by : ℕ) (past : List Entry) (w : What) → claimed_task w ≡ None → HasDesk n past by w
+unclaimed_has n by past (Claim task child) h = absurd cc
+unclaimed_has n by past w h = tt
+
+pub have_none : (n : ℕ) (past xs : List Entry) → claims_in xs ≡ [] → HaveDesks n past xs
+have_none n past [] h = tt
+have_none n past (e ∷ xs) h = go (claimed_task e.what) refl h
+  where
+    go : (x : Option ℕ) → claimed_task e.what ≡ x → cons_option x (claims_in xs) ≡ [] → HasDesk n past e.by e.what × HaveDesks n (past ++ e ∷ []) xs
+    go None is none = (unclaimed_has n e.by past e.what is, have_none n (past ++ e ∷ []) xs none)
+    go (Some t) is none = absurd cc
+
+main_has : (n by : ℕ) (past : List Entry) (w : What) → 0 < n → by ≡ 0 → HasDesk n past by w
+main_has n by past (Claim task child) some e =
+    let first : desk_of past by child ≡ 1 = rw e refl in
+    (omega (arith, first), omega (arith, first, some))
+main_has n by past w some e = tt
+
+pub have_main : (n : ℕ) (past xs : List Entry) → 0 < n → are_by 0 xs ≡ true → HaveDesks n past xs
+have_main n past [] some h = tt
+have_main n past (e ∷ xs) some h =
+    let t = both (e.by == 0) (are_by 0 xs) h in
+    (main_has n e.by past e.what some (same_number e.by 0 t.0), have_main n (past ++ e ∷ []) xs some t.1)
 
 -- ---- tasks that are done stay so
 

@@ -2,7 +2,7 @@
 -- jobs are, and that the child is spent where tasks are left.
 use Rattle.std.proofs.Common.{◌≡◌, zero, suc, ℕ, ◌+◌, ◌-◌, ◌<◌, ◌≤◌, List, [], ◌∷◌, ◌++◌, refl, sym, ap, subst, ◌∙◌, Bool, true, false, not, ◌==◌, cond, Some, None, Option, ◌⊎◌, inl, inr, length, length-append, append_assoc, arith}
 use Rattle.std.specs.Prelude.{◌&&◌, ◌||◌, nat_lt, filter, is_some}
-use Rattle.std.specs.List.{list_all, list_any, cons_option}
+use Rattle.std.specs.List.{list_all, list_any, cons_option, range_with_len}
 use Rattle.std.proofs.lemmas.Bool.Decides.{nat_tests}
 use Rattle.std.proofs.lemmas.List.{map-append}
 use Rattle.std.proofs.lemmas.List.Elements.{filter-append}
@@ -46,7 +46,7 @@ use Rattle.lone_rounds.proofs.Tests.{count-append, count_none}
 use Rattle.crew_work.specs.Crews.{answers_by, answers_of, calls_of, claims_by, tasks_of}
 use Rattle.crew_roles.specs.Crewing.{DeskDid as CrewDid, DesksDid as CrewDesks, calls_from}
 use Rattle.crew_roles.specs.TaggedRounds.{TaggedLeaves}
-use Rattle.job_rounds.specs.Desks.{AreDone, DeskDid, DesksDid, IsDone, claimed_for, claims_for, desk_of}
+use Rattle.job_rounds.specs.Desks.{AreDone, DeskDid, DesksDid, HasDesk, HaveDesks, IsDone, claimed_for, claims_for, desk_of}
 
 -- ---- an entry that stands among others
 
@@ -264,6 +264,35 @@ round_asks o c numbers start rest legal two r =
         let q = both (late c e.what) (list_all (λ (x : Entry). late c x.what) xs) l in
         let s = both (not (asks_none e.what) || e.by == 0) (are_mains xs) m in
         rw (post_asks c e.by e.what p.0 q.0 s.0, all xs p.1 q.1 s.1) refl
+
+-- ---- each claim has a desk
+
+in_range : (from len x : ℕ) → list_any (λ (n : ℕ). n == x) (range_with_len from len) ≡ true → x < from + len
+in_range from zero x h = absurd cc
+in_range from (suc len) x h = by_either (from == x)
+    (λ it. (let e = same_number from x it in omega (arith, e)))
+    (λ other. (let r = in_range (suc from) len x (sym (ap (λ (b : Bool). b || list_any (λ (n : ℕ). n == x) (range_with_len (suc from) len)) other) ∙ h) in omega (arith, r)))
+
+-- so many workers have the desks of a round's tasks
+pub round_desks : (o : Opening) (c n : ℕ) (start rest : List Entry) → is_tagged start c ≡ true → Rounded o (tagged_crew c) (range_with_len 1 (3 + n)) start rest → HaveDesks n start rest
+round_desks o c n start rest tag r = all start rest tag r.posts r.numbered
+  where
+    one : (past : List Entry) (by : ℕ) (w : What) → is_tagged past c ≡ true → makes (tagged_crew c by) w ≡ true → list_any (λ (m : ℕ). m == by) (range_with_len 1 (3 + n)) ≡ true → HasDesk n past by w
+    one past by (Claim task child) t m k =
+        let at = claims_at c by task child m in
+        let few = in_range 1 (3 + n) by k in
+        let far : nat_lt by 2 ≡ false = (let f = at.0 in grind (arith, nat_tests)) in
+        let tagged : is_tagged past child ≡ true = ap (is_tagged past) at.1 ∙ t in
+        let desk : desk_of past by child ≡ by - 3 = rw (far, tagged) refl in
+        (let f = at.0 in omega (arith, desk, f), let f = at.0 in omega (arith, desk, f, few))
+    one past by w t m k = tt
+
+    all : (past xs : List Entry) → is_tagged past c ≡ true → are_posted c xs ≡ true → list_all (λ (e : Entry). list_any (λ (m : ℕ). m == e.by) (range_with_len 1 (3 + n))) xs ≡ true → HaveDesks n past xs
+    all past [] t h k = tt
+    all past (e ∷ xs) t h k =
+        let p = both (makes (tagged_crew c e.by) e.what) (are_posted c xs) h in
+        let q = both (list_any (λ (m : ℕ). m == e.by) (range_with_len 1 (3 + n))) (list_all (λ (x : Entry). list_any (λ (m : ℕ). m == x.by) (range_with_len 1 (3 + n))) xs) k in
+        (one past e.by e.what t p.0 q.0, all (past ++ e ∷ []) xs (tagged_on past (e ∷ []) c t) p.1 q.1)
 
 -- ---- what is left
 

@@ -23,11 +23,11 @@ use Rattle.lone_rounds.proofs.Served.{answers_nothing, ready_now, untagged}
 use Rattle.lone_rounds.proofs.Stinting.{Closing, closing, closing_part, closing_rests, greeting_part, greeting_takes_none, of_closing}
 use Rattle.lone_rounds.proofs.Tests.{claimed_on}
 use Rattle.lone_rounds.proofs.Turns.{ready_untaken}
-use Rattle.job_rounds.specs.Desks.{DesksDid}
+use Rattle.job_rounds.specs.Desks.{DesksDid, HaveDesks}
 use Rattle.job_rounds.specs.Servings.{ServesRound}
 use Rattle.job_rounds.specs.Starts.{JobStretch}
-use Rattle.job_rounds.proofs.Desks.{desks_join, desks_nothing, desks_on}
-use Rattle.job_rounds.proofs.RoundDid.{round_asks, round_did, round_over, round_within}
+use Rattle.job_rounds.proofs.Desks.{desks_join, desks_nothing, desks_on, have_both, have_none}
+use Rattle.job_rounds.proofs.RoundDid.{round_asks, round_desks, round_did, round_over, round_within}
 use Rattle.job_rounds.proofs.Shutting.{AreShut, rest_shut}
 use Rattle.job_rounds.proofs.Stretching.{closed_idle, start_shuts}
 
@@ -61,10 +61,10 @@ module _ (o : Opening) (setup : Setup) (limit : ℕ) (offer tagged : Bool) (old 
   calm = leaves.round.rounded.at_rest
 
   rest_within : list_all (λ (e : Entry). in_stint c e.what) rest ≡ true
-  rest_within = subst (λ (d : ℕ). list_all (λ (e : Entry). in_stint d e.what) rest ≡ true) s.child (round_within o setup _ g rest s.link desks desks' leaves)
+  rest_within = subst (λ (d : ℕ). list_all (λ (e : Entry). in_stint d e.what) rest ≡ true) s.child (round_within o s.link.ear.child _ g rest leaves.round.rounded)
 
   rest_asks : list_all (λ (e : Entry). is_of_run e.what) rest ≡ true
-  rest_asks = round_asks o setup _ g rest s.link desks desks' legal' (subst (λ (d : ℕ). 2 ≤ length (asked_jobs g d)) (sym s.child) two) leaves
+  rest_asks = round_asks o s.link.ear.child _ g rest legal' (subst (λ (d : ℕ). 2 ≤ length (asked_jobs g d)) (sym s.child) two) leaves.round.rounded
 
   end_within : list_all (λ (e : Entry). in_stint c e.what) (rest ++ k.tail) ≡ true
   end_within = all-join (λ (e : Entry). in_stint c e.what) rest k.tail rest_within (closing_part c k.tail k.one).within
@@ -96,7 +96,7 @@ module _ (o : Opening) (setup : Setup) (limit : ℕ) (offer tagged : Bool) (old 
           (round_did o setup limit _ g rest s.link desks desks' legal' (ap (is_tagged g) s.child ∙ s.tagged) leaves)
 
   over : (list_all (is_spent new) (c ∷ []) ≡ true) ⊎ (are_all_claimed o new ≡ true)
-  over = go (round_over o setup _ g rest s.link desks desks' leaves)
+  over = go (round_over o _ _ _ g rest s.link leaves.round)
     where
       mid_is : new ≡ (g ++ rest) ++ k.tail
       mid_is = k.is ∙ ap (λ (x : List Entry). x ++ k.tail) s.round.1
@@ -111,6 +111,9 @@ module _ (o : Opening) (setup : Setup) (limit : ℕ) (offer tagged : Bool) (old 
 
   ready_said : is_ready_untagged new c ≡ not tagged
   ready_said = ap (λ (j : List Entry). is_ready_untagged j c) behind ∙ ready_now o g (rest ++ k.tail) c legal' ready greeted.idle end_within ∙ ap not (sym tag)
+
+  n : ℕ
+  n = length desks
 
   pub round_stretch : JobStretch o setup limit offer (offer && tagged) (Start c 0 offer) old new desks desks'
   round_stretch = record {
@@ -127,6 +130,9 @@ module _ (o : Opening) (setup : Setup) (limit : ℕ) (offer tagged : Bool) (old 
           (ready_untaken old later c offer c within (subst (λ (j : List Entry). unready_answer j c ≡ None) whole unready_none));
       offers = untagged offer tagged ∙ ap (λ (b : Bool). offer && not (b || false)) (sym ready_said);
     };
+    desks = have_both n (old ++ first ∷ []) greeted.more (rest ++ k.tail) (have_none n (old ++ first ∷ []) greeted.more (greeting_takes_none old g offer c greeted))
+        (subst (λ (p : List Entry). HaveDesks n p (rest ++ k.tail)) (greeted.grown ∙ sym (append_assoc old (first ∷ []) greeted.more))
+        (have_both n g rest k.tail (round_desks o s.link.ear.child n g rest (ap (is_tagged g) s.child ∙ s.tagged) leaves.round.rounded) (have_none n (g ++ rest) k.tail no_more)));
     did = did;
     alone = λ one. absurd (s.many one);
     shut = start_shuts old new later offer (Start c 0 offer) c (inl (ap (λ (n : ℕ). Start n 0 offer) greeted.next)) whole within

@@ -1,5 +1,5 @@
 -- One start and what follows it, and a run between two starts.
-use Rattle.std.proofs.Common.{◌≡◌, ◌⊎◌, ℕ, ◌+◌, ◌≤◌, List, [], ◌∷◌, ◌++◌, refl, sym, ap, subst, ◌∙◌, append_assoc, append-nil, length, Bool, true, false, not, ◌==◌, Some, None, Option, arith, inl, inr}
+use Rattle.std.proofs.Common.{◌≡◌, ◌⊎◌, ℕ, ◌+◌, ◌<◌, ◌≤◌, List, [], ◌∷◌, ◌++◌, refl, sym, ap, subst, ◌∙◌, append_assoc, append-nil, length, Bool, true, false, not, ◌==◌, Some, None, Option, arith, inl, inr}
 use Rattle.std.specs.Prelude.{◌&&◌, is_some}
 use Rattle.std.specs.List.{list_all}
 use Rattle.ann_outside.specs.Starts.{Starts}
@@ -37,11 +37,11 @@ use Rattle.lone_rounds.proofs.Leaving.{kept_next}
 use Rattle.lone_rounds.proofs.Served.{all_unclosed, greeting_unclosed, new_unclosed}
 use Rattle.lone_rounds.proofs.Stinting.{Closing, closing, greeting_part, greeting_rests, greeting_works, of_closing, one_idle}
 use Rattle.lone_rounds.proofs.Unready.{and_true}
-use Rattle.job_rounds.specs.Desks.{DesksDid}
+use Rattle.job_rounds.specs.Desks.{DesksDid, HaveDesks}
 use Rattle.job_rounds.specs.JobRuns.{RanJobs}
 use Rattle.job_rounds.specs.Servings.{CanBeServed}
 use Rattle.job_rounds.specs.Starts.{JobStretch, JobsBetween, OneJobStart}
-use Rattle.job_rounds.proofs.Desks.{desks_as_many, desks_join, desks_main, desks_nothing, desks_on}
+use Rattle.job_rounds.proofs.Desks.{desks_as_many, desks_join, desks_main, desks_nothing, desks_on, have_both, have_main, have_none}
 use Rattle.job_rounds.proofs.Shutting.{AreShut, rest_shut, shut_next, shut_open, unasked}
 
 -- ---- the start itself
@@ -73,6 +73,7 @@ module _ (o : Opening) (setup : Setup) (limit : ℕ) (offer next : Bool) (first 
       → JobStretch o setup limit offer next first old new (desk ∷ others) (desk' ∷ others)
   stint_job desk desk' others s idle = record {
     stretch = s.stretch;
+    desks = have_main (length (desk ∷ others)) (old ++ main_entry first ∷ []) s.stretch.later (omega arith) s.main;
     did = desks_main o setup limit new (old ++ main_entry first ∷ []) s.stretch.later desk desk' others s.main s.done;
     alone = λ one. s.main;
     shut = start_shuts old new s.stretch.later offer first (next_child old) s.stretch.start s.stretch.is s.stretch.within idle;
@@ -137,6 +138,7 @@ jobs_begin o setup may limit journal desks none = subst (λ (j : List Entry). Jo
     untaken = refl;
     few = tt;
   };
+  desks = tt;
   did = desks_nothing o setup limit [] [] [] 1 desks refl;
   alone = λ one. refl;
   shut = λ c. refl;
@@ -147,14 +149,20 @@ module _ {o : Opening} {setup : Setup} {may : Bool} {limit made : ℕ} {offer : 
   did_then : (more : List Entry) (desks' : List DeskTells) → DesksDid o setup limit (old ++ more) old more 1 desks desks' → DesksDid o setup limit (old ++ more) [] (old ++ more) 1 desks0 desks'
   did_then more desks' did = desks_join o setup limit (old ++ more) [] old more 1 desks0 desks desks' (desks_on o setup limit old more [] old 1 desks0 desks b.spaced.legal b.spaced.rest b.did) did
 
+  as_many : length desks0 ≡ length desks
+  as_many = desks_as_many o setup limit old [] old 1 desks0 desks b.did
+
   alone_then : (more : List Entry) → (length desks ≡ 1 → are_by 0 more ≡ true) → length desks0 ≡ 1 → are_by 0 (old ++ more) ≡ true
   alone_then more h one =
-      all-join (λ (e : Entry). e.by == 0) old more (b.alone one) (h (sym (desks_as_many o setup limit old [] old 1 desks0 desks b.did) ∙ one))
+      all-join (λ (e : Entry). e.by == 0) old more (b.alone one) (h (sym as_many ∙ one))
 
   -- one start more
   pub jobs_next : {next : Bool} {first : What} (new : List Entry) (desks' : List DeskTells) → JobStretch o setup limit offer next first old new desks desks' → Legal o new → JobsBetween o setup may limit (made + 1) next new desks0 desks'
   jobs_next {next} {first} new desks' s legal = record {
     spaced = spaced_next s.stretch b.spaced legal;
+    desks = subst (HaveDesks (length desks0) []) (sym s.stretch.is) (have_both (length desks0) [] old tail b.desks (
+        have_both (length desks0) old (main_entry first ∷ []) s.stretch.later (have_none (length desks0) old (main_entry first ∷ []) (rw (start_takes old offer first s.stretch.start) refl))
+        (subst (λ (n : ℕ). HaveDesks n (old ++ main_entry first ∷ []) s.stretch.later) (sym as_many) s.desks)));
     did = subst (λ (j : List Entry). DesksDid o setup limit j [] j 1 desks0 desks') (sym s.stretch.is) (did_then tail desks' (
         desks_join o setup limit (old ++ tail) old (main_entry first ∷ []) s.stretch.later 1 desks desks desks'
         (desks_nothing o setup limit (old ++ tail) old (main_entry first ∷ []) 1 desks (rw (start_takes old offer first s.stretch.start) refl))
@@ -167,7 +175,7 @@ module _ {o : Opening} {setup : Setup} {may : Bool} {limit made : ℕ} {offer : 
       tail = main_entry first ∷ s.stretch.later
 
   -- the tasks that were left are answered
-  module _ {new : List Entry} (all : made ≡ limit) (spent : AreSpent old) (a : AnswersLeft o old new (left_answer old)) (legal : Legal o new) where
+  module _ {new : List Entry} (some : 0 < length desks0) (all : made ≡ limit) (spent : AreSpent old) (a : AnswersLeft o old new (left_answer old)) (legal : Legal o new) where
     left : List Entry
     left = answered_so (left_answer old) a.tasks
 
@@ -178,6 +186,7 @@ module _ {o : Opening} {setup : Setup} {may : Bool} {limit made : ℕ} {offer : 
     pub jobs_left : JobsBetween o setup may limit made offer new desks0 desks
     jobs_left = record {
       spaced = spaced_left b.spaced spent a legal;
+      desks = subst (HaveDesks (length desks0) []) (sym a.is) (have_both (length desks0) [] old left b.desks (have_main (length desks0) old left some (left_main (left_answer old) a.tasks)));
       did = subst (λ (j : List Entry). DesksDid o setup limit j [] j 1 desks0 desks) (sym a.is) (did_then left desks (did_left desks));
       alone = λ one. ap (are_by 0) a.is ∙ alone_then left (λ x. left_main (left_answer old) a.tasks) one;
       shut = λ d. ap (λ (j : List Entry). open_jobs j d) a.is ∙ idle_on old left d (unasked d left (left_apart (left_answer old) a.tasks d)) (b.shut d);
@@ -191,6 +200,7 @@ ran_jobs {o} {setup} {may} {limit} {made} {offer} {journal} le b = record {
   ended = b.spaced.ended;
   asks = b.spaced.asks;
   calm = record { idle = b.spaced.rest; shut = shut_open journal b.shut };
+  desks = b.desks;
   did = b.did;
   alone = b.alone;
 }

@@ -1,5 +1,5 @@
 -- Which tasks the desk of each worker was used for, and what it did for them.
-use Rattle.std.specs.Prelude.{ℕ, ◌≡◌, ◌⊎◌, ◌+◌, ◌-◌, ◌<◌, ◌==◌, Bool, if◌then◌else◌, List, [], ◌∷◌, ◌++◌, map, Option, Some, None, nat_lt}
+use Rattle.std.specs.Prelude.{ℕ, ◌≡◌, ◌⊎◌, ◌+◌, ◌-◌, ◌<◌, ◌≤◌, ◌==◌, if◌then◌else◌, List, [], ◌∷◌, ◌++◌, map, Option, Some, None, nat_lt}
 use Rattle.std.specs.List.{cons_option}
 use Rattle.ann_outside.specs.Calls.{Gained}
 use Rattle.journal_model.specs.declared.entry.What.{What}
@@ -28,6 +28,16 @@ claimed_for k past by w = None
 abbrev pub claims_for : ℕ → List Entry → List Entry → List ℕ
 claims_for k past [] = []
 claims_for k past (e ∷ rest) = cons_option (claimed_for k past e.by e.what) (claims_for k (past ++ e ∷ []) rest)
+
+-- one of so many desks is the claimed task's
+abbrev pub HasDesk : ℕ → List Entry → ℕ → What → Type 0
+HasDesk n past by (Claim task child) = (0 < desk_of past by child) × (desk_of past by child ≤ n)
+HasDesk n past by w = Unit {0}
+
+-- so it is for each task that the entries claim, which stand behind past
+abbrev pub HaveDesks : ℕ → List Entry → List Entry → Type 0
+HaveDesks n past [] = Unit {0}
+HaveDesks n past (e ∷ rest) = HasDesk n past e.by e.what × HaveDesks n (past ++ e ∷ []) rest
 
 -- ---- a task that is done
 

@@ -10,7 +10,7 @@ use Rattle.task_run.specs.declared.setup.Setup.{Setup}
 use Rattle.lone_work.specs.Works.{DeskTells}
 use Rattle.lone_rounds.specs.Starting.{AreStarts, AreEnded}
 use Rattle.lone_rounds.specs.Rounds.{is_of_run}
-use Rattle.job_rounds.specs.Desks.{DesksDid}
+use Rattle.job_rounds.specs.Desks.{DesksDid, HaveDesks}
 
 -- The journal is legal. Each child was started in its turn, and has ended. Job 0 and job 1 are the greeting's, each later one is a task's.
 -- No task is left unanswered that was claimed, and no job open. Each task was run by the number that claimed it, with its worker's desk, which made the calls of
@@ -21,5 +21,6 @@ pub record RanJobs (o : Opening) (setup : Setup) (may : Bool) (limit : ℕ) (jou
   pub ended : AreEnded journal
   pub asks : list_all (λ e. is_of_run e.what) journal ≡ true
   pub calm : IsAtRest journal
+  pub desks : HaveDesks (length desks) [] journal
   pub did : DesksDid o setup limit journal [] journal 1 desks desks'
   pub alone : length desks ≡ 1 → are_by 0 journal ≡ true
