@@ -1,7 +1,6 @@
 -- A link that is held stays so where nothing of its child is made, and where it is closed.
-use Rattle.std.proofs.Common.{◌≡◌, ℕ, List, [], ◌∷◌, ◌++◌, refl, sym, ap, subst, ◌∙◌, Bool, true, false, not, ◌==◌, cond}
+use Rattle.std.proofs.Common.{◌≡◌, ℕ, List, [], ◌∷◌, ◌++◌, refl, sym, subst, Bool, true, false, not, ◌==◌, cond}
 use Rattle.std.specs.Prelude.{◌||◌}
-use Rattle.std.specs.List.{list_all}
 use Rattle.journal_model.specs.declared.verdict.Why.TheVariants.{Closed}
 use Rattle.journal_model.specs.declared.entry.What.TheVariants.{End}
 use Rattle.journal_model.specs.declared.entry.Entry.{Entry}

@@ -6,12 +6,27 @@ ghost use Rattle.journal_model.specs.Journal.{is_started};
 ghost use Rattle.journal_model.specs.Legality.{may_stop};
 ghost use Rattle.link_roles.specs.Writings.{LoneWired};
 ghost use Rattle.link_roles.specs.Alone.{Closes};
+ghost use Rattle.link_roles.specs.Doors.{IsSameDoor};
 ghost use Rattle.child_start.specs.Cores.{IsSameCore};
 ghost use Rattle.child_end.specs.Wires.{IsHeld, IsLaid, wire_value};
 
 use ann_outside::{Programs, Sink, Source};
 use host_core::Core;
-use link_roles::{Lone, OwnDoor, Wire};
+use link_roles::{Door, Lone, OwnDoor, Wire};
+
+// The same over any door of the main thread's.
+fn close_over<I: Sink, O: Source, D: Door>(link: &Lone<I, O>, door: &mut D)
+    requires alone { D.alone door.old ≡ true }
+    requires main { D.number door.old ≡ 0 }
+    requires started { is_started (D.seen door.old) link.now.ear.child ≡ true }
+    requires idle { may_stop (D.seen door.old) link.now.ear.child Closed ≡ true }
+    ensures closes { Closes 0 link.now.ear.child (D.seen door.old) (D.seen door.new) }
+    ensures wired { LoneWired (D.seen door.old) link.now.ear link.now.mouth → LoneWired (D.seen door.new) link.now.ear link.now.mouth }
+    ensures held { IsHeld (D.seen door.old) link.now.ear link.now.mouth → IsHeld (D.seen door.new) link.now.ear link.now.mouth }
+    ensures door { IsSameDoor D.opening D.number D.seen D.alone D.loans D.home door.old door.new }
+{
+    link.close_alone(door);
+}
 
 /// Closes the child in the journal, where it has not ended. No job of it is open, and no task is busy with it.
 pub fn close_child<I: Sink, O: Source>(link: &Lone<I, O>, core: &mut Core)
@@ -23,7 +38,7 @@ pub fn close_child<I: Sink, O: Source>(link: &Lone<I, O>, core: &mut Core)
     ensures core { IsSameCore core.old core.new }
 {
     let mut door = OwnDoor { core };
-    link.close_alone(&mut door);
+    close_over(link, &mut door);
 }
 
 /// Closes the link's halves, keeps them as a wire behind the others, and waits for the program to end.

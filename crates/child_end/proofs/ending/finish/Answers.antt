@@ -1,4 +1,4 @@
-use Rattle.std.proofs.Common.{◌∙◌, [], ◌∷◌, ◌++◌, map, ap}
+use Rattle.std.proofs.Common.{◌∙◌, [], ◌∷◌, map, ap}
 use Rattle.std.proofs.lemmas.List.{map-append}
 use Rattle.child_end.specs.Wires.{wire_value}
 use Rattle.child_end.proofs.ending.finish.Goals as goal
