@@ -1,20 +1,19 @@
--- What the desks did, as the journal grows.
-use Rattle.std.proofs.Common.{◌≡◌, ◌⊎◌, ℕ, ◌+◌, ◌<◌, ◌≤◌, List, [], ◌∷◌, ◌++◌, refl, sym, ap, subst, ◌∙◌, append_assoc, append-nil, Bool, true, false, ◌==◌, cond, Some, None, Option, arith, inl, inr, length, suc}
-use Rattle.std.specs.Prelude.{map, nat_lt, ◌-◌}
-use Rattle.std.specs.List.{list_all, cons_option}
+-- What the desks did, cs the journal grows.
+use Rattle.std.proofs.Common.{◌≡◌, ℕ, ◌+◌, ◌<◌, List, [], ◌∷◌, ◌++◌, refl, sym, ap, subst, ◌∙◌, append_assoc, append-nil, true, false, ◌==◌, Some, None, Option, arith, inl, inr, length, suc}
+use Rattle.std.specs.Prelude.{map}
+use Rattle.std.specs.List.{cons_option}
 use Rattle.ann_outside.specs.Calls.{Gained}
 use Rattle.journal_model.specs.declared.entry.What.{What}
 use Rattle.journal_model.specs.declared.entry.What.TheVariants.{Claim}
 use Rattle.journal_model.specs.declared.entry.Entry.{Entry}
 use Rattle.journal_model.specs.declared.opening.Opening.{Opening}
-use Rattle.journal_model.specs.Journal.{each_of, is_tagged}
 use Rattle.journal_model.specs.Legality.{Legal, is_busy}
 use Rattle.journal_model.specs.Shares.{are_by}
 use Rattle.journal_model.proofs.Looks.{both, differ, same_number}
 use Rattle.task_run.specs.declared.setup.Setup.{Setup}
-use Rattle.lone_work.specs.Works.{CausedInTurn, DeskTells, RanFor, TaskDone, all_calls, claimed_task, claims_in}
+use Rattle.lone_work.specs.Works.{DeskTells, RanFor, TaskDone, all_calls, claimed_task, claims_in}
 use Rattle.lone_work.proofs.Working.{run_lasts}
-use Rattle.lone_rounds.specs.Rounds.{ChildRun, HasRun, ZeroRun}
+use Rattle.lone_rounds.specs.Rounds.{HasRun}
 use Rattle.lone_rounds.specs.Stints.{AllHaveRun, TasksDone}
 use Rattle.lone_rounds.proofs.Runs.{calls_both, caused_both, gained_more, gained_nothing, tasks_both, zero_lasts}
 use Rattle.job_rounds.specs.Desks.{AreDone, DeskDid, DesksDid, HasDesk, HaveDesks, IsDone, WorkerRun, claimed_for, claims_for, desk_of}
@@ -39,11 +38,12 @@ unclaimed k by past w h = refl
 
 pub claims_none : (k : ℕ) (past xs : List Entry) → claims_in xs ≡ [] → claims_for k past xs ≡ []
 claims_none k past [] h = refl
-claims_none k past (e ∷ xs) h = go (claimed_task e.what) refl h
+claims_none k past (e ∷ xs) h = go (claimed_task e.what) refl h (claims_none k (past ++ e ∷ []) xs)
   where
-    go : (x : Option ℕ) → claimed_task e.what ≡ x → cons_option x (claims_in xs) ≡ [] → cons_option (claimed_for k past e.by e.what) (claims_for k (past ++ e ∷ []) xs) ≡ []
-    go None is none = rw (unclaimed k e.by past e.what is, claims_none k (past ++ e ∷ []) xs none) refl
-    go (Some t) is none = absurd cc
+    go : (x : Option ℕ) → claimed_task e.what ≡ x → cons_option x (claims_in xs) ≡ [] → (claims_in xs ≡ [] → claims_for k (past ++ e ∷ []) xs ≡ [])
+        → cons_option (claimed_for k past e.by e.what) (claims_for k (past ++ e ∷ []) xs) ≡ []
+    go None is none r = rw (unclaimed k e.by past e.what is, r none) refl
+    go (Some t) is none r = absurd cc
 
 -- what the main thread claims is done with the first desk
 main_first : (past : List Entry) (by : ℕ) (w : What) → by ≡ 0 → claimed_for 1 past by w ≡ claimed_task w
@@ -81,11 +81,11 @@ unclaimed_has n by past w h = tt
 
 pub have_none : (n : ℕ) (past xs : List Entry) → claims_in xs ≡ [] → HaveDesks n past xs
 have_none n past [] h = tt
-have_none n past (e ∷ xs) h = go (claimed_task e.what) refl h
+have_none n past (e ∷ xs) h = go (claimed_task e.what) refl h (have_none n (past ++ e ∷ []) xs)
   where
-    go : (x : Option ℕ) → claimed_task e.what ≡ x → cons_option x (claims_in xs) ≡ [] → HasDesk n past e.by e.what × HaveDesks n (past ++ e ∷ []) xs
-    go None is none = (unclaimed_has n e.by past e.what is, have_none n (past ++ e ∷ []) xs none)
-    go (Some t) is none = absurd cc
+    go : (x : Option ℕ) → claimed_task e.what ≡ x → cons_option x (claims_in xs) ≡ [] → (claims_in xs ≡ [] → HaveDesks n (past ++ e ∷ []) xs) → HasDesk n past e.by e.what × HaveDesks n (past ++ e ∷ []) xs
+    go None is none r = (unclaimed_has n e.by past e.what is, r none)
+    go (Some t) is none r = absurd cc
 
 main_has : (n by : ℕ) (past : List Entry) (w : What) → 0 < n → by ≡ 0 → HasDesk n past by w
 main_has n by past (Claim task child) some e =
@@ -161,21 +161,21 @@ module _ (o : Opening) (setup : Setup) (limit : ℕ) where
   desks_nothing journal past xs k [] none = tt
   desks_nothing journal past xs k (d ∷ ds) none = (did_nothing journal past xs k d (claims_none k past xs none), desks_nothing journal past xs (k + 1) ds none)
 
-  pub desks_join : (journal past xs ys : List Entry) (k : ℕ) (as bs ds : List DeskTells) → DesksDid o setup limit journal past xs k as bs → DesksDid o setup limit journal (past ++ xs) ys k bs ds
-      → DesksDid o setup limit journal past (xs ++ ys) k as ds
+  pub desks_join : (journal past xs ys : List Entry) (k : ℕ) (cs bs ds : List DeskTells) → DesksDid o setup limit journal past xs k cs bs → DesksDid o setup limit journal (past ++ xs) ys k bs ds
+      → DesksDid o setup limit journal past (xs ++ ys) k cs ds
   desks_join journal past xs ys k [] [] [] s t = tt
   desks_join journal past xs ys k [] [] (d ∷ ds) s t = absurd t
   desks_join journal past xs ys k [] (b ∷ bs) ds s t = absurd s
-  desks_join journal past xs ys k (a ∷ as) [] ds s t = absurd s
-  desks_join journal past xs ys k (a ∷ as) (b ∷ bs) [] s t = absurd t
-  desks_join journal past xs ys k (a ∷ as) (b ∷ bs) (d ∷ ds) s t = (did_join journal past xs ys k a b d s.0 t.0, desks_join journal past xs ys (k + 1) as bs ds s.1 t.1)
+  desks_join journal past xs ys k (a ∷ cs) [] ds s t = absurd s
+  desks_join journal past xs ys k (a ∷ cs) (b ∷ bs) [] s t = absurd t
+  desks_join journal past xs ys k (a ∷ cs) (b ∷ bs) (d ∷ ds) s t = (did_join journal past xs ys k a b d s.0 t.0, desks_join journal past xs ys (k + 1) cs bs ds s.1 t.1)
 
-  pub desks_on : (journal more past xs : List Entry) (k : ℕ) (as bs : List DeskTells) → Legal o journal → ((t : ℕ) → is_busy journal t ≡ false) → DesksDid o setup limit journal past xs k as bs
-      → DesksDid o setup limit (journal ++ more) past xs k as bs
+  pub desks_on : (journal more past xs : List Entry) (k : ℕ) (cs bs : List DeskTells) → Legal o journal → ((t : ℕ) → is_busy journal t ≡ false) → DesksDid o setup limit journal past xs k cs bs
+      → DesksDid o setup limit (journal ++ more) past xs k cs bs
   desks_on journal more past xs k [] [] legal rest s = tt
   desks_on journal more past xs k [] (b ∷ bs) legal rest s = absurd s
-  desks_on journal more past xs k (a ∷ as) [] legal rest s = absurd s
-  desks_on journal more past xs k (a ∷ as) (b ∷ bs) legal rest s = (did_on journal more past xs k a b legal rest s.0, desks_on journal more past xs (k + 1) as bs legal rest s.1)
+  desks_on journal more past xs k (a ∷ cs) [] legal rest s = absurd s
+  desks_on journal more past xs k (a ∷ cs) (b ∷ bs) legal rest s = (did_on journal more past xs k a b legal rest s.0, desks_on journal more past xs (k + 1) cs bs legal rest s.1)
 
   -- the desks from the second on are not the main thread's
   others_nothing : (journal past xs : List Entry) (k : ℕ) (desks : List DeskTells) → 1 < k → are_by 0 xs ≡ true → DesksDid o setup limit journal past xs k desks desks
@@ -195,9 +195,9 @@ module _ (o : Opening) (setup : Setup) (limit : ℕ) where
     others_nothing journal past xs 2 others (omega arith) main,
   )
 
--- as many desks before as behind
-pub desks_as_many : (o : Opening) (setup : Setup) (limit : ℕ) (journal past xs : List Entry) (k : ℕ) (as bs : List DeskTells) → DesksDid o setup limit journal past xs k as bs → length as ≡ length bs
+-- cs many desks before cs behind
+pub desks_as_many : (o : Opening) (setup : Setup) (limit : ℕ) (journal past xs : List Entry) (k : ℕ) (cs bs : List DeskTells) → DesksDid o setup limit journal past xs k cs bs → length cs ≡ length bs
 desks_as_many o setup limit journal past xs k [] [] s = refl
 desks_as_many o setup limit journal past xs k [] (b ∷ bs) s = absurd s
-desks_as_many o setup limit journal past xs k (a ∷ as) [] s = absurd s
-desks_as_many o setup limit journal past xs k (a ∷ as) (b ∷ bs) s = ap (λ (n : ℕ). suc n) (desks_as_many o setup limit journal past xs (k + 1) as bs s.1)
+desks_as_many o setup limit journal past xs k (a ∷ cs) [] s = absurd s
+desks_as_many o setup limit journal past xs k (a ∷ cs) (b ∷ bs) s = ap (λ (n : ℕ). suc n) (desks_as_many o setup limit journal past xs (k + 1) cs bs s.1)

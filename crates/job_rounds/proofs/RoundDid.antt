@@ -267,11 +267,11 @@ round_asks o c numbers start rest legal two r =
 
 -- ---- each claim has a desk
 
-in_range : (from len x : ℕ) → list_any (λ (n : ℕ). n == x) (range_with_len from len) ≡ true → x < from + len
+pub in_range : (from len x : ℕ) → list_any (λ (n : ℕ). n == x) (range_with_len from len) ≡ true → (from ≤ x) × (x < from + len)
 in_range from zero x h = absurd cc
 in_range from (suc len) x h = by_either (from == x)
-    (λ it. (let e = same_number from x it in omega (arith, e)))
-    (λ other. (let r = in_range (suc from) len x (sym (ap (λ (b : Bool). b || list_any (λ (n : ℕ). n == x) (range_with_len (suc from) len)) other) ∙ h) in omega (arith, r)))
+    (λ it. (let e = same_number from x it in (omega (arith, e), omega (arith, e))))
+    (λ other. (let r = in_range (from + 1) len x (sym (ap (λ (b : Bool). b || list_any (λ (n : ℕ). n == x) (range_with_len (from + 1) len)) other) ∙ h) in let low = r.0 in let high = r.1 in (omega (arith, low), omega (arith, high))))
 
 -- so many workers have the desks of a round's tasks
 pub round_desks : (o : Opening) (c n : ℕ) (start rest : List Entry) → is_tagged start c ≡ true → Rounded o (tagged_crew c) (range_with_len 1 (3 + n)) start rest → HaveDesks n start rest
@@ -280,7 +280,7 @@ round_desks o c n start rest tag r = all start rest tag r.posts r.numbered
     one : (past : List Entry) (by : ℕ) (w : What) → is_tagged past c ≡ true → makes (tagged_crew c by) w ≡ true → list_any (λ (m : ℕ). m == by) (range_with_len 1 (3 + n)) ≡ true → HasDesk n past by w
     one past by (Claim task child) t m k =
         let at = claims_at c by task child m in
-        let few = in_range 1 (3 + n) by k in
+        let few = (in_range 1 (3 + n) by k).1 in
         let far : nat_lt by 2 ≡ false = (let f = at.0 in grind (arith, nat_tests)) in
         let tagged : is_tagged past child ≡ true = ap (is_tagged past) at.1 ∙ t in
         let desk : desk_of past by child ≡ by - 3 = rw (far, tagged) refl in

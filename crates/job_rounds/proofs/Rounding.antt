@@ -1,5 +1,5 @@
 -- A child that takes tags: a round of workers does tasks over it, and it is closed.
-use Rattle.std.proofs.Common.{◌≡◌, ◌⊎◌, ℕ, ◌+◌, ◌≤◌, List, [], ◌∷◌, ◌++◌, refl, sym, ap, subst, ◌∙◌, append_assoc, length, Bool, true, false, not, ◌==◌, arith, inl, inr, absurd}
+use Rattle.std.proofs.Common.{◌≡◌, ◌⊎◌, ℕ, ◌+◌, ◌≤◌, List, [], ◌∷◌, ◌++◌, refl, sym, ap, subst, ◌∙◌, append_assoc, length, Bool, true, false, not, arith, inl, inr}
 use Rattle.std.specs.Prelude.{◌&&◌, ◌||◌, None}
 use Rattle.std.specs.List.{list_all, range_with_len}
 use Rattle.journal_model.specs.declared.entry.What.TheVariants.{Start}
@@ -9,27 +9,27 @@ use Rattle.journal_model.specs.Journal.{asked_jobs, is_tagged, open_jobs}
 use Rattle.journal_model.specs.Legality.{Legal, is_busy}
 use Rattle.journal_model.proofs.Testing.{all-join}
 use Rattle.host_core.specs.Steps.{are_all_claimed}
-use Rattle.gathering.specs.Rounds.{IsAtRest, LinkValue}
+use Rattle.gathering.specs.Rounds.{IsAtRest}
 use Rattle.crew_roles.specs.TaggedRounds.{TaggedLeaves}
 use Rattle.child_start.specs.Greetings.{Greeted, IsReady}
 use Rattle.task_run.specs.declared.setup.Setup.{Setup}
 use Rattle.task_run.specs.TaskRuns.{failed_start, unready_answer}
-use Rattle.lone_work.specs.Works.{DeskTells, claimed_task, claims_in}
+use Rattle.lone_work.specs.Works.{DeskTells, claims_in}
 use Rattle.lone_rounds.specs.Starting.{is_ready_untagged, is_spent}
 use Rattle.lone_rounds.specs.Rounds.{is_of_run, start_untaken}
-use Rattle.lone_rounds.specs.Stints.{Stretch, in_stint, main_entry}
+use Rattle.lone_rounds.specs.Stints.{in_stint, main_entry, next_child}
 use Rattle.lone_rounds.proofs.Apart.{spent_on}
-use Rattle.lone_rounds.proofs.Served.{answers_nothing, ready_now, untagged}
+use Rattle.lone_rounds.proofs.Served.{answers_nothing, ready_now, served_stint, untagged}
 use Rattle.lone_rounds.proofs.Stinting.{Closing, closing, closing_part, closing_rests, greeting_part, greeting_takes_none, of_closing}
 use Rattle.lone_rounds.proofs.Tests.{claimed_on}
 use Rattle.lone_rounds.proofs.Turns.{ready_untaken}
 use Rattle.job_rounds.specs.Desks.{DesksDid, HaveDesks}
-use Rattle.job_rounds.specs.Servings.{ServesRound}
+use Rattle.job_rounds.specs.Servings.{Serves, ServesRound}
 use Rattle.job_rounds.specs.Starts.{JobStretch}
 use Rattle.job_rounds.proofs.Desks.{desks_join, desks_nothing, desks_on, have_both, have_none}
 use Rattle.job_rounds.proofs.RoundDid.{round_asks, round_desks, round_did, round_over, round_within}
-use Rattle.job_rounds.proofs.Shutting.{AreShut, rest_shut}
-use Rattle.job_rounds.proofs.Stretching.{closed_idle, start_shuts}
+use Rattle.job_rounds.proofs.Shutting.{rest_shut}
+use Rattle.job_rounds.proofs.Stretching.{closed_idle, served_idle, start_shuts, stint_job}
 
 module _ (o : Opening) (setup : Setup) (limit : ℕ) (offer tagged : Bool) (old g new : List Entry) (c : ℕ) (desks desks' : List DeskTells)
     (legal : Legal o old) (greeted : Greeted old g 0 offer c) (legal' : Legal o g) (ready : IsReady g c) (tag : tagged ≡ is_tagged g c) (s : ServesRound o setup c g new desks desks') where
@@ -112,7 +112,7 @@ module _ (o : Opening) (setup : Setup) (limit : ℕ) (offer tagged : Bool) (old 
   ready_said : is_ready_untagged new c ≡ not tagged
   ready_said = ap (λ (j : List Entry). is_ready_untagged j c) behind ∙ ready_now o g (rest ++ k.tail) c legal' ready greeted.idle end_within ∙ ap not (sym tag)
 
-  n : ℕ
+  abbrev n : ℕ
   n = length desks
 
   pub round_stretch : JobStretch o setup limit offer (offer && tagged) (Start c 0 offer) old new desks desks'
@@ -130,7 +130,7 @@ module _ (o : Opening) (setup : Setup) (limit : ℕ) (offer tagged : Bool) (old 
           (ready_untaken old later c offer c within (subst (λ (j : List Entry). unready_answer j c ≡ None) whole unready_none));
       offers = untagged offer tagged ∙ ap (λ (b : Bool). offer && not (b || false)) (sym ready_said);
     };
-    desks = have_both n (old ++ first ∷ []) greeted.more (rest ++ k.tail) (have_none n (old ++ first ∷ []) greeted.more (greeting_takes_none old g offer c greeted))
+    placed = have_both n (old ++ first ∷ []) greeted.more (rest ++ k.tail) (have_none n (old ++ first ∷ []) greeted.more (greeting_takes_none old g offer c greeted))
         (subst (λ (p : List Entry). HaveDesks n p (rest ++ k.tail)) (greeted.grown ∙ sym (append_assoc old (first ∷ []) greeted.more))
         (have_both n g rest k.tail (round_desks o s.link.ear.child n g rest (ap (is_tagged g) s.child ∙ s.tagged) leaves.round.rounded) (have_none n (g ++ rest) k.tail no_more)));
     did = did;
@@ -138,3 +138,15 @@ module _ (o : Opening) (setup : Setup) (limit : ℕ) (offer tagged : Bool) (old 
     shut = start_shuts old new later offer (Start c 0 offer) c (inl (ap (λ (n : ℕ). Start n 0 offer) greeted.next)) whole within
         (λ shut. closed_idle c s.mid new s.closes (ap (λ (j : List Entry). open_jobs j c) s.round.1 ∙ rest_shut (g ++ rest) calm c));
   }
+
+-- a child that is ready: tasks were done over it, by one worker or by a round
+pub served_job : (o : Opening) (setup : Setup) (limit : ℕ) (offer tagged : Bool) (old g new : List Entry) (c : ℕ) (desks desks' : List DeskTells) → Legal o old → are_all_claimed o old ≡ false → Greeted old g 0 offer c
+    → Legal o g → IsReady g c → tagged ≡ is_tagged g c → Serves o setup c g new desks desks' → JobStretch o setup limit offer (offer && tagged) (Start c 0 offer) old new desks desks'
+served_job o setup limit offer tagged old g new c desks desks' legal left greeted legal' ready tag (inl a) =
+    subst (λ (ds : List DeskTells). JobStretch o setup limit offer (offer && tagged) (Start c 0 offer) old new ds desks') (sym a.before)
+    (subst (λ (es : List DeskTells). JobStretch o setup limit offer (offer && tagged) (Start c 0 offer) old new (a.desk ∷ a.others) es) (sym a.after)
+    (stint_job o setup limit offer (offer && tagged) (Start c 0 offer) old new a.desk a.desk' a.others
+    (served_stint o setup limit offer tagged old g new c a.desk a.desk' legal left greeted legal' ready tag a.served)
+    (λ shut. served_idle o setup c (next_child old) g new a.desk a.desk' greeted.next a.served)))
+served_job o setup limit offer tagged old g new c desks desks' legal left greeted legal' ready tag (inr s) =
+    round_stretch o setup limit offer tagged old g new c desks desks' legal greeted legal' ready tag s

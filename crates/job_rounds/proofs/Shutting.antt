@@ -1,5 +1,5 @@
 -- No job is open, from one start to the next.
-use Rattle.std.proofs.Common.{◌≡◌, ℕ, List, [], ◌∷◌, ◌++◌, refl, sym, ap, ◌∙◌, append-nil, Bool, true, false, ◌==◌, absurd, None}
+use Rattle.std.proofs.Common.{◌≡◌, ℕ, List, [], ◌∷◌, ◌++◌, refl, sym, ap, ◌∙◌, Bool, true, false, ◌==◌, None}
 use Rattle.std.specs.Prelude.{◌||◌}
 use Rattle.std.specs.List.{list_all, list_any}
 use Rattle.journal_model.specs.declared.entry.What.{What}
@@ -7,11 +7,11 @@ use Rattle.journal_model.specs.declared.entry.What.TheVariants.{Ask}
 use Rattle.journal_model.specs.declared.entry.Entry.{Entry}
 use Rattle.journal_model.specs.Journal.{any, asks, asked_jobs, is_open, open_jobs}
 use Rattle.journal_model.specs.Shares.{is_of_child}
-use Rattle.journal_model.proofs.Looks.{differ, same, same_number}
+use Rattle.journal_model.proofs.Looks.{same, same_number}
 use Rattle.journal_model.proofs.Testing.{by_either}
 use Rattle.gathering.specs.Rounds.{IsAtRest}
 use Rattle.child_start.proofs.Jobs.{idle_on}
-use Rattle.lone_rounds.specs.Stints.{in_stint, main_entry}
+use Rattle.lone_rounds.specs.Stints.{in_stint}
 use Rattle.lone_rounds.proofs.Apart.{apart_in}
 use Rattle.lone_rounds.proofs.Tests.{any_none, each_without}
 

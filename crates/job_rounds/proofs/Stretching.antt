@@ -1,22 +1,19 @@
 -- One start and what follows it, and a run between two starts.
-use Rattle.std.proofs.Common.{◌≡◌, ◌⊎◌, ℕ, ◌+◌, ◌<◌, ◌≤◌, List, [], ◌∷◌, ◌++◌, refl, sym, ap, subst, ◌∙◌, append_assoc, append-nil, length, Bool, true, false, not, ◌==◌, Some, None, Option, arith, inl, inr}
-use Rattle.std.specs.Prelude.{◌&&◌, is_some}
+use Rattle.std.proofs.Common.{◌≡◌, ℕ, ◌+◌, ◌<◌, ◌≤◌, List, [], ◌∷◌, ◌++◌, refl, sym, ap, subst, ◌∙◌, append_assoc, length, Bool, true, false, ◌==◌, Some, None, arith, inl, inr, Ok, Err, Result}
+use Rattle.std.specs.Prelude.{MatchResult, is_some}
 use Rattle.std.specs.List.{list_all}
-use Rattle.ann_outside.specs.Starts.{Starts}
 use Rattle.journal_model.specs.declared.answer.Answer.{Answer}
-use Rattle.journal_model.specs.declared.verdict.Why.{Why}
 use Rattle.journal_model.specs.declared.verdict.Why.TheVariants.{Closed}
 use Rattle.journal_model.specs.declared.entry.What.{What}
-use Rattle.journal_model.specs.declared.entry.What.TheVariants.{Start, NoStart, End}
+use Rattle.journal_model.specs.declared.entry.What.TheVariants.{Start, NoStart}
 use Rattle.journal_model.specs.declared.entry.Entry.{Entry}
 use Rattle.journal_model.specs.declared.opening.Opening.{Opening}
-use Rattle.journal_model.specs.Journal.{any, asks, asked_jobs, is_ended, is_tagged, open_jobs, why_of}
+use Rattle.journal_model.specs.Journal.{asks, asked_jobs, is_ended, is_tagged, open_jobs, why_of}
 use Rattle.journal_model.specs.Halves.{EarValue, MouthValue}
-use Rattle.journal_model.specs.Legality.{Legal, is_busy}
-use Rattle.journal_model.specs.Shares.{are_by, is_of_child}
+use Rattle.journal_model.specs.Legality.{Legal}
+use Rattle.journal_model.specs.Shares.{are_by}
 use Rattle.journal_model.proofs.Linking.{why_is_end}
 use Rattle.journal_model.proofs.Testing.{all-join}
-use Rattle.host_core.specs.Steps.{are_all_claimed}
 use Rattle.link_roles.specs.Alone.{Closes}
 use Rattle.link_roles.specs.Writings.{LoneWired}
 use Rattle.gathering.specs.Rounds.{IsAtRest}
@@ -26,12 +23,11 @@ use Rattle.child_end.specs.Programs.{ProgramsValue}
 use Rattle.child_end.specs.Wires.{WireValue}
 use Rattle.door_asker.specs.KnownLayouts.{IsBook}
 use Rattle.task_run.specs.declared.setup.Setup.{Setup}
-use Rattle.lone_work.specs.Works.{CanWork, DeskTells, claimed_task, claims_in}
+use Rattle.lone_work.specs.Works.{CanWork, DeskTells, claimed_task}
 use Rattle.lone_rounds.specs.Starting.{AreSpent, is_unclosed}
 use Rattle.lone_rounds.specs.Rounds.{left_answer}
-use Rattle.lone_rounds.specs.Stints.{AnswersLeft, AnswersOne, HasServed, IsStart, Kept, Spaced, StartsOne, Stint, Stretch, TurnsAway, answered_so, in_stint, main_entry, next_child}
-use Rattle.lone_rounds.proofs.Apart.{is_unclosed_end}
-use Rattle.lone_rounds.proofs.Ending.{done_left, kept_left, left_apart, left_main, spaced_left}
+use Rattle.lone_rounds.specs.Stints.{AnswersLeft, AnswersOne, HasServed, IsStart, Kept, Stint, TurnsAway, answered_so, in_stint, main_entry, next_child}
+use Rattle.lone_rounds.proofs.Ending.{done_left, left_apart, left_main, spaced_left}
 use Rattle.lone_rounds.proofs.Growing.{apart, spaced_next, starts_none}
 use Rattle.lone_rounds.proofs.Leaving.{kept_next}
 use Rattle.lone_rounds.proofs.Served.{all_unclosed, greeting_unclosed, new_unclosed}
@@ -73,11 +69,17 @@ module _ (o : Opening) (setup : Setup) (limit : ℕ) (offer next : Bool) (first 
       → JobStretch o setup limit offer next first old new (desk ∷ others) (desk' ∷ others)
   stint_job desk desk' others s idle = record {
     stretch = s.stretch;
-    desks = have_main (length (desk ∷ others)) (old ++ main_entry first ∷ []) s.stretch.later (omega arith) s.main;
+    placed = have_main (length (desk ∷ others)) (old ++ main_entry first ∷ []) s.stretch.later (omega arith) s.main;
     did = desks_main o setup limit new (old ++ main_entry first ∷ []) s.stretch.later desk desk' others s.main s.done;
     alone = λ one. s.main;
     shut = start_shuts old new s.stretch.later offer first (next_child old) s.stretch.start s.stretch.is s.stretch.within idle;
   }
+
+  -- where no desk is used
+  pub stint_any : (desks : List DeskTells) → 0 < length desks → ((d : DeskTells) → Stint o setup limit offer next first old new d d) → (AreShut old → open_jobs new (next_child old) ≡ [])
+      → JobStretch o setup limit offer next first old new desks desks
+  stint_any [] some f idle = absurd (let bad : ⊥ = omega (arith, some) in bad)
+  stint_any (d ∷ ds) some f idle = stint_job d d ds (f d) idle
 
 pub closed_idle : (c : ℕ) (mid new : List Entry) → Closes 0 c mid new → open_jobs mid c ≡ [] → open_jobs new c ≡ []
 closed_idle c mid new h idle =
@@ -138,7 +140,7 @@ jobs_begin o setup may limit journal desks none = subst (λ (j : List Entry). Jo
     untaken = refl;
     few = tt;
   };
-  desks = tt;
+  placed = tt;
   did = desks_nothing o setup limit [] [] [] 1 desks refl;
   alone = λ one. refl;
   shut = λ c. refl;
@@ -160,9 +162,9 @@ module _ {o : Opening} {setup : Setup} {may : Bool} {limit made : ℕ} {offer : 
   pub jobs_next : {next : Bool} {first : What} (new : List Entry) (desks' : List DeskTells) → JobStretch o setup limit offer next first old new desks desks' → Legal o new → JobsBetween o setup may limit (made + 1) next new desks0 desks'
   jobs_next {next} {first} new desks' s legal = record {
     spaced = spaced_next s.stretch b.spaced legal;
-    desks = subst (HaveDesks (length desks0) []) (sym s.stretch.is) (have_both (length desks0) [] old tail b.desks (
+    placed = subst (HaveDesks (length desks0) []) (sym s.stretch.is) (have_both (length desks0) [] old tail b.placed (
         have_both (length desks0) old (main_entry first ∷ []) s.stretch.later (have_none (length desks0) old (main_entry first ∷ []) (rw (start_takes old offer first s.stretch.start) refl))
-        (subst (λ (n : ℕ). HaveDesks n (old ++ main_entry first ∷ []) s.stretch.later) (sym as_many) s.desks)));
+        (subst (λ (n : ℕ). HaveDesks n (old ++ main_entry first ∷ []) s.stretch.later) (sym as_many) s.placed)));
     did = subst (λ (j : List Entry). DesksDid o setup limit j [] j 1 desks0 desks') (sym s.stretch.is) (did_then tail desks' (
         desks_join o setup limit (old ++ tail) old (main_entry first ∷ []) s.stretch.later 1 desks desks desks'
         (desks_nothing o setup limit (old ++ tail) old (main_entry first ∷ []) 1 desks (rw (start_takes old offer first s.stretch.start) refl))
@@ -176,7 +178,7 @@ module _ {o : Opening} {setup : Setup} {may : Bool} {limit made : ℕ} {offer : 
 
   -- the tasks that were left are answered
   module _ {new : List Entry} (some : 0 < length desks0) (all : made ≡ limit) (spent : AreSpent old) (a : AnswersLeft o old new (left_answer old)) (legal : Legal o new) where
-    left : List Entry
+    abbrev left : List Entry
     left = answered_so (left_answer old) a.tasks
 
     did_left : (ds : List DeskTells) → DesksDid o setup limit (old ++ left) old left 1 ds ds
@@ -186,7 +188,7 @@ module _ {o : Opening} {setup : Setup} {may : Bool} {limit made : ℕ} {offer : 
     pub jobs_left : JobsBetween o setup may limit made offer new desks0 desks
     jobs_left = record {
       spaced = spaced_left b.spaced spent a legal;
-      desks = subst (HaveDesks (length desks0) []) (sym a.is) (have_both (length desks0) [] old left b.desks (have_main (length desks0) old left some (left_main (left_answer old) a.tasks)));
+      placed = subst (HaveDesks (length desks0) []) (sym a.is) (have_both (length desks0) [] old left b.placed (have_main (length desks0) old left some (left_main (left_answer old) a.tasks)));
       did = subst (λ (j : List Entry). DesksDid o setup limit j [] j 1 desks0 desks) (sym a.is) (did_then left desks (did_left desks));
       alone = λ one. ap (are_by 0) a.is ∙ alone_then left (λ x. left_main (left_answer old) a.tasks) one;
       shut = λ d. ap (λ (j : List Entry). open_jobs j d) a.is ∙ idle_on old left d (unasked d left (left_apart (left_answer old) a.tasks d)) (b.shut d);
@@ -200,7 +202,7 @@ ran_jobs {o} {setup} {may} {limit} {made} {offer} {journal} le b = record {
   ended = b.spaced.ended;
   asks = b.spaced.asks;
   calm = record { idle = b.spaced.rest; shut = shut_open journal b.shut };
-  desks = b.desks;
+  placed = b.placed;
   did = b.did;
   alone = b.alone;
 }
@@ -212,3 +214,22 @@ pub next_job_start : (o p : Opening) (setup : Setup) (may : Bool) (limit made : 
 next_job_start o p setup may limit made offer next program old new desks0 desks desks' start before after wires wires' same_opening b k (first, stretch, objects) legal =
     let s : JobStretch o setup limit offer next first old new desks desks' = subst (λ (q : Opening). JobStretch q setup limit offer next first old new desks desks') same_opening stretch in
     (jobs_next b new desks' s legal, kept_next k b.spaced.few new first s.stretch.later after wires' s.stretch.is (starts_none s.stretch) (apart s.stretch) objects)
+
+-- ---- by the outcome
+
+pub at_ok : {A B : Type 0} (P : A → Type 0) (Q : B → Type 0) (r : Result A B) (a : A) → r ≡ Ok a → MatchResult r P Q → P a
+at_ok P Q r a e h = subst (λ x. MatchResult x P Q) e h
+
+pub at_err : {A B : Type 0} (P : A → Type 0) (Q : B → Type 0) (r : Result A B) (b : B) → r ≡ Err b → MatchResult r P Q → Q b
+at_err P Q r b e h = subst (λ x. MatchResult x P Q) e h
+
+-- no child was started: nothing has changed
+pub between_kept : {o : Opening} {setup : Setup} {may : Bool} {limit made : ℕ} {offer : Bool} {old : List Entry} {desks0 desks : List DeskTells} (new : List Entry) (desks' : List DeskTells) → new ≡ old → desks' ≡ desks
+    → JobsBetween o setup may limit made offer old desks0 desks → JobsBetween o setup may limit made offer new desks0 desks'
+between_kept {o} {setup} {may} {limit} {made} {offer} {old} {desks0} {desks} new desks' ej ed b =
+    subst (λ (j : List Entry). JobsBetween o setup may limit made offer j desks0 desks') (sym ej) (subst (λ (ds : List DeskTells). JobsBetween o setup may limit made offer old desks0 ds) (sym ed) b)
+
+pub kept_kept : {program : List ℕ} {old : List Entry} {before after : ProgramsValue} {wires : List WireValue} (new : List Entry) (wires' : List WireValue) → new ≡ old → wires' ≡ wires → Kept program old before after wires
+    → Kept program new before after wires'
+kept_kept {program} {old} {before} {after} {wires} new wires' ej ew k =
+    subst (λ (j : List Entry). Kept program j before after wires') (sym ej) (subst (λ (ws : List WireValue). Kept program old before after ws) (sym ew) k)

@@ -1,5 +1,5 @@
 -- What a run leaves, by as many workers as it has desks.
-use Rattle.std.specs.Prelude.{ℕ, ◌≡◌, Bool, true, false, List, [], length}
+use Rattle.std.specs.Prelude.{ℕ, ◌≡◌, Bool, true, List, [], length}
 use Rattle.std.specs.List.{list_all}
 use Rattle.journal_model.specs.declared.entry.Entry.{Entry}
 use Rattle.journal_model.specs.declared.opening.Opening.{Opening}
@@ -21,6 +21,6 @@ pub record RanJobs (o : Opening) (setup : Setup) (may : Bool) (limit : ℕ) (jou
   pub ended : AreEnded journal
   pub asks : list_all (λ e. is_of_run e.what) journal ≡ true
   pub calm : IsAtRest journal
-  pub desks : HaveDesks (length desks) [] journal
+  pub placed : HaveDesks (length desks) [] journal
   pub did : DesksDid o setup limit journal [] journal 1 desks desks'
   pub alone : length desks ≡ 1 → are_by 0 journal ≡ true

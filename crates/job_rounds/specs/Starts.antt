@@ -16,7 +16,7 @@ use Rattle.job_rounds.specs.Desks.{DesksDid, HaveDesks}
 -- one start and what followed it, with what the desks did
 pub record JobStretch (o : Opening) (setup : Setup) (limit : ℕ) (offer next : Bool) (first : What) (old new : List Entry) (desks desks' : List DeskTells) : Type 0 where
   pub stretch : Stretch o offer next first old new
-  pub desks : HaveDesks (length desks) (old ++ main_entry first ∷ []) stretch.later
+  pub placed : HaveDesks (length desks) (old ++ main_entry first ∷ []) stretch.later
   pub did : DesksDid o setup limit new (old ++ main_entry first ∷ []) stretch.later 1 desks desks'
   pub alone : length desks ≡ 1 → are_by 0 stretch.later ≡ true
   pub shut : ((c : ℕ) → open_jobs old c ≡ []) → (c : ℕ) → open_jobs new c ≡ []
@@ -36,7 +36,7 @@ pub record NotStarted (program : List ℕ) (old new : List Entry) (desks desks' 
 -- so many starts were made, and each task that was claimed is done
 pub record JobsBetween (o : Opening) (setup : Setup) (may : Bool) (limit made : ℕ) (offer : Bool) (journal : List Entry) (desks desks' : List DeskTells) : Type 0 where
   pub spaced : Spaced o may made offer journal
-  pub desks : HaveDesks (length desks) [] journal
+  pub placed : HaveDesks (length desks) [] journal
   pub did : DesksDid o setup limit journal [] journal 1 desks desks'
   pub alone : length desks ≡ 1 → are_by 0 journal ≡ true
   pub shut : (c : ℕ) → open_jobs journal c ≡ []

@@ -50,11 +50,14 @@ where
 {
     let (bench, started) = start_children(rt, alloc, programs, plan, tasks, bench, wires);
     let mut bench = bench;
-    if let Err(NoMemory) = started {
-        return (bench, Err(NoMemory));
+    match started {
+        Ok(()) => {
+            if bench.core.unclaimed() > 0 {
+                answer_left(&mut bench.core);
+                return (bench, Ok(()));
+            }
+            (bench, Ok(()))
+        }
+        Err(NoMemory) => (bench, Err(NoMemory)),
     }
-    if bench.core.unclaimed() > 0 {
-        answer_left(&mut bench.core);
-    }
-    (bench, Ok(()))
 }

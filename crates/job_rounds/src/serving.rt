@@ -1,5 +1,5 @@
 // What a child that is ready does, up to its closing.
-ghost use Rattle.std.specs.Prelude.{◌≡◌, ◌≤◌, ◌<◌, [], map, vec_len};
+ghost use Rattle.std.specs.Prelude.{◌≡◌, ◌≤◌, ◌<◌, [], map, vec_len, false, true};
 ghost use Rattle.annex_model.specs.Lines.{has_newline};
 ghost use Rattle.child_end.specs.Wires.{IsHeld};
 ghost use Rattle.child_start.specs.Cores.{IsSameCore};
@@ -37,8 +37,16 @@ pub(crate) fn serve_alone<I: Sink, O: Source, K: Desk + Drop>(
     ensures held { IsHeld bench.new.core.journal link.new.ear link.new.mouth }
     ensures same { IsSameLink link.old.ear link.new.ear link.old.mouth link.new.mouth }
     ensures core { IsSameCore bench.old.core bench.new.core }
+    ensures desks { vec_len bench.new.desks ≡ vec_len bench.old.desks }
 {
-    serve(alloc, tasks, setup, link, &mut bench.core, &mut bench.desks[0]);
+    serve(
+        alloc,
+        tasks,
+        setup,
+        link,
+        &mut bench.core,
+        &mut bench.desks[0],
+    );
 }
 
 /// Does tasks over the child, which takes tags, with a worker for each desk, and closes it. Where no round could begin, the first
@@ -64,6 +72,7 @@ pub(crate) fn serve_round<
     ensures held { IsHeld result.1.core.journal result.0.ear result.0.mouth }
     ensures same { IsSameLink link.ear result.0.ear link.mouth result.0.mouth }
     ensures core { IsSameCore bench.core result.1.core }
+    ensures desks { vec_len result.1.desks ≡ vec_len bench.desks }
 {
     let Bench { core, desks } = bench;
     let TaggedRound {
@@ -74,12 +83,15 @@ pub(crate) fn serve_round<
     } = round_tagged(rt, alloc, core, tasks, setup, link, desks);
     let mut bench = Bench { core, desks };
     match outcome {
-        Outcome::Done => close_child(&link, &mut bench.core),
+        Outcome::Done => {
+            close_child(&link, &mut bench.core);
+            (link, bench)
+        }
         Outcome::NoMemory | Outcome::NoThreads => {
-            serve_alone(alloc, tasks, setup, &mut link, &mut bench, true)
+            serve_alone(alloc, tasks, setup, &mut link, &mut bench, true);
+            (link, bench)
         }
     }
-    (link, bench)
 }
 
 /// Does tasks over the child with a worker for each desk, where it takes tags, else with one, and closes it.
@@ -105,6 +117,7 @@ pub(crate) fn serve_ready<
     ensures held { IsHeld result.1.core.journal result.0.ear result.0.mouth }
     ensures same { IsSameLink link.ear result.0.ear link.mouth result.0.mouth }
     ensures core { IsSameCore bench.core result.1.core }
+    ensures desks { vec_len result.1.desks ≡ vec_len bench.desks }
 {
     if tagged && bench.desks.len() > 1 {
         return serve_round(rt, alloc, tasks, setup, link, bench);

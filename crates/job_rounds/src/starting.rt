@@ -60,7 +60,15 @@ where
 {
     let mut bench = bench;
     let program = plan.program.view();
-    match greet(alloc, programs, program, &mut bench.core, 0, offer, Mode::Serve) {
+    match greet(
+        alloc,
+        programs,
+        program,
+        &mut bench.core,
+        0,
+        offer,
+        Mode::Serve,
+    ) {
         Greeting::Ready { link, stub, tagged } => {
             know_book(&bench.core.opening().notes);
             let (link, bench) = serve_ready(rt, alloc, tasks, &plan.setup, link, tagged, bench);
