@@ -48,15 +48,16 @@ read_in least most text = go (number_in least most text) refl
     go None e = tt
     go (Some n) e = let is : IsNumberIn least most text n = number_read least most text n e in (is.least_one, is.most_one)
 
-with_ranged : (rows : List Row) (uuid : Option (List ℕ)) (jobs chunk starts : Option ℕ) → IsRead 0 most_chunk chunk → IsRead 1 16 starts
+with_ranged : (rows : List Row) (uuid : Option (List ℕ)) (jobs chunk starts : Option ℕ) → IsRead 1 64 jobs → IsRead 0 most_chunk chunk → IsRead 1 16 starts
     → has_newline (value_at rows (codes "work")) ≡ false → Ranged (option_map Run (run_with rows uuid jobs chunk starts))
-with_ranged rows (Some uuid) (Some jobs) (Some chunk) (Some starts) c s w =
+with_ranged rows (Some uuid) (Some jobs) (Some chunk) (Some starts) j c s w =
+    let one = j.0 in
     let least = s.0 in
-    record { chunk = c.1; some = omega arith; few = s.1; work = w }
-with_ranged rows (Some uuid) (Some jobs) (Some chunk) None c s w = tt
-with_ranged rows (Some uuid) (Some jobs) None starts c s w = tt
-with_ranged rows (Some uuid) None chunk starts c s w = tt
-with_ranged rows None jobs chunk starts c s w = tt
+    record { jobs = (omega arith, j.1); chunk = c.1; some = omega arith; few = s.1; work = w }
+with_ranged rows (Some uuid) (Some jobs) (Some chunk) None j c s w = tt
+with_ranged rows (Some uuid) (Some jobs) None starts j c s w = tt
+with_ranged rows (Some uuid) None chunk starts j c s w = tt
+with_ranged rows None jobs chunk starts j c s w = tt
 
 from_ranged : (rows : List Row) → Ranged (option_map Run (run_from rows))
 from_ranged rows = go (are_texts rows) refl
@@ -70,7 +71,7 @@ from_ranged rows = go (are_texts rows) refl
         let behind_gitdir = both (is_text (value_at rows (codes "gitdir"))) _ behind_name.1 in
         let work = both (is_text (value_at rows (codes "work"))) _ behind_gitdir.1 in
         with_ranged rows (uuid_in (value_at rows (codes "uuid"))) (number_in 1 64 (value_at rows (codes "jobs"))) (number_in 0 most_chunk (value_at rows (codes "chunk")))
-        (number_in 1 16 (value_at rows (codes "starts"))) (read_in 0 most_chunk (value_at rows (codes "chunk"))) (read_in 1 16 (value_at rows (codes "starts")))
+        (number_in 1 16 (value_at rows (codes "starts"))) (read_in 1 64 (value_at rows (codes "jobs"))) (read_in 0 most_chunk (value_at rows (codes "chunk"))) (read_in 1 16 (value_at rows (codes "starts")))
         (text_whole (value_at rows (codes "work")) work.0)
 
 run_ranged : (words : List (List ℕ)) → Ranged (option_map Run (run_of words))

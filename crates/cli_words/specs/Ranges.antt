@@ -6,8 +6,10 @@ use Rattle.cli_words.specs.declared.command.Command.TheVariants.{Run}
 use Rattle.cli_words.specs.declared.command.RunWords.{RunWords}
 use Rattle.cli_words.specs.Words.{most_chunk}
 
--- chunks have at most so many bytes, and 0 stands for whole files; a child may be started 1 to 16 times, and the folder's name holds no line's end
+-- 1 to 64 tasks are done at a time; chunks have at most so many bytes, and 0 stands for whole files; a child may be started 1 to 16 times,
+-- and the folder's name holds no line's end
 pub record IsRanged (words : RunWords) : Type 0 where
+  pub jobs : (0 < words.jobs) × (words.jobs ≤ 64)
   pub chunk : words.chunk ≤ most_chunk
   pub some : 0 < words.starts
   pub few : words.starts ≤ 16

@@ -1,8 +1,8 @@
 -- What is left of a run's programs, and which desks were asked for.
-use Rattle.std.proofs.Common.{◌≡◌, inl, inr, ℕ, List, [], ◌∷◌, ◌++◌, length, append_assoc, lit≤, refl, sym, ap, subst, ◌∙◌, arith, true, false, Some, None, Option, Ok}
+use Rattle.std.proofs.Common.{◌≡◌, ◌≤◌, ◌+◌, inl, inr, ℕ, suc, zero, List, [], ◌∷◌, ◌++◌, length, append_assoc, refl, sym, ap, subst, ◌∙◌, arith, true, false, Some, None, Option, Ok}
 use Rattle.std.specs.Prelude.{Result, IsErr}
 use Rattle.std.specs.List.{range_with_len}
-use Rattle.std.proofs.lemmas.List.{append-nil}
+use Rattle.std.proofs.lemmas.List.{append-nil, length-append, map-append}
 use Rattle.ann_outside.specs.Starts.{Starts}
 use Rattle.ann_outside.specs.Causes.{AddsOne, Stays}
 use Rattle.ann_outside.specs.Desks.{Made}
@@ -49,35 +49,75 @@ ok_err r x e h = absurd (let bad : false ≡ true = subst IsErr e h in cc)
 
 -- ---- desks
 
+pub stays_same : {A : Type 0} (old new : Option A) → Stays old new → new ≡ old
+stays_same None None s = refl
+stays_same None (Some y) s = absurd s
+stays_same (Some x) None s = absurd s
+stays_same (Some x) (Some y) s = ap Some s
+
 made_none : (old new : Option (List Made)) → Stays old new → AddsMade old new []
 made_none None None s = tt
 made_none None (Some ys) s = absurd s
 made_none (Some xs) None s = absurd s
 made_none (Some xs) (Some ys) s = s ∙ sym (append-nil xs)
 
-pub same_stays : (t : Option (List Made)) → Stays t t
+same_stays : (t : Option (List Made)) → Stays t t
 same_stays None = tt
 same_stays (Some xs) = refl
 
-made_one : (old new : Option (List Made)) (m : Made) → AddsOne old new m → AddsMade old new (m ∷ [])
-made_one None None m a = tt
-made_one None (Some ys) m a = absurd a
-made_one (Some xs) None m a = absurd a
-made_one (Some xs) (Some ys) m a = a
-
 -- no worker's desk was asked for
-pub adds_no_worker : (old new : Option (List Made)) (workers : List TableValue) → workers ≡ [] → Stays old new → AddsWorkers old new workers
-adds_no_worker old new workers none stays =
-    subst (AddsWorkers old new) (sym none) record { few = lit≤ tt; more = []; desks = made_none old new stays; numbers = refl }
+pub adds_no_worker : (jobs : ℕ) (made : Option (List Made)) (workers : List TableValue) → workers ≡ [] → AddsWorkers jobs made made workers
+adds_no_worker jobs made workers none =
+    subst (AddsWorkers jobs made made) (sym none) record { few = omega arith; more = []; desks = made_none made made (same_stays made); numbers = refl }
 
--- the first worker's was
-pub adds_worker : (old new : Option (List Made)) (workers : List TableValue) (m : Made) → length workers ≡ 1 → m.number ≡ 1 → AddsOne old new m → AddsWorkers old new workers
-adds_worker old new workers m one first adds = record {
-  few = omega (arith, one);
-  more = m ∷ [];
-  desks = made_one old new m adds;
-  numbers = ap (λ (n : ℕ). n ∷ []) first ∙ ap (range_with_len 1) (sym one);
+-- as many desks, whatever they tell now
+pub adds_as_many : (jobs : ℕ) (old new : Option (List Made)) (workers workers' : List TableValue) → length workers' ≡ length workers → AddsWorkers jobs old new workers → AddsWorkers jobs old new workers'
+adds_as_many jobs old new workers workers' same h = record {
+  few = subst (λ (n : ℕ). n ≤ jobs) (sym same) h.few;
+  more = h.more;
+  desks = h.desks;
+  numbers = h.numbers ∙ ap (range_with_len 1) (sym same);
 }
+
+-- they are within a larger number
+pub adds_within : (n jobs : ℕ) (old new : Option (List Made)) (workers : List TableValue) → n ≤ jobs → AddsWorkers n old new workers → AddsWorkers jobs old new workers
+adds_within n jobs old new workers within h = record { few = let few = h.few in omega (arith, few, within); more = h.more; desks = h.desks; numbers = h.numbers }
+
+-- no memory was found for the next one
+pub adds_stay : (n jobs : ℕ) (old mid new : Option (List Made)) (workers : List TableValue) → n ≤ jobs → Stays mid new → AddsWorkers n old mid workers → AddsWorkers jobs old new workers
+adds_stay n jobs old mid new workers within stays h = subst (λ (m : Option (List Made)). AddsWorkers jobs old m workers) (sym (stays_same mid new stays)) (adds_within n jobs old mid workers within h)
+
+made_more : (old mid new : Option (List Made)) (more : List Made) (m : Made) → AddsMade old mid more → AddsOne mid new m → AddsMade old new (more ++ m ∷ [])
+made_more None None None more m h a = tt
+made_more None None (Some zs) more m h a = absurd a
+made_more None (Some ys) new more m h a = absurd h
+made_more (Some xs) None new more m h a = absurd h
+made_more (Some xs) (Some ys) None more m h a = absurd a
+made_more (Some xs) (Some ys) (Some zs) more m h a = a ∙ ap (λ (v : List Made). v ++ m ∷ []) h ∙ append_assoc xs more (m ∷ [])
+
+range_more : (a n : ℕ) → range_with_len a (suc n) ≡ range_with_len a n ++ (a + n) ∷ []
+range_more a zero = let e : a ≡ a + 0 = omega arith in ap (λ (k : ℕ). k ∷ []) e
+range_more a (suc n) =
+    let e : a + 1 + n ≡ a + suc n = omega arith in
+    ap (λ (ks : List ℕ). a ∷ ks) (range_more (a + 1) n ∙ ap (λ (k : ℕ). range_with_len (a + 1) n ++ k ∷ []) e)
+
+-- the next one was asked for
+pub adds_worker : (n : ℕ) (old mid new : Option (List Made)) (workers workers' : List TableValue) (table : TableValue) (m : Made) → length workers ≡ n → workers' ≡ workers ++ table ∷ [] → m.number ≡ n + 1
+    → AddsWorkers n old mid workers → AddsOne mid new m → AddsWorkers (n + 1) old new workers'
+adds_worker n old mid new workers workers' table m long one next h adds =
+    let more : length workers' ≡ suc n = ap (λ (ts : List TableValue). length ts) one ∙ length-append workers (table ∷ []) ∙ (let e : length workers + 1 ≡ suc n = omega (arith, long) in e) in
+    let here : m.number ≡ 1 + n = (let e : n + 1 ≡ 1 + n = omega arith in next ∙ e) in
+    record {
+      few = omega (arith, more);
+      more = h.more ++ m ∷ [];
+      desks = made_more old mid new h.more m h.desks adds;
+      numbers =
+          map-append (λ (x : Made). x.number) h.more (m ∷ [])
+          ∙ ap (λ (ks : List ℕ). ks ++ m.number ∷ []) (h.numbers ∙ ap (range_with_len 1) long)
+          ∙ ap (λ (k : ℕ). range_with_len 1 n ++ k ∷ []) here
+          ∙ sym (range_more 1 n)
+          ∙ ap (range_with_len 1) (sym more);
+    }
 
 -- and desk 0 before
 pub made_first : (old mid new : Option (List Made)) (m : Made) (more : List Made) → AddsOne old mid m → AddsMade mid new more → AddsMade old new (m ∷ more)
@@ -87,9 +127,3 @@ made_first None (Some ys) new m more a h = absurd a
 made_first (Some xs) None new m more a h = absurd a
 made_first (Some xs) (Some ys) None m more a h = absurd h
 made_first (Some xs) (Some ys) (Some zs) m more a h = h ∙ ap (λ (v : List Made). v ++ more) a ∙ append_assoc xs (m ∷ []) more
-
-pub stays_same : {A : Type 0} (old new : Option A) → Stays old new → new ≡ old
-stays_same None None s = refl
-stays_same None (Some y) s = absurd s
-stays_same (Some x) None s = absurd s
-stays_same (Some x) (Some y) s = ap Some s

@@ -5,3 +5,4 @@ pub mod Kept
 pub mod Working
 pub mod Leaving
 pub mod Journaled
+pub mod Crews

@@ -1,12 +1,8 @@
 -- From what a run begins with and what was worked to its end.
-use Rattle.std.proofs.Common.{◌≡◌, ◌⊎◌, ℕ, List, [], ◌∷◌, sym, ap, subst, ◌∙◌, inl, inr, Bool, true, Option, Ok, Err}
-use Rattle.std.specs.Prelude.{Result}
-use Rattle.ann_outside.specs.Calls.{IsLogBlank}
+use Rattle.std.proofs.Common.{◌≡◌, ◌⊎◌, ℕ, List, [], length, sym, ap, subst, ◌∙◌, inl, inr, Bool, true, Option, Ok, Err}
+use Rattle.std.specs.Prelude.{Result, map}
 use Rattle.ann_outside.specs.Causes.{Rose}
-use Rattle.ann_outside.specs.DeskCauses.{Counts}
-use Rattle.ann_outside.specs.Desks.{no_counts}
 use Rattle.ann_outside.specs.Files.{Files}
-use Rattle.ann_outside.specs.declared.file_desk.Call.{Call}
 use Rattle.cli_words.specs.declared.command.RunWords.{RunWords}
 use Rattle.journal_model.specs.declared.answer.Answer.{Answer}
 use Rattle.journal_model.specs.declared.entry.Entry.{Entry}
@@ -15,10 +11,10 @@ use Rattle.journal_model.proofs.Projecting.{parts_fit}
 use Rattle.host_core.specs.Steps.{are_all_claimed}
 use Rattle.task_run.specs.declared.setup.Setup.{Setup}
 use Rattle.child_end.specs.Outsides.{TableValue}
-use Rattle.lone_work.specs.Works.{desk_tells}
-use Rattle.lone_rounds.specs.Rounds.{RanAlone}
+use Rattle.lone_work.specs.Works.{DeskTells}
+use Rattle.job_rounds.specs.JobRuns.{RanJobs}
 use Rattle.run_tasks.specs.Inputs.{InputFlow, run_setup}
-use Rattle.run_tasks.specs.Runs.{MadeValue, IsAsBefore, IsRunOf, IsUnbegun, LacksJournal, EndsRun, IfUnwhole}
+use Rattle.run_tasks.specs.Runs.{MadeValue, AreFresh, IsAsBefore, IsRunOf, IsUnbegun, LacksJournal, EndsRun, IfUnwhole, table_tells}
 use Rattle.run_tasks.specs.Beginnings.{IsReady, BeginsRun}
 use Rattle.run_tasks.specs.Workings.{IsWorked, IsUnjournaled, Finishes, EndsWork, IsStopped, GoesOn}
 use Rattle.run_tasks.specs.declared.made.RunEnd.{RunEnd}
@@ -27,19 +23,18 @@ use Rattle.run_tasks.proofs.Kept.{as_before}
 
 -- ---- the tasks
 
-pub is_worked : (words : RunWords) (opening : Opening) (workers : List TableValue) (journal : List Entry) (log : Option (List Call)) (counts : Counts) (desk : TableValue) (setup : Setup) (may : Bool) (limit : ℕ)
-    → workers ≡ desk ∷ [] → counts ≡ no_counts → IsLogBlank log → setup ≡ run_setup words opening.stamp → may ≡ true → limit ≡ words.starts
-    → RanAlone opening setup may limit journal (desk_tells log counts) (desk_tells desk.log desk.counts) → IsWorked words opening workers journal
-is_worked words opening workers journal log counts desk setup may limit one fresh blank setup_is may_is limit_is ran = record {
-  log = log;
-  blank = blank;
-  desk = desk;
-  one = one;
+pub is_worked : (words : RunWords) (opening : Opening) (workers : List TableValue) (journal : List Entry) (before after : List DeskTells) (setup : Setup) (may : Bool) (limit : ℕ)
+    → (length before ≡ words.jobs) × (length workers ≡ words.jobs) → AreFresh before → after ≡ map table_tells workers → setup ≡ run_setup words opening.stamp → may ≡ true → limit ≡ words.starts
+    → RanJobs opening setup may limit journal before after → IsWorked words opening workers journal
+is_worked words opening workers journal before after setup may limit many fresh after_is setup_is may_is limit_is ran = record {
+  before = before;
+  many = many;
+  fresh = fresh;
   ran =
-      subst (λ (n : ℕ). RanAlone opening (run_setup words opening.stamp) true n journal (desk_tells log no_counts) (desk_tells desk.log desk.counts)) limit_is
-      (subst (λ (b : Bool). RanAlone opening (run_setup words opening.stamp) b limit journal (desk_tells log no_counts) (desk_tells desk.log desk.counts)) may_is
-      (subst (λ (s : Setup). RanAlone opening s may limit journal (desk_tells log no_counts) (desk_tells desk.log desk.counts)) setup_is
-      (subst (λ (n : Counts). RanAlone opening setup may limit journal (desk_tells log n) (desk_tells desk.log desk.counts)) fresh ran)));
+      subst (λ (n : ℕ). RanJobs opening (run_setup words opening.stamp) true n journal before (map table_tells workers)) limit_is
+      (subst (λ (b : Bool). RanJobs opening (run_setup words opening.stamp) b limit journal before (map table_tells workers)) may_is
+      (subst (λ (s : Setup). RanJobs opening s may limit journal before (map table_tells workers)) setup_is
+      (subst (RanJobs opening setup may limit journal before) after_is ran)));
   parts = parts_fit opening journal ran.legal;
 }
 
@@ -86,13 +81,10 @@ module _ (words : RunWords) (clock : Option ℕ) (told : Option Files) (flow : I
     input = ready.input;
     opening = opening;
     begins = ready.begins;
-    log = worked.log;
-    blank = worked.blank;
-    desk = worked.desk;
-    one = worked.one;
-    ran =
-        subst (λ (n : ℕ). RanAlone opening (run_setup words n) true words.starts journal (desk_tells worked.log no_counts) (desk_tells worked.desk.log worked.desk.counts)) (ap (λ (o : Opening). o.stamp) ready.begins.is)
-        worked.ran;
+    before = worked.before;
+    many = worked.many;
+    fresh = worked.fresh;
+    ran = subst (λ (n : ℕ). RanJobs opening (run_setup words n) true words.starts journal worked.before (map table_tells workers)) (ap (λ (o : Opening). o.stamp) ready.begins.is) worked.ran;
     parts = worked.parts;
   }
 

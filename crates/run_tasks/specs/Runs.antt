@@ -6,7 +6,6 @@ use Rattle.ann_outside.specs.Causes.{Rose}
 use Rattle.ann_outside.specs.Calls.{IsLogBlank}
 use Rattle.ann_outside.specs.Desks.{Made, no_counts}
 use Rattle.ann_outside.specs.Files.{Files, WhereTold, OthersStay}
-use Rattle.ann_outside.specs.declared.file_desk.Call.{Call}
 use Rattle.desk_file.specs.Writes.{new_name, IsReplacedBy}
 use Rattle.task_text.specs.declared.task.Task.{Task}
 use Rattle.keep_text.specs.KeptFiles.{bad_line, kept_text}
@@ -34,8 +33,8 @@ use Rattle.host_core.specs.Steps.{are_all_claimed}
 use Rattle.child_end.specs.Wires.{WireValue}
 use Rattle.child_end.specs.Programs.{Leaves}
 use Rattle.child_end.specs.Outsides.{OutsideValue, TableValue}
-use Rattle.lone_work.specs.Works.{desk_tells}
-use Rattle.lone_rounds.specs.Rounds.{RanAlone}
+use Rattle.lone_work.specs.Works.{DeskTells, desk_tells}
+use Rattle.job_rounds.specs.JobRuns.{RanJobs}
 use Rattle.run_tasks.specs.Inputs.{InputFlow, IsUnread, IsTaken, IsTextFor, IsRunOpening, run_setup}
 use Rattle.run_tasks.specs.declared.made.RunEnd.{RunEnd}
 use Rattle.run_tasks.specs.declared.made.RunEnd.TheVariants.{BadKept, KeptTooLarge, FileFailed, InputFailed, Refused, Memory, Done}
@@ -65,8 +64,22 @@ AreAnswers o journal answers = map (λ answer. Some answer) answers ≡ map (ans
 
 -- ---- the run
 
--- From the opening that the words, the kept file, the input and the clock give, the tasks were done over one child at a time
--- and by the first worker's desk, and each job's part fits.
+-- no call was made on the desk, and it counted nothing
+pub record IsFresh (desk : DeskTells) : Type 0 where
+  pub blank : IsLogBlank desk.log
+  pub uncounted : desk.counts ≡ no_counts
+
+-- so is each of them
+abbrev pub AreFresh : List DeskTells → Type 0
+AreFresh [] = Unit {0}
+AreFresh (desk ∷ desks) = IsFresh desk × AreFresh desks
+
+-- what a table tells of its calls
+abbrev pub table_tells : TableValue → DeskTells
+table_tells table = desk_tells table.log table.counts
+
+-- From the opening that the words, the kept file, the input and the clock give, the tasks were done over one child at a time, by as many
+-- workers as the words say, each with a fresh desk, and each job's part fits.
 pub record IsRunOf (words : RunWords) (clock : Option ℕ) (told : Option Files) (flow : InputFlow) (workers : List TableValue) (journal : List Entry) : Type 0 where
   pub stamp : ℕ
   pub at : IfSome clock (λ n. stamp ≡ n)
@@ -77,11 +90,10 @@ pub record IsRunOf (words : RunWords) (clock : Option ℕ) (told : Option Files)
   pub input : IsTaken TASKS flow (Ok tasks)
   pub opening : Opening
   pub begins : IsRunOpening words kept tasks stamp opening
-  pub log : Option (List Call)
-  pub blank : IsLogBlank log
-  pub desk : TableValue
-  pub one : workers ≡ desk ∷ []
-  pub ran : RanAlone opening (run_setup words stamp) true words.starts journal (desk_tells log no_counts) (desk_tells desk.log desk.counts)
+  pub before : List DeskTells
+  pub many : (length before ≡ words.jobs) × (length workers ≡ words.jobs)
+  pub fresh : AreFresh before
+  pub ran : RanJobs opening (run_setup words stamp) true words.starts journal before (map table_tells workers)
   pub parts : (c j : ℕ) → JobFits (replies_at opening journal) journal c j
 
 -- ---- the kept file
@@ -203,13 +215,13 @@ AddsMade None (Some ys) more = ⊥
 AddsMade (Some xs) None more = ⊥
 AddsMade (Some xs) (Some ys) more = ys ≡ xs ++ more
 
--- desk 0 was asked for first, and then the first worker's at most, and this came of it
+-- desk 0 was asked for first, and then those of the workers, in turn, as many as the words say at most, and this came of it
 pub record IsAtDesk (words : RunWords) (clock : Option ℕ) (before : OutsideValue) (flow : InputFlow) (after : OutsideValue) (made : MadeValue) : Type 0 where
   pub told : Option Files
   pub table : TableValue
   pub workers : List TableValue
   pub tables : made.tables ≡ table ∷ workers
-  pub few : length workers ≤ 1
+  pub few : length workers ≤ words.jobs
   pub more : List Made
   pub desks : AddsMade before.made after.made (record { number = 0; files = told } ∷ more)
   pub numbers : map (λ m. m.number) more ≡ range_with_len 1 (length workers)

@@ -1,11 +1,9 @@
 -- What comes of the tasks of an opening, and of keeping what is known.
-use Rattle.std.specs.Prelude.{ℕ, ◌≡◌, ◌⊎◌, ◌≤◌, true, List, [], ◌∷◌, length, map, Option, Some, None, Result, Ok, Err, MatchResult}
+use Rattle.std.specs.Prelude.{ℕ, ◌≡◌, ◌⊎◌, ◌≤◌, true, List, [], length, map, Option, Result, Ok, Err, MatchResult}
 use Rattle.std.specs.List.{range_with_len}
 use Rattle.ann_key.specs.declared.bytes.NoMemory.{NoMemory}
-use Rattle.ann_outside.specs.Calls.{IsLogBlank}
-use Rattle.ann_outside.specs.Desks.{Made, no_counts}
+use Rattle.ann_outside.specs.Desks.{Made}
 use Rattle.ann_outside.specs.Files.{Files}
-use Rattle.ann_outside.specs.declared.file_desk.Call.{Call}
 use Rattle.keep_desk.specs.declared.writing.KeptWritten.{KeptWritten}
 use Rattle.cli_words.specs.declared.command.RunWords.{RunWords}
 use Rattle.journal_model.specs.declared.answer.Answer.{Answer}
@@ -15,18 +13,13 @@ use Rattle.journal_model.specs.Due.{replies_at}
 use Rattle.journal_model.specs.Projection.{JobFits}
 use Rattle.host_core.specs.Steps.{are_all_claimed}
 use Rattle.child_end.specs.Outsides.{TableValue}
-use Rattle.lone_work.specs.Works.{desk_tells}
-use Rattle.lone_rounds.specs.Rounds.{RanAlone}
+use Rattle.lone_work.specs.Works.{DeskTells}
+use Rattle.job_rounds.specs.JobRuns.{RanJobs}
 use Rattle.run_tasks.specs.Inputs.{run_setup}
-use Rattle.run_tasks.specs.Runs.{AreAnswers, AreWritten, IsAsBefore, IsCutShort, IsKept, AddsMade}
+use Rattle.run_tasks.specs.Runs.{AreAnswers, AreFresh, AreWritten, IsAsBefore, IsCutShort, IsKept, AddsMade, table_tells}
 use Rattle.run_tasks.specs.declared.made.RunEnd.{RunEnd}
 use Rattle.run_tasks.specs.declared.made.RunEnd.TheVariants.{Memory, Done}
 use Rattle.run_tasks.specs.declared.rounds.Ready.{Ready}
-
--- what there is, as a list
-abbrev pub listed : {A : Type 0} → Option A → List A
-listed None = []
-listed (Some x) = x ∷ []
 
 -- all is ready for the tasks of the core's opening
 pub record IsPrepared (words : RunWords) (r : Ready) : Type 0 where
@@ -39,13 +32,13 @@ pub record IsPrepared (words : RunWords) (r : Ready) : Type 0 where
 
 -- ---- the tasks
 
--- the tasks of the opening were done over one child at a time and by the first worker's desk, and each job's part fits
+-- the tasks of the opening were done over one child at a time, by as many workers as the words say, each with a fresh desk, and each
+-- job's part fits
 pub record IsWorked (words : RunWords) (opening : Opening) (workers : List TableValue) (journal : List Entry) : Type 0 where
-  pub log : Option (List Call)
-  pub blank : IsLogBlank log
-  pub desk : TableValue
-  pub one : workers ≡ desk ∷ []
-  pub ran : RanAlone opening (run_setup words opening.stamp) true words.starts journal (desk_tells log no_counts) (desk_tells desk.log desk.counts)
+  pub before : List DeskTells
+  pub many : (length before ≡ words.jobs) × (length workers ≡ words.jobs)
+  pub fresh : AreFresh before
+  pub ran : RanJobs opening (run_setup words opening.stamp) true words.starts journal before (map table_tells workers)
   pub parts : (c j : ℕ) → JobFits (replies_at opening journal) journal c j
 
 -- these are the answers, and this came of the kept file and the journal file
@@ -108,9 +101,9 @@ abbrev pub GoesOn : RunWords → TableValue → TableValue → List TableValue �
 GoesOn words before after workers journal answers (Ok opening) end = EndsWork words before.files after opening workers journal answers end
 GoesOn words before after workers journal answers (Err why) end = IsStopped before after workers journal answers why end
 
--- one worker's desk was asked for at most, and where desks tell they tell it
-pub record AddsWorkers (old new : Option (List Made)) (workers : List TableValue) : Type 0 where
-  pub few : length workers ≤ 1
+-- the desks of so many workers were asked for at most, in turn, and where desks tell they tell it
+pub record AddsWorkers (jobs : ℕ) (old new : Option (List Made)) (workers : List TableValue) : Type 0 where
+  pub few : length workers ≤ jobs
   pub more : List Made
   pub desks : AddsMade old new more
   pub numbers : map (λ m. m.number) more ≡ range_with_len 1 (length workers)

@@ -8,7 +8,6 @@ ghost use Rattle.cli_words.specs.Identities.{IsFit};
 ghost use Rattle.cli_words.specs.declared.command.Command.TheVariants.{Run};
 ghost use Rattle.run_tasks.specs.Inputs.{input_flow};
 ghost use Rattle.run_tasks.specs.Runs.{HasDone};
-ghost use Rattle.run_tasks.specs.Workings.{listed};
 ghost use Rattle.run_tasks.specs.declared.made.RunEnd.TheVariants.{Memory};
 
 use crate::beginning::begin;
@@ -20,26 +19,39 @@ use cli_words::RunWords;
 use journal_look::Journal;
 use link_roles::Wire;
 use std::alloc::Global;
+use std::marker::{Send, Sync};
+use std::sync::Wait;
+use std::thread::Threads;
 
 // Room for what a run leaves of its objects.
 #[derive(Drop)]
 struct Room<P: Programs, K: Desks> {
     wires: Vec<Wire<P::Inlet, P::Outlet>>,
+    crew: Vec<K::Desk>,
     tables: Vec<K::Desk>,
 }
 
-// Room for a wire of each start, and for two desks.
-fn take_room<P: Programs, K: Desks>(alloc: Global, starts: u32) -> Result<Room<P, K>, NoMemory>
+// Room for a wire of each start, for a desk of each worker, and for all desks.
+fn take_room<P: Programs, K: Desks>(
+    alloc: Global,
+    starts: u32,
+    jobs: u32,
+) -> Result<Room<P, K>, NoMemory>
 where
     P::Inlet: Drop,
     P::Outlet: Drop,
     K::Desk: Drop,
-    ensures none { IfOk result (λ r. (r.wires.items ≡ []) × (r.tables.items ≡ []) × (vec_len r.tables ≡ 0)) }
-    ensures room { IfOk result (λ r. (starts ≤ vec_capacity r.wires) × (2 ≤ vec_capacity r.tables)) }
+    ensures none { IfOk result (λ r. (r.wires.items ≡ []) × (r.crew.items ≡ []) × (r.tables.items ≡ []) × (vec_len r.crew ≡ 0) × (vec_len r.tables ≡ 0)) }
+    ensures room { IfOk result (λ r. (starts ≤ vec_capacity r.wires) × (jobs ≤ vec_capacity r.crew) × (jobs < vec_capacity r.tables)) }
 {
     let wires = Vec::with_capacity(alloc, starts as usize)?;
-    let tables = Vec::with_capacity(alloc, 2)?;
-    Ok(Room { wires, tables })
+    let crew = Vec::with_capacity(alloc, jobs as usize)?;
+    let tables = Vec::with_capacity(alloc, jobs as usize + 1)?;
+    Ok(Room {
+        wires,
+        crew,
+        tables,
+    })
 }
 
 // No memory was found before anything was asked for.
@@ -59,26 +71,25 @@ where
     }
 }
 
-// Both desks, within the room that was taken for them.
-fn both<D>(tables: Vec<D>, first: D, worker: Option<D>) -> Vec<D>
+// All desks, within the room that was taken for them.
+fn all_desks<D: Drop>(tables: Vec<D>, first: D, crew: Vec<D>) -> Vec<D>
     requires none { (tables.items ≡ []) × (vec_len tables ≡ 0) }
-    requires room { 2 ≤ vec_capacity tables }
-    ensures { result.items ≡ first ∷ listed worker }
+    requires room { vec_len crew < vec_capacity tables }
+    ensures { result.items ≡ first ∷ crew.items }
 {
     let mut tables = tables;
+    let mut crew = crew;
     tables.push_reserved(first);
-    match worker {
-        Some(worker) => {
-            tables.push_reserved(worker);
-            tables
-        }
-        None => tables,
-    }
+    let Ok(()) = tables.append(&mut crew) else {
+        unreachable!();
+    };
+    tables
 }
 
-/// Does the tasks of the input. The kept file is read first, where the words name one, then the input to its end, then the
-/// clock; after the tasks the kept file is written, and then the journal file.
-pub fn do_tasks<P: Programs, K: Desks, I: Source, C: Clock>(
+/// Does the tasks of the input, with as many workers as the words say. The kept file is read first, where the words name one, then
+/// the input to its end, then the clock; after the tasks the kept file is written, and then the journal file.
+pub fn do_tasks<P: Programs, K: Desks, I: Source, C: Clock, R: Threads + Wait + Sync>(
+    rt: &R,
     alloc: Global,
     words: &RunWords,
     programs: &mut P,
@@ -87,30 +98,37 @@ pub fn do_tasks<P: Programs, K: Desks, I: Source, C: Clock>(
     clock: &mut C,
 ) -> Made<P, K>
 where
-    P::Inlet: Drop,
-    P::Outlet: Drop,
-    K::Desk: Drop,
+    P::Inlet: Send + Drop,
+    P::Outlet: Send + Drop,
+    K::Desk: Send + Drop,
     requires fit { IsFit (Run words.now) }
     requires uuid { IsWrittenUuid words.now.uuid }
+    requires jobs { (0 < words.now.jobs) × (words.now.jobs ≤ 64) }
     requires starts { (0 < words.now.starts) × (words.now.starts ≤ 16) }
     requires text { has_newline words.now.work ≡ false }
     requires input { I.is_open input.old ≡ true }
     ensures { HasDone words.now (C.answer clock.old) (record { programs = programs_value (P.starts programs.old) (P.faults programs.old); made = K.made desks.old }) (input_flow (I.given input.old) (I.given input.new) (I.left input.old) (I.left input.new) (I.faults input.old) (I.faults input.new)) (record { programs = programs_value (P.starts programs.new) (P.faults programs.new); made = K.made desks.new }) result }
 {
-    let Ok(room) = take_room::<P, K>(alloc, words.starts) else {
+    let Ok(room) = take_room::<P, K>(alloc, words.starts, words.jobs) else {
         return nothing_made(alloc);
     };
-    let Room { mut wires, tables } = room;
+    let Room {
+        mut wires,
+        crew,
+        tables,
+    } = room;
     let Ok(mut desk) = desks.desk(0) else {
         return nothing_made(alloc);
     };
     let begun = begin(alloc, words, &mut desk, input, clock);
-    let worked = go_on(alloc, words, begun, programs, desks, &mut desk, &mut wires);
+    let worked = go_on(
+        rt, alloc, words, begun, programs, desks, &mut desk, crew, &mut wires,
+    );
     Made {
         journal: worked.journal,
         answers: worked.answers,
         wires,
-        tables: both(tables, desk, worked.worker),
+        tables: all_desks(tables, desk, worked.crew),
         end: worked.end,
     }
 }

@@ -1,4 +1,4 @@
-// The whole of a run: what it begins with, its tasks over one child at a time, and what is kept of it.
+// The whole of a run: what it begins with, its tasks, by as many workers as the words say, and what is kept of it.
 #![tactic(auto)]
 
 mod answers;

@@ -1,13 +1,13 @@
-// The tasks of a run, over one child at a time and by the desk of one worker.
-ghost use Rattle.std.specs.Prelude.{◌≡◌, ◌≤◌, ◌<◌, [], IfOk, false, length, map, vec_capacity};
+// The tasks of a run, over one child at a time, with a desk for each worker.
+ghost use Rattle.std.specs.Prelude.{◌≡◌, ◌≤◌, ◌<◌, [], IfOk, OnOk, false, map, vec_len, vec_capacity};
 ghost use Rattle.annex_model.specs.Lines.{has_newline};
-ghost use Rattle.ann_outside.specs.Calls.{IsLogBlank};
-ghost use Rattle.ann_outside.specs.Desks.{no_counts};
 ghost use Rattle.journal_model.specs.Beginnings.{MayBegin};
 ghost use Rattle.child_end.specs.Outsides.{table_value};
 ghost use Rattle.child_end.specs.Programs.{Leaves, programs_value};
 ghost use Rattle.child_end.specs.Wires.{wire_value};
-ghost use Rattle.run_tasks.specs.Workings.{AddsWorkers, EndsWork, GoesOn, IsPrepared, listed};
+ghost use Rattle.lone_work.specs.Works.{desk_tells};
+ghost use Rattle.run_tasks.specs.Runs.{AreFresh};
+ghost use Rattle.run_tasks.specs.Workings.{AddsWorkers, EndsWork, GoesOn, IsPrepared};
 ghost use Rattle.run_tasks.specs.declared.made.RunEnd.TheVariants.{Memory};
 
 use crate::keeping::finish;
@@ -16,35 +16,39 @@ use ann_key::{NoMemory, Text};
 use ann_outside::{Desk, Desks, Programs};
 use cli_words::RunWords;
 use host_core::Core;
+use job_rounds::{Bench, run_jobs};
 use journal_look::Journal;
 use journal_model::{Answer, Opening};
 use link_roles::Wire;
-use lone_rounds::{Plan, run_alone};
+use lone_rounds::Plan;
 use std::alloc::Global;
+use std::marker::{Send, Sync};
+use std::sync::Wait;
+use std::thread::Threads;
 use task_run::Setup;
 use task_text::Tasks;
 
-/// What came of the tasks, and the desk of the worker that did them.
+/// What came of the tasks, and the desks of the workers that were asked for.
 #[derive(Drop)]
 pub(crate) struct Worked<D: Desk> {
     pub(crate) journal: Journal,
     pub(crate) answers: Vec<Answer>,
-    pub(crate) worker: Option<D>,
+    pub(crate) crew: Vec<D>,
     pub(crate) end: RunEnd,
 }
 
 impl<D: Desk> Worked<D> {
     /// Nothing was done, for this reason.
-    pub(crate) fn nothing(alloc: Global, end: RunEnd) -> Worked<D>
+    pub(crate) fn nothing(alloc: Global, crew: Vec<D>, end: RunEnd) -> Worked<D>
         ensures journal { result.journal.entries ≡ [] }
         ensures answers { result.answers.items ≡ [] }
-        ensures worker { listed result.worker ≡ [] }
+        ensures crew { result.crew ≡ crew }
         ensures end { result.end ≡ end }
     {
         Worked {
             journal: Journal::new(alloc),
             answers: Vec::new(alloc),
-            worker: None,
+            crew,
             end,
         }
     }
@@ -90,113 +94,140 @@ fn journal_of(core: Core) -> Journal
     journal
 }
 
-// Does the tasks, and keeps what is known behind them. The worker's desk is handed back.
-fn do_all<P: Programs, D: Desk>(
+// Asks for the desks of so many workers, 1, 2 and so on, until no memory is found for one.
+fn ask_desks<K: Desks>(desks: &mut K, jobs: u32, crew: &mut Vec<K::Desk>) -> Result<(), NoMemory>
+    requires few { jobs ≤ 64 }
+    requires none { crew.old.items ≡ [] }
+    requires room { jobs ≤ vec_capacity crew.old }
+    ensures desks { AddsWorkers jobs (K.made desks.old) (K.made desks.new) (map (table_value K.Desk.counts K.Desk.files K.Desk.log) crew.new.items) }
+    ensures fresh { AreFresh (map (λ k. desk_tells (K.Desk.log k) (K.Desk.counts k)) crew.new.items) }
+    ensures all { OnOk result (vec_len crew.new ≡ jobs) }
+{
+    'workers: for before in 0..jobs {
+        let desk = desks.desk(before + 1)?;
+        crew.push_reserved(desk);
+    }
+    Ok(())
+}
+
+// Does the tasks, and keeps what is known behind them. The workers' desks are handed back.
+fn do_all<P: Programs, D: Desk + Send + Drop, R: Threads + Wait + Sync>(
+    rt: &R,
     alloc: Global,
     words: &RunWords,
     ready: Ready,
     programs: &mut P,
     desk: &mut D,
-    worker: D,
+    crew: Vec<D>,
     wires: &mut Vec<Wire<P::Inlet, P::Outlet>>,
 ) -> Worked<D>
 where
-    P::Inlet: Drop,
-    P::Outlet: Drop,
+    P::Inlet: Send + Drop,
+    P::Outlet: Send + Drop,
     requires prepared { IsPrepared words.now ready }
     requires may { MayBegin ready.core.opening }
+    requires jobs { (0 < words.now.jobs) × (words.now.jobs ≤ 64) }
     requires starts { (0 < words.now.starts) × (words.now.starts ≤ 16) }
     requires text { has_newline words.now.work ≡ false }
-    requires fresh { (D.counts worker ≡ no_counts) × IsLogBlank (D.log worker) }
+    requires crew { vec_len crew ≡ words.now.jobs }
+    requires fresh { AreFresh (map (λ k. desk_tells (D.log k) (D.counts k)) crew.items) }
     requires room { words.now.starts ≤ vec_capacity wires.old }
     requires none { wires.old.items ≡ [] }
-    ensures ends { EndsWork words.now (D.files desk.old) (table_value D.counts D.files D.log desk.new) ready.core.opening (map (table_value D.counts D.files D.log) (listed result.worker)) result.journal.entries result.answers.items result.end }
-    ensures worker { length (listed result.worker) ≡ 1 }
+    ensures ends { EndsWork words.now (D.files desk.old) (table_value D.counts D.files D.log desk.new) ready.core.opening (map (table_value D.counts D.files D.log) result.crew.items) result.journal.entries result.answers.items result.end }
+    ensures crew { vec_len result.crew ≡ words.now.jobs }
     ensures leaves { Leaves (result.end ≡ Memory) words.now.program result.journal.entries (programs_value (P.starts programs.old) (P.faults programs.old)) (programs_value (P.starts programs.new) (P.faults programs.new)) (map (wire_value P.Inlet.taken P.Inlet.faults P.Inlet.number P.Inlet.is_open P.Outlet.given P.Outlet.left P.Outlet.faults P.Outlet.number P.Outlet.is_open) wires.new.items) }
 {
-    let Ready {
-        mut core,
-        plan,
-        tasks,
-    } = ready;
-    let mut worker = worker;
-    let tasks = tasks.view();
-    match run_alone(alloc, programs, &plan, tasks, &mut core, &mut worker, wires) {
+    let Ready { core, plan, tasks } = ready;
+    let bench = Bench { core, desks: crew };
+    let (bench, ran) = run_jobs(rt, alloc, programs, &plan, tasks.view(), bench, wires);
+    let Bench { core, desks: crew } = bench;
+    match ran {
         Ok(()) => {
             let finished = finish(alloc, words, desk, &core);
             Worked {
                 journal: journal_of(core),
                 answers: finished.answers,
-                worker: Some(worker),
+                crew,
                 end: finished.end,
             }
         }
         Err(NoMemory) => Worked {
             journal: journal_of(core),
             answers: Vec::new(alloc),
-            worker: Some(worker),
+            crew,
             end: RunEnd::Memory,
         },
     }
 }
 
-/// Asks for the first worker's desk, does the tasks of the opening, and keeps what is known behind them at the other desk.
-pub(crate) fn work<P: Programs, K: Desks>(
+/// Asks for the workers' desks, does the tasks of the opening, and keeps what is known behind them at the other desk.
+pub(crate) fn work<P: Programs, K: Desks, R: Threads + Wait + Sync>(
+    rt: &R,
     alloc: Global,
     words: &RunWords,
     opening: Opening,
     programs: &mut P,
     desks: &mut K,
     desk: &mut K::Desk,
+    crew: Vec<K::Desk>,
     wires: &mut Vec<Wire<P::Inlet, P::Outlet>>,
 ) -> Worked<K::Desk>
 where
-    P::Inlet: Drop,
-    P::Outlet: Drop,
-    K::Desk: Drop,
+    P::Inlet: Send + Drop,
+    P::Outlet: Send + Drop,
+    K::Desk: Send + Drop,
     requires may { MayBegin opening }
+    requires jobs { (0 < words.now.jobs) × (words.now.jobs ≤ 64) }
     requires starts { (0 < words.now.starts) × (words.now.starts ≤ 16) }
     requires text { has_newline words.now.work ≡ false }
+    requires crew { (crew.items ≡ []) × (words.now.jobs ≤ vec_capacity crew) }
     requires room { words.now.starts ≤ vec_capacity wires.old }
     requires none { wires.old.items ≡ [] }
-    ensures ends { EndsWork words.now (K.Desk.files desk.old) (table_value K.Desk.counts K.Desk.files K.Desk.log desk.new) opening (map (table_value K.Desk.counts K.Desk.files K.Desk.log) (listed result.worker)) result.journal.entries result.answers.items result.end }
-    ensures desks { AddsWorkers (K.made desks.old) (K.made desks.new) (map (table_value K.Desk.counts K.Desk.files K.Desk.log) (listed result.worker)) }
+    ensures ends { EndsWork words.now (K.Desk.files desk.old) (table_value K.Desk.counts K.Desk.files K.Desk.log desk.new) opening (map (table_value K.Desk.counts K.Desk.files K.Desk.log) result.crew.items) result.journal.entries result.answers.items result.end }
+    ensures desks { AddsWorkers words.now.jobs (K.made desks.old) (K.made desks.new) (map (table_value K.Desk.counts K.Desk.files K.Desk.log) result.crew.items) }
     ensures leaves { Leaves (result.end ≡ Memory) words.now.program result.journal.entries (programs_value (P.starts programs.old) (P.faults programs.old)) (programs_value (P.starts programs.new) (P.faults programs.new)) (map (wire_value P.Inlet.taken P.Inlet.faults P.Inlet.number P.Inlet.is_open P.Outlet.given P.Outlet.left P.Outlet.faults P.Outlet.number P.Outlet.is_open) wires.new.items) }
 {
+    let mut crew = crew;
     let Ok(ready) = prepare(alloc, words, opening) else {
-        return Worked::nothing(alloc, RunEnd::Memory);
+        return Worked::nothing(alloc, crew, RunEnd::Memory);
     };
-    let Ok(worker) = desks.desk(1) else {
-        return Worked::nothing(alloc, RunEnd::Memory);
+    let Ok(()) = ask_desks(desks, words.jobs, &mut crew) else {
+        return Worked::nothing(alloc, crew, RunEnd::Memory);
     };
-    do_all(alloc, words, ready, programs, desk, worker, wires)
+    do_all(rt, alloc, words, ready, programs, desk, crew, wires)
 }
 
 /// Does the tasks of what a run begins with, where it begins.
-pub(crate) fn go_on<P: Programs, K: Desks>(
+pub(crate) fn go_on<P: Programs, K: Desks, R: Threads + Wait + Sync>(
+    rt: &R,
     alloc: Global,
     words: &RunWords,
     begun: Result<Opening, RunEnd>,
     programs: &mut P,
     desks: &mut K,
     desk: &mut K::Desk,
+    crew: Vec<K::Desk>,
     wires: &mut Vec<Wire<P::Inlet, P::Outlet>>,
 ) -> Worked<K::Desk>
 where
-    P::Inlet: Drop,
-    P::Outlet: Drop,
-    K::Desk: Drop,
+    P::Inlet: Send + Drop,
+    P::Outlet: Send + Drop,
+    K::Desk: Send + Drop,
     requires may { IfOk begun MayBegin }
+    requires jobs { (0 < words.now.jobs) × (words.now.jobs ≤ 64) }
     requires starts { (0 < words.now.starts) × (words.now.starts ≤ 16) }
     requires text { has_newline words.now.work ≡ false }
+    requires crew { (crew.items ≡ []) × (words.now.jobs ≤ vec_capacity crew) }
     requires room { words.now.starts ≤ vec_capacity wires.old }
     requires none { wires.old.items ≡ [] }
-    ensures goes_on { GoesOn words.now (table_value K.Desk.counts K.Desk.files K.Desk.log desk.old) (table_value K.Desk.counts K.Desk.files K.Desk.log desk.new) (map (table_value K.Desk.counts K.Desk.files K.Desk.log) (listed result.worker)) result.journal.entries result.answers.items begun result.end }
-    ensures desks { AddsWorkers (K.made desks.old) (K.made desks.new) (map (table_value K.Desk.counts K.Desk.files K.Desk.log) (listed result.worker)) }
+    ensures goes_on { GoesOn words.now (table_value K.Desk.counts K.Desk.files K.Desk.log desk.old) (table_value K.Desk.counts K.Desk.files K.Desk.log desk.new) (map (table_value K.Desk.counts K.Desk.files K.Desk.log) result.crew.items) result.journal.entries result.answers.items begun result.end }
+    ensures desks { AddsWorkers words.now.jobs (K.made desks.old) (K.made desks.new) (map (table_value K.Desk.counts K.Desk.files K.Desk.log) result.crew.items) }
     ensures leaves { Leaves (result.end ≡ Memory) words.now.program result.journal.entries (programs_value (P.starts programs.old) (P.faults programs.old)) (programs_value (P.starts programs.new) (P.faults programs.new)) (map (wire_value P.Inlet.taken P.Inlet.faults P.Inlet.number P.Inlet.is_open P.Outlet.given P.Outlet.left P.Outlet.faults P.Outlet.number P.Outlet.is_open) wires.new.items) }
 {
     match begun {
-        Ok(opening) => work(alloc, words, opening, programs, desks, desk, wires),
-        Err(end) => Worked::nothing(alloc, end),
+        Ok(opening) => work(
+            rt, alloc, words, opening, programs, desks, desk, crew, wires,
+        ),
+        Err(end) => Worked::nothing(alloc, crew, end),
     }
 }

@@ -1,18 +1,14 @@
 -- An audit that found no memory before it began.
-use Rattle.std.proofs.Common.{◌≡◌, ◌∙◌, ◌==◌, ℕ, Bool, true, false, List, [], Option, Some, None, Ok, Err, refl, sym, ap, subst, inl, inr}
-use Rattle.std.specs.Prelude.{IfSome, Result}
-use Rattle.audit_run.specs.Inputs.{ComesTo, IsFound, audit_limits}
-use Rattle.audit_run.specs.declared.error.AuditError.{AuditError}
-use Rattle.audit_run.specs.declared.error.AuditError.TheVariants.{Entry, Cut, Failed, NoMemory}
+use Rattle.std.proofs.Common.{◌≡◌, ◌∙◌, ℕ, Bool, true, false, List, [], Option, Some, None, Err, sym, ap, subst}
+use Rattle.std.specs.Prelude.{IfSome}
+use Rattle.audit_run.specs.Inputs.{ComesTo, audit_limits}
+use Rattle.audit_run.specs.declared.error.AuditError.TheVariants.{NoMemory}
 use Rattle.child_end.specs.Outsides.{OutsideValue}
 use Rattle.cli_words.specs.declared.command.Command.{Command}
 use Rattle.cli_words.specs.declared.command.Command.TheVariants.{Audit as AuditWord}
-use Rattle.journal_audit.specs.declared.found.Audit.{Audit}
-use Rattle.journal_audit.specs.declared.found.Audit.TheVariants.{Legal, Wrong}
 use Rattle.run_tasks.specs.Inputs.{InputFlow, IsUnread}
-use Rattle.special_cli.specs.Audits.{IsAuditOf, HasAudited, end_of_audit}
-use Rattle.special_cli.specs.Left.{Left, RanValue, IsIdle}
-use Rattle.special_cli.specs.Tells.{Flow, IsWritten, IsToldOf}
+use Rattle.special_cli.specs.Audits.{IsAuditOf, HasAudited}
+use Rattle.special_cli.specs.Left.{RanValue, IsIdle}
 use Rattle.special_cli.specs.declared.end.End.TheVariants.{Memory}
 use Rattle.task_input.proofs.Given.{given_none}
 use Rattle.task_input.specs.Reads.{HasGiven}

@@ -1,4 +1,4 @@
-// The command `run`: the tasks of the input.
+// The command `run`: the tasks of the input, by its workers.
 ghost use Rattle.std.specs.Prelude.{◌≡◌, true};
 ghost use Rattle.chunk_log.specs.ChunkLines.{IsWrittenUuid};
 ghost use Rattle.cli_words.specs.Identities.{IsFit};
@@ -14,9 +14,13 @@ use ann_outside::{Clock, Desks, Programs, Source};
 use cli_words::RunWords;
 use run_tasks::{RunEnd, do_tasks};
 use std::alloc::Global;
+use std::marker::{Send, Sync};
+use std::sync::Wait;
+use std::thread::Threads;
 
 /// Does the tasks of the input over the remote that the program serves.
-pub(crate) fn run<P: Programs, K: Desks, I: Source, C: Clock>(
+pub(crate) fn run<P: Programs, K: Desks, I: Source, C: Clock, R: Threads + Wait + Sync>(
+    rt: &R,
     alloc: Global,
     words: &RunWords,
     outside: Outside<P, K>,
@@ -24,9 +28,9 @@ pub(crate) fn run<P: Programs, K: Desks, I: Source, C: Clock>(
     clock: &mut C,
 ) -> Ran<P, K>
 where
-    P::Inlet: Drop,
-    P::Outlet: Drop,
-    K::Desk: Drop,
+    P::Inlet: Send + Drop,
+    P::Outlet: Send + Drop,
+    K::Desk: Send + Drop,
     requires fit { IsFit (Run words.now) }
     requires uuid { IsWrittenUuid words.now.uuid }
     requires ranges { IsRanged words.now }
@@ -37,7 +41,7 @@ where
         mut programs,
         mut desks,
     } = outside;
-    let made = do_tasks(alloc, words, &mut programs, &mut desks, input, clock);
+    let made = do_tasks(rt, alloc, words, &mut programs, &mut desks, input, clock);
     Ran {
         outside: Outside { programs, desks },
         journal: made.journal,

@@ -21,6 +21,9 @@ use ann_key::NoMemory;
 use ann_outside::{Clock, Desks, Programs, Sink, Source};
 use cli_words::{Command, command_of};
 use std::alloc::Global;
+use std::marker::{Send, Sync};
+use std::sync::Wait;
+use std::thread::Threads;
 
 /// Does all that the program does: reads the words behind its name, starts what they ask for, prints what comes of it to
 /// `out` or why there is nothing to `err`, and leaves the status to end with.
@@ -29,7 +32,16 @@ use std::alloc::Global;
 /// aren't in the grammar. 3: the key or a line of the input is refused, or the input is cut. 4: the input couldn't be read.
 /// 5: a write to `out` or `err` failed. 6: the kept file may not be as it is, or couldn't be read or written. 7: no memory was
 /// found.
-pub fn special<P: Programs, K: Desks, I: Source, O: Sink, E: Sink, C: Clock>(
+pub fn special<
+    P: Programs,
+    K: Desks,
+    I: Source,
+    O: Sink,
+    E: Sink,
+    C: Clock,
+    R: Threads + Wait + Sync,
+>(
+    rt: &R,
     alloc: Global,
     words: &[String],
     programs: P,
@@ -40,20 +52,21 @@ pub fn special<P: Programs, K: Desks, I: Source, O: Sink, E: Sink, C: Clock>(
     clock: &mut C,
 ) -> Closing<P, K>
 where
-    P::Inlet: Drop,
-    P::Outlet: Drop,
-    K::Desk: Drop,
+    P::Inlet: Send + Drop,
+    P::Outlet: Send + Drop,
+    K::Desk: Send + Drop,
     requires open { (I.is_open input.old ≡ true) × (O.is_open out.old ≡ true) × (E.is_open err.old ≡ true) }
     ensures done { IsDone (C.answer clock.old) (record { programs = programs_value (P.starts programs) (P.faults programs); made = K.made desks }) (input_flow (I.given input.old) (I.given input.new) (I.left input.old) (I.left input.new) (I.faults input.old) (I.faults input.new)) (wish_of (texts_of words.now)) (flow (O.faults out.old) (O.faults out.new) (O.taken out.old) (O.taken out.new)) (flow (E.faults err.old) (E.faults err.new) (E.taken err.old) (E.taken err.new)) result.status result.left }
     ensures called { IsCalled (C.answer clock.old) (record { programs = programs_value (P.starts programs) (P.faults programs); made = K.made desks }) (input_flow (I.given input.old) (I.given input.new) (I.left input.old) (I.left input.new) (I.faults input.old) (I.faults input.new)) (wish_of (texts_of words.now)) (flow (O.faults out.old) (O.faults out.new) (O.taken out.old) (O.taken out.new)) (flow (E.faults err.old) (E.faults err.new) (E.taken err.old) (E.taken err.new)) result.status result.left }
 {
     let outside = Outside { programs, desks };
-    let ran = do_words(alloc, words, outside, input, clock);
+    let ran = do_words(rt, alloc, words, outside, input, clock);
     tell(alloc, ran, out, err)
 }
 
 // Reads the words, and does what they ask for.
-fn do_words<P: Programs, K: Desks, I: Source, C: Clock>(
+fn do_words<P: Programs, K: Desks, I: Source, C: Clock, R: Threads + Wait + Sync>(
+    rt: &R,
     alloc: Global,
     words: &[String],
     outside: Outside<P, K>,
@@ -61,20 +74,21 @@ fn do_words<P: Programs, K: Desks, I: Source, C: Clock>(
     clock: &mut C,
 ) -> Ran<P, K>
 where
-    P::Inlet: Drop,
-    P::Outlet: Drop,
-    K::Desk: Drop,
+    P::Inlet: Send + Drop,
+    P::Outlet: Send + Drop,
+    K::Desk: Send + Drop,
     requires input { I.is_open input.old ≡ true }
     ensures { Runs (C.answer clock.old) outside (input_flow (I.given input.old) (I.given input.new) (I.left input.old) (I.left input.new) (I.faults input.old) (I.faults input.new)) (wish_of (texts_of words.now)) result }
 {
     match command_of(alloc, words) {
-        Ok(command) => do_command(alloc, &command, outside, input, clock),
+        Ok(command) => do_command(rt, alloc, &command, outside, input, clock),
         Err(NoMemory) => Ran::nothing(alloc, outside, End::Memory),
     }
 }
 
 // Does what was asked for.
-fn do_command<P: Programs, K: Desks, I: Source, C: Clock>(
+fn do_command<P: Programs, K: Desks, I: Source, C: Clock, R: Threads + Wait + Sync>(
+    rt: &R,
     alloc: Global,
     command: &Option<Command>,
     outside: Outside<P, K>,
@@ -82,9 +96,9 @@ fn do_command<P: Programs, K: Desks, I: Source, C: Clock>(
     clock: &mut C,
 ) -> Ran<P, K>
 where
-    P::Inlet: Drop,
-    P::Outlet: Drop,
-    K::Desk: Drop,
+    P::Inlet: Send + Drop,
+    P::Outlet: Send + Drop,
+    K::Desk: Send + Drop,
     requires words { AreRead command.now }
     requires input { I.is_open input.old ≡ true }
     ensures { Runs (C.answer clock.old) outside (input_flow (I.given input.old) (I.given input.new) (I.left input.old) (I.left input.new) (I.faults input.old) (I.faults input.new)) command.now result }
@@ -96,7 +110,7 @@ where
         }
         Some(Command::Info { program, key }) => info(alloc, program.view(), key, outside),
         Some(Command::Init(words)) => init(alloc, words, outside),
-        Some(Command::Run(words)) => run(alloc, words, outside, input, clock),
+        Some(Command::Run(words)) => run(rt, alloc, words, outside, input, clock),
         Some(Command::Audit) => audit(alloc, outside, input),
         None => Ran::nothing(alloc, outside, End::Usage),
     }

@@ -4,7 +4,6 @@ use Rattle.child_end.specs.Outsides.{table_value}
 use Rattle.child_end.specs.Wires.{wire_value}
 use Rattle.run_tasks.specs.Inputs.{input_flow}
 use Rattle.run_tasks.specs.Runs.{MadeValue}
-use Rattle.run_tasks.specs.Workings.{listed}
 use Rattle.run_tasks.proofs.Begun.{may_begin_all}
 use Rattle.run_tasks.proofs.Leaving.{made_first}
 use Rattle.run_tasks.proofs.Working.{ends_run, no_answers}
@@ -28,7 +27,7 @@ returns g c =
     let told = g.K.Desk.Desk.files c.in-Ok-desk.desk in
     let before = value c.begin-begun.new.desk in
     let table = value c.go_on-worked.new.desk in
-    let workers = map value (listed c.go_on-worked.result.worker) in
+    let workers = map value c.go_on-worked.result.crew.items in
     let adds = c.go_on-worked.ensures.desks in
     let made : MadeValue = record {
       journal = c.go_on-worked.result.journal.entries;
@@ -36,14 +35,14 @@ returns g c =
       wires =
           map (wire_value g.P.Inlet.Sink.taken g.P.Inlet.Sink.faults g.P.Inlet.Sink.number g.P.Inlet.Sink.is_open g.P.Outlet.Source.given g.P.Outlet.Source.left g.P.Outlet.Source.faults g.P.Outlet.Source.number g.P.Outlet.Source.is_open)
           c.go_on-worked.new.wires.items;
-      tables = map value c.both.result.items;
+      tables = map value c.all_desks.result.items;
       end = c.go_on-worked.result.end;
     } in
     inr record {
       told = told;
       table = table;
       workers = workers;
-      tables = ap (map value) c.both.ensures;
+      tables = ap (map value) c.all_desks.ensures;
       few = adds.few;
       more = adds.more;
       desks = made_first (g.K.Desks.made c.args.desks.now) (g.K.Desks.made c.desk.new.self) (g.K.Desks.made c.go_on-worked.new.desks) (record { number = 0; files = told }) adds.more c.in-Ok-desk.ensures.made adds.desks;
