@@ -1,1 +1,6 @@
 pub mod WellTasks
+pub mod LastRounds
+pub mod WantedParts
+pub mod FileContents
+pub mod GotEnds
+pub mod Keeping

@@ -186,7 +186,7 @@ ends_within key size chunk from (suc count) =
     let rest : list_all (λ (p : Part). nat_le p.to size) (map (chunk_part key size chunk) (range_with_len (from + 1) count)) ≡ true = ends_within key size chunk (from + 1) count in
     rw (one, rest) refl
 
-layout_within : (key : Parts) (size chunk : ℕ) → list_all (λ (p : Part). nat_le p.to size) (layout key size chunk) ≡ true
+pub layout_within : (key : Parts) (size chunk : ℕ) → list_all (λ (p : Part). nat_le p.to size) (layout key size chunk) ≡ true
 layout_within key size chunk = by_test (chunk == 0)
   where
     by_test : (b : Bool) → list_all (λ (p : Part). nat_le p.to size) (if b then record { key = key; from = 0; to = size } ∷ [] else map (chunk_part key size chunk) (range_with_len 1 (count_of size chunk))) ≡ true

@@ -1,1 +1,3 @@
 pub mod WentWell
+pub mod Contents
+pub mod Kept

@@ -1,4 +1,5 @@
 // What follows from Task run: which answers come where all went well from outside, and what a get leaves in its file.
 #![tactic(auto)]
 
+pub mod kept;
 pub mod went_well;
