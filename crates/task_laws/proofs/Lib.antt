@@ -4,3 +4,4 @@ pub mod WantedParts
 pub mod FileContents
 pub mod GotEnds
 pub mod Keeping
+pub mod Retrieving

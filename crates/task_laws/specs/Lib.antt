@@ -1,3 +1,6 @@
 pub mod WentWell
 pub mod Contents
 pub mod Kept
+pub mod Changes
+pub mod Faithful
+pub mod Retrieval

@@ -2,4 +2,5 @@
 #![tactic(auto)]
 
 pub mod kept;
+pub mod retrieval;
 pub mod went_well;
