@@ -5,3 +5,4 @@ pub mod FileContents
 pub mod GotEnds
 pub mod Keeping
 pub mod Retrieving
+pub mod RunsWell

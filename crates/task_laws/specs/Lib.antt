@@ -4,3 +4,4 @@ pub mod Kept
 pub mod Changes
 pub mod Faithful
 pub mod Retrieval
+pub mod RunWell

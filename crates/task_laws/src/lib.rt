@@ -3,4 +3,5 @@
 
 pub mod kept;
 pub mod retrieval;
+pub mod run_well;
 pub mod went_well;
