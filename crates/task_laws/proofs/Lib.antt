@@ -6,3 +6,5 @@ pub mod GotEnds
 pub mod Keeping
 pub mod Retrieving
 pub mod RunsWell
+pub mod Members
+pub mod Sending

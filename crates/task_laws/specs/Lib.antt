@@ -5,3 +5,4 @@ pub mod Changes
 pub mod Faithful
 pub mod Retrieval
 pub mod RunWell
+pub mod Sent

@@ -4,4 +4,5 @@
 pub mod kept;
 pub mod retrieval;
 pub mod run_well;
+pub mod sent;
 pub mod went_well;
