@@ -2,7 +2,7 @@
 use Rattle.std.proofs.Common.{◌≡◌, ◌∙◌, ◌⊎◌, inl, inr, ℕ, zero, suc, ◌+◌, ◌-◌, ◌<◌, ◌≤◌, ◌==◌, min, Bool, true, false, not, List, [], ◌∷◌, ◌++◌, length, take, drop, refl, sym, ap, subst, arith, length-append, length-drop}
 use Rattle.std.specs.Prelude.{◌≢◌, ◌&&◌, ◌||◌, cond, if◌then◌else◌, nat_le, Option, Some, None, is_some, filter, map, unwrap_or, replicate, count_by}
 use Rattle.std.specs.Bool.{MatchBool}
-use Rattle.std.specs.List.{list_all, concat, slice_range}
+use Rattle.std.specs.List.{list_all, concat, slice_range, range_with_len}
 use Rattle.std.proofs.lemmas.Bool.{and_parts, or_cases, eqb-true, eqb-false, leb-true}
 use Rattle.std.proofs.lemmas.List.{length-map, length-take, length-replicate}
 use Rattle.std.proofs.lemmas.List.Sums.{count_by-le-length}
@@ -10,7 +10,7 @@ use Rattle.ann_key.specs.Keys.{Parts, key_reading}
 use Rattle.ann_digest.specs.Fits.{HasSize, FitsKey}
 use Rattle.ann_outside.specs.declared.file_desk.Call.{Call}
 use Rattle.annex_model.specs.Messages.{HostMessage}
-use Rattle.chunk_plan.specs.Layouts.{Part, layout}
+use Rattle.chunk_plan.specs.Layouts.{Part, layout, chunk_part, count_of}
 use Rattle.chunk_plan.proofs.Joined.{ranges_are_the_whole}
 use Rattle.journal_model.specs.declared.answer.Answer.TheVariants as A
 use Rattle.task_text.specs.declared.task.Task.{Task}
@@ -92,6 +92,18 @@ layout_long key size chunk =
     let long : length content ≡ size = length-replicate size 0 in
     let P : ℕ → Type 0 = λ n. list_all (λ (p : Part). nat_le p.to n) (layout key size chunk) ≡ true in
     sym (slices_long content (layout key size chunk) (subst P (sym long) (layout_within key size chunk))) ∙ ap length (ranges_are_the_whole key size chunk content long) ∙ long
+
+-- a layout has a part
+pub some_part : (key : Parts) (size chunk : ℕ) → layout key size chunk ≡ [] → ⊥
+unfolding total
+some_part key size chunk e =
+    let none : 0 ≡ size = ap total (sym e) ∙ layout_long key size chunk in
+    let P : ℕ → Type 0 = λ n. layout key n chunk ≡ [] in
+    by_test (chunk == 0) (subst P (sym none) e)
+  where
+    by_test : (b : Bool) → cond b (record { key = key; from = 0; to = 0 } ∷ []) (map (chunk_part key 0 chunk) (range_with_len 1 (count_of 0 chunk))) ≡ [] → ⊥
+    by_test true h = cc
+    by_test false h = cc
 
 -- ---- what was asked
 

@@ -8,3 +8,4 @@ pub mod Retrieving
 pub mod RunsWell
 pub mod Members
 pub mod Sending
+pub mod OneStore
