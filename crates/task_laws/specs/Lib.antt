@@ -6,3 +6,4 @@ pub mod Faithful
 pub mod Retrieval
 pub mod RunWell
 pub mod Sent
+pub mod Rows

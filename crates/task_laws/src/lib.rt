@@ -3,6 +3,7 @@
 
 pub mod kept;
 pub mod retrieval;
+pub mod rows;
 pub mod run_well;
 pub mod sent;
 pub mod went_well;
