@@ -73,6 +73,7 @@ never : (n : ℕ) (more : List ℕ) → n ∷ more ≡ [] → ⊥
 never n more e = cc
 
 pub returns : goal.returns
+unfolding digits
 returns c = record {
   run = run;
   keyed = refl;
