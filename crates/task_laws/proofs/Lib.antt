@@ -9,3 +9,4 @@ pub mod RunsWell
 pub mod Members
 pub mod Sending
 pub mod OneStore
+pub mod NoZero

@@ -39,7 +39,7 @@ run_asks p journal t run h =
     let P : List Asking → Type 0 = λ x. list_all p x ≡ true in
     behind_of p (askings_from journal t [] run.past) (run_askings run) (subst P claimed (front_of p (askings_from journal t [] front) (askings_from journal t front tail) (subst P split h)))
 
-one_succeeds : (o : Opening) (setup : Setup) (journal : List Entry) (r : TaskDone) → AreAskedWell o journal → RanWell o setup journal r → IsSucceeded o r
+pub one_succeeds : (o : Opening) (setup : Setup) (journal : List Entry) (r : TaskDone) → AreAskedWell o journal → RanWell o setup journal r → IsSucceeded o r
 one_succeeds o setup journal r asked w task is =
     let same : Some w.run.task ≡ Some task = sym w.run.is ∙ is in
     let at : w.run.task ≡ task = cc in

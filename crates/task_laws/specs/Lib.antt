@@ -7,3 +7,4 @@ pub mod Retrieval
 pub mod RunWell
 pub mod Sent
 pub mod Rows
+pub mod LoneWell

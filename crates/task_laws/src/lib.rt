@@ -2,6 +2,7 @@
 #![tactic(auto)]
 
 pub mod kept;
+pub mod lone_well;
 pub mod retrieval;
 pub mod rows;
 pub mod run_well;
