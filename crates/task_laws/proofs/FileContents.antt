@@ -1,6 +1,6 @@
 -- What is read of a file that shows a content.
-use Rattle.std.proofs.Common.{◌≡◌, ◌∙◌, ◌⊎◌, inl, inr, ℕ, zero, suc, ◌+◌, ◌-◌, ◌<◌, ◌≤◌, ◌==◌, min, Bool, true, false, List, [], ◌∷◌, ◌++◌, length, take, drop, refl, sym, ap, subst, arith, length-append, length-drop}
-use Rattle.std.specs.Prelude.{◌≢◌, ◌&&◌, ◌||◌, nat_lt, nat_le, bytes_eq}
+use Rattle.std.proofs.Common.{◌≡◌, ◌∙◌, ◌⊎◌, inl, inr, ℕ, ◌+◌, ◌-◌, ◌<◌, ◌≤◌, ◌==◌, min, true, List, [], ◌∷◌, ◌++◌, length, take, drop, refl, sym, ap, arith, length-append}
+use Rattle.std.specs.Prelude.{◌≢◌, ◌||◌, nat_lt, nat_le, bytes_eq}
 use Rattle.std.specs.List.{list_all, concat}
 use Rattle.std.proofs.Math.Seq.{take-add, take-length}
 use Rattle.std.proofs.lemmas.List.{length-take, drop-drop}
@@ -13,7 +13,7 @@ use Rattle.task_run.specs.Names.{fetch_file}
 use Rattle.task_run.specs.Reads.{lengths_found, reads_of, bytes_of, is_run, is_at_end, is_reading}
 use Rattle.task_run.specs.Gets.{bytes_fetched, are_read_whole}
 use Rattle.task_run.proofs.Texts.{apart}
-use Rattle.task_laws.specs.Contents.{is_read_of, Shows, IsFetched, AreFetched}
+use Rattle.task_laws.specs.Contents.{is_read_of, IsFetched, AreFetched}
 
 -- ---- reads of one file
 

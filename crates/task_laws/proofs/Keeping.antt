@@ -1,30 +1,29 @@
 -- What a get that is answered Got keeps.
 use Rattle.std.proofs.Common.{◌≡◌, ◌∙◌, ◌⊎◌, inl, inr, ℕ, zero, suc, ◌+◌, ◌-◌, ◌<◌, ◌≤◌, ◌==◌, min, Bool, true, false, not, List, [], ◌∷◌, ◌++◌, length, take, drop, refl, sym, ap, subst, arith, length-append, length-drop}
-use Rattle.std.specs.Prelude.{◌≢◌, ◌&&◌, ◌||◌, cond, if◌then◌else◌, nat_le, Option, Some, None, is_some, filter, map, unwrap_or, replicate, count_by}
+use Rattle.std.specs.Prelude.{◌≢◌, ◌||◌, cond, if◌then◌else◌, nat_le, Option, Some, None, is_some, filter, map, unwrap_or, replicate, count_by}
 use Rattle.std.specs.Bool.{MatchBool}
 use Rattle.std.specs.List.{list_all, concat, slice_range, range_with_len}
 use Rattle.std.proofs.lemmas.Bool.{and_parts, or_cases, eqb-true, eqb-false, leb-true}
 use Rattle.std.proofs.lemmas.List.{length-map, length-take, length-replicate}
 use Rattle.std.proofs.lemmas.List.Sums.{count_by-le-length}
-use Rattle.ann_key.specs.Keys.{Parts, key_reading}
+use Rattle.ann_key.specs.Keys.{Parts}
 use Rattle.ann_digest.specs.Fits.{HasSize, FitsKey}
 use Rattle.ann_outside.specs.declared.file_desk.Call.{Call}
 use Rattle.annex_model.specs.Messages.{HostMessage}
 use Rattle.chunk_plan.specs.Layouts.{Part, layout, chunk_part, count_of}
 use Rattle.chunk_plan.proofs.Joined.{ranges_are_the_whole}
 use Rattle.journal_model.specs.declared.answer.Answer.TheVariants as A
-use Rattle.task_text.specs.declared.task.Task.{Task}
-use Rattle.task_asker.specs.Askings.{Asking, Noting}
+use Rattle.task_asker.specs.Askings.{Asking}
 use Rattle.task_run.specs.declared.setup.Setup.{Setup}
 use Rattle.task_run.specs.Stops.{is_done, last_failed}
-use Rattle.task_run.specs.Names.{fetch_file, part_of}
-use Rattle.task_run.specs.Requests.{AskInOrder, RoundsAsk}
+use Rattle.task_run.specs.Names.{fetch_file}
+use Rattle.task_run.specs.Requests.{AskInOrder}
 use Rattle.task_run.specs.Layouts.{chunk_sizes, sizes_tried, parts_of_layout, keys_of_layout}
-use Rattle.task_run.specs.Reads.{lengths_found, bytes_of, appended}
-use Rattle.task_run.specs.Gets.{fetch_request, lengths_at_begin, wanted, failures, item, asked_last, first_asked, parts_last, is_plain_last, since_begin, held_reads, bytes_fetched, checked, is_wrong, wrong_lengths, GetAsks, IsChecked, IsKept, DecidesBy, Decides, GetAnswers}
+use Rattle.task_run.specs.Reads.{lengths_found, bytes_of}
+use Rattle.task_run.specs.Gets.{fetch_request, lengths_at_begin, wanted, failures, item, asked_last, first_asked, parts_last, is_plain_last, held_reads, bytes_fetched, checked, is_wrong, wrong_lengths, GetAsks, IsChecked, IsKept, DecidesBy, Decides, GetAnswers}
 use Rattle.task_run.proofs.Texts.{apart}
 use Rattle.task_run.proofs.GotLaws.{never_failed, get_fits}
-use Rattle.task_laws.specs.Contents.{Shows, IsFetched, AreFetched}
+use Rattle.task_laws.specs.Contents.{AreFetched}
 use Rattle.task_laws.specs.Kept.{chunk_last, is_afresh, Keeps, GotKeeps}
 use Rattle.task_laws.proofs.WellTasks.{layout_within}
 use Rattle.task_laws.proofs.LastRounds.{LastAsks, last_asks}

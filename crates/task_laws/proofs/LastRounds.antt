@@ -1,6 +1,6 @@
 -- What was asked in the layout that was tried last.
 use Rattle.std.proofs.Common.{◌≡◌, ◌∙◌, ◌⊎◌, inl, inr, ℕ, zero, suc, ◌+◌, ◌-◌, ◌≤◌, Bool, true, false, not, List, [], ◌∷◌, ◌++◌, length, take, drop, refl, sym, ap, subst, arith, length-append}
-use Rattle.std.specs.Prelude.{◌&&◌, ◌||◌, cond, Option, Some, None, filter, map, unwrap_or, count_by}
+use Rattle.std.specs.Prelude.{◌&&◌, ◌||◌, cond, Option, filter, unwrap_or}
 use Rattle.std.specs.List.{list_all, onto_first}
 use Rattle.std.proofs.lemmas.Bool.{and_parts}
 use Rattle.std.proofs.lemmas.List.Sums.{sum_by-cons}

@@ -1,7 +1,7 @@
 -- Where all goes well with the children, no task is claimed without one.
-use Rattle.std.proofs.Common.{◌≡◌, ◌∙◌, ◌⊎◌, inl, inr, ℕ, ◌+◌, ◌<◌, ◌==◌, Bool, true, false, not, List, [], ◌∷◌, ◌++◌, length, refl, sym, ap, subst, arith}
-use Rattle.std.specs.Prelude.{◌&&◌, ◌||◌, cond, if◌then◌else◌, Option, Some, None, is_some, is_none, option_and_then, find, filter, slice_index_or, All, IfSome}
-use Rattle.std.specs.List.{list_all, list_any, cons_option, filter_map, last_or}
+use Rattle.std.proofs.Common.{◌≡◌, ◌∙◌, ◌⊎◌, inl, inr, ℕ, ◌==◌, Bool, true, false, not, List, [], ◌∷◌, ◌++◌, length, refl, sym, ap, subst, arith}
+use Rattle.std.specs.Prelude.{◌&&◌, cond, if◌then◌else◌, Option, Some, None, is_some, is_none, option_and_then, find, filter, slice_index_or}
+use Rattle.std.specs.List.{list_all, cons_option, last_or}
 use Rattle.std.proofs.lemmas.Bool.{and_parts, or_parts}
 use Rattle.ann_key.specs.Keys.{Parts, key_reading}
 use Rattle.journal_model.specs.declared.answer.Answer.{Answer}
@@ -14,19 +14,15 @@ use Rattle.journal_model.specs.declared.entry.What.TheVariants.{Claim, Start, No
 use Rattle.journal_model.specs.declared.entry.Entry.{Entry}
 use Rattle.journal_model.specs.declared.opening.Opening.{Opening}
 use Rattle.journal_model.specs.Journal.{any, each_of, first_of, ends, mutes, is_ended, is_mute, verdict_in, verdict_of, end_why, why_of}
-use Rattle.journal_model.specs.Legality.{task_of, is_done, count}
+use Rattle.journal_model.specs.Legality.{is_done, count}
 use Rattle.journal_model.specs.Shares.{is_closed}
-use Rattle.task_text.specs.declared.task.Task.{Task}
 use Rattle.task_run.specs.declared.setup.Setup.{Setup}
 use Rattle.task_run.specs.TaskRuns.{refused_at, refusal_of, or_refusal, ended_answer, gone_answer, unready_answer, failed_start}
 use Rattle.task_run.proofs.Texts.{apart}
-use Rattle.task_rounds.specs.JournalRuns.{JournalRun}
 use Rattle.lone_work.specs.Works.{TaskDone}
-use Rattle.lone_rounds.specs.Starting.{is_any_start, started_in, children, is_unclosed, is_spent, AreSpent}
-use Rattle.lone_rounds.specs.Rounds.{turn_of, start_untaken, ZeroAnswers, ZeroRun, ChildRun, HasRun}
-use Rattle.task_laws.specs.WentWell.{IsSuccess}
-use Rattle.task_laws.specs.RunWell.{AreAskedWell, RanWell}
-use Rattle.task_laws.specs.LoneWell.{is_no_start, is_refusal, is_unclosed_end, is_muting, ChildrenWell, NoneWithoutChild, AreKeysRead, IsDeskWell, WentWellAlone, IsDoneWell, LoneSucceeds}
+use Rattle.lone_rounds.specs.Starting.{is_any_start, started_in, children, is_unclosed, is_spent}
+use Rattle.lone_rounds.specs.Rounds.{turn_of, start_untaken, ZeroAnswers, HasRun}
+use Rattle.task_laws.specs.LoneWell.{is_no_start, is_refusal, is_unclosed_end, is_muting, ChildrenWell, NoneWithoutChild, IsDeskWell, WentWellAlone, IsDoneWell, LoneSucceeds}
 use Rattle.task_laws.proofs.RunsWell.{one_succeeds}
 
 -- ---- of the entries before a place

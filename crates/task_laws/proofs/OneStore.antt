@@ -1,15 +1,15 @@
 -- A get keeps the content that one task stored in chunks.
-use Rattle.std.proofs.Common.{◌≡◌, ◌∙◌, ◌⊎◌, inl, inr, ℕ, zero, suc, ◌+◌, ◌-◌, ◌<◌, ◌≤◌, ◌==◌, Bool, true, false, not, List, [], ◌∷◌, ◌++◌, length, take, drop, reverse, refl, sym, ap, subst, arith}
-use Rattle.std.specs.Prelude.{◌≢◌, ◌&&◌, ◌||◌, cond, if◌then◌else◌, bytes_eq, All, Contains, Option, Some, None, is_some, option_map, option_and_then, find, map, unwrap_or, slice_index_or}
-use Rattle.std.specs.List.{list_all, cons_option, concat, slice_range, range_with_len}
+use Rattle.std.proofs.Common.{◌≡◌, ◌∙◌, ◌⊎◌, inl, inr, ℕ, zero, suc, ◌+◌, ◌==◌, Bool, true, false, not, List, [], ◌∷◌, ◌++◌, length, take, drop, reverse, refl, sym, ap, subst, arith}
+use Rattle.std.specs.Prelude.{◌≢◌, ◌&&◌, cond, if◌then◌else◌, All, Contains, Option, Some, None, is_some, option_map, option_and_then, map, unwrap_or}
+use Rattle.std.specs.List.{cons_option, concat, slice_range, range_with_len}
 use Rattle.std.specs.Option.{option_or}
-use Rattle.std.proofs.lemmas.Bool.{and_parts, eqb-true, eq-eqb}
+use Rattle.std.proofs.lemmas.Bool.{and_parts, eq-eqb}
 use Rattle.std.proofs.lemmas.List.{take-append-drop, length-map}
 use Rattle.std.proofs.lemmas.Slice.Eq.{bytes_eq-Decides}
 use Rattle.ann_key.specs.Keys.{Parts, key_reading, with_chunk}
 use Rattle.ann_digest.specs.Fits.{FitsKey}
 use Rattle.annex_model.specs.Messages.{HostMessage, Transfer, host_reading}
-use Rattle.chunk_plan.specs.Layouts.{Part, layout, chunk_part, count_of, from_of, to_of}
+use Rattle.chunk_plan.specs.Layouts.{Part, chunk_part, count_of, from_of, to_of}
 use Rattle.chunk_plan.proofs.Joined.{ranges_are_the_whole}
 use Rattle.journal_model.specs.declared.verdict.Verdict.{Verdict}
 use Rattle.journal_model.specs.declared.entry.What.{What}
@@ -19,22 +19,19 @@ use Rattle.journal_model.specs.declared.opening.Opening.{Opening}
 use Rattle.journal_model.specs.Journal.{verdict_of, addressed}
 use Rattle.journal_model.specs.Legality.{task_of, is_done}
 use Rattle.journal_model.proofs.Looks.{verdict_of-append}
-use Rattle.task_text.specs.declared.task.Task.{Task}
 use Rattle.task_asker.specs.Askings.{Asking}
 use Rattle.task_run.specs.declared.setup.Setup.{Setup}
-use Rattle.task_run.specs.Askings.{TaskStretch, past_claim, asking_of, askings_from, run_askings, run_notings}
+use Rattle.task_run.specs.Askings.{past_claim, asking_of, askings_from, run_askings, run_notings}
 use Rattle.task_run.specs.Requests.{AsksFor, AskInOrder}
-use Rattle.task_run.specs.Layouts.{sizes_tried, parts_of_layout, keys_of_layout}
+use Rattle.task_run.specs.Layouts.{sizes_tried, parts_of_layout}
 use Rattle.task_run.specs.Reads.{appended}
 use Rattle.task_run.specs.Gets.{fetch_request, asked_last, first_asked}
 use Rattle.task_run.specs.Runs.{is_chunked}
 use Rattle.task_run.proofs.Texts.{apart}
-use Rattle.task_rounds.specs.JournalRuns.{JournalRun}
-use Rattle.task_laws.specs.Contents.{Shows}
-use Rattle.task_laws.specs.Changes.{Request, request_in, requests, requests_from, run_requests, changes_key, is_storing, last_change, is_done_by, stored_by, Retrieves}
-use Rattle.task_laws.specs.Faithful.{Told, file_named, is_chunking, sent, IsFaithful, IsStoredFor, AreStoredFor}
+use Rattle.task_laws.specs.Changes.{Request, request_in, requests, requests_from, run_requests, changes_key, is_storing, last_change, is_done_by, Retrieves}
+use Rattle.task_laws.specs.Faithful.{Told, file_named, is_chunking, sent, IsStoredFor, AreStoredFor}
 use Rattle.task_laws.specs.Kept.{chunk_last, Keeps}
-use Rattle.task_laws.specs.Retrieval.{GotStored, StoredInChunks, KeepsContent, KeepsStoredContent}
+use Rattle.task_laws.specs.Retrieval.{StoredInChunks, KeepsStoredContent}
 use Rattle.task_laws.specs.Sent.{IsRangeSent}
 use Rattle.task_laws.proofs.Members.{IsIn, is_in, found_passes, in_option}
 use Rattle.task_laws.proofs.Sending.{chunk_ranges, store_asks, content_long}

@@ -1,8 +1,7 @@
 -- A get that is answered Got keeps what was stored.
-use Rattle.std.proofs.Common.{◌≡◌, ◌∙◌, ℕ, ◌+◌, List, [], ◌∷◌, refl, sym, ap, subst}
-use Rattle.std.specs.Prelude.{false, true, Bool, Option, Some, None, map}
-use Rattle.ann_key.specs.Keys.{Parts, key_reading}
-use Rattle.ann_outside.specs.declared.file_desk.Call.{Call}
+use Rattle.std.proofs.Common.{◌≡◌, ℕ, ◌+◌, List, [], ◌∷◌, subst}
+use Rattle.std.specs.Prelude.{false, Option, Some, map}
+use Rattle.ann_key.specs.Keys.{Parts}
 use Rattle.annex_model.specs.Messages.{HostMessage, Transfer}
 use Rattle.chunk_plan.specs.Layouts.{Part}
 use Rattle.journal_model.specs.declared.answer.Answer.{Answer}
@@ -13,16 +12,14 @@ use Rattle.task_asker.specs.Askings.{Asking}
 use Rattle.task_run.specs.declared.setup.Setup.{Setup}
 use Rattle.task_run.specs.Askings.{run_askings, run_notings}
 use Rattle.task_run.specs.Names.{fetch_file}
-use Rattle.task_run.specs.Requests.{AsksFor, AskInOrder, key_named}
+use Rattle.task_run.specs.Requests.{AsksFor, AskInOrder}
 use Rattle.task_run.specs.Layouts.{sizes_tried}
-use Rattle.task_run.specs.Gets.{fetch_request, lengths_at_begin, wanted, item, failures, asked_last, first_asked}
+use Rattle.task_run.specs.Gets.{fetch_request, lengths_at_begin, wanted, asked_last, first_asked}
 use Rattle.task_run.specs.Runs.{TaskRun}
-use Rattle.task_rounds.specs.JournalRuns.{JournalRun}
-use Rattle.task_laws.specs.Contents.{Shows, IsFetched, AreFetched}
-use Rattle.task_laws.specs.Changes.{Request, Retrieves}
+use Rattle.task_laws.specs.Contents.{Shows, AreFetched}
+use Rattle.task_laws.specs.Changes.{Request}
 use Rattle.task_laws.specs.Faithful.{Told, sent, IsFaithful, IsStoredFor, AreStoredFor, AreLookedAt}
-use Rattle.task_laws.specs.Kept.{Keeps}
-use Rattle.task_laws.specs.Retrieval.{GotStored, KeepsStored}
+use Rattle.task_laws.specs.Retrieval.{KeepsStored}
 use Rattle.task_laws.proofs.LastRounds.{LastAsks, last_asks}
 use Rattle.task_laws.proofs.GotEnds.{GotEnds, got_ends}
 use Rattle.task_laws.proofs.Keeping.{got_keeps}
@@ -49,11 +46,10 @@ all_shown o setup told journal t n keys [] [] faithful asks stored looked = tt
 all_shown o setup told journal t n keys [] (s ∷ stores) faithful asks stored looked = absurd stored
 all_shown o setup told journal t n keys (a ∷ more) [] faithful asks stored looked = absurd stored
 all_shown o setup told journal t n [] (a ∷ more) (s ∷ stores) faithful asks stored looked = absurd asks
-all_shown o setup told journal t n (key ∷ keys) (a ∷ more) (s ∷ stores) faithful asks stored looked =
-    (
-      record { looked = looked.0; shows = shown o setup told journal t n key a s faithful asks.0 stored.0 },
-      all_shown o setup told journal t (n + 1) keys more stores faithful asks.1 stored.1 looked.1,
-    )
+all_shown o setup told journal t n (key ∷ keys) (a ∷ more) (s ∷ stores) faithful asks stored looked = (
+  record { looked = looked.0; shows = shown o setup told journal t n key a s faithful asks.0 stored.0 },
+  all_shown o setup told journal t (n + 1) keys more stores faithful asks.1 stored.1 looked.1,
+)
 
 pub keeps_stored : KeepsStored
 keeps_stored o setup told journal number t key stores faithful got =

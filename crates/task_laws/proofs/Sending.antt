@@ -1,6 +1,6 @@
 -- What a store in chunks sends of its file.
-use Rattle.std.proofs.Common.{◌≡◌, ◌∙◌, ◌⊎◌, inl, inr, ℕ, zero, suc, ◌+◌, ◌-◌, ◌<◌, ◌≤◌, ◌==◌, min, Bool, true, false, not, List, [], ◌∷◌, ◌++◌, length, take, drop, refl, sym, ap, subst, arith, length-append}
-use Rattle.std.specs.Prelude.{◌≢◌, ◌&&◌, ◌||◌, cond, nat_lt, nat_le, bytes_eq, Contains, Option, Some, None, IfSome, is_some, map, filter, unwrap_or}
+use Rattle.std.proofs.Common.{◌≡◌, ◌∙◌, ◌⊎◌, inl, inr, ℕ, ◌+◌, ◌-◌, ◌≤◌, ◌==◌, min, Bool, true, false, not, List, [], ◌∷◌, length, take, drop, refl, sym, ap, subst, arith}
+use Rattle.std.specs.Prelude.{◌≢◌, ◌&&◌, ◌||◌, cond, nat_lt, nat_le, Option, Some, None, IfSome, is_some, map, filter}
 use Rattle.std.specs.Bool.{MatchBool}
 use Rattle.std.specs.List.{list_all, filter_map, cons_option, slice_range}
 use Rattle.std.proofs.Math.Seq.{take-take}
@@ -18,7 +18,7 @@ use Rattle.task_text.specs.declared.task.Work.TheVariants as W
 use Rattle.task_asker.specs.Askings.{Asking, Noting}
 use Rattle.task_run.specs.declared.setup.Setup.{Setup}
 use Rattle.task_run.specs.Names.{chunk_file}
-use Rattle.task_run.specs.Requests.{AsksFor, AskInOrder, key_named}
+use Rattle.task_run.specs.Requests.{AsksFor, AskInOrder}
 use Rattle.task_run.specs.Layouts.{parts_of_layout, keys_of_layout}
 use Rattle.task_run.specs.Reads.{length_found, lengths_found, reads_of, reads_between, bytes_of, is_run, appended}
 use Rattle.task_run.specs.Checks.{present_request}

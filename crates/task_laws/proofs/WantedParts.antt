@@ -1,11 +1,11 @@
 -- The parts that a layout asks for where part was missing, or where it is the plain one.
-use Rattle.std.proofs.Common.{◌≡◌, ◌∙◌, ◌⊎◌, inl, inr, ℕ, zero, suc, ◌+◌, ◌-◌, ◌*◌, ◌<◌, ◌≤◌, ◌==◌, min, Bool, true, false, not, List, [], ◌∷◌, ◌++◌, length, take, drop, refl, sym, ap, subst, arith}
-use Rattle.std.specs.Prelude.{◌&&◌, ◌||◌, cond, if◌then◌else◌, nat_lt, nat_le, Option, Some, None, is_some, map, unwrap_or, count_by}
+use Rattle.std.proofs.Common.{◌≡◌, ◌∙◌, ◌⊎◌, inl, inr, ℕ, zero, suc, ◌+◌, ◌<◌, ◌≤◌, ◌==◌, Bool, true, false, List, [], ◌∷◌, length, drop, refl, sym, ap, arith}
+use Rattle.std.specs.Prelude.{cond, nat_lt, nat_le, Option, Some, None, is_some, map, unwrap_or, count_by}
 use Rattle.std.specs.List.{list_all, range_with_len}
 use Rattle.std.proofs.lemmas.Bool.{and_parts, eqb-true, ltb-true, leb-true}
 use Rattle.std.proofs.lemmas.List.Sums.{sum_by-cons}
 use Rattle.ann_key.specs.Keys.{Parts}
-use Rattle.chunk_plan.specs.Layouts.{Part, layout, count_of, from_of, to_of, is_held, held_of}
+use Rattle.chunk_plan.specs.Layouts.{Part, count_of, from_of, to_of, is_held, held_of}
 use Rattle.task_run.specs.Layouts.{parts_of_layout}
 use Rattle.task_run.specs.Gets.{parts_wanted, wanted, item}
 use Rattle.task_run.proofs.Texts.{apart}

@@ -1,12 +1,11 @@
 -- A task that went well from outside ends with its success, or early for want of memory.
-use Rattle.std.proofs.Common.{◌≡◌, ◌∙◌, ◌⊎◌, inl, inr, ℕ, zero, suc, ◌+◌, ◌<◌, ◌≤◌, ◌==◌, min, List, [], ◌∷◌, ◌++◌, length, refl, sym, ap, subst, arith, add-zero, length-append}
+use Rattle.std.proofs.Common.{◌≡◌, ◌∙◌, ◌⊎◌, inl, inr, ℕ, zero, suc, ◌+◌, ◌<◌, ◌≤◌, ◌==◌, List, [], ◌∷◌, ◌++◌, length, refl, sym, ap, subst, arith}
 use Rattle.std.specs.Prelude.{Bool, true, false, ◌&&◌, ◌||◌, not, if◌then◌else◌, nat_lt, nat_le, Option, Some, None, IfSome, MatchOption, is_none, is_some, map, filter, take, drop, unwrap_or, count_by, bytes_eq, Result, Ok, Err}
 use Rattle.std.specs.Bool.{MatchBool}
 use Rattle.std.specs.List.{list_all, list_any, filter_map, cons_option, last_or, zip, range_with_len}
-use Rattle.std.proofs.lemmas.Bool.{and_parts, or_cases, eqb-true, ltb-true, leb-true, le-leb, lt-ltb}
-use Rattle.ann_key.specs.Keys.{Parts, key_reading}
-use Rattle.ann_digest.specs.Fits.{HasSize, FitsKey, IsSaidOf}
-use Rattle.ann_digest.specs.declared.fit.Fit.{Fit}
+use Rattle.std.proofs.lemmas.Bool.{and_parts, or_cases, eqb-true, ltb-true, leb-true, le-leb}
+use Rattle.ann_key.specs.Keys.{Parts}
+use Rattle.ann_digest.specs.Fits.{HasSize, FitsKey}
 use Rattle.ann_outside.specs.declared.file_desk.DeskError.{DeskError}
 use Rattle.ann_outside.specs.declared.file_desk.DeskError.TheVariants as E
 use Rattle.ann_outside.specs.declared.file_desk.Call.{Call}
@@ -21,19 +20,19 @@ use Rattle.task_text.specs.declared.task.Work.{Work}
 use Rattle.task_text.specs.declared.task.Work.TheVariants as W
 use Rattle.task_asker.specs.Askings.{Asking, Noting}
 use Rattle.task_run.specs.declared.setup.Setup.{Setup}
-use Rattle.task_run.specs.Stops.{verdict_stop, asking_stop, error_stop, result_stop, call_stop, stops_of, AnsweredBy, is_done, is_done_at, is_question, is_store, failed_at, last_failed}
+use Rattle.task_run.specs.Stops.{verdict_stop, asking_stop, result_stop, call_stop, stops_of, AnsweredBy, is_done, is_done_at, is_question, is_store, failed_at, last_failed}
 use Rattle.task_run.specs.Names.{part_of}
 use Rattle.task_run.specs.Layouts.{chunk_sizes, sizes_tried, layouts_tried, keys_of_layout, parts_of_layout}
 use Rattle.task_run.specs.Reads.{length_found, lengths_found, reads_of, reads_between, is_at_end}
 use Rattle.task_run.specs.Requests.{rounds}
 use Rattle.task_run.specs.Checks.{CheckAnswers, is_there, not_there}
 use Rattle.task_run.specs.Drops.{DropAnswers, keys_dropped}
-use Rattle.task_run.specs.Stores.{is_size, fits_length, stored, missing_parts, transfers, found, parts_left, is_cut_short, IsShort, IsStoredShort, PlainStoreAnswers, ChunkStoreAnswers}
+use Rattle.task_run.specs.Stores.{is_size, fits_length, stored, missing_parts, transfers, found, parts_left, IsShort, IsStoredShort, PlainStoreAnswers, ChunkStoreAnswers}
 use Rattle.task_run.specs.Gets.{failures, asked_last, parts_last, lengths_at_begin, fit_in, IsSaid, IsChecked, DecidesBy, Decides, GetAnswers, checked}
 use Rattle.task_run.specs.Runs.{RunOf, is_chunked, WorkAnswers}
 use Rattle.task_run.proofs.Texts.{apart}
-use Rattle.task_run.proofs.Lists.{none_stop, all_taken}
-use Rattle.task_laws.specs.WentWell.{is_told, is_asked_well, error_of, may_miss, is_borne, error_in, is_called_well, is_read_within, IsFileWhole, IsSentWell, IsFoundWell, DeskWentWell, WentWell, success_of, IsSuccess, WellIsSuccess}
+use Rattle.task_run.proofs.Lists.{none_stop}
+use Rattle.task_laws.specs.WentWell.{is_told, is_asked_well, error_of, is_borne, is_called_well, is_read_within, IsFileWhole, IsSentWell, IsFoundWell, WentWell, success_of, IsSuccess, WellIsSuccess}
 
 -- ---- tests of all
 

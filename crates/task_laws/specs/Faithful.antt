@@ -1,5 +1,5 @@
 -- What a STORE sent, and when a remote is faithful in a run.
-use Rattle.std.specs.Prelude.{ℕ, ◌≡◌, ◌≢◌, ◌+◌, Bool, true, false, if◌then◌else◌, List, [], ◌∷◌, Option, Some, None}
+use Rattle.std.specs.Prelude.{ℕ, ◌≡◌, ◌≢◌, ◌+◌, Bool, false, if◌then◌else◌, List, [], ◌∷◌, Option, Some, None}
 use Rattle.ann_key.specs.Keys.{Parts, key_reading}
 use Rattle.ann_outside.specs.declared.file_desk.Call.{Call}
 use Rattle.annex_model.specs.Messages.{HostMessage, Transfer}

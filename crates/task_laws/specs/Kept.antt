@@ -1,5 +1,5 @@
 -- What a get that is answered Got keeps.
-use Rattle.std.specs.Prelude.{ℕ, ◌≡◌, ◌==◌, ◌||◌, Bool, true, List, ◌++◌, length, map, Some, unwrap_or}
+use Rattle.std.specs.Prelude.{ℕ, ◌≡◌, ◌==◌, ◌||◌, Bool, true, List, length, Some, unwrap_or}
 use Rattle.std.specs.List.{concat, list_all}
 use Rattle.ann_key.specs.Keys.{Parts, key_reading}
 use Rattle.ann_digest.specs.Fits.{FitsKey}

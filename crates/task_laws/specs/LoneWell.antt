@@ -1,5 +1,5 @@
 -- What is so of a run by one thread that went well from outside, and how its tasks are answered then.
-use Rattle.std.specs.Prelude.{ℕ, ◌≡◌, ◌<◌, ◌==◌, ◌&&◌, not, Bool, true, false, List, All, Option, Some, is_some}
+use Rattle.std.specs.Prelude.{ℕ, ◌≡◌, ◌<◌, ◌==◌, ◌&&◌, not, Bool, true, false, List, All, Some, is_some}
 use Rattle.ann_key.specs.Keys.{Parts, key_reading}
 use Rattle.ann_outside.specs.declared.file_desk.Call.{Call}
 use Rattle.journal_model.specs.declared.answer.Answer.{Answer}

@@ -1,18 +1,16 @@
 -- Runs in which a key is stored and then got, as examples.
-use Rattle.std.specs.Prelude.{ℕ, ◌==◌, if◌then◌else◌, true, false, List, [], ◌∷◌, ◌++◌, codes, Some, None, Ok}
+use Rattle.std.specs.Prelude.{ℕ, ◌==◌, if◌then◌else◌, true, false, List, [], ◌∷◌, ◌++◌, codes, Some, None}
 use Rattle.ann_key.specs.Keys.{Parts}
 use Rattle.ann_outside.specs.declared.file_desk.Call.{Call}
-use Rattle.ann_outside.specs.declared.file_desk.Call.TheVariants.{Size}
-use Rattle.annex_model.specs.Messages.{HostMessage, Transfer, Remove}
+use Rattle.annex_model.specs.Messages.{Transfer}
 use Rattle.journal_model.specs.declared.answer.Answer.TheVariants.{Stored, Got as GotAnswer}
-use Rattle.journal_model.specs.declared.verdict.Verdict.{Verdict}
 use Rattle.journal_model.specs.declared.verdict.Verdict.TheVariants.{Done, Failed}
 use Rattle.journal_model.specs.declared.entry.What.TheVariants.{Claim, Ask, Sent, Got, Verdict as Settled, Answer as Answered}
 use Rattle.journal_model.specs.declared.entry.Entry.{Entry}
 use Rattle.journal_model.specs.declared.opening.Opening.{Opening}
 use Rattle.journal_model.specs.Rows.{by_main, greeting, opening_of}
 use Rattle.task_text.specs.declared.task.Work.TheVariants.{Store, Get}
-use Rattle.task_run.specs.Rows.{task_of, fetched_2_1, got_hi, sized, moved, renamed}
+use Rattle.task_run.specs.Rows.{task_of, fetched_2_1, got_hi, sized}
 use Rattle.task_laws.specs.Changes.{Request}
 use Rattle.task_laws.specs.Faithful.{Told}
 

@@ -1,5 +1,4 @@
-use Rattle.std.proofs.Common.{◌≡◌, refl, arith}
-use Rattle.std.specs.Fmt.{digits}
+use Rattle.std.proofs.Common.{refl, arith}
 use Rattle.task_run.specs.Rows.{fetched_2_1, got_hi}
 use Rattle.task_run.proofs.Texts.{apart}
 use Rattle.task_laws.specs.Changes.{Retrieves}

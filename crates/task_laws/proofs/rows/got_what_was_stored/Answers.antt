@@ -1,5 +1,5 @@
-use Rattle.std.proofs.Common.{◌≡◌, ◌⊎◌, inl, inr, refl, arith, subst, ℕ, List, [], ◌∷◌, ◌++◌}
-use Rattle.std.specs.Prelude.{◌==◌, codes, Some, Ok, Bool, true, false, IsTrue, if◌then◌else◌, slice_index}
+use Rattle.std.proofs.Common.{◌≡◌, refl, arith, subst, ℕ, List, [], ◌∷◌, ◌++◌}
+use Rattle.std.specs.Prelude.{◌==◌, codes, Bool, true, false, IsTrue, if◌then◌else◌, slice_index}
 use Rattle.std.proofs.Common.{rules}
 use Rattle.std.specs.Fmt.{digits}
 use Rattle.ann_digest.specs.declared.hash_kind.HashKind.{HashKind}
@@ -9,7 +9,6 @@ use Rattle.journal_model.specs.declared.answer.Answer.TheVariants.{Got}
 use Rattle.annex_model.specs.Messages.{Transfer}
 use Rattle.journal_model.specs.declared.verdict.Verdict.TheVariants.{Done}
 use Rattle.journal_model.specs.Rows.{greeting}
-use Rattle.journal_model.specs.Notes.{AreCurrentAt}
 use Rattle.task_text.specs.declared.task.Work.TheVariants.{Get}
 use Rattle.task_run.specs.Askings.{TaskStretch}
 use Rattle.task_run.specs.Rows.{task_of, setup_of, asks, fetched_2_1, got_hi}
