@@ -3,7 +3,7 @@ use Rattle.std.proofs.Common.{◌≡◌, ◌∙◌, ◌⊎◌, inl, inr, ℕ, ze
 use Rattle.std.specs.Prelude.{Bool, true, false, ◌&&◌, ◌||◌, not, if◌then◌else◌, nat_lt, nat_le, Option, Some, None, IfSome, MatchOption, is_none, is_some, map, filter, take, drop, unwrap_or, count_by, bytes_eq, Result, Ok, Err}
 use Rattle.std.specs.Bool.{MatchBool}
 use Rattle.std.specs.List.{list_all, list_any, filter_map, cons_option, last_or, zip, range_with_len}
-use Rattle.std.proofs.lemmas.Bool.{and_parts, or_cases, eqb-true, ltb-true, leb-true, le-leb}
+use Rattle.std.proofs.lemmas.Bool.{not-true, and_parts, or_cases, eqb-true, ltb-true, leb-true, le-leb}
 use Rattle.ann_key.specs.Keys.{Parts}
 use Rattle.ann_digest.specs.Fits.{HasSize, FitsKey}
 use Rattle.ann_outside.specs.declared.file_desk.DeskError.{DeskError}
@@ -29,10 +29,11 @@ use Rattle.task_run.specs.Checks.{CheckAnswers, is_there, not_there}
 use Rattle.task_run.specs.Drops.{DropAnswers, keys_dropped}
 use Rattle.task_run.specs.Stores.{is_size, fits_length, stored, missing_parts, transfers, found, parts_left, IsShort, IsStoredShort, PlainStoreAnswers, ChunkStoreAnswers}
 use Rattle.task_run.specs.Gets.{failures, asked_last, parts_last, lengths_at_begin, fit_in, IsSaid, IsChecked, DecidesBy, Decides, GetAnswers, checked}
+use Rattle.task_run.specs.Ran.{is_of_content}
 use Rattle.task_run.specs.Runs.{RunOf, is_chunked, WorkAnswers}
 use Rattle.task_run.proofs.Texts.{apart}
 use Rattle.task_run.proofs.Lists.{none_stop}
-use Rattle.task_laws.specs.WentWell.{is_told, is_asked_well, error_of, is_borne, is_called_well, is_read_within, IsFileWhole, IsSentWell, IsFoundWell, WentWell, success_of, IsSuccess, WellIsSuccess}
+use Rattle.task_laws.specs.WentWell.{is_told, is_asked_well, error_of, is_borne, is_called_well, is_read_within, IsFileWhole, IsSentWell, IsFoundWell, WentWell, success_of, IsSuccess, WellIsSuccess, WellUnlessRefused}
 
 -- ---- tests of all
 
@@ -354,3 +355,63 @@ pub well_is_success : WellIsSuccess
 well_is_success task t setup layouts asked calls noted answer key e w r =
     let P : Option Parts → Type 0 = λ o. IfSome o (λ k. RunOf setup t task k layouts asked calls noted answer) in
     run_well setup t task key layouts asked calls noted answer w (subst P e r)
+
+-- ---- whatever the desk answered
+
+abbrev passes : (Answer → Bool) → Option Answer → Bool
+passes q None = true
+passes q (Some answer) = q answer
+
+all_stops : {X : Type 0} (q : Answer → Bool) (stop : X → Option Answer) → ((x : X) → passes q (stop x) ≡ true) → (xs : List X) → list_all q (filter_map stop xs) ≡ true
+all_stops q stop h [] = refl
+all_stops q stop h (x ∷ xs) = by_case (stop x) (h x) (all_stops q stop h xs)
+  where
+    by_case : (o : Option Answer) → passes q o ≡ true → list_all q (filter_map stop xs) ≡ true → list_all q (cons_option o (filter_map stop xs)) ≡ true
+    by_case None g r = r
+    by_case (Some answer) g r = rw (g, r) refl
+
+abbrev is_refused : Answer → Bool
+is_refused answer = not (is_of_content answer)
+
+result_refused : {T : Type 0} (missing : Bool) (r : Result T DeskError) → passes is_refused (result_stop missing r) ≡ true
+result_refused missing (Ok x) = refl
+result_refused missing (Err E.Failed) = refl
+result_refused true (Err E.Missing) = refl
+result_refused false (Err E.Missing) = refl
+result_refused missing (Err E.NoMemory) = refl
+
+call_refused : (part : List ℕ) (call : Call) → passes is_refused (call_stop part call) ≡ true
+call_refused part (Size name answer) = result_refused (bytes_eq name part) answer
+call_refused part (ReadAt name from answer) = result_refused false answer
+call_refused part (Create name answer) = result_refused false answer
+call_refused part (Append name piece answer) = result_refused false answer
+call_refused part (Cut name size answer) = result_refused false answer
+call_refused part (Rename from to answer) = result_refused false answer
+call_refused part (Remove name answer) = result_refused (bytes_eq name part) answer
+
+run_unless_refused : (setup : Setup) (t : ℕ) (task : Task) (key : Parts) (layouts : List (ℕ × ℕ)) (asked : List Asking) (calls : List Call) (noted : List Noting) (answer : Answer)
+    → list_all (is_asked_well task.work) asked ≡ true → IsFoundWell setup t task key layouts task.work asked calls → RunOf setup t task key layouts asked calls noted answer
+    → IsSuccess task.work answer ⊎ (is_of_content answer ≡ false)
+run_unless_refused setup t task key layouts asked calls noted answer h f r =
+    by_stops (filter_map (call_stop (part_of task.file)) calls) (all_stops is_refused (call_stop (part_of task.file)) (call_refused (part_of task.file)) calls) (subst P (no_stops task.work asked h) r.answered)
+  where
+    P : List Answer → Type 0
+    P stops = AnsweredBy (stops ++ filter_map (call_stop (part_of task.file)) calls) answer (WorkAnswers setup t task key layouts task.work asked calls noted answer)
+
+    refused : (stop : Answer) → answer ≡ stop → not (is_of_content stop) ≡ true → is_of_content answer ≡ false
+    refused stop e k = ap is_of_content e ∙ not-true (is_of_content stop) k
+
+    by_end : WorkAnswers setup t task key layouts task.work asked calls noted answer ⊎ (answer ≡ A.Memory) → IsSuccess task.work answer
+    by_end (inl g) = inl (work_well setup t task key layouts task.work asked calls noted answer h f g)
+    by_end (inr e) = inr e
+
+    by_stops : (stops : List Answer) → list_all is_refused stops ≡ true → AnsweredBy stops answer (WorkAnswers setup t task key layouts task.work asked calls noted answer)
+        → IsSuccess task.work answer ⊎ (is_of_content answer ≡ false)
+    by_stops [] k a = inl (by_end (ended answer (WorkAnswers setup t task key layouts task.work asked calls noted answer) a))
+    by_stops (stop ∷ []) k a = inr (refused stop a (and_parts (is_refused stop) true k).0)
+    by_stops (stop ∷ another ∷ more) k a = absurd a
+
+pub well_unless_refused : WellUnlessRefused
+well_unless_refused task t setup layouts asked calls noted answer key e h f r =
+    let P : Option Parts → Type 0 = λ o. IfSome o (λ k. RunOf setup t task k layouts asked calls noted answer) in
+    run_unless_refused setup t task key layouts asked calls noted answer h f (subst P e r)

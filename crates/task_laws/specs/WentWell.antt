@@ -22,6 +22,7 @@ use Rattle.task_run.specs.Layouts.{sizes_tried}
 use Rattle.task_run.specs.Reads.{lengths_found, reads_of, is_reading}
 use Rattle.task_run.specs.Stores.{is_size}
 use Rattle.task_run.specs.Gets.{lengths_at_begin, asked_last, first_asked, parts_last, is_plain_last, end_held, held_reads, checked, wrong_lengths, are_read_whole}
+use Rattle.task_run.specs.Ran.{is_of_content}
 use Rattle.task_run.specs.Runs.{TaskRun}
 
 -- ---- what was asked
@@ -127,3 +128,10 @@ WellIsSuccess =
     (task : Task) (t : ℕ) (setup : Setup) (layouts : List (ℕ × ℕ)) (asked : List Asking) (calls : List Call) (noted : List Noting) (answer : Answer) (key : Parts)
     → key_reading task.key ≡ Some key → WentWell setup t task key layouts asked calls
     → TaskRun task t setup layouts asked calls noted answer → IsSuccess task.work answer
+
+-- Whatever its desk answered: a task whose requests were done, and which found what it should, is answered so, or by a call that was refused.
+abbrev pub WellUnlessRefused : Type 0
+WellUnlessRefused =
+    (task : Task) (t : ℕ) (setup : Setup) (layouts : List (ℕ × ℕ)) (asked : List Asking) (calls : List Call) (noted : List Noting) (answer : Answer) (key : Parts)
+    → key_reading task.key ≡ Some key → list_all (is_asked_well task.work) asked ≡ true → IsFoundWell setup t task key layouts task.work asked calls
+    → TaskRun task t setup layouts asked calls noted answer → IsSuccess task.work answer ⊎ (is_of_content answer ≡ false)
