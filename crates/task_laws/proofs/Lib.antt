@@ -10,3 +10,4 @@ pub mod Members
 pub mod Sending
 pub mod OneStore
 pub mod NoZero
+pub mod WithinRuns

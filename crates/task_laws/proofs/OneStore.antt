@@ -1,6 +1,6 @@
 -- A get keeps the content that one task stored in chunks.
-use Rattle.std.proofs.Common.{◌≡◌, ◌∙◌, ◌⊎◌, inl, inr, ℕ, zero, suc, ◌+◌, ◌==◌, Bool, true, false, not, List, [], ◌∷◌, ◌++◌, length, take, drop, reverse, refl, sym, ap, subst, arith}
-use Rattle.std.specs.Prelude.{◌≢◌, ◌&&◌, cond, if◌then◌else◌, All, Contains, Option, Some, None, is_some, option_map, option_and_then, map, unwrap_or}
+use Rattle.std.proofs.Common.{◌≡◌, ◌∙◌, ◌⊎◌, inl, inr, ℕ, zero, suc, ◌+◌, ◌==◌, Bool, true, false, not, List, [], ◌∷◌, ◌++◌, length, take, drop, reverse, refl, sym, ap, subst, arith, ◌<◌}
+use Rattle.std.specs.Prelude.{◌≢◌, ◌&&◌, cond, if◌then◌else◌, All, Option, Some, None, is_some, option_map, option_and_then, map, unwrap_or}
 use Rattle.std.specs.List.{cons_option, concat, slice_range, range_with_len}
 use Rattle.std.specs.Option.{option_or}
 use Rattle.std.proofs.lemmas.Bool.{and_parts, eq-eqb}
@@ -17,8 +17,9 @@ use Rattle.journal_model.specs.declared.entry.What.TheVariants.{Ask}
 use Rattle.journal_model.specs.declared.entry.Entry.{Entry}
 use Rattle.journal_model.specs.declared.opening.Opening.{Opening}
 use Rattle.journal_model.specs.Journal.{verdict_of, addressed}
-use Rattle.journal_model.specs.Legality.{task_of, is_done}
+use Rattle.journal_model.specs.Legality.{Legal, task_of, is_done}
 use Rattle.journal_model.proofs.Looks.{verdict_of-append}
+use Rattle.task_text.specs.declared.task.Task.{Task}
 use Rattle.task_asker.specs.Askings.{Asking}
 use Rattle.task_run.specs.declared.setup.Setup.{Setup}
 use Rattle.task_run.specs.Askings.{past_claim, asking_of, askings_from, run_askings, run_notings}
@@ -28,12 +29,13 @@ use Rattle.task_run.specs.Reads.{appended}
 use Rattle.task_run.specs.Gets.{fetch_request, asked_last, first_asked}
 use Rattle.task_run.specs.Runs.{is_chunked}
 use Rattle.task_run.proofs.Texts.{apart}
-use Rattle.task_laws.specs.Changes.{Request, request_in, requests, requests_from, run_requests, changes_key, is_storing, last_change, is_done_by, Retrieves}
+use Rattle.task_laws.specs.Changes.{Request, request_in, requests, requests_from, changes_key, is_storing, last_change, is_done_by, Retrieves}
 use Rattle.task_laws.specs.Faithful.{Told, file_named, is_chunking, sent, IsStoredFor, AreStoredFor}
 use Rattle.task_laws.specs.Kept.{chunk_last, Keeps}
 use Rattle.task_laws.specs.Retrieval.{StoredInChunks, KeepsStoredContent}
 use Rattle.task_laws.specs.Sent.{IsRangeSent}
 use Rattle.task_laws.proofs.Members.{IsIn, is_in, found_passes, in_option}
+use Rattle.task_laws.proofs.WithinRuns.{within_run, in_reversed, found_in, in_front}
 use Rattle.task_laws.proofs.Sending.{chunk_ranges, store_asks, content_long}
 use Rattle.task_run.specs.Stores.{ChunkStoreAsks}
 use Rattle.task_laws.proofs.Keeping.{some_part}
@@ -47,6 +49,7 @@ record IsStore (journal : List Entry) (key : List ℕ) (s : Request) : Type 0 wh
   asks : s.asks ≡ Transfer true key file
   verdict : Verdict
   settled : verdict_of journal s.child s.job ≡ Some verdict
+  there : IsIn s (requests journal)
 
 storing_is : (key : List ℕ) (q : HostMessage) → is_storing q ≡ true → changes_key key q ≡ true → (file : List ℕ) × (q ≡ Transfer true key file)
 storing_is key (Transfer true k file) s c = (file, ap (λ (x : List ℕ). Transfer true x file) ((bytes_eq-Decides k key).0 c))
@@ -79,7 +82,8 @@ store_of journal r s key file got = by_change (last_change journal key got.answe
             let named = storing_is key x.asks both.0 (found_passes (λ (y : Request). changes_key key y.asks) (reverse (requests (take got.answered journal))) x e) in
             let later = later_verdict journal r.at x.child x.job both.1 in
             let P : Request → Type 0 = λ y. IsStore journal key y in
-            subst P is (record { file = named.0; asks = named.1; verdict = later.0; settled = later.1 })
+            let found : IsIn x (requests journal) = in_front journal got.answered x (in_reversed x (requests (take got.answered journal)) (found_in (λ (y : Request). changes_key key y.asks) (reverse (requests (take got.answered journal))) x e)) in
+            subst P is (record { file = named.0; asks = named.1; verdict = later.0; settled = later.1; there = found })
 
 -- ---- a request within a run is one of its askings
 
@@ -173,6 +177,11 @@ same_range k l c d p q base some hp hq e = by_q (part_is l d q hq)
 
 -- ---- one store
 
+-- tasks are numbered from 1
+task_above : (o : Opening) (u : ℕ) (task : Task) → task_of o u ≡ Some task → 0 < u
+task_above o zero task e = absurd (let k : None ≡ Some task = e in cc)
+task_above o (suc u) task e = omega arith
+
 chunk_set : (setup : Setup) (k : Parts) → is_chunked setup k ≡ true → (setup.chunk == 0) ≡ false
 chunk_set setup k h = by_test (setup.chunk == 0) (and_parts (not (setup.chunk == 0)) (is_some k.size) h).0
   where
@@ -191,8 +200,8 @@ some_in {X} x xs h e = let P : List X → Type 0 = λ ys. IsIn x ys in subst P e
 
 range_is : (o : Opening) (setup : Setup) (told : Told) (journal : List Entry) (t u n chunk : ℕ) (key : Parts) (content : List ℕ) (stores : List Request) (one : StoredInChunks o setup told journal u content stores)
     (p : Part) (a : Asking) (s : Request) → key.chunk ≡ None → IsIn p (parts_of_layout key chunk) → AsksFor (fetch_request setup t) n p.key a → IsStoredFor journal t a.request s
-    → s.task ≡ u → Contains (run_requests one.run.run) s → RangeIs o setup told key one.key content s p (run_askings one.run.run)
-range_is o setup told journal t u n chunk key content stores one p a s base place asks stored of_task within = by_request a.request asks stored
+    → s.task ≡ u → Legal o journal → RangeIs o setup told key one.key content s p (run_askings one.run.run)
+range_is o setup told journal t u n chunk key content stores one p a s base place asks stored of_task legal = by_request a.request asks stored
   where
     store_run : ChunkStoreAsks setup u one.key one.run.task.file (run_askings one.run.run) (told.calls u) (run_notings one.run.run)
     store_run = store_asks one.run.task u setup one.run.layouts (run_askings one.run.run) (told.calls u) (run_notings one.run.run) one.run.run.answer one.key one.keyed one.work one.chunked one.run.ran
@@ -209,7 +218,7 @@ range_is o setup told journal t u n chunk key content stores one p a s base plac
         let store : IsStore journal text s = store_of journal r s text file got in
         let asking : Asking = record { request = Some s.asks; verdict = store.verdict } in
         let there : IsIn (record { request = Some s.asks; verdict = store.verdict }) (run_askings one.run.run) =
-        among journal u (past_claim one.run.run) one.run.run.within s store.verdict (is_in s (run_requests one.run.run) within) of_task store.settled in
+        among journal u (past_claim one.run.run) one.run.run.within s store.verdict (within_run o journal u one.run.run s (task_above o u one.run.task one.run.is) legal store.there of_task) of_task store.settled in
         let range : IsRangeSent setup one.key content (told.calls u) text store.file =
         chunk_ranges setup u one.key one.run.task.file content (run_askings one.run.run) (told.calls u) (run_notings one.run.run) (record { request = Some s.asks; verdict = store.verdict }) text store.file store_run one.shows there
         (ap (λ (x : HostMessage). Some x) store.asks) in
@@ -232,11 +241,6 @@ range_is o setup told journal t u n chunk key content stores one p a s base plac
 
 -- ---- all of them
 
--- the stores' requests, one by one
-pub record Known (one : List Request) (u : ℕ) (within : List Request) : Type 0 where
-  pub of_task : (s : Request) → IsIn s one → s.task ≡ u
-  pub asked : (s : Request) → IsIn s one → Contains within s
-
 -- the content's ranges, one by one, and what is so where there is one
 record RangesAre (o : Opening) (setup : Setup) (told : Told) (k l : Parts) (content : List ℕ) (stores : List Request) (parts : List Part) (asked : List Asking) : Type 0 where
   bytes : map (sent o setup told) stores ≡ map (λ (part : Part). slice_range content part.from part.to) parts
@@ -245,21 +249,20 @@ record RangesAre (o : Opening) (setup : Setup) (told : Told) (k l : Parts) (cont
 
 ranges_are : (o : Opening) (setup : Setup) (told : Told) (journal : List Entry) (t u n chunk : ℕ) (key : Parts) (content : List ℕ) (all : List Request) (one : StoredInChunks o setup told journal u content all)
     (parts : List Part) (asked : List Asking) (stores : List Request) → key.chunk ≡ None → ((p : Part) → IsIn p parts → IsIn p (parts_of_layout key chunk))
-    → AskInOrder (fetch_request setup t) n (map (λ (p : Part). p.key) parts) asked → length asked ≡ length parts → AreStoredFor journal t asked stores → Known stores u (run_requests one.run.run)
+    → AskInOrder (fetch_request setup t) n (map (λ (p : Part). p.key) parts) asked → length asked ≡ length parts → AreStoredFor journal t asked stores → ((s : Request) → IsIn s stores → s.task ≡ u) → Legal o journal
     → RangesAre o setup told key one.key content stores parts (run_askings one.run.run)
-ranges_are o setup told journal t u n chunk key content all one [] [] [] base place asks long stored known =
+ranges_are o setup told journal t u n chunk key content all one [] [] [] base place asks long stored known legal =
     record { bytes = refl; size = λ some. absurd (some refl); some = λ some. absurd (some refl) }
-ranges_are o setup told journal t u n chunk key content all one [] [] (s ∷ stores) base place asks long stored known = absurd stored
-ranges_are o setup told journal t u n chunk key content all one [] (a ∷ more) stores base place asks long stored known = absurd asks
-ranges_are o setup told journal t u n chunk key content all one (p ∷ parts) [] stores base place asks long stored known = absurd (omega arith)
-ranges_are o setup told journal t u n chunk key content all one (p ∷ parts) (a ∷ more) [] base place asks long stored known = absurd stored
-ranges_are o setup told journal t u n chunk key content all one (p ∷ parts) (a ∷ more) (s ∷ stores) base place asks long stored known =
+ranges_are o setup told journal t u n chunk key content all one [] [] (s ∷ stores) base place asks long stored known legal = absurd stored
+ranges_are o setup told journal t u n chunk key content all one [] (a ∷ more) stores base place asks long stored known legal = absurd asks
+ranges_are o setup told journal t u n chunk key content all one (p ∷ parts) [] stores base place asks long stored known legal = absurd (omega arith)
+ranges_are o setup told journal t u n chunk key content all one (p ∷ parts) (a ∷ more) [] base place asks long stored known legal = absurd stored
+ranges_are o setup told journal t u n chunk key content all one (p ∷ parts) (a ∷ more) (s ∷ stores) base place asks long stored known legal =
     let here : RangeIs o setup told key one.key content s p (run_askings one.run.run) =
-    range_is o setup told journal t u n chunk key content all one p a s base (place p (inl refl)) asks.0 stored.0 (known.of_task s (inl refl)) (known.asked s (inl refl)) in
+    range_is o setup told journal t u n chunk key content all one p a s base (place p (inl refl)) asks.0 stored.0 (known s (inl refl)) legal in
     let count : length more ≡ length parts = omega arith in
     let rest : RangesAre o setup told key one.key content stores parts (run_askings one.run.run) =
-    ranges_are o setup told journal t u (n + 1) chunk key content all one parts more stores base (λ q h. place q (inr h)) asks.1 count stored.1
-    (record { of_task = λ x h. known.of_task x (inr h); asked = λ x h. known.asked x (inr h) }) in
+    ranges_are o setup told journal t u (n + 1) chunk key content all one parts more stores base (λ q h. place q (inr h)) asks.1 count stored.1 (λ x h. known x (inr h)) legal in
     record {
       bytes = ap (λ (x : List ℕ). x ∷ map (sent o setup told) stores) here.bytes ∙ ap (λ (xs : List (List ℕ)). slice_range content p.from p.to ∷ xs) rest.bytes;
       size = λ some. here.size;
@@ -272,7 +275,7 @@ each_in P (y ∷ ys) all x (inl e) = subst P e (all 0 y (omega arith))
 each_in P (y ∷ ys) all x (inr h) = each_in P ys (λ k d below. all (suc k) d (omega arith)) x h
 
 pub keeps_stored_content : KeepsStoredContent
-keeps_stored_content o setup told journal number t u key content stores faithful got base one = record {
+keeps_stored_content o setup told journal number t u key content stores legal faithful got base one = record {
   appended_are = kept.appended_are ∙ whole;
   checked_are = kept.checked_are ∙ whole;
   fits = let P : List ℕ → Type 0 = λ x. FitsKey key x in subst P whole kept.fits;
@@ -292,7 +295,7 @@ keeps_stored_content o setup told journal number t u key content stores faithful
     ranges =
         ranges_are o setup told journal t u (first_asked (run_askings got.run.run)) (chunk_last (sizes_tried key got.run.layouts) (run_askings got.run.run)) key content stores one
         (parts_of_layout key (chunk_last (sizes_tried key got.run.layouts) (run_askings got.run.run))) (asked_last (run_askings got.run.run)) stores base (λ p h. h) kept.in_order long got.stored
-        (record { of_task = each_in (λ (s : Request). s.task ≡ u) stores one.of_task; asked = each_in (Contains (run_requests one.run.run)) stores one.asked })
+        (each_in (λ (s : Request). s.task ≡ u) stores one.of_task) legal
 
     some : parts_of_layout key (chunk_last (sizes_tried key got.run.layouts) (run_askings got.run.run)) ≢ []
     some = some_part key (unwrap_or key.size 0) (chunk_last (sizes_tried key got.run.layouts) (run_askings got.run.run))

@@ -8,7 +8,6 @@ use Rattle.journal_model.specs.declared.entry.What.TheVariants.{Ask}
 use Rattle.journal_model.specs.declared.entry.Entry.{Entry}
 use Rattle.journal_model.specs.Journal.{verdict_of, addressed}
 use Rattle.journal_model.specs.Legality.{is_done}
-use Rattle.task_run.specs.Askings.{TaskStretch, past_claim}
 
 -- ---- requests
 
@@ -32,10 +31,6 @@ requests_from past (e ∷ rest) = cons_option (request_in past e.what) (requests
 -- all requests of the journal, in their order
 abbrev pub requests : List Entry → List Request
 requests journal = requests_from [] journal
-
--- those that were asked within a run of task t, of any task
-abbrev pub run_requests : {journal : List Entry} → {t : ℕ} → TaskStretch journal t → List Request
-run_requests run = requests_from (past_claim run) run.within
 
 -- ---- changes of a key
 

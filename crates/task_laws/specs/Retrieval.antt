@@ -1,10 +1,11 @@
 -- What a get leaves of what was stored before, where the remote is faithful.
-use Rattle.std.specs.Prelude.{ℕ, ◌≡◌, true, List, map, All, Contains, Some, None}
+use Rattle.std.specs.Prelude.{ℕ, ◌≡◌, true, List, map, All, Some, None}
 use Rattle.ann_key.specs.Keys.{Parts, key_reading}
 use Rattle.ann_digest.specs.Fits.{FitsKey}
 use Rattle.journal_model.specs.declared.answer.Answer.TheVariants.{Got}
 use Rattle.journal_model.specs.declared.entry.Entry.{Entry}
 use Rattle.journal_model.specs.declared.opening.Opening.{Opening}
+use Rattle.journal_model.specs.Legality.{Legal}
 use Rattle.task_text.specs.declared.task.Work.TheVariants.{Store}
 use Rattle.task_run.specs.declared.setup.Setup.{Setup}
 use Rattle.task_run.specs.Askings.{run_askings}
@@ -14,7 +15,7 @@ use Rattle.task_run.specs.Reads.{appended, is_renaming, is_last_call_of}
 use Rattle.task_run.specs.Gets.{asked_last, first_asked, since_begin, checked}
 use Rattle.task_run.specs.Runs.{is_chunked}
 use Rattle.task_rounds.specs.JournalRuns.{JournalRun}
-use Rattle.task_laws.specs.Changes.{Request, run_requests}
+use Rattle.task_laws.specs.Changes.{Request}
 use Rattle.task_laws.specs.Contents.{Shows}
 use Rattle.task_laws.specs.Faithful.{Told, sent, IsFaithful, AreStoredFor, AreLookedAt}
 use Rattle.task_laws.specs.Kept.{is_afresh, Keeps}
@@ -37,8 +38,8 @@ KeepsStored =
 
 -- ---- content that one task stored in chunks
 
--- A run of task u by any number stored its content in chunks, and asked for each of these. All that its calls show of its file is of this
--- content.
+-- A run of task u by any number stored its content in chunks, and these are requests of that task. All that its calls show of its file is
+-- of this content.
 pub record StoredInChunks (o : Opening) (setup : Setup) (told : Told) (journal : List Entry) (u : ℕ) (content : List ℕ) (stores : List Request) : Type 0 where
   pub number : ℕ
   pub run : JournalRun o setup (told.calls u) number u journal
@@ -47,7 +48,6 @@ pub record StoredInChunks (o : Opening) (setup : Setup) (told : Told) (journal :
   pub keyed : key_reading run.task.key ≡ Some key
   pub chunked : is_chunked setup key ≡ true
   pub of_task : All (λ s. s.task ≡ u) stores
-  pub asked : All (Contains (run_requests run.run)) stores
   pub shows : Shows run.task.file content (told.calls u)
 
 -- That content was appended to part since it was begun, is all that was checked, and fits the key. Then part was renamed to the file.
@@ -60,6 +60,6 @@ pub record KeepsContent (o : Opening) (setup : Setup) (told : Told) (journal : L
 -- With a faithful remote, where one task stored all chunks of the last layout, the get keeps the content of that task's file.
 abbrev pub KeepsStoredContent : Type 0
 KeepsStoredContent =
-    (o : Opening) (setup : Setup) (told : Told) (journal : List Entry) (number t u : ℕ) (key : Parts) (content : List ℕ) (stores : List Request) → IsFaithful o setup told journal
+    (o : Opening) (setup : Setup) (told : Told) (journal : List Entry) (number t u : ℕ) (key : Parts) (content : List ℕ) (stores : List Request) → Legal o journal → IsFaithful o setup told journal
     → (got : GotStored o setup told journal number t key stores) → key.chunk ≡ None → StoredInChunks o setup told journal u content stores
     → KeepsContent o setup told journal number t key got.run content
