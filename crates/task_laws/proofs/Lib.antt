@@ -1,0 +1,13 @@
+pub mod WellTasks
+pub mod LastRounds
+pub mod WantedParts
+pub mod FileContents
+pub mod GotEnds
+pub mod Keeping
+pub mod Retrieving
+pub mod RunsWell
+pub mod Members
+pub mod Sending
+pub mod OneStore
+pub mod NoZero
+pub mod WithinRuns

@@ -1,0 +1,83 @@
+use Rattle.std.proofs.Common.{◌≡◌, refl, arith, subst, ℕ, List, [], ◌∷◌, ◌++◌}
+use Rattle.std.specs.Prelude.{◌==◌, codes, Bool, true, false, IsTrue, if◌then◌else◌, slice_index}
+use Rattle.std.proofs.Common.{rules}
+use Rattle.std.specs.Fmt.{digits}
+use Rattle.ann_digest.specs.declared.hash_kind.HashKind.{HashKind}
+use Rattle.ann_digest.specs.declared.hash_kind.HashKind.TheVariants.{Md5, Sha1, Sha224, Sha256, Sha384, Sha512}
+use Rattle.ann_digest.specs.HashKinds.{backend_of}
+use Rattle.journal_model.specs.declared.answer.Answer.TheVariants.{Got}
+use Rattle.annex_model.specs.Messages.{Transfer}
+use Rattle.journal_model.specs.declared.verdict.Verdict.TheVariants.{Done}
+use Rattle.journal_model.specs.Rows.{greeting}
+use Rattle.task_text.specs.declared.task.Work.TheVariants.{Get}
+use Rattle.task_run.specs.Askings.{TaskStretch}
+use Rattle.task_run.specs.Rows.{task_of, setup_of, asks, fetched_2_1, got_hi}
+use Rattle.task_run.specs.Runs.{TaskRun}
+use Rattle.task_rounds.specs.JournalRuns.{JournalRun}
+use Rattle.task_laws.specs.Changes.{Retrieves}
+use Rattle.task_laws.specs.Rows.{hi, store_then_get, storing, retrieving, stored_then_got, the_store, the_retrieve}
+use Rattle.task_laws.proofs.rows.got_what_was_stored.Goals as goal
+
+-- WORM names no digest
+no_digest : (kind : HashKind) (extended : Bool) → codes "WORM" ≡ backend_of kind ++ (if extended then codes "E" else []) → ⊥
+no_digest Md5 extended e = let P : List ℕ → Type 0 = λ l. IsTrue (slice_index l 0 == 87) in let h : false ≡ true = subst P e refl in cc
+no_digest Sha1 extended e = let P : List ℕ → Type 0 = λ l. IsTrue (slice_index l 0 == 87) in let h : false ≡ true = subst P e refl in cc
+no_digest Sha224 extended e = let P : List ℕ → Type 0 = λ l. IsTrue (slice_index l 0 == 87) in let h : false ≡ true = subst P e refl in cc
+no_digest Sha256 extended e = let P : List ℕ → Type 0 = λ l. IsTrue (slice_index l 0 == 87) in let h : false ≡ true = subst P e refl in cc
+no_digest Sha384 extended e = let P : List ℕ → Type 0 = λ l. IsTrue (slice_index l 0 == 87) in let h : false ≡ true = subst P e refl in cc
+no_digest Sha512 extended e = let P : List ℕ → Type 0 = λ l. IsTrue (slice_index l 0 == 87) in let h : false ≡ true = subst P e refl in cc
+
+ran : TaskRun (task_of Get hi (codes "o")) 2 (setup_of 0) [] (asks (Transfer false hi fetched_2_1) (Done 19) ∷ []) got_hi [] Got
+unfolding digits
+ran = record {
+  asked_till_stop = refl;
+  calls_till_stop = refl;
+  found = refl;
+  work = (
+    record { names = refl; changes = refl; lengths = refl },
+    record { in_order = search rules; each_failed = refl; each_begun = refl; each_right = refl; held_read = refl; fetched_read = refl },
+    refl,
+  );
+  answered = record { answered = record { begun = refl; by_length = (refl, record { said = record { size = refl; name = λ naming e. absurd (no_digest naming.kind naming.extended e) }; held_whole = refl; fetched_whole = refl }); part = record { moved = refl; renamed = refl } } };
+}
+
+abbrev stretch : TaskStretch stored_then_got 2
+stretch = record {
+  past = greeting ++ storing;
+  by = 0;
+  child = 1;
+  within = retrieving;
+  answered_by = 0;
+  answer = Got;
+  rest = [];
+  is = refl;
+  one = refl;
+}
+
+abbrev run : JournalRun store_then_get (setup_of 0) got_hi 0 2 stored_then_got
+run = record {
+  task = task_of Get hi (codes "o");
+  is = refl;
+  run = stretch;
+  by_it = refl;
+  layouts = [];
+  known = record { book = []; order = refl; counts = λ k uuid chunk. refl; current = record { standing = []; those = record { moves = []; below = tt; is = refl }; order = λ k d low high. absurd (omega arith); pairs = refl } };
+  ran = ran;
+}
+
+retrieves : Retrieves stored_then_got the_retrieve the_store hi fetched_2_1
+retrieves = record { there = (3, omega arith, refl); asks = refl; answered = 19; done = refl; stored = refl }
+
+never : (n : ℕ) (more : List ℕ) → n ∷ more ≡ [] → ⊥
+never n more e = cc
+
+pub returns : goal.returns
+unfolding digits
+returns c = record {
+  run = run;
+  keyed = refl;
+  got = refl;
+  afresh = refl;
+  stored = ((the_retrieve, refl, retrieves), tt);
+  looked = (never 2 [], tt);
+}

@@ -1,0 +1,43 @@
+-- What a get that is answered Got keeps.
+use Rattle.std.specs.Prelude.{ℕ, ◌≡◌, ◌==◌, ◌||◌, Bool, true, List, length, Some, unwrap_or}
+use Rattle.std.specs.List.{concat, list_all}
+use Rattle.ann_key.specs.Keys.{Parts, key_reading}
+use Rattle.ann_digest.specs.Fits.{FitsKey}
+use Rattle.ann_outside.specs.declared.file_desk.Call.{Call}
+use Rattle.journal_model.specs.declared.answer.Answer.TheVariants.{Got}
+use Rattle.task_text.specs.declared.task.Task.{Task}
+use Rattle.task_asker.specs.Askings.{Asking, Noting}
+use Rattle.task_run.specs.declared.setup.Setup.{Setup}
+use Rattle.task_run.specs.Names.{part_of}
+use Rattle.task_run.specs.Layouts.{sizes_tried, keys_of_layout}
+use Rattle.task_run.specs.Requests.{AskInOrder}
+use Rattle.task_run.specs.Reads.{appended, is_renaming, is_last_call_of}
+use Rattle.task_run.specs.Gets.{fetch_request, lengths_at_begin, failures, item, asked_last, first_asked, since_begin, is_plain_last, checked}
+use Rattle.task_run.specs.Runs.{TaskRun}
+use Rattle.task_laws.specs.Contents.{AreFetched}
+
+-- the chunk size of the layout that was tried last, 0 of the plain one
+abbrev pub chunk_last : List ℕ → List Asking → ℕ
+chunk_last sizes asked = unwrap_or (item (failures asked) sizes) 0
+
+-- the plain layout was tried last, or no layout found any bytes of part: it wasn't there, or was empty
+abbrev pub is_afresh : List ℕ → List ℕ → List Asking → List Call → Bool
+is_afresh sizes file asked calls = is_plain_last sizes asked || list_all (λ n. n == 0) (lengths_at_begin file calls)
+
+-- The last layout's keys were asked for in their order, each into a file of its own. These contents, one behind the other, were appended
+-- to part since it was begun, and are all that was checked; they fit the key. Then part was renamed to the file.
+pub record Keeps (setup : Setup) (t : ℕ) (key : Parts) (sizes : List ℕ) (file : List ℕ) (asked : List Asking) (calls : List Call) (contents : List (List ℕ)) : Type 0 where
+  pub all : length (asked_last asked) ≡ length (keys_of_layout key (chunk_last sizes asked))
+  pub in_order : AskInOrder (fetch_request setup t) (first_asked asked) (keys_of_layout key (chunk_last sizes asked)) (asked_last asked)
+  pub appended_are : appended (part_of file) (since_begin file calls) ≡ concat contents
+  pub checked_are : checked setup t file sizes asked calls ≡ concat contents
+  pub fits : FitsKey key (concat contents)
+  pub renamed : is_last_call_of (part_of file) (is_renaming (part_of file) file) calls ≡ true
+
+-- A get that began afresh and is answered Got keeps what the files of its last layout hold.
+abbrev pub GotKeeps : Type 0
+GotKeeps =
+    (task : Task) (t : ℕ) (setup : Setup) (layouts : List (ℕ × ℕ)) (asked : List Asking) (calls : List Call) (noted : List Noting) (key : Parts) (contents : List (List ℕ))
+    → key_reading task.key ≡ Some key → TaskRun task t setup layouts asked calls noted Got
+    → is_afresh (sizes_tried key layouts) task.file asked calls ≡ true → AreFetched setup t calls (first_asked asked) (asked_last asked) contents
+    → Keeps setup t key (sizes_tried key layouts) task.file asked calls contents

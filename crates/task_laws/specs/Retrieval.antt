@@ -1,0 +1,65 @@
+-- What a get leaves of what was stored before, where the remote is faithful.
+use Rattle.std.specs.Prelude.{ℕ, ◌≡◌, true, List, map, All, Some, None}
+use Rattle.ann_key.specs.Keys.{Parts, key_reading}
+use Rattle.ann_digest.specs.Fits.{FitsKey}
+use Rattle.journal_model.specs.declared.answer.Answer.TheVariants.{Got}
+use Rattle.journal_model.specs.declared.entry.Entry.{Entry}
+use Rattle.journal_model.specs.declared.opening.Opening.{Opening}
+use Rattle.journal_model.specs.Legality.{Legal}
+use Rattle.task_text.specs.declared.task.Work.TheVariants.{Store}
+use Rattle.task_run.specs.declared.setup.Setup.{Setup}
+use Rattle.task_run.specs.Askings.{run_askings}
+use Rattle.task_run.specs.Layouts.{sizes_tried}
+use Rattle.task_run.specs.Names.{part_of}
+use Rattle.task_run.specs.Reads.{appended, is_renaming, is_last_call_of}
+use Rattle.task_run.specs.Gets.{asked_last, first_asked, since_begin, checked}
+use Rattle.task_run.specs.Runs.{is_chunked}
+use Rattle.task_rounds.specs.JournalRuns.{JournalRun}
+use Rattle.task_laws.specs.Changes.{Request}
+use Rattle.task_laws.specs.Contents.{Shows}
+use Rattle.task_laws.specs.Faithful.{Told, sent, IsFaithful, AreStoredFor, AreLookedAt}
+use Rattle.task_laws.specs.Kept.{is_afresh, Keeps}
+
+-- A run of task t by any number got its content, afresh, and these stored the keys of its last layout before it retrieved them.
+pub record GotStored (o : Opening) (setup : Setup) (told : Told) (journal : List Entry) (number t : ℕ) (key : Parts) (stores : List Request) : Type 0 where
+  pub run : JournalRun o setup (told.calls t) number t journal
+  pub keyed : key_reading run.task.key ≡ Some key
+  pub got : run.run.answer ≡ Got
+  pub afresh : is_afresh (sizes_tried key run.layouts) run.task.file (run_askings run.run) (told.calls t) ≡ true
+  pub stored : AreStoredFor journal t (asked_last (run_askings run.run)) stores
+  pub looked : AreLookedAt setup t (told.calls t) (first_asked (run_askings run.run)) (asked_last (run_askings run.run))
+
+-- With a faithful remote such a run keeps what these sent, one behind the other, as its file.
+abbrev pub KeepsStored : Type 0
+KeepsStored =
+    (o : Opening) (setup : Setup) (told : Told) (journal : List Entry) (number t : ℕ) (key : Parts) (stores : List Request) → IsFaithful o setup told journal
+    → (got : GotStored o setup told journal number t key stores)
+    → Keeps setup t key (sizes_tried key got.run.layouts) got.run.task.file (run_askings got.run.run) (told.calls t) (map (sent o setup told) stores)
+
+-- ---- content that one task stored in chunks
+
+-- A run of task u by any number stored its content in chunks, and these are requests of that task. All that its calls show of its file is
+-- of this content.
+pub record StoredInChunks (o : Opening) (setup : Setup) (told : Told) (journal : List Entry) (u : ℕ) (content : List ℕ) (stores : List Request) : Type 0 where
+  pub number : ℕ
+  pub run : JournalRun o setup (told.calls u) number u journal
+  pub work : run.task.work ≡ Store
+  pub key : Parts
+  pub keyed : key_reading run.task.key ≡ Some key
+  pub chunked : is_chunked setup key ≡ true
+  pub of_task : All (λ s. s.task ≡ u) stores
+  pub shows : Shows run.task.file content (told.calls u)
+
+-- That content was appended to part since it was begun, is all that was checked, and fits the key. Then part was renamed to the file.
+pub record KeepsContent (o : Opening) (setup : Setup) (told : Told) (journal : List Entry) (number t : ℕ) (key : Parts) (run : JournalRun o setup (told.calls t) number t journal) (content : List ℕ) : Type 0 where
+  pub appended_are : appended (part_of run.task.file) (since_begin run.task.file (told.calls t)) ≡ content
+  pub checked_are : checked setup t run.task.file (sizes_tried key run.layouts) (run_askings run.run) (told.calls t) ≡ content
+  pub fits : FitsKey key content
+  pub renamed : is_last_call_of (part_of run.task.file) (is_renaming (part_of run.task.file) run.task.file) (told.calls t) ≡ true
+
+-- With a faithful remote, where one task stored all chunks of the last layout, the get keeps the content of that task's file.
+abbrev pub KeepsStoredContent : Type 0
+KeepsStoredContent =
+    (o : Opening) (setup : Setup) (told : Told) (journal : List Entry) (number t u : ℕ) (key : Parts) (content : List ℕ) (stores : List Request) → Legal o journal → IsFaithful o setup told journal
+    → (got : GotStored o setup told journal number t key stores) → key.chunk ≡ None → StoredInChunks o setup told journal u content stores
+    → KeepsContent o setup told journal number t key got.run content

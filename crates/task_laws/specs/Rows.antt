@@ -1,0 +1,103 @@
+-- Runs in which a key is stored and then got, as examples.
+use Rattle.std.specs.Prelude.{ℕ, ◌==◌, if◌then◌else◌, true, false, List, [], ◌∷◌, ◌++◌, codes, Some, None}
+use Rattle.ann_key.specs.Keys.{Parts}
+use Rattle.ann_outside.specs.declared.file_desk.Call.{Call}
+use Rattle.annex_model.specs.Messages.{Transfer}
+use Rattle.journal_model.specs.declared.answer.Answer.TheVariants.{Stored, Got as GotAnswer}
+use Rattle.journal_model.specs.declared.verdict.Verdict.TheVariants.{Done, Failed}
+use Rattle.journal_model.specs.declared.entry.What.TheVariants.{Claim, Ask, Sent, Got, Verdict as Settled, Answer as Answered}
+use Rattle.journal_model.specs.declared.entry.Entry.{Entry}
+use Rattle.journal_model.specs.declared.opening.Opening.{Opening}
+use Rattle.journal_model.specs.Rows.{by_main, greeting, opening_of}
+use Rattle.task_text.specs.declared.task.Work.TheVariants.{Store, Get}
+use Rattle.task_run.specs.Rows.{task_of, fetched_2_1, got_hi, sized}
+use Rattle.task_laws.specs.Changes.{Request}
+use Rattle.task_laws.specs.Faithful.{Told}
+
+-- what the keys say
+abbrev pub ten_parts : Parts
+ten_parts = record { backend = codes "WORM"; size = Some 10; mtime = None; chunk = None; name = codes "ten" }
+
+abbrev pub worm_parts : Parts
+worm_parts = record { backend = codes "WORM"; size = None; mtime = None; chunk = None; name = codes "a" }
+
+abbrev pub abc_parts : Parts
+abc_parts = record { backend = codes "WORM"; size = Some 3; mtime = None; chunk = None; name = codes "a" }
+
+abbrev pub hi : List ℕ
+hi = codes "WORM-s2--a"
+
+abbrev pub hi_parts : Parts
+hi_parts = record { backend = codes "WORM"; size = Some 2; mtime = None; chunk = None; name = codes "a" }
+
+-- ---- one task stores a key, and another gets it
+
+abbrev pub store_then_get : Opening
+store_then_get = opening_of (task_of Store hi (codes "f") ∷ task_of Get hi (codes "o") ∷ [])
+
+-- the entries 10 to 15: the first task
+abbrev pub storing : List Entry
+storing =
+    by_main (Claim 1 1)
+    ∷ by_main (Ask 1 2 1 (codes "TRANSFER STORE WORM-s2--a f"))
+    ∷ by_main (Sent 1)
+    ∷ by_main (Got 1 (codes "TRANSFER-SUCCESS STORE WORM-s2--a"))
+    ∷ by_main (Settled 1 2 (Done 13))
+    ∷ by_main (Answered 1 Stored)
+    ∷ []
+
+-- the entries 16 to 21: the second
+abbrev pub retrieving : List Entry
+retrieving =
+    by_main (Ask 1 3 2 (codes "TRANSFER RETRIEVE WORM-s2--a w/1700000000000000-2-1.fetch"))
+    ∷ by_main (Sent 1)
+    ∷ by_main (Got 1 (codes "TRANSFER-SUCCESS RETRIEVE WORM-s2--a"))
+    ∷ by_main (Settled 1 3 (Done 19))
+    ∷ []
+
+abbrev pub getting : List Entry
+getting = by_main (Claim 2 1) ∷ retrieving ++ by_main (Answered 2 GotAnswer) ∷ []
+
+abbrev pub stored_then_got : List Entry
+stored_then_got = greeting ++ storing ++ getting
+
+abbrev pub the_store : Request
+the_store = record { at = 11; child = 1; job = 2; task = 1; asks = Transfer true hi (codes "f") }
+
+abbrev pub the_retrieve : Request
+the_retrieve = record { at = 17; child = 1; job = 3; task = 2; asks = Transfer false hi fetched_2_1 }
+
+-- the store stored these bytes, and this is what the second task's calls did
+abbrev pub told_of : List ℕ → List Call → Told
+told_of bytes calls = record { calls = of_task; held = λ place. bytes }
+  where
+    of_task : ℕ → List Call
+    of_task t = if t == 2 then calls else if t == 1 then sized (codes "f") 2 else []
+
+-- the remote sent what was stored, and another content
+abbrev pub told_hi : Told
+told_hi = told_of (codes "hi") got_hi
+
+abbrev pub told_ho : Told
+told_ho = told_of (codes "ho") got_hi
+
+-- ---- a change between
+
+-- a second store of the key is asked before the retrieve is, or before it is answered, and not settled
+abbrev pub stored_again : Entry
+stored_again = by_main (Ask 1 3 2 (codes "TRANSFER STORE WORM-s2--a g"))
+
+abbrev pub removed : Entry
+removed = by_main (Ask 1 3 2 (codes "REMOVE WORM-s2--a"))
+
+abbrev pub other_removed : Entry
+other_removed = by_main (Ask 1 3 2 (codes "REMOVE WORM-s2--b"))
+
+abbrev pub not_stored : List Entry
+not_stored =
+    by_main (Claim 1 1)
+    ∷ by_main (Ask 1 2 1 (codes "TRANSFER STORE WORM-s2--a f"))
+    ∷ by_main (Sent 1)
+    ∷ by_main (Got 1 (codes "TRANSFER-FAILURE STORE WORM-s2--a full"))
+    ∷ by_main (Settled 1 2 (Failed 13))
+    ∷ []

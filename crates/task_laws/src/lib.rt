@@ -1,0 +1,10 @@
+// What follows from Task run: which answers come where all went well from outside, and what a get leaves in its file.
+#![tactic(auto)]
+
+pub mod kept;
+pub mod lone_well;
+pub mod retrieval;
+pub mod rows;
+pub mod run_well;
+pub mod sent;
+pub mod went_well;

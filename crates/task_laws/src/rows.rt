@@ -1,0 +1,79 @@
+// What the definitions accept and refuse of worked runs. Each law is the contract of a function with nothing to do.
+ghost use Rattle.std.specs.Prelude.{◌≡◌, ◌++◌, [], ◌∷◌, Some, None, Ok, Err, codes, true, false, take};
+ghost use Rattle.std.specs.List.{list_all};
+ghost use Rattle.ann_outside.specs.declared.file_desk.Call.TheVariants.{Size, Create};
+ghost use Rattle.ann_outside.specs.declared.file_desk.DeskError.TheVariants.{Missing, Failed as CallFailed};
+ghost use Rattle.journal_model.specs.declared.answer.Answer.TheVariants.{Got};
+ghost use Rattle.journal_model.specs.declared.verdict.Verdict.TheVariants.{Done, Failed, Unknown};
+ghost use Rattle.journal_model.specs.Rows.{greeting};
+ghost use Rattle.task_run.specs.Rows.{setup_of, store_a, stores_a, sized, get_abc, fetched_1, gets_abc, got_abc, renamed, part_gone, store_ten, stores_ten, stored_ten, lost_ten, stored_short, get_ten, gets_ten, resumed_ten, check_ten, checks_ten, finds_ten, asks, c1, fetched_2_1, got_hi};
+ghost use Rattle.annex_model.specs.Messages.{Checkpresent, Transfer};
+ghost use Rattle.task_rounds.specs.JournalRuns.{JournalRun};
+ghost use Rattle.task_run.specs.Askings.{run_askings};
+ghost use Rattle.task_laws.specs.Changes.{requests, stored_by, Retrieves};
+ghost use Rattle.task_laws.specs.Contents.{Shows};
+ghost use Rattle.task_laws.specs.Faithful.{sent, IsFaithful};
+ghost use Rattle.task_laws.specs.Kept.{is_afresh};
+ghost use Rattle.task_laws.specs.Retrieval.{GotStored};
+ghost use Rattle.task_laws.specs.WentWell.{WentWell};
+ghost use Rattle.task_laws.specs.Rows.{ten_parts, worm_parts, abc_parts, hi, hi_parts, store_then_get, storing, stored_then_got, the_store, the_retrieve, told_hi, told_ho, stored_again, removed, other_removed, not_stored};
+
+/// A store whose questions were answered in any way went well, and not one that failed, whose child was gone, or whose file shrank.
+pub fn stores_went_well()
+    ensures stored { WentWell (setup_of 4) 1 store_ten ten_parts [] stores_ten stored_ten }
+    ensures unknown { WentWell (setup_of 4) 1 store_ten ten_parts [] (asks (Checkpresent c1) (Unknown 13) ∷ []) (sized (codes "f") 10) }
+    ensures failed { WentWell (setup_of 0) 1 store_a worm_parts [] (stores_a (Failed 13)) (sized (codes "f") 2) → ⊥ }
+    ensures gone { WentWell (setup_of 4) 1 store_ten ten_parts [] lost_ten (sized (codes "f") 10) → ⊥ }
+    ensures other_length { WentWell (setup_of 4) 1 store_ten ten_parts [] [] (sized (codes "f") 9) → ⊥ }
+    ensures shrank { WentWell (setup_of 4) 1 store_ten ten_parts [] (take 2 stores_ten) stored_short → ⊥ }
+    ensures missing { WentWell (setup_of 0) 1 store_a worm_parts [] [] (Size (codes "f") (Err Missing) ∷ []) → ⊥ }
+    ensures fault { WentWell (setup_of 0) 1 store_a worm_parts [] [] (Size (codes "f") (Err CallFailed) ∷ []) → ⊥ }
+{}
+
+/// A check went well where each key is there. A get may miss part, and no file that was fetched, and each has its length.
+pub fn others_went_well()
+    ensures present { WentWell (setup_of 0) 1 check_ten ten_parts ((4, 3) ∷ []) finds_ten [] }
+    ensures absent { WentWell (setup_of 0) 1 check_ten ten_parts ((4, 3) ∷ []) checks_ten [] → ⊥ }
+    ensures no_part { WentWell (setup_of 0) 1 get_ten ten_parts ((4, 3) ∷ []) [] (Size (codes "o.part") (Err Missing) ∷ Create (codes "o.part") (Ok tt) ∷ []) }
+    ensures not_fetched { WentWell (setup_of 0) 1 get_abc abc_parts [] (gets_abc (Done 13)) (Size fetched_1 (Err Missing) ∷ []) → ⊥ }
+    ensures other_length { WentWell (setup_of 0) 1 get_abc abc_parts [] (gets_abc (Done 13)) (sized fetched_1 2 ++ part_gone) → ⊥ }
+{}
+
+/// A get in the plain layout begins afresh whatever part held, and one in chunks where part was missing or empty.
+pub fn begins_afresh()
+    ensures plain { is_afresh (0 ∷ []) (codes "o") (gets_abc (Done 13)) (got_abc (codes "abc") ++ renamed) ≡ true }
+    ensures missing { is_afresh (4 ∷ 0 ∷ []) (codes "o") [] (Size (codes "o.part") (Err Missing) ∷ []) ≡ true }
+    ensures resumed { is_afresh (4 ∷ 0 ∷ []) (codes "o") gets_ten resumed_ten ≡ false }
+{}
+
+/// A file that was read whole, or not, shows its content and no other.
+pub fn files_show()
+    ensures whole { Shows fetched_2_1 (codes "hi") got_hi }
+    ensures unread { Shows fetched_2_1 (codes "hi") (sized fetched_2_1 2) }
+    ensures other { Shows fetched_2_1 (codes "ho") got_hi → ⊥ }
+    ensures longer { Shows fetched_2_1 (codes "hi!") got_hi → ⊥ }
+{}
+
+/// What stored a key is its last change before the retrieve was answered, where that is a STORE that was done before it was asked.
+pub fn what_stored()
+    ensures stored { stored_by stored_then_got hi 17 19 ≡ Some the_store }
+    ensures too_early { stored_by stored_then_got hi 13 19 ≡ None }
+    ensures other_key { stored_by stored_then_got (codes "WORM-s2--b") 17 19 ≡ None }
+    ensures failed { stored_by (greeting ++ not_stored) hi 16 18 ≡ None }
+    ensures again { stored_by (greeting ++ storing ++ stored_again ∷ []) hi 17 19 ≡ None }
+    ensures removed { stored_by (greeting ++ storing ++ removed ∷ []) hi 17 19 ≡ None }
+    ensures other_removed { stored_by (greeting ++ storing ++ other_removed ∷ []) hi 17 19 ≡ Some the_store }
+{}
+
+/// A remote that sends what was stored is faithful, and one that sends another content isn't.
+pub fn faithful_remotes()
+    ensures retrieves { Retrieves stored_then_got the_retrieve the_store hi fetched_2_1 }
+    ensures sent { sent store_then_get (setup_of 0) told_hi the_store ≡ codes "hi" }
+    ensures same { IsFaithful store_then_get (setup_of 0) told_hi stored_then_got }
+    ensures other { IsFaithful store_then_get (setup_of 0) told_ho stored_then_got → ⊥ }
+{}
+
+/// The second task of that run got what the first one stored.
+pub fn got_what_was_stored()
+    ensures { GotStored store_then_get (setup_of 0) told_hi stored_then_got 0 2 hi_parts (the_store ∷ []) }
+{}
