@@ -1,0 +1,4 @@
+pub mod Backs
+pub mod Leaving
+pub mod Manning
+pub mod Closing
