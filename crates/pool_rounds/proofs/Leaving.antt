@@ -2,8 +2,8 @@
 use Rattle.std.proofs.Common.{◌≡◌, ℕ, List, [], ◌∷◌, map, Bool, true, false, refl, sym, ap, subst, ◌∙◌, suc, length}
 use Rattle.std.specs.Prelude.{All, reverse}
 use Rattle.std.specs.List.{list_any}
-use Rattle.std.proofs.lemmas.List.{length-map}
-use Rattle.std.proofs.lemmas.List.Elements.{All-cons}
+use Rattle.std.proofs.lemmas.List.{length-map, reverse-reverse}
+use Rattle.std.proofs.lemmas.List.Elements.{All-nil, All-cons, All-head, All-tail}
 use Rattle.hall.specs.Passes.{HallValue, IsPassOf}
 use Rattle.journal_model.specs.declared.entry.Entry.{Entry}
 use Rattle.journal_model.specs.declared.opening.Opening.{Opening}
@@ -110,7 +110,7 @@ module _ {W L K : Type 0} (wp : W → CorePass) (ww : W → L) (wd : W → K) (l
 
     module _ (passes' : List CorePass) (links' : List L) (desks' : List K) (o : Outcome) (passes'_is : passes' ≡ main ∷ map wp (reverse (roles_of bs)))
         (links'_is : links' ≡ map ww (reverse (roles_of bs))) (desks'_is : desks' ≡ map wd (reverse (roles_of bs))) (outcome_is : o ≡ done_if (list_any has_run bs)) where
-      pub played_own : All (IsPassOf h) passes' × (length passes' ≡ length passes)
+      played_own : All (IsPassOf h) passes' × (length passes' ≡ length passes)
       played_own = (
         subst (All (IsPassOf h)) (sym (passes'_is ∙ ap (λ (l : List CorePass). main ∷ l) passes_left))
             (All-cons (IsPassOf h) main (passes_of (map (λ b. tells (role_of b)) (reverse bs))) fresh.0.0.pass
@@ -118,7 +118,7 @@ module _ {W L K : Type 0} (wp : W → CorePass) (ww : W → L) (wd : W → K) (l
         ap length passes'_is ∙ ap suc (so_many wp) ∙ sym (ap length k.passes_are),
       )
 
-      pub played_left : IfDone o (PoolLeft h setup (map link links) (map link links') passes' (map desk desks) (map desk desks'))
+      played_left : IfDone o (PoolLeft h setup (map link links) (map link links') passes' (map desk desks) (map desk desks'))
       played_left =
           subst (λ (x : Outcome). IfDone x (PoolLeft h setup (map link links) (map link links') passes' (map desk desks) (map desk desks'))) (sym outcome_is)
           (subst (λ (x : List L). IfDone (done_if (list_any has_run bs)) (PoolLeft h setup (map link links) (map link x) passes' (map desk desks) (map desk desks'))) (sym links'_is)
@@ -128,7 +128,7 @@ module _ {W L K : Type 0} (wp : W → CorePass) (ww : W → L) (wd : W → K) (l
           (map desk desks) (map desk x))) (sym desks'_is)
           (done (list_any has_run bs) refl))))
 
-      pub played_kept : IfKept o ((passes' ≡ passes) × AreAsBefore links links' desks desks')
+      played_kept : IfKept o ((passes' ≡ passes) × AreAsBefore links links' desks desks')
       played_kept =
           subst (λ (x : Outcome). IfKept x ((passes' ≡ passes) × AreAsBefore links links' desks desks')) (sym outcome_is)
           (subst (λ (x : List CorePass). IfKept (done_if (list_any has_run bs)) ((x ≡ passes) × AreAsBefore links links' desks desks')) (sym passes'_is)
@@ -136,10 +136,30 @@ module _ {W L K : Type 0} (wp : W → CorePass) (ww : W → L) (wd : W → K) (l
           (subst (λ (x : List K). IfKept (done_if (list_any has_run bs)) ((main ∷ map wp (reverse (roles_of bs)) ≡ passes) × AreAsBefore links (map ww (reverse (roles_of bs))) desks x)) (sym desks'_is)
           (kept (list_any has_run bs) refl))))
 
-      pub played_same : AreSameLinks (map link links) (map link links') × (length desks' ≡ length desks)
+      played_same : AreSameLinks (map link links) (map link links') × (length desks' ≡ length desks)
       played_same = (
         subst (λ (x : List LinkValue). AreSameLinks x (map link links')) (sym links_begun)
             (subst (λ (x : List LinkValue). AreSameLinks (links_of (map tells (reverse ws))) x) (sym (ap (map link) links'_is ∙ links_left))
             (came_same h setup (map tells (reverse ws)) (map (λ b. tells (role_of b)) (reverse bs)) came)),
         ap length desks'_is ∙ so_many wd ∙ sym (ap length k.desks_are),
       )
+
+      pub played : (All (IsPassOf h) passes' × (length passes' ≡ length passes)) × IfDone o (PoolLeft h setup (map link links) (map link links') passes' (map desk desks) (map desk desks'))
+          × IfKept o ((passes' ≡ passes) × AreAsBefore links links' desks desks') × (AreSameLinks (map link links) (map link links') × (length desks' ≡ length desks))
+      played = (played_own, played_left, played_kept, played_same)
+
+-- ---- where the workers may begin
+
+both_all : {W L : Type 0} (ww : W → L) (link : L → LinkValue) (P : W → Type 0) (Q : LinkValue → Type 0) (ws : List W) → All P ws → All Q (map link (map ww ws))
+    → All (λ w. P w × Q (link (ww w))) ws
+both_all ww link P Q [] ps qs = All-nil (λ w. P w × Q (link (ww w)))
+both_all ww link P Q (w ∷ ws) ps qs =
+    All-cons (λ w. P w × Q (link (ww w))) w ws (All-head P w ws ps, All-head Q (link (ww w)) (map link (map ww ws)) qs)
+    (both_all ww link P Q ws (All-tail P w ws ps) (All-tail Q (link (ww w)) (map link (map ww ws)) qs))
+
+-- what holds of each link holds of the one that its worker has
+pub serving : {W L : Type 0} (ww : W → L) (link : L → LinkValue) (P : W → Type 0) (Q : LinkValue → Type 0) (ws : List W) (links : List L) → links ≡ map ww (reverse ws) → All P ws
+    → All Q (map link links) → All (λ w. P w × Q (link (ww w))) ws
+serving {W} {L} ww link P Q ws links is ps qs =
+    subst (All (λ w. P w × Q (link (ww w)))) (reverse-reverse ws)
+    (all_reverse (λ w. P w × Q (link (ww w))) (reverse ws) (both_all ww link P Q (reverse ws) (all_reverse P ws ps) (subst (λ (ls : List L). All Q (map link ls)) is qs)))
