@@ -69,7 +69,7 @@ module _ (h : HallValue Entry Opening) (setup : Setup) where
   ends_all calls crew first (s ∷ ss) [] all fresh may pos agree posted = absurd all
   ends_all calls crew first (s ∷ ss) (e ∷ es) all fresh may pos agree posted = (
     (let is : e.pass.number ≡ first = all.0.number ∙ fresh.0.1 in
-    ends_one calls crew s e all.0 (All-head (MayServe h.fixed h.start) s.link (links_of ss) may) (omega (arith, is, pos))
+        ends_one calls crew s e all.0 (All-head (MayServe h.fixed h.start) s.link (links_of ss) may) (omega (arith, is, pos))
         (λ t. ap (λ (n : ℕ). calls n t) is ∙ agree_here calls first all.0.worked.done (dones_of ss es all.1) agree t)
         (ap crew is ∙ posted_here crew first s.link.ear.child (children_of (links_of ss)) posted)),
     ends_all calls crew (first + 1) ss es all.1 fresh.1 (All-tail (MayServe h.fixed h.start) s.link (links_of ss) may) (omega (arith, pos))
