@@ -80,7 +80,7 @@ pub(crate) fn deal<'a, I: Sink, O: Source, K: Desk + Drop, R: Wait>(
 }
 
 /// Takes the passes, links and desks back, from the last worker on.
-pub(crate) fn take_back<'a, I: Sink, O: Source, K: Desk + Drop, R: Wait>(
+pub(crate) fn take_back<'a, I: Sink + Drop, O: Source + Drop, K: Desk + Drop, R: Wait>(
     mut workers: Vec<Back<LoneWorker<'a, I, O, K, R>>>,
     passes: &mut Vec<Pass<Core>>,
     links: &mut Vec<Lone<I, O>>,

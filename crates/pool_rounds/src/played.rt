@@ -45,7 +45,7 @@ type Backs<'a, I, O, K, R> = Vec<Back<LoneWorker<'a, I, O, K, R>>>;
 type Rooms<'a, I, O, K, R> = (Room<LoneWorker<'a, I, O, K, R>>, Workers<'a, I, O, K, R>);
 
 // Room for so many workers.
-fn rooms<'a, I: Sink, O: Source, K: Desk + Drop, R: Wait>(
+fn rooms<'a, I: Sink + Drop, O: Source + Drop, K: Desk + Drop, R: Wait>(
     alloc: Global,
     seats: usize,
 ) -> Option<Rooms<'a, I, O, K, R>>
@@ -91,7 +91,7 @@ fn cast<'a, I: Sink, O: Source, K: Desk + Drop, R: Wait>(
 }
 
 // Takes the workers apart.
-fn gather<'a, I: Sink, O: Source, K: Desk + Drop, R: Wait>(
+fn gather<'a, I: Sink + Drop, O: Source + Drop, K: Desk + Drop, R: Wait>(
     backs: Backs<'a, I, O, K, R>,
     rest: Rest<I, O, K>,
 ) -> Kit<I, O, K>

@@ -65,4 +65,4 @@ returns g c =
     })
     c.run_workers-backs.result.items c.run_workers-backs.ensures c.gather.result.passes.items c.gather.result.links.items c.gather.result.desks.items c.outcome_of-outcome.result
     b.passes b.links b.desks c.outcome_of-outcome.ensures in
-    record { own = p.0; left = p.1; kept = p.2; same = (p.3.0, ?) }
+    record { own = p.0; left = p.1; kept = p.2; same = (p.3.0, c.gather.result.desks.ok.0 ∙ p.3.1 ∙ sym c.args.kit.desks.ok.0) }
