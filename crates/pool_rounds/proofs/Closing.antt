@@ -32,9 +32,9 @@ use Rattle.lone_work.specs.Works.{DeskTells, TaskDone}
 use Rattle.crew_roles.specs.Coming.{IsFresh}
 use Rattle.crew_roles.specs.Crewing.{calls_from}
 use Rattle.crew_rounds.specs.declared.outcome.Outcome.{Outcome}
+use Rattle.crew_rounds.specs.declared.outcome.Outcome.TheVariants.{Done, NoMemory, NoThreads}
 use Rattle.crew_rounds.specs.Outcomes.{IfDone}
 use Rattle.crew_rounds.specs.Tagged.{AreFresh}
-use Rattle.crew_rounds.proofs.Closing.{if_done}
 use Rattle.pool_rounds.specs.Left.{IsThroughAt, LoneBack, LoneTells, PoolLeft, desks_of, links_of, passes_of}
 use Rattle.pool_rounds.specs.Pool.{MayServe, PoolCan, PoolLeaves}
 use Rattle.pool_rounds.proofs.Manning.{by_place, came_numbers, did_all, dones_of, ends_all, pool_posted, same_children, wired_end}
@@ -163,6 +163,11 @@ closes h setup links links' passes final fixed desks desks' over can left =
         let shape : numbers_of (left.main ∷ passes_of left.ends) ≡ 1 ∷ range_with_len 2 (length left.starts) = cc in
         let count : suc (length left.starts) ≡ 1 + length desks = omega (arith, many) in
         shape ∙ ap (range_with_len 1) count
+
+if_done : {P Q : Type 0} (o : Outcome) → (P → Q) → IfDone o P → IfDone o Q
+if_done Done f h = f h
+if_done NoMemory f h = tt
+if_done NoThreads f h = tt
 
 -- in terms of the core
 module _ (h : HallValue Entry Opening) (opening : Opening) (start : List Entry) (start_is : h.start ≡ start) (fixed_is : h.fixed ≡ opening) (passes : List CorePass) (final : List Entry) (fixed : Opening)

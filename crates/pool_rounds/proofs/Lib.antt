@@ -1,3 +1,4 @@
+pub mod Dealing
 pub mod Backs
 pub mod Leaving
 pub mod Manning

@@ -52,8 +52,10 @@ fn rooms<'a, I: Sink + Drop, O: Source + Drop, K: Desk + Drop, R: Wait>(
     ensures { IfSome result (λ r. (r.0 ≡ seats) × (r.1.items ≡ []) × (seats ≤ vec_capacity r.1)) }
 {
     let room = Room::new(alloc, seats)?;
-    let workers = Vec::with_capacity(alloc, seats).ok()?;
-    Some((room, workers))
+    match Vec::with_capacity(alloc, seats) {
+        Ok(workers) => Some((room, workers)),
+        Err(_) => None,
+    }
 }
 
 // Makes the workers.
@@ -97,9 +99,9 @@ fn gather<'a, I: Sink + Drop, O: Source + Drop, K: Desk + Drop, R: Wait>(
 ) -> Kit<I, O, K>
     requires none { (rest.room.passes.items ≡ []) × (rest.room.links.items ≡ []) × (rest.room.desks.items ≡ []) }
     requires rooms { (1 + vec_len backs ≤ vec_capacity rest.room.passes) × (vec_len backs ≤ vec_capacity rest.room.links) × (vec_len backs ≤ vec_capacity rest.room.desks) }
-    ensures passes { result.passes.items ≡ rest.main ∷ map (λ w. w.pass) (reverse (roles_of backs.items)) }
-    ensures links { result.links.items ≡ map (λ w. w.way) (reverse (roles_of backs.items)) }
-    ensures desks { result.desks.items ≡ map (λ w. w.desk) (reverse (roles_of backs.items)) }
+    ensures passes { result.passes.items ≡ rest.main ∷ map (λ w. w.pass) (reverse (roles_of backs.entry.items)) }
+    ensures links { result.links.items ≡ map (λ w. w.way) (reverse (roles_of backs.entry.items)) }
+    ensures desks { result.desks.items ≡ map (λ w. w.desk) (reverse (roles_of backs.entry.items)) }
 {
     let Rest { main, room } = rest;
     let Kit {
