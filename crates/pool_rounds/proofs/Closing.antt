@@ -1,12 +1,12 @@
 -- The hall of a round over a pool is closed.
-use Rattle.std.proofs.Common.{◌≡◌, ℕ, suc, ◌+◌, ◌-◌, ◌<◌, ◌≤◌, List, [], ◌∷◌, ◌++◌, true, refl, sym, ap, subst, ◌∙◌, Some, length, arith, slice_get}
+use Rattle.std.proofs.Common.{◌≡◌, ℕ, suc, ◌+◌, ◌-◌, List, [], ◌∷◌, ◌++◌, refl, sym, ap, subst, ◌∙◌, Some, length, arith, slice_get}
 use Rattle.std.specs.Prelude.{All, map}
 use Rattle.std.specs.List.{range_with_len}
 use Rattle.std.proofs.lemmas.List.{append_cancel_left, length-map}
 use Rattle.std.proofs.lemmas.List.Elements.{All-nil, All-cons}
 use Rattle.std.proofs.lemmas.Option.{slice_get-map}
 use Rattle.hall.specs.Log.{flat}
-use Rattle.hall.specs.Passes.{HallValue, seen_of}
+use Rattle.hall.specs.Passes.{HallValue}
 use Rattle.hall.proofs.Logs.{all-from_get, get-from_all}
 use Rattle.journal_model.specs.declared.verdict.Why.TheVariants.{Closed as WasClosed}
 use Rattle.journal_model.specs.declared.entry.Entry.{Entry}
@@ -32,9 +32,9 @@ use Rattle.lone_work.specs.Works.{DeskTells, TaskDone}
 use Rattle.crew_roles.specs.Coming.{IsFresh}
 use Rattle.crew_roles.specs.Crewing.{calls_from}
 use Rattle.crew_rounds.specs.declared.outcome.Outcome.{Outcome}
-use Rattle.crew_rounds.specs.declared.outcome.Outcome.TheVariants.{Done, NoMemory, NoThreads}
 use Rattle.crew_rounds.specs.Outcomes.{IfDone}
 use Rattle.crew_rounds.specs.Tagged.{AreFresh}
+use Rattle.crew_rounds.proofs.Closing.{if_done}
 use Rattle.pool_rounds.specs.Left.{IsThroughAt, LoneBack, LoneTells, PoolLeft, desks_of, links_of, passes_of}
 use Rattle.pool_rounds.specs.Pool.{MayServe, PoolCan, PoolLeaves}
 use Rattle.pool_rounds.proofs.Manning.{by_place, came_numbers, did_all, dones_of, ends_all, pool_posted, same_children, wired_end}
@@ -163,11 +163,6 @@ closes h setup links links' passes final fixed desks desks' over can left =
         let shape : numbers_of (left.main ∷ passes_of left.ends) ≡ 1 ∷ range_with_len 2 (length left.starts) = cc in
         let count : suc (length left.starts) ≡ 1 + length desks = omega (arith, many) in
         shape ∙ ap (range_with_len 1) count
-
-if_done : {P Q : Type 0} (o : Outcome) → (P → Q) → IfDone o P → IfDone o Q
-if_done Done f h = f h
-if_done NoMemory f h = tt
-if_done NoThreads f h = tt
 
 -- in terms of the core
 module _ (h : HallValue Entry Opening) (opening : Opening) (start : List Entry) (start_is : h.start ≡ start) (fixed_is : h.fixed ≡ opening) (passes : List CorePass) (final : List Entry) (fixed : Opening)

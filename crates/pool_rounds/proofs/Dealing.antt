@@ -1,5 +1,5 @@
 -- The first of a list, when the others were dealt from its end.
-use Rattle.std.proofs.Common.{◌≡◌, ℕ, ◌+◌, List, [], ◌∷◌, ◌++◌, refl, sym, ap, ◌∙◌, length, suc, arith, length-append}
+use Rattle.std.proofs.Common.{◌≡◌, ◌+◌, List, [], ◌∷◌, ◌++◌, refl, ap, ◌∙◌, length, suc, arith, length-append}
 
 -- all but the first were dealt, and the first was taken from what was left
 pub first_left : {X : Type 0} (all old new ys : List X) (x : X) → all ≡ old ++ ys → old ≡ new ++ x ∷ [] → length all ≡ 1 + length ys → (all ≡ x ∷ ys) × (new ≡ [])

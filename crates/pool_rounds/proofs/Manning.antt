@@ -1,5 +1,5 @@
 -- What the workers of a pool promise at their end, at the posts of a crew.
-use Rattle.std.proofs.Common.{◌≡◌, ℕ, ◌+◌, ◌-◌, ◌<◌, ◌≤◌, List, [], ◌∷◌, ◌++◌, refl, sym, ap, subst, ◌∙◌, true, false, arith, drop, length, zero, suc, Some, slice_get}
+use Rattle.std.proofs.Common.{◌≡◌, ℕ, ◌+◌, ◌-◌, ◌<◌, List, [], ◌∷◌, refl, sym, ap, subst, ◌∙◌, true, false, arith, drop, length, zero, suc, Some, slice_get}
 use Rattle.std.specs.Prelude.{All, nat_lt}
 use Rattle.std.specs.List.{range_with_len}
 use Rattle.std.proofs.lemmas.Bool.Decides.{nat_tests}
@@ -12,7 +12,7 @@ use Rattle.journal_model.specs.Shares.{are_own, is_of_child}
 use Rattle.link_roles.specs.Writings.{LoneWired, is_written_first}
 use Rattle.gathering.specs.Pairs.{Pairwise}
 use Rattle.gathering.specs.Posts.{Post, Lone, makes, pool_crew, lone_post}
-use Rattle.gathering.specs.Rounds.{CorePass, IsWired, LinkValue, LoneEnds, since}
+use Rattle.gathering.specs.Rounds.{CorePass, IsWired, LoneEnds, since}
 use Rattle.gathering.specs.Laws.{children_of, numbers_of}
 use Rattle.gathering.proofs.Halls.{drop_start}
 use Rattle.task_run.specs.declared.setup.Setup.{Setup}
