@@ -17,7 +17,7 @@ seen_start : (h : HallValue Entry Opening) (p : CorePass) → IsFresh h p → se
 seen_start h p f = ap (λ ks. p.start ++ flat ks) f.none ∙ append-nil p.start ∙ f.pass.2
 
 -- and where any pass of the hall began
-begun_at : (h : HallValue Entry Opening) (p q : CorePass) → IsFresh h p → IsPassOf h q → seen_of p ≡ q.start
+pub begun_at : (h : HallValue Entry Opening) (p q : CorePass) → IsFresh h p → IsPassOf h q → seen_of p ≡ q.start
 begun_at h p q f k = seen_start h p f ∙ sym k.2
 
 pub ears_come : EarsCome

@@ -1,10 +1,10 @@
 -- What the workers of a round promise, put together.
-use Rattle.std.proofs.Common.{◌≡◌, ℕ, ◌+◌, ◌<◌, ◌≤◌, List, [], ◌∷◌, refl, sym, ap, subst, ◌∙◌, true, false, ◌==◌, arith, drop, length}
+use Rattle.std.proofs.Common.{◌≡◌, ℕ, ◌+◌, ◌<◌, ◌≤◌, List, [], ◌∷◌, refl, sym, ap, subst, ◌∙◌, Bool, true, false, ◌==◌, arith, drop, length}
 use Rattle.std.specs.Prelude.{All, map, nat_lt}
 use Rattle.std.proofs.lemmas.Bool.Decides.{nat_tests}
 use Rattle.std.proofs.lemmas.List.Elements.{All-nil, All-cons, All-head, All-tail}
 use Rattle.ann_outside.specs.declared.file_desk.Call.{Call}
-use Rattle.hall.specs.Passes.{HallValue}
+use Rattle.hall.specs.Passes.{HallValue, seen_of}
 use Rattle.journal_model.specs.declared.entry.Entry.{Entry}
 use Rattle.journal_model.specs.declared.opening.Opening.{Opening}
 use Rattle.journal_model.specs.Makers.{made_by_number}
@@ -15,7 +15,7 @@ use Rattle.gathering.specs.Rounds.{CorePass, WorkerEnds, since}
 use Rattle.gathering.proofs.Halls.{drop_start}
 use Rattle.task_run.specs.declared.setup.Setup.{Setup}
 use Rattle.lone_work.specs.Works.{DeskTells, TaskDone, claims_in}
-use Rattle.crew_work.specs.Crews.{calls_of}
+use Rattle.crew_work.specs.Crews.{Worked, calls_of}
 use Rattle.task_rounds.specs.JournalRuns.{HasJournalRun}
 use Rattle.crew_work.proofs.Ending.{worker_ends}
 use Rattle.crew_roles.specs.Crewing.{AllManned, DeskDid, DesksDid, Manned, WorkerTells, calls_from}
@@ -29,16 +29,35 @@ worker_post c n far =
     rw (two, second, third) refl
 
 -- the calls of each number from `first` on are those that are told of the workers
-abbrev Agree : (ℕ → ℕ → List Call) → ℕ → List (List TaskDone) → Type 0
+abbrev pub Agree : (ℕ → ℕ → List Call) → ℕ → List (List TaskDone) → Type 0
 Agree calls first dones = (n t : ℕ) → first ≤ n → calls n t ≡ calls_from first dones n t
 
-agree_here : (calls : ℕ → ℕ → List Call) (first : ℕ) (done : List TaskDone) (dones : List (List TaskDone)) → Agree calls first (done ∷ dones) → (t : ℕ) → calls first t ≡ calls_of done t
+pub agree_here : (calls : ℕ → ℕ → List Call) (first : ℕ) (done : List TaskDone) (dones : List (List TaskDone)) → Agree calls first (done ∷ dones) → (t : ℕ) → calls first t ≡ calls_of done t
 agree_here calls first done dones h t = h first t (omega arith) ∙ (rw (same first) refl)
 
-agree_later : (calls : ℕ → ℕ → List Call) (first : ℕ) (done : List TaskDone) (dones : List (List TaskDone)) → Agree calls first (done ∷ dones) → Agree calls (first + 1) dones
+pub agree_later : (calls : ℕ → ℕ → List Call) (first : ℕ) (done : List TaskDone) (dones : List (List TaskDone)) → Agree calls first (done ∷ dones) → Agree calls (first + 1) dones
 agree_later calls first done dones h n t far =
     let other : (n == first) ≡ false = differ n first (λ e. absurd (omega (arith, e, far))) in
     h n t (omega (arith, far)) ∙ (rw other refl)
+
+-- what a pass made in the round is what it has seen of its own
+abbrev pub Own : List Entry → CorePass → Type 0
+Own rest p = made_by_number p.number rest ≡ made_by_number p.number (since p)
+
+-- there the desk of a worker did what the worker leaves
+pub desk_did : (o : Opening) (setup : Setup) (owns : Bool) (c number : ℕ) (rest : List Entry) (p : CorePass) (Before After : Type 0) (d e : DeskTells) → p.number ≡ number
+    → (w : Worked o setup owns p.number false c p.start (seen_of p) Before After d e) → Own rest p → DeskDid rest number w.done d e
+desk_did o setup owns c number rest p Before After d e number_is w own = record {
+  claimed = ap claims_in made ∙ w.did.claimed;
+  answered = ap answers_in made ∙ w.did.answered;
+  log_is = w.log_is;
+  caused = w.caused;
+}
+  where
+    made : made_by_number number rest ≡ made_by_number p.number w.did.moved.more
+    made =
+        ap (λ (n : ℕ). made_by_number n rest) (sym number_is) ∙ own
+        ∙ ap (made_by_number p.number) (ap (λ (x : List Entry). drop (length p.start) x) w.did.moved.is ∙ drop_start p.start w.did.moved.more)
 
 module _ (h : HallValue Entry Opening) (setup : Setup) (c : ℕ) where
   -- the tasks that each worker did
@@ -65,22 +84,8 @@ module _ (h : HallValue Entry Opening) (setup : Setup) (c : ℕ) where
       (ends_one calls first d e all.0 far (agree_here calls first all.0.worked.done (dones_of (first + 1) ds es all.1) agree))
       (ends_all calls (first + 1) ds es all.1 (omega (arith, far)) (agree_later calls first all.0.worked.done (dones_of (first + 1) ds es all.1) agree))
 
-  -- what a pass made in the round is what it has seen of its own
-  abbrev Own : List Entry → CorePass → Type 0
-  Own rest p = made_by_number p.number rest ≡ made_by_number p.number (since p)
-
   did_one : (rest : List Entry) (first : ℕ) (d : DeskTells) (e : WorkerTells) → (m : Manned h setup c first d e) → Own rest e.pass → DeskDid rest first m.worked.done d e.desk
-  did_one rest first d e m own = record {
-    claimed = ap claims_in made ∙ m.worked.did.claimed;
-    answered = ap answers_in made ∙ m.worked.did.answered;
-    log_is = m.worked.log_is;
-    caused = m.worked.caused;
-  }
-    where
-      made : made_by_number first rest ≡ made_by_number e.pass.number m.worked.did.moved.more
-      made =
-          ap (λ (n : ℕ). made_by_number n rest) (sym m.number_is) ∙ own
-          ∙ ap (made_by_number e.pass.number) (ap (λ (x : List Entry). drop (length e.pass.start) x) m.worked.did.moved.is ∙ drop_start e.pass.start m.worked.did.moved.more)
+  did_one rest first d e m own = desk_did h.fixed setup false c first rest e.pass (Unit {0}) (Unit {0}) d e.desk m.number_is m.worked own
 
   pub did_all : (rest : List Entry) (first : ℕ) (ds : List DeskTells) (es : List WorkerTells) → (all : AllManned h setup c first ds es) → All (λ (e : WorkerTells). Own rest e.pass) es
       → DesksDid rest first (dones_of first ds es all) ds (map (λ (e : WorkerTells). e.desk) es)

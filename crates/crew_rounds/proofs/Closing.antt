@@ -98,7 +98,7 @@ fresh_from h first (p ∷ ps) own told = (
   fresh_from h (first + 1) ps (All-tail (IsPassOf h) p ps own) (λ k q there. (let it = told (suc k) q there in ((let is = it.0 in omega (arith, is)), it.1))),
 )
 
-if_done : {P Q : Type 0} (o : Outcome) → (P → Q) → IfDone o P → IfDone o Q
+pub if_done : {P Q : Type 0} (o : Outcome) → (P → Q) → IfDone o P → IfDone o Q
 if_done Done f h = f h
 if_done NoMemory f h = tt
 if_done NoThreads f h = tt

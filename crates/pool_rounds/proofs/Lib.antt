@@ -1,0 +1,5 @@
+pub mod Dealing
+pub mod Backs
+pub mod Leaving
+pub mod Manning
+pub mod Closing

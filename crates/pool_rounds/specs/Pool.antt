@@ -1,0 +1,47 @@
+-- A round over a pool of children: where it may begin, and what it leaves.
+use Rattle.std.specs.Prelude.{ℕ, ◌≡◌, List, ◌++◌, Some, All}
+use Rattle.journal_model.specs.declared.verdict.Why.TheVariants.{Closed}
+use Rattle.journal_model.specs.declared.entry.Entry.{Entry}
+use Rattle.journal_model.specs.declared.opening.Opening.{Opening}
+use Rattle.journal_model.specs.Journal.{why_of}
+use Rattle.link_roles.specs.Moves.{IsSameLink}
+use Rattle.link_roles.specs.Writings.{LoneWired}
+use Rattle.gathering.specs.Pairs.{Pairwise}
+use Rattle.gathering.specs.Posts.{pool_crew}
+use Rattle.gathering.specs.Rounds.{LinkValue, IsAtRest, Round}
+use Rattle.gathering.specs.Laws.{Distinct, children_of}
+use Rattle.task_run.specs.declared.setup.Setup.{Setup}
+use Rattle.task_rounds.specs.JournalRuns.{HasJournalRun}
+use Rattle.lone_work.specs.Works.{DeskTells, TaskDone}
+use Rattle.crew_work.specs.Crews.{CanServe}
+use Rattle.crew_roles.specs.Crewing.{DesksDid, calls_from}
+
+-- The child of this link can serve in a round: it was got ready and not closed; and the link is wired to the journal, where each
+-- request was written before a line answered it.
+pub record MayServe (o : Opening) (journal : List Entry) (l : LinkValue) : Type 0 where
+  pub serves : CanServe o l.ear.child journal
+  pub unclosed : why_of journal l.ear.child ≡ Some Closed → ⊥
+  pub wired : LoneWired journal l.ear l.mouth
+
+-- A round over these links may begin: no task is busy and no job is open; the children differ, and each can serve.
+pub record PoolCan (o : Opening) (journal : List Entry) (links : List LinkValue) : Type 0 where
+  pub calm : IsAtRest journal
+  pub differ : Distinct (children_of links)
+  pub each : All (MayServe o journal) links
+
+-- each link is that of the child, and of the start, of the link at its place
+abbrev pub AreSameLinks : List LinkValue → List LinkValue → Type 0
+AreSameLinks links links' = Pairwise (λ (l l' : LinkValue). IsSameLink l.ear l'.ear l.mouth l'.mouth) links links'
+
+-- the links and the desks are as before
+abbrev pub AreAsBefore : {L K : Type 0} → List L → List L → List K → List K → Type 0
+AreAsBefore links links' desks desks' = (links' ≡ links) × (desks' ≡ desks)
+
+-- What Round says of a pool over these links, where each task that was taken has its run in the journal, with the calls that its
+-- worker's desk made for it; each desk made the calls of its worker's tasks, in their order, and no others; and in the journal each
+-- request to a child was written before a line answered it. The workers have the numbers from 2 on.
+pub record PoolLeaves (o : Opening) (setup : Setup) (numbers : List ℕ) (start rest : List Entry) (links links' : List LinkValue) (desks desks' : List DeskTells) : Type 0 where
+  pub dones : List (List TaskDone)
+  pub round : Round o (HasJournalRun o setup (calls_from 2 dones)) (pool_crew (children_of links)) numbers start rest links'
+  pub desks_did : DesksDid rest 2 dones desks desks'
+  pub wired : All (λ (l : LinkValue). LoneWired (start ++ rest) l.ear l.mouth) links'
