@@ -1,0 +1,32 @@
+-- What is so of a run by many workers that went well from outside, and how its tasks are answered then.
+use Rattle.std.specs.Prelude.{ℕ, ◌<◌, ◌+◌, List, [], ◌∷◌, ◌++◌, All}
+use Rattle.journal_model.specs.declared.entry.Entry.{Entry}
+use Rattle.journal_model.specs.declared.opening.Opening.{Opening}
+use Rattle.task_run.specs.declared.setup.Setup.{Setup}
+use Rattle.lone_work.specs.Works.{DeskTells, TaskDone}
+use Rattle.task_laws.specs.LoneWell.{AreKeysRead, ChildrenWell, IsDeskWell, IsDoneWell}
+use Rattle.task_laws.specs.RunWell.{AreAskedWell}
+use Rattle.job_rounds.specs.Desks.{DesksDid}
+
+-- what all desks did, one behind the other
+abbrev pub all_done : (o : Opening) (setup : Setup) (limit : ℕ) (journal past entries : List Entry) (k : ℕ) (desks desks' : List DeskTells) → DesksDid o setup limit journal past entries k desks desks' → List TaskDone
+all_done o setup limit journal past entries k [] [] did = []
+all_done o setup limit journal past entries k [] (e ∷ es) did = []
+all_done o setup limit journal past entries k (d ∷ ds) [] did = []
+all_done o setup limit journal past entries k (d ∷ ds) (e ∷ es) did = did.0.done ++ all_done o setup limit journal past entries (k + 1) ds es did.1
+
+-- A start was allowed; each gave a child, none refused to get ready, ended before it was closed, or couldn't be written to; each request of a
+-- task was done, but that what a store asks before it stores may be answered in any way; and all went well at the desks of these tasks, by
+-- whichever number they were run.
+pub record JobsWentWell (o : Opening) (setup : Setup) (limit : ℕ) (journal : List Entry) (done : List TaskDone) : Type 0 where
+  pub starts : 0 < limit
+  pub keys : AreKeysRead o
+  pub children : ChildrenWell journal
+  pub asked : AreAskedWell o journal
+  pub desks : All (λ (r : TaskDone). (number : ℕ) → IsDeskWell o setup journal number r.task r.calls) done
+
+-- Then each of the tasks that these desks did is answered by its success, or by want of memory.
+abbrev pub JobsSucceed : Opening → Setup → ℕ → List Entry → List Entry → List Entry → ℕ → List DeskTells → List DeskTells → Type 0
+JobsSucceed o setup limit journal past entries k desks desks' =
+    (did : DesksDid o setup limit journal past entries k desks desks') → JobsWentWell o setup limit journal (all_done o setup limit journal past entries k desks desks' did)
+    → All (IsDoneWell o) (all_done o setup limit journal past entries k desks desks' did)

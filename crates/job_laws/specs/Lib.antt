@@ -1,0 +1,2 @@
+pub mod JobsWell
+pub mod JobsKeep
