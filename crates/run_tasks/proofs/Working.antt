@@ -17,6 +17,7 @@ use Rattle.run_tasks.specs.Inputs.{InputFlow, run_setup}
 use Rattle.run_tasks.specs.Runs.{MadeValue, AreFresh, IsAsBefore, IsRunOf, IsUnbegun, LacksJournal, EndsRun, IfUnwhole, table_tells}
 use Rattle.run_tasks.specs.Beginnings.{IsReady, BeginsRun}
 use Rattle.run_tasks.specs.Workings.{IsWorked, IsUnjournaled, Finishes, EndsWork, IsStopped, GoesOn}
+use Rattle.job_laws.proofs.Succeeding.{jobs_keep, jobs_succeed}
 use Rattle.run_tasks.specs.declared.made.RunEnd.{RunEnd}
 use Rattle.run_tasks.specs.declared.made.RunEnd.TheVariants.{BadKept, KeptTooLarge, FileFailed, InputFailed, Refused, Memory, Done}
 use Rattle.run_tasks.proofs.Kept.{as_before}
@@ -86,6 +87,8 @@ module _ (words : RunWords) (clock : Option ℕ) (told : Option Files) (flow : I
     fresh = worked.fresh;
     ran = subst (λ (n : ℕ). RanJobs opening (run_setup words n) true words.starts journal worked.before (map table_tells workers)) (ap (λ (o : Opening). o.stamp) ready.begins.is) worked.ran;
     parts = worked.parts;
+    succeeds = jobs_succeed opening (run_setup words ready.stamp) words.starts journal [] journal 1 worked.before (map table_tells workers);
+    keeps = jobs_keep opening (run_setup words ready.stamp) journal worked.ran.legal;
   }
 
   from_work : (opening : Opening) (table : TableValue) (workers : List TableValue) (made : MadeValue) (end : RunEnd) → IsReady words clock told flow opening

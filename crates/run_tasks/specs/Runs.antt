@@ -34,6 +34,8 @@ use Rattle.child_end.specs.Wires.{WireValue}
 use Rattle.child_end.specs.Programs.{Leaves}
 use Rattle.child_end.specs.Outsides.{OutsideValue, TableValue}
 use Rattle.lone_work.specs.Works.{DeskTells, desk_tells}
+use Rattle.job_laws.specs.JobsKeep.{JobsKeep}
+use Rattle.job_laws.specs.JobsWell.{JobsSucceed}
 use Rattle.job_rounds.specs.JobRuns.{RanJobs}
 use Rattle.run_tasks.specs.Inputs.{InputFlow, IsUnread, IsTaken, IsTextFor, IsRunOpening, run_setup}
 use Rattle.run_tasks.specs.declared.made.RunEnd.{RunEnd}
@@ -79,7 +81,8 @@ abbrev pub table_tells : TableValue → DeskTells
 table_tells table = desk_tells table.log table.counts
 
 -- From the opening that the words, the kept file, the input and the clock give, the tasks were done over one child at a time, by as many
--- workers as the words say, each with a fresh desk, and each job's part fits.
+-- workers as the words say, each with a fresh desk, and each job's part fits. Where all went well from outside, each task succeeded, or
+-- memory was wanted; where the remote was faithful, gets kept what stores sent.
 pub record IsRunOf (words : RunWords) (clock : Option ℕ) (told : Option Files) (flow : InputFlow) (workers : List TableValue) (journal : List Entry) : Type 0 where
   pub stamp : ℕ
   pub at : IfSome clock (λ n. stamp ≡ n)
@@ -95,6 +98,8 @@ pub record IsRunOf (words : RunWords) (clock : Option ℕ) (told : Option Files)
   pub fresh : AreFresh before
   pub ran : RanJobs opening (run_setup words stamp) true words.starts journal before (map table_tells workers)
   pub parts : (c j : ℕ) → JobFits (replies_at opening journal) journal c j
+  pub succeeds : JobsSucceed opening (run_setup words stamp) words.starts journal [] journal 1 before (map table_tells workers)
+  pub keeps : JobsKeep opening (run_setup words stamp) journal
 
 -- ---- the kept file
 
