@@ -31,6 +31,7 @@ fn main(rt: HostRuntime) -> ExitCode {
     let mut err = OsErrors::new(rt.stderr());
     let mut clock = OsClock::new(&rt);
     let closing = special(
+        &rt,
         rt.alloc(),
         words.as_slice(),
         OsPrograms::new(&rt),

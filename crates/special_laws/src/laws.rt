@@ -8,7 +8,16 @@ ghost use Rattle.journal_model.specs.Wires.{is_heard_in_turn};
 ghost use Rattle.journal_model.specs.Rows.{sample_key, by_main, greeting, check_present, not_closed, no_disk, away, out_of_disk};
 ghost use Rattle.lone_rounds.specs.Rounds.{ZeroRun};
 ghost use Rattle.special_cli.specs.Endings.{IsChecked, IsTold, LacksMemory};
+ghost use Rattle.ann_outside.specs.Files.{Files};
+ghost use Rattle.child_end.specs.Outsides.{TableValue};
 ghost use Rattle.child_end.specs.Programs.{HaveStarted};
+ghost use Rattle.child_end.specs.Wires.{is_mains};
+ghost use Rattle.cli_words.specs.declared.command.RunWords.{RunWords};
+ghost use Rattle.journal_model.specs.declared.entry.Entry.{Entry};
+ghost use Rattle.run_tasks.specs.Inputs.{InputFlow};
+ghost use Rattle.run_tasks.specs.Runs.{IsRunOf};
+ghost use Rattle.special_cli.specs.Informs.{IsInformed};
+ghost use Rattle.special_cli.specs.Setups.{IsSetup};
 ghost use Rattle.special_laws.specs.Rows.{gone_early, unstarted, present_wire, HasWires};
 
 /// A check that found its key is told by its one answer, whole, or cut off where a write failed; by no other answer and with no
@@ -74,4 +83,13 @@ pub fn early_lines_are_out_of_turn()
     ensures present { is_heard_in_turn check_present 1 ≡ true }
     ensures early { is_heard_in_turn (greeting ++ by_main (Got 1 (codes "DEBUG x")) ∷ []) 1 ≡ false }
     ensures other { is_heard_in_turn (greeting ++ by_main (Got 1 (codes "DEBUG x")) ∷ []) 2 ≡ true }
+{}
+
+/// In a check, an info and an init, and in a run with one job, the main thread serves each child alone. There a request is written
+/// before it is answered (`written` of a wire).
+pub fn one_thread_serves_alone()
+    ensures check { (told : Option ℕ) (key : List ℕ) (journal : List Entry) (c : ℕ) → IsChecked told key journal → is_mains journal c ≡ true }
+    ensures info { (key : Option (List ℕ)) (journal : List Entry) (c : ℕ) → IsInformed key journal → is_mains journal c ≡ true }
+    ensures init { (journal : List Entry) (c : ℕ) → IsSetup journal → is_mains journal c ≡ true }
+    ensures run { (words : RunWords) (clock : Option ℕ) (told : Option Files) (input : InputFlow) (workers : List TableValue) (journal : List Entry) (c : ℕ) → IsRunOf words clock told input workers journal → words.jobs ≡ 1 → is_mains journal c ≡ true }
 {}
