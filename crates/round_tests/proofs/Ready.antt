@@ -11,7 +11,7 @@ use Rattle.journal_model.specs.declared.entry.What.TheVariants.{Ask, End}
 use Rattle.journal_model.specs.declared.entry.Entry.{Entry}
 use Rattle.journal_model.specs.declared.opening.Opening.{Opening}
 use Rattle.journal_model.specs.Halves.{EarValue, MouthValue}
-use Rattle.journal_model.specs.Journal.{asks, asked_jobs, is_asked, is_ended, is_open, is_tagged, open_jobs, why_of}
+use Rattle.journal_model.specs.Journal.{asks, asked_jobs, is_ended, is_open, is_tagged, open_jobs, why_of}
 use Rattle.journal_model.specs.Legality.{Legal}
 use Rattle.journal_model.specs.Shares.{by_link}
 use Rattle.journal_model.proofs.Linking.{unended}
@@ -20,6 +20,7 @@ use Rattle.journal_model.proofs.Testing.{all-each, by_either}
 use Rattle.link_roles.specs.Writings.{LoneWired}
 use Rattle.child_start.specs.Greetings.{Greeted, IsReady, is_greeting_line_for, is_of_greeting}
 use Rattle.child_start.specs.declared.greeting.Mode.TheVariants.{Serve}
+use Rattle.door_asker.specs.KnownLayouts.{IsBook}
 use Rattle.lone_work.specs.Works.{AreTasks, CanWork}
 use Rattle.lone_rounds.specs.Starting.{is_unclosed}
 use Rattle.lone_rounds.proofs.Apart.{ended_unclosed, is_unclosed_end, link_unclosed}
@@ -43,9 +44,9 @@ asks_own c d far (Ask child job task line) h =
     rw other refl
 asks_own c d far w h = refl
 
-module _ (o : Opening) (new : List Entry) (e : EarValue) (m : MouthValue) (legal : Legal o new) (g : Greeted [] new 0 true e.child) (ready : IsReady new e.child) where
+module _ (o : Opening) (new : List Entry) (e : EarValue) (m : MouthValue) (legal : Legal o new) (book : IsBook o.notes) (g : Greeted [] new 0 true e.child) (ready : IsReady new e.child) where
   works : CanWork o e.child new
-  works = greeting_works [] new true e.child g o legal ready (λ t. refl)
+  works = greeting_works [] new true e.child g o legal ready book (λ t. refl)
 
   shut : (d j : ℕ) → is_open new d j ≡ false
   shut d j = by_either (e.child == d) own other
@@ -82,7 +83,7 @@ module _ (o : Opening) (new : List Entry) (e : EarValue) (m : MouthValue) (legal
   greeted_can tagged wired = record {
     calm = record { idle = works.rest; shut = shut };
     begins = record { started = works.started; tagged = tagged; turn = wired.link.turn; unclosed = unclosed };
-    serves = record { legal = works.legal; number = works.number; started = works.started; prepared = works.prepared };
+    serves = record { legal = works.legal; number = works.number; started = works.started; prepared = works.prepared; book = works.book };
     ear = wired.link.ear;
     mouth = wired.link.mouth;
   }

@@ -1,6 +1,7 @@
 // A round over a child that answers by its cues, and what it left.
 ghost use Rattle.std.specs.Prelude.{◌≡◌, ◌≤◌, ◌<◌, [], IfOk, vec_len, false};
 ghost use Rattle.annex_model.specs.Lines.{has_newline};
+ghost use Rattle.journal_model.specs.Legality.{Legal};
 ghost use Rattle.crew_rounds.specs.Tagged.{TaggedCan, link_of};
 
 use crate::children::{TAGGED, add_cues};
@@ -10,6 +11,7 @@ use ann_outside::{MemDesk, Programs};
 use child_start::{Greeting, Mode, greet};
 use crew_rounds::{TaggedRound, round_tagged_some};
 use cue_programs::{Cue, CueInlet, CueOutlet, CuePrograms, CutOutlet, CutPrograms};
+use door_asker::know_book;
 use host_core::Core;
 use link_roles::Lone;
 use std::alloc::Global;
@@ -61,20 +63,20 @@ where
     P::Inlet: Drop,
     P::Outlet: Drop,
     P::Stub: Drop,
-    requires { core.old.journal ≡ [] }
+    requires first { core.old.journal ≡ [] }
+    requires legal { Legal core.old.opening core.old.journal }
     ensures can { TaggedCan core.new.opening core.new.journal (link_of result.ear result.mouth) }
     ensures opening { core.new.opening ≡ core.old.opening }
 {
+    know_book(&core.opening().notes);
     match greet(alloc, programs, "child", core, 0, true, Mode::Serve) {
         Greeting::Ready {
             link,
             stub: _,
-            tagged,
-        } => {
-            assert!(rt; tagged);
-            link
-        }
-        Greeting::Refused { .. }
+            tagged: true,
+        } => link,
+        Greeting::Ready { .. }
+        | Greeting::Refused { .. }
         | Greeting::Ended { .. }
         | Greeting::Unsent { .. }
         | Greeting::StartFault
