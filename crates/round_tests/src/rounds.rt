@@ -73,10 +73,15 @@ where
         Greeting::Ready {
             link,
             stub: _,
-            tagged: true,
-        } => link,
-        Greeting::Ready { .. }
-        | Greeting::Refused { .. }
+            tagged,
+        } => {
+            if tagged {
+                link
+            } else {
+                panic!(rt; "the child takes no tags")
+            }
+        }
+        Greeting::Refused { .. }
         | Greeting::Ended { .. }
         | Greeting::Unsent { .. }
         | Greeting::StartFault
