@@ -1,5 +1,5 @@
 -- Behind the greeting of the first child, which takes tags, a round may begin.
-use Rattle.std.proofs.Common.{◌≡◌, ℕ, List, [], ◌∷◌, refl, sym, ap, subst, ◌∙◌, Bool, true, false, not, ◌==◌, cond, Some, None, Option}
+use Rattle.std.proofs.Common.{◌≡◌, ℕ, List, [], ◌∷◌, refl, sym, ap, subst, ◌∙◌, true, false, ◌==◌, Some, None}
 use Rattle.std.specs.Prelude.{◌&&◌, All}
 use Rattle.std.specs.List.{list_all}
 use Rattle.std.proofs.lemmas.List.Elements.{All-head, All-tail}
@@ -13,9 +13,8 @@ use Rattle.journal_model.specs.declared.opening.Opening.{Opening}
 use Rattle.journal_model.specs.Halves.{EarValue, MouthValue}
 use Rattle.journal_model.specs.Journal.{asks, asked_jobs, is_ended, is_open, is_tagged, open_jobs, why_of}
 use Rattle.journal_model.specs.Legality.{Legal}
-use Rattle.journal_model.specs.Shares.{by_link}
 use Rattle.journal_model.proofs.Linking.{unended}
-use Rattle.journal_model.proofs.Looks.{both, differ, same_number, unasked_closed}
+use Rattle.journal_model.proofs.Looks.{both, same_number, unasked_closed}
 use Rattle.journal_model.proofs.Testing.{all-each, by_either}
 use Rattle.link_roles.specs.Writings.{LoneWired}
 use Rattle.child_start.specs.Greetings.{Greeted, IsReady, is_greeting_line_for, is_of_greeting}

@@ -1,5 +1,4 @@
-use Rattle.std.proofs.Common.{◌≡◌, ◌∙◌, List, ap, subst, sym}
-use Rattle.task_text.specs.declared.task.Task.{Task}
+use Rattle.std.proofs.Common.{◌≡◌, ◌∙◌, ap, subst, sym}
 use Rattle.journal_model.specs.declared.opening.Opening.{Opening}
 use Rattle.lone_work.specs.Works.{AreTasks}
 use Rattle.round_tests.proofs.Ready.{are_tasks}
