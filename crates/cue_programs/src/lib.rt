@@ -3,7 +3,9 @@
 
 mod child;
 mod cue;
+mod cut;
 mod programs;
 
 pub use cue::Cue;
+pub use cut::{CutOutlet, CutPrograms};
 pub use programs::{CueInlet, CueOutlet, CuePrograms, CueStub};

@@ -6,13 +6,13 @@ ghost use Rattle.journal_model.specs.Replies.{IsLineIdentity};
 ghost use Rattle.journal_model.specs.Limits.{most_tasks};
 ghost use Rattle.link_tests.specs.Seats.{HasStarted, IsFreshOf};
 
-use crate::{CutOutlet, CutPrograms, Part, Thread, begin, seat_of};
+use crate::{Part, Thread, begin, seat_of};
 use ann_key::{Bytes, NoMemory, Text};
 use ann_outside::{Sink, Source};
 use child_start::{Greeting, Mode, greet};
 use chunk_log::NoteBook;
 use crew_round::{Back, Crew, run_pool, run_round};
-use cue_programs::{Cue, CueInlet, CueOutlet, CuePrograms};
+use cue_programs::{Cue, CueInlet, CueOutlet, CuePrograms, CutOutlet, CutPrograms};
 use hall::{Hall, Pass};
 use host_core::{Core, Event};
 use journal_look::{is_started, starts_so_far};

@@ -1,0 +1,88 @@
+-- Behind the greeting of the first child, which takes tags, a round may begin.
+use Rattle.std.proofs.Common.{◌≡◌, ℕ, List, [], ◌∷◌, refl, sym, ap, subst, ◌∙◌, true, false, ◌==◌, Some, None}
+use Rattle.std.specs.Prelude.{◌&&◌, All}
+use Rattle.std.specs.List.{list_all}
+use Rattle.std.proofs.lemmas.List.Elements.{All-head, All-tail}
+use Rattle.task_text.specs.declared.task.Task.{Task}
+use Rattle.task_text.specs.TaskLines.{IsTask}
+use Rattle.journal_model.specs.declared.verdict.Why.TheVariants.{Closed}
+use Rattle.journal_model.specs.declared.entry.What.{What}
+use Rattle.journal_model.specs.declared.entry.What.TheVariants.{Ask, End}
+use Rattle.journal_model.specs.declared.entry.Entry.{Entry}
+use Rattle.journal_model.specs.declared.opening.Opening.{Opening}
+use Rattle.journal_model.specs.Halves.{EarValue, MouthValue}
+use Rattle.journal_model.specs.Journal.{asks, asked_jobs, is_ended, is_open, is_tagged, open_jobs, why_of}
+use Rattle.journal_model.specs.Legality.{Legal}
+use Rattle.journal_model.proofs.Linking.{unended}
+use Rattle.journal_model.proofs.Looks.{both, same_number, unasked_closed}
+use Rattle.journal_model.proofs.Testing.{all-each, by_either}
+use Rattle.link_roles.specs.Writings.{LoneWired}
+use Rattle.child_start.specs.Greetings.{Greeted, IsReady, is_greeting_line_for, is_of_greeting}
+use Rattle.child_start.specs.declared.greeting.Mode.TheVariants.{Serve}
+use Rattle.door_asker.specs.KnownLayouts.{IsBook}
+use Rattle.lone_work.specs.Works.{AreTasks, CanWork}
+use Rattle.lone_rounds.specs.Starting.{is_unclosed}
+use Rattle.lone_rounds.proofs.Apart.{ended_unclosed, is_unclosed_end, link_unclosed}
+use Rattle.lone_rounds.proofs.Stinting.{greeting_works}
+use Rattle.lone_rounds.proofs.Tests.{each_none}
+use Rattle.crew_rounds.specs.Tagged.{TaggedCan, link_of}
+
+pub are_tasks : (tasks : List Task) → All IsTask tasks → AreTasks tasks
+are_tasks [] all = tt
+are_tasks (task ∷ tasks) all = (All-head IsTask task tasks all, are_tasks tasks (All-tail IsTask task tasks all))
+
+greeting_unclosed : (c : ℕ) (w : What) → is_of_greeting c w ≡ true → is_unclosed_end w ≡ true
+greeting_unclosed c (End child why) h = link_unclosed c (End child why) h
+greeting_unclosed c w h = refl
+
+-- a greeting asks its own child alone
+asks_own : (c d : ℕ) → (c == d) ≡ false → (w : What) → is_of_greeting c w ≡ true → asks d w ≡ None
+asks_own c d far (Ask child job task line) h =
+    let own : child ≡ c = same_number child c (both (child == c) (task == 0 && is_greeting_line_for Serve job line) h).0 in
+    let other : (child == d) ≡ false = ap (λ (n : ℕ). n == d) own ∙ far in
+    rw other refl
+asks_own c d far w h = refl
+
+module _ (o : Opening) (new : List Entry) (e : EarValue) (m : MouthValue) (legal : Legal o new) (book : IsBook o.notes) (g : Greeted [] new 0 true e.child) (ready : IsReady new e.child) where
+  works : CanWork o e.child new
+  works = greeting_works [] new true e.child g o legal ready book (λ t. refl)
+
+  shut : (d j : ℕ) → is_open new d j ≡ false
+  shut d j = by_either (e.child == d) own other
+    where
+      own : (e.child == d) ≡ true → is_open new d j ≡ false
+      own is = subst (λ (n : ℕ). is_open new n j ≡ false) (same_number e.child d is) (unopened (works.idle))
+        where
+          unopened : open_jobs new e.child ≡ [] → is_open new e.child j ≡ false
+          unopened none = rw none refl
+
+      other : (e.child == d) ≡ false → is_open new d j ≡ false
+      other far =
+          let none : asked_jobs new d ≡ [] = ap (λ (l : List Entry). asked_jobs l d) g.grown ∙ each_none (asks d) (is_of_greeting e.child) (asks_own e.child d far) g.more g.own in
+          unasked_closed d j new (rw none refl)
+
+  unclosed : why_of new e.child ≡ Some Closed → ⊥
+  unclosed is = by_either (is_ended new e.child) over still
+    where
+      ends : list_all (λ (x : Entry). is_unclosed_end x.what) new ≡ true
+      ends =
+          subst (λ (l : List Entry). list_all (λ (x : Entry). is_unclosed_end x.what) l ≡ true) (sym g.grown)
+          (all-each (λ (x : Entry). is_of_greeting e.child x.what) (λ (x : Entry). is_unclosed_end x.what) (λ x h. greeting_unclosed e.child x.what h) g.more g.own)
+
+      over : is_ended new e.child ≡ true → ⊥
+      over h =
+          let open_end : is_unclosed (why_of new e.child) ≡ true = ended_unclosed e.child new ends h in
+          let closed : is_unclosed (why_of new e.child) ≡ false = ap is_unclosed is in
+          absurd cc
+
+      still : is_ended new e.child ≡ false → ⊥
+      still h = let none : why_of new e.child ≡ None = unended new e.child h in absurd cc
+
+  pub greeted_can : is_tagged new e.child ≡ true → LoneWired new e m → TaggedCan o new (link_of e m)
+  greeted_can tagged wired = record {
+    calm = record { idle = works.rest; shut = shut };
+    begins = record { started = works.started; tagged = tagged; turn = wired.link.turn; unclosed = unclosed };
+    serves = record { legal = works.legal; number = works.number; started = works.started; prepared = works.prepared; book = works.book };
+    ear = wired.link.ear;
+    mouth = wired.link.mouth;
+  }

@@ -1,0 +1,12 @@
+use Rattle.std.proofs.Common.{◌≡◌, ◌∙◌, ap, subst, sym}
+use Rattle.journal_model.specs.declared.opening.Opening.{Opening}
+use Rattle.lone_work.specs.Works.{AreTasks}
+use Rattle.round_tests.proofs.Ready.{are_tasks}
+use Rattle.round_tests.proofs.rounds.round.Goals as goal
+
+pub round_tagged_some-requires-clause-tasks : goal.round_tagged_some-requires-clause-tasks
+round_tagged_some-requires-clause-tasks g c κs within =
+    let copied : c.view.result.now ≡ c.in_ok-opening.opening.tasks = c.view.ensures ∙ c.in_ok-tasks.ensures in (
+      ap (λ (o : Opening). o.tasks) (c.ready-link.ensures.opening ∙ c.in_ok-core.ensures.opening) ∙ sym copied,
+      subst AreTasks (sym copied) (are_tasks c.in_ok-opening.opening.tasks c.in_ok-opening.ensures.tasks),
+    )

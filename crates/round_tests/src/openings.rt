@@ -1,0 +1,72 @@
+// What runs begin with: tasks as their lines say, and the remote without a UUID.
+ghost use Rattle.std.specs.Prelude.{◌≤◌, All, IfOk, OnOk, length};
+ghost use Rattle.task_text.specs.TaskLines.{IsTask};
+ghost use Rattle.chunk_log.specs.ChunkLines.{IsWrittenUuid};
+ghost use Rattle.journal_model.specs.Beginnings.{MayBegin};
+ghost use Rattle.journal_model.specs.Limits.{most_tasks};
+ghost use Rattle.journal_model.specs.Replies.{IsLineIdentity};
+
+use ann_key::{NoMemory, Text};
+use chunk_log::NoteBook;
+use journal_model::{Identity, Opening};
+use reg_file::Registers;
+use std::alloc::Global;
+use task_text::{Task, TaskError, Tasks, read_task};
+
+/// What a run of the tasks begins with that the lines spell.
+pub(crate) fn opening(alloc: Global, lines: &[String]) -> Result<Opening, NoMemory>
+    ensures { IfOk result MayBegin }
+{
+    let list = tasks(alloc, lines)?;
+    let identity = identity(alloc)?;
+    Ok(Opening {
+        tasks: Tasks::new(list),
+        registers: Registers::new(alloc),
+        notes: NoteBook::new(alloc),
+        identity,
+        stamp: 1_700_000_000_000_000,
+    })
+}
+
+#[tactic(auto, using(chunk_log::proofs::Uuids::nil_written))]
+fn identity(alloc: Global) -> Result<Identity, NoMemory>
+    ensures lines { IfOk result IsLineIdentity }
+    ensures uuid { IfOk result (λ i. IsWrittenUuid i.uuid) }
+{
+    Ok(Identity {
+        uuid: Text::copy(alloc, "00000000-0000-0000-0000-000000000000")?,
+        name: Text::copy(alloc, "remote")?,
+        gitdir: Text::copy(alloc, ".git")?,
+    })
+}
+
+fn tasks(alloc: Global, lines: &[String]) -> Result<Vec<Task>, NoMemory>
+    ensures few { IfOk result (λ v. length v.items ≤ most_tasks) }
+    ensures fit { IfOk result (λ v. All IsTask v.items) }
+{
+    let mut list = Vec::new(alloc);
+    for line in lines {
+        add(alloc, &mut list, line.as_bytes())?;
+    }
+    Ok(list)
+}
+
+// Adds the task that the line spells, if it spells one and there is place.
+fn add(alloc: Global, list: &mut Vec<Task>, line: &[u8]) -> Result<(), NoMemory>
+    requires few { length list.old.items ≤ most_tasks }
+    requires fit { All IsTask list.old.items }
+    ensures few { OnOk result (length list.new.items ≤ most_tasks) }
+    ensures fit { OnOk result (All IsTask list.new.items) }
+{
+    if list.len() >= 65_536 {
+        return Ok(());
+    }
+    match read_task(alloc, line) {
+        Ok(task) => {
+            list.push(task)?;
+            Ok(())
+        }
+        Err(TaskError::NoMemory) => Err(NoMemory),
+        Err(_) => Ok(()),
+    }
+}
