@@ -9,7 +9,6 @@ use std::process::Abort;
 use std::sync::Wait;
 use std::test::Fail;
 use std::thread::Threads;
-use std::time::{Duration, Instant};
 
 // Each task was answered once, with what the child said of its key.
 fn expect_each(rt: &impl Abort, journal: &Journal, tasks: u32) {
@@ -79,16 +78,5 @@ fn few_threads(rt: HostRuntime) -> Result<(), Fail> {
     for (threads, outcome) in THREADS.iter() {
         play(&rt, rt.alloc(), 8, *threads, 20, *outcome)?;
     }
-    Ok(())
-}
-
-// Each of 40 checks has its mouth, its ear and its worker wait for another's entry. Had one of them slept for the 50 ms after
-// which a rest ends by itself, that would be two seconds.
-#[test]
-fn no_rest_is_slept_out(rt: HostRuntime) -> Result<(), Fail> {
-    let begun = Instant::now(&rt)?;
-    play(&rt, rt.alloc(), 1, usize::MAX, 40, Outcome::Done)?;
-    let took = begun.elapsed(&rt)?;
-    assert!(rt; took < Duration::from_millis(1500), "woken late");
     Ok(())
 }
