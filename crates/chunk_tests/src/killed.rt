@@ -213,6 +213,7 @@ fn is_answered(rt: &HostRuntime, step: &Step) -> Result<bool, NoMemory> {
     let mut err = MemSink::new(alloc, 4096, Vec::new(alloc));
     let mut clock = MemClock::new(0);
     let closing = special(
+        rt,
         alloc,
         words.as_slice(),
         OsPrograms::new(rt),

@@ -11,23 +11,36 @@ use memory::Left;
 use scene::Scene;
 use std::alloc::Global;
 use std::io;
+use std::marker::Sync;
+use std::sync::Wait;
+use std::thread::Threads;
 
-fn print_row(rt: &(impl Print + AllocGlobal), scene: &mut Scene, row: &str) -> io::Result<()> {
+fn print_row(
+    rt: &(impl Print + AllocGlobal + Threads + Wait + Sync),
+    scene: &mut Scene,
+    row: &str,
+) -> io::Result<()> {
     let (word, rest) = match row.split_once(' ') {
         Some(parts) => parts,
         None => (row, ""),
     };
-    match said(rt.alloc(), scene, word, rest) {
+    match said(rt, rt.alloc(), scene, word, rest) {
         Ok(said) => println!(rt; "{row}{said}"),
         Err(_) => println!(rt; "{row} takes memory that is not there"),
     }
 }
 
 // What is printed behind a row; nothing behind a heading, and behind one that says how the next child is.
-fn said(alloc: Global, scene: &mut Scene, word: &str, rest: &str) -> Result<String, NoMemory> {
+fn said<R: Threads + Wait + Sync>(
+    rt: &R,
+    alloc: Global,
+    scene: &mut Scene,
+    word: &str,
+    rest: &str,
+) -> Result<String, NoMemory> {
     match word {
-        "special" => scene.call(alloc, rest),
-        "audited" => scene.audit(alloc, rest),
+        "special" => scene.call(rt, alloc, rest),
+        "audited" => scene.audit(rt, alloc, rest),
         "journal" | "asked" | "rest" | "restlength" => match scene.left() {
             Some(left) => left_text(alloc, left, word),
             None => Ok(String::new(alloc)),
@@ -47,7 +60,7 @@ fn said(alloc: Global, scene: &mut Scene, word: &str, rest: &str) -> Result<Stri
     }
 }
 
-// The text of the file of that name, as the last call left it: on desk 0, or on the worker's.
+// The text of the file of that name, as the last call left it: on desk 0, or on the first worker's.
 fn content(alloc: Global, left: &Left, word: &str, name: &str) -> Result<String, NoMemory> {
     let place = if word == "kept" { 0 } else { 1 };
     match left.tables.get(place) {
@@ -78,7 +91,7 @@ fn left_text(alloc: Global, left: &Left, word: &str) -> Result<String, NoMemory>
     }
 }
 
-fn print_rows(rt: &(impl Input + Print + AllocGlobal)) -> io::Result<()> {
+fn print_rows(rt: &(impl Input + Print + AllocGlobal + Threads + Wait + Sync)) -> io::Result<()> {
     let mut scene = Scene::new(rt.alloc());
     for row in rt.lines(rt.alloc()) {
         print_row(rt, &mut scene, row?.as_str())?;

@@ -6,7 +6,10 @@ use ann_outside::{MemChild, MemClock, MemDesk, MemDesks, MemPrograms, MemSink, M
 use entry_text::text_of;
 use special_cli::special;
 use std::alloc::Global;
+use std::marker::Sync;
 use std::str;
+use std::sync::Wait;
+use std::thread::Threads;
 
 /// What a call leaves: the journal as text, the desks, and of the wires the children's numbers, what was written to them and what
 /// was read and not fed.
@@ -99,7 +102,12 @@ pub(crate) struct Objects {
 }
 
 /// The call with the words between bars.
-pub(crate) fn run(alloc: Global, words: &str, objects: Objects) -> Result<Left, NoMemory> {
+pub(crate) fn run<R: Threads + Wait + Sync>(
+    rt: &R,
+    alloc: Global,
+    words: &str,
+    objects: Objects,
+) -> Result<Left, NoMemory> {
     let words = words_of(alloc, words)?;
     let Objects {
         programs,
@@ -113,6 +121,7 @@ pub(crate) fn run(alloc: Global, words: &str, objects: Objects) -> Result<Left, 
     let mut err = MemSink::new(alloc, 7, Vec::new(alloc));
     let mut clock = MemClock::new(1_700_000_000_000_000);
     let closing = special(
+        rt,
         alloc,
         words.as_slice(),
         programs,

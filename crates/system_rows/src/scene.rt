@@ -4,6 +4,9 @@ use crate::words;
 use ann_key::NoMemory;
 use ann_outside::{MemChild, MemDesks, MemPrograms};
 use std::alloc::Global;
+use std::marker::Sync;
+use std::sync::Wait;
+use std::thread::Threads;
 
 const KEY: &str = "SHA256E-s0--e3b0c44298fc1c149afbf4c8996fb92427ae41e4649b934ca495991b7852b855";
 
@@ -24,7 +27,7 @@ pub(crate) struct Scene {
     // The files of desk 0, and its calls that fail.
     files: Vec<(String, String)>,
     desk_fails: Vec<u64>,
-    // Those of the worker's desk.
+    // Those of the first worker's desk.
     worker_files: Vec<(String, String)>,
     worker_fails: Vec<u64>,
     input: String,
@@ -137,7 +140,12 @@ impl Scene {
     }
 
     /// Calls the program with the words between bars, and tells its status and what it prints.
-    pub(crate) fn call(&mut self, alloc: Global, words: &str) -> Result<String, NoMemory> {
+    pub(crate) fn call<R: Threads + Wait + Sync>(
+        &mut self,
+        rt: &R,
+        alloc: Global,
+        words: &str,
+    ) -> Result<String, NoMemory> {
         let words = written_out(alloc, words)?;
         let objects = Objects {
             programs: self.programs(alloc)?,
@@ -146,24 +154,29 @@ impl Scene {
             input_fails: Vec::from_slice(alloc, &self.input_fails)?,
             out_fails: Vec::from_slice(alloc, &self.out_fails)?,
         };
-        let left = memory::run(alloc, words.as_str(), objects)?;
+        let left = memory::run(rt, alloc, words.as_str(), objects)?;
         let said = said(alloc, &left)?;
         self.left = Some(left);
         Ok(said)
     }
 
     /// Audits the file of that name as the last call left it on desk 0: its text is the input.
-    pub(crate) fn audit(&mut self, alloc: Global, name: &str) -> Result<String, NoMemory> {
+    pub(crate) fn audit<R: Threads + Wait + Sync>(
+        &mut self,
+        rt: &R,
+        alloc: Global,
+        name: &str,
+    ) -> Result<String, NoMemory> {
         let text = match self.left() {
             Some(left) => memory::text_on(alloc, &left.tables, name)?,
             None => String::new(alloc),
         };
         *self = Scene::new(alloc);
         self.input = text;
-        self.call(alloc, "audit")
+        self.call(rt, alloc, "audit")
     }
 
-    // Desk 0 and the worker's.
+    // Desk 0 and the first worker's; those behind them have no files.
     fn desks(&self, alloc: Global) -> Result<MemDesks, NoMemory> {
         let mut desks = Vec::new(alloc);
         desks.push(memory::desk(alloc, &self.files, &self.desk_fails)?)?;

@@ -39,6 +39,7 @@ pub fn call(rt: &HostRuntime, words: &[&str], input: &str) -> Result<Told, NoMem
     let mut err = MemSink::new(alloc, 4096, Vec::new(alloc));
     let mut clock = MemClock::new(0);
     let closing = special(
+        rt,
         alloc,
         owned.as_slice(),
         OsPrograms::new(rt),
