@@ -3,11 +3,21 @@ use ann_key::{Bytes, NoMemory};
 use ann_os::{OsDesks, OsPrograms};
 use ann_outside::{MemClock, MemSink, MemSource};
 use special_cli::special;
-use std::alloc::Global;
+use std::alloc::{AllocGlobal, Global};
 use std::fs;
-use std::fs::Permissions;
+use std::fs::{Files, Permissions};
+use std::marker::Sync;
 use std::os::unix::fs::PermissionsExt;
+use std::process::{Processes, SystemProcess};
+use std::sync::Wait;
 use std::test::Fail;
+use std::thread::Threads;
+
+// What the program needs of the runtime, over real programs and real files.
+trait Machine: Threads + Wait + Sync + AllocGlobal + Files + Processes<Started = SystemProcess> {}
+
+impl<R: Threads + Wait + Sync + AllocGlobal + Files + Processes<Started = SystemProcess>> Machine
+    for R {}
 
 const WORDS: [&str; 13] = [
     "run",
@@ -189,7 +199,7 @@ fn push_lines(alloc: Global, lines: &mut String, asked: &Asked) -> Result<(), No
 }
 
 // Whether these are the requests that the remote wrote down. They are forgotten.
-fn is_asked(rt: &HostRuntime, step: &Step) -> Result<bool, Fail> {
+fn is_asked(rt: &impl Machine, step: &Step) -> Result<bool, Fail> {
     let mut lines = String::new(rt.alloc());
     push_lines(rt.alloc(), &mut lines, &step.first)?;
     push_lines(rt.alloc(), &mut lines, &step.then)?;
@@ -200,7 +210,7 @@ fn is_asked(rt: &HostRuntime, step: &Step) -> Result<bool, Fail> {
 }
 
 // Whether the task of the step is answered so.
-fn is_answered(rt: &HostRuntime, step: &Step) -> Result<bool, NoMemory> {
+fn is_answered(rt: &impl Machine, step: &Step) -> Result<bool, NoMemory> {
     let alloc = rt.alloc();
     let mut words = Vec::new(alloc);
     for word in &WORDS {
@@ -231,7 +241,7 @@ fn is_answered(rt: &HostRuntime, step: &Step) -> Result<bool, NoMemory> {
 }
 
 // Does the task of the step, over a remote that is killed in it or isn't.
-fn is_right(rt: &HostRuntime, step: &Step) -> Result<bool, Fail> {
+fn is_right(rt: &impl Machine, step: &Step) -> Result<bool, Fail> {
     if step.killed {
         fs::write(rt, "dying", "")?;
     }

@@ -3,8 +3,13 @@ use ann_key::{Bytes, NoMemory};
 use ann_os::{OsDesks, OsPrograms};
 use ann_outside::{MemClock, MemSink, MemSource};
 use special_cli::special;
-use std::fs::Permissions;
+use std::alloc::AllocGlobal;
+use std::fs::{Files, Permissions};
+use std::marker::Sync;
 use std::os::unix::fs::PermissionsExt;
+use std::process::{Processes, SystemProcess};
+use std::sync::Wait;
+use std::thread::Threads;
 use std::{fs, io};
 
 pub const UUID: &str = "6f9619ff-8b86-d011-b42d-00cf4fc964ff";
@@ -25,8 +30,19 @@ impl Told {
     }
 }
 
+/// What the program needs of the runtime, over real programs and real files.
+pub trait Machine: Threads
+    + Wait
+    + Sync
+    + AllocGlobal
+    + Files
+    + Processes<Started = SystemProcess> {}
+
+impl<R: Threads + Wait + Sync + AllocGlobal + Files + Processes<Started = SystemProcess>> Machine
+    for R {}
+
 /// Calls `special` with these words and this input.
-pub fn call(rt: &HostRuntime, words: &[&str], input: &str) -> Result<Told, NoMemory> {
+pub fn call<R: Machine>(rt: &R, words: &[&str], input: &str) -> Result<Told, NoMemory> {
     let alloc = rt.alloc();
     let mut owned = Vec::new(alloc);
     for word in words {
@@ -56,7 +72,7 @@ pub fn call(rt: &HostRuntime, words: &[&str], input: &str) -> Result<Told, NoMem
     })
 }
 
-pub fn write_script(rt: &HostRuntime, name: &str, text: &str) -> io::Result<()> {
+pub fn write_script(rt: &impl Machine, name: &str, text: &str) -> io::Result<()> {
     fs::write(rt, name, text)?;
     fs::set_permissions(rt, name, Permissions::from_mode(0o755))
 }

@@ -1,5 +1,5 @@
 // `special check` over real programs.
-use crate::calls::{call, write_script};
+use crate::calls::{Machine, call, write_script};
 use ann_key::NoMemory;
 use std::fs;
 use std::test::Fail;
@@ -33,7 +33,7 @@ const LONG: &str = "#!/bin/sh\n\
 
 // Whether the program, asked for the key, is told so and ends with the status.
 fn is_told(
-    rt: &HostRuntime,
+    rt: &impl Machine,
     program: &str,
     key: &str,
     out: &str,
@@ -43,7 +43,7 @@ fn is_told(
 }
 
 // Whether a script that breaks off is told so.
-fn breaks_off(rt: &HostRuntime, text: &str, out: &str) -> Result<bool, Fail> {
+fn breaks_off(rt: &impl Machine, text: &str, out: &str) -> Result<bool, Fail> {
     write_script(rt, "./half.sh", text)?;
     let told = is_told(rt, "./half.sh", "WORM--a", out, 1)?;
     fs::remove_file(rt, "./half.sh")?;

@@ -1,5 +1,5 @@
 // `special init` over real programs and real files.
-use crate::calls::{Told, UUID, call, write_script};
+use crate::calls::{Machine, Told, UUID, call, write_script};
 use ann_key::NoMemory;
 use std::fs;
 use std::test::Fail;
@@ -25,7 +25,7 @@ const KEPT: &str = "annex-keep 1\n\
     wanted standard\n\
     state WORM--a here\n";
 
-fn init(rt: &HostRuntime, program: &str, keep: &str, setting: &str) -> Result<Told, NoMemory> {
+fn init(rt: &impl Machine, program: &str, keep: &str, setting: &str) -> Result<Told, NoMemory> {
     call(rt, &["init", program, UUID, keep, setting], "")
 }
 

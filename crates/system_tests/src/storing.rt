@@ -1,5 +1,5 @@
 // `special run` over real programs and real files.
-use crate::calls::{Told, UUID, call, write_script};
+use crate::calls::{Machine, Told, UUID, call, write_script};
 use ann_key::NoMemory;
 use std::alloc::Global;
 use std::fs;
@@ -52,7 +52,7 @@ const LYING: &str = "#!/bin/sh\n\
     esac\n\
     done\n";
 
-fn run(rt: &HostRuntime, program: &str, starts: &str, input: &str) -> Result<Told, NoMemory> {
+fn run(rt: &impl Machine, program: &str, starts: &str, input: &str) -> Result<Told, NoMemory> {
     let words = [
         "run",
         "--program",
@@ -89,7 +89,7 @@ fn lines(
 
 // Whether all tasks of that work are answered so.
 fn all_are(
-    rt: &HostRuntime,
+    rt: &impl Machine,
     work: &str,
     letter: &str,
     answer: &str,
