@@ -3,21 +3,14 @@ use ann_key::{Bytes, NoMemory};
 use ann_os::{OsDesks, OsPrograms};
 use ann_outside::{MemClock, MemSink, MemSource};
 use special_cli::special;
-use std::alloc::{AllocGlobal, Global};
+use std::alloc::Global;
 use std::fs;
-use std::fs::{Files, Permissions};
+use std::fs::Permissions;
 use std::marker::Sync;
 use std::os::unix::fs::PermissionsExt;
-use std::process::{Processes, SystemProcess};
 use std::sync::Wait;
 use std::test::Fail;
 use std::thread::Threads;
-
-// What the program needs of the runtime, over real programs and real files.
-trait Machine: Threads + Wait + Sync + AllocGlobal + Files + Processes<Started = SystemProcess> {}
-
-impl<R: Threads + Wait + Sync + AllocGlobal + Files + Processes<Started = SystemProcess>> Machine
-    for R {}
 
 const WORDS: [&str; 13] = [
     "run",
@@ -199,7 +192,7 @@ fn push_lines(alloc: Global, lines: &mut String, asked: &Asked) -> Result<(), No
 }
 
 // Whether these are the requests that the remote wrote down. They are forgotten.
-fn is_asked(rt: &impl Machine, step: &Step) -> Result<bool, Fail> {
+fn is_asked(rt: &HostRuntime, step: &Step) -> Result<bool, Fail> {
     let mut lines = String::new(rt.alloc());
     push_lines(rt.alloc(), &mut lines, &step.first)?;
     push_lines(rt.alloc(), &mut lines, &step.then)?;
@@ -210,7 +203,11 @@ fn is_asked(rt: &impl Machine, step: &Step) -> Result<bool, Fail> {
 }
 
 // Whether the task of the step is answered so.
-fn is_answered(rt: &impl Machine, step: &Step) -> Result<bool, NoMemory> {
+fn is_answered<R: Threads + Wait + Sync>(
+    threads: &R,
+    rt: &HostRuntime,
+    step: &Step,
+) -> Result<bool, NoMemory> {
     let alloc = rt.alloc();
     let mut words = Vec::new(alloc);
     for word in &WORDS {
@@ -223,7 +220,7 @@ fn is_answered(rt: &impl Machine, step: &Step) -> Result<bool, NoMemory> {
     let mut err = MemSink::new(alloc, 4096, Vec::new(alloc));
     let mut clock = MemClock::new(0);
     let closing = special(
-        rt,
+        threads,
         alloc,
         words.as_slice(),
         OsPrograms::new(rt),
@@ -241,11 +238,15 @@ fn is_answered(rt: &impl Machine, step: &Step) -> Result<bool, NoMemory> {
 }
 
 // Does the task of the step, over a remote that is killed in it or isn't.
-fn is_right(rt: &impl Machine, step: &Step) -> Result<bool, Fail> {
+fn is_right<R: Threads + Wait + Sync>(
+    threads: &R,
+    rt: &HostRuntime,
+    step: &Step,
+) -> Result<bool, Fail> {
     if step.killed {
         fs::write(rt, "dying", "")?;
     }
-    let answered = is_answered(rt, step)?;
+    let answered = is_answered(threads, rt, step)?;
     if step.killed {
         fs::remove_file(rt, "dying")?;
     }
@@ -262,7 +263,7 @@ fn a_store_and_a_get_go_on_where_a_child_was_killed(rt: HostRuntime) -> Result<(
     fs::write(&rt, "content", bytes.as_slice())?;
     for step in &STEPS {
         let task = step.task;
-        assert!(rt; is_right(&rt, step)?, "{task}");
+        assert!(rt; is_right(&rt, &rt, step)?, "{task}");
     }
     assert!(rt; fs::read(&rt, "got")?.as_slice() == bytes.as_slice());
     // nothing is left at the remote; where files were made, the chunk that was lost

@@ -43,9 +43,10 @@ const INFO: &str = "configs unsupported\n\
 #[test]
 fn each_aside_is_served_to_a_real_child(rt: HostRuntime) -> Result<(), Fail> {
     write_script(&rt, "./asking.sh", ASKING)?;
-    let checked = call(&rt, &["check", "./asking.sh", "WORM--a"], "")?;
-    let informed = call(&rt, &["info", "./asking.sh"], "")?;
+    let checked = call(&rt, &rt, &["check", "./asking.sh", "WORM--a"], "")?;
+    let informed = call(&rt, &rt, &["info", "./asking.sh"], "")?;
     let set_up = call(
+        &rt,
         &rt,
         &["init", "./asking.sh", UUID, "keep", "directory=/x y"],
         "",

@@ -3,11 +3,9 @@ use ann_key::{Bytes, NoMemory};
 use ann_os::{OsDesks, OsPrograms};
 use ann_outside::{MemClock, MemSink, MemSource};
 use special_cli::special;
-use std::alloc::AllocGlobal;
-use std::fs::{Files, Permissions};
+use std::fs::Permissions;
 use std::marker::Sync;
 use std::os::unix::fs::PermissionsExt;
-use std::process::{Processes, SystemProcess};
 use std::sync::Wait;
 use std::thread::Threads;
 use std::{fs, io};
@@ -30,19 +28,13 @@ impl Told {
     }
 }
 
-/// What the program needs of the runtime, over real programs and real files.
-pub trait Machine: Threads
-    + Wait
-    + Sync
-    + AllocGlobal
-    + Files
-    + Processes<Started = SystemProcess> {}
-
-impl<R: Threads + Wait + Sync + AllocGlobal + Files + Processes<Started = SystemProcess>> Machine
-    for R {}
-
-/// Calls `special` with these words and this input.
-pub fn call<R: Machine>(rt: &R, words: &[&str], input: &str) -> Result<Told, NoMemory> {
+/// Calls `special` with these words and this input, over the programs and files of the runtime.
+pub fn call<R: Threads + Wait + Sync>(
+    threads: &R,
+    rt: &HostRuntime,
+    words: &[&str],
+    input: &str,
+) -> Result<Told, NoMemory> {
     let alloc = rt.alloc();
     let mut owned = Vec::new(alloc);
     for word in words {
@@ -55,7 +47,7 @@ pub fn call<R: Machine>(rt: &R, words: &[&str], input: &str) -> Result<Told, NoM
     let mut err = MemSink::new(alloc, 4096, Vec::new(alloc));
     let mut clock = MemClock::new(0);
     let closing = special(
-        rt,
+        threads,
         alloc,
         owned.as_slice(),
         OsPrograms::new(rt),
@@ -72,7 +64,7 @@ pub fn call<R: Machine>(rt: &R, words: &[&str], input: &str) -> Result<Told, NoM
     })
 }
 
-pub fn write_script(rt: &impl Machine, name: &str, text: &str) -> io::Result<()> {
+pub fn write_script(rt: &HostRuntime, name: &str, text: &str) -> io::Result<()> {
     fs::write(rt, name, text)?;
     fs::set_permissions(rt, name, Permissions::from_mode(0o755))
 }

@@ -1,8 +1,11 @@
 // `special init` over real programs and real files.
-use crate::calls::{Machine, Told, UUID, call, write_script};
+use crate::calls::{Told, UUID, call, write_script};
 use ann_key::NoMemory;
 use std::fs;
+use std::marker::Sync;
+use std::sync::Wait;
 use std::test::Fail;
+use std::thread::Threads;
 
 // It wants a setting, and sets registers of each kind.
 const REMOTE: &str = "#!/bin/sh\n\
@@ -25,16 +28,22 @@ const KEPT: &str = "annex-keep 1\n\
     wanted standard\n\
     state WORM--a here\n";
 
-fn init(rt: &impl Machine, program: &str, keep: &str, setting: &str) -> Result<Told, NoMemory> {
-    call(rt, &["init", program, UUID, keep, setting], "")
+fn init<R: Threads + Wait + Sync>(
+    threads: &R,
+    rt: &HostRuntime,
+    program: &str,
+    keep: &str,
+    setting: &str,
+) -> Result<Told, NoMemory> {
+    call(threads, rt, &["init", program, UUID, keep, setting], "")
 }
 
 #[test]
 fn a_real_remote_is_set_up_and_what_it_sets_is_kept(rt: HostRuntime) -> Result<(), Fail> {
     write_script(&rt, "./setup.sh", REMOTE)?;
-    let told = init(&rt, "./setup.sh", "kept/in/a/folder", "directory=/x y")?;
+    let told = init(&rt, &rt, "./setup.sh", "kept/in/a/folder", "directory=/x y")?;
     let kept = fs::read(&rt, "kept/in/a/folder")?;
-    let again = init(&rt, "./setup.sh", "kept/in/a/folder", "directory=")?;
+    let again = init(&rt, &rt, "./setup.sh", "kept/in/a/folder", "directory=")?;
     let still = fs::read(&rt, "kept/in/a/folder")?;
     fs::remove_file(&rt, "./setup.sh")?;
     fs::remove_dir_all(&rt, "kept")?;
@@ -48,7 +57,7 @@ fn a_real_remote_is_set_up_and_what_it_sets_is_kept(rt: HostRuntime) -> Result<(
 #[test]
 fn a_folder_is_no_kept_file(rt: HostRuntime) -> Result<(), Fail> {
     fs::create_dir(&rt, "folder")?;
-    let told = init(&rt, "echo", "folder", "a=b")?;
+    let told = init(&rt, &rt, "echo", "folder", "a=b")?;
     fs::remove_dir_all(&rt, "folder")?;
     assert!(rt; told.is(6, "", "special: file failed\n"));
     Ok(())

@@ -1,9 +1,12 @@
 // `special run` over real programs and real files.
-use crate::calls::{Machine, Told, UUID, call, write_script};
+use crate::calls::{Told, UUID, call, write_script};
 use ann_key::NoMemory;
 use std::alloc::Global;
 use std::fs;
+use std::marker::Sync;
+use std::sync::Wait;
 use std::test::Fail;
+use std::thread::Threads;
 
 const KEYS: u32 = 200;
 
@@ -52,7 +55,13 @@ const LYING: &str = "#!/bin/sh\n\
     esac\n\
     done\n";
 
-fn run(rt: &impl Machine, program: &str, starts: &str, input: &str) -> Result<Told, NoMemory> {
+fn run<R: Threads + Wait + Sync>(
+    threads: &R,
+    rt: &HostRuntime,
+    program: &str,
+    starts: &str,
+    input: &str,
+) -> Result<Told, NoMemory> {
     let words = [
         "run",
         "--program",
@@ -64,7 +73,7 @@ fn run(rt: &impl Machine, program: &str, starts: &str, input: &str) -> Result<To
         "--work",
         "work",
     ];
-    call(rt, &words, input)
+    call(threads, rt, &words, input)
 }
 
 // A task line for each of so many keys, and the lines of their answers. With a letter each task names the file of that letter.
@@ -88,15 +97,16 @@ fn lines(
 }
 
 // Whether all tasks of that work are answered so.
-fn all_are(
-    rt: &impl Machine,
+fn all_are<R: Threads + Wait + Sync>(
+    threads: &R,
+    rt: &HostRuntime,
     work: &str,
     letter: &str,
     answer: &str,
     status: u8,
 ) -> Result<bool, NoMemory> {
     let (tasks, answers) = lines(rt.alloc(), work, letter, answer)?;
-    let told = run(rt, "./keeper.sh", "1", tasks.as_str())?;
+    let told = run(threads, rt, "./keeper.sh", "1", tasks.as_str())?;
     Ok(told.is(status, answers.as_str(), ""))
 }
 
@@ -133,12 +143,12 @@ fn two_hundred_keys_are_stored_checked_got_and_dropped(rt: HostRuntime) -> Resul
     }
     write_script(&rt, "./keeper.sh", REMOTE)?;
     write_files(&rt)?;
-    assert!(rt; all_are(&rt, "store", "s", "stored", 0)?);
-    assert!(rt; all_are(&rt, "check", "", "present", 0)?);
-    assert!(rt; all_are(&rt, "get", "g", "got", 0)?);
+    assert!(rt; all_are(&rt, &rt, "store", "s", "stored", 0)?);
+    assert!(rt; all_are(&rt, &rt, "check", "", "present", 0)?);
+    assert!(rt; all_are(&rt, &rt, "get", "g", "got", 0)?);
     assert!(rt; are_got(&rt)?);
-    assert!(rt; all_are(&rt, "drop", "", "dropped", 0)?);
-    assert!(rt; all_are(&rt, "check", "", "absent", 1)?);
+    assert!(rt; all_are(&rt, &rt, "drop", "", "dropped", 0)?);
+    assert!(rt; all_are(&rt, &rt, "check", "", "absent", 1)?);
     // the folder for fetched files is empty again
     fs::remove_dir(&rt, "work")?;
     fs::remove_dir_all(&rt, "files")?;
@@ -152,8 +162,8 @@ const CHECKS: &str = "check WORM--a\ncheck WORM--b\ncheck WORM--c\ncheck WORM--d
 #[test]
 fn a_second_start_goes_on_where_a_real_child_died(rt: HostRuntime) -> Result<(), Fail> {
     write_script(&rt, "./dying.sh", DYING)?;
-    let two = run(&rt, "./dying.sh", "2", CHECKS)?;
-    let one = run(&rt, "./dying.sh", "1", CHECKS)?;
+    let two = run(&rt, &rt, "./dying.sh", "2", CHECKS)?;
+    let one = run(&rt, &rt, "./dying.sh", "1", CHECKS)?;
     fs::remove_file(&rt, "./dying.sh")?;
     assert!(rt;
         two.is(
@@ -182,7 +192,7 @@ fn a_real_remote_that_says_success_is_not_believed_without_the_content(
 ) -> Result<(), Fail> {
     fs::create_dir(&rt, "work")?;
     write_script(&rt, "./lying.sh", LYING)?;
-    let told = run(&rt, "./lying.sh", "1", GETS)?;
+    let told = run(&rt, &rt, "./lying.sh", "1", GETS)?;
     fs::remove_file(&rt, "./lying.sh")?;
     fs::remove_dir_all(&rt, "work")?;
     let any = fs::exists(&rt, "o1")? || fs::exists(&rt, "o2")? || fs::exists(&rt, "o3")?;
