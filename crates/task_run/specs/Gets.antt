@@ -143,11 +143,16 @@ abbrev pub IsSaid : Parts → List ℕ → Option Fit → Type 0
 IsSaid key bytes None = ⊥
 IsSaid key bytes (Some fit) = IsSaidOf key bytes fit
 
--- each fetched file, the first of which is that of request n, was read from its begin to the length that was found
+-- a length was found, and the reads go from the begin to it
+abbrev pub is_read_whole : List (ℕ × List ℕ) → List ℕ → Bool
+is_read_whole reads [] = false
+is_read_whole reads (k ∷ lengths) = list_all (λ n. is_reading 0 n reads) (k ∷ lengths)
+
+-- each fetched file, the first of which is that of request n, was looked at, and read from its begin to the length that was found
 abbrev pub are_read_whole : Setup → ℕ → List Call → ℕ → List Asking → Bool
 are_read_whole setup t calls n [] = true
 are_read_whole setup t calls n (a ∷ more) =
-    list_all (λ k. is_reading 0 k (reads_of (fetch_file setup t n) calls)) (lengths_found (fetch_file setup t n) calls) && are_read_whole setup t calls (n + 1) more
+    is_read_whole (reads_of (fetch_file setup t n) calls) (lengths_found (fetch_file setup t n) calls) && are_read_whole setup t calls (n + 1) more
 
 -- All that part held and all that was fetched was read, and this is said of it.
 pub record IsChecked (setup : Setup) (t : ℕ) (key : Parts) (sizes : List ℕ) (file : List ℕ) (asked : List Asking) (calls : List Call) (answer : Answer) : Type 0 where
