@@ -28,7 +28,7 @@ use Rattle.task_run.specs.Stops.{is_done, is_done_at, asking_stop, call_stop, An
 use Rattle.task_run.specs.Names.{part_of, fetch_file}
 use Rattle.task_run.specs.Requests.{AsksFor, AskInOrder, rounds, RoundsAsk}
 use Rattle.task_run.specs.Reads.{lengths_found, reads_of, is_known, is_run, is_reading, takes_away, is_removed}
-use Rattle.task_run.specs.Gets.{fetch_request, lengths_at_begin, wanted, wrong_lengths, is_wrong, is_failed, failures, asked_last, GetAsks}
+use Rattle.task_run.specs.Gets.{fetch_request, lengths_at_begin, wanted, wrong_lengths, is_wrong, is_read_whole, is_failed, failures, asked_last, GetAsks}
 use Rattle.task_run.specs.Ran.{refusal, is_verdict_of}
 use Rattle.task_run.specs.Fetching.{Outcome, discarded}
 use Rattle.task_get.specs.Fronts.{Turn, first_in, fetch_at, keys_in, is_calm, is_apart, Tried, Sound, are_free, Within, Kept, Between, Ended}
@@ -259,8 +259,8 @@ came h len size held bytes before after pieces ending f k s is w most c =
     reading : is_reading 0 len (reads_of (fetch_in h) seg) ≡ true
     reading = rw facts.reads_are (whole_reading (fetch_in h) len pieces ending w most (rw facts.reads_are at moving.run))
 
-    whole : list_all (λ j. is_reading 0 j (reads_of (fetch_in h) seg)) (lengths_found (fetch_in h) seg) ≡ true
-    whole = ap (list_all (λ j. is_reading 0 j (reads_of (fetch_in h) seg))) sized ∙ ap (λ b. b && true) reading
+    whole : is_read_whole (reads_of (fetch_in h) seg) (lengths_found (fetch_in h) seg) ≡ true
+    whole = ap (is_read_whole (reads_of (fetch_in h) seg)) sized ∙ ap (λ b. b && true) reading
 
 -- how it goes on behind a request that is done
 pub come_end : (h : Here) (len size : ℕ) (held : List (ℕ × List ℕ)) (bytes : List ℕ) (before after : Checker) (how : Come) → FetchingAt h

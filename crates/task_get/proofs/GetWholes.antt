@@ -27,7 +27,7 @@ use Rattle.task_run.specs.Stores.{is_size}
 use Rattle.task_run.specs.Requests.{AsksFor, AskInOrder}
 use Rattle.task_run.specs.Reads.{lengths_found, reads_of, read_of, bytes_of, is_known, is_reading, takes_away, is_last_call_of, is_removed, is_renaming, appended, piece_of}
 use Rattle.task_run.specs.Discipline.{are_found}
-use Rattle.task_run.specs.Gets.{fetch_request, begins, since_begin, lengths_at_begin, wanted, is_wrong, bytes_fetched, IsSaid, fit_in, is_got, is_failed, failures, GetAsks, Decides, GetAnswers}
+use Rattle.task_run.specs.Gets.{fetch_request, begins, since_begin, lengths_at_begin, wanted, is_wrong, is_read_whole, bytes_fetched, IsSaid, fit_in, is_got, is_failed, failures, GetAsks, Decides, GetAnswers}
 use Rattle.task_run.specs.Ran.{answered, is_verdict_of, undone_answer}
 use Rattle.task_run.specs.Fetching.{Fetches, Files3, Outcome, if_made, discarded, kept, Move, NotMade, NotCopied, NotRemoved, Settled, move_calls, move_result, MoveIs, Fetch, NotSized, WrongSize, Moved, fetch_calls, fetch_result, FetchIs}
 use Rattle.task_get.specs.Fronts.{Place, Turn, fetch_at, is_apart, is_calm, Tried, Sound, Within, Between, Ended}
@@ -135,7 +135,7 @@ plain_said p past done tried x calls seg m bytes answer f g s l b whole said par
     (count_all is_done (x ∷ []) (rw f.is_done_now refl))
     (let P : List ℕ → Type 0 = λ z. IsSaid p.key z (fit_in answer) in subst P (sym fetched) said)
     refl
-    (ap (λ r. list_all (λ k. is_reading 0 k r) (lengths_found name (calls ++ seg)) && true) reads ∙ ap (λ r. list_all (λ k. is_reading 0 k (reads_of name seg)) r && true) found ∙ rw whole refl)
+    (ap (λ r. is_read_whole r (lengths_found name (calls ++ seg)) && true) reads ∙ ap (λ r. is_read_whole (reads_of name seg) r && true) found ∙ rw whole refl)
     (by_test (is_got answer) part)
   where
     name : List ℕ

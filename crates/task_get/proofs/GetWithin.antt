@@ -16,7 +16,7 @@ use Rattle.task_run.specs.Names.{part_of, fetch_files}
 use Rattle.task_run.specs.Requests.{AsksFor, AskInOrder, rounds, RoundsAsk}
 use Rattle.task_run.specs.Reads.{length_or_none, lengths_found, reads_of, bytes_of, is_run, is_reading, is_known, appended}
 use Rattle.task_run.specs.Discipline.{are_found}
-use Rattle.task_run.specs.Gets.{fetch_request, begins, lengths_at_begin, wanted, is_failed, held_reads, are_read, are_read_whole, bytes_fetched, wrong_lengths, is_wrong, GetAsks}
+use Rattle.task_run.specs.Gets.{fetch_request, begins, lengths_at_begin, wanted, is_failed, held_reads, are_read, is_read_whole, are_read_whole, bytes_fetched, wrong_lengths, is_wrong, GetAsks}
 use Rattle.task_run.specs.Runs.{fetched_files}
 use Rattle.task_get.specs.Fronts.{Place, Turn, first_in, fetch_at, keys_in, is_calm, is_apart, Sound, are_free, Within, Kept}
 use Rattle.task_run.proofs.Texts.{apart}
@@ -282,7 +282,7 @@ pub kept_next : (u : Turn) (cur : List Asking) (got left : List Part) (part : Pa
     → Fetching u cur got left part x n calls → Kept u cur got (part ∷ left) calls held bytes → Segment u.place n calls seg
     → list_all (λ call. not (begins (part_of u.place.file) call)) seg ≡ true → is_known (part_of u.place.file) (calls ++ seg) ≡ true
     → bytes_of (reads_of (fetch_at u.place n) seg) ≡ more → appended (part_of u.place.file) seg ≡ more
-    → list_all (λ k. is_reading 0 k (reads_of (fetch_at u.place n) seg)) (lengths_found (fetch_at u.place n) seg) ≡ true
+    → is_read_whole (reads_of (fetch_at u.place n) seg) (lengths_found (fetch_at u.place n) seg) ≡ true
     → Kept u (cur ++ x ∷ []) (got ++ part ∷ []) left (calls ++ seg) held (bytes ++ more)
 kept_next u cur got left part x n calls seg held bytes more f k g no_begin known bs moved whole = record {
   begun = ap length (begin_lengths u.place.file calls seg g.fair.no_length) ∙ k.begun;
@@ -300,8 +300,8 @@ kept_next u cur got left part x n calls seg held bytes more f k g no_begin known
       whole_more u.place.setup u.place.task (first_in u) (calls ++ seg) cur (x ∷ [])
       ∙ ap (λ b. b && are_read_whole u.place.setup u.place.task (calls ++ seg) (first_in u + length cur) (x ∷ [])) (same_whole u.place.setup u.place.task (first_in u) cur calls seg others ∙ k.whole)
       ∙ ap (λ m. are_read_whole u.place.setup u.place.task (calls ++ seg) m (x ∷ [])) (sym f.number)
-      ∙ ap (λ r. list_all (λ j. is_reading 0 j r) (lengths_found (fetch_at u.place n) (calls ++ seg)) && true) (reads_behind (fetch_at u.place n) calls seg own)
-      ∙ ap (λ l. list_all (λ j. is_reading 0 j (reads_of (fetch_at u.place n) seg)) l && true) (lengths_behind (fetch_at u.place n) calls seg own)
+      ∙ ap (λ r. is_read_whole r (lengths_found (fetch_at u.place n) (calls ++ seg)) && true) (reads_behind (fetch_at u.place n) calls seg own)
+      ∙ ap (λ l. is_read_whole (reads_of (fetch_at u.place n) seg) l && true) (lengths_behind (fetch_at u.place n) calls seg own)
       ∙ rw whole refl;
 }
   where

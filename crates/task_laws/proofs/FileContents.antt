@@ -11,9 +11,9 @@ use Rattle.task_asker.specs.Askings.{Asking}
 use Rattle.task_run.specs.declared.setup.Setup.{Setup}
 use Rattle.task_run.specs.Names.{fetch_file}
 use Rattle.task_run.specs.Reads.{lengths_found, reads_of, bytes_of, is_run, is_at_end, is_reading}
-use Rattle.task_run.specs.Gets.{bytes_fetched, are_read_whole}
+use Rattle.task_run.specs.Gets.{bytes_fetched, is_read_whole, are_read_whole}
 use Rattle.task_run.proofs.Texts.{apart}
-use Rattle.task_laws.specs.Contents.{is_read_of, IsFetched, AreFetched}
+use Rattle.task_laws.specs.Contents.{is_read_of, Shows, AreFetched}
 
 -- ---- reads of one file
 
@@ -64,9 +64,8 @@ all_of content bytes e n =
     e ∙ ap (λ (m : ℕ). take m content) same ∙ take-length content
 
 -- a file that was looked at and read as long as it was found is read whole
-pub read_whole : (name content : List ℕ) (calls : List Call) → IsFetched name content calls → list_all (λ k. is_reading 0 k (reads_of name calls)) (lengths_found name calls) ≡ true
-    → bytes_of (reads_of name calls) ≡ content
-read_whole name content calls f h = by_lengths (lengths_found name calls) f.looked f.shows.lengths h
+pub read_whole : (name content : List ℕ) (calls : List Call) → Shows name content calls → is_read_whole (reads_of name calls) (lengths_found name calls) ≡ true → bytes_of (reads_of name calls) ≡ content
+read_whole name content calls f h = by_lengths (lengths_found name calls) f.lengths h
   where
     reads : List (ℕ × List ℕ)
     reads = reads_of name calls
@@ -74,17 +73,16 @@ read_whole name content calls f h = by_lengths (lengths_found name calls) f.look
     whole : (k : ℕ) → k ≡ length content → is_reading 0 k reads ≡ true → bytes_of reads ≡ content
     whole k e r =
         let p = and_parts (is_run 0 reads) (length (bytes_of reads) == k - 0 || is_at_end reads) r in
-        let front : bytes_of reads ≡ take (length (bytes_of reads)) content = stretch content 0 reads p.0 f.shows.reads in
+        let front : bytes_of reads ≡ take (length (bytes_of reads)) content = stretch content 0 reads p.0 f.reads in
         by_case front p.0 (or_cases (length (bytes_of reads) == k - 0) (is_at_end reads) p.1)
       where
         by_case : bytes_of reads ≡ take (length (bytes_of reads)) content → is_run 0 reads ≡ true → ((length (bytes_of reads) == k - 0) ≡ true) ⊎ (is_at_end reads ≡ true) → bytes_of reads ≡ content
         by_case front run (inl l) = let n : length (bytes_of reads) ≡ k - 0 = eqb-true (length (bytes_of reads)) (k - 0) l in all_of content (bytes_of reads) front (omega arith)
-        by_case front run (inr l) = let n : length content ≤ 0 + length (bytes_of reads) = reaches content 0 reads run f.shows.reads l in all_of content (bytes_of reads) front (omega arith)
+        by_case front run (inr l) = let n : length content ≤ 0 + length (bytes_of reads) = reaches content 0 reads run f.reads l in all_of content (bytes_of reads) front (omega arith)
 
-    by_lengths : (ks : List ℕ) → ks ≢ [] → list_all (λ n. n == length content) ks ≡ true → list_all (λ k. is_reading 0 k reads) ks ≡ true → bytes_of reads ≡ content
-    by_lengths [] some l r = absurd (some refl)
-    by_lengths (k ∷ ks) some l r =
-        whole k (eqb-true k (length content) (and_parts (k == length content) (list_all (λ n. n == length content) ks) l).0) (and_parts (is_reading 0 k reads) (list_all (λ j. is_reading 0 j reads) ks) r).0
+    by_lengths : (ks : List ℕ) → list_all (λ n. n == length content) ks ≡ true → is_read_whole reads ks ≡ true → bytes_of reads ≡ content
+    by_lengths [] l r = apart r
+    by_lengths (k ∷ ks) l r = whole k (eqb-true k (length content) (and_parts (k == length content) (list_all (λ n. n == length content) ks) l).0) (and_parts (is_reading 0 k reads) (list_all (λ j. is_reading 0 j reads) ks) r).0
 
 -- ---- the files of the last layout
 
@@ -94,7 +92,7 @@ fetched_are setup t calls n [] [] f w = refl
 fetched_are setup t calls n [] (c ∷ contents) f w = absurd f
 fetched_are setup t calls n (a ∷ more) [] f w = absurd f
 fetched_are setup t calls n (a ∷ more) (content ∷ contents) f w =
-    let p = and_parts (list_all (λ k. is_reading 0 k (reads_of (fetch_file setup t n) calls)) (lengths_found (fetch_file setup t n) calls)) (are_read_whole setup t calls (n + 1) more) w in
+    let p = and_parts (is_read_whole (reads_of (fetch_file setup t n) calls) (lengths_found (fetch_file setup t n) calls)) (are_read_whole setup t calls (n + 1) more) w in
     let one : bytes_of (reads_of (fetch_file setup t n) calls) ≡ content = read_whole (fetch_file setup t n) content calls f.0 p.0 in
     let rest : bytes_fetched setup t calls (n + 1) more ≡ concat contents = fetched_are setup t calls (n + 1) more contents f.1 p.1 in
     ap (λ (x : List ℕ). x ++ bytes_fetched setup t calls (n + 1) more) one ∙ ap (λ (x : List ℕ). content ++ x) rest

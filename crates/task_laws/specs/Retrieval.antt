@@ -12,12 +12,12 @@ use Rattle.task_run.specs.Askings.{run_askings}
 use Rattle.task_run.specs.Layouts.{sizes_tried}
 use Rattle.task_run.specs.Names.{part_of}
 use Rattle.task_run.specs.Reads.{appended, is_renaming, is_last_call_of}
-use Rattle.task_run.specs.Gets.{asked_last, first_asked, since_begin, checked}
+use Rattle.task_run.specs.Gets.{asked_last, since_begin, checked}
 use Rattle.task_run.specs.Runs.{is_chunked}
 use Rattle.task_rounds.specs.JournalRuns.{JournalRun}
 use Rattle.task_laws.specs.Changes.{Request}
 use Rattle.task_laws.specs.Contents.{Shows}
-use Rattle.task_laws.specs.Faithful.{Told, sent, IsFaithful, AreStoredFor, AreLookedAt}
+use Rattle.task_laws.specs.Faithful.{Told, sent, IsFaithful, AreStoredFor}
 use Rattle.task_laws.specs.Kept.{is_afresh, Keeps}
 
 -- A run of task t by any number got its content, afresh, and these stored the keys of its last layout before it retrieved them.
@@ -27,7 +27,6 @@ pub record GotStored (o : Opening) (setup : Setup) (told : Told) (journal : List
   pub got : run.run.answer ≡ Got
   pub afresh : is_afresh (sizes_tried key run.layouts) run.task.file (run_askings run.run) (told.calls t) ≡ true
   pub stored : AreStoredFor journal t (asked_last (run_askings run.run)) stores
-  pub looked : AreLookedAt setup t (told.calls t) (first_asked (run_askings run.run)) (asked_last (run_askings run.run))
 
 -- With a faithful remote such a run keeps what these sent, one behind the other, as its file.
 abbrev pub KeepsStored : Type 0

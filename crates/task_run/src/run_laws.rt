@@ -10,7 +10,7 @@ ghost use Rattle.ann_key.specs.Keys.{Parts, key_reading};
 ghost use Rattle.ann_digest.specs.Fits.{IsDigestFor, FitsKey};
 ghost use Rattle.task_run.specs.Runs.{TaskRun};
 ghost use Rattle.annex_model.specs.Messages.{Transfer};
-ghost use Rattle.std.specs.Prelude.{true};
+ghost use Rattle.std.specs.Prelude.{true, false};
 ghost use Rattle.task_text.specs.declared.task.Work.TheVariants.{Store, Get};
 ghost use Rattle.task_run.specs.RunLaws.{GotNeedsFit};
 ghost use Rattle.task_run.specs.Askings.{TaskStretch, run_askings, run_notings, desk_of};
@@ -94,6 +94,7 @@ pub fn plain_get_runs()
     ensures never_sized { TaskRun get_abc 1 (setup_of 0) [] (gets_abc (Done 13)) (drop 1 (got_abc (codes "abc")) ++ renamed) [] Got → ⊥ }
     ensures length_passed_over { TaskRun get_abc 1 (setup_of 0) [] (gets_abc (Done 13)) (sized fetched_1 2 ++ drop 1 (got_abc (codes "abc")) ++ renamed) [] Got → ⊥ }
     ensures never_renamed { TaskRun get_abc 1 (setup_of 0) [] (gets_abc (Done 13)) (got_abc (codes "abc")) [] Got → ⊥ }
+    ensures never_looked_at { TaskRun (task_of Get (codes "WORM--a") (codes "o")) 1 (setup_of 0) [] (asks (Transfer false (codes "WORM--a") fetched_1) (Done 13) ∷ []) (Create (codes "o.part") (Ok tt) ∷ renamed) [] Got → ⊥ }
     ensures misses { TaskRun get_abc 1 (setup_of 0) [] (gets_abc (Done 13)) (Size fetched_1 (Err Missing) ∷ []) [] Got → ⊥ }
     ensures not_absent { TaskRun get_abc 1 (setup_of 0) [] (gets_abc (Done 13)) (Size fetched_1 (Err Missing) ∷ []) [] AbsentAnswer → ⊥ }
 {}

@@ -68,9 +68,6 @@ run = record {
 retrieves : Retrieves stored_then_got the_retrieve the_store hi fetched_2_1
 retrieves = record { there = (3, omega arith, refl); asks = refl; answered = 19; done = refl; stored = refl }
 
-never : (n : ℕ) (more : List ℕ) → n ∷ more ≡ [] → ⊥
-never n more e = cc
-
 pub returns : goal.returns
 unfolding digits
 returns c = record {
@@ -79,5 +76,4 @@ returns c = record {
   got = refl;
   afresh = refl;
   stored = ((the_retrieve, refl, retrieves), tt);
-  looked = (never 2 [], tt);
 }
