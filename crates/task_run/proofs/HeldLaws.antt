@@ -161,7 +161,7 @@ read_is content at x e s =
     (bytes_eq-Decides x.1 (take (length x.1) (drop x.0 content))).0 both.0 ∙ ap (λ k. take (length x.1) (drop k content)) n
 
 -- Reads of it that go on from one another bring what stands there.
-reads_front : (content : List ℕ) (at : ℕ) (reads : List (ℕ × List ℕ)) → is_run at reads ≡ true → list_all (is_read_of content) reads ≡ true
+pub reads_front : (content : List ℕ) (at : ℕ) (reads : List (ℕ × List ℕ)) → is_run at reads ≡ true → list_all (is_read_of content) reads ≡ true
     → bytes_of reads ≡ take (length (bytes_of reads)) (drop at content)
 reads_front content at [] r s = refl
 reads_front content at (x ∷ more) r s =
@@ -196,7 +196,7 @@ reads_end content at (x ∷ next ∷ more) r s e =
     ∙ take-append-drop (length x.1) (drop at content)
 
 -- What was read of a file to a place behind which it holds nothing is all that it holds.
-reads_all : (content : List ℕ) (to : ℕ) (reads : List (ℕ × List ℕ)) → is_reading 0 to reads ≡ true → length content ≤ to → list_all (is_read_of content) reads ≡ true → bytes_of reads ≡ content
+pub reads_all : (content : List ℕ) (to : ℕ) (reads : List (ℕ × List ℕ)) → is_reading 0 to reads ≡ true → length content ≤ to → list_all (is_read_of content) reads ≡ true → bytes_of reads ≡ content
 reads_all content to reads h most so =
     let parts = and_parts (is_run 0 reads) ((length (bytes_of reads) == to - 0) || is_at_end reads) h in
     by_test (length (bytes_of reads) == to - 0) refl parts.0 parts.1

@@ -111,6 +111,18 @@ stored_ten =
     sized (codes "f") 10 ++ cut_out chunk_2 0 (codes "0123") ++ dropped_file chunk_2 ++ cut_out chunk_3 4 (codes "4567") ++ dropped_file chunk_3
     ++ cut_out chunk_4 8 (codes "89") ++ dropped_file chunk_4
 
+-- the same, but the first chunk's file is cut behind its filling
+abbrev pub cut_behind_filling : List Call
+cut_behind_filling =
+    sized (codes "f") 10 ++ cut_out chunk_2 0 (codes "0123") ++ Cut chunk_2 2 (Ok tt) ∷ dropped_file chunk_2 ++ cut_out chunk_3 4 (codes "4567")
+    ++ dropped_file chunk_3 ++ cut_out chunk_4 8 (codes "89") ++ dropped_file chunk_4
+
+-- the same, but the first chunk's file gets two bytes, is made anew, and gets the other two
+abbrev pub made_twice : List Call
+made_twice =
+    sized (codes "f") 10 ++ cut_out chunk_2 0 (codes "01") ++ cut_out chunk_2 2 (codes "23") ++ dropped_file chunk_2 ++ cut_out chunk_3 4 (codes "4567")
+    ++ dropped_file chunk_3 ++ cut_out chunk_4 8 (codes "89") ++ dropped_file chunk_4
+
 -- all chunks are there
 abbrev pub finds_ten : List Asking
 finds_ten = asks (Checkpresent c1) (Done 13) ∷ asks (Checkpresent c2) (Done 16) ∷ asks (Checkpresent c3) (Done 19) ∷ []
@@ -136,6 +148,10 @@ stores_empty = asks (Checkpresent empty_c1) (Absent 13) ∷ asks (Transfer true 
 
 abbrev pub stored_empty : List Call
 stored_empty = sized (codes "f") 0 ++ Create chunk_2 (Ok tt) ∷ Remove chunk_2 (Ok tt) ∷ []
+
+-- a front of it, where the chunk's file was never made
+abbrev pub never_made : List Call
+never_made = sized (codes "f") 0
 
 -- what is left of a fetch is taken up
 abbrev pub get_ten : Task

@@ -5,7 +5,7 @@ ghost use Rattle.journal_model.specs.declared.verdict.Verdict.TheVariants.{Done,
 ghost use Rattle.ann_outside.specs.declared.file_desk.DeskError.TheVariants.{Missing, Failed as CallFailed};
 ghost use Rattle.ann_outside.specs.declared.file_desk.Call.TheVariants.{Size, Create};
 ghost use Rattle.journal_model.specs.declared.answer.Answer.TheVariants.{Stored, Got, Present, Dropped, Absent as AbsentAnswer, FileFault, NoFile, Memory, Failed as FailedAnswer, Ended as EndedAnswer, Size as SizeAnswer, Hash as HashAnswer};
-ghost use Rattle.task_run.specs.Rows.{task_of, setup_of, asks, notes, store_a, stores_a, sized, get_abc, fetched_1, gets_abc, got_abc, cut_abc, renamed, part_gone, store_ten, stores_ten, stored_ten, finds_ten, lost_ten, stored_short, stores_empty, stored_empty, empty_key, get_ten, gets_ten, resumed_ten, unread_ten, grown_on_nine, cut_behind_ten, half_read_ten, get_none, goes_on_ten, short_then_more, drop_ten, drops_ten, check_ten, checks_ten, abc, get_md5, gets_md5, resumed_foo, gets_whole_md5, fetched_foo, gets_hi, got_hi};
+ghost use Rattle.task_run.specs.Rows.{task_of, setup_of, asks, notes, store_a, stores_a, sized, get_abc, fetched_1, gets_abc, got_abc, cut_abc, renamed, part_gone, store_ten, stores_ten, stored_ten, finds_ten, lost_ten, stored_short, cut_behind_filling, made_twice, stores_empty, stored_empty, never_made, empty_key, get_ten, gets_ten, resumed_ten, unread_ten, grown_on_nine, cut_behind_ten, half_read_ten, get_none, goes_on_ten, short_then_more, drop_ten, drops_ten, check_ten, checks_ten, abc, get_md5, gets_md5, resumed_foo, gets_whole_md5, fetched_foo, gets_hi, got_hi};
 ghost use Rattle.ann_key.specs.Keys.{Parts, key_reading};
 ghost use Rattle.ann_digest.specs.Fits.{IsDigestFor, FitsKey};
 ghost use Rattle.task_run.specs.Runs.{TaskRun};
@@ -78,6 +78,10 @@ pub fn chunk_store_runs()
     ensures not_cut_short { TaskRun store_ten 1 (setup_of 4) [] (take 1 finds_ten) (sized (codes "f") 10) [] (SizeAnswer 0) → ⊥ }
     ensures unread_short { TaskRun store_ten 1 (setup_of 4) [] (take 2 stores_ten) (take 10 stored_ten) [] (SizeAnswer 4) → ⊥ }
     ensures unasked { TaskRun store_ten 1 (setup_of 4) [] (drop 1 stores_ten) stored_ten (notes 4 3 3 ∷ []) Stored → ⊥ }
+    ensures memory { TaskRun (task_of Store empty_key (codes "f")) 1 (setup_of 4) [] stores_empty (take 2 stored_empty) [] Memory }
+    ensures cut_behind_filling { TaskRun store_ten 1 (setup_of 4) [] stores_ten cut_behind_filling (notes 4 3 4 ∷ []) Stored → ⊥ }
+    ensures made_twice { TaskRun store_ten 1 (setup_of 4) [] stores_ten made_twice (notes 4 3 4 ∷ []) Stored → ⊥ }
+    ensures never_made { TaskRun (task_of Store empty_key (codes "f")) 1 (setup_of 4) [] stores_empty never_made [] Memory → ⊥ }
 {}
 
 /// A get in the plain layout fetches into a file of the task's own, moves that to part, checks what was read, and renames part where it
