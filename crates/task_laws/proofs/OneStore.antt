@@ -278,6 +278,7 @@ pub keeps_stored_content : KeepsStoredContent
 keeps_stored_content o setup told journal number t u key content stores legal faithful got base one = record {
   appended_are = kept.appended_are ∙ whole;
   checked_are = kept.checked_are ∙ whole;
+  holds_all = λ before found. kept.holds_all before found ∙ ap Some whole;
   fits = let P : List ℕ → Type 0 = λ x. FitsKey key x in subst P whole kept.fits;
   renamed = kept.renamed;
 }

@@ -20,14 +20,14 @@ use Rattle.task_run.specs.declared.setup.Setup.{Setup}
 use Rattle.task_run.specs.Names.{chunk_file}
 use Rattle.task_run.specs.Requests.{AsksFor, AskInOrder}
 use Rattle.task_run.specs.Layouts.{parts_of_layout, keys_of_layout}
-use Rattle.task_run.specs.Reads.{length_found, lengths_found, reads_of, reads_between, bytes_of, is_run, appended, holds}
+use Rattle.task_run.specs.Reads.{length_found, lengths_found, reads_of, reads_between, bytes_of, is_run, appended, holds, is_read_of}
 use Rattle.task_run.specs.Checks.{present_request}
 use Rattle.task_run.specs.Stores.{is_size, fits_length, chunk_request, questions, found, transfers, missing_parts, is_front, is_copied, copied_length, part_length, is_filled, are_whole, PlainStoreAsks, ChunkStoreAsks}
 use Rattle.task_run.specs.Runs.{RunOf, TaskRun, is_chunked, WorkAsks}
 use Rattle.task_run.proofs.Texts.{apart}
-use Rattle.task_laws.specs.Contents.{is_read_of, Shows}
+use Rattle.task_run.proofs.HeldLaws.{reads_front}
+use Rattle.task_laws.specs.Contents.{Shows}
 use Rattle.task_laws.specs.Sent.{IsRangeSent, ChunksAreRanges}
-use Rattle.task_laws.proofs.FileContents.{stretch}
 use Rattle.task_laws.proofs.Members.{IsIn, is_in, contained, in_split, in_dropped, all_in}
 
 -- ---- no question stores
@@ -104,7 +104,7 @@ range_sent setup t file content calls parts text name shows p =
     let both = and_parts (is_run p.part.from (reads_between file p.part.from p.part.to calls)) (is_front (appended name calls) (bytes_of (reads_between file p.part.from p.part.to calls))) p.copied in
     let shown : list_all (is_read_of content) (reads_between file p.part.from p.part.to calls) ≡ true =
     all_filtered (is_read_of content) (λ (r : ℕ × List ℕ). nat_le p.part.from r.0 && nat_lt r.0 p.part.to) (reads_of file calls) shows.reads in
-    let read : bytes_of reads ≡ take (length (bytes_of reads)) (drop p.part.from content) = stretch content p.part.from reads both.0 shown in
+    let read : bytes_of reads ≡ take (length (bytes_of reads)) (drop p.part.from content) = reads_front content p.part.from reads both.0 shown in
     let front : appended name calls ≡ take (length (appended name calls)) (bytes_of reads) = (bytes_eq-Decides (appended name calls) (take (length (appended name calls)) (bytes_of reads))).0 both.1 in
     let short : length (appended name calls) ≡ min (length (appended name calls)) (length (bytes_of reads)) = ap length front ∙ length-take (length (appended name calls)) (bytes_of reads) in
     let few : length (appended name calls) ≤ length (bytes_of reads) = omega arith in

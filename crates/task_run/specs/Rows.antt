@@ -54,6 +54,10 @@ moved name part bytes = ReadAt name 0 (Ok bytes) ∷ Append part bytes (Ok tt) �
 abbrev pub got_abc : List ℕ → List Call
 got_abc bytes = sized fetched_1 3 ++ Create (codes "o.part") (Ok tt) ∷ moved fetched_1 (codes "o.part") bytes
 
+-- the last byte of part is cut away
+abbrev pub cut_abc : List Call
+cut_abc = Cut (codes "o.part") 2 (Ok tt) ∷ []
+
 abbrev pub renamed : List Call
 renamed = Rename (codes "o.part") (codes "o") (Ok tt) ∷ []
 
@@ -165,6 +169,18 @@ resumed_ten =
 abbrev pub unread_ten : List Call
 unread_ten =
     sized (codes "o.part") 9 ++ Cut (codes "o.part") 8 (Ok tt) ∷ sized fetched_1 2 ++ moved fetched_1 (codes "o.part") (codes "89") ++ renamed
+
+-- the same without the cut, so that the last of the nine bytes stays in front of what is appended
+abbrev pub grown_on_nine : List Call
+grown_on_nine =
+    sized (codes "o.part") 9 ++ ReadAt (codes "o.part") 0 (Ok (codes "01234567")) ∷ sized fetched_1 2
+    ++ moved fetched_1 (codes "o.part") (codes "89") ++ renamed
+
+-- and with a cut behind what was appended
+abbrev pub cut_behind_ten : List Call
+cut_behind_ten =
+    sized (codes "o.part") 9 ++ Cut (codes "o.part") 8 (Ok tt) ∷ ReadAt (codes "o.part") 0 (Ok (codes "01234567")) ∷ sized fetched_1 2
+    ++ moved fetched_1 (codes "o.part") (codes "89") ++ Cut (codes "o.part") 9 (Ok tt) ∷ renamed
 
 -- and with a look at its first half alone, which doesn't fit then
 abbrev pub half_read_ten : List Call
