@@ -1,5 +1,5 @@
 // Laws over the definitions, each the contract of a function with nothing to do.
-ghost use Rattle.std.specs.Prelude.{take, drop, ◌≡◌, ◌++◌, [], ◌∷◌, codes, Ok, Err, Some};
+ghost use Rattle.std.specs.Prelude.{take, drop, ◌≡◌, ◌++◌, [], ◌∷◌, codes, Ok, Err, Some, None};
 ghost use Rattle.journal_model.specs.declared.verdict.Why.TheVariants.{Eof};
 ghost use Rattle.journal_model.specs.declared.verdict.Verdict.TheVariants.{Done, Failed, Ended};
 ghost use Rattle.ann_outside.specs.declared.file_desk.DeskError.TheVariants.{Missing, Failed as CallFailed};
@@ -13,6 +13,7 @@ ghost use Rattle.annex_model.specs.Messages.{Transfer};
 ghost use Rattle.std.specs.Prelude.{true, false};
 ghost use Rattle.task_text.specs.declared.task.Work.TheVariants.{Store, Get};
 ghost use Rattle.task_run.specs.RunLaws.{GotNeedsFit};
+ghost use Rattle.task_run.specs.Reads.{holds, are_found_so};
 ghost use Rattle.task_run.specs.Askings.{TaskStretch, run_askings, run_notings, desk_of};
 ghost use Rattle.task_run.specs.StretchRows.{dropped_twice, removes};
 ghost use Rattle.journal_model.specs.Rows.{crossed};
@@ -120,6 +121,19 @@ pub fn fitting_runs()
     ensures goes_on { TaskRun get_ten 1 (setup_of 0) ((4, 3) ∷ []) goes_on_ten short_then_more [] (SizeAnswer 3) → ⊥ }
     ensures half_looked_at { TaskRun get_ten 1 (setup_of 0) ((4, 3) ∷ []) gets_ten half_read_ten [] (SizeAnswer 6) → ⊥ }
     ensures not_asked { TaskRun get_ten 1 (setup_of 0) ((4, 3) ∷ []) [] resumed_ten [] Got → ⊥ }
+{}
+
+/// What part holds behind such calls, and of which contents all that they found of it is so.
+pub fn part_holds()
+    ensures found { are_found_so (codes "o.part") (Some (codes "012345678")) resumed_ten ≡ true }
+    ensures other_length { are_found_so (codes "o.part") (Some (codes "01234567")) resumed_ten ≡ false }
+    ensures other_bytes { are_found_so (codes "o.part") (Some (codes "01234S678")) resumed_ten ≡ false }
+    ensures resumed { holds (codes "o.part") (Some (codes "012345678")) resumed_ten ≡ Some (codes "0123456789") }
+    ensures grown { holds (codes "o.part") (Some (codes "012345678")) grown_on_nine ≡ Some (codes "01234567889") }
+    ensures cut_behind { holds (codes "o.part") (Some (codes "012345678")) cut_behind_ten ≡ Some (codes "012345678") }
+    ensures made { holds (codes "o.part") None (got_abc (codes "abc")) ≡ Some (codes "abc") }
+    ensures unknown { holds (codes "o.part") None resumed_ten ≡ None }
+    ensures replaced { holds (codes "o") (Some []) renamed ≡ None }
 {}
 
 /// Where the bytes that part held and those that were fetched have another digest than the key, the answer is this digest and part is gone.
