@@ -223,7 +223,7 @@ came h len size held bytes before after pieces ending f k s is w most c =
     subst P (ap (λ l. Size (fetch_in h) (Ok len) ∷ l) (sym (append_assoc (copies_in h pieces) ending (Remove (fetch_in h) (Ok tt) ∷ [])))) (
       concat pieces,
       within_next u h.cur h.got h.left h.part h.x h.n h.calls seg f (segment_of h seg moving) moving.run moving.good.free (ap (filter (is_wrong u.place.key.size h.part)) sized ∙ rw right refl),
-      kept_next u h.cur h.got h.left h.part h.x h.n h.calls seg held bytes (concat pieces) f k (segment_of h seg moving) (rw (apart_in h).fetch_part facts.no_begin) known facts.bytes facts.written whole,
+      kept_next u h.cur h.got h.left h.part h.x h.n h.calls seg held bytes (concat pieces) f k (segment_of h seg moving) (rw (apart_in h).fetch_part facts.no_begin) facts.grown known facts.bytes facts.written whole,
       c,
       refl,
     )
@@ -245,7 +245,7 @@ came h len size held bytes before after pieces ending f k s is w most c =
 
     facts : Facts (file_in h) (fetch_in h) pieces ending (moved_calls (file_in h) (fetch_in h) pieces ending)
     facts = moved_facts (file_in h) (fetch_in h) ((h.calls ++ pre) ++ copies_in h pieces) pieces ending (Remove (fetch_in h) (Ok tt) ∷ []) (apart_in h)
-        (tail_in h pre (len - length (concat pieces)) pieces ending ready w) refl refl refl refl
+        (tail_in h pre (len - length (concat pieces)) pieces ending ready w) refl refl refl refl refl
 
     known : is_known (part_in h) (h.calls ++ seg) ≡ true
     known = part_known_moved h pre (len - length (concat pieces)) pieces ending ready w

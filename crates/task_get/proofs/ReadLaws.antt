@@ -13,7 +13,7 @@ use Rattle.task_asker.specs.Askings.{Asking}
 use Rattle.task_run.specs.declared.setup.Setup.{Setup}
 use Rattle.task_run.specs.Stops.{is_done}
 use Rattle.task_run.specs.Names.{fetch_file, fetch_files, part_of, is_among}
-use Rattle.task_run.specs.Reads.{length_or_none, length_found, lengths_found, read_of, reads_of, bytes_of, is_run, is_reading, piece_of, appended}
+use Rattle.task_run.specs.Reads.{length_or_none, length_found, lengths_found, read_of, reads_of, bytes_of, is_run, piece_of, appended}
 use Rattle.task_run.specs.Discipline.{are_among, names_in, name_only, changes_as_result, size_among, size_of_only}
 use Rattle.task_run.specs.Gets.{begins, lengths_at_begin, since_begin, held_reads, bytes_fetched, are_read, is_read_whole, are_read_whole, wrong_lengths, is_wrong}
 use Rattle.task_run.specs.Runs.{fetched_files}

@@ -119,7 +119,7 @@ record Decided (setup : Setup) (t : ℕ) (key : Parts) (sizes : List ℕ) (file 
   right : wrong_lengths setup t key.size calls (first_asked asked) (parts_last key sizes (lengths_at_begin file calls) asked) ≡ []
   done : count_by is_done (asked_last asked) ≡ length (parts_last key sizes (lengths_at_begin file calls) asked)
   was : IsChecked setup t key sizes file asked calls A.Got
-  kept : IsKept setup t file asked calls
+  kept : IsKept setup t sizes file asked calls
 
 decided : (setup : Setup) (t : ℕ) (key : Parts) (sizes : List ℕ) (file : List ℕ) (asked : List Asking) (calls : List Call) → GetAnswers setup t key sizes file asked calls A.Got → Decided setup t key sizes file asked calls
 decided setup t key sizes file asked calls r = by_test (failures asked == length sizes) refl r.answered
@@ -206,6 +206,7 @@ keeps setup t key sizes file asked calls contents sized a r fresh f = record {
   in_order = whole.in_order;
   appended_are = d.kept.moved ∙ bytes;
   checked_are = is_all;
+  holds_all = λ before found. d.kept.held before found ∙ ap Some is_all;
   fits = let P : List ℕ → Type 0 = λ x. FitsKey key x in subst P is_all fits;
   renamed = d.kept.renamed;
 }

@@ -1,15 +1,11 @@
 -- What calls show of the content of a file.
-use Rattle.std.specs.Prelude.{ℕ, ◌≡◌, ◌+◌, ◌==◌, ◌&&◌, ◌||◌, nat_lt, nat_le, Bool, true, List, [], ◌∷◌, length, take, drop, bytes_eq}
+use Rattle.std.specs.Prelude.{ℕ, ◌≡◌, ◌+◌, ◌==◌, true, List, [], ◌∷◌, length}
 use Rattle.std.specs.List.{list_all}
 use Rattle.ann_outside.specs.declared.file_desk.Call.{Call}
 use Rattle.task_asker.specs.Askings.{Asking}
 use Rattle.task_run.specs.declared.setup.Setup.{Setup}
 use Rattle.task_run.specs.Names.{fetch_file}
-use Rattle.task_run.specs.Reads.{lengths_found, reads_of}
-
--- the read brought bytes of this content from its place on, and none only at its end
-abbrev pub is_read_of : List ℕ → ℕ × List ℕ → Bool
-is_read_of content read = bytes_eq read.1 (take (length read.1) (drop read.0 content)) && (nat_lt 0 (length read.1) || nat_le (length content) read.0)
+use Rattle.task_run.specs.Reads.{lengths_found, reads_of, is_read_of}
 
 -- All that the calls found and read of the file is of this content.
 pub record Shows (name content : List ℕ) (calls : List Call) : Type 0 where

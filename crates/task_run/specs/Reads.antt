@@ -1,4 +1,4 @@
--- What the calls read, wrote and found of a file.
+-- What the calls read, wrote and found of a file, and what it holds behind them.
 use Rattle.std.specs.Prelude.{ℕ, ◌+◌, ◌-◌, ◌==◌, ◌&&◌, ◌||◌, nat_le, nat_lt, Bool, true, false, if◌then◌else◌, List, [], ◌∷◌, length, take, drop, map, filter, unwrap_or, option_map, ◌++◌, Option, Some, None, Result, Ok, Err, bytes_eq}
 use Rattle.std.specs.List.{filter_map, concat}
 use Rattle.ann_outside.specs.declared.file_desk.DeskError.{DeskError}

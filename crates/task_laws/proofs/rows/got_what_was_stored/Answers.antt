@@ -38,7 +38,7 @@ ran = record {
     record { in_order = search rules; each_failed = refl; each_begun = refl; each_right = refl; held_read = refl; fetched_read = refl },
     refl,
   );
-  answered = record { answered = record { begun = refl; by_length = (refl, record { said = record { size = refl; name = λ naming e. absurd (no_digest naming.kind naming.extended e) }; held_whole = refl; fetched_whole = refl }); part = record { moved = refl; renamed = refl } } };
+  answered = record { answered = record { begun = refl; by_length = (refl, record { said = record { size = refl; name = λ naming e. absurd (no_digest naming.kind naming.extended e) }; held_whole = refl; fetched_whole = refl }); part = record { moved = refl; held = λ before found. refl; renamed = refl } } };
 }
 
 abbrev stretch : TaskStretch stored_then_got 2
