@@ -40,6 +40,7 @@ pub record SeatsOne (o : Opening) (program : List ℕ) (slot : ℕ) (old new : L
   pub links_are : links' ≡ links ++ link
   pub ended : list_all (λ c. is_ended new c || is_among link c) (children (main_entry first ∷ [])) ≡ true
   pub serve : All (MayServe o new) link
+  pub one_child : All (λ l. l.mouth.child ≡ l.ear.child) link
   pub seated : AreSeated before.starts new 0 (came (main_entry first ∷ [])) seat link
   pub adds : AddsAll before.starts after.starts (told program (main_entry first ∷ []))
   pub fault : is_failed_start first ≡ true → Rose before.faults after.faults
