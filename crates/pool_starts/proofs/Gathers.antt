@@ -15,11 +15,11 @@ use Rattle.lone_rounds.specs.Stints.{MayHaveAsked}
 use Rattle.lone_rounds.proofs.Leaving.{adds_both, adds_none, adds_one, rose_on, stays_none}
 use Rattle.pool_rounds.specs.Pool.{MayServe, PoolCan}
 use Rattle.pool_starts.specs.Pools.{Gathered, GathersBy, IsPool, IsWithin, SeatValue, Serves}
-use Rattle.pool_starts.specs.Seats.{SeatsNone}
+use Rattle.pool_starts.specs.Seats.{SeatsNone, SeatsOne}
 use Rattle.pool_starts.specs.Slots.{has_pool, is_unclaimed_since, last_slot}
 use Rattle.pool_starts.proofs.Seating.{seats_few}
 use Rattle.pool_starts.proofs.SlotLaws.{left_same}
-use Rattle.pool_starts.proofs.Standing.{Standing}
+use Rattle.pool_starts.proofs.Standing.{Standing, standing_next}
 
 -- ---- the begin
 
@@ -66,6 +66,19 @@ module _ (o : Opening) (jobs : ℕ) (program : List ℕ) (old : List Entry) (fir
     low_links = ((let e = last_child in omega (arith, e)), tt);
     one_child = All-cons (λ (l : LinkValue). l.mouth.child ≡ l.ear.child) first [] one (All-nil (λ (l : LinkValue). l.mouth.child ≡ l.ear.child));
   }
+
+  pub begins_as : (seats : List SeatValue) (links : List LinkValue) → has_pool old ≡ true → last_slot old ≡ 0 → is_unclaimed_since old ≡ true → first.ear.child ≡ count is_start old → first.mouth.child ≡ first.ear.child
+      → seats ≡ Serves ∷ [] → links ≡ first ∷ [] → Standing o jobs program old old first before before seats links 1
+  begins_as seats links pool last since last_child one es el =
+      subst (λ (xs : List SeatValue). Standing o jobs program old old first before before xs links 1) (sym es)
+      (subst (λ (ls : List LinkValue). Standing o jobs program old old first before before (Serves ∷ []) ls 1) (sym el) (standing_begin pool last since last_child one))
+
+-- one start more, of a core under another name
+pub next_seat : (o p : Opening) (jobs : ℕ) (program : List ℕ) (old mid new : List Entry) (first : LinkValue) (before between after : ProgramsValue) (seats seats' : List SeatValue) (links links' : List LinkValue) (slot : ℕ) → p ≡ o
+    → Standing o jobs program old mid first before between seats links slot → SeatsOne p program slot mid new between after seats seats' links links' → Legal o new → slot < jobs → slot < length (unclaimed o old)
+    → Standing o jobs program old new first before after seats' links' (slot + 1)
+next_seat o p jobs program old mid new first before between after seats seats' links links' slot same t s legal there needed =
+    standing_next t (subst (λ (w : Opening). SeatsOne w program slot mid new between after seats seats' links links') same s) legal there needed
 
 -- ---- the end
 
@@ -125,15 +138,23 @@ module _ {o : Opening} {jobs : ℕ} {program : List ℕ} {old mid : List Entry} 
     where
       asked : (Stays between.starts after.starts ⊎ ((b : Bool) × AddsOne between.starts after.starts (program, b))) → HaveStarted (Unit {0}) program g.later before.starts after.starts
       asked (inl s) = inl (subst (AddsAll before.starts after.starts) (append-nil (told program g.later)) (adds_both before.starts between.starts after.starts (told program g.later) [] started_before (stays_none between.starts after.starts s)))
-      asked (inr (b, a)) = inr (tt, b, adds_both before.starts between.starts after.starts (told program g.later) ((program, b) ∷ []) started_before (adds_one between.starts after.starts (program, b) a))
+      asked (inr (b, a)) = inr (tt, (b, adds_both before.starts between.starts after.starts (told program g.later) ((program, b) ∷ []) started_before (adds_one between.starts after.starts (program, b) a)))
+
+  counts : (length t.pool.more ≤ length t.pool.others) × (length t.pool.others ≤ length (came g.later))
+  counts = seats_few before.starts mid 0 (came g.later) t.pool.others t.pool.more t.pool.by.seated
 
   -- how many links and seats there are
+  pub below_slot : (some_links some_seats : ℕ) → some_links ≡ length links → some_seats ≡ length seats → (some_links ≤ slot) × (some_seats ≤ slot)
+  below_slot some_links some_seats el es =
+      let a = ap (λ (ls : List LinkValue). length ls) t.pool.links_are in
+      let b = ap (λ (xs : List SeatValue). length xs) t.pool.seats_are in
+      let c = counts in
+      let m = t.many in
+      (omega (arith, a, b, el, es, c.0, c.1, m), omega (arith, b, es, c.1, m))
+
   pub within_jobs : (some_links some_seats : ℕ) → some_links ≡ length links → some_seats ≡ length seats → (0 < jobs → slot ≤ jobs) → IsWithin jobs some_links some_seats
   within_jobs some_links some_seats el es le = record {
     some = (let a = ap (λ (ls : List LinkValue). length ls) t.pool.links_are in omega (arith, a, el));
     each = (let a = ap (λ (ls : List LinkValue). length ls) t.pool.links_are in let b = ap (λ (xs : List SeatValue). length xs) t.pool.seats_are in let f = counts.0 in omega (arith, a, b, el, es, f));
-    most = λ pos. (let b = ap (λ (xs : List SeatValue). length xs) t.pool.seats_are in let f = counts.1 in let m = t.many in let l = le pos in omega (arith, b, es, f, m, l));
+    most = λ pos. (let low = (below_slot some_links some_seats el es).1 in let l = le pos in omega (arith, low, l));
   }
-    where
-      counts : (length t.pool.more ≤ length t.pool.others) × (length t.pool.others ≤ length (came g.later))
-      counts = seats_few before.starts mid 0 (came g.later) t.pool.others t.pool.more t.pool.by.seated

@@ -142,6 +142,9 @@ serve_all o past more most legal apart (l ∷ links) u ones all =
     (serve_on o past more l legal (All-head (λ (x : LinkValue). x.mouth.child ≡ x.ear.child) l links ones) (apart l.ear.child u.0) (All-head (MayServe o past) l links all))
     (serve_all o past more most legal apart links u.1 (All-tail (λ (x : LinkValue). x.mouth.child ≡ x.ear.child) l links ones) (All-tail (MayServe o past) l links all))
 
+not_yet : {A : Type 0} → false ≡ true → A
+not_yet h = absurd (let bad : false ≡ true = h in cc)
+
 -- the pool that one start more leaves
 module _ {o : Opening} {jobs : ℕ} {program : List ℕ} {old mid new : List Entry} {first : LinkValue} {before between after : ProgramsValue} {seats seats' : List SeatValue} {links links' : List LinkValue} {slot : ℕ}
     (t : Standing o jobs program old mid first before between seats links slot) (s : SeatsOne o program slot mid new between after seats seats' links links')
@@ -347,7 +350,7 @@ module _ {o : Opening} {jobs : ℕ} {program : List ℕ} {old mid new : List Ent
   abbrev base : ℕ
   base = count is_start old + 1
 
-  gathered_now : Gathered o jobs old new first more false
+  abbrev gathered_now : Gathered o jobs old new first more false
   gathered_now = record {
     later = later;
     is = is_now;
@@ -364,7 +367,7 @@ module _ {o : Opening} {jobs : ℕ} {program : List ℕ} {old mid new : List Ent
     turn = turn_now;
     ended = ended_now;
     can = can_now;
-    manned = λ whole. absurd (let bad : false ≡ true = whole in cc);
+    manned = λ whole. not_yet whole;
   }
 
   -- ---- the objects
