@@ -11,12 +11,12 @@ use Rattle.journal_model.specs.declared.entry.What.TheVariants.{Start, NoStart, 
 use Rattle.journal_model.specs.declared.entry.Entry.{Entry}
 use Rattle.journal_model.specs.declared.opening.Opening.{Opening}
 use Rattle.journal_model.specs.Halves.{EarValue, MouthValue}
-use Rattle.journal_model.specs.Journal.{asked_jobs, is_ended, is_started, open_jobs, starts, why_of}
-use Rattle.journal_model.specs.Legality.{Legal, count, is_busy, is_start, may_stop}
+use Rattle.journal_model.specs.Journal.{asked_jobs, is_ended, is_started, open_jobs, starts, verdict_of, why_of}
+use Rattle.journal_model.specs.Legality.{Legal, is_busy, is_done, is_prepared, may_stop}
 use Rattle.journal_model.specs.Shares.{are_by, is_of_child}
 use Rattle.journal_model.proofs.Holding.{holder_append}
 use Rattle.journal_model.proofs.Linking.{why_is_end}
-use Rattle.journal_model.proofs.Looks.{any-append, same}
+use Rattle.journal_model.proofs.Looks.{any-append, or_none, same, verdict_of-append}
 use Rattle.journal_model.proofs.Testing.{all-each, all-join, or_left, or_right}
 use Rattle.link_roles.specs.Alone.{Closes}
 use Rattle.link_roles.specs.Writings.{LoneWired}
@@ -37,7 +37,7 @@ use Rattle.crew_rounds.specs.Tagged.{link_of}
 use Rattle.pool_rounds.specs.Pool.{MayServe}
 use Rattle.pool_starts.specs.Pools.{AreSeated, OverBy, SeatValue, Serves, is_among}
 use Rattle.pool_starts.specs.Seats.{SeatsOne, SeatsOver}
-use Rattle.pool_starts.proofs.Own.{greeting_own, own_rests, rest_shut}
+use Rattle.pool_starts.proofs.Own.{greeting_own, own_rests, rest_shut, undone_unready}
 
 -- ---- a child that was greeted
 
@@ -98,6 +98,7 @@ module _ (o : Opening) (program : List ℕ) (slot : ℕ) (old g : List Entry) (b
     seats_are = seats_are;
     links_are = links_are;
     ended = (let here : is_among (link_of ear mouth ∷ []) ear.child ≡ true = or_left (ear.child == ear.child) false (same ear.child) in rw (or_right (is_ended g ear.child) (is_among (link_of ear mouth ∷ []) ear.child) here) refl);
+    ready = (let here : is_among (link_of ear mouth ∷ []) ear.child ≡ true = or_left (ear.child == ear.child) false (same ear.child) in rw (or_right (not (is_prepared g ear.child)) (is_among (link_of ear mouth ∷ []) ear.child) here) refl);
     serve = All-cons (MayServe o g) (link_of ear mouth) [] (record {
       serves = record {
         legal = legal;
@@ -117,7 +118,7 @@ module _ (o : Opening) (program : List ℕ) (slot : ℕ) (old g : List Entry) (b
   }
 
   -- it isn't, and was closed
-  module _ (new : List Entry) (after : ProgramsValue) (closes : Closes 0 ear.child g new) (wired : LoneWired new ear mouth) (over : SeatsOver ear mouth mid after seats seats' links links') where
+  module _ (new : List Entry) (after : ProgramsValue) (undone : is_done (verdict_of g ear.child 1) ≡ false) (closes : Closes 0 ear.child g new) (wired : LoneWired new ear mouth) (over : SeatsOver ear mouth mid after seats seats' links links') where
     k : Closing ear.child g new
     k = closing ear.child g new closes
 
@@ -128,6 +129,10 @@ module _ (o : Opening) (program : List ℕ) (slot : ℕ) (old g : List Entry) (b
     laid_one : (ws : List WireValue) → over.wire ∷ [] ≡ [] ++ ws → AreLinked before.starts new 0 (Some ear.child ∷ []) ws
         → AreSeated before.starts new 0 (Some ear.child ∷ []) (OverBy over.wire ∷ []) []
     laid_one ws is h = (let l = subst (AreLinked before.starts new 0 (Some ear.child ∷ [])) (sym is) h in (l.0, l.1, tt))
+
+    unready : is_prepared new ear.child ≡ false
+    unready = undone_unready new ear.child (ap is_done (ap (λ (j : List Entry). verdict_of j ear.child 1) k.is ∙ verdict_of-append ear.child 1 g k.tail
+        ∙ or_none (verdict_of g ear.child 1) (verdict_of k.tail ear.child 1) (of_closing ear.child k.tail k.one (λ (x : List Entry). verdict_of x ear.child 1 ≡ None) refl refl)) ∙ undone)
 
     abbrev more : List Entry
     more = greeted.more ++ k.tail
@@ -150,6 +155,7 @@ module _ (o : Opening) (program : List ℕ) (slot : ℕ) (old g : List Entry) (b
       seats_are = over.seats_are;
       links_are = over.links_are ∙ sym (append-nil links);
       ended = rw (or_left (is_ended new ear.child) false k.ended) refl;
+      ready = rw unready refl;
       serve = All-nil (MayServe o new);
       one_child = All-nil (λ (l : LinkValue). l.mouth.child ≡ l.ear.child);
       seated = laid_one its.new its.laid its.linked;
@@ -175,6 +181,7 @@ fault_seats o program slot old new before after seats links is calm adds rose la
   seats_are = sym (append-nil seats);
   links_are = sym (append-nil links);
   ended = refl;
+  ready = refl;
   serve = All-nil (MayServe o new);
   one_child = All-nil (λ (l : LinkValue). l.mouth.child ≡ l.ear.child);
   seated = tt;

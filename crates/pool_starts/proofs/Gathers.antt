@@ -44,6 +44,7 @@ module _ (o : Opening) (jobs : ℕ) (program : List ℕ) (old : List Entry) (fir
         asks = refl;
         turn = tt;
         ended = refl;
+        ready = refl;
         can = can;
         manned = λ whole. absurd (let bad : false ≡ true = whole in cc);
       };
@@ -103,6 +104,7 @@ module _ {o : Opening} {jobs : ℕ} {program : List ℕ} {old mid : List Entry} 
       asks = g.asks;
       turn = g.turn;
       ended = g.ended;
+      ready = g.ready;
       can = g.can;
       manned = λ whole. subst (λ (n : ℕ). min jobs n ≤ last_slot mid + 1) (sym left) (subst (λ (n : ℕ). min jobs (length (unclaimed o old)) ≤ n) (sym t.slotted) all);
     };

@@ -18,8 +18,9 @@ use Rattle.journal_model.specs.Shares.{are_by, is_closed, is_of_child}
 use Rattle.journal_model.proofs.Fresh.{fresh}
 use Rattle.journal_model.proofs.Holding.{answered, claimed, holder_append, unturned}
 use Rattle.journal_model.proofs.Linking.{why_is_end, why_of-append}
-use Rattle.journal_model.proofs.Looks.{any-append, both, differ, either_left, either_right, or_none, same, same_number, true_not_false, verdict_of-append}
+use Rattle.journal_model.proofs.Looks.{any-append, both, differ, either_left, either_right, or_none, same, same_number, settled_none, true_not_false, verdict_of-append}
 use Rattle.journal_model.proofs.Testing.{by_either, or_left}
+use Rattle.journal_model.proofs.Turns.{without}
 use Rattle.link_roles.specs.Writings.{LoneWired}
 use Rattle.link_roles.proofs.Linked.{any_narrower}
 use Rattle.link_roles.proofs.Writings.{lone_apart}
@@ -169,6 +170,29 @@ prepared_on past more c h =
     let done : is_done (verdict_of (past ++ more) c 1) ≡ true = ap is_done (verdict_of-append c 1 past more) ∙ done_more (verdict_of past c 1) (verdict_of more c 1) t.0 in
     let asked : any (prepares c) (past ++ more) ≡ true = any-append (prepares c) past more ∙ or_left (any (prepares c) past) (any (prepares c) more) t.1 in
     rw (done, asked) refl
+
+prepares_of : (c : ℕ) (w : What) → prepares c w ≡ true → is_of_child c w ≡ true
+prepares_of c (Ask child job task line) h = three (child == c) (job == 1) (asks_prepare line) h
+  where
+    three : (a b d : Bool) → (a && b && d) ≡ true → a ≡ true
+    three true b d k = refl
+    three false b d k = absurd cc
+prepares_of c w h = absurd cc
+
+or_no : (b d : Bool) → d ≡ false → (b || d) ≡ b
+or_no true d h = refl
+or_no false d h = h
+
+-- a child of which nothing is made gets no readier
+pub prepared_apart : (past more : List Entry) (c : ℕ) → any (is_of_child c) more ≡ false → is_prepared (past ++ more) c ≡ is_prepared past c
+prepared_apart past more c none =
+    let v : verdict_of (past ++ more) c 1 ≡ verdict_of past c 1 = verdict_of-append c 1 past more ∙ or_none (verdict_of past c 1) (verdict_of more c 1) (settled_none more c 1 ((without c more none).settled 1)) in
+    let a : any (prepares c) (past ++ more) ≡ any (prepares c) past =
+    any-append (prepares c) past more ∙ or_no (any (prepares c) past) (any (prepares c) more) (any_narrower (prepares c) (is_of_child c) (prepares_of c) more none) in
+    ap (λ (x : Option Verdict). is_done x && any (prepares c) (past ++ more)) v ∙ ap (λ (b : Bool). is_done (verdict_of past c 1) && b) a
+
+pub undone_unready : (past : List Entry) (c : ℕ) → is_done (verdict_of past c 1) ≡ false → is_prepared past c ≡ false
+undone_unready past c h = ap (λ (b : Bool). b && any (prepares c) past) h
 
 ends_of : (c : ℕ) (w : What) → ends c w ≡ true → is_of_child c w ≡ true
 ends_of c (End child why) h = h

@@ -28,12 +28,12 @@ use Rattle.lone_rounds.specs.Rounds.{is_of_run}
 use Rattle.lone_rounds.specs.Stints.{AreUpTo, main_entry, next_child}
 use Rattle.lone_rounds.proofs.Apart.{ended_on, no_offer, ready_same}
 use Rattle.lone_rounds.proofs.Leaving.{adds_both, none_told, rose_on}
-use Rattle.lone_rounds.proofs.Tests.{UpTo, any_none, count-append, count_none, no_children, none_came, up_to_both, up_to_more}
+use Rattle.lone_rounds.proofs.Tests.{UpTo, any_none, children_up_to, count-append, count_none, no_children, none_came, up_to_both, up_to_more}
 use Rattle.pool_rounds.specs.Pool.{MayServe, PoolCan}
 use Rattle.pool_starts.specs.Pools.{AreSeated, Gathered, GathersBy, IsPool, OverBy, SeatValue, Serves, is_among, is_claim}
 use Rattle.pool_starts.specs.Seats.{IsSlotStart, SeatsOne}
 use Rattle.pool_starts.specs.Slots.{AllInTurn, IsInSlot, IsNextSlot, StandsInTurn, begins_by_start, first_in, has_pool, in_pool, is_first_start, is_ready_pool, is_unclaimed_since, last_slot, offers_tags, slot_of}
-use Rattle.pool_starts.proofs.Own.{AreShut, low, own_apart, own_claims, own_pool, own_rests, own_starts, own_tags, prepared_low, rest_shut, serve_on, shut_on, shut_open}
+use Rattle.pool_starts.proofs.Own.{AreShut, low, own_apart, own_claims, own_pool, own_rests, own_starts, own_tags, prepared_apart, prepared_low, rest_shut, serve_on, shut_on, shut_open}
 use Rattle.pool_starts.proofs.Seating.{among_both, as_many, distinct_more, links_low, seated_behind, seated_both, seated_on, seats_few, up_both, up_more}
 use Rattle.pool_starts.proofs.SlotLaws.{first_same, last_first, last_same, left_same, none_first, pool_of, since_same, slot_same, turn_both, turn_quiet}
 
@@ -144,6 +144,13 @@ serve_all o past more most legal apart (l ∷ links) u ones all =
 
 not_yet : {A : Type 0} → false ≡ true → A
 not_yet h = absurd (let bad : false ≡ true = h in cc)
+
+-- what holds of each child up to a number
+all_low : (n : ℕ) (p q : ℕ → Bool) → ((d : ℕ) → d ≤ n → p d ≡ true → q d ≡ true) → (ds : List ℕ) → UpTo n ds → list_all p ds ≡ true → list_all q ds ≡ true
+all_low n p q f [] u h = refl
+all_low n p q f (d ∷ ds) u h =
+    let t = both (p d) (list_all p ds) h in
+    rw (f d u.0 t.0, all_low n p q f ds u.1 t.1) refl
 
 -- the pool that one start more leaves
 module _ {o : Opening} {jobs : ℕ} {program : List ℕ} {old mid new : List Entry} {first : LinkValue} {before between after : ProgramsValue} {seats seats' : List SeatValue} {links links' : List LinkValue} {slot : ℕ}
@@ -347,6 +354,25 @@ module _ {o : Opening} {jobs : ℕ} {program : List ℕ} {old mid new : List Ent
       newer : (c : ℕ) → (is_ended new c || is_among s.link c) ≡ true → (is_ended new c || is_among more c) ≡ true
       newer c h = either (is_ended new c) (is_among s.link c) (is_ended new c) (is_among more c) (λ e. e) (λ e. among_both t.pool.more s.link c ∙ or_right (is_among t.pool.more c) (is_among s.link c) e) h
 
+  ready_now : list_all (λ (c : ℕ). not (is_prepared new c) || is_among more c) (children later) ≡ true
+  ready_now = ap (list_all (λ (c : ℕ). not (is_prepared new c) || is_among more c)) children_now
+      ∙ all-join (λ (c : ℕ). not (is_prepared new c) || is_among more c) (children g.later) (children (begun ∷ []))
+      (all_low (count is_start mid) (λ (c : ℕ). not (is_prepared mid c) || is_among t.pool.more c) (λ (c : ℕ). not (is_prepared new c) || is_among more c) (λ c le h. older c le h) (children g.later) (children_up_to (count is_start mid) g.later t.up_to) g.ready)
+      (all-each (λ (c : ℕ). not (is_prepared new c) || is_among s.link c) (λ (c : ℕ). not (is_prepared new c) || is_among more c) (λ c h. newer c h) (children (begun ∷ [])) s.ready)
+    where
+      either : (a b x y : Bool) → (a ≡ true → x ≡ true) → (b ≡ true → y ≡ true) → (a || b) ≡ true → (x || y) ≡ true
+      either true b x y f h k = or_left x y (f refl)
+      either false true x y f h k = or_right x y (h refl)
+      either false false x y f h k = absurd cc
+
+      older : (c : ℕ) → c ≤ count is_start mid → (not (is_prepared mid c) || is_among t.pool.more c) ≡ true → (not (is_prepared new c) || is_among more c) ≡ true
+      older c le h = either (not (is_prepared mid c)) (is_among t.pool.more c) (not (is_prepared new c)) (is_among more c)
+          (λ e. ap not (ap (λ (j : List Entry). is_prepared j c) s.is ∙ prepared_apart mid tail c (apart c le)) ∙ e)
+          (λ e. among_both t.pool.more s.link c ∙ or_left (is_among t.pool.more c) (is_among s.link c) e) h
+
+      newer : (c : ℕ) → (not (is_prepared new c) || is_among s.link c) ≡ true → (not (is_prepared new c) || is_among more c) ≡ true
+      newer c h = either (not (is_prepared new c)) (is_among s.link c) (not (is_prepared new c)) (is_among more c) (λ e. e) (λ e. among_both t.pool.more s.link c ∙ or_right (is_among t.pool.more c) (is_among s.link c) e) h
+
   abbrev base : ℕ
   base = count is_start old + 1
 
@@ -366,6 +392,7 @@ module _ {o : Opening} {jobs : ℕ} {program : List ℕ} {old mid new : List Ent
     asks = all-join (λ (e : Entry). is_of_run e.what) g.later tail g.asks (let its = says.asks_run in let rest = s.asks in rw (its, rest) refl);
     turn = turn_now;
     ended = ended_now;
+    ready = ready_now;
     can = can_now;
     manned = λ whole. not_yet whole;
   }
