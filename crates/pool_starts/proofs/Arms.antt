@@ -1,19 +1,18 @@
 -- What one start came to: a child that serves, one that is over, or none.
-use Rattle.std.proofs.Common.{◌≡◌, ◌⊎◌, ℕ, ◌+◌, ◌≤◌, List, [], ◌∷◌, ◌++◌, refl, sym, ap, subst, ◌∙◌, append_assoc, append-nil, length, length-append, Bool, true, false, not, ◌==◌, Some, None, Option, arith, inl, inr}
-use Rattle.std.specs.Prelude.{◌&&◌, ◌||◌, is_some, All}
+use Rattle.std.proofs.Common.{◌≡◌, ℕ, ◌≤◌, List, [], ◌∷◌, ◌++◌, refl, sym, ap, subst, ◌∙◌, append_assoc, append-nil, length, length-append, Bool, true, false, not, ◌==◌, Some, None, Option, arith, inl, inr}
+use Rattle.std.specs.Prelude.{is_some}
 use Rattle.std.specs.List.{list_all}
 use Rattle.std.proofs.lemmas.List.Elements.{All-cons, All-nil}
-use Rattle.ann_outside.specs.Causes.{AddsOne, Rose, Stays}
+use Rattle.ann_outside.specs.Causes.{AddsOne, Rose}
 use Rattle.ann_outside.specs.Starts.{IsNumbered, Starts}
 use Rattle.journal_model.specs.declared.verdict.Why.TheVariants.{Closed}
-use Rattle.journal_model.specs.declared.entry.What.{What}
-use Rattle.journal_model.specs.declared.entry.What.TheVariants.{Start, NoStart, End}
+use Rattle.journal_model.specs.declared.entry.What.TheVariants.{Start, NoStart}
 use Rattle.journal_model.specs.declared.entry.Entry.{Entry}
 use Rattle.journal_model.specs.declared.opening.Opening.{Opening}
 use Rattle.journal_model.specs.Halves.{EarValue, MouthValue}
 use Rattle.journal_model.specs.Journal.{asked_jobs, is_ended, is_started, open_jobs, starts, verdict_of, why_of}
 use Rattle.journal_model.specs.Legality.{Legal, is_busy, is_done, is_prepared, may_stop}
-use Rattle.journal_model.specs.Shares.{are_by, is_of_child}
+use Rattle.journal_model.specs.Shares.{is_of_child}
 use Rattle.journal_model.proofs.Holding.{holder_append}
 use Rattle.journal_model.proofs.Linking.{why_is_end}
 use Rattle.journal_model.proofs.Looks.{any-append, or_none, same, verdict_of-append}
@@ -22,8 +21,8 @@ use Rattle.link_roles.specs.Alone.{Closes}
 use Rattle.link_roles.specs.Writings.{LoneWired}
 use Rattle.child_start.specs.Greetings.{AreNumbered, Greeted, IsReady, is_of_greeting}
 use Rattle.child_start.proofs.Jobs.{idle_on}
-use Rattle.child_end.specs.Programs.{AddsAll, ProgramsValue}
-use Rattle.child_end.specs.Wires.{IsOfStart, IsLeft, WireValue}
+use Rattle.child_end.specs.Programs.{ProgramsValue}
+use Rattle.child_end.specs.Wires.{IsOfStart, WireValue}
 use Rattle.child_end.proofs.Held.{lone_held}
 use Rattle.door_asker.specs.KnownLayouts.{IsBook}
 use Rattle.gathering.specs.Rounds.{IsAtRest, LinkValue}

@@ -1,9 +1,8 @@
 -- A pool as its gathering begins, and as it ends.
-use Rattle.std.proofs.Common.{◌≡◌, ◌⊎◌, ℕ, suc, ◌+◌, ◌<◌, ◌≤◌, List, [], ◌∷◌, ◌++◌, refl, sym, ap, subst, ◌∙◌, append_assoc, append-nil, length, Bool, true, false, Some, None, Option, arith, inl, inr}
-use Rattle.std.specs.Prelude.{All, min}
+use Rattle.std.proofs.Common.{◌≡◌, ◌⊎◌, ℕ, ◌+◌, ◌<◌, ◌≤◌, List, [], ◌∷◌, refl, sym, ap, subst, ◌∙◌, append-nil, length, Bool, true, false, arith, inl, inr}
+use Rattle.std.specs.Prelude.{min}
 use Rattle.std.proofs.lemmas.List.Elements.{All-cons, All-head, All-nil}
 use Rattle.ann_outside.specs.Causes.{AddsOne, Stays}
-use Rattle.ann_outside.specs.Starts.{Starts}
 use Rattle.journal_model.specs.declared.entry.Entry.{Entry}
 use Rattle.journal_model.specs.declared.opening.Opening.{Opening}
 use Rattle.journal_model.specs.Legality.{Legal, count, is_start}
@@ -11,10 +10,9 @@ use Rattle.host_core.specs.Steps.{unclaimed}
 use Rattle.child_end.specs.Programs.{AddsAll, HaveStarted, ProgramsValue, told}
 use Rattle.child_end.specs.Wires.{came}
 use Rattle.gathering.specs.Rounds.{LinkValue}
-use Rattle.lone_rounds.specs.Stints.{MayHaveAsked}
 use Rattle.lone_rounds.proofs.Leaving.{adds_both, adds_none, adds_one, rose_on, stays_none}
 use Rattle.pool_rounds.specs.Pool.{MayServe, PoolCan}
-use Rattle.pool_starts.specs.Pools.{Gathered, GathersBy, IsPool, IsWithin, SeatValue, Serves}
+use Rattle.pool_starts.specs.Pools.{Gathered, IsPool, IsWithin, SeatValue, Serves}
 use Rattle.pool_starts.specs.Seats.{SeatsNone, SeatsOne}
 use Rattle.pool_starts.specs.Slots.{has_pool, is_unclaimed_since, last_slot}
 use Rattle.pool_starts.proofs.Seating.{seats_few}

@@ -1,37 +1,32 @@
 -- What entries of one child alone leave, behind a start.
-use Rattle.std.proofs.Common.{◌≡◌, ◌⊎◌, ℕ, suc, ◌+◌, ◌<◌, ◌≤◌, List, [], ◌∷◌, ◌++◌, refl, sym, ap, subst, ◌∙◌, append_assoc, length, Bool, true, false, not, ◌==◌, cond, Some, None, Option, arith, inl, inr, nat_le, nat_lt}
+use Rattle.std.proofs.Common.{◌≡◌, ℕ, ◌<◌, ◌≤◌, List, [], ◌∷◌, ◌++◌, refl, sym, ap, ◌∙◌, Bool, true, false, not, ◌==◌, cond, Some, None, Option, arith, nat_le, nat_lt}
 use Rattle.std.specs.Prelude.{◌&&◌, ◌||◌, is_some}
 use Rattle.std.specs.List.{list_all, list_any, cons_option}
 use Rattle.std.specs.Option.{option_or}
 use Rattle.std.proofs.lemmas.Bool.Decides.{nat_tests}
 use Rattle.journal_model.specs.declared.verdict.Verdict.{Verdict}
 use Rattle.journal_model.specs.declared.verdict.Why.{Why}
-use Rattle.journal_model.specs.declared.verdict.Why.TheVariants.{Closed}
 use Rattle.journal_model.specs.declared.entry.What.{What}
 use Rattle.journal_model.specs.declared.entry.What.TheVariants.{Claim, Start, NoStart, Ask, Put, Sent, Mute, Got, End, Verdict as Settled, Lost, Answer as Answered, Note}
 use Rattle.journal_model.specs.declared.entry.Entry.{Entry}
 use Rattle.journal_model.specs.declared.opening.Opening.{Opening}
-use Rattle.journal_model.specs.Halves.{EarValue, MouthValue}
-use Rattle.journal_model.specs.Journal.{any, asks, asked_jobs, each_of, ends, is_ended, is_open, is_started, offers, open_jobs, starts, verdict_of, why_of, writes}
+use Rattle.journal_model.specs.Journal.{any, asks, asked_jobs, each_of, ends, is_ended, is_open, is_started, open_jobs, starts, verdict_of, why_of, writes}
 use Rattle.journal_model.specs.Legality.{Legal, asks_prepare, count, is_busy, is_done, is_prepared, is_start, holder, prepares}
-use Rattle.journal_model.specs.Shares.{are_by, is_closed, is_of_child}
+use Rattle.journal_model.specs.Shares.{is_closed, is_of_child}
 use Rattle.journal_model.proofs.Fresh.{fresh}
 use Rattle.journal_model.proofs.Holding.{answered, claimed, holder_append, unturned}
 use Rattle.journal_model.proofs.Linking.{why_is_end, why_of-append}
-use Rattle.journal_model.proofs.Looks.{any-append, both, differ, either_left, either_right, or_none, same, same_number, settled_none, true_not_false, verdict_of-append}
+use Rattle.journal_model.proofs.Looks.{any-append, both, or_none, same, same_number, settled_none, true_not_false, verdict_of-append}
 use Rattle.journal_model.proofs.Testing.{by_either, or_left}
 use Rattle.journal_model.proofs.Turns.{without}
-use Rattle.link_roles.specs.Writings.{LoneWired}
 use Rattle.link_roles.proofs.Linked.{any_narrower}
 use Rattle.link_roles.proofs.Writings.{lone_apart}
 use Rattle.child_start.specs.Greetings.{is_greeting_line, is_of_greeting}
 use Rattle.child_start.proofs.Begun.{later_unstarted}
 use Rattle.child_start.proofs.Jobs.{idle_on}
 use Rattle.gathering.specs.Rounds.{IsAtRest, LinkValue}
-use Rattle.crew_work.specs.Crews.{CanServe}
 use Rattle.lone_rounds.specs.Starting.{is_any_start}
-use Rattle.lone_rounds.specs.Rounds.{is_of_run}
-use Rattle.lone_rounds.specs.Stints.{in_stint, main_entry}
+use Rattle.lone_rounds.specs.Stints.{in_stint}
 use Rattle.lone_rounds.proofs.Apart.{apart_in, no_start_in}
 use Rattle.lone_rounds.proofs.Tests.{any_none, each_none, each_without}
 use Rattle.pool_rounds.specs.Pool.{MayServe}

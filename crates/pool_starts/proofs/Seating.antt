@@ -1,6 +1,6 @@
 -- The seats of a pool, as its journal grows.
 use Rattle.std.proofs.Common.{◌≡◌, ℕ, zero, suc, ◌+◌, ◌<◌, ◌≤◌, List, [], ◌∷◌, ◌++◌, refl, sym, ap, subst, ◌∙◌, length, length-append, Bool, true, false, ◌==◌, Some, None, Option, arith, ◌⊎◌, inl, inr}
-use Rattle.std.specs.Prelude.{◌||◌, slice_get, map}
+use Rattle.std.specs.Prelude.{◌||◌, slice_get}
 use Rattle.std.specs.List.{cons_option}
 use Rattle.ann_outside.specs.Starts.{Starts}
 use Rattle.journal_model.specs.declared.entry.What.{What}
@@ -12,7 +12,7 @@ use Rattle.child_end.specs.Programs.{AddsAll, told, told_in}
 use Rattle.child_end.specs.Wires.{IsOfStart, came, came_in}
 use Rattle.gathering.specs.Laws.{Distinct, children_of}
 use Rattle.gathering.specs.Rounds.{LinkValue}
-use Rattle.lone_rounds.specs.Stints.{AreUpTo, main_entry}
+use Rattle.lone_rounds.specs.Stints.{AreUpTo}
 use Rattle.lone_rounds.proofs.Leaving.{linked_on}
 use Rattle.lone_rounds.proofs.Tests.{UpTo}
 use Rattle.pool_starts.specs.Pools.{AreSeated, OverBy, SeatValue, Serves, is_among}

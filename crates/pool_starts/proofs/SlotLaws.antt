@@ -1,6 +1,6 @@
 -- Starts and claims that stand in their turn, as a journal grows.
-use Rattle.std.proofs.Common.{◌≡◌, ℕ, zero, suc, ◌+◌, ◌<◌, ◌≤◌, List, [], ◌∷◌, ◌++◌, refl, sym, ap, subst, ◌∙◌, append_assoc, append-nil, length, Bool, true, false, not, ◌==◌, cond, Some, None, Option, arith}
-use Rattle.std.specs.Prelude.{◌&&◌, ◌||◌, filter, min, option_and_then, unwrap_or}
+use Rattle.std.proofs.Common.{◌≡◌, ℕ, zero, suc, ◌+◌, ◌<◌, ◌≤◌, List, [], ◌∷◌, ◌++◌, refl, sym, ap, subst, ◌∙◌, append_assoc, append-nil, length, Bool, true, false, not, cond, Some, None, Option, arith}
+use Rattle.std.specs.Prelude.{◌||◌, filter, min, option_and_then, unwrap_or}
 use Rattle.std.specs.List.{last_or}
 use Rattle.std.specs.Option.{option_or}
 use Rattle.journal_model.specs.declared.verdict.Verdict.{Verdict}
@@ -40,9 +40,10 @@ turn_back o jobs past (e ∷ xs) ys h = subst (λ (p : List Entry). AllInTurn o 
 -- entries with neither starts nor claims
 pub turn_quiet : (o : Opening) (jobs : ℕ) (past xs : List Entry) → any is_any_start xs ≡ false → any is_claim xs ≡ false → AllInTurn o jobs past xs
 turn_quiet o jobs past [] h k = tt
-turn_quiet o jobs past (e ∷ xs) h k =
-    (one e.what (either_left (is_any_start e.what) (any is_any_start xs) h) (either_left (is_claim e.what) (any is_claim xs) k),
-    turn_quiet o jobs (past ++ e ∷ []) xs (either_right (is_any_start e.what) (any is_any_start xs) h) (either_right (is_claim e.what) (any is_claim xs) k))
+turn_quiet o jobs past (e ∷ xs) h k = (
+  one e.what (either_left (is_any_start e.what) (any is_any_start xs) h) (either_left (is_claim e.what) (any is_claim xs) k),
+  turn_quiet o jobs (past ++ e ∷ []) xs (either_right (is_any_start e.what) (any is_any_start xs) h) (either_right (is_claim e.what) (any is_claim xs) k),
+)
   where
     one : (w : What) → is_any_start w ≡ false → is_claim w ≡ false → StandsInTurn o jobs past w
     one (Start child slot offer) a b = absurd cc
@@ -94,8 +95,10 @@ since_same past more starts claimed = ap (λ (s : Option Bool). unwrap_or s fals
     none : (xs : List Entry) → any is_any_start xs ≡ false → any is_claim xs ≡ false → each_of begins_by_start xs ≡ []
     none [] a b = refl
     none (e ∷ xs) a b =
-        rw (one e.what (either_left (is_any_start e.what) (any is_any_start xs) a) (either_left (is_claim e.what) (any is_claim xs) b),
-        none xs (either_right (is_any_start e.what) (any is_any_start xs) a) (either_right (is_claim e.what) (any is_claim xs) b)) refl
+        rw (
+          one e.what (either_left (is_any_start e.what) (any is_any_start xs) a) (either_left (is_claim e.what) (any is_claim xs) b),
+          none xs (either_right (is_any_start e.what) (any is_any_start xs) a) (either_right (is_claim e.what) (any is_claim xs) b),
+        ) refl
 
 -- the child that the last start of slot 0 gave
 abbrev pub last_first : List Entry → Option ℕ
@@ -168,10 +171,11 @@ manned_on o jobs past more none pool h = λ later. filled_on o jobs past more no
 -- entries without starts, where each claim among them may stand
 turn_where : (o : Opening) (jobs : ℕ) (past xs : List Entry) → any is_any_start xs ≡ false → ((front rest : List Entry) → xs ≡ front ++ rest → IsManned o jobs (past ++ front)) → AllInTurn o jobs past xs
 turn_where o jobs past [] none f = tt
-turn_where o jobs past (e ∷ xs) none f =
-    (one e.what (either_left (is_any_start e.what) (any is_any_start xs) none) (subst (IsManned o jobs) (append-nil past) (f [] (e ∷ xs) refl)),
-    turn_where o jobs (past ++ e ∷ []) xs (either_right (is_any_start e.what) (any is_any_start xs) none)
-    (λ front rest is. subst (IsManned o jobs) (sym (append_assoc past (e ∷ []) front)) (f (e ∷ front) rest (ap (λ (l : List Entry). e ∷ l) is))))
+turn_where o jobs past (e ∷ xs) none f = (
+  one e.what (either_left (is_any_start e.what) (any is_any_start xs) none) (subst (IsManned o jobs) (append-nil past) (f [] (e ∷ xs) refl)),
+  turn_where o jobs (past ++ e ∷ []) xs (either_right (is_any_start e.what) (any is_any_start xs) none)
+      (λ front rest is. subst (IsManned o jobs) (sym (append_assoc past (e ∷ []) front)) (f (e ∷ front) rest (ap (λ (l : List Entry). e ∷ l) is))),
+)
   where
     one : (w : What) → is_any_start w ≡ false → IsManned o jobs past → StandsInTurn o jobs past w
     one (Start child slot offer) a m = absurd cc

@@ -1,8 +1,7 @@
 -- How a pool stands from one slot to the next.
-use Rattle.std.proofs.Common.{◌≡◌, ◌⊎◌, ℕ, zero, suc, ◌+◌, ◌<◌, ◌≤◌, List, [], ◌∷◌, ◌++◌, refl, sym, ap, subst, ◌∙◌, append_assoc, append-nil, length, length-append, map, Bool, true, false, not, ◌==◌, Some, None, Option, arith, inl, inr, nat_le}
-use Rattle.std.specs.Prelude.{◌&&◌, ◌||◌, All, is_some, min, option_and_then, unwrap_or}
+use Rattle.std.proofs.Common.{◌≡◌, ℕ, zero, suc, ◌+◌, ◌<◌, ◌≤◌, List, [], ◌∷◌, ◌++◌, refl, sym, ap, subst, ◌∙◌, append_assoc, append-nil, length, length-append, Bool, true, false, not, ◌==◌, Some, None, Option, arith, inl, inr}
+use Rattle.std.specs.Prelude.{◌&&◌, ◌||◌, All, is_some, unwrap_or}
 use Rattle.std.specs.List.{cons_option, last_or, list_all}
-use Rattle.std.proofs.lemmas.Bool.Decides.{nat_tests}
 use Rattle.std.proofs.lemmas.List.Elements.{All-append, All-cons, All-head, All-nil, All-tail}
 use Rattle.ann_outside.specs.Causes.{Rose}
 use Rattle.ann_outside.specs.Starts.{Starts}
@@ -10,9 +9,9 @@ use Rattle.journal_model.specs.declared.entry.What.{What}
 use Rattle.journal_model.specs.declared.entry.What.TheVariants.{Start, NoStart}
 use Rattle.journal_model.specs.declared.entry.Entry.{Entry}
 use Rattle.journal_model.specs.declared.opening.Opening.{Opening}
-use Rattle.journal_model.specs.Journal.{any, asks, each_of, ends, is_ended, is_tagged, offers, open_jobs}
+use Rattle.journal_model.specs.Journal.{any, asks, each_of, is_ended, is_tagged, offers, open_jobs}
 use Rattle.journal_model.specs.Legality.{Legal, count, is_busy, is_prepared, is_start}
-use Rattle.journal_model.specs.Shares.{are_by, is_of_child}
+use Rattle.journal_model.specs.Shares.{is_of_child}
 use Rattle.journal_model.proofs.Holding.{holder_append}
 use Rattle.journal_model.proofs.Looks.{any-append, both, differ, each_of-append, either_left, either_right}
 use Rattle.journal_model.proofs.Testing.{all-each, all-join, by_either, neither, or_left, or_right}
@@ -26,16 +25,16 @@ use Rattle.gathering.specs.Rounds.{IsAtRest, LinkValue}
 use Rattle.lone_rounds.specs.Starting.{children, is_any_start, is_ready_untagged, started_in}
 use Rattle.lone_rounds.specs.Rounds.{is_of_run}
 use Rattle.lone_rounds.specs.Stints.{AreUpTo, main_entry, next_child}
-use Rattle.lone_rounds.proofs.Apart.{ended_on, no_offer, ready_same}
+use Rattle.lone_rounds.proofs.Apart.{ended_on, ready_same}
 use Rattle.lone_rounds.proofs.Leaving.{adds_both, none_told, rose_on}
 use Rattle.lone_rounds.proofs.Tests.{UpTo, any_none, children_up_to, count-append, count_none, no_children, none_came, up_to_both, up_to_more}
 use Rattle.pool_rounds.specs.Pool.{MayServe, PoolCan}
 use Rattle.pool_starts.specs.Pools.{AreSeated, Gathered, GathersBy, IsPool, OverBy, SeatValue, Serves, is_among, is_claim}
 use Rattle.pool_starts.specs.Seats.{IsSlotStart, SeatsOne}
-use Rattle.pool_starts.specs.Slots.{AllInTurn, IsInSlot, IsNextSlot, StandsInTurn, begins_by_start, first_in, has_pool, in_pool, is_first_start, is_ready_pool, is_unclaimed_since, last_slot, offers_tags, slot_of}
+use Rattle.pool_starts.specs.Slots.{AllInTurn, IsInSlot, IsNextSlot, StandsInTurn, begins_by_start, has_pool, in_pool, is_first_start, is_ready_pool, is_unclaimed_since, last_slot, offers_tags, slot_of}
 use Rattle.pool_starts.proofs.Own.{AreShut, low, own_apart, own_claims, own_pool, own_rests, own_starts, own_tags, prepared_apart, prepared_low, rest_shut, serve_on, shut_on, shut_open}
-use Rattle.pool_starts.proofs.Seating.{among_both, as_many, distinct_more, links_low, seated_behind, seated_both, seated_on, seats_few, up_both, up_more}
-use Rattle.pool_starts.proofs.SlotLaws.{first_same, last_first, last_same, left_same, none_first, pool_of, since_same, slot_same, turn_both, turn_quiet}
+use Rattle.pool_starts.proofs.Seating.{among_both, as_many, distinct_more, links_low, seated_behind, seated_both, seated_on, up_both, up_more}
+use Rattle.pool_starts.proofs.SlotLaws.{first_same, last_first, left_same, none_first, pool_of, since_same, slot_same, turn_both, turn_quiet}
 
 -- ---- the start itself
 

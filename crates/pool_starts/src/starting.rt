@@ -58,6 +58,9 @@ fn seat_over<P: Programs>(
     link: Lone<P::Inlet, P::Outlet>,
     stub: P::Stub,
 )
+where
+    P::Inlet: Drop,
+    P::Outlet: Drop,
     requires started { is_started core.old.journal link.ear.child ≡ true }
     requires idle { may_stop core.old.journal link.ear.child Closed ≡ true }
     requires wired { LoneWired core.old.journal link.ear link.mouth }

@@ -1,9 +1,7 @@
-use Rattle.std.proofs.Common.{◌≡◌, ◌<◌, ◌≤◌, ◌++◌, ◌∷◌, [], ap, sym, subst, ◌∙◌, map, refl, length, vec_len, arith, List, ℕ}
-use Rattle.std.specs.Prelude.{min}
+use Rattle.std.proofs.Common.{◌++◌, ◌∷◌, [], ap, sym, subst, ◌∙◌, map, refl, length, vec_len, arith}
 use Rattle.std.proofs.lemmas.List.{length-map}
 use Rattle.journal_model.specs.declared.opening.Opening.{Opening}
 use Rattle.journal_model.specs.Legality.{Legal}
-use Rattle.host_core.specs.Steps.{unclaimed}
 use Rattle.child_end.specs.Programs.{programs_value}
 use Rattle.child_end.specs.Wires.{wire_value}
 use Rattle.crew_rounds.specs.Tagged.{link_of}

@@ -1,4 +1,4 @@
-use Rattle.std.proofs.Common.{◌≡◌, ◌≤◌, ◌<◌, map, vec_len, vec_capacity}
+use Rattle.std.proofs.Common.{◌≤◌, map, vec_capacity}
 use Rattle.child_start.specs.Cores.{IsSameCore}
 use Rattle.child_end.specs.Wires.{wire_value}
 use Rattle.child_end.specs.Programs.{programs_value}
