@@ -18,13 +18,9 @@ slot_of (Start child slot offer) = Some slot
 slot_of (NoStart slot) = Some slot
 slot_of w = None
 
-abbrev pub or_else : {X : Type 0} → X → Option X → X
-or_else x None = x
-or_else x (Some y) = y
-
 -- the slot of the last start
 abbrev pub last_slot : List Entry → ℕ
-last_slot past = or_else 0 (last_or None (each_of slot_of past))
+last_slot past = last_or 0 (each_of slot_of past)
 
 -- a start, or a claim
 abbrev pub begins_by_start : What → Option Bool
@@ -35,7 +31,7 @@ begins_by_start w = None
 
 -- no task was claimed since the last start
 abbrev pub is_unclaimed_since : List Entry → Bool
-is_unclaimed_since past = or_else false (last_or None (each_of begins_by_start past))
+is_unclaimed_since past = last_or false (each_of begins_by_start past)
 
 -- the child that a start of slot 0 gave, or none
 abbrev pub first_in : What → Option (Option ℕ)
@@ -43,9 +39,9 @@ first_in (Start child slot offer) = if slot == 0 then Some (Some child) else Non
 first_in (NoStart slot) = if slot == 0 then Some None else None
 first_in w = None
 
-abbrev pub is_ready_pool : List Entry → Option (Option ℕ) → Bool
-is_ready_pool past (Some (Some child)) = is_ready_untagged past child
-is_ready_pool past start = false
+abbrev pub is_ready_pool : List Entry → Option ℕ → Bool
+is_ready_pool past (Some child) = is_ready_untagged past child
+is_ready_pool past None = false
 
 -- the last start of slot 0 gave a child that is ready and takes no tags: so a pool serves
 abbrev pub has_pool : List Entry → Bool
