@@ -1,11 +1,13 @@
 // Starting the children of a pool.
-ghost use Rattle.std.specs.Prelude.{◌≡◌, ◌≤◌, ◌<◌, ◌+◌, ◌∷◌, [], IsOk};
+ghost use Rattle.std.specs.Prelude.{◌≡◌, ◌<◌, ◌+◌, ◌∷◌, [], true};
 ghost use Rattle.child_end.specs.Programs.{programs_value};
+ghost use Rattle.child_end.specs.Wires.{wire_value};
 ghost use Rattle.child_start.specs.Cores.{IsSameCore};
 ghost use Rattle.crew_rounds.specs.Tagged.{link_of};
 ghost use Rattle.journal_model.specs.Legality.{count, is_start};
 ghost use Rattle.pool_rounds.specs.Pool.{PoolCan};
 ghost use Rattle.pool_starts.specs.Pools.{GathersAs};
+ghost use Rattle.pool_starts.specs.Slots.{has_pool, is_unclaimed_since, last_slot};
 
 use crate::pool::Gathering;
 use ann_outside::Programs;
@@ -34,7 +36,8 @@ where
     requires since { is_unclaimed_since core.old.journal ≡ true }
     requires last_child { link.ear.child ≡ count is_start core.old.journal }
     requires can { PoolCan core.old.opening core.old.journal (link_of link.ear link.mouth ∷ []) }
-    ensures gathered { GathersAs .. }
+    ensures gathers { GathersAs (wire_value P.Inlet.taken P.Inlet.faults P.Inlet.number P.Inlet.is_open P.Outlet.given P.Outlet.left P.Outlet.faults P.Outlet.number P.Outlet.is_open) core.old.opening jobs program.now core.old.journal core.new.journal (link_of link.ear link.mouth) (programs_value (P.starts programs.old) (P.faults programs.old)) (programs_value (P.starts programs.new) (P.faults programs.new)) result }
     ensures core { IsSameCore core.old core.new }
 {
+    Gathering::NoRoom { link, stub }
 }
