@@ -1,6 +1,6 @@
 -- Starts in their slots: what stands behind a start of slot 0, and what each place of it says of the turn.
 use Rattle.std.proofs.Common.{◌≡◌, ◌⊎◌, ℕ, zero, suc, ◌+◌, ◌<◌, ◌≤◌, List, [], ◌∷◌, ◌++◌, refl, sym, ap, subst, ◌∙◌, append_assoc, append-nil, length, Bool, true, false, not, ◌==◌, Some, None, Option, cond, arith, nat_tests, inl, inr}
-use Rattle.std.specs.Prelude.{◌&&◌, ◌||◌, nat_le, min}
+use Rattle.std.specs.Prelude.{◌&&◌, ◌||◌, nat_le, min, option_and_then, unwrap_or}
 use Rattle.std.specs.List.{cons_option, last_or, list_all, list_any}
 use Rattle.std.proofs.Math.Nat.{min-le_left}
 use Rattle.journal_model.specs.declared.entry.What.{What}
@@ -15,7 +15,7 @@ use Rattle.host_core.specs.Steps.{unclaimed}
 use Rattle.lone_rounds.specs.Starting.{AllOffer, OffersWell, children, is_any_start, is_offered, is_ready_untagged, started_in}
 use Rattle.lone_rounds.specs.Stints.{in_stint, main_entry}
 use Rattle.lone_rounds.proofs.Tests.{each_none}
-use Rattle.pool_starts.specs.Slots.{AllInTurn, IsInSlot, IsManned, StandsInTurn, first_in, has_pool, in_pool, is_first_start, is_ready_pool, last_slot, offers_tags}
+use Rattle.pool_starts.specs.Slots.{AllInTurn, IsInSlot, IsManned, StandsInTurn, begins_by_start, first_in, has_pool, in_pool, is_first_start, is_ready_pool, is_unclaimed_since, last_slot, offers_tags, slot_of}
 
 -- ---- what stands behind a start of slot 0
 
@@ -135,63 +135,77 @@ last_behind : {X : Type 0} (x : X) (init : Option X) (ts : List X) → last_or i
 last_behind x init [] = refl
 last_behind x init (t ∷ ts) = last_behind x (Some t) ts
 
+abbrev flat : Option (Option ℕ) → Option ℕ
+flat o = option_and_then (λ child. child) o
+
+-- what the last of them says, where those behind the start say nothing
+last_of_start : {X : Type 0} (f : What → Option X) (w : What) (x : X) (old later : List Entry) → f w ≡ Some x → each_of f later ≡ [] → last_or None (each_of f (old ++ main_entry w ∷ later)) ≡ Some x
+last_of_start f w x old later is none =
+    ap (last_or None) (each_of-append f old (main_entry w ∷ later) ∙ ap (λ (l : List _). each_of f old ++ l) (ap (λ (o : Option _). cons_option o (each_of f later)) is ∙ ap (λ (l : List _). x ∷ l) none))
+    ∙ last_behind x None (each_of f old)
+
 -- behind a child of slot 0 it is told by that child
 pub pool_of : (old later : List Entry) (c n : ℕ) (offer : Bool) → list_all (λ (e : Entry). in_pool n e.what) later ≡ true
     → has_pool (old ++ main_entry (Start c 0 offer) ∷ later) ≡ is_ready_untagged (old ++ main_entry (Start c 0 offer) ∷ later) c
 pool_of old later c n offer within =
-    ap (is_ready_pool begun) (
-    ap (last_or None) (each_of-append first_in old (main_entry (Start c 0 offer) ∷ later) ∙ ap (λ (l : List (Option ℕ)). each_of first_in old ++ Some c ∷ l) quiet)
-    ∙ last_behind (Some c) None (each_of first_in old)
-    )
-  where
-    begun : List Entry
-    begun = old ++ main_entry (Start c 0 offer) ∷ later
+    ap (λ (o : Option (Option ℕ)). is_ready_pool (old ++ main_entry (Start c 0 offer) ∷ later) (flat o))
+    (last_of_start first_in (Start c 0 offer) (Some c) old later refl (each_none first_in (in_pool n) (λ w h. no_first_in w (first_none n w h)) later within))
 
-    quiet : each_of first_in later ≡ []
-    quiet = each_none first_in (in_pool n) (λ w h. no_first_in w (first_none n w h)) later within
+-- behind a start in slot 0, where nothing was started or claimed since
+pub new_slot : (old later : List Entry) (c : ℕ) (offer : Bool) → each_of slot_of later ≡ [] → last_slot (old ++ main_entry (Start c 0 offer) ∷ later) ≡ 0
+new_slot old later c offer none = ap (λ (o : Option ℕ). unwrap_or o 0) (last_of_start slot_of (Start c 0 offer) 0 old later refl none)
+
+pub new_unclaimed : (old later : List Entry) (c : ℕ) (offer : Bool) → each_of begins_by_start later ≡ [] → is_unclaimed_since (old ++ main_entry (Start c 0 offer) ∷ later) ≡ true
+new_unclaimed old later c offer none = ap (λ (o : Option Bool). unwrap_or o false) (last_of_start begins_by_start (Start c 0 offer) true old later refl none)
 
 -- the child that the last start of slot 0 gave is one of the journal's
-ready_among : (past xs : List Entry) (init : Option (Option ℕ)) → is_ready_pool past (last_or init (each_of first_in xs)) ≡ true
-    → (list_any (is_ready_untagged past) (children xs) ≡ true) ⊎ (is_ready_pool past init ≡ true)
+ready_among : (past xs : List Entry) (init : Option (Option ℕ)) → is_ready_pool past (flat (last_or init (each_of first_in xs))) ≡ true
+    → (list_any (is_ready_untagged past) (children xs) ≡ true) ⊎ (is_ready_pool past (flat init) ≡ true)
 ready_among past [] init h = inr h
 ready_among past (e ∷ xs) init h = go e.what h (λ other k. ready_among past xs other k)
   where
     abbrev Among : Option (Option ℕ) → Type 0
-    Among other = (list_any (is_ready_untagged past) (children xs) ≡ true) ⊎ (is_ready_pool past other ≡ true)
+    Among other = (list_any (is_ready_untagged past) (children xs) ≡ true) ⊎ (is_ready_pool past (flat other) ≡ true)
 
-    go : (w : What) → is_ready_pool past (last_or init (cons_option (first_in w) (each_of first_in xs))) ≡ true → ((other : Option (Option ℕ)) → is_ready_pool past (last_or other (each_of first_in xs)) ≡ true → Among other)
-        → (list_any (is_ready_untagged past) (cons_option (started_in w) (children xs)) ≡ true) ⊎ (is_ready_pool past init ≡ true)
-    go (Start child slot offer) k r = by_slot (slot == 0) refl
-      where
-        more : (list_any (is_ready_untagged past) (children xs) ≡ true) → (is_ready_untagged past child || list_any (is_ready_untagged past) (children xs)) ≡ true
-        more x = or_right (is_ready_untagged past child) (list_any (is_ready_untagged past) (children xs)) x
+    abbrev Says : Option (Option ℕ) → Type 0
+    Says other = is_ready_pool past (flat (last_or other (each_of first_in xs))) ≡ true
 
-        by_slot : (b : Bool) → (slot == 0) ≡ b → ((is_ready_untagged past child || list_any (is_ready_untagged past) (children xs)) ≡ true) ⊎ (is_ready_pool past init ≡ true)
-        by_slot true z = here (r (Some (Some child)) (subst (λ (b : Bool). is_ready_pool past (last_or init (cons_option (cond b (Some (Some child)) None) (each_of first_in xs))) ≡ true) z k))
-          where
-            here : Among (Some (Some child)) → ((is_ready_untagged past child || list_any (is_ready_untagged past) (children xs)) ≡ true) ⊎ (is_ready_pool past init ≡ true)
-            here (inl x) = inl (more x)
-            here (inr x) = inl (or_left (is_ready_untagged past child) (list_any (is_ready_untagged past) (children xs)) x)
-        by_slot false z = there (r init (subst (λ (b : Bool). is_ready_pool past (last_or init (cons_option (cond b (Some (Some child)) None) (each_of first_in xs))) ≡ true) z k))
-          where
-            there : Among init → ((is_ready_untagged past child || list_any (is_ready_untagged past) (children xs)) ≡ true) ⊎ (is_ready_pool past init ≡ true)
-            there (inl x) = inl (more x)
-            there (inr x) = inr x
-    go (NoStart slot) k r = by_slot (slot == 0) refl
-      where
-        by_slot : (b : Bool) → (slot == 0) ≡ b → Among init
-        by_slot true z = here (r (Some None) (subst (λ (b : Bool). is_ready_pool past (last_or init (cons_option (cond b (Some None) None) (each_of first_in xs))) ≡ true) z k))
-          where
-            here : Among (Some None) → Among init
-            here (inl x) = inl x
-            here (inr x) = absurd (let bad : false ≡ true = x in cc)
-        by_slot false z = r init (subst (λ (b : Bool). is_ready_pool past (last_or init (cons_option (cond b (Some None) None) (each_of first_in xs))) ≡ true) z k)
+    abbrev More : ℕ → Type 0
+    More child = ((is_ready_untagged past child || list_any (is_ready_untagged past) (children xs)) ≡ true) ⊎ (is_ready_pool past (flat init) ≡ true)
+
+    more : (child : ℕ) → (list_any (is_ready_untagged past) (children xs) ≡ true) → (is_ready_untagged past child || list_any (is_ready_untagged past) (children xs)) ≡ true
+    more child x = or_right (is_ready_untagged past child) (list_any (is_ready_untagged past) (children xs)) x
+
+    here : (child : ℕ) → Among (Some (Some child)) → More child
+    here child (inl x) = inl (more child x)
+    here child (inr x) = inl (or_left (is_ready_untagged past child) (list_any (is_ready_untagged past) (children xs)) x)
+
+    there : (child : ℕ) → Among init → More child
+    there child (inl x) = inl (more child x)
+    there child (inr x) = inr x
+
+    failed : Among (Some None) → Among init
+    failed (inl x) = inl x
+    failed (inr x) = absurd (let bad : false ≡ true = x in cc)
+
+    started : (child : ℕ) (b : Bool) → is_ready_pool past (flat (last_or init (cons_option (cond b (Some (Some child)) None) (each_of first_in xs)))) ≡ true → ((other : Option (Option ℕ)) → Says other → Among other) → More child
+    started child true k r = here child (r (Some (Some child)) k)
+    started child false k r = there child (r init k)
+
+    unstarted : (b : Bool) → is_ready_pool past (flat (last_or init (cons_option (cond b (Some None) None) (each_of first_in xs)))) ≡ true → ((other : Option (Option ℕ)) → Says other → Among other) → Among init
+    unstarted true k r = failed (r (Some None) k)
+    unstarted false k r = r init k
+
+    go : (w : What) → is_ready_pool past (flat (last_or init (cons_option (first_in w) (each_of first_in xs)))) ≡ true → ((other : Option (Option ℕ)) → Says other → Among other)
+        → (list_any (is_ready_untagged past) (cons_option (started_in w) (children xs)) ≡ true) ⊎ (is_ready_pool past (flat init) ≡ true)
+    go (Start child slot offer) k r = started child (slot == 0) k r
+    go (NoStart slot) k r = unstarted (slot == 0) k r
     go w k r = r init k
 
 pub pool_ready : (past : List Entry) → has_pool past ≡ true → list_any (is_ready_untagged past) (children past) ≡ true
 pool_ready past h = go (ready_among past past None h)
   where
-    go : (list_any (is_ready_untagged past) (children past) ≡ true) ⊎ (is_ready_pool past None ≡ true) → list_any (is_ready_untagged past) (children past) ≡ true
+    go : (list_any (is_ready_untagged past) (children past) ≡ true) ⊎ (is_ready_pool past (flat None) ≡ true) → list_any (is_ready_untagged past) (children past) ≡ true
     go (inl x) = x
     go (inr x) = absurd (let bad : false ≡ true = x in cc)
 

@@ -14,7 +14,7 @@ use Rattle.journal_model.proofs.Testing.{or_left, or_right}
 use Rattle.task_run.specs.TaskRuns.{refusal_of}
 use Rattle.lone_rounds.specs.Starting.{children, is_spent, is_unclosed, started_in}
 use Rattle.lone_rounds.proofs.Apart.{mute_on, spent_on, unclosed_on}
-use Rattle.pool_starts.specs.Slots.{are_spent, in_pool, is_lost, pool_behind, spends}
+use Rattle.pool_starts.specs.Slots.{are_spent, behind_start, in_pool, is_lost, pool_behind, spends}
 
 -- ---- a child
 
@@ -51,8 +51,8 @@ pool_on : (p q : ℕ → Bool) → ((d : ℕ) → p d ≡ true → q d ≡ true)
 pool_on p q f [] more h = absurd (let bad : false ≡ true = h in cc)
 pool_on p q f (e ∷ xs) more h = go e.what h (pool_on p q f xs more)
   where
-    go : (w : What) → list_any p (pool_behind (record { by = e.by; what = w } ∷ xs)) ≡ true → (list_any p (pool_behind xs) ≡ true → list_any q (pool_behind (xs ++ more)) ≡ true)
-        → list_any q (pool_behind (record { by = e.by; what = w } ∷ (xs ++ more))) ≡ true
+    go : (w : What) → list_any p (behind_start w (pool_behind xs)) ≡ true → (list_any p (pool_behind xs) ≡ true → list_any q (pool_behind (xs ++ more)) ≡ true)
+        → list_any q (behind_start w (pool_behind (xs ++ more))) ≡ true
     go (Start child slot offer) k r = by_slot (slot == 0) k
       where
         by_slot : (b : Bool) → list_any p (cond b [] (child ∷ pool_behind xs)) ≡ true → list_any q (cond b [] (child ∷ pool_behind (xs ++ more))) ≡ true
@@ -72,7 +72,7 @@ pool_children n (e ∷ xs) h =
     let t = both (in_pool n e.what) (list_all (λ (x : Entry). in_pool n x.what) xs) h in
     go e.what t.0 (pool_children n xs t.1)
   where
-    go : (w : What) → in_pool n w ≡ true → pool_behind xs ≡ children xs → pool_behind (record { by = e.by; what = w } ∷ xs) ≡ cons_option (started_in w) (children xs)
+    go : (w : What) → in_pool n w ≡ true → pool_behind xs ≡ children xs → behind_start w (pool_behind xs) ≡ cons_option (started_in w) (children xs)
     go (Start child slot offer) k r = by_slot (slot == 0) (both (nat_le n child) (not (slot == 0)) k).1
       where
         by_slot : (b : Bool) → not b ≡ true → cond b [] (child ∷ pool_behind xs) ≡ child ∷ children xs
