@@ -11,3 +11,4 @@ pub mod Objects
 pub mod Ends
 pub mod Rounding
 pub mod PoolStretch
+pub mod Firsts

@@ -38,13 +38,13 @@ use Rattle.lone_rounds.proofs.Tests.{any_none, count-append, count_none, each_no
 use Rattle.pool_starts.specs.Slots.{AllInTurn, begins_by_start, has_pool, in_pool, is_lost, is_unclaimed_since, last_slot, offers_tags, slot_of, spends}
 use Rattle.job_rounds.specs.Desks.{DesksDid, HaveDesks}
 use Rattle.job_rounds.specs.Pools.{LeavesPool, ServesPool}
-use Rattle.job_rounds.specs.Starts.{JobStretch, StartsAll}
+use Rattle.job_rounds.specs.Starts.{JobStretch, OneJobStart, StartsAll}
 use Rattle.job_rounds.proofs.Desks.{desks_join, desks_nothing, have_both, have_none}
 use Rattle.job_rounds.proofs.Objects.{failed_start_is, linked_shifted, of_start, rose_later}
 use Rattle.job_rounds.proofs.Shutting.{rest_shut}
 use Rattle.job_rounds.proofs.Slots.{new_slot, new_unclaimed, pool_of, stint_pool, turn_both, turn_quiet}
 use Rattle.job_rounds.proofs.Spent.{lost_spends, prepared_on}
-use Rattle.job_rounds.proofs.Stretching.{all_in, no_tags, quiet_greeting}
+use Rattle.job_rounds.proofs.Stretching.{all_in, job_start, no_tags, quiet_greeting}
 
 -- ---- what the last start came to
 
@@ -55,6 +55,9 @@ last_from : (o : Option Turn) (ts : List Turn) (x : Turn) (ns : List Turn) → l
 last_from o [] x ns = refl
 last_from o (t ∷ ts) x ns = last_from (Some t) ts x ns
 
+abbrev Comes : List Entry → Turn → Type 0
+Comes xs y = (last_or (Some y) (each_of turn_of xs) ≡ Some y) ⊎ (last_or (Some y) (each_of turn_of xs) ≡ Some None)
+
 -- behind it there stand claims alone
 pool_turns : (n : ℕ) (x : Turn) (xs : List Entry) → list_all (λ (e : Entry). in_pool n e.what) xs ≡ true → (last_or (Some x) (each_of turn_of xs) ≡ Some x) ⊎ (last_or (Some x) (each_of turn_of xs) ≡ Some None)
 pool_turns n x [] h = inl refl
@@ -62,19 +65,16 @@ pool_turns n x (e ∷ xs) h =
     let t = both (in_pool n e.what) (list_all (λ (y : Entry). in_pool n y.what) xs) h in
     go e.what t.0 (pool_turns n x xs t.1) (pool_turns n None xs t.1)
   where
-    abbrev Comes : Turn → Type 0
-    Comes y = (last_or (Some y) (each_of turn_of xs) ≡ Some y) ⊎ (last_or (Some y) (each_of turn_of xs) ≡ Some None)
-
-    taken : Comes None → (last_or (Some None) (each_of turn_of xs) ≡ Some x) ⊎ (last_or (Some None) (each_of turn_of xs) ≡ Some None)
+    taken : Comes xs None → (last_or (Some None) (each_of turn_of xs) ≡ Some x) ⊎ (last_or (Some None) (each_of turn_of xs) ≡ Some None)
     taken (inl y) = inr y
     taken (inr y) = inr y
 
-    elsewhere : (b : Bool) (y : Turn) → not b ≡ true → Comes x
+    elsewhere : (b : Bool) (y : Turn) → not b ≡ true → Comes xs x
         → (last_or (Some x) (cons_option (cond b (Some y) None) (each_of turn_of xs)) ≡ Some x) ⊎ (last_or (Some x) (cons_option (cond b (Some y) None) (each_of turn_of xs)) ≡ Some None)
     elsewhere true y i r = absurd cc
     elsewhere false y i r = r
 
-    go : (w : What) → in_pool n w ≡ true → Comes x → Comes None → (last_or (Some x) (cons_option (turn_of w) (each_of turn_of xs)) ≡ Some x) ⊎ (last_or (Some x) (cons_option (turn_of w) (each_of turn_of xs)) ≡ Some None)
+    go : (w : What) → in_pool n w ≡ true → Comes xs x → Comes xs None → (last_or (Some x) (cons_option (turn_of w) (each_of turn_of xs)) ≡ Some x) ⊎ (last_or (Some x) (cons_option (turn_of w) (each_of turn_of xs)) ≡ Some None)
     go (Claim task child) k r s = taken s
     go (Start child slot offer) k r s = elsewhere (slot == 0) (Some (Some child)) (both (nat_le n child) (not (slot == 0)) k).1 r
     go (NoStart slot) k r s = elsewhere (slot == 0) (Some None) k r
@@ -156,7 +156,7 @@ starting (Start child slot offer) h = refl
 starting w h = absurd cc
 
 module _ (o : Opening) (old g : List Entry) (offer : Bool) (c : ℕ) (greeted : Greeted old g 0 offer c) where
-  none_started : any is_any_start greeted.more ≡ false
+  pub none_started : any is_any_start greeted.more ≡ false
   none_started = any_none (in_stint c) is_any_start (no_start_in c) greeted.more (greeting_stint c old g offer greeted)
 
   in_its_pool : list_all (λ (e : Entry). in_pool c e.what) greeted.more ≡ true
@@ -245,52 +245,54 @@ module _ (o : Opening) (setup : Setup) (limit : ℕ) (offer : Bool) (old g new :
     shut = λ shut. rest_shut new s.calm;
   }
 
-  -- ---- its objects
+  pub pool_start : {program : List ℕ} {before after : ProgramsValue} {wires wires' : List WireValue} → StartsAll program new (first ∷ pool_later) before after wires wires'
+      → OneJobStart o setup limit offer (offer && false) whole program old new desks desks' before after wires wires'
+  pool_start objects = job_start pool_later pool_whole objects pool_stretch
 
-  module _ (program : List ℕ) (before : ProgramsValue) (mid : ProgramsValue) (ear : EarValue) (mouth : MouthValue) (adds : AddsOne before.starts mid.starts (program, true)) (le : before.faults ≤ mid.faults)
-      (numbered : AreNumbered mid.starts ear mouth) (is_child : ear.child ≡ c) where
-    abbrev tail : List Entry
-    tail = first ∷ pool_later
+-- ---- the objects
 
-    came_is : came tail ≡ Some c ∷ came s.later
-    came_is = ap (λ (cs : List (Option ℕ)). Some c ∷ cs) (each_of-append came_in greeted.more s.later ∙ ap (λ (cs : List (Option ℕ)). cs ++ came s.later) (none_came greeted.more (none_started o old g offer c greeted)))
+-- The child of slot 0 was started, and then, where programs were asked for what `others` says, its pool.
+module _ (program : List ℕ) (new tail others : List Entry) (c : ℕ) (before mid : ProgramsValue) (ear : EarValue) (mouth : MouthValue) (adds : AddsOne before.starts mid.starts (program, true)) (le : before.faults ≤ mid.faults)
+    (numbered : AreNumbered mid.starts ear mouth) (is_child : ear.child ≡ c) (came_is : came tail ≡ Some c ∷ came others) (told_is : told program tail ≡ (program, true) ∷ told program others)
+    (failed_is : any is_failed_start tail ≡ true → any is_failed_start others ≡ true) where
+  pub first_objects : (W : Type 0) (last after : ProgramsValue) (wires wires' : List WireValue) → (l : LeavesPool W program new others ear mouth mid last wires wires') → AddsAll mid.starts after.starts (told program others) → after.faults ≡ last.faults
+      → StartsAll program new tail before after wires wires'
+  first_objects W last after wires wires' l all same = record {
+    adds = subst (AddsAll before.starts after.starts) (sym told_is) (adds_both before.starts mid.starts after.starts ((program, true) ∷ []) (told program others) (adds_one before.starts mid.starts (program, true) adds) all);
+    new = l.own ∷ l.more;
+    laid = l.laid;
+    linked = subst (λ (cs : List (Option ℕ)). AreLinked before.starts new 0 cs (l.own ∷ l.more)) (sym came_is) (
+      l.left.child ∙ is_child,
+      record {
+        linked = l.left.held;
+        inlet = subst (IsOfStart before.starts 1) (sym l.left.numbers.0) (of_start before.starts mid.starts (program, true) mouth.number adds numbered.0);
+        outlet = subst (IsOfStart before.starts 1) (sym l.left.numbers.1) (of_start before.starts mid.starts (program, true) ear.number adds numbered.1);
+        closed = l.left.closed;
+      },
+      linked_shifted before.starts mid.starts ((program, true) ∷ []) new 1 (adds_one before.starts mid.starts (program, true) adds) refl 0 (came others) l.more l.linked,
+    );
+    fault = λ failed. subst (Rose before.faults) (sym same) (rose_later before.faults mid.faults last.faults le (l.fault (failed_is failed)));
+    later_faults = (let a = l.later_faults in omega (arith, le, a, same));
+  }
 
-    told_is : told program tail ≡ (program, true) ∷ told program s.later
-    told_is = ap (λ (ts : Starts). (program, true) ∷ ts)
-        (each_of-append (told_in program) greeted.more s.later ∙ ap (λ (ts : Starts). ts ++ told program s.later) (none_told program greeted.more (none_started o old g offer c greeted)))
+failed_behind : (a : Bool) {b : Bool} → a ≡ false → (a || b) ≡ true → b ≡ true
+failed_behind false x y = y
+failed_behind true x y = absurd cc
 
-    -- up to where the programs were asked for these
-    pub pool_starts_all : (W : Type 0) (last after : ProgramsValue) (wires wires' : List WireValue) → (l : LeavesPool W program new s.later ear mouth mid last wires wires') → AddsAll mid.starts after.starts (told program s.later) → after.faults ≡ last.faults
-        → StartsAll program new tail before after wires wires'
-    pool_starts_all W last after wires wires' l all same = record {
-      adds = subst (AddsAll before.starts after.starts) (sym told_is) (adds_both before.starts mid.starts after.starts ((program, true) ∷ []) (told program s.later) (adds_one before.starts mid.starts (program, true) adds) all);
-      new = l.own ∷ l.more;
-      laid = l.laid;
-      linked = subst (λ (cs : List (Option ℕ)). AreLinked before.starts new 0 cs (l.own ∷ l.more)) (sym came_is) (
-        l.left.child ∙ is_child,
-        record {
-          linked = l.left.held;
-          inlet = subst (IsOfStart before.starts 1) (sym l.left.numbers.0) (of_start before.starts mid.starts (program, true) mouth.number adds numbered.0);
-          outlet = subst (IsOfStart before.starts 1) (sym l.left.numbers.1) (of_start before.starts mid.starts (program, true) ear.number adds numbered.1);
-          closed = l.left.closed;
-        },
-        linked_shifted before.starts mid.starts ((program, true) ∷ []) new 1 (adds_one before.starts mid.starts (program, true) adds) refl 0 (came s.later) l.more l.linked,
-      );
-      fault = λ failed. subst (Rose before.faults) (sym same) (rose_later before.faults mid.faults last.faults le (l.fault (its_failed failed)));
-      later_faults = (let a = l.later_faults in omega (arith, le, a, same));
-    }
-      where
-        its_failed : any is_failed_start tail ≡ true → any is_failed_start s.later ≡ true
-        its_failed failed = behind (any is_failed_start greeted.more) (any_narrower is_failed_start is_any_start failed_start_is greeted.more (none_started o old g offer c greeted)) (sym (any-append is_failed_start greeted.more s.later) ∙ failed)
-          where
-            behind : (a : Bool) {b : Bool} → a ≡ false → (a || b) ≡ true → b ≡ true
-            behind false x y = y
-            behind true x y = absurd cc
+-- behind the start there stand entries that start nothing, and then others
+module _ (program : List ℕ) (new more others : List Entry) (c : ℕ) (offer : Bool) (before mid : ProgramsValue) (ear : EarValue) (mouth : MouthValue) (adds : AddsOne before.starts mid.starts (program, true)) (le : before.faults ≤ mid.faults)
+    (numbered : AreNumbered mid.starts ear mouth) (is_child : ear.child ≡ c) (none : any is_any_start more ≡ false) where
+  pub its_objects : (W : Type 0) (last after : ProgramsValue) (wires wires' : List WireValue) → LeavesPool W program new others ear mouth mid last wires wires' → AddsAll mid.starts after.starts (told program others) → after.faults ≡ last.faults
+      → StartsAll program new (main_entry (Start c 0 offer) ∷ (more ++ others)) before after wires wires'
+  its_objects = first_objects program new (main_entry (Start c 0 offer) ∷ (more ++ others)) others c before mid ear mouth adds le numbered is_child
+      (ap (λ (cs : List (Option ℕ)). Some c ∷ cs) (each_of-append came_in more others ∙ ap (λ (cs : List (Option ℕ)). cs ++ came others) (none_came more none)))
+      (ap (λ (ts : Starts). (program, true) ∷ ts) (each_of-append (told_in program) more others ∙ ap (λ (ts : Starts). ts ++ told program others) (none_told program more none)))
+      (λ failed. failed_behind (any is_failed_start more) (any_narrower is_failed_start is_any_start failed_start_is more none) (sym (any-append is_failed_start more others) ∙ failed))
 
 -- ---- where no memory was found to start one more
 
 -- what programs tell after so many starts
-told_after : Option Starts → Starts → Option Starts
+abbrev pub told_after : Option Starts → Starts → Option Starts
 told_after starts more = option_map (λ (xs : Starts). xs ++ more) starts
 
 adds_after : (starts : Option Starts) (more : Starts) → AddsAll starts (told_after starts more) more

@@ -1,8 +1,9 @@
 -- Starts in their slots: what stands behind a start of slot 0, and what each place of it says of the turn.
-use Rattle.std.proofs.Common.{◌≡◌, ◌⊎◌, ℕ, zero, suc, ◌+◌, ◌<◌, ◌≤◌, List, [], ◌∷◌, ◌++◌, refl, sym, ap, subst, ◌∙◌, append_assoc, append-nil, length, Bool, true, false, not, ◌==◌, Some, None, Option, cond, arith, nat_tests, inl, inr}
+use Rattle.std.proofs.Common.{◌≡◌, ◌⊎◌, ℕ, zero, suc, ◌+◌, ◌<◌, ◌≤◌, List, [], ◌∷◌, ◌++◌, refl, sym, ap, subst, ◌∙◌, append_assoc, append-nil, length, Bool, true, false, not, ◌==◌, Some, None, Option, cond, arith, inl, inr}
 use Rattle.std.specs.Prelude.{◌&&◌, ◌||◌, nat_le, min, option_and_then, unwrap_or}
 use Rattle.std.specs.List.{cons_option, last_or, list_all, list_any}
 use Rattle.std.proofs.Math.Nat.{min-le_left}
+use Rattle.std.proofs.lemmas.Bool.Decides.{nat_tests}
 use Rattle.journal_model.specs.declared.entry.What.{What}
 use Rattle.journal_model.specs.declared.entry.What.TheVariants.{Claim, Start, NoStart, Ask, Put, Sent, Mute, Got, End, Verdict as Settled, Lost, Answer as Answered, Note}
 use Rattle.journal_model.specs.declared.entry.Entry.{Entry}
@@ -93,6 +94,11 @@ is_quiet (NoStart slot) = false
 is_quiet (Claim task child) = child == 0
 is_quiet w = true
 
+pub quiet_starts : (w : What) → is_quiet w ≡ true → is_any_start w ≡ false
+quiet_starts (Start child slot offer) h = absurd cc
+quiet_starts (NoStart slot) h = absurd cc
+quiet_starts w h = refl
+
 quiet_turn : (o : Opening) (jobs : ℕ) (past : List Entry) (w : What) → is_quiet w ≡ true → StandsInTurn o jobs past w
 quiet_turn o jobs past (Start child slot offer) h = absurd cc
 quiet_turn o jobs past (NoStart slot) h = absurd cc
@@ -159,44 +165,41 @@ pub new_unclaimed : (old later : List Entry) (c : ℕ) (offer : Bool) → each_o
 new_unclaimed old later c offer none = ap (λ (o : Option Bool). unwrap_or o false) (last_of_start begins_by_start (Start c 0 offer) true old later refl none)
 
 -- the child that the last start of slot 0 gave is one of the journal's
-ready_among : (past xs : List Entry) (init : Option (Option ℕ)) → is_ready_pool past (flat (last_or init (each_of first_in xs))) ≡ true
-    → (list_any (is_ready_untagged past) (children xs) ≡ true) ⊎ (is_ready_pool past (flat init) ≡ true)
+abbrev Among : List Entry → List Entry → Option (Option ℕ) → Type 0
+Among past xs start = (list_any (is_ready_untagged past) (children xs) ≡ true) ⊎ (is_ready_pool past (flat start) ≡ true)
+
+abbrev Says : List Entry → List Entry → Option (Option ℕ) → Type 0
+Says past xs start = is_ready_pool past (flat (last_or start (each_of first_in xs))) ≡ true
+
+ready_among : (past xs : List Entry) (init : Option (Option ℕ)) → Says past xs init → Among past xs init
 ready_among past [] init h = inr h
 ready_among past (e ∷ xs) init h = go e.what h (λ other k. ready_among past xs other k)
   where
-    abbrev Among : Option (Option ℕ) → Type 0
-    Among other = (list_any (is_ready_untagged past) (children xs) ≡ true) ⊎ (is_ready_pool past (flat other) ≡ true)
-
-    abbrev Says : Option (Option ℕ) → Type 0
-    Says other = is_ready_pool past (flat (last_or other (each_of first_in xs))) ≡ true
-
-    abbrev More : ℕ → Type 0
-    More child = ((is_ready_untagged past child || list_any (is_ready_untagged past) (children xs)) ≡ true) ⊎ (is_ready_pool past (flat init) ≡ true)
-
     more : (child : ℕ) → (list_any (is_ready_untagged past) (children xs) ≡ true) → (is_ready_untagged past child || list_any (is_ready_untagged past) (children xs)) ≡ true
     more child x = or_right (is_ready_untagged past child) (list_any (is_ready_untagged past) (children xs)) x
 
-    here : (child : ℕ) → Among (Some (Some child)) → More child
+    here : (child : ℕ) → Among past xs (Some (Some child)) → ((is_ready_untagged past child || list_any (is_ready_untagged past) (children xs)) ≡ true) ⊎ (is_ready_pool past (flat init) ≡ true)
     here child (inl x) = inl (more child x)
     here child (inr x) = inl (or_left (is_ready_untagged past child) (list_any (is_ready_untagged past) (children xs)) x)
 
-    there : (child : ℕ) → Among init → More child
+    there : (child : ℕ) → Among past xs init → ((is_ready_untagged past child || list_any (is_ready_untagged past) (children xs)) ≡ true) ⊎ (is_ready_pool past (flat init) ≡ true)
     there child (inl x) = inl (more child x)
     there child (inr x) = inr x
 
-    failed : Among (Some None) → Among init
+    failed : Among past xs (Some None) → Among past xs init
     failed (inl x) = inl x
     failed (inr x) = absurd (let bad : false ≡ true = x in cc)
 
-    started : (child : ℕ) (b : Bool) → is_ready_pool past (flat (last_or init (cons_option (cond b (Some (Some child)) None) (each_of first_in xs)))) ≡ true → ((other : Option (Option ℕ)) → Says other → Among other) → More child
+    started : (child : ℕ) (b : Bool) → is_ready_pool past (flat (last_or init (cons_option (cond b (Some (Some child)) None) (each_of first_in xs)))) ≡ true → ((other : Option (Option ℕ)) → Says past xs other → Among past xs other)
+        → ((is_ready_untagged past child || list_any (is_ready_untagged past) (children xs)) ≡ true) ⊎ (is_ready_pool past (flat init) ≡ true)
     started child true k r = here child (r (Some (Some child)) k)
     started child false k r = there child (r init k)
 
-    unstarted : (b : Bool) → is_ready_pool past (flat (last_or init (cons_option (cond b (Some None) None) (each_of first_in xs)))) ≡ true → ((other : Option (Option ℕ)) → Says other → Among other) → Among init
+    unstarted : (b : Bool) → is_ready_pool past (flat (last_or init (cons_option (cond b (Some None) None) (each_of first_in xs)))) ≡ true → ((other : Option (Option ℕ)) → Says past xs other → Among past xs other) → Among past xs init
     unstarted true k r = failed (r (Some None) k)
     unstarted false k r = r init k
 
-    go : (w : What) → is_ready_pool past (flat (last_or init (cons_option (first_in w) (each_of first_in xs)))) ≡ true → ((other : Option (Option ℕ)) → Says other → Among other)
+    go : (w : What) → is_ready_pool past (flat (last_or init (cons_option (first_in w) (each_of first_in xs)))) ≡ true → ((other : Option (Option ℕ)) → Says past xs other → Among past xs other)
         → (list_any (is_ready_untagged past) (cons_option (started_in w) (children xs)) ≡ true) ⊎ (is_ready_pool past (flat init) ≡ true)
     go (Start child slot offer) k r = started child (slot == 0) k r
     go (NoStart slot) k r = unstarted (slot == 0) k r

@@ -10,7 +10,7 @@ use Rattle.journal_model.specs.declared.entry.What.{What}
 use Rattle.journal_model.specs.declared.entry.What.TheVariants.{Claim, Start, NoStart, End, Answer as Answered}
 use Rattle.journal_model.specs.declared.entry.Entry.{Entry}
 use Rattle.journal_model.specs.declared.opening.Opening.{Opening}
-use Rattle.journal_model.specs.Journal.{asks, asked_jobs, is_ended, is_tagged, open_jobs, why_of}
+use Rattle.journal_model.specs.Journal.{any, asks, asked_jobs, is_ended, is_tagged, open_jobs, why_of}
 use Rattle.journal_model.specs.Halves.{EarValue, MouthValue}
 use Rattle.journal_model.specs.Legality.{Legal, count}
 use Rattle.journal_model.specs.Shares.{are_by}
@@ -24,6 +24,8 @@ use Rattle.link_roles.proofs.Linked.{any_narrower}
 use Rattle.gathering.specs.Rounds.{IsAtRest}
 use Rattle.child_start.specs.Greetings.{Greeted, IsReady, is_of_greeting}
 use Rattle.child_start.proofs.Jobs.{idle_on}
+use Rattle.child_end.specs.Programs.{ProgramsValue}
+use Rattle.child_end.specs.Wires.{WireValue}
 use Rattle.door_asker.specs.KnownLayouts.{IsBook}
 use Rattle.task_run.specs.declared.setup.Setup.{Setup}
 use Rattle.lone_work.specs.Works.{CanWork, DeskTells, claimed_task}
@@ -37,10 +39,10 @@ use Rattle.lone_rounds.proofs.Tests.{any_none, no_children}
 use Rattle.pool_starts.specs.Slots.{AllInTurn, IsManned, has_pool, in_pool, is_lost, offers_tags, pool_behind, spends}
 use Rattle.job_rounds.specs.Desks.{DesksDid, HaveDesks}
 use Rattle.job_rounds.specs.Servings.{CanBeServed}
-use Rattle.job_rounds.specs.Starts.{JobStretch}
+use Rattle.job_rounds.specs.Starts.{JobStretch, OneJobStart, StartsAll}
 use Rattle.job_rounds.proofs.Desks.{desks_main, have_main}
 use Rattle.job_rounds.proofs.Shutting.{AreShut, rest_shut, shut_next, shut_open}
-use Rattle.job_rounds.proofs.Slots.{is_quiet, manned_none, manned_one, pool_of, stint_pool, turn_both, turn_manned, turn_quiet}
+use Rattle.job_rounds.proofs.Slots.{is_quiet, manned_none, manned_one, pool_of, quiet_starts, stint_pool, turn_both, turn_manned, turn_quiet}
 
 -- entries that all pass one test pass another
 pub all_in : (p q : What → Bool) → ((w : What) → p w ≡ true → q w ≡ true) → (xs : List Entry) → list_all (λ (e : Entry). p e.what) xs ≡ true → list_all (λ (e : Entry). q e.what) xs ≡ true
@@ -71,9 +73,38 @@ start_shuts old new later offer first c start is within idle shut =
     whole : new ≡ (old ++ main_entry first ∷ []) ++ later
     whole = is ∙ sym (append_assoc old (main_entry first ∷ []) later)
 
+-- ---- what stands behind it
+
+-- what stands behind the start, where the journal has both
+pub behind_first : (old later more new : List Entry) (first : What) → new ≡ old ++ main_entry first ∷ later → new ≡ old ++ main_entry first ∷ more → later ≡ more
+behind_first old later more new first is so = tails (append_cancel_left old (main_entry first ∷ later) (main_entry first ∷ more) (sym is ∙ so))
+  where
+    tails : main_entry first ∷ later ≡ main_entry first ∷ more → later ≡ more
+    tails e = cc
+
+-- what stands behind the start starts nothing and claims nothing for a child
+pub record QuietStretch (old new : List Entry) (first : What) : Type 0 where
+  pub more : List Entry
+  pub is : new ≡ old ++ main_entry first ∷ more
+  pub quiet : list_all (λ e. is_quiet e.what) more ≡ true
+
+pub quiet_turns : {old new : List Entry} {first : What} (o : Opening) (jobs : ℕ) (q : QuietStretch old new first) (later : List Entry) → new ≡ old ++ main_entry first ∷ later → AllInTurn o jobs (old ++ main_entry first ∷ []) later
+quiet_turns {old} {new} {first} o jobs q later is = turn_quiet o jobs (old ++ main_entry first ∷ []) later
+    (subst (λ (x : List Entry). list_all (λ (e : Entry). is_quiet e.what) x ≡ true) (behind_first old q.more later new first q.is is) q.quiet)
+
+pub quiet_none : {old new : List Entry} {first : What} (q : QuietStretch old new first) → any is_any_start q.more ≡ false
+quiet_none q = any_none is_quiet is_any_start quiet_starts q.more q.quiet
+
+-- the stretch, and the objects of the same entries
+pub job_start : {o : Opening} {setup : Setup} {limit : ℕ} {offer next whole : Bool} {program : List ℕ} {first : What} {old new : List Entry} {desks desks' : List DeskTells} {before after : ProgramsValue} {wires wires' : List WireValue}
+    (later : List Entry) → new ≡ old ++ main_entry first ∷ later → StartsAll program new (main_entry first ∷ later) before after wires wires' → JobStretch o setup limit offer next first old new desks desks' whole
+    → OneJobStart o setup limit offer next whole program old new desks desks' before after wires wires'
+job_start {o} {setup} {limit} {offer} {next} {whole} {program} {first} {old} {new} {desks} {desks'} {before} {after} {wires} {wires'} later is objects s =
+    (first, s, subst (λ (x : List Entry). StartsAll program new (main_entry first ∷ x) before after wires wires') (behind_first old later s.later new first is s.is) objects)
+
 -- ---- over one child at a time
 
-no_tags : (w : What) → offers_tags w ≡ true → is_any_start w ≡ true
+pub no_tags : (w : What) → offers_tags w ≡ true → is_any_start w ≡ true
 no_tags (Start child slot offer) h = refl
 no_tags w h = absurd cc
 
@@ -131,11 +162,10 @@ module _ (o : Opening) (setup : Setup) (limit : ℕ) (offer next : Bool) (first 
       (λ one. s.main) idle
 
   -- where no desk is used
-  pub stint_any : (desks : List DeskTells) → 0 < length desks → ((d : DeskTells) → Stint o setup (more_than new) offer next first old new d d) → (whole : Bool)
-      → ((later : List Entry) → new ≡ old ++ main_entry first ∷ later → AllInTurn o (length desks) (old ++ main_entry first ∷ []) later) → (AreShut old → open_jobs new (next_child old) ≡ [])
-      → JobStretch o setup limit offer next first old new desks desks whole
-  stint_any [] some f whole turn idle = absurd (let bad : ⊥ = omega (arith, some) in bad)
-  stint_any (d ∷ ds) some f whole turn idle = stint_job d d ds (f d) whole (turn (f d).stretch.later (f d).stretch.is) idle
+  pub stint_any : (desks : List DeskTells) → 0 < length desks → ((d : DeskTells) → Stint o setup (more_than new) offer next first old new d d) → (whole : Bool) → QuietStretch old new first
+      → (AreShut old → open_jobs new (next_child old) ≡ []) → JobStretch o setup limit offer next first old new desks desks whole
+  stint_any [] some f whole q idle = absurd (let bad : ⊥ = omega (arith, some) in bad)
+  stint_any (d ∷ ds) some f whole q idle = stint_job d d ds (f d) whole (quiet_turns o (length (d ∷ ds)) q (f d).stretch.later (f d).stretch.is) idle
 
 -- ---- in which turn its entries stand
 
@@ -151,13 +181,6 @@ quiet_greeting old g offer c greeted = all_in (is_of_greeting c) is_quiet (greet
 quiet_closing : (c : ℕ) (tail : List Entry) → (tail ≡ []) ⊎ (tail ≡ main_entry (End c Closed) ∷ []) → list_all (λ (e : Entry). is_quiet e.what) tail ≡ true
 quiet_closing c tail one = of_closing c tail one (λ (x : List Entry). list_all (λ (e : Entry). is_quiet e.what) x ≡ true) refl refl
 
--- what stands behind the start, where the journal has both
-behind_first : (old later more new : List Entry) (first : What) → new ≡ old ++ main_entry first ∷ later → new ≡ old ++ main_entry first ∷ more → later ≡ more
-behind_first old later more new first is so = tails (append_cancel_left old (main_entry first ∷ later) (main_entry first ∷ more) (sym is ∙ so))
-  where
-    tails : main_entry first ∷ later ≡ main_entry first ∷ more → later ≡ more
-    tails e = cc
-
 -- one task that was claimed without a child
 record QuietTail (old new : List Entry) : Type 0 where
   tail : List Entry
@@ -169,36 +192,30 @@ quiet_one o old new answer true a = record { tail = main_entry (Claim a.0 0) ∷
 quiet_one o old new answer false a = record { tail = []; is = a.0 ∙ sym (append-nil old); quiet = refl }
 
 -- where the greeted child was turned away
-pub away_turn : (o : Opening) (jobs : ℕ) (offer : Bool) (old g new : List Entry) (c : ℕ) (answer : Answer) → are_all_claimed o old ≡ false → Greeted old g 0 offer c → TurnsAway o c g new answer
-    → (later : List Entry) → new ≡ old ++ main_entry (Start c 0 offer) ∷ later → AllInTurn o jobs (old ++ main_entry (Start c 0 offer) ∷ []) later
-away_turn o jobs offer old g new c answer left greeted (mid, (b, a), closes) later is = turn_quiet o jobs (old ++ begun ∷ []) later
-    (subst (λ (x : List Entry). list_all (λ (e : Entry). is_quiet e.what) x ≡ true) (sym (behind_first old later (greeted.more ++ (one.tail ++ k.tail)) new (Start c 0 offer) is whole))
-    (all-join (λ (e : Entry). is_quiet e.what) greeted.more (one.tail ++ k.tail) (quiet_greeting old g offer c greeted) (all-join (λ (e : Entry). is_quiet e.what) one.tail k.tail one.quiet (quiet_closing c k.tail k.one))))
+pub away_quiet : (o : Opening) (offer : Bool) (old g new : List Entry) (c : ℕ) (answer : Answer) → Greeted old g 0 offer c → TurnsAway o c g new answer → QuietStretch old new (Start c 0 offer)
+away_quiet o offer old g new c answer greeted (mid, (b, a), closes) = record {
+  more = greeted.more ++ (one.tail ++ k.tail);
+  is = k.is ∙ ap (λ (x : List Entry). x ++ k.tail) one.is ∙ append_assoc g one.tail k.tail ∙ ap (λ (x : List Entry). x ++ (one.tail ++ k.tail)) greeted.grown
+      ∙ append_assoc old (main_entry (Start c 0 offer) ∷ greeted.more) (one.tail ++ k.tail);
+  quiet = all-join (λ (e : Entry). is_quiet e.what) greeted.more (one.tail ++ k.tail) (quiet_greeting old g offer c greeted) (all-join (λ (e : Entry). is_quiet e.what) one.tail k.tail one.quiet (quiet_closing c k.tail k.one));
+}
   where
-    begun : Entry
-    begun = main_entry (Start c 0 offer)
-
     k : Closing c mid new
     k = closing c mid new closes
 
     one : QuietTail g mid
     one = quiet_one o g mid answer b a
 
-    whole : new ≡ old ++ begun ∷ (greeted.more ++ (one.tail ++ k.tail))
-    whole = k.is ∙ ap (λ (x : List Entry). x ++ k.tail) one.is ∙ append_assoc g one.tail k.tail ∙ ap (λ (x : List Entry). x ++ (one.tail ++ k.tail)) greeted.grown
-        ∙ append_assoc old (begun ∷ greeted.more) (one.tail ++ k.tail)
-
 -- where no child was started
-pub fault_turn : (o : Opening) (jobs : ℕ) (old g new : List Entry) (answer : Answer) (b : Bool) → g ≡ old ++ main_entry (NoStart 0) ∷ [] → AnswersOne o g new answer b
-    → (later : List Entry) → new ≡ old ++ main_entry (NoStart 0) ∷ later → AllInTurn o jobs (old ++ main_entry (NoStart 0) ∷ []) later
-fault_turn o jobs old g new answer b failed a later is = turn_quiet o jobs (old ++ main_entry (NoStart 0) ∷ []) later
-    (subst (λ (x : List Entry). list_all (λ (e : Entry). is_quiet e.what) x ≡ true) (sym (behind_first old later one.tail new (NoStart 0) is whole)) one.quiet)
+pub fault_quiet : (o : Opening) (old g new : List Entry) (answer : Answer) (b : Bool) → g ≡ old ++ main_entry (NoStart 0) ∷ [] → AnswersOne o g new answer b → QuietStretch old new (NoStart 0)
+fault_quiet o old g new answer b failed a = record {
+  more = one.tail;
+  is = one.is ∙ ap (λ (x : List Entry). x ++ one.tail) failed ∙ append_assoc old (main_entry (NoStart 0) ∷ []) one.tail;
+  quiet = one.quiet;
+}
   where
     one : QuietTail g new
     one = quiet_one o g new answer b a
-
-    whole : new ≡ old ++ main_entry (NoStart 0) ∷ one.tail
-    whole = one.is ∙ ap (λ (x : List Entry). x ++ one.tail) failed ∙ append_assoc old (main_entry (NoStart 0) ∷ []) one.tail
 
 -- where the child is ready, and there is one desk, or the child takes tags
 module _ (o : Opening) (jobs : ℕ) (offer : Bool) (old g new : List Entry) (c : ℕ) (legal : Legal o g) (greeted : Greeted old g 0 offer c) (ready : IsReady g c) where

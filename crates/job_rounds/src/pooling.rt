@@ -56,4 +56,5 @@ where
     ensures desks { vec_len result.0.desks ≡ vec_len bench.desks }
 {
     for _ in rt.forever() {}
+    unreachable!()
 }
