@@ -203,6 +203,10 @@ ran_jobs {o} {setup} {may} {limit} {made} {offer} {journal} le b = record {
 pub at_rest : {o : Opening} {setup : Setup} {may : Bool} {limit made : ℕ} {offer : Bool} {journal : List Entry} {desks desks' : List DeskTells} {whole : Bool} → JobsBetween o setup may limit made offer journal desks desks' whole → IsAtRest journal
 at_rest {o} {setup} {may} {limit} {made} {offer} {journal} b = record { idle = b.rest; shut = shut_open journal b.shut }
 
+pub whole_of : {o : Opening} {setup : Setup} {may : Bool} {limit made : ℕ} {offer : Bool} {journal : List Entry} {desks desks' : List DeskTells} (whole : Bool) → JobsBetween o setup may limit made offer journal desks desks' whole → whole ≡ true
+    → JobsBetween o setup may limit made offer journal desks desks' true
+whole_of {o} {setup} {may} {limit} {made} {offer} {journal} {desks} {desks'} whole b e = subst (λ (w : Bool). JobsBetween o setup may limit made offer journal desks desks' w) e b
+
 -- where tasks are left behind all starts, each of them is spent
 pub all_over : {o : Opening} {setup : Setup} {may : Bool} {limit made : ℕ} {offer : Bool} {journal : List Entry} {desks desks' : List DeskTells} → JobsBetween o setup may limit made offer journal desks desks' true → IsOver o limit made journal
     → are_all_claimed o journal ≡ false → (made ≡ limit) × AreSpent journal

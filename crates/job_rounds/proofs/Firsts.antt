@@ -1,6 +1,6 @@
 -- What came of a child of slot 0 that is ready, in the journal and of the objects.
-use Rattle.std.proofs.Common.{◌≡◌, ◌⊎◌, ℕ, ◌≤◌, List, [], ◌∷◌, ◌++◌, refl, sym, ap, subst, ◌∙◌, append-nil, length, Bool, true, false, arith, inl, inr}
-use Rattle.std.specs.Prelude.{◌&&◌}
+use Rattle.std.proofs.Common.{◌≡◌, ◌⊎◌, ℕ, ◌≤◌, List, [], ◌∷◌, ◌++◌, refl, sym, ap, subst, ◌∙◌, append-nil, length, Bool, true, false, arith, inl, inr, Ok, Result}
+use Rattle.std.specs.Prelude.{◌&&◌, IsErr}
 use Rattle.ann_outside.specs.Starts.{Starts}
 use Rattle.ann_outside.specs.Causes.{AddsOne, Stays}
 use Rattle.journal_model.specs.declared.entry.What.TheVariants.{Start}
@@ -18,8 +18,8 @@ use Rattle.lone_work.specs.Works.{DeskTells}
 use Rattle.lone_rounds.specs.Starting.{is_any_start}
 use Rattle.lone_rounds.specs.Stints.{ear_of, main_entry, mouth_of}
 use Rattle.lone_rounds.proofs.Leaving.{stays_none}
-use Rattle.job_rounds.specs.Pools.{IsLinkLeft, LeavesPool, ServesPool}
-use Rattle.job_rounds.specs.Servings.{FirstServed, Serves}
+use Rattle.job_rounds.specs.Pools.{IsLinkLeft, LeavesPool}
+use Rattle.job_rounds.specs.Servings.{FirstServed}
 use Rattle.job_rounds.specs.Starts.{LacksMemory, OneJobStart, StartsAll}
 use Rattle.job_rounds.proofs.PoolStretch.{Asked, all_told, asked_so, its_objects, none_started, pool_start}
 use Rattle.job_rounds.proofs.Rounding.{served_start}
@@ -57,32 +57,43 @@ lone_leaves W program journal before after e ear m mouth wires wires' stays le s
 
 -- ---- what came of it
 
-module _ (o : Opening) (setup : Setup) (limit : ℕ) (offer tagged : Bool) (old g new : List Entry) (c : ℕ) (desks desks' : List DeskTells) (W : Type 0) (program : List ℕ) (ear : EarValue) (mouth : MouthValue) (before mid last : ProgramsValue) (wires wires' : List WireValue)
-    (legal : Legal o old) (left : are_all_claimed o old ≡ false) (greeted : Greeted old g 0 offer c) (legal' : Legal o g) (ready : IsReady g c) (tag : tagged ≡ is_tagged g c) (is_child : ear.child ≡ c)
+module _ (o : Opening) (setup : Setup) (limit : ℕ) (offer tagged : Bool) (old g new : List Entry) (desks desks' : List DeskTells) (W : Type 0) (program : List ℕ) (ear : EarValue) (mouth : MouthValue) (before mid last : ProgramsValue) (wires wires' : List WireValue)
+    (legal : Legal o old) (left : are_all_claimed o old ≡ false) (greeted : Greeted old g 0 offer ear.child) (legal' : Legal o g) (ready : IsReady g ear.child) (tag : tagged ≡ is_tagged g ear.child)
     (adds : AddsOne before.starts mid.starts (program, true)) (le : before.faults ≤ mid.faults) (numbered : AreNumbered mid.starts ear mouth) where
   lone_objects : (after : ProgramsValue) → LeavesPool W program new [] ear mouth mid last wires wires' → AddsAll mid.starts after.starts (told program []) → after.faults ≡ last.faults
-      → (xs : List Entry) → any is_any_start xs ≡ false → StartsAll program new (main_entry (Start c 0 offer) ∷ xs) before after wires wires'
-  lone_objects after l all same xs none = subst (λ (ys : List Entry). StartsAll program new (main_entry (Start c 0 offer) ∷ ys) before after wires wires') (append-nil xs)
-      (its_objects program new xs [] c offer before mid ear mouth adds le numbered is_child none W last after wires wires' l all same)
+      → (xs : List Entry) → any is_any_start xs ≡ false → StartsAll program new (main_entry (Start ear.child 0 offer) ∷ xs) before after wires wires'
+  lone_objects after l all same xs none = subst (λ (ys : List Entry). StartsAll program new (main_entry (Start ear.child 0 offer) ∷ ys) before after wires wires') (append-nil xs)
+      (its_objects program new xs [] ear.child offer before mid ear mouth adds le numbered refl none W last after wires wires' l all same)
 
   untagged : is_tagged g ear.child ≡ false → (offer && false) ≡ (offer && tagged)
-  untagged h = ap (λ (b : Bool). offer && b) (sym (tag ∙ ap (is_tagged g) (sym is_child) ∙ h))
+  untagged h = ap (λ (b : Bool). offer && b) (sym (tag ∙ h))
 
-  pub first_ok : (W → ⊥) → FirstServed W o setup limit program g new desks desks' true ear mouth mid last wires wires' → OneJobStart o setup limit offer (offer && tagged) true program old new desks desks' before last wires wires'
-  first_ok none (inl (serves, few, l)) = served_start o setup limit offer tagged old g new c desks desks' true legal left greeted legal' ready tag
-      (subst (λ (d : ℕ). Serves o setup d g new desks desks') is_child serves) (subst (λ (d : ℕ). (length desks ≡ 1) ⊎ (is_tagged g d ≡ true)) is_child few)
+  made : (W → ⊥) → FirstServed W o setup limit program g new desks desks' true ear mouth mid last wires wires' → OneJobStart o setup limit offer (offer && tagged) true program old new desks desks' before last wires wires'
+  made none (inl (serves, few, l)) = served_start o setup limit offer tagged old g new ear.child desks desks' true legal left greeted legal' ready tag
+      serves few
       (lone_objects last l (all_told W program [] mid last none l.started) refl)
-  first_ok none (inr (many, plain, (s, l))) = subst (λ (next : Bool). OneJobStart o setup limit offer next true program old new desks desks' before last wires wires') (untagged plain)
-      (pool_start o setup limit offer old g new c desks desks' true greeted legal' ready (ap (is_tagged g) (sym is_child) ∙ plain) many (subst (λ (d : ℕ). ServesPool o setup limit d g new desks desks' true) is_child s)
-      (its_objects program new greeted.more s.later c offer before mid ear mouth adds le numbered is_child (none_started o old g offer c greeted) W last last wires wires' l (all_told W program s.later mid last none l.started) refl))
+  made none (inr (many, plain, (s, l))) = subst (λ (next : Bool). OneJobStart o setup limit offer next true program old new desks desks' before last wires wires') (untagged plain)
+      (pool_start o setup limit offer old g new ear.child desks desks' true greeted legal' ready plain many s
+      (its_objects program new greeted.more s.later ear.child offer before mid ear mouth adds le numbered refl (none_started o old g offer ear.child greeted) W last last wires wires' l (all_told W program s.later mid last none l.started) refl))
 
-  pub first_err : FirstServed W o setup limit program g new desks desks' false ear mouth mid last wires wires' → LacksMemory o setup limit offer program old new desks desks' before last wires wires'
-  first_err (inl (serves, few, l)) =
+  pub first_ok : (whole : Bool) → whole ≡ true → (W → ⊥) → FirstServed W o setup limit program g new desks desks' whole ear mouth mid last wires wires'
+      → OneJobStart o setup limit offer (offer && tagged) true program old new desks desks' before last wires wires'
+  first_ok whole e none f = made none (subst (λ (b : Bool). FirstServed W o setup limit program g new desks desks' b ear mouth mid last wires wires') e f)
+
+  lacking : FirstServed W o setup limit program g new desks desks' false ear mouth mid last wires wires' → LacksMemory o setup limit offer program old new desks desks' before last wires wires'
+  lacking (inl (serves, few, l)) =
       let a : Asked program [] mid last = asked_so W program [] mid last l.started in
-      inr (offer && tagged, a.mid, served_start o setup limit offer tagged old g new c desks desks' false legal left greeted legal' ready tag
-      (subst (λ (d : ℕ). Serves o setup d g new desks desks') is_child serves) (subst (λ (d : ℕ). (length desks ≡ 1) ⊎ (is_tagged g d ≡ true)) is_child few)
+      inr (offer && tagged, a.mid, served_start o setup limit offer tagged old g new ear.child desks desks' false legal left greeted legal' ready tag
+      serves few
       (lone_objects a.mid l a.adds a.faults), a.asked)
-  first_err (inr (many, plain, (s, l))) =
+  lacking (inr (many, plain, (s, l))) =
       let a : Asked program s.later mid last = asked_so W program s.later mid last l.started in
-      inr (offer && false, a.mid, pool_start o setup limit offer old g new c desks desks' false greeted legal' ready (ap (is_tagged g) (sym is_child) ∙ plain) many (subst (λ (d : ℕ). ServesPool o setup limit d g new desks desks' false) is_child s)
-      (its_objects program new greeted.more s.later c offer before mid ear mouth adds le numbered is_child (none_started o old g offer c greeted) W last a.mid wires wires' l a.adds a.faults), a.asked)
+      inr (offer && false, a.mid, pool_start o setup limit offer old g new ear.child desks desks' false greeted legal' ready plain many s
+      (its_objects program new greeted.more s.later ear.child offer before mid ear mouth adds le numbered refl (none_started o old g offer ear.child greeted) W last a.mid wires wires' l a.adds a.faults), a.asked)
+
+  pub first_err : (whole : Bool) → whole ≡ false → FirstServed W o setup limit program g new desks desks' whole ear mouth mid last wires wires' → LacksMemory o setup limit offer program old new desks desks' before last wires wires'
+  first_err whole e f = lacking (subst (λ (b : Bool). FirstServed W o setup limit program g new desks desks' b ear mouth mid last wires wires') e f)
+
+-- an answer that is Ok is no Err
+pub ok_no_err : {A B : Type 0} (r : Result A B) (a : A) → r ≡ Ok a → IsErr r → ⊥
+ok_no_err {A} {B} r a e h = (let bad : false ≡ true = subst (λ (x : Result A B). IsErr x) e h in absurd cc)

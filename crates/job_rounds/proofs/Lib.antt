@@ -12,3 +12,4 @@ pub mod Ends
 pub mod Rounding
 pub mod PoolStretch
 pub mod Firsts
+pub mod Steps
