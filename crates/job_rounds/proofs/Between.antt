@@ -1,5 +1,5 @@
 -- A run between two starts of slot 0, and what one start more makes of it.
-use Rattle.std.proofs.Common.{◌≡◌, ◌⊎◌, ℕ, suc, ◌+◌, ◌<◌, ◌≤◌, List, [], ◌∷◌, ◌++◌, refl, sym, ap, subst, ◌∙◌, append_assoc, length, Bool, true, false, not, ◌==◌, cond, Some, None, Option, arith, inl, inr, Ok, Err, Result}
+use Rattle.std.proofs.Common.{◌≡◌, ◌⊎◌, ℕ, suc, ◌+◌, ◌≤◌, List, [], ◌∷◌, ◌++◌, refl, sym, ap, subst, ◌∙◌, append_assoc, length, Bool, true, false, not, ◌==◌, cond, arith, inl, inr, Ok, Err, Result}
 use Rattle.std.specs.Prelude.{◌&&◌, ◌||◌, MatchResult, filter, nat_lt}
 use Rattle.std.specs.List.{cons_option, list_all, list_any}
 use Rattle.std.proofs.lemmas.Bool.Decides.{nat_tests}
@@ -19,7 +19,7 @@ use Rattle.child_start.proofs.Begun.{later_unstarted}
 use Rattle.child_end.specs.Wires.{came, came_in}
 use Rattle.task_run.specs.declared.setup.Setup.{Setup}
 use Rattle.lone_work.specs.Works.{DeskTells}
-use Rattle.lone_rounds.specs.Starting.{AllOffer, children, is_any_start, is_offered, is_ready_untagged, started_in}
+use Rattle.lone_rounds.specs.Starting.{AllOffer, children, is_offered, is_ready_untagged, started_in}
 use Rattle.lone_rounds.specs.Rounds.{is_of_run}
 use Rattle.lone_rounds.specs.Stints.{AreUpTo, IsOver, IsStart, main_entry, next_child}
 use Rattle.lone_rounds.proofs.Apart.{ended_on, ready_same}

@@ -1,7 +1,6 @@
 -- What came of a child of slot 0 that is ready, in the journal and of the objects.
-use Rattle.std.proofs.Common.{◌≡◌, ◌⊎◌, ℕ, ◌≤◌, List, [], ◌∷◌, ◌++◌, refl, sym, ap, subst, ◌∙◌, append-nil, length, Bool, true, false, arith, inl, inr, Ok, Result}
+use Rattle.std.proofs.Common.{◌≡◌, ℕ, ◌≤◌, List, [], ◌∷◌, refl, sym, ap, subst, ◌∙◌, append-nil, Bool, true, false, inl, inr, Ok, Result}
 use Rattle.std.specs.Prelude.{◌&&◌, IsErr}
-use Rattle.ann_outside.specs.Starts.{Starts}
 use Rattle.ann_outside.specs.Causes.{AddsOne, Stays}
 use Rattle.journal_model.specs.declared.entry.What.TheVariants.{Start}
 use Rattle.journal_model.specs.declared.entry.Entry.{Entry}
@@ -83,13 +82,23 @@ module _ (o : Opening) (setup : Setup) (limit : ℕ) (offer tagged : Bool) (old 
   lacking : FirstServed W o setup limit program g new desks desks' false ear mouth mid last wires wires' → LacksMemory o setup limit offer program old new desks desks' before last wires wires'
   lacking (inl (serves, few, l)) =
       let a : Asked program [] mid last = asked_so W program [] mid last l.started in
-      inr (offer && tagged, a.mid, served_start o setup limit offer tagged old g new ear.child desks desks' false legal left greeted legal' ready tag
-      serves few
-      (lone_objects a.mid l a.adds a.faults), a.asked)
+      inr (
+        offer && tagged,
+        a.mid,
+        served_start o setup limit offer tagged old g new ear.child desks desks' false legal left greeted legal' ready tag
+            serves few
+            (lone_objects a.mid l a.adds a.faults),
+        a.asked,
+      )
   lacking (inr (many, plain, (s, l))) =
       let a : Asked program s.later mid last = asked_so W program s.later mid last l.started in
-      inr (offer && false, a.mid, pool_start o setup limit offer old g new ear.child desks desks' false greeted legal' ready plain many s
-      (its_objects program new greeted.more s.later ear.child offer before mid ear mouth adds le numbered refl (none_started o old g offer ear.child greeted) W last a.mid wires wires' l a.adds a.faults), a.asked)
+      inr (
+        offer && false,
+        a.mid,
+        pool_start o setup limit offer old g new ear.child desks desks' false greeted legal' ready plain many s
+            (its_objects program new greeted.more s.later ear.child offer before mid ear mouth adds le numbered refl (none_started o old g offer ear.child greeted) W last a.mid wires wires' l a.adds a.faults),
+        a.asked,
+      )
 
   pub first_err : (whole : Bool) → whole ≡ false → FirstServed W o setup limit program g new desks desks' whole ear mouth mid last wires wires' → LacksMemory o setup limit offer program old new desks desks' before last wires wires'
   first_err whole e f = lacking (subst (λ (b : Bool). FirstServed W o setup limit program g new desks desks' b ear mouth mid last wires wires') e f)

@@ -1,6 +1,6 @@
 -- The tasks that are left when no child can be started any more.
-use Rattle.std.proofs.Common.{◌≡◌, ℕ, ◌+◌, ◌<◌, List, [], ◌∷◌, ◌++◌, refl, sym, ap, subst, ◌∙◌, append_assoc, append-nil, length, Bool, true, false, not, ◌==◌, cond, Some, None, Option, arith, inl, inr}
-use Rattle.std.specs.Prelude.{◌&&◌, ◌||◌, Ok}
+use Rattle.std.proofs.Common.{◌≡◌, ℕ, ◌<◌, List, [], ◌∷◌, ◌++◌, refl, sym, ap, subst, ◌∙◌, append_assoc, append-nil, length, Bool, true, false, not, ◌==◌, cond, None, Option, arith, inl, inr}
+use Rattle.std.specs.Prelude.{◌&&◌, Ok}
 use Rattle.std.specs.List.{list_all, list_any}
 use Rattle.journal_model.specs.declared.answer.Answer.{Answer}
 use Rattle.journal_model.specs.declared.answer.Answer.TheVariants.{Memory, NoChild}
@@ -34,7 +34,7 @@ use Rattle.job_rounds.specs.Desks.{DeskDid, DesksDid, HaveDesks}
 use Rattle.job_rounds.specs.Unserved.{UnservedAnswers}
 use Rattle.job_rounds.specs.Starts.{JobsBetween}
 use Rattle.job_rounds.proofs.Between.{few_of}
-use Rattle.job_rounds.proofs.Desks.{desks_as_many, desks_first, desks_join, desks_on, did_join, did_nothing, have_both, have_main, main_claims}
+use Rattle.job_rounds.proofs.Desks.{desks_first, desks_join, desks_on, did_join, did_nothing, have_both, have_main, main_claims}
 use Rattle.job_rounds.proofs.Shutting.{unasked}
 use Rattle.job_rounds.proofs.Slots.{is_quiet, turn_both, turn_quiet}
 use Rattle.job_rounds.proofs.Spent.{all_spent_on}

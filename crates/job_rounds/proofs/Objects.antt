@@ -1,5 +1,5 @@
 -- The wires and the programs of a run, as its journal grows by a start of slot 0 and those of its pool.
-use Rattle.std.proofs.Common.{◌≡◌, ◌⊎◌, ℕ, suc, ◌+◌, ◌≤◌, List, [], ◌∷◌, ◌++◌, refl, sym, ap, subst, ◌∙◌, append-nil, length, length-append, Bool, true, false, Some, None, Option, arith, inl, inr}
+use Rattle.std.proofs.Common.{◌≡◌, ℕ, suc, ◌+◌, ◌≤◌, List, [], ◌∷◌, ◌++◌, refl, sym, ap, subst, ◌∙◌, length, length-append, Bool, true, false, Some, None, Option, arith}
 use Rattle.std.specs.Prelude.{◌||◌, filter}
 use Rattle.std.specs.List.{cons_option}
 use Rattle.ann_outside.specs.Starts.{Starts, IsNumbered}

@@ -1,5 +1,5 @@
 -- A child of slot 0 that takes no tags: a pool is started behind it and does tasks, and all are closed.
-use Rattle.std.proofs.Common.{◌≡◌, ◌⊎◌, ℕ, ◌+◌, ◌<◌, ◌≤◌, List, [], ◌∷◌, ◌++◌, refl, sym, ap, subst, ◌∙◌, append_assoc, append-nil, length, map, Bool, true, false, not, ◌==◌, cond, Some, None, Option, arith, inl, inr}
+use Rattle.std.proofs.Common.{◌≡◌, ◌⊎◌, ℕ, ◌+◌, ◌<◌, ◌≤◌, List, [], ◌∷◌, ◌++◌, refl, sym, ap, subst, ◌∙◌, append_assoc, length, Bool, true, false, not, ◌==◌, cond, Some, None, Option, arith, inl, inr}
 use Rattle.std.specs.Prelude.{◌&&◌, ◌||◌, filter, nat_le, option_and_then, option_map}
 use Rattle.std.specs.List.{cons_option, last_or, list_all, list_any}
 use Rattle.std.specs.Option.{option_or}
@@ -15,7 +15,7 @@ use Rattle.journal_model.specs.declared.entry.Entry.{Entry}
 use Rattle.journal_model.specs.declared.opening.Opening.{Opening}
 use Rattle.journal_model.specs.Halves.{EarValue, MouthValue}
 use Rattle.journal_model.specs.Journal.{accepts_async, any, each_of, got_line, is_ended, is_settled, is_tagged, offers, open_jobs, verdict_of}
-use Rattle.journal_model.specs.Legality.{Legal, count, is_done, is_prepared, is_start, prepares}
+use Rattle.journal_model.specs.Legality.{Legal, count, is_done, is_start, prepares}
 use Rattle.journal_model.proofs.Looks.{any-append, both, each_of-append, unsettled, verdict_of-append}
 use Rattle.journal_model.proofs.Projecting.{invariant}
 use Rattle.journal_model.proofs.Replying.{slice_get-left}
@@ -30,7 +30,7 @@ use Rattle.task_run.specs.TaskRuns.{failed_start, gone_answer, or_refusal, refus
 use Rattle.lone_work.specs.Works.{DeskTells}
 use Rattle.lone_rounds.specs.Starting.{children, is_any_start, is_ready_untagged, started_in}
 use Rattle.lone_rounds.specs.Rounds.{is_of_run, start_untaken, turn_of}
-use Rattle.lone_rounds.specs.Stints.{AreLinked, IsLinked, MayHaveAsked, in_stint, main_entry, next_child}
+use Rattle.lone_rounds.specs.Stints.{AreLinked, MayHaveAsked, in_stint, main_entry}
 use Rattle.lone_rounds.proofs.Apart.{no_start_in}
 use Rattle.lone_rounds.proofs.Leaving.{adds_both, adds_one, none_told}
 use Rattle.lone_rounds.proofs.Stinting.{greeting_part, greeting_takes_none}

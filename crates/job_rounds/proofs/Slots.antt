@@ -1,6 +1,6 @@
 -- Starts in their slots: what stands behind a start of slot 0, and what each place of it says of the turn.
-use Rattle.std.proofs.Common.{◌≡◌, ◌⊎◌, ℕ, zero, suc, ◌+◌, ◌<◌, ◌≤◌, List, [], ◌∷◌, ◌++◌, refl, sym, ap, subst, ◌∙◌, append_assoc, append-nil, length, Bool, true, false, not, ◌==◌, Some, None, Option, cond, arith, inl, inr}
-use Rattle.std.specs.Prelude.{◌&&◌, ◌||◌, nat_le, min, option_and_then, unwrap_or}
+use Rattle.std.proofs.Common.{◌≡◌, ◌⊎◌, ℕ, zero, suc, ◌<◌, ◌≤◌, List, [], ◌∷◌, ◌++◌, refl, sym, ap, subst, ◌∙◌, append_assoc, append-nil, length, Bool, true, false, not, ◌==◌, Some, None, Option, cond, arith, inl, inr}
+use Rattle.std.specs.Prelude.{◌&&◌, ◌||◌, nat_le, option_and_then, unwrap_or}
 use Rattle.std.specs.List.{cons_option, last_or, list_all, list_any}
 use Rattle.std.proofs.Math.Nat.{min-le_left}
 use Rattle.std.proofs.lemmas.Bool.Decides.{nat_tests}

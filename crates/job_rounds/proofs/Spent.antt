@@ -1,6 +1,6 @@
 -- What spends a start of slot 0 goes on spending it.
-use Rattle.std.proofs.Common.{◌≡◌, ℕ, List, [], ◌∷◌, ◌++◌, refl, sym, ap, subst, ◌∙◌, Bool, true, false, not, ◌==◌, cond, Some, None, Option}
-use Rattle.std.specs.Prelude.{◌&&◌, ◌||◌, is_some, nat_le}
+use Rattle.std.proofs.Common.{◌≡◌, ℕ, List, [], ◌∷◌, ◌++◌, refl, ap, ◌∙◌, Bool, true, false, not, ◌==◌, cond, Some, None, Option}
+use Rattle.std.specs.Prelude.{◌||◌, is_some, nat_le}
 use Rattle.std.specs.List.{cons_option, list_all, list_any}
 use Rattle.std.specs.Option.{option_or}
 use Rattle.journal_model.specs.declared.verdict.Verdict.{Verdict}

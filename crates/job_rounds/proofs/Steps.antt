@@ -1,7 +1,6 @@
 -- What one start of slot 0 more makes of a run and of its objects, however it ends.
-use Rattle.std.proofs.Common.{◌≡◌, ◌⊎◌, ℕ, suc, ◌+◌, ◌*◌, ◌<◌, ◌≤◌, List, ◌∷◌, refl, sym, ap, subst, ◌∙◌, Bool, true, false, arith, inl, inr, Result, Err, MatchResult}
+use Rattle.std.proofs.Common.{◌≡◌, ℕ, suc, ◌+◌, ◌*◌, ◌<◌, ◌≤◌, List, ap, subst, ◌∙◌, Bool, true, false, arith, inl, inr}
 use Rattle.std.proofs.Math.Nat.{suc-mul}
-use Rattle.ann_key.specs.declared.bytes.NoMemory.{NoMemory}
 use Rattle.journal_model.specs.declared.entry.Entry.{Entry}
 use Rattle.journal_model.specs.declared.opening.Opening.{Opening}
 use Rattle.journal_model.specs.Legality.{Legal}
@@ -10,7 +9,7 @@ use Rattle.child_end.specs.Wires.{WireValue}
 use Rattle.task_run.specs.declared.setup.Setup.{Setup}
 use Rattle.lone_work.specs.Works.{DeskTells}
 use Rattle.lone_rounds.specs.Stints.{Kept, MayHaveAsked}
-use Rattle.job_rounds.specs.Starts.{JobStretch, JobsBetween, LacksMemory, OneJobStart}
+use Rattle.job_rounds.specs.Starts.{JobsBetween, LacksMemory, OneJobStart}
 use Rattle.job_rounds.proofs.Between.{between_kept, earlier_apart, few_of, jobs_next, tail}
 use Rattle.job_rounds.proofs.Objects.{kept_kept, kept_more}
 

@@ -1,5 +1,5 @@
 -- Tasks that are claimed without a child and answered at once.
-use Rattle.std.proofs.Common.{◌≡◌, ℕ, ◌+◌, ◌<◌, List, [], ◌∷◌, ◌++◌, refl, ap, ◌∙◌, append_assoc, Some, None, Option, arith}
+use Rattle.std.proofs.Common.{◌≡◌, ℕ, ◌+◌, ◌<◌, List, ◌∷◌, ◌++◌, ap, ◌∙◌, append_assoc, Some, None, Option, arith}
 use Rattle.journal_model.specs.declared.answer.Answer.{Answer}
 use Rattle.journal_model.specs.declared.entry.What.TheVariants.{Claim, Answer as Answered}
 use Rattle.journal_model.specs.declared.entry.Entry.{Entry}

@@ -1,4 +1,4 @@
-use Rattle.std.proofs.Common.{◌≡◌, ◌+◌, arith, inl, inr, map, subst, sym, ap, refl, ◌∙◌, List, length, true, vec_len}
+use Rattle.std.proofs.Common.{◌+◌, arith, inl, inr, map, subst, sym, ap, refl, ◌∙◌, List, length, true, vec_len}
 use Rattle.std.proofs.lemmas.Nat.{mul-le}
 use Rattle.std.proofs.lemmas.List.{length-map}
 use Rattle.journal_model.specs.declared.opening.Opening.{Opening}

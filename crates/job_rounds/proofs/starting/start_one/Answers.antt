@@ -1,4 +1,4 @@
-use Rattle.std.proofs.Common.{◌≡◌, ◌<◌, Bool, List, ℕ, arith, false, map, refl, sym, ap, subst, ◌∙◌, length, None, true}
+use Rattle.std.proofs.Common.{◌<◌, Bool, List, ℕ, arith, false, map, refl, sym, ap, subst, ◌∙◌, length, None, true}
 use Rattle.std.specs.Prelude.{IsErr, is_ok}
 use Rattle.std.proofs.lemmas.List.{length-map}
 use Rattle.ann_outside.specs.Causes.{AddsOne}
