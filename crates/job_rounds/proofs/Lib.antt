@@ -1,6 +1,15 @@
 pub mod Desks
+pub mod Unserved
+pub mod Slots
+pub mod Spent
 pub mod RoundDid
 pub mod Shutting
 pub mod Stretching
+pub mod Between
+pub mod Leftover
+pub mod Objects
 pub mod Ends
 pub mod Rounding
+pub mod PoolStretch
+pub mod Firsts
+pub mod Steps
