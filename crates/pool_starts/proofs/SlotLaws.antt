@@ -1,6 +1,6 @@
 -- Starts and claims that stand in their turn, as a journal grows.
-use Rattle.std.proofs.Common.{◌≡◌, ℕ, zero, suc, ◌+◌, ◌<◌, ◌≤◌, List, [], ◌∷◌, ◌++◌, refl, sym, ap, subst, ◌∙◌, append_assoc, append-nil, length, Bool, true, false, not, cond, Some, None, Option, arith}
-use Rattle.std.specs.Prelude.{◌||◌, filter, min, option_and_then, unwrap_or}
+use Rattle.std.proofs.Common.{◌≡◌, ℕ, zero, suc, ◌+◌, ◌<◌, ◌≤◌, List, [], ◌∷◌, ◌++◌, refl, sym, ap, subst, ◌∙◌, append_assoc, append-nil, length, Bool, true, false, not, ◌==◌, cond, Some, None, Option, arith}
+use Rattle.std.specs.Prelude.{◌&&◌, ◌||◌, filter, min, option_and_then, unwrap_or}
 use Rattle.std.specs.List.{last_or}
 use Rattle.std.specs.Option.{option_or}
 use Rattle.journal_model.specs.declared.verdict.Verdict.{Verdict}
@@ -11,8 +11,8 @@ use Rattle.journal_model.specs.declared.entry.Entry.{Entry}
 use Rattle.journal_model.specs.declared.opening.Opening.{Opening}
 use Rattle.annex_model.specs.Messages.{remote_reading}
 use Rattle.annex_model.specs.Tags.{names_async}
-use Rattle.journal_model.specs.Journal.{accepts_async, any, each_of, got_line, is_tagged, offers, verdict_of}
-use Rattle.journal_model.specs.Legality.{Legal, claims, is_claimed, is_prepared, numbers_of}
+use Rattle.journal_model.specs.Journal.{accepts_async, any, each_of, got_line, is_tagged, offers, verdict_of, starts}
+use Rattle.journal_model.specs.Legality.{Legal, claims, is_claimed, is_prepared, numbers_of, count, is_start}
 use Rattle.journal_model.proofs.Looks.{any-append, both, each_of-append, either_left, either_right, verdict_of-append}
 use Rattle.journal_model.proofs.Projecting.{invariant}
 use Rattle.journal_model.proofs.Replying.{slice_get-left}
@@ -21,7 +21,9 @@ use Rattle.host_core.specs.Steps.{unclaimed}
 use Rattle.lone_rounds.specs.Starting.{is_any_start, is_ready_untagged}
 use Rattle.lone_rounds.proofs.Tests.{each_without, or_false}
 use Rattle.pool_starts.specs.Pools.{is_claim}
-use Rattle.pool_starts.specs.Slots.{AllInTurn, IsManned, StandsInTurn, begins_by_start, first_in, has_pool, is_first_start, is_ready_pool, is_unclaimed_since, last_slot, slot_of}
+use Rattle.pool_starts.specs.Slots.{AllInTurn, IsManned, StandsInTurn, begins_by_start, first_in, has_pool, is_first_start, is_ready_pool, is_unclaimed_since, last_slot, slot_of, offers_tags}
+use Rattle.link_roles.proofs.Linked.{any_narrower}
+use Rattle.child_start.proofs.Begun.{later_unstarted}
 
 -- ---- one stretch behind another
 
@@ -224,3 +226,28 @@ turn_tagged o jobs past xs c legal first tag none = turn_where o jobs past xs no
         let untagged = (both (is_prepared (past ++ front) c) (not (is_tagged (past ++ front) c)) (sym its ∙ pool)).1 in
         let tagged = tagged_on o past front c legal tag in
         absurd (let bad : false ≡ true = ap not (sym tagged) ∙ untagged in cc)
+
+-- ---- a child to which ASYNC wasn't offered
+
+offered_starts : (c : ℕ) (w : What) → offers c w ≡ true → starts c w ≡ true
+offered_starts c (Start child slot offer) h = (both (child == c) offer h).0
+offered_starts c w h = absurd cc
+
+no_tags : (c : ℕ) (w : What) → offers_tags w ≡ false → offers c w ≡ false
+no_tags c (Start child slot offer) h = ap (λ (b : Bool). (child == c) && b) h ∙ and_false (child == c)
+  where
+    and_false : (b : Bool) → (b && false) ≡ false
+    and_false true = refl
+    and_false false = refl
+no_tags c w h = refl
+
+none_offered : (c : ℕ) (xs : List Entry) → any offers_tags xs ≡ false → any (offers c) xs ≡ false
+none_offered c [] h = refl
+none_offered c (e ∷ xs) h = rw (no_tags c e.what (either_left (offers_tags e.what) (any offers_tags xs) h), none_offered c xs (either_right (offers_tags e.what) (any offers_tags xs) h)) refl
+
+-- a child that was started where none was offered ASYNC takes no tags
+pub pool_untagged : (o : Opening) (past more : List Entry) (c : ℕ) → Legal o past → count is_start past < c → any offers_tags more ≡ false → is_tagged (past ++ more) c ≡ false
+pool_untagged o past more c legal later none =
+    let before : any (offers c) past ≡ false = any_narrower (offers c) (starts c) (offered_starts c) past (later_unstarted o past legal c later) in
+    let unoffered : any (offers c) (past ++ more) ≡ false = any-append (offers c) past more ∙ ap (λ (b : Bool). b || any (offers c) more) before ∙ none_offered c more none in
+    ap (λ (b : Bool). b && accepts_async (past ++ more) (verdict_of (past ++ more) c 0)) unoffered
