@@ -39,6 +39,12 @@ pub record ServesLinks (o : Opening) (setup : Setup) (old new : List Entry) (lin
   pub done : RoundsPool o setup old mid links links' desks desks' ⊎ ServesFirst o setup links old mid desks desks'
   pub closes : ClosesAll (children_of links) mid new
 
+-- how many of the seats' children serve
+abbrev pub serving : List SeatValue → ℕ
+serving [] = 0
+serving (OverBy own ∷ seats) = serving seats
+serving (Serves ∷ seats) = serving seats + 1
+
 -- the wires of seats, in order: a seat's own, or what the next link leaves
 abbrev pub AreSettled : List SeatValue → List LinkValue → List WireValue → Type 0
 AreSettled [] [] [] = Unit {0}
