@@ -4,3 +4,8 @@ pub mod Shutting
 pub mod Stretching
 pub mod Ends
 pub mod Rounding
+pub mod PoolPosts
+pub mod PoolTags
+pub mod PoolClosings
+pub mod PoolMiddle
+pub mod PoolWhole
