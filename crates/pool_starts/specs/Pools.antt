@@ -82,7 +82,7 @@ pub record GathersBy (wanted : Type 0) (program : List ℕ) (new later : List En
 -- ---- what gathering comes to
 
 -- what a seat tells, where its wire tells so much
-abbrev pub seat_value : {I O S : Type 0} {sinks : SinkGhosts I} {sources : SourceGhosts O} → (Wire I O → WireValue) → Seat I O S sinks sources → SeatValue
+abbrev pub seat_value : {I O S : Type 0} → (Wire I O → WireValue) → Seat I O S → SeatValue
 seat_value tells (Over wire) = OverBy (tells wire)
 seat_value tells (Serving stub) = Serves
 

@@ -1,12 +1,19 @@
 // Starting the children of a pool.
-ghost use Rattle.std.specs.Prelude.{◌≡◌, ◌<◌, ◌+◌, ◌∷◌, [], true};
+ghost use Rattle.std.specs.Prelude.{◌≡◌, ◌<◌, ◌≤◌, ◌+◌, ◌++◌, ◌∷◌, [], true, map, IfOk, MatchResult, vec_len, vec_capacity};
+ghost use Rattle.journal_model.specs.Journal.{is_started};
+ghost use Rattle.journal_model.specs.Legality.{Legal, count, is_start, may_stop};
+ghost use Rattle.journal_model.specs.declared.verdict.Why.TheVariants.{Closed};
+ghost use Rattle.link_roles.specs.Alone.{Closes};
+ghost use Rattle.link_roles.specs.Writings.{LoneWired};
+ghost use Rattle.child_start.specs.Cores.{IsSameCore};
 ghost use Rattle.child_end.specs.Programs.{programs_value};
 ghost use Rattle.child_end.specs.Wires.{wire_value};
-ghost use Rattle.child_start.specs.Cores.{IsSameCore};
 ghost use Rattle.crew_rounds.specs.Tagged.{link_of};
-ghost use Rattle.journal_model.specs.Legality.{count, is_start};
+ghost use Rattle.door_asker.specs.KnownLayouts.{IsBook};
+ghost use Rattle.gathering.specs.Rounds.{IsAtRest};
 ghost use Rattle.pool_rounds.specs.Pool.{PoolCan};
-ghost use Rattle.pool_starts.specs.Pools.{GathersAs};
+ghost use Rattle.pool_starts.specs.Pools.{GathersAs, Serves, seat_value};
+ghost use Rattle.pool_starts.specs.Seats.{SeatsNone, SeatsOne, SeatsOver};
 ghost use Rattle.pool_starts.specs.Slots.{has_pool, is_unclaimed_since, last_slot};
 
 use crate::pool::Gathering;
