@@ -320,23 +320,23 @@ module _ (o : Opening) (setup : Setup) (limit first : ℕ) (g mid : List Entry) 
   k : Closing c s.mid mid
   k = closing c s.mid mid s.closes
 
-  abbrev rest : List Entry
-  rest = worked ++ k.tail
+  abbrev then : List Entry
+  then = worked ++ k.tail
 
-  whole : mid ≡ g ++ rest
+  whole : mid ≡ g ++ then
   whole = k.is ∙ ap (λ (x : List Entry). x ++ k.tail) s.worked.is ∙ append_assoc g worked k.tail
 
-  part : Part c rest
+  part : Part c then
   part = part_both c worked k.tail
       (worker_part c worked s.worked.only s.worked.own (late_from o c g worked legal (subst (Legal o) s.worked.is s.can.legal) (two_jobs o g c legal its.serves.prepared))) (closing_part c k.tail k.one)
 
-  taken : claims_in rest ≡ claims_in worked
+  taken : claims_in then ≡ claims_in worked
   taken = each_of-append claimed_task worked k.tail ∙ ap (λ (x : List ℕ). claims_in worked ++ x) (of_closing c k.tail k.one (λ (x : List Entry). claims_in x ≡ []) refl refl) ∙ append-nil (claims_in worked)
 
-  given : answers_in rest ≡ answers_in worked
+  given : answers_in then ≡ answers_in worked
   given = each_of-append answer_in worked k.tail ∙ ap (λ (x : List (ℕ × Answer)). answers_in worked ++ x) (of_closing c k.tail k.one (λ (x : List Entry). answers_in x ≡ []) refl refl) ∙ append-nil (answers_in worked)
 
-  done : TasksDone o setup limit mid rest a.desk a.desk'
+  done : TasksDone o setup limit mid then a.desk a.desk'
   done =
       let at_end : TasksDone o setup limit (s.mid ++ k.tail) worked a.desk a.desk' = record {
         done = s.worked.done;
@@ -346,11 +346,11 @@ module _ (o : Opening) (setup : Setup) (limit first : ℕ) (g mid : List Entry) 
         log_is = s.worked.log_is;
         caused = s.worked.caused;
       } in
-      done_same o setup limit mid worked rest a.desk a.desk' taken given (subst (λ (j : List Entry). TasksDone o setup limit j worked a.desk a.desk') (sym k.is) at_end)
+      done_same o setup limit mid worked then a.desk a.desk' taken given (subst (λ (j : List Entry). TasksDone o setup limit j worked a.desk a.desk') (sym k.is) at_end)
 
-  did : DesksDid o setup limit mid g rest 1 desks desks'
-  did = subst (λ (ds : List DeskTells). DesksDid o setup limit mid g rest 1 ds desks') (sym a.before) (subst (λ (ds : List DeskTells). DesksDid o setup limit mid g rest 1 (a.desk ∷ a.others) ds) (sym a.after)
-      (desks_main o setup limit mid g rest a.desk a.desk' a.others part.main done))
+  did_alone : DesksDid o setup limit mid g then 1 desks desks'
+  did_alone = subst (λ (ds : List DeskTells). DesksDid o setup limit mid g then 1 ds desks') (sym a.before) (subst (λ (ds : List DeskTells). DesksDid o setup limit mid g then 1 (a.desk ∷ a.others) ds) (sym a.after)
+      (desks_main o setup limit mid g then a.desk a.desk' a.others part.main done))
 
   some : 0 < length desks
   some = (let is = ap (λ (ds : List DeskTells). length ds) a.before in omega (arith, is))
@@ -358,11 +358,11 @@ module _ (o : Opening) (setup : Setup) (limit first : ℕ) (g mid : List Entry) 
   calm : IsAtRest mid
   calm = record {
     idle = λ t. ap (λ (j : List Entry). is_busy j t) k.is ∙ closing_rests c k.tail k.one s.mid s.can.rest t;
-    shut = shut_open mid (subst AreShut (sym whole) (shut_next g rest c part.within (ap (λ (j : List Entry). open_jobs j c) (sym whole ∙ k.is) ∙ idle_on s.mid k.tail c (of_closing c k.tail k.one (λ (x : List Entry). asked_jobs x c ≡ []) refl refl) s.can.idle) (rest_shut g can.calm)));
+    shut = shut_open mid (subst AreShut (sym whole) (shut_next g then c part.within (ap (λ (j : List Entry). open_jobs j c) (sym whole ∙ k.is) ∙ idle_on s.mid k.tail c (of_closing c k.tail k.one (λ (x : List Entry). asked_jobs x c ≡ []) refl refl) s.can.idle) (rest_shut g can.calm)));
   }
 
-  left : (list_any (λ (x : LinkValue). is_lost mid x.ear.child) (l ∷ links) ≡ true) ⊎ (are_all_claimed o mid ≡ true)
-  left = go s.through
+  left_alone : (list_any (λ (x : LinkValue). is_lost mid x.ear.child) (l ∷ links) ≡ true) ⊎ (are_all_claimed o mid ≡ true)
+  left_alone = go s.through
     where
       ends : list_all (λ (e : Entry). is_unclosed_end e.what) worked ≡ true
       ends = all_unclosed (by_worker c) (worker_ends c) worked s.worked.only
@@ -377,15 +377,15 @@ module _ (o : Opening) (setup : Setup) (limit first : ℕ) (g mid : List Entry) 
 
   pub middle_alone : Middle o setup limit first (l ∷ links) g mid desks desks' true
   middle_alone = record {
-    rest = rest;
+    rest = then;
     is = whole;
-    none = any_none (in_stint c) is_any_start (no_start_in c) rest part.within;
-    within = all-each (λ (e : Entry). in_stint c e.what) (λ (e : Entry). in_pool first e.what) (λ e h. stint_pool first c e.what least h) rest part.within;
+    none = any_none (in_stint c) is_any_start (no_start_in c) then part.within;
+    within = all-each (λ (e : Entry). in_stint c e.what) (λ (e : Entry). in_pool first e.what) (λ e h. stint_pool first c e.what least h) then part.within;
     asks = part.asks;
     quiet = λ w. absurd cc;
     legal = legal';
     calm = calm;
-    placed = have_main (length desks) g rest some part.main;
-    did = did;
-    left = λ w. left;
+    placed = have_main (length desks) g then some part.main;
+    did = did_alone;
+    left = λ w. left_alone;
   }

@@ -101,7 +101,7 @@ serves_asks c n w some h l m = refl
 
 -- ---- starts
 
-start_is_mains : (w : What) → is_any_start w ≡ true → is_mains w ≡ true
+pub start_is_mains : (w : What) → is_any_start w ≡ true → is_mains w ≡ true
 start_is_mains (Start child slot offer) h = refl
 start_is_mains (NoStart slot) h = refl
 start_is_mains w h = absurd cc
@@ -202,9 +202,10 @@ module _ (links : List LinkValue) where
     pool_desks n many past [] few u z h k = tt
     pool_desks n many past (e ∷ xs) few u z h k =
         let t = both (makes (pool_crew cs e.by) e.what) (are_posted cs xs) h in
-        let q = both (list_any (λ (m : ℕ). m == e.by) (range_with_len 1 (1 + many))) (list_all (λ (x : Entry). list_any (λ (m : ℕ). m == x.by) (range_with_len 1 (1 + many))) xs) k in
-        (one e.what (posted cs e.by e.what t.0) (in_range 1 (1 + many) e.by q.0).1,
-            pool_desks n many (past ++ e ∷ []) xs few (on past e (either_left (is_any_start e.what) (any is_any_start xs) z) u) (either_right (is_any_start e.what) (any is_any_start xs) z) t.1 q.1)
+        let q = both (list_any (λ (m : ℕ). m == e.by) (range_with_len 1 (1 + many))) (list_all (λ (x : Entry). list_any (λ (m : ℕ). m == x.by) (range_with_len 1 (1 + many))) xs) k in (
+          one e.what (posted cs e.by e.what t.0) (in_range 1 (1 + many) e.by q.0).1,
+          pool_desks n many (past ++ e ∷ []) xs few (on past e (either_left (is_any_start e.what) (any is_any_start xs) z) u) (either_right (is_any_start e.what) (any is_any_start xs) z) t.1 q.1,
+        )
       where
         one : (w : What) → Posted cs e.by w → e.by < 1 + (1 + many) → HasDesk n past e.by w
         one (Claim task child) p below =

@@ -215,7 +215,7 @@ all_ascend o journal l = Legal-induction o (λ past. Ascends 0 (came past)) tt (
 
 pub later_ascend : (o : Opening) (old later : List Entry) → Legal o (old ++ later) → Ascends (count is_start old) (came later)
 later_ascend o old later legal =
-    subst (λ (m : ℕ). Ascends m (came later)) (somes_of old) (ascends_behind 0 (came old) (came later) (subst (Ascends 0) (each_of-append came_in old later) (all_ascend o (old ++ later) legal)))
+    subst (λ (m : ℕ). Ascends m (came later)) (let so = somes_of old in let e : 0 + somes (came old) ≡ count is_start old = omega (arith, so) in e) (ascends_behind 0 (came old) (came later) (subst (Ascends 0) (each_of-append came_in old later) (all_ascend o (old ++ later) legal)))
 
 -- ---- the children of links
 

@@ -92,10 +92,10 @@ pool_can o journal first tagged h = record {
   calm = h.calm;
   differ = alone;
   each = All-cons (MayServe o journal) first [] (record {
-      serves = record { legal = h.can.legal; number = h.can.number; started = h.can.started; prepared = h.can.prepared; book = h.can.book };
-      unclosed = h.unclosed;
-      wired = h.wired;
-    }) (All-nil (MayServe o journal));
+    serves = record { legal = h.can.legal; number = h.can.number; started = h.can.started; prepared = h.can.prepared; book = h.can.book };
+    unclosed = h.unclosed;
+    wired = h.wired;
+  }) (All-nil (MayServe o journal));
 }
   where
     alone : Distinct (first.ear.child ∷ [])

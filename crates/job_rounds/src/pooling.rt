@@ -61,8 +61,8 @@ where
     P::Stub: Drop,
     requires fits { serving (map (seat_value (wire_value P.Inlet.taken P.Inlet.faults P.Inlet.number P.Inlet.is_open P.Outlet.given P.Outlet.left P.Outlet.faults P.Outlet.number P.Outlet.is_open)) seats.items) ≡ vec_len links }
     requires room { vec_len wires.old + vec_len seats ≤ vec_capacity wires.old }
-    ensures laid { AreLaid (map (seat_value (wire_value P.Inlet.taken P.Inlet.faults P.Inlet.number P.Inlet.is_open P.Outlet.given P.Outlet.left P.Outlet.faults P.Outlet.number P.Outlet.is_open)) seats.entry.items) (map (λ l. link_of l.ear l.mouth) links.entry.items) (map (wire_value P.Inlet.taken P.Inlet.faults P.Inlet.number P.Inlet.is_open P.Outlet.given P.Outlet.left P.Outlet.faults P.Outlet.number P.Outlet.is_open) wires.old.items) (map (wire_value P.Inlet.taken P.Inlet.faults P.Inlet.number P.Inlet.is_open P.Outlet.given P.Outlet.left P.Outlet.faults P.Outlet.number P.Outlet.is_open) wires.new.items) }
-    ensures room { (vec_len wires.new ≡ vec_len wires.old + vec_len seats.entry) × (vec_capacity wires.new ≡ vec_capacity wires.old) }
+    ensures laid { AreLaid (map (seat_value (wire_value P.Inlet.taken P.Inlet.faults P.Inlet.number P.Inlet.is_open P.Outlet.given P.Outlet.left P.Outlet.faults P.Outlet.number P.Outlet.is_open)) seats.items) (map (λ l. link_of l.ear l.mouth) links.items) (map (wire_value P.Inlet.taken P.Inlet.faults P.Inlet.number P.Inlet.is_open P.Outlet.given P.Outlet.left P.Outlet.faults P.Outlet.number P.Outlet.is_open) wires.old.items) (map (wire_value P.Inlet.taken P.Inlet.faults P.Inlet.number P.Inlet.is_open P.Outlet.given P.Outlet.left P.Outlet.faults P.Outlet.number P.Outlet.is_open) wires.new.items) }
+    ensures room { (vec_len wires.new ≡ vec_len wires.old + vec_len seats) × (vec_capacity wires.new ≡ vec_capacity wires.old) }
     ensures starts { Stays (P.starts programs.old) (P.starts programs.new) }
     ensures later { P.faults programs.old ≤ P.faults programs.new }
 {
@@ -108,7 +108,7 @@ fn take_first<K: Desk + Drop>(
 // Puts them back before the others.
 fn put_back<K: Desk + Drop>(mut used: Vec<K>, desks: &mut Vec<K>)
     requires room { vec_len desks.old + vec_len used ≤ vec_capacity desks.old }
-    ensures back { desks.new.items ≡ used.entry.items ++ reverse desks.old.items }
+    ensures back { desks.new.items ≡ used.items ++ reverse desks.old.items }
 {
     'desks: while let Some(desk) = used.pop() {
         desks.push_reserved(desk);
