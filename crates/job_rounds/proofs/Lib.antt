@@ -9,3 +9,4 @@ pub mod PoolTags
 pub mod PoolClosings
 pub mod PoolMiddle
 pub mod PoolWhole
+pub mod PoolLinks

@@ -300,6 +300,22 @@ still_unclosed g more c ends before after = go (why_of g c) refl (sym (why_of-ap
         let bad : true ≡ false = sym (ended_unclosed c more ends ended) ∙ ap is_unclosed h in
         cc
 
+-- what the main thread made of a child, its closing too
+pub record ServedPart (c : ℕ) (g mid : List Entry) : Type 0 where
+  pub rest : List Entry
+  pub is : mid ≡ g ++ rest
+  pub part : Part c rest
+
+pub served_part : {o : Opening} {setup : Setup} {c : ℕ} {g mid : List Entry} {desk desk' : DeskTells} → Legal o g → is_prepared g c ≡ true → HasServed o setup c g mid desk desk' → ServedPart c g mid
+served_part {o} {setup} {c} {g} {mid} legal ready s =
+    let k : Closing c s.mid mid = closing c s.mid mid s.closes in
+    record {
+      rest = s.worked.more ++ k.tail;
+      is = k.is ∙ ap (λ (x : List Entry). x ++ k.tail) s.worked.is ∙ append_assoc g s.worked.more k.tail;
+      part = part_both c s.worked.more k.tail
+          (worker_part c s.worked.more s.worked.only s.worked.own (late_from o c g s.worked.more legal (subst (Legal o) s.worked.is s.can.legal) (two_jobs o g c legal ready))) (closing_part c k.tail k.one);
+    }
+
 module _ (o : Opening) (setup : Setup) (limit first : ℕ) (g mid : List Entry) (l : LinkValue) (links : List LinkValue) (desks desks' : List DeskTells) (legal : Legal o g) (can : PoolCan o g (l ∷ links))
     (low : All (λ (x : LinkValue). first ≤ x.ear.child) (l ∷ links)) (legal' : Legal o mid) (a : ServesAlone o setup l.ear.child g mid desks desks') where
   abbrev c : ℕ
