@@ -1,15 +1,19 @@
 -- The links, seats and desks of a pool, as vectors: the first link, the wires that are laid in order, and desks that are taken and put back.
-use Rattle.std.proofs.Common.{◌≡◌, ℕ, ◌+◌, ◌<◌, ◌≤◌, List, [], ◌∷◌, ◌++◌, refl, sym, ap, subst, ◌∙◌, append_assoc, append-nil, length, length-append, map, Bool, true, false, not, ◌==◌, arith, inl, inr, slice_index_or, zero, suc, Some}
+use Rattle.std.proofs.Common.{◌≡◌, ℕ, ◌+◌, ◌<◌, ◌≤◌, List, [], ◌∷◌, ◌++◌, refl, sym, ap, subst, ◌∙◌, append_assoc, append-nil, length, length-append, map, Bool, true, false, not, ◌==◌, arith, inl, inr, slice_index_or, take, zero, suc, None, Option, Some}
 use Rattle.std.specs.Prelude.{All, reverse, slice_get}
 use Rattle.std.proofs.lemmas.List.{length-map, map-append, length-reverse, reverse-append, reverse-reverse}
 use Rattle.std.proofs.lemmas.List.Elements.{All-cons, All-head, All-nil, All-tail, All-weaker}
+use Rattle.ann_outside.specs.Causes.{Stays}
+use Rattle.ann_outside.specs.Starts.{Starts}
 use Rattle.journal_model.specs.declared.entry.Entry.{Entry}
 use Rattle.journal_model.specs.declared.opening.Opening.{Opening}
+use Rattle.journal_model.specs.declared.verdict.Why.TheVariants.{Closed}
 use Rattle.journal_model.specs.Journal.{any, is_started}
+use Rattle.journal_model.specs.Legality.{may_stop}
 use Rattle.journal_model.specs.Shares.{is_of_child}
 use Rattle.journal_model.proofs.Looks.{differ, same_number}
 use Rattle.journal_model.proofs.Testing.{by_either}
-use Rattle.link_roles.specs.Alone.{KeepsLink}
+use Rattle.link_roles.specs.Alone.{Closes, KeepsLink}
 use Rattle.gathering.specs.Laws.{Distinct, children_of}
 use Rattle.gathering.specs.Rounds.{IsAtRest, LinkValue}
 use Rattle.child_end.specs.Wires.{IsHeld, IsLaid, IsLeft, WireValue}
@@ -18,12 +22,14 @@ use Rattle.task_run.specs.declared.setup.Setup.{Setup}
 use Rattle.lone_work.specs.Works.{CanWork, DeskTells}
 use Rattle.lone_rounds.specs.Stints.{HasServed, in_stint}
 use Rattle.lone_rounds.proofs.Apart.{apart_in}
+use Rattle.lone_rounds.proofs.Stinting.{may_close}
 use Rattle.lone_rounds.proofs.Tests.{any_none}
 use Rattle.pool_rounds.specs.Pool.{AreSameLinks, MayServe, PoolCan}
 use Rattle.pool_starts.specs.Pools.{OverBy, SeatValue, Serves}
 use Rattle.job_rounds.specs.PoolSteps.{AreLaid, AreSettled, ClosesAll, serving}
 use Rattle.job_rounds.specs.Servings.{ServesAlone}
 use Rattle.job_rounds.proofs.Ends.{started_then}
+use Rattle.job_rounds.proofs.PoolClosings.{Closings, closings, closings_calm}
 use Rattle.job_rounds.proofs.PoolMiddle.{ServedPart, served_part}
 use Rattle.job_rounds.proofs.Shutting.{rest_shut}
 
@@ -100,6 +106,10 @@ pub record Laying {W S L : Type 0} (value : W → WireValue) (seat : S → SeatV
   pub then : (more : List WireValue) → AreSettled (map seat (reverse seats)) (map link (reverse links)) more → AreSettled (map seat (reverse seats0)) (map link (reverse links0)) (done ++ more)
   pub fits : serving (map seat (reverse seats)) ≡ length links
 
+no_items : {X : Type 0} (xs : List X) → length xs ≡ 0 → xs ≡ []
+no_items [] e = refl
+no_items (x ∷ xs) e = absurd (let bad : ⊥ = omega (arith, e) in bad)
+
 module _ {W S L : Type 0} (value : W → WireValue) (seat : S → SeatValue) (link : L → LinkValue) where
   pub laying_begins : (seats seats0 : List S) (links links0 : List L) (wires : List W) → seats0 ≡ reverse seats → links0 ≡ reverse links → serving (map seat seats) ≡ length links
       → Laying value seat link seats0 seats0 links0 links0 wires wires
@@ -146,10 +156,13 @@ module _ {W S L : Type 0} (value : W → WireValue) (seat : S → SeatValue) (li
         here : map link (reverse links) ≡ link x ∷ map link (reverse links')
         here = turned link links links' x (link x) taken refl
 
-  pub laying_ends : (seats seats0 : List S) (links links0 left : List L) (wires0 wires : List W) → seats0 ≡ reverse seats → links0 ≡ reverse links → Laying value seat link seats0 [] links0 left wires0 wires
+  pub laying_ends : (seats seats0 over : List S) (links links0 left : List L) (wires0 wires : List W) → seats0 ≡ reverse seats → links0 ≡ reverse links → length over ≡ 0 → Laying value seat link seats0 over links0 left wires0 wires
       → AreLaid (map seat seats) (map link links) (map value wires0) (map value wires)
-  laying_ends seats seats0 links links0 left wires0 wires es el l = (l.done, l.are, whole)
+  laying_ends seats seats0 over links links0 left wires0 wires es el gone w = (l.done, l.are, whole)
     where
+      l : Laying value seat link seats0 [] links0 left wires0 wires
+      l = subst (λ (x : List S). Laying value seat link seats0 x links0 left wires0 wires) (no_items over gone) w
+
       none : (xs : List L) → 0 ≡ length xs → xs ≡ []
       none [] e = refl
       none (x ∷ xs) e = absurd (let bad : ⊥ = omega (arith, e) in bad)
@@ -177,3 +190,38 @@ taken_all all turned others used e h =
 pub put_more : {X : Type 0} (all used used' old new : List X) (x : X) → used ≡ used' ++ x ∷ [] → new ≡ old ++ x ∷ [] → used ++ reverse old ≡ all → used' ++ reverse new ≡ all
 put_more all used used' old new x popped pushed e =
     ap (λ l. used' ++ reverse l) pushed ∙ ap (λ l. used' ++ l) (reverse-append old (x ∷ [])) ∙ sym (append_assoc used' (x ∷ []) (reverse old)) ∙ ap (λ l. l ++ reverse old) (sym popped) ∙ e
+
+-- ---- children that are closed in turn
+
+-- behind closings the next child may be closed
+pub closing_may : (cs : List ℕ) (old cur : List Entry) (c : ℕ) → ClosesAll cs old cur → IsAtRest old → is_started old c ≡ true → (is_started cur c ≡ true) × (may_stop cur c Closed ≡ true)
+closing_may cs old cur c closed calm started =
+    let k : Closings cs old cur = closings cs old cur closed in
+    let still : IsAtRest cur = closings_calm k calm in
+    (ap (λ (j : List Entry). is_started j c) k.is ∙ started_then old k.tail c started, may_close cur c (rest_shut cur still c) still.idle)
+
+-- one more
+closes_next : {L : Type 0} (link : L → LinkValue) (ls : List L) (i : ℕ) (x : L) (old mid new : List Entry) → i < length ls → x ≡ slice_index_or ls i x → ClosesAll (take i (children_of (map link ls))) old mid
+    → Closes 0 (link x).ear.child mid new → ClosesAll (take (suc i) (children_of (map link ls))) old new
+closes_next link [] i x old mid new lt is closed next = absurd (let bad : ⊥ = omega (arith, lt) in bad)
+closes_next link (y ∷ ys) zero x old mid new lt is closed next = (new, subst (λ (j : List Entry). Closes 0 (link y).ear.child j new) closed (subst (λ z. Closes 0 (link z).ear.child mid new) is next), refl)
+closes_next link (y ∷ ys) (suc i) x old mid new lt is closed next = (closed.0, closed.1, closes_next link ys i x closed.0 mid new (omega (arith, lt)) is closed.2 next)
+
+pub closes_one_more : {L : Type 0} (link : L → LinkValue) (ls : List L) (i : ℕ) (x : L) (old mid new : List Entry) → i < length ls → x ≡ slice_index_or ls i x → ClosesAll (take i (children_of (map link ls))) old mid
+    → Closes 0 (link x).ear.child mid new → ClosesAll (take (i + 1) (children_of (map link ls))) old new
+closes_one_more link ls i x old mid new lt is closed next =
+    subst (λ (n : ℕ). ClosesAll (take n (children_of (map link ls))) old new) (let e : suc i ≡ i + 1 = omega arith in e) (closes_next link ls i x old mid new lt is closed next)
+
+-- ---- starts that are told
+
+pub stays_same : (a : Option Starts) → Stays a a
+stays_same None = tt
+stays_same (Some xs) = refl
+
+pub stays_both : (a b c : Option Starts) → Stays a b → Stays b c → Stays a c
+stays_both None None None h k = tt
+stays_both None None (Some zs) h k = absurd k
+stays_both None (Some ys) c h k = absurd h
+stays_both (Some xs) None c h k = absurd h
+stays_both (Some xs) (Some ys) None h k = absurd k
+stays_both (Some xs) (Some ys) (Some zs) h k = k ∙ h
