@@ -10,3 +10,4 @@ pub mod PoolClosings
 pub mod PoolMiddle
 pub mod PoolWhole
 pub mod PoolLinks
+pub mod PoolServing

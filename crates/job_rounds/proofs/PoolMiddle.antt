@@ -316,6 +316,17 @@ served_part {o} {setup} {c} {g} {mid} legal ready s =
           (worker_part c s.worked.more s.worked.only s.worked.own (late_from o c g s.worked.more legal (subst (Legal o) s.worked.is s.can.legal) (two_jobs o g c legal ready))) (closing_part c k.tail k.one);
     }
 
+-- all is at rest behind it
+pub served_calm : {o : Opening} {setup : Setup} {c : ℕ} {g mid : List Entry} {desk desk' : DeskTells} → Legal o g → IsAtRest g → is_prepared g c ≡ true → HasServed o setup c g mid desk desk' → IsAtRest mid
+served_calm {o} {setup} {c} {g} {mid} legal calm ready s =
+    let k : Closing c s.mid mid = closing c s.mid mid s.closes in
+    let p : ServedPart c g mid = served_part legal ready s in
+    let idle : open_jobs mid c ≡ [] = ap (λ (j : List Entry). open_jobs j c) k.is ∙ idle_on s.mid k.tail c (of_closing c k.tail k.one (λ (x : List Entry). asked_jobs x c ≡ []) refl refl) s.can.idle in
+    record {
+      idle = λ t. ap (λ (j : List Entry). is_busy j t) k.is ∙ closing_rests c k.tail k.one s.mid s.can.rest t;
+      shut = shut_open mid (subst AreShut (sym p.is) (shut_next g p.rest c p.part.within (ap (λ (j : List Entry). open_jobs j c) (sym p.is) ∙ idle) (rest_shut g calm)));
+    }
+
 module _ (o : Opening) (setup : Setup) (limit first : ℕ) (g mid : List Entry) (l : LinkValue) (links : List LinkValue) (desks desks' : List DeskTells) (legal : Legal o g) (can : PoolCan o g (l ∷ links))
     (low : All (λ (x : LinkValue). first ≤ x.ear.child) (l ∷ links)) (legal' : Legal o mid) (a : ServesAlone o setup l.ear.child g mid desks desks') where
   abbrev c : ℕ
@@ -372,10 +383,7 @@ module _ (o : Opening) (setup : Setup) (limit first : ℕ) (g mid : List Entry) 
   some = (let is = ap (λ (ds : List DeskTells). length ds) a.before in omega (arith, is))
 
   calm : IsAtRest mid
-  calm = record {
-    idle = λ t. ap (λ (j : List Entry). is_busy j t) k.is ∙ closing_rests c k.tail k.one s.mid s.can.rest t;
-    shut = shut_open mid (subst AreShut (sym whole) (shut_next g then c part.within (ap (λ (j : List Entry). open_jobs j c) (sym whole ∙ k.is) ∙ idle_on s.mid k.tail c (of_closing c k.tail k.one (λ (x : List Entry). asked_jobs x c ≡ []) refl refl) s.can.idle) (rest_shut g can.calm)));
-  }
+  calm = served_calm legal can.calm its.serves.prepared s
 
   left_alone : (list_any (λ (x : LinkValue). is_lost mid x.ear.child) (l ∷ links) ≡ true) ⊎ (are_all_claimed o mid ≡ true)
   left_alone = go s.through
