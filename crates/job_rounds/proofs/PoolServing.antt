@@ -131,17 +131,17 @@ module _ (o : Opening) (setup : Setup) (g mid : List Entry) (ls ms : List LinkVa
 -- ---- the desks of a round
 
 -- the first desks had the round, and the others stand behind them again
-pub round_beside : {K : Type 0} (tells : K → DeskTells) (o : Opening) (setup : Setup) (g mid : List Entry) (ls ms : List LinkValue) (all used used' back turned : List K) (n m : ℕ) → (others : List K) → n ≡ length ls → length used ≡ n → m ≡ n
+pub round_beside : {K : Type 0} (tells : K → DeskTells) (o : Opening) (setup : Setup) (g mid : List Entry) (ls ms : List LinkValue) (all used used' back others : List K) (m : ℕ) → length used ≡ length ls → m ≡ length ls
     → all ≡ used ++ others → back ≡ used' ++ others → GoesOn g mid (λ rest. PoolLeaves o setup (range_with_len 1 (1 + m)) g rest ls ms (map tells used) (map tells used'))
     → RoundsPool o setup g mid ls ms (map tells all) (map tells back)
-round_beside tells o setup g mid ls ms all used used' back turned n m others many so mn before after goes = record {
+round_beside tells o setup g mid ls ms all used used' back others m many numbered before after goes = record {
   used = map tells used;
   used' = map tells used';
   others = map tells others;
   before = ap (map tells) before ∙ map-append tells used others;
   after = ap (map tells) after ∙ map-append tells used' others;
-  many = length-map used tells ∙ so ∙ many;
-  round = subst (λ (k : ℕ). GoesOn g mid (λ rest. PoolLeaves o setup (range_with_len 1 (1 + k)) g rest ls ms (map tells used) (map tells used'))) (mn ∙ many) goes;
+  many = length-map used tells ∙ many;
+  round = subst (λ (k : ℕ). GoesOn g mid (λ rest. PoolLeaves o setup (range_with_len 1 (1 + k)) g rest ls ms (map tells used) (map tells used'))) numbered goes;
 }
 
 pub if_done : {P Q : Type 0} (x : Outcome) → (P → Q) → IfDone x P → IfDone x Q
