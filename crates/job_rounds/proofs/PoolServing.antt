@@ -153,3 +153,16 @@ pub if_kept : {P Q : Type 0} (x : Outcome) → (P → Q) → IfKept x P → IfKe
 if_kept Done f h = tt
 if_kept NoMemory f h = f h
 if_kept NoThreads f h = f h
+
+-- ---- where no round began: what was done then was done from before it
+
+module _ {L K : Type 0} (link : L → LinkValue) (tells : K → DeskTells) (o p : Opening) (old mid : List Entry) (ls is : List L) (ks js : List K) (eo : p ≡ o) (ej : mid ≡ old) (el : is ≡ ls) (ek : js ≡ ks) where
+  pub can_kept : PoolCan o old (map link ls) → PoolCan p mid (map link is)
+  can_kept can = subst (λ (q : Opening). PoolCan q mid (map link is)) (sym eo) (subst (λ (j : List Entry). PoolCan o j (map link is)) (sym ej) (subst (λ (xs : List L). PoolCan o old (map link xs)) (sym el) can))
+
+  pub serves_kept : (setup : Setup) (new : List Entry) (ms : List LinkValue) (desks' : List DeskTells) → ServesLinks p setup mid new (map link is) ms (map tells js) desks' → ServesLinks o setup old new (map link ls) ms (map tells ks) desks'
+  serves_kept setup new ms desks' s =
+      subst (λ (q : Opening). ServesLinks q setup old new (map link ls) ms (map tells ks) desks') eo
+      (subst (λ (j : List Entry). ServesLinks p setup j new (map link ls) ms (map tells ks) desks') ej
+      (subst (λ (xs : List L). ServesLinks p setup mid new (map link xs) ms (map tells ks) desks') el
+      (subst (λ (xs : List K). ServesLinks p setup mid new (map link is) ms (map tells xs) desks') ek s)))
