@@ -11,3 +11,4 @@ pub mod PoolMiddle
 pub mod PoolWhole
 pub mod PoolLinks
 pub mod PoolServing
+pub mod PoolWires

@@ -16,10 +16,10 @@ use Rattle.journal_model.specs.Journal.{any, asked_jobs, is_ended, is_mute, is_t
 use Rattle.journal_model.specs.Legality.{Legal, is_busy, is_done, is_prepared, prepares}
 use Rattle.journal_model.specs.Makers.{made_by_number}
 use Rattle.journal_model.specs.Output.{answer_in, answers_in}
-use Rattle.journal_model.specs.Shares.{are_by}
+use Rattle.journal_model.specs.Shares.{are_by, is_of_child}
 use Rattle.journal_model.proofs.Idling.{asks_none, mains_ask}
 use Rattle.journal_model.proofs.Linking.{why_is_end, why_of-append}
-use Rattle.journal_model.proofs.Looks.{any-append, both, differ, each_of-append, entry, is_asked, same_number}
+use Rattle.journal_model.proofs.Looks.{any-append, both, differ, each_of-append, either_left, entry, is_asked, same_number}
 use Rattle.journal_model.proofs.Projecting.{invariant}
 use Rattle.journal_model.proofs.Testing.{all-each, all-join, all-split, by_either, or_left, or_right}
 use Rattle.journal_model.proofs.Verdicts.{unasked_none}
@@ -35,7 +35,7 @@ use Rattle.lone_work.specs.Works.{DeskTells, by_worker, claimed_task, claims_in}
 use Rattle.lone_rounds.specs.Rounds.{is_of_run}
 use Rattle.lone_rounds.specs.Starting.{is_any_start, is_unclosed}
 use Rattle.lone_rounds.specs.Stints.{HasServed, TasksDone, in_stint}
-use Rattle.lone_rounds.proofs.Apart.{ended_unclosed, is_unclosed_end, link_unclosed, mute_on, no_start_in, unclosed_on}
+use Rattle.lone_rounds.proofs.Apart.{apart_in, ended_unclosed, is_unclosed_end, link_unclosed, mute_on, no_start_in, unclosed_on}
 use Rattle.lone_rounds.proofs.Later.{late, late_from}
 use Rattle.lone_rounds.proofs.Runs.{done_same, gained_nothing, worker_runs}
 use Rattle.lone_rounds.proofs.Served.{all_unclosed}
@@ -99,6 +99,13 @@ same_among c (l ∷ ls) (m ∷ ms) s h = by_either (m.ear.child == c)
     (λ other. or_right (l.ear.child == c) (list_any (λ (x : LinkValue). x.ear.child == c) ls)
     (same_among c ls ms s.1 (sym (ap (λ (b : Bool). b || list_any (λ (x : LinkValue). x.ear.child == c) ms) other) ∙ h)))
 
+same_none : (c : ℕ) (links links' : List LinkValue) → AreSameLinks links links' → list_any (λ (l : LinkValue). l.ear.child == c) links ≡ false → list_any (λ (l : LinkValue). l.ear.child == c) links' ≡ false
+same_none c links links' s h = go (list_any (λ (l : LinkValue). l.ear.child == c) links') refl
+  where
+    go : (b : Bool) → list_any (λ (l : LinkValue). l.ear.child == c) links' ≡ b → b ≡ false
+    go true e = absurd (let bad : true ≡ false = sym (same_among c links links' s e) ∙ h in cc)
+    go false e = refl
+
 -- a prepared child was asked two jobs
 two_jobs : (o : Opening) (seen : List Entry) (c : ℕ) → Legal o seen → is_prepared seen c ≡ true → 2 ≤ length (asked_jobs seen c)
 two_jobs o seen c legal ready = go (nat_lt 1 (length (asked_jobs seen c))) refl
@@ -127,6 +134,7 @@ pub record Middle (o : Opening) (setup : Setup) (limit first : ℕ) (links : Lis
   pub calm : IsAtRest mid
   pub placed : HaveDesks (length desks) g rest
   pub did : DesksDid o setup limit mid g rest 1 desks desks'
+  pub others : (c : ℕ) → list_any (λ (l : LinkValue). l.ear.child == c) links ≡ false → any (is_of_child c) rest ≡ false
   pub left : whole ≡ true → (list_any (λ (l : LinkValue). is_lost mid l.ear.child) links ≡ true) ⊎ (are_all_claimed o mid ≡ true)
 
 -- where no memory was found, nothing
@@ -142,6 +150,7 @@ middle_none o setup limit first links g desks legal calm = record {
   calm = calm;
   placed = tt;
   did = desks_nothing o setup limit g g [] 1 desks refl;
+  others = λ c h. refl;
   left = λ w. absurd cc;
 }
 
@@ -259,6 +268,7 @@ module _ (o : Opening) (setup : Setup) (limit first : ℕ) (g mid : List Entry) 
     calm = rounded.at_rest;
     placed = pool_desks links (Behind g) behind_on (λ past b. both_tags past b links ready untagged) (length desks) (length links) g rest few here no_starts rounded.posts rounded.numbered;
     did = did;
+    others = λ c h. leaves.round.others c (same_none c links links' same h);
     left = λ w. left;
   }
 
@@ -411,5 +421,6 @@ module _ (o : Opening) (setup : Setup) (limit first : ℕ) (g mid : List Entry) 
     calm = calm;
     placed = have_main (length desks) g then some part.main;
     did = did_alone;
+    others = λ d h. any_none (in_stint c) (is_of_child d) (apart_in c d (either_left (c == d) (list_any (λ (x : LinkValue). x.ear.child == d) links) h)) then part.within;
     left = λ w. left_alone;
   }

@@ -15,7 +15,8 @@ use Rattle.journal_model.proofs.Looks.{any-append, both, each_of-append, same_nu
 use Rattle.journal_model.proofs.Testing.{all-each, all-join, any-more, by_either, neither, or_left, or_right}
 use Rattle.host_core.specs.Steps.{are_all_claimed}
 use Rattle.link_roles.proofs.Linked.{any_narrower}
-use Rattle.child_end.specs.Wires.{came}
+use Rattle.child_end.specs.Programs.{ProgramsValue}
+use Rattle.child_end.specs.Wires.{WireValue, came}
 use Rattle.gathering.specs.Laws.{Distinct, children_of}
 use Rattle.gathering.specs.Rounds.{IsAtRest, LinkValue}
 use Rattle.task_run.specs.declared.setup.Setup.{Setup}
@@ -29,7 +30,7 @@ use Rattle.pool_starts.specs.Pools.{AreSeated, Gathered, SeatValue, is_among, is
 use Rattle.pool_starts.specs.Slots.{AllInTurn, in_pool, is_lost, last_slot, offers_tags}
 use Rattle.pool_starts.proofs.SlotLaws.{turn_both, turn_filled, turn_quiet}
 use Rattle.job_rounds.specs.Desks.{DesksDid, HaveDesks}
-use Rattle.job_rounds.specs.Pools.{ServesPool}
+use Rattle.job_rounds.specs.Pools.{LeavesPool, PoolServed}
 use Rattle.job_rounds.specs.PoolSteps.{ClosesAll, RoundsPool, ServesFirst, ServesLinks}
 use Rattle.job_rounds.specs.Servings.{CanBeServed}
 use Rattle.job_rounds.proofs.Desks.{desks_join, desks_nothing, desks_on, have_both, have_none}
@@ -219,18 +220,24 @@ module _ (o : Opening) (setup : Setup) (limit : ℕ) (old g mid new : List Entry
         (subst (λ (j : List Entry). DesksDid o setup limit j g m.rest 1 desks desks') (sym k.is) (desks_on o setup limit mid k.tail g m.rest 1 desks desks' m.legal m.calm.idle m.did))
         (desks_nothing o setup limit new (g ++ m.rest) k.tail 1 desks' (closings_take k))))
 
-    pub serves_pool : ServesPool o setup limit c old new desks desks' whole
-    serves_pool = record {
-      later = later;
-      is = whole_is;
-      within = within;
-      untagged = untagged;
-      asks = asks;
-      turn = turn;
-      legal = legal';
-      calm = closings_calm k m.calm;
-      ended = ended;
-      spent = spent;
-      placed = placed;
-      did = did;
-    }
+    -- with what is left of the objects
+    pub pool_served : {wanted : Type 0} {program : List ℕ} {before after : ProgramsValue} {wires wires' : List WireValue}
+        → ((more : List Entry) → new ≡ g ++ more → any is_any_start more ≡ false → LeavesPool wanted program new (at.later ++ more) first.ear first.mouth before after wires wires')
+        → PoolServed wanted o setup limit program old new desks desks' whole first.ear first.mouth before after wires wires'
+    pool_served leaves = (
+      record {
+        later = later;
+        is = whole_is;
+        within = within;
+        untagged = untagged;
+        asks = asks;
+        turn = turn;
+        legal = legal';
+        calm = closings_calm k m.calm;
+        ended = ended;
+        spent = spent;
+        placed = placed;
+        did = did;
+      },
+      leaves then behind no_starts,
+    )
