@@ -12,3 +12,4 @@ pub mod PoolWhole
 pub mod PoolLinks
 pub mod PoolServing
 pub mod PoolWires
+pub mod PoolEnding

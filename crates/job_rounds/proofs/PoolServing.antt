@@ -106,8 +106,8 @@ module _ (o : Opening) (setup : Setup) (g mid : List Entry) (desks desks' : List
   pub alone_started : (ls ms : List LinkValue) → PoolCan o g ls → ServesFirst o setup ls g mid desks desks' → AreSameLinks ls ms → All (λ (l : LinkValue). is_started mid l.ear.child ≡ true) ms
   alone_started ls ms can s same = (let b = served_behind ls can s in still_started o g b.0 mid ls ms can same b.1)
 
-  pub alone_links : (new : List Entry) (ls ms : List LinkValue) → ServesFirst o setup ls g mid desks desks' → AreSameLinks ls ms → ClosesAll (children_of ms) mid new → ServesLinks o setup g new ls ms desks desks'
-  alone_links new ls ms s same closed = record { mid = mid; done = inr s; closes = subst (λ (cs : List ℕ). ClosesAll cs mid new) (same_children ls ms same) closed }
+  pub alone_links : (new : List Entry) (ls ms : List LinkValue) → (Legal o g → Legal o mid) → ServesFirst o setup ls g mid desks desks' → AreSameLinks ls ms → ClosesAll (children_of ms) mid new → ServesLinks o setup g new ls ms desks desks'
+  alone_links new ls ms legal s same closed = record { mid = mid; legal = legal; done = inr s; closes = subst (λ (cs : List ℕ). ClosesAll cs mid new) (same_children ls ms same) closed }
 
 -- ---- behind a round
 
@@ -126,7 +126,7 @@ module _ (o : Opening) (setup : Setup) (g mid : List Entry) (ls ms : List LinkVa
       (All-weaker (λ (l : LinkValue). LoneWired (g ++ r.round.0) l.ear l.mouth) (λ (l : LinkValue). IsHeld (g ++ r.round.0) l.ear l.mouth) (λ l h. lone_held (g ++ r.round.0) l.ear l.mouth h) ms r.round.2.wired)
 
   pub rounds_links : (new : List Entry) → AreSameLinks ls ms → ClosesAll (children_of ms) mid new → ServesLinks o setup g new ls ms desks desks'
-  rounds_links new same closed = record { mid = mid; done = inl r; closes = subst (λ (cs : List ℕ). ClosesAll cs mid new) (same_children ls ms same) closed }
+  rounds_links new same closed = record { mid = mid; legal = λ h. rounds_legal; done = inl r; closes = subst (λ (cs : List ℕ). ClosesAll cs mid new) (same_children ls ms same) closed }
 
 -- ---- the desks of a round
 

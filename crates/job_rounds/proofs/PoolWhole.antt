@@ -71,22 +71,6 @@ claim_takes : (w : What) → is_claim w ≡ false → claimed_task w ≡ None
 claim_takes (Claim task child) h = absurd cc
 claim_takes w h = refl
 
--- nothing at all, where no memory was found for a pool
-pub gathered_none : (o : Opening) (jobs : ℕ) (old : List Entry) (first : LinkValue) → PoolCan o old (first ∷ []) → Gathered o jobs old old first [] false
-gathered_none o jobs old first can = record {
-  later = [];
-  is = sym (append-nil old);
-  main = refl;
-  within = refl;
-  unclaimed_yet = refl;
-  untagged = refl;
-  asks = refl;
-  turn = tt;
-  ended = refl;
-  can = can;
-  manned = λ w. absurd cc;
-}
-
 -- where the child can be served, a pool of it alone can
 pub pool_can : (o : Opening) (journal : List Entry) (first : LinkValue) (tagged : Bool) → CanBeServed o journal first.ear first.mouth tagged → PoolCan o journal (first ∷ [])
 pool_can o journal first tagged h = record {

@@ -1,6 +1,8 @@
 use Rattle.std.proofs.Common.{◌≡◌, List, map, sym, subst, true}
 use Rattle.std.specs.Prelude.{All}
+use Rattle.journal_model.specs.declared.opening.Opening.{Opening}
 use Rattle.journal_model.specs.Journal.{is_started}
+use Rattle.journal_model.specs.Legality.{Legal}
 use Rattle.crew_rounds.specs.Tagged.{link_of}
 use Rattle.gathering.specs.Laws.{children_of}
 use Rattle.gathering.specs.Rounds.{LinkValue}
@@ -24,7 +26,8 @@ close_links-requires-clause-started g c =
 pub returns-clause-serves : goal.returns-clause-serves
 returns-clause-serves g c =
     alone_links c.args.bench.now.core.opening c.args.setup.now c.args.bench.now.core.journal c.serve_first.new.bench.core.journal _ _ c.close_links.new.core.journal (map (λ l. link_of l.ear l.mouth) c.args.links.now.items)
-    (map (λ l. link_of l.ear l.mouth) c.serve_first.new.links.items) c.serve_first.ensures.serves c.serve_first.ensures.same
+    (map (λ l. link_of l.ear l.mouth) c.serve_first.new.links.items)
+    (λ h. subst (λ (w : Opening). Legal w c.serve_first.new.bench.core.journal) c.serve_first.ensures.core.opening (c.serve_first.ensures.core.legal h)) c.serve_first.ensures.serves c.serve_first.ensures.same
     (subst (λ xs. ClosesAll (children_of (map (λ l. link_of l.ear l.mouth) xs)) c.serve_first.new.bench.core.journal c.close_links.new.core.journal) c.deref.ensures.value c.close_links.ensures.closes)
 
 pub returns-clause-held : goal.returns-clause-held
