@@ -7,8 +7,9 @@ use Rattle.ann_outside.specs.Causes.{Rose, Stays}
 use Rattle.ann_outside.specs.Starts.{Starts}
 use Rattle.journal_model.specs.declared.entry.Entry.{Entry}
 use Rattle.journal_model.specs.declared.opening.Opening.{Opening}
-use Rattle.journal_model.specs.Journal.{any, is_tagged}
-use Rattle.journal_model.specs.Legality.{Legal, count, is_start}
+use Rattle.journal_model.specs.declared.verdict.Why.TheVariants.{Closed}
+use Rattle.journal_model.specs.Journal.{any, is_started, is_tagged}
+use Rattle.journal_model.specs.Legality.{Legal, count, is_start, may_stop}
 use Rattle.journal_model.specs.Shares.{is_of_child}
 use Rattle.link_roles.specs.Alone.{Closes}
 use Rattle.link_roles.specs.Writings.{LoneWired}
@@ -22,6 +23,7 @@ use Rattle.lone_work.specs.Works.{DeskTells}
 use Rattle.lone_rounds.specs.Starting.{is_any_start}
 use Rattle.lone_rounds.specs.Stints.{IsLinked}
 use Rattle.lone_rounds.proofs.Leaving.{stays_none}
+use Rattle.lone_rounds.proofs.Stinting.{may_close}
 use Rattle.pool_rounds.specs.Pool.{AreSameLinks, MayServe, PoolCan}
 use Rattle.pool_starts.specs.Pools.{Gathered, GathersBy, IsPool, IsUngathered, SeatValue, Serves}
 use Rattle.job_rounds.specs.Pools.{PoolServed}
@@ -168,3 +170,28 @@ laid_alone link wires wires' h = (h.0 ∷ [], h.1, (h.2, tt))
 
 pub closes_alone : (link : LinkValue) (g new : List Entry) → Closes 0 link.ear.child g new → ClosesAll (children_of (link ∷ [])) g new
 closes_alone link g new h = (new, h, refl)
+
+-- ---- what the calls ask for
+
+pub pool_started : {wanted : Type 0} {whole : Bool} {o : Opening} {jobs : ℕ} {program : List ℕ} {old g : List Entry} {first : LinkValue} {before after : ProgramsValue} {seats : List SeatValue} {links : List LinkValue}
+    → IsPool wanted whole o jobs program old g first before after seats links → All (λ (l : LinkValue). is_started g l.ear.child ≡ true) links
+pool_started {wanted} {whole} {o} {jobs} {program} {old} {g} {first} p = subst (λ (ls : List LinkValue). All (λ (l : LinkValue). is_started g l.ear.child ≡ true) ls) (sym p.links_are)
+    (All-weaker (MayServe o g) (λ (l : LinkValue). is_started g l.ear.child ≡ true) (λ l h. h.serves.started) (first ∷ p.more) p.gathered.can.each)
+
+same_length : (ls ms : List LinkValue) → AreSameLinks ls ms → length ls ≡ length ms
+same_length [] [] s = refl
+same_length [] (m ∷ ms) s = absurd s
+same_length (l ∷ ls) [] s = absurd s
+same_length (l ∷ ls) (m ∷ ms) s = (let rest = same_length ls ms s.1 in omega (arith, rest))
+
+-- so many links come back
+pub serving_back : {wanted : Type 0} {whole : Bool} {o : Opening} {jobs : ℕ} {program : List ℕ} {old g : List Entry} {first : LinkValue} {before after : ProgramsValue} {seats : List SeatValue} {links : List LinkValue} (links' : List LinkValue)
+    → IsPool wanted whole o jobs program old g first before after seats links → AreSameLinks links links' → serving seats ≡ length links'
+serving_back {wanted} {whole} {o} {jobs} {program} {old} {g} {first} {before} {after} {seats} {links} links' p same = pool_serving p ∙ same_length links links' same
+
+-- the child of slot 0 may be closed, where nothing was done
+pub roomless_may : (o : Opening) (old g : List Entry) (first link : LinkValue) (before after : ProgramsValue) → CanBeServed o old first.ear first.mouth false → IsUngathered old g first link before after
+    → (is_started g link.ear.child ≡ true) × (may_stop g link.ear.child Closed ≡ true)
+roomless_may o old g first link before after can u =
+    subst (λ (j : List Entry). (is_started j link.ear.child ≡ true) × (may_stop j link.ear.child Closed ≡ true)) (sym u.journal)
+    (subst (λ (l : LinkValue). (is_started old l.ear.child ≡ true) × (may_stop old l.ear.child Closed ≡ true)) (sym u.link_is) (can.can.started, may_close old first.ear.child can.can.idle can.can.rest))
