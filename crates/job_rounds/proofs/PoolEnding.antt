@@ -154,6 +154,7 @@ roomless_pool o jobs program old g first link before after can u = subst (λ (j 
     asks = refl;
     turn = tt;
     ended = refl;
+    ready = refl;
     can = pool_can o old first false can;
     manned = λ w. absurd cc;
   };

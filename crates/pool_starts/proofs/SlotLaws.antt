@@ -11,8 +11,8 @@ use Rattle.journal_model.specs.declared.entry.Entry.{Entry}
 use Rattle.journal_model.specs.declared.opening.Opening.{Opening}
 use Rattle.annex_model.specs.Messages.{remote_reading}
 use Rattle.annex_model.specs.Tags.{names_async}
-use Rattle.journal_model.specs.Journal.{accepts_async, any, each_of, got_line, is_tagged, offers, verdict_of}
-use Rattle.journal_model.specs.Legality.{Legal, claims, is_claimed, is_prepared, numbers_of}
+use Rattle.journal_model.specs.Journal.{accepts_async, any, each_of, got_line, is_tagged, offers, verdict_of, starts}
+use Rattle.journal_model.specs.Legality.{Legal, claims, is_claimed, is_prepared, numbers_of, count, is_start}
 use Rattle.journal_model.proofs.Looks.{any-append, both, each_of-append, either_left, either_right, verdict_of-append}
 use Rattle.journal_model.proofs.Projecting.{invariant}
 use Rattle.journal_model.proofs.Replying.{slice_get-left}
@@ -21,7 +21,9 @@ use Rattle.host_core.specs.Steps.{unclaimed}
 use Rattle.lone_rounds.specs.Starting.{is_any_start, is_ready_untagged}
 use Rattle.lone_rounds.proofs.Tests.{each_without, or_false}
 use Rattle.pool_starts.specs.Pools.{is_claim}
-use Rattle.pool_starts.specs.Slots.{AllInTurn, IsManned, StandsInTurn, begins_by_start, first_in, has_pool, is_first_start, is_ready_pool, is_unclaimed_since, last_slot, slot_of}
+use Rattle.pool_starts.specs.Slots.{AllInTurn, IsManned, StandsInTurn, begins_by_start, first_in, has_pool, is_first_start, is_ready_pool, is_unclaimed_since, last_slot, slot_of, offers_tags}
+use Rattle.link_roles.proofs.Linked.{any_narrower}
+use Rattle.child_start.proofs.Begun.{later_unstarted}
 
 -- ---- one stretch behind another
 
@@ -40,9 +42,10 @@ turn_back o jobs past (e ∷ xs) ys h = subst (λ (p : List Entry). AllInTurn o 
 -- entries with neither starts nor claims
 pub turn_quiet : (o : Opening) (jobs : ℕ) (past xs : List Entry) → any is_any_start xs ≡ false → any is_claim xs ≡ false → AllInTurn o jobs past xs
 turn_quiet o jobs past [] h k = tt
-turn_quiet o jobs past (e ∷ xs) h k =
-    (one e.what (either_left (is_any_start e.what) (any is_any_start xs) h) (either_left (is_claim e.what) (any is_claim xs) k),
-    turn_quiet o jobs (past ++ e ∷ []) xs (either_right (is_any_start e.what) (any is_any_start xs) h) (either_right (is_claim e.what) (any is_claim xs) k))
+turn_quiet o jobs past (e ∷ xs) h k = (
+  one e.what (either_left (is_any_start e.what) (any is_any_start xs) h) (either_left (is_claim e.what) (any is_claim xs) k),
+  turn_quiet o jobs (past ++ e ∷ []) xs (either_right (is_any_start e.what) (any is_any_start xs) h) (either_right (is_claim e.what) (any is_claim xs) k),
+)
   where
     one : (w : What) → is_any_start w ≡ false → is_claim w ≡ false → StandsInTurn o jobs past w
     one (Start child slot offer) a b = absurd cc
@@ -94,8 +97,10 @@ since_same past more starts claimed = ap (λ (s : Option Bool). unwrap_or s fals
     none : (xs : List Entry) → any is_any_start xs ≡ false → any is_claim xs ≡ false → each_of begins_by_start xs ≡ []
     none [] a b = refl
     none (e ∷ xs) a b =
-        rw (one e.what (either_left (is_any_start e.what) (any is_any_start xs) a) (either_left (is_claim e.what) (any is_claim xs) b),
-        none xs (either_right (is_any_start e.what) (any is_any_start xs) a) (either_right (is_claim e.what) (any is_claim xs) b)) refl
+        rw (
+          one e.what (either_left (is_any_start e.what) (any is_any_start xs) a) (either_left (is_claim e.what) (any is_claim xs) b),
+          none xs (either_right (is_any_start e.what) (any is_any_start xs) a) (either_right (is_claim e.what) (any is_claim xs) b),
+        ) refl
 
 -- the child that the last start of slot 0 gave
 abbrev pub last_first : List Entry → Option ℕ
@@ -168,10 +173,11 @@ manned_on o jobs past more none pool h = λ later. filled_on o jobs past more no
 -- entries without starts, where each claim among them may stand
 turn_where : (o : Opening) (jobs : ℕ) (past xs : List Entry) → any is_any_start xs ≡ false → ((front rest : List Entry) → xs ≡ front ++ rest → IsManned o jobs (past ++ front)) → AllInTurn o jobs past xs
 turn_where o jobs past [] none f = tt
-turn_where o jobs past (e ∷ xs) none f =
-    (one e.what (either_left (is_any_start e.what) (any is_any_start xs) none) (subst (IsManned o jobs) (append-nil past) (f [] (e ∷ xs) refl)),
-    turn_where o jobs (past ++ e ∷ []) xs (either_right (is_any_start e.what) (any is_any_start xs) none)
-    (λ front rest is. subst (IsManned o jobs) (sym (append_assoc past (e ∷ []) front)) (f (e ∷ front) rest (ap (λ (l : List Entry). e ∷ l) is))))
+turn_where o jobs past (e ∷ xs) none f = (
+  one e.what (either_left (is_any_start e.what) (any is_any_start xs) none) (subst (IsManned o jobs) (append-nil past) (f [] (e ∷ xs) refl)),
+  turn_where o jobs (past ++ e ∷ []) xs (either_right (is_any_start e.what) (any is_any_start xs) none)
+      (λ front rest is. subst (IsManned o jobs) (sym (append_assoc past (e ∷ []) front)) (f (e ∷ front) rest (ap (λ (l : List Entry). e ∷ l) is))),
+)
   where
     one : (w : What) → is_any_start w ≡ false → IsManned o jobs past → StandsInTurn o jobs past w
     one (Start child slot offer) a m = absurd cc
@@ -220,3 +226,28 @@ turn_tagged o jobs past xs c legal first tag none = turn_where o jobs past xs no
         let untagged = (both (is_prepared (past ++ front) c) (not (is_tagged (past ++ front) c)) (sym its ∙ pool)).1 in
         let tagged = tagged_on o past front c legal tag in
         absurd (let bad : false ≡ true = ap not (sym tagged) ∙ untagged in cc)
+
+-- ---- a child to which ASYNC wasn't offered
+
+offered_starts : (c : ℕ) (w : What) → offers c w ≡ true → starts c w ≡ true
+offered_starts c (Start child slot offer) h = (both (child == c) offer h).0
+offered_starts c w h = absurd cc
+
+no_tags : (c : ℕ) (w : What) → offers_tags w ≡ false → offers c w ≡ false
+no_tags c (Start child slot offer) h = ap (λ (b : Bool). (child == c) && b) h ∙ and_false (child == c)
+  where
+    and_false : (b : Bool) → (b && false) ≡ false
+    and_false true = refl
+    and_false false = refl
+no_tags c w h = refl
+
+none_offered : (c : ℕ) (xs : List Entry) → any offers_tags xs ≡ false → any (offers c) xs ≡ false
+none_offered c [] h = refl
+none_offered c (e ∷ xs) h = rw (no_tags c e.what (either_left (offers_tags e.what) (any offers_tags xs) h), none_offered c xs (either_right (offers_tags e.what) (any offers_tags xs) h)) refl
+
+-- a child that was started where none was offered ASYNC takes no tags
+pub pool_untagged : (o : Opening) (past more : List Entry) (c : ℕ) → Legal o past → count is_start past < c → any offers_tags more ≡ false → is_tagged (past ++ more) c ≡ false
+pool_untagged o past more c legal later none =
+    let before : any (offers c) past ≡ false = any_narrower (offers c) (starts c) (offered_starts c) past (later_unstarted o past legal c later) in
+    let unoffered : any (offers c) (past ++ more) ≡ false = any-append (offers c) past more ∙ ap (λ (b : Bool). b || any (offers c) more) before ∙ none_offered c more none in
+    ap (λ (b : Bool). b && accepts_async (past ++ more) (verdict_of (past ++ more) c 0)) unoffered

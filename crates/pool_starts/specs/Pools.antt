@@ -1,5 +1,5 @@
 -- What gathering a pool leaves: in the journal, of its children, and of the programs.
-use Rattle.std.specs.Prelude.{ℕ, ◌≡◌, ◌<◌, ◌≤◌, ◌+◌, ◌==◌, ◌||◌, min, map, vec_len, Bool, true, false, List, [], ◌∷◌, ◌++◌, length, Option, Some, None}
+use Rattle.std.specs.Prelude.{ℕ, ◌≡◌, ◌<◌, ◌≤◌, ◌+◌, ◌==◌, ◌||◌, not, min, map, vec_len, Bool, true, false, List, [], ◌∷◌, ◌++◌, length, Option, Some, None}
 use Rattle.std.specs.List.{list_all}
 use Rattle.ann_outside.specs.declared.Sink.{Ghosts as SinkGhosts}
 use Rattle.ann_outside.specs.declared.Source.{Ghosts as SourceGhosts}
@@ -10,7 +10,7 @@ use Rattle.journal_model.specs.declared.entry.What.TheVariants.{Claim}
 use Rattle.journal_model.specs.declared.entry.Entry.{Entry}
 use Rattle.journal_model.specs.declared.opening.Opening.{Opening}
 use Rattle.journal_model.specs.Journal.{any, is_ended}
-use Rattle.journal_model.specs.Legality.{count, is_start}
+use Rattle.journal_model.specs.Legality.{count, is_prepared, is_start}
 use Rattle.journal_model.specs.Shares.{are_by}
 use Rattle.host_core.specs.Steps.{unclaimed}
 use Rattle.link_roles.specs.declared.wire.Wire.{Wire}
@@ -39,8 +39,8 @@ abbrev pub is_among : List LinkValue → ℕ → Bool
 is_among [] c = false
 is_among (l ∷ more) c = (l.ear.child == c) || is_among more c
 
--- Behind the ready child of slot 0 the main thread started and greeted children in other slots, in turn, without offering ASYNC. Each
--- is ready and among these links, or has ended. No task was claimed. A round over all the links may begin. Where it is whole, each slot
+-- Behind the ready child of slot 0 the main thread started and greeted children in other slots, in turn, without offering ASYNC. Each that
+-- is ready is among these links, and each that is not has ended. No task was claimed. A round over all the links may begin. Where it is whole, each slot
 -- of the run's had its start, as far as there are tasks.
 pub record Gathered (o : Opening) (jobs : ℕ) (old new : List Entry) (first : LinkValue) (links : List LinkValue) (whole : Bool) : Type 0 where
   pub later : List Entry
@@ -52,6 +52,7 @@ pub record Gathered (o : Opening) (jobs : ℕ) (old new : List Entry) (first : L
   pub asks : list_all (λ e. is_of_run e.what) later ≡ true
   pub turn : AllInTurn o jobs old later
   pub ended : list_all (λ c. is_ended new c || is_among links c) (children later) ≡ true
+  pub ready : list_all (λ c. not (is_prepared new c) || is_among links c) (children later) ≡ true
   pub can : PoolCan o new (first ∷ links)
   pub manned : whole ≡ true → min jobs (length (unclaimed o new)) ≤ last_slot new + 1
 

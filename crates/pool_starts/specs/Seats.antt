@@ -1,5 +1,5 @@
 -- What one more start of a pool leaves.
-use Rattle.std.specs.Prelude.{ℕ, ◌≡◌, ◌⊎◌, ◌≤◌, ◌||◌, All, Bool, true, false, List, [], ◌∷◌, ◌++◌}
+use Rattle.std.specs.Prelude.{ℕ, ◌≡◌, ◌⊎◌, ◌≤◌, ◌||◌, not, All, true, false, List, [], ◌∷◌, ◌++◌}
 use Rattle.std.specs.List.{list_all}
 use Rattle.ann_outside.specs.Causes.{Rose, Stays}
 use Rattle.journal_model.specs.declared.entry.What.{What}
@@ -8,6 +8,7 @@ use Rattle.journal_model.specs.declared.entry.Entry.{Entry}
 use Rattle.journal_model.specs.declared.opening.Opening.{Opening}
 use Rattle.journal_model.specs.Halves.{EarValue, MouthValue}
 use Rattle.journal_model.specs.Journal.{is_ended, open_jobs}
+use Rattle.journal_model.specs.Legality.{is_prepared}
 use Rattle.journal_model.specs.Shares.{are_by, is_of_child}
 use Rattle.child_end.specs.Wires.{IsLeft, WireValue, came}
 use Rattle.child_end.specs.Programs.{AddsAll, ProgramsValue, is_failed_start, told}
@@ -23,7 +24,7 @@ abbrev pub IsSlotStart : ℕ → List Entry → What → Type 0
 IsSlotStart slot past first = (first ≡ Start (next_child past) slot false) ⊎ (first ≡ NoStart slot)
 
 -- The main thread made one start in the slot, and what followed it of its child alone. The child has no open job. It can serve in a round,
--- and its link and seat were put behind the others; or it has ended, and its wire was. The programs were asked once, and a fault was
+-- and its link and seat were put behind the others; or it isn't ready and has ended, and its wire was. The programs were asked once, and a fault was
 -- counted where that failed.
 pub record SeatsOne (o : Opening) (program : List ℕ) (slot : ℕ) (old new : List Entry) (before after : ProgramsValue) (seats seats' : List SeatValue) (links links' : List LinkValue) : Type 0 where
   pub first : What
@@ -39,7 +40,9 @@ pub record SeatsOne (o : Opening) (program : List ℕ) (slot : ℕ) (old new : L
   pub seats_are : seats' ≡ seats ++ seat
   pub links_are : links' ≡ links ++ link
   pub ended : list_all (λ c. is_ended new c || is_among link c) (children (main_entry first ∷ [])) ≡ true
+  pub ready : list_all (λ c. not (is_prepared new c) || is_among link c) (children (main_entry first ∷ [])) ≡ true
   pub serve : All (MayServe o new) link
+  pub one_child : All (λ l. l.mouth.child ≡ l.ear.child) link
   pub seated : AreSeated before.starts new 0 (came (main_entry first ∷ [])) seat link
   pub adds : AddsAll before.starts after.starts (told program (main_entry first ∷ []))
   pub fault : is_failed_start first ≡ true → Rose before.faults after.faults
