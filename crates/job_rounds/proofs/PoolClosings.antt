@@ -1,23 +1,19 @@
 -- The children of a pool are closed, one after the other: what that appends, and that each link stays held.
-use Rattle.std.proofs.Common.{◌≡◌, ℕ, ◌≤◌, List, [], ◌∷◌, ◌++◌, refl, sym, ap, subst, ◌∙◌, append_assoc, append-nil, Bool, true, false, not, ◌==◌, cond, None, Option, arith, inl, inr}
+use Rattle.std.proofs.Common.{◌≡◌, ℕ, ◌≤◌, List, [], ◌∷◌, ◌++◌, refl, sym, ap, subst, ◌∙◌, append_assoc, append-nil, Bool, true, false, ◌==◌, None, arith}
 use Rattle.std.specs.Prelude.{◌&&◌, ◌||◌, All, is_some, nat_le}
 use Rattle.std.specs.List.{list_all, list_any}
 use Rattle.std.proofs.lemmas.Bool.Decides.{nat_tests}
 use Rattle.std.proofs.lemmas.List.Elements.{All-head, All-tail}
-use Rattle.journal_model.specs.declared.verdict.Why.TheVariants.{Closed}
 use Rattle.journal_model.specs.declared.entry.What.{What}
-use Rattle.journal_model.specs.declared.entry.What.TheVariants.{Claim, Start, NoStart, Ask, Put, Sent, Mute, Got, End, Verdict as Settled, Lost, Answer as Answered, Note as Noted}
+use Rattle.journal_model.specs.declared.entry.What.TheVariants.{Claim, Start, NoStart, Ask, End}
 use Rattle.journal_model.specs.declared.entry.Entry.{Entry}
-use Rattle.journal_model.specs.declared.opening.Opening.{Opening}
 use Rattle.journal_model.specs.Halves.{EarValue, MouthValue}
-use Rattle.journal_model.specs.Journal.{any, asks, asked_jobs, is_ended, open_jobs}
-use Rattle.journal_model.specs.Legality.{is_busy}
+use Rattle.journal_model.specs.Journal.{any, asks, is_ended}
 use Rattle.journal_model.specs.Makers.{is_of_task}
 use Rattle.journal_model.specs.Shares.{are_by, is_closed, is_of_child}
 use Rattle.journal_model.proofs.Looks.{both, differ, same, same_number}
 use Rattle.journal_model.proofs.Testing.{all-each, all-join, by_either, or_right}
 use Rattle.journal_model.proofs.Working.{holder_apart}
-use Rattle.link_roles.specs.Alone.{Closes}
 use Rattle.gathering.specs.Laws.{children_of}
 use Rattle.gathering.specs.Rounds.{IsAtRest, LinkValue}
 use Rattle.child_end.specs.Wires.{IsHeld}
@@ -26,7 +22,6 @@ use Rattle.child_start.proofs.Jobs.{idle_on}
 use Rattle.lone_work.specs.Works.{claimed_task, claims_in}
 use Rattle.lone_rounds.specs.Rounds.{is_of_run}
 use Rattle.lone_rounds.specs.Starting.{is_any_start}
-use Rattle.lone_rounds.specs.Stints.{main_entry}
 use Rattle.lone_rounds.proofs.Apart.{ended_on}
 use Rattle.lone_rounds.proofs.Stinting.{Closing, closing, of_closing}
 use Rattle.lone_rounds.proofs.Tests.{any_none, each_none}

@@ -1,10 +1,8 @@
 -- What a pool comes to, by what came of gathering it.
-use Rattle.std.proofs.Common.{◌≡◌, ◌⊎◌, ℕ, ◌+◌, ◌<◌, ◌≤◌, List, [], ◌∷◌, ◌++◌, refl, sym, ap, subst, ◌∙◌, append-nil, length, map, Bool, true, false, not, ◌==◌, Option, Some, None, arith, inl, inr}
-use Rattle.std.specs.Prelude.{All, min}
-use Rattle.std.specs.List.{list_any}
+use Rattle.std.proofs.Common.{◌≡◌, ◌⊎◌, ℕ, ◌+◌, ◌≤◌, List, [], ◌∷◌, refl, sym, ap, subst, ◌∙◌, append-nil, length, Bool, true, false, arith, inl, inr}
+use Rattle.std.specs.Prelude.{All}
 use Rattle.std.proofs.lemmas.List.Elements.{All-cons, All-head, All-nil, All-tail, All-weaker}
-use Rattle.ann_outside.specs.Causes.{Rose, Stays}
-use Rattle.ann_outside.specs.Starts.{Starts}
+use Rattle.ann_outside.specs.Causes.{Stays}
 use Rattle.journal_model.specs.declared.entry.Entry.{Entry}
 use Rattle.journal_model.specs.declared.opening.Opening.{Opening}
 use Rattle.journal_model.specs.declared.verdict.Why.TheVariants.{Closed}
@@ -12,20 +10,17 @@ use Rattle.journal_model.specs.Journal.{any, is_started, is_tagged}
 use Rattle.journal_model.specs.Legality.{Legal, count, is_start, may_stop}
 use Rattle.journal_model.specs.Shares.{is_of_child}
 use Rattle.link_roles.specs.Alone.{Closes}
-use Rattle.link_roles.specs.Writings.{LoneWired}
-use Rattle.child_end.specs.Programs.{HaveStarted, ProgramsValue, is_failed_start}
+use Rattle.child_end.specs.Programs.{ProgramsValue}
 use Rattle.child_end.specs.Wires.{IsHeld, IsLaid, WireValue, came}
 use Rattle.child_end.proofs.Held.{lone_held}
 use Rattle.gathering.specs.Laws.{children_of}
 use Rattle.gathering.specs.Rounds.{LinkValue}
 use Rattle.task_run.specs.declared.setup.Setup.{Setup}
 use Rattle.lone_work.specs.Works.{DeskTells}
-use Rattle.lone_rounds.specs.Starting.{is_any_start}
-use Rattle.lone_rounds.specs.Stints.{IsLinked}
 use Rattle.lone_rounds.proofs.Leaving.{stays_none}
 use Rattle.lone_rounds.proofs.Stinting.{may_close}
-use Rattle.pool_rounds.specs.Pool.{AreSameLinks, MayServe, PoolCan}
-use Rattle.pool_starts.specs.Pools.{Gathered, GathersBy, IsPool, IsUngathered, SeatValue, Serves}
+use Rattle.pool_rounds.specs.Pool.{AreSameLinks, MayServe}
+use Rattle.pool_starts.specs.Pools.{IsPool, IsUngathered, SeatValue, Serves}
 use Rattle.job_rounds.specs.Pools.{PoolServed}
 use Rattle.job_rounds.specs.PoolSteps.{AreLaid, ClosesAll, RoundsPool, ServesFirst, ServesLinks, serving}
 use Rattle.job_rounds.specs.Servings.{CanBeServed}

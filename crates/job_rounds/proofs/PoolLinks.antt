@@ -1,22 +1,21 @@
 -- The links, seats and desks of a pool, as vectors: the first link, the wires that are laid in order, and desks that are taken and put back.
-use Rattle.std.proofs.Common.{◌≡◌, ℕ, ◌+◌, ◌<◌, ◌≤◌, List, [], ◌∷◌, ◌++◌, refl, sym, ap, subst, ◌∙◌, append_assoc, append-nil, length, length-append, map, Bool, true, false, not, ◌==◌, arith, inl, inr, slice_index_or, take, zero, suc, None, Option, Some}
+use Rattle.std.proofs.Common.{◌≡◌, ℕ, ◌+◌, ◌<◌, List, [], ◌∷◌, ◌++◌, refl, sym, ap, subst, ◌∙◌, append_assoc, append-nil, length, length-append, map, true, false, ◌==◌, arith, slice_index_or, take, zero, suc, None, Option, Some}
 use Rattle.std.specs.Prelude.{All, reverse, slice_get}
-use Rattle.std.proofs.lemmas.List.{length-map, map-append, length-reverse, reverse-append, reverse-reverse}
-use Rattle.std.proofs.lemmas.List.Elements.{All-cons, All-head, All-nil, All-tail, All-weaker}
+use Rattle.std.proofs.lemmas.List.{map-append, length-reverse, reverse-append, reverse-reverse}
+use Rattle.std.proofs.lemmas.List.Elements.{All-cons, All-head, All-nil, All-tail}
 use Rattle.ann_outside.specs.Causes.{Stays}
 use Rattle.ann_outside.specs.Starts.{Starts}
 use Rattle.journal_model.specs.declared.entry.Entry.{Entry}
 use Rattle.journal_model.specs.declared.opening.Opening.{Opening}
 use Rattle.journal_model.specs.declared.verdict.Why.TheVariants.{Closed}
-use Rattle.journal_model.specs.Journal.{any, is_started}
+use Rattle.journal_model.specs.Journal.{is_started}
 use Rattle.journal_model.specs.Legality.{may_stop}
 use Rattle.journal_model.specs.Shares.{is_of_child}
-use Rattle.journal_model.proofs.Looks.{differ, same_number}
-use Rattle.journal_model.proofs.Testing.{by_either}
+use Rattle.journal_model.proofs.Looks.{differ}
 use Rattle.link_roles.specs.Alone.{Closes, KeepsLink}
 use Rattle.gathering.specs.Laws.{Distinct, children_of}
 use Rattle.gathering.specs.Rounds.{IsAtRest, LinkValue}
-use Rattle.child_end.specs.Wires.{IsHeld, IsLaid, IsLeft, WireValue}
+use Rattle.child_end.specs.Wires.{IsHeld, IsLaid, WireValue}
 use Rattle.child_end.proofs.Held.{held_apart, lone_held}
 use Rattle.task_run.specs.declared.setup.Setup.{Setup}
 use Rattle.lone_work.specs.Works.{CanWork, DeskTells}
@@ -27,7 +26,6 @@ use Rattle.lone_rounds.proofs.Tests.{any_none}
 use Rattle.pool_rounds.specs.Pool.{AreSameLinks, MayServe, PoolCan}
 use Rattle.pool_starts.specs.Pools.{OverBy, SeatValue, Serves}
 use Rattle.job_rounds.specs.PoolSteps.{AreLaid, AreSettled, ClosesAll, serving}
-use Rattle.job_rounds.specs.Servings.{ServesAlone}
 use Rattle.job_rounds.proofs.Ends.{started_then}
 use Rattle.job_rounds.proofs.PoolClosings.{Closings, closings, closings_calm}
 use Rattle.job_rounds.proofs.PoolMiddle.{ServedPart, served_part}

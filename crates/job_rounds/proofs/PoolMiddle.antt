@@ -1,7 +1,7 @@
 -- What a pool does between its gathering and its closing: nothing, a round, or the work of the main thread over its first child.
-use Rattle.std.proofs.Common.{◌≡◌, ◌⊎◌, ℕ, zero, suc, ◌+◌, ◌-◌, ◌<◌, ◌≤◌, List, [], ◌∷◌, ◌++◌, refl, sym, ap, subst, ◌∙◌, append_assoc, append-nil, length, length-append, Bool, true, false, not, ◌==◌, cond, Some, None, Option, arith, inl, inr}
-use Rattle.std.specs.Prelude.{◌&&◌, ◌||◌, All, is_some, nat_le, nat_lt}
-use Rattle.std.specs.List.{list_all, list_any, cons_option, range_with_len}
+use Rattle.std.proofs.Common.{◌≡◌, ◌⊎◌, ℕ, ◌+◌, ◌<◌, ◌≤◌, List, [], ◌∷◌, ◌++◌, refl, sym, ap, subst, ◌∙◌, append_assoc, append-nil, length, length-append, Bool, true, false, not, ◌==◌, Some, None, Option, arith, inl, inr}
+use Rattle.std.specs.Prelude.{◌||◌, All, is_some, nat_le, nat_lt}
+use Rattle.std.specs.List.{list_all, list_any, range_with_len}
 use Rattle.std.specs.Option.{option_or}
 use Rattle.std.proofs.lemmas.Bool.Decides.{nat_tests}
 use Rattle.std.proofs.lemmas.List.Elements.{All-cons, All-head, All-nil, All-tail, All-weaker}
@@ -16,12 +16,12 @@ use Rattle.journal_model.specs.Journal.{any, asked_jobs, is_ended, is_mute, is_t
 use Rattle.journal_model.specs.Legality.{Legal, is_busy, is_done, is_prepared, prepares}
 use Rattle.journal_model.specs.Makers.{made_by_number}
 use Rattle.journal_model.specs.Output.{answer_in, answers_in}
-use Rattle.journal_model.specs.Shares.{are_by, is_of_child}
+use Rattle.journal_model.specs.Shares.{is_of_child}
 use Rattle.journal_model.proofs.Idling.{asks_none, mains_ask}
 use Rattle.journal_model.proofs.Linking.{why_is_end, why_of-append}
-use Rattle.journal_model.proofs.Looks.{any-append, both, differ, each_of-append, either_left, entry, is_asked, same_number}
+use Rattle.journal_model.proofs.Looks.{any-append, both, differ, each_of-append, either_left, is_asked, same_number}
 use Rattle.journal_model.proofs.Projecting.{invariant}
-use Rattle.journal_model.proofs.Testing.{all-each, all-join, all-split, by_either, or_left, or_right}
+use Rattle.journal_model.proofs.Testing.{all-each, all-split, by_either, or_left, or_right}
 use Rattle.journal_model.proofs.Verdicts.{unasked_none}
 use Rattle.host_core.specs.Steps.{are_all_claimed, is_gone}
 use Rattle.link_roles.proofs.Linked.{any_narrower}
@@ -45,11 +45,11 @@ use Rattle.crew_work.specs.Crews.{claims_by}
 use Rattle.pool_rounds.specs.Pool.{AreSameLinks, MayServe, PoolCan, PoolLeaves}
 use Rattle.pool_starts.specs.Pools.{is_claim}
 use Rattle.pool_starts.specs.Slots.{in_pool, is_lost}
-use Rattle.job_rounds.specs.Desks.{DeskDid, DesksDid, HaveDesks, claims_for}
+use Rattle.job_rounds.specs.Desks.{DesksDid, HaveDesks, claims_for}
 use Rattle.job_rounds.specs.PoolSteps.{RoundsPool}
 use Rattle.job_rounds.specs.Servings.{ServesAlone}
 use Rattle.job_rounds.proofs.Desks.{desks_main, desks_nothing, have_main}
-use Rattle.job_rounds.proofs.PoolPosts.{are_posted, at_place, pool_asks, pool_claims, pool_desks, pool_stands, pool_within, start_is_mains}
+use Rattle.job_rounds.proofs.PoolPosts.{pool_asks, pool_claims, pool_desks, pool_stands, pool_within, start_is_mains}
 use Rattle.job_rounds.proofs.PoolTags.{prepared_on, starts_offer, tag_stays}
 use Rattle.job_rounds.proofs.RoundDid.{any_round_did, in_range, lost_unclosed}
 use Rattle.job_rounds.proofs.Shutting.{AreShut, rest_shut, shut_next, shut_open}

@@ -1,5 +1,5 @@
 -- What the workers of a pool make, entry by entry: each has its child for itself.
-use Rattle.std.proofs.Common.{◌≡◌, zero, suc, ℕ, ◌+◌, ◌-◌, ◌<◌, ◌≤◌, List, [], ◌∷◌, ◌++◌, refl, sym, ap, subst, ◌∙◌, Bool, true, false, not, ◌==◌, cond, Some, None, Option, inl, inr, length, arith}
+use Rattle.std.proofs.Common.{◌≡◌, zero, suc, ℕ, ◌+◌, ◌-◌, ◌<◌, ◌≤◌, List, [], ◌∷◌, ◌++◌, refl, sym, ap, subst, ◌∙◌, Bool, true, false, not, ◌==◌, cond, Some, None, Option, arith}
 use Rattle.std.specs.Prelude.{◌&&◌, ◌||◌, All, nat_le, nat_lt, slice_get}
 use Rattle.std.specs.List.{list_all, list_any, cons_option, range_with_len}
 use Rattle.std.proofs.lemmas.Bool.Decides.{nat_tests}
@@ -7,23 +7,21 @@ use Rattle.std.proofs.lemmas.List.Elements.{All-head, All-tail, All-weaker}
 use Rattle.journal_model.specs.declared.entry.What.{What}
 use Rattle.journal_model.specs.declared.entry.What.TheVariants.{Claim, Start, NoStart, Ask, Put, Sent, Mute, Got, End, Verdict as Settled, Lost, Answer as Answered, Note as Noted}
 use Rattle.journal_model.specs.declared.entry.Entry.{Entry}
-use Rattle.journal_model.specs.declared.opening.Opening.{Opening}
-use Rattle.journal_model.specs.Journal.{any, asked_jobs, is_tagged}
-use Rattle.journal_model.specs.Legality.{Legal, claims, is_claimed}
+use Rattle.journal_model.specs.Journal.{any, is_tagged}
+use Rattle.journal_model.specs.Legality.{claims, is_claimed}
 use Rattle.journal_model.specs.Makers.{made_by_number}
-use Rattle.journal_model.specs.Shares.{by_link, is_closed}
-use Rattle.journal_model.proofs.Idling.{are_mains, asks_none, mains_ask}
-use Rattle.journal_model.proofs.Looks.{both, differ, either_left, either_right, entry, same, same_number}
-use Rattle.journal_model.proofs.Testing.{all-split, by_either}
+use Rattle.journal_model.specs.Shares.{is_closed}
+use Rattle.journal_model.proofs.Idling.{are_mains, asks_none}
+use Rattle.journal_model.proofs.Looks.{both, differ, either_left, either_right, entry, same_number}
 use Rattle.gathering.specs.Laws.{children_of}
-use Rattle.gathering.specs.Posts.{Idle, is_mains, lone_post, makes, pool_crew, serves, works}
+use Rattle.gathering.specs.Posts.{Idle, is_mains, lone_post, makes, pool_crew, serves}
 use Rattle.gathering.specs.Rounds.{LinkValue}
 use Rattle.child_start.specs.Greetings.{asks_for}
 use Rattle.child_start.specs.declared.greeting.Mode.TheVariants.{Serve}
 use Rattle.lone_work.specs.Works.{claims_in}
 use Rattle.lone_rounds.specs.Starting.{is_any_start}
 use Rattle.lone_rounds.specs.Rounds.{is_of_run}
-use Rattle.lone_rounds.proofs.Later.{late, late_from}
+use Rattle.lone_rounds.proofs.Later.{late}
 use Rattle.crew_work.specs.Crews.{claims_by}
 use Rattle.pool_starts.specs.Slots.{in_pool}
 use Rattle.job_rounds.specs.Desks.{HasDesk, HaveDesks, claimed_for, claims_for, desk_of}

@@ -1,5 +1,5 @@
 -- What a pool's links come to while they serve: the first link alone, or a round, and then their closing.
-use Rattle.std.proofs.Common.{◌≡◌, ◌⊎◌, ℕ, ◌+◌, ◌<◌, ◌≤◌, List, [], ◌∷◌, ◌++◌, refl, sym, ap, subst, ◌∙◌, append_assoc, append-nil, length, length-append, map, Bool, true, false, not, ◌==◌, arith, inl, inr, slice_index_or, slice_set, suc}
+use Rattle.std.proofs.Common.{◌≡◌, ℕ, ◌+◌, ◌<◌, List, [], ◌∷◌, ◌++◌, refl, sym, ap, subst, ◌∙◌, length, map, true, inl, inr, slice_index_or, slice_set}
 use Rattle.std.specs.Prelude.{All}
 use Rattle.std.specs.List.{range_with_len}
 use Rattle.std.proofs.lemmas.List.{length-map, map-append}
@@ -20,9 +20,8 @@ use Rattle.lone_rounds.specs.Stints.{HasServed}
 use Rattle.crew_rounds.specs.declared.outcome.Outcome.{Outcome}
 use Rattle.crew_rounds.specs.declared.outcome.Outcome.TheVariants.{Done, NoMemory, NoThreads}
 use Rattle.crew_rounds.specs.Outcomes.{IfDone, IfKept}
-use Rattle.pool_rounds.specs.Pool.{AreAsBefore, AreSameLinks, MayServe, PoolCan, PoolLeaves}
+use Rattle.pool_rounds.specs.Pool.{AreSameLinks, MayServe, PoolCan, PoolLeaves}
 use Rattle.job_rounds.specs.PoolSteps.{ClosesAll, RoundsPool, ServesFirst, ServesLinks}
-use Rattle.job_rounds.specs.Servings.{ServesAlone}
 use Rattle.job_rounds.proofs.Ends.{started_then}
 use Rattle.job_rounds.proofs.PoolClosings.{closes_held}
 use Rattle.job_rounds.proofs.PoolLinks.{all_mapped, all_unmapped, first_can, first_held, first_of_all, link_same}

@@ -1,7 +1,7 @@
 -- A child that got ready without tags stays so, and children have their numbers in turn.
-use Rattle.std.proofs.Common.{◌≡◌, ℕ, ◌+◌, ◌<◌, ◌≤◌, List, [], ◌∷◌, ◌++◌, refl, sym, ap, subst, ◌∙◌, Bool, true, false, not, ◌==◌, cond, Some, None, Option, length, arith, append_assoc, append-nil}
+use Rattle.std.proofs.Common.{◌≡◌, ℕ, ◌+◌, ◌<◌, List, [], ◌∷◌, ◌++◌, refl, sym, ap, subst, ◌∙◌, Bool, true, false, ◌==◌, Some, None, Option, length, arith, append-nil}
 use Rattle.std.specs.Prelude.{◌&&◌, ◌||◌, All, nat_lt}
-use Rattle.std.specs.List.{list_all, list_any, cons_option}
+use Rattle.std.specs.List.{list_any, cons_option}
 use Rattle.std.specs.Option.{option_or}
 use Rattle.std.proofs.lemmas.List.Elements.{All-nil, All-cons, All-weaker}
 use Rattle.journal_model.specs.declared.verdict.Verdict.{Verdict}
@@ -18,7 +18,7 @@ use Rattle.journal_model.specs.Due.{due_after}
 use Rattle.journal_model.specs.Legality.{Legal, asks_prepare, count, is_done, is_greeted, is_prepared, is_start, may_come, prepares}
 use Rattle.journal_model.proofs.Growing.{Legal-induction}
 use Rattle.journal_model.proofs.Holding.{due_names}
-use Rattle.journal_model.proofs.Looks.{any-append, both, differ, each_of-append, either_left, either_right, entry, same_number, unsettled, verdict_of-append}
+use Rattle.journal_model.proofs.Looks.{any-append, both, each_of-append, either_left, either_right, entry, same_number, unsettled, verdict_of-append}
 use Rattle.journal_model.proofs.Projecting.{invariant}
 use Rattle.journal_model.proofs.Replying.{slice_get-left}
 use Rattle.journal_model.proofs.Testing.{by_either, neither, or_left, or_right}

@@ -1,15 +1,15 @@
 -- What a pool leaves in the journal, from its gathering to its closing.
-use Rattle.std.proofs.Common.{◌≡◌, ◌⊎◌, ℕ, zero, suc, ◌+◌, ◌<◌, ◌≤◌, List, [], ◌∷◌, ◌++◌, refl, sym, ap, subst, ◌∙◌, append_assoc, append-nil, length, Bool, true, false, not, ◌==◌, cond, Some, None, Option, arith, inl, inr}
-use Rattle.std.specs.Prelude.{◌&&◌, ◌||◌, All, nat_le}
-use Rattle.std.specs.List.{list_all, list_any, cons_option}
+use Rattle.std.proofs.Common.{◌≡◌, ◌⊎◌, ℕ, zero, suc, ◌+◌, ◌<◌, ◌≤◌, List, [], ◌∷◌, ◌++◌, refl, sym, ap, subst, ◌∙◌, append_assoc, append-nil, length, Bool, true, false, not, ◌==◌, None, Option, arith, inl, inr}
+use Rattle.std.specs.Prelude.{◌||◌, All, nat_le}
+use Rattle.std.specs.List.{list_all, list_any}
 use Rattle.std.proofs.lemmas.Bool.Decides.{nat_tests}
-use Rattle.std.proofs.lemmas.List.Elements.{All-cons, All-head, All-nil, All-tail, All-weaker}
+use Rattle.std.proofs.lemmas.List.Elements.{All-cons, All-head, All-nil, All-weaker}
 use Rattle.ann_outside.specs.Starts.{Starts}
 use Rattle.journal_model.specs.declared.entry.What.{What}
 use Rattle.journal_model.specs.declared.entry.What.TheVariants.{Claim, Start, NoStart, Ask, Put, Sent, Mute, Got, End, Verdict as Settled, Lost, Answer as Answered, Note as Noted}
 use Rattle.journal_model.specs.declared.entry.Entry.{Entry}
 use Rattle.journal_model.specs.declared.opening.Opening.{Opening}
-use Rattle.journal_model.specs.Journal.{any, is_ended, is_tagged, why_of}
+use Rattle.journal_model.specs.Journal.{any, is_ended, is_tagged}
 use Rattle.journal_model.specs.Legality.{Legal, count, is_prepared, is_start}
 use Rattle.journal_model.proofs.Looks.{any-append, both, each_of-append, same_number}
 use Rattle.journal_model.proofs.Testing.{all-each, all-join, any-more, by_either, neither, or_left, or_right}
@@ -18,7 +18,7 @@ use Rattle.link_roles.proofs.Linked.{any_narrower}
 use Rattle.child_end.specs.Programs.{ProgramsValue}
 use Rattle.child_end.specs.Wires.{WireValue, came}
 use Rattle.gathering.specs.Laws.{Distinct, children_of}
-use Rattle.gathering.specs.Rounds.{IsAtRest, LinkValue}
+use Rattle.gathering.specs.Rounds.{LinkValue}
 use Rattle.task_run.specs.declared.setup.Setup.{Setup}
 use Rattle.lone_work.specs.Works.{DeskTells, claimed_task, claims_in}
 use Rattle.lone_rounds.specs.Rounds.{is_of_run}
@@ -27,15 +27,15 @@ use Rattle.lone_rounds.proofs.Apart.{ended_on}
 use Rattle.lone_rounds.proofs.Tests.{claimed_on, each_without, no_children}
 use Rattle.pool_rounds.specs.Pool.{MayServe, PoolCan}
 use Rattle.pool_starts.specs.Pools.{AreSeated, Gathered, SeatValue, is_among, is_claim}
-use Rattle.pool_starts.specs.Slots.{AllInTurn, in_pool, is_lost, last_slot, offers_tags}
+use Rattle.pool_starts.specs.Slots.{AllInTurn, in_pool, is_lost, offers_tags}
 use Rattle.pool_starts.proofs.SlotLaws.{turn_both, turn_filled, turn_quiet}
 use Rattle.job_rounds.specs.Desks.{DesksDid, HaveDesks}
 use Rattle.job_rounds.specs.Pools.{LeavesPool, PoolServed}
-use Rattle.job_rounds.specs.PoolSteps.{ClosesAll, RoundsPool, ServesFirst, ServesLinks}
+use Rattle.job_rounds.specs.PoolSteps.{ClosesAll}
 use Rattle.job_rounds.specs.Servings.{CanBeServed}
 use Rattle.job_rounds.proofs.Desks.{desks_join, desks_nothing, desks_on, have_both, have_none}
 use Rattle.job_rounds.proofs.PoolClosings.{Closings, closings, closings_calm, closings_ask, closings_claim, closings_start, closings_take, closings_within}
-use Rattle.job_rounds.proofs.PoolMiddle.{Middle, lost_on, middle_alone, middle_none, middle_round}
+use Rattle.job_rounds.proofs.PoolMiddle.{Middle, lost_on}
 use Rattle.job_rounds.proofs.PoolTags.{later_ascend, later_untagged, seated_above, seated_any, tag_stays, tags_offer}
 
 -- ---- what is gathered

@@ -1,5 +1,5 @@
 -- What a pool leaves of its objects: a wire for each child, in the order of their starts, and the starts that were told.
-use Rattle.std.proofs.Common.{◌≡◌, ◌⊎◌, ℕ, ◌+◌, ◌<◌, ◌≤◌, List, [], ◌∷◌, ◌++◌, refl, sym, ap, subst, ◌∙◌, append_assoc, append-nil, Bool, true, false, not, ◌==◌, Some, None, Option, arith, inl, inr}
+use Rattle.std.proofs.Common.{◌≡◌, ◌⊎◌, ℕ, ◌+◌, ◌<◌, ◌≤◌, List, [], ◌∷◌, ◌++◌, refl, sym, ap, subst, ◌∙◌, append-nil, Bool, true, false, ◌==◌, Some, None, Option, arith, inl, inr}
 use Rattle.std.specs.Prelude.{◌||◌, All}
 use Rattle.std.specs.List.{list_any}
 use Rattle.std.proofs.lemmas.List.Elements.{All-head, All-tail}
@@ -8,11 +8,10 @@ use Rattle.ann_outside.specs.Starts.{Starts}
 use Rattle.journal_model.specs.declared.entry.What.{What}
 use Rattle.journal_model.specs.declared.entry.What.TheVariants.{NoStart}
 use Rattle.journal_model.specs.declared.entry.Entry.{Entry}
-use Rattle.journal_model.specs.declared.opening.Opening.{Opening}
 use Rattle.journal_model.specs.Halves.{EarValue, MouthValue}
 use Rattle.journal_model.specs.Journal.{any}
 use Rattle.journal_model.specs.Shares.{is_of_child}
-use Rattle.journal_model.proofs.Looks.{any-append, differ, each_of-append, either_left}
+use Rattle.journal_model.proofs.Looks.{any-append, differ, each_of-append}
 use Rattle.link_roles.proofs.Linked.{any_narrower}
 use Rattle.child_end.specs.Programs.{AddsAll, HaveStarted, ProgramsValue, is_failed_start, told, told_in}
 use Rattle.child_end.specs.Wires.{IsHeld, IsLeft, IsOfStart, WireValue, came, came_in}
@@ -24,7 +23,7 @@ use Rattle.lone_rounds.proofs.Leaving.{none_told, rose_on}
 use Rattle.lone_rounds.proofs.Tests.{none_came, or_false}
 use Rattle.pool_rounds.specs.Pool.{AreSameLinks}
 use Rattle.pool_starts.specs.Pools.{AreSeated, OverBy, SeatValue, Serves}
-use Rattle.job_rounds.specs.Pools.{IsLinkLeft, LeavesPool}
+use Rattle.job_rounds.specs.Pools.{LeavesPool}
 use Rattle.job_rounds.specs.PoolSteps.{AreLaid, AreSettled, ClosesAll}
 use Rattle.job_rounds.proofs.PoolClosings.{closes_held}
 use Rattle.job_rounds.proofs.PoolTags.{Ascends, seated_above}
@@ -73,10 +72,11 @@ wires_linked starts g new n m (Some c ∷ cs) [] links links' more h t s held on
 wires_linked starts g new n m (Some c ∷ cs) (OverBy own ∷ seats) links links' [] h t s held one a stays = absurd t
 wires_linked starts g new n m (Some c ∷ cs) (OverBy own ∷ seats) links links' (w ∷ more) h t s held one a stays =
     let next = a.0 in
-    let none : list_any (λ (l : LinkValue). l.ear.child == c) links ≡ false = above_none (m + 1) c links (omega (arith, next)) (seated_above starts g (n + 1) (m + 1) cs seats links h.2 a.1) in
-    (ap (λ (x : WireValue). x.child) t.0 ∙ h.0,
-        subst (λ (x : WireValue). IsLinked starts new (n + 1) x) (sym t.0) (stays c (n + 1) own h.0 (omega (arith, next)) none h.1),
-        wires_linked starts g new (n + 1) (m + 1) cs seats links links' more h.2 t.1 s held one a.1 (λ d k wire is far apart l. stays d k wire is (omega (arith, far)) apart l))
+    let none : list_any (λ (l : LinkValue). l.ear.child == c) links ≡ false = above_none (m + 1) c links (omega (arith, next)) (seated_above starts g (n + 1) (m + 1) cs seats links h.2 a.1) in (
+      ap (λ (x : WireValue). x.child) t.0 ∙ h.0,
+      subst (λ (x : WireValue). IsLinked starts new (n + 1) x) (sym t.0) (stays c (n + 1) own h.0 (omega (arith, next)) none h.1),
+      wires_linked starts g new (n + 1) (m + 1) cs seats links links' more h.2 t.1 s held one a.1 (λ d k wire is far apart l. stays d k wire is (omega (arith, far)) apart l),
+    )
 wires_linked starts g new n m (Some c ∷ cs) (Serves ∷ seats) [] links' more h t s held one a stays = absurd h
 wires_linked starts g new n m (Some c ∷ cs) (Serves ∷ seats) (l ∷ links) [] more h t s held one a stays = absurd s
 wires_linked starts g new n m (Some c ∷ cs) (Serves ∷ seats) (l ∷ links) (x ∷ links') [] h t s held one a stays = absurd t

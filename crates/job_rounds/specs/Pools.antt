@@ -1,6 +1,6 @@
 -- What is done behind a child of slot 0 that is ready and takes no tags, where a run has several desks: a pool is gathered, serves and is
 -- closed.
-use Rattle.std.specs.Prelude.{ℕ, ◌≡◌, ◌⊎◌, ◌≤◌, ◌+◌, Bool, true, false, List, [], ◌∷◌, ◌++◌, length}
+use Rattle.std.specs.Prelude.{ℕ, ◌≡◌, ◌⊎◌, ◌≤◌, Bool, true, false, List, ◌∷◌, ◌++◌, length}
 use Rattle.std.specs.List.{list_all, list_any}
 use Rattle.ann_outside.specs.Causes.{Rose}
 use Rattle.journal_model.specs.declared.entry.Entry.{Entry}

@@ -1,4 +1,4 @@
-use Rattle.std.proofs.Common.{◌≡◌, List, map, sym, subst, take, true}
+use Rattle.std.proofs.Common.{◌≡◌, map, sym, subst, take, true}
 use Rattle.journal_model.specs.Journal.{is_started}
 use Rattle.crew_rounds.specs.Tagged.{link_of}
 use Rattle.gathering.specs.Laws.{children_of}

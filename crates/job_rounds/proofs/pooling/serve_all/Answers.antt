@@ -1,4 +1,4 @@
-use Rattle.std.proofs.Common.{◌≡◌, ◌<◌, ◌∙◌, ℕ, List, map, sym, subst, ap, arith, length, true}
+use Rattle.std.proofs.Common.{◌≡◌, ◌∙◌, List, map, sym, subst, ap, arith, length, true}
 use Rattle.std.specs.Prelude.{All}
 use Rattle.journal_model.specs.declared.opening.Opening.{Opening}
 use Rattle.journal_model.specs.Journal.{is_started}

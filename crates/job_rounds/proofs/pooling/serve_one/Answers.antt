@@ -1,4 +1,4 @@
-use Rattle.std.proofs.Common.{◌≡◌, List, map, sym, subst, true}
+use Rattle.std.proofs.Common.{◌≡◌, map, sym, subst, true}
 use Rattle.std.specs.Prelude.{All}
 use Rattle.journal_model.specs.declared.opening.Opening.{Opening}
 use Rattle.journal_model.specs.Journal.{is_started}
@@ -6,7 +6,6 @@ use Rattle.journal_model.specs.Legality.{Legal}
 use Rattle.crew_rounds.specs.Tagged.{link_of}
 use Rattle.gathering.specs.Laws.{children_of}
 use Rattle.gathering.specs.Rounds.{LinkValue}
-use Rattle.lone_work.specs.Works.{desk_tells}
 use Rattle.job_rounds.specs.PoolSteps.{ClosesAll}
 use Rattle.job_rounds.proofs.PoolLinks.{all_unmapped}
 use Rattle.job_rounds.proofs.PoolServing.{alone_calm, alone_links, alone_started, held_then}

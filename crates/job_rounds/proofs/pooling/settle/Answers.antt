@@ -1,8 +1,8 @@
-use Rattle.std.proofs.Common.{◌≡◌, ◌+◌, ◌∙◌, List, map, sym, subst, ap, arith, length, refl}
+use Rattle.std.proofs.Common.{◌∙◌, sym, ap, arith, refl}
 use Rattle.child_end.specs.Wires.{wire_value}
 use Rattle.crew_rounds.specs.Tagged.{link_of}
 use Rattle.pool_starts.specs.Pools.{seat_value}
-use Rattle.job_rounds.proofs.PoolLinks.{laying_begins, laying_ends, laying_over, laying_served, laying_some, stays_both, stays_same}
+use Rattle.job_rounds.proofs.PoolLinks.{laying_begins, laying_ends, laying_over, laying_served, stays_both, stays_same}
 use Rattle.job_rounds.proofs.pooling.settle.Goals as goal
 
 pub seats-init : goal.seats-init

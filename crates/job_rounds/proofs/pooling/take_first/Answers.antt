@@ -1,4 +1,4 @@
-use Rattle.std.proofs.Common.{◌≡◌, ◌+◌, ◌∙◌, sym, arith}
+use Rattle.std.proofs.Common.{arith}
 use Rattle.job_rounds.proofs.PoolLinks.{taken_all}
 use Rattle.job_rounds.proofs.pooling.take_first.Goals as goal
 
