@@ -1,7 +1,13 @@
 pub mod Desks
+pub mod Unserved
+pub mod Slots
+pub mod Spent
 pub mod RoundDid
 pub mod Shutting
 pub mod Stretching
+pub mod Between
+pub mod Leftover
+pub mod Objects
 pub mod Ends
 pub mod Rounding
 pub mod PoolPosts
@@ -13,3 +19,6 @@ pub mod PoolLinks
 pub mod PoolServing
 pub mod PoolWires
 pub mod PoolEnding
+pub mod PoolStretch
+pub mod Firsts
+pub mod Steps

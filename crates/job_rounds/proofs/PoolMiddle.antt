@@ -13,7 +13,7 @@ use Rattle.journal_model.specs.declared.entry.What.TheVariants.{Claim, Start, No
 use Rattle.journal_model.specs.declared.entry.Entry.{Entry}
 use Rattle.journal_model.specs.declared.opening.Opening.{Opening}
 use Rattle.journal_model.specs.Journal.{any, asked_jobs, is_ended, is_mute, is_tagged, open_jobs, verdict_of, why_of}
-use Rattle.journal_model.specs.Legality.{Legal, is_busy, is_done, is_prepared, prepares}
+use Rattle.journal_model.specs.Legality.{Legal, count, is_busy, is_done, is_prepared, prepares}
 use Rattle.journal_model.specs.Makers.{made_by_number}
 use Rattle.journal_model.specs.Output.{answer_in, answers_in}
 use Rattle.journal_model.specs.Shares.{is_of_child}
@@ -373,21 +373,25 @@ module _ (o : Opening) (setup : Setup) (limit first : ℕ) (g mid : List Entry) 
   given : answers_in then ≡ answers_in worked
   given = each_of-append answer_in worked k.tail ∙ ap (λ (x : List (ℕ × Answer)). answers_in worked ++ x) (of_closing c k.tail k.one (λ (x : List Entry). answers_in x ≡ []) refl refl) ∙ append-nil (answers_in worked)
 
-  done : TasksDone o setup limit mid then a.desk a.desk'
+  -- more starts than were made: none of these tasks was claimed without a child
+  abbrev most : ℕ
+  most = count is_any_start mid + 1
+
+  done : TasksDone o setup most mid then a.desk a.desk'
   done =
-      let at_end : TasksDone o setup limit (s.mid ++ k.tail) worked a.desk a.desk' = record {
+      let at_end : TasksDone o setup most (s.mid ++ k.tail) worked a.desk a.desk' = record {
         done = s.worked.done;
         claimed = s.worked.claimed;
         answered = s.worked.answered;
-        ran = worker_runs o setup limit c s.mid k.tail s.worked.done s.can.number s.can.legal s.can.rest s.worked.ran;
+        ran = worker_runs o setup most c s.mid k.tail s.worked.done s.can.number s.can.legal s.can.rest s.worked.ran;
         log_is = s.worked.log_is;
         caused = s.worked.caused;
       } in
-      done_same o setup limit mid worked then a.desk a.desk' taken given (subst (λ (j : List Entry). TasksDone o setup limit j worked a.desk a.desk') (sym k.is) at_end)
+      done_same o setup most mid worked then a.desk a.desk' taken given (subst (λ (j : List Entry). TasksDone o setup most j worked a.desk a.desk') (sym k.is) at_end)
 
   did_alone : DesksDid o setup limit mid g then 1 desks desks'
   did_alone = subst (λ (ds : List DeskTells). DesksDid o setup limit mid g then 1 ds desks') (sym a.before) (subst (λ (ds : List DeskTells). DesksDid o setup limit mid g then 1 (a.desk ∷ a.others) ds) (sym a.after)
-      (desks_main o setup limit mid g then a.desk a.desk' a.others part.main done))
+      (desks_main o setup limit most mid g then a.desk a.desk' a.others (omega arith) part.main done))
 
   some : 0 < length desks
   some = (let is = ap (λ (ds : List DeskTells). length ds) a.before in omega (arith, is))

@@ -4,3 +4,4 @@ pub mod Pools
 pub mod PoolSteps
 pub mod Servings
 pub mod Starts
+pub mod Unserved
