@@ -10,6 +10,15 @@ pub mod Leftover
 pub mod Objects
 pub mod Ends
 pub mod Rounding
+pub mod PoolPosts
+pub mod PoolTags
+pub mod PoolClosings
+pub mod PoolMiddle
+pub mod PoolWhole
+pub mod PoolLinks
+pub mod PoolServing
+pub mod PoolWires
+pub mod PoolEnding
 pub mod PoolStretch
 pub mod Firsts
 pub mod Steps

@@ -3,6 +3,7 @@ use Rattle.std.specs.Prelude.{ℕ, ◌≡◌, ◌⊎◌, ◌+◌, List, [], ◌�
 use Rattle.std.specs.List.{range_with_len}
 use Rattle.journal_model.specs.declared.entry.Entry.{Entry}
 use Rattle.journal_model.specs.declared.opening.Opening.{Opening}
+use Rattle.journal_model.specs.Legality.{Legal}
 use Rattle.link_roles.specs.Alone.{Closes}
 use Rattle.child_end.specs.Wires.{IsLeft, WireValue}
 use Rattle.gathering.specs.Laws.{GoesOn, children_of}
@@ -33,11 +34,19 @@ abbrev pub ServesFirst : Opening → Setup → List LinkValue → List Entry →
 ServesFirst o setup [] old new desks desks' = ⊥
 ServesFirst o setup (l ∷ links) old new desks desks' = ServesAlone o setup l.ear.child old new desks desks'
 
--- tasks were done over the links by a round, or by the main thread over the first; then their children were closed
+-- Tasks were done over the links by a round, or by the main thread over the first, and a legal journal stays so; then their children were
+-- closed.
 pub record ServesLinks (o : Opening) (setup : Setup) (old new : List Entry) (links links' : List LinkValue) (desks desks' : List DeskTells) : Type 0 where
   pub mid : List Entry
+  pub legal : Legal o old → Legal o mid
   pub done : RoundsPool o setup old mid links links' desks desks' ⊎ ServesFirst o setup links old mid desks desks'
   pub closes : ClosesAll (children_of links) mid new
+
+-- how many of the seats' children serve
+abbrev pub serving : List SeatValue → ℕ
+serving [] = 0
+serving (OverBy own ∷ seats) = serving seats
+serving (Serves ∷ seats) = serving seats + 1
 
 -- the wires of seats, in order: a seat's own, or what the next link leaves
 abbrev pub AreSettled : List SeatValue → List LinkValue → List WireValue → Type 0
