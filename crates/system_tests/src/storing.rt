@@ -198,9 +198,7 @@ fn a_second_start_goes_on_where_a_real_child_died(rt: HostRuntime) -> Result<(),
 }
 
 #[test]
-fn each_job_has_a_child_of_its_own_as_far_as_there_are_tasks(
-    rt: HostRuntime,
-) -> Result<(), Fail> {
+fn each_job_has_a_child_of_its_own_as_far_as_there_are_tasks(rt: HostRuntime) -> Result<(), Fail> {
     write_script(&rt, "./counted.sh", COUNTED)?;
     let few = run(&rt, &rt, "./counted.sh", "2", "1", CHECKS)?;
     let two = fs::read(&rt, "starts")?;
@@ -212,8 +210,8 @@ fn each_job_has_a_child_of_its_own_as_far_as_there_are_tasks(
     let answers = "1 present\n2 present\n3 present\n4 present\n5 present\n";
     assert!(rt; few.is(0, answers, ""));
     assert!(rt; many.is(0, answers, ""));
-    assert!(rt; two.as_slice() == b"started\nstarted\n");
-    assert!(rt; five.as_slice() == b"started\nstarted\nstarted\nstarted\nstarted\n");
+    assert!(rt; two.as_slice() == b"started\nstarted\n".as_slice());
+    assert!(rt; five.as_slice() == b"started\nstarted\nstarted\nstarted\nstarted\n".as_slice());
     Ok(())
 }
 
