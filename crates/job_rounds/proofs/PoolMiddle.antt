@@ -122,7 +122,8 @@ two_jobs o seen c legal ready = go (nat_lt 1 (length (asked_jobs seen c))) refl
 
 -- ---- what is done
 
--- Behind g, where the links are first's and the others', which begin with child `first`.
+-- What stands behind g: of the children from `first` on, without a start, with what the desks did for the tasks that were claimed; and no
+-- child but those of the links was touched.
 pub record Middle (o : Opening) (setup : Setup) (limit first : ℕ) (links : List LinkValue) (g mid : List Entry) (desks desks' : List DeskTells) (whole : Bool) : Type 0 where
   pub rest : List Entry
   pub is : mid ≡ g ++ rest
