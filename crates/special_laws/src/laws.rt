@@ -4,6 +4,7 @@ ghost use Rattle.journal_model.specs.declared.verdict.Why.TheVariants.{Error};
 ghost use Rattle.journal_model.specs.declared.answer.Answer.{Answer};
 ghost use Rattle.journal_model.specs.declared.answer.Answer.TheVariants.{Present, Absent, Unknown, NotPrepared, Ended, NoChild};
 ghost use Rattle.journal_model.specs.declared.entry.What.TheVariants.{Got};
+ghost use Rattle.journal_model.specs.Journal.{is_tagged};
 ghost use Rattle.journal_model.specs.Wires.{is_heard_in_turn};
 ghost use Rattle.journal_model.specs.Rows.{sample_key, by_main, greeting, check_present, not_closed, no_disk, away, out_of_disk};
 ghost use Rattle.lone_rounds.specs.Rounds.{ZeroRun};
