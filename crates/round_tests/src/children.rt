@@ -57,6 +57,13 @@ pub(crate) fn add_cues(alloc: Global, cues: &mut Vec<Cue>, says: &[Says]) -> Res
     Ok(())
 }
 
+/// The cues of a child that says all this.
+pub(crate) fn cues_of(alloc: Global, says: &[Says]) -> Result<Vec<Cue>, NoMemory> {
+    let mut cues = Vec::new(alloc);
+    add_cues(alloc, &mut cues, says)?;
+    Ok(cues)
+}
+
 /// The lines of these tasks.
 pub(crate) fn texts(alloc: Global, texts: &[&str]) -> Result<Vec<String>, NoMemory> {
     let mut all = Vec::new(alloc);

@@ -89,6 +89,15 @@ where
     }
 }
 
+// The cues of the only child: these, and those by which it gets ready.
+fn only_child(alloc: Global, cues: Vec<Cue>) -> Result<Vec<Vec<Cue>>, NoMemory> {
+    let mut all = cues;
+    add_cues(alloc, &mut all, TAGGED.as_slice())?;
+    let mut children = Vec::new(alloc);
+    children.push(all)?;
+    Ok(children)
+}
+
 // Programs whose only child takes tags, and answers by these cues.
 fn programs_of<'a, R: Wait>(
     rt: &'a R,
@@ -96,10 +105,7 @@ fn programs_of<'a, R: Wait>(
     cues: Vec<Cue>,
     bytes: usize,
 ) -> Result<CutPrograms<CuePrograms<'a, R>>, NoMemory> {
-    let mut all = cues;
-    add_cues(alloc, &mut all, TAGGED.as_slice())?;
-    let mut children = Vec::new(alloc);
-    children.push(all)?;
+    let children = only_child(alloc, cues)?;
     Ok(CutPrograms {
         programs: CuePrograms::new(rt, alloc, children),
         most: usize::MAX,

@@ -1,8 +1,12 @@
 // Rounds over a child that takes tags: what it says, and what comes of each task.
+ghost use Rattle.std.specs.Prelude.{◌<◌, ◌≤◌};
+
 use crate::answers::{expect, most_busy};
-use crate::children::{GREETING, NONE, Says, add_cues, texts};
-use crate::rounds::{Way, round};
+use crate::children::{GREETING, NONE, Says, cues_of, texts};
+use crate::rounds::{Left, Way, round};
+use ann_key::NoMemory;
 use crew_rounds::Outcome;
+use host_core::Journal;
 use std::alloc::Global;
 use std::process::Abort;
 use std::sync::Wait;
@@ -222,26 +226,41 @@ const KEY_SAYS: &[Says] = &[
     },
 ];
 
-fn expect_row<R: Threads + Wait + Abort + Sync>(
-    rt: &R,
+// What a round of the row's tasks left.
+fn left_of<'a, R: Threads + Wait + Abort + Sync>(
+    rt: &'a R,
     alloc: Global,
     row: &Row,
-) -> Result<(), Fail> {
-    let name = row.name;
-    assert!(rt; 0 < row.workers && row.workers <= 64);
+) -> Result<Left<'a, R>, NoMemory>
+    requires { (0 < row.now.workers) × (row.now.workers ≤ 64) }
+{
     let lines = texts(alloc, row.tasks)?;
-    let mut cues = Vec::new(alloc);
-    add_cues(alloc, &mut cues, row.says)?;
+    let cues = cues_of(alloc, row.says)?;
     let way = Way {
         workers: row.workers,
         threads: usize::MAX,
         bytes: row.bytes,
     };
-    let left = round(rt, alloc, way, &lines, cues)?;
-    assert_eq!(rt; left.outcome, Outcome::Done, "{name}");
-    assert_eq!(rt; left.desks.len(), row.workers, "{name}");
-    expect(rt, name, left.core.journal(), row.words);
-    assert_eq!(rt; most_busy(left.core.journal()), row.busy, "{name}");
+    round(rt, alloc, way, &lines, cues)
+}
+
+// A round that left this is as the row says.
+fn expect_left(rt: &impl Abort, row: &Row, outcome: Outcome, desks: usize, journal: &Journal) {
+    let name = row.name;
+    assert_eq!(rt; outcome, Outcome::Done, "{name}");
+    assert_eq!(rt; desks, row.workers, "{name}");
+    expect(rt, name, journal, row.words);
+    assert_eq!(rt; most_busy(journal), row.busy, "{name}");
+}
+
+fn expect_row<R: Threads + Wait + Abort + Sync>(
+    rt: &R,
+    alloc: Global,
+    row: &Row,
+) -> Result<(), Fail> {
+    assert!(rt; 0 < row.workers && row.workers <= 64);
+    let left = left_of(rt, alloc, row)?;
+    expect_left(rt, row, left.outcome, left.desks.len(), left.core.journal());
     Ok(())
 }
 
