@@ -1,34 +1,51 @@
 -- A link that is held stays so where nothing of its child is made, and where it is closed.
-use Rattle.std.proofs.Common.{◌≡◌, ℕ, List, [], ◌∷◌, ◌++◌, refl, sym, subst, Bool, true, false, not, ◌==◌, cond}
+use Rattle.std.proofs.Common.{◌≡◌, ℕ, List, [], ◌∷◌, ◌++◌, refl, sym, subst, Bool, true, false, not, ◌==◌, ap, ◌∙◌, ◌⊎◌, inl, inr, cond}
 use Rattle.std.specs.Prelude.{◌||◌}
+use Rattle.std.proofs.lemmas.Bool.{or_cases}
 use Rattle.journal_model.specs.declared.verdict.Why.TheVariants.{Closed}
 use Rattle.journal_model.specs.declared.entry.What.TheVariants.{End}
 use Rattle.journal_model.specs.declared.entry.Entry.{Entry}
-use Rattle.journal_model.specs.Journal.{any, is_ended}
+use Rattle.journal_model.specs.Journal.{any, is_ended, is_tagged}
 use Rattle.journal_model.specs.Halves.{EarValue, MouthValue, EarWired}
 use Rattle.journal_model.specs.Shares.{is_heard, is_of_child, is_said}
 use Rattle.journal_model.proofs.Ears.{ear_stop}
 use Rattle.journal_model.proofs.Heard.{heard_on}
 use Rattle.journal_model.proofs.Mouths.{mouth_apart}
+use Rattle.journal_model.proofs.Testing.{or_left, or_right}
+use Rattle.journal_model.proofs.Turns.{tagged_on}
 use Rattle.journal_model.proofs.Soft.{IsSoft, soft_stretch}
 use Rattle.link_roles.specs.Alone.{Closes}
 use Rattle.link_roles.specs.Writings.{LoneWired}
 use Rattle.link_roles.proofs.Linked.{any_narrower, heard_of, link_apart, said_of}
 use Rattle.link_roles.proofs.Roles.{all_left}
 use Rattle.link_roles.proofs.Writings.{written_apart, written_on}
-use Rattle.child_end.specs.Wires.{IsHeld, is_mains}
+use Rattle.child_end.specs.Wires.{IsHeld, is_mains, is_served_alone}
 
 -- a link whose requests are written before they are answered, whoever serves the child
 pub lone_held : (journal : List Entry) (e : EarValue) (m : MouthValue) → LoneWired journal e m → IsHeld journal e m
-lone_held journal e m w = record { link = w.link; written = λ mains. w.written }
+lone_held journal e m w = record { link = w.link; written = λ alone. w.written }
 
 mains_before : (past more : List Entry) (c : ℕ) → is_mains (past ++ more) c ≡ true → is_mains past c ≡ true
 mains_before past more c h = all_left (λ (e : Entry). not (is_of_child c e.what) || e.by == 0) past more h
 
+untagged_before : (past more : List Entry) (c : ℕ) → not (is_tagged (past ++ more) c) ≡ true → not (is_tagged past c) ≡ true
+untagged_before past more c h = go (is_tagged past c) refl
+  where
+    go : (b : Bool) → is_tagged past c ≡ b → not b ≡ true
+    go false e = refl
+    go true e = let bad : false ≡ true = sym (ap not (tagged_on past more c e)) ∙ h in absurd cc
+
+alone_before : (past more : List Entry) (c : ℕ) → is_served_alone (past ++ more) c ≡ true → is_served_alone past c ≡ true
+alone_before past more c h = go (or_cases (not (is_tagged (past ++ more) c)) (is_mains (past ++ more) c) h)
+  where
+    go : (not (is_tagged (past ++ more) c) ≡ true) ⊎ (is_mains (past ++ more) c ≡ true) → is_served_alone past c ≡ true
+    go (inl t) = or_left (not (is_tagged past c)) (is_mains past c) (untagged_before past more c t)
+    go (inr m) = or_right (not (is_tagged past c)) (is_mains past c) (mains_before past more c m)
+
 pub held_apart : (past more : List Entry) (e : EarValue) (m : MouthValue) → m.child ≡ e.child → any (is_of_child e.child) more ≡ false → IsHeld past e m → IsHeld (past ++ more) e m
 held_apart past more e m one none h = record {
   link = link_apart past more e m one (any_narrower (is_heard e.child) (is_of_child e.child) (heard_of e.child) more none) (any_narrower (is_said e.child) (is_of_child e.child) (said_of e.child) more none) h.link;
-  written = λ mains. written_apart past more e.child none (h.written (mains_before past more e.child mains));
+  written = λ alone. written_apart past more e.child none (h.written (alone_before past more e.child alone));
 }
 
 pub held_closed : (n c : ℕ) (old new : List Entry) (e : EarValue) (m : MouthValue) → e.child ≡ c → Closes n c old new → IsHeld old e m → IsHeld new e m
@@ -49,5 +66,5 @@ held_closed n c old new e m ec h w = go (is_ended old c) refl h
         mouth = mouth_apart old one m refl w.link.mouth;
         turn = heard_on e.child old one refl w.link.turn;
       };
-      written = λ mains. written_on old one e.child refl (w.written (mains_before old one e.child mains));
+      written = λ alone. written_on old one e.child refl (w.written (alone_before old one e.child alone));
     })

@@ -5,7 +5,7 @@ use Rattle.ann_outside.specs.Starts.{Starts}
 use Rattle.journal_model.specs.declared.entry.What.{What}
 use Rattle.journal_model.specs.declared.entry.What.TheVariants.{Start, NoStart}
 use Rattle.journal_model.specs.declared.entry.Entry.{Entry}
-use Rattle.journal_model.specs.Journal.{each_of}
+use Rattle.journal_model.specs.Journal.{each_of, is_tagged}
 use Rattle.journal_model.specs.Wires.{Wired, Caused, is_heard_in_turn}
 use Rattle.journal_model.specs.Halves.{EarValue, MouthValue, LinkWired}
 use Rattle.journal_model.specs.Shares.{is_of_child}
@@ -67,20 +67,23 @@ IsOfStart (Some xs) n (Some number) = number ≡ length xs + n
 abbrev pub is_mains : List Entry → ℕ → Bool
 is_mains journal c = list_all (λ e. not (is_of_child c e.what) || e.by == 0) journal
 
--- The halves are wired to the journal. Where the main thread served the child alone, each request was written before a line
--- answered it.
+-- one thread alone wrote to the child and read from it: it takes no tags, or the main thread made all that the journal has of it
+abbrev pub is_served_alone : List Entry → ℕ → Bool
+is_served_alone journal c = not (is_tagged journal c) || is_mains journal c
+
+-- The halves are wired to the journal. Where one thread alone served the child, each request was written before a line answered it.
 pub record IsHeld (journal : List Entry) (ear : EarValue) (mouth : MouthValue) : Type 0 where
   pub link : LinkWired journal ear mouth
-  pub written : is_mains journal ear.child ≡ true → is_written_first journal ear.child ≡ true
+  pub written : is_served_alone journal ear.child ≡ true → is_written_first journal ear.child ≡ true
 
--- The wire's bytes are the journal's lines, its child's end and mute have their causes, each line was fed in its turn; where the
--- main thread served the child alone, each request was written before a line answered it; its halves are those that the nth
--- start gave, and both are closed.
+-- The wire's bytes are the journal's lines, its child's end and mute have their causes, each line was fed in its turn; where
+-- one thread alone served the child, each request was written before a line answered it; its halves are those that the nth start
+-- gave, and both are closed.
 pub record IsWire (starts : Option Starts) (journal : List Entry) (n : ℕ) (wire : WireValue) : Type 0 where
   pub wired : Wired journal wire.child wire.given wire.taken wire.rest
   pub caused : Caused journal wire.child wire.left wire.read_faults wire.write_faults
   pub heard : IsTrue (is_heard_in_turn journal wire.child)
-  pub written : is_mains journal wire.child ≡ true → IsTrue (is_written_first journal wire.child)
+  pub written : is_served_alone journal wire.child ≡ true → IsTrue (is_written_first journal wire.child)
   pub inlet : IsOfStart starts n wire.inlet_number
   pub outlet : IsOfStart starts n wire.outlet_number
   pub closed : (wire.is_inlet_open ≡ false) × (wire.is_outlet_open ≡ false)

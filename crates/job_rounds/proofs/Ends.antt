@@ -7,11 +7,12 @@ use Rattle.journal_model.specs.declared.verdict.Why.TheVariants.{Closed}
 use Rattle.journal_model.specs.declared.entry.Entry.{Entry}
 use Rattle.journal_model.specs.declared.opening.Opening.{Opening}
 use Rattle.journal_model.specs.Halves.{EarValue, MouthValue}
-use Rattle.journal_model.specs.Journal.{any, is_started, starts}
+use Rattle.journal_model.specs.Journal.{any, is_started, is_tagged, starts}
 use Rattle.journal_model.specs.Legality.{Legal, may_stop}
 use Rattle.journal_model.specs.Shares.{is_of_child}
 use Rattle.journal_model.proofs.Looks.{any-append, both, differ}
 use Rattle.journal_model.proofs.Testing.{or_left}
+use Rattle.journal_model.proofs.Turns.{tagged_on}
 use Rattle.link_roles.proofs.Roles.{all_right}
 use Rattle.link_roles.proofs.Writings.{written_apart}
 use Rattle.link_roles.specs.Writings.{is_written_first}
@@ -19,7 +20,7 @@ use Rattle.gathering.specs.Laws.{GoesOn}
 use Rattle.gathering.specs.Rounds.{IsAtRest, IsWired, LinkValue}
 use Rattle.crew_roles.specs.Crewing.{DesksDid as CrewDesks}
 use Rattle.crew_roles.specs.TaggedRounds.{TaggedLeaves}
-use Rattle.child_end.specs.Wires.{IsHeld}
+use Rattle.child_end.specs.Wires.{IsHeld, is_mains}
 use Rattle.task_run.specs.declared.setup.Setup.{Setup}
 use Rattle.lone_work.specs.Works.{DeskTells, TaskDone}
 use Rattle.lone_rounds.proofs.Stinting.{may_close}
@@ -50,6 +51,11 @@ none_of_mains c m (e ∷ xs) h k =
     go true false x y = absurd cc
     go true true x y = absurd cc
 
+-- a child that takes tags was served alone only by the main thread
+served_by_mains : (t m : Bool) → t ≡ true → (not t || m) ≡ true → m ≡ true
+served_by_mains true m e h = h
+served_by_mains false m e h = absurd cc
+
 module _ (o : Opening) (setup : Setup) (m : ℕ) (start final : List Entry) (l : LinkValue) (desks desks' : List DeskTells) (goes : GoesOn start final (λ rest. TaggedLeaves o setup (range_with_len 1 m) start rest l desks desks')) where
   abbrev rest : List Entry
   rest = goes.0
@@ -69,11 +75,13 @@ module _ (o : Opening) (setup : Setup) (m : ℕ) (start final : List Entry) (l :
   pub round_closes : (c : ℕ) → may_stop final c Closed ≡ true
   round_closes c = may_close final c (rest_shut final round_calm c) round_calm.idle
 
-  pub round_held : (c : ℕ) → l.ear.child ≡ c → is_written_first start c ≡ true → IsHeld final l.ear l.mouth
-  round_held c is written = subst (λ (j : List Entry). IsHeld j l.ear l.mouth) (sym goes.1) record {
+  pub round_held : (c : ℕ) → l.ear.child ≡ c → is_tagged start c ≡ true → is_written_first start c ≡ true → IsHeld final l.ear l.mouth
+  round_held c is tagged written = subst (λ (j : List Entry). IsHeld j l.ear l.mouth) (sym goes.1) record {
     link = (All-head (IsWired (start ++ rest)) l [] leaves.round.linked).wired;
-    written = λ mains. written_apart start rest l.ear.child
-        (none_of_mains l.ear.child m rest leaves.round.rounded.numbered (all_right (λ (e : Entry). not (is_of_child l.ear.child e.what) || e.by == 0) start rest mains))
+    written = λ alone. written_apart start rest l.ear.child
+        (none_of_mains l.ear.child m rest leaves.round.rounded.numbered
+        (all_right (λ (e : Entry). not (is_of_child l.ear.child e.what) || e.by == 0) start rest
+        (served_by_mains (is_tagged (start ++ rest) l.ear.child) (is_mains (start ++ rest) l.ear.child) (tagged_on start rest l.ear.child (subst (λ (d : ℕ). is_tagged start d ≡ true) (sym is) tagged)) alone)))
         (ap (is_written_first start) is ∙ written);
   }
 

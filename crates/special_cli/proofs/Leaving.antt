@@ -15,7 +15,7 @@ use Rattle.link_roles.specs.Writings.{is_written_first, LoneWired}
 use Rattle.journal_model.proofs.Ears.{halves_wire}
 use Rattle.child_start.specs.Greetings.{AreNumbered}
 use Rattle.special_cli.specs.Endings.{start_in, starts_in}
-use Rattle.child_end.specs.Wires.{came_in, came, is_mains, IsOfStart, IsWire, AreWires, IsLaid}
+use Rattle.child_end.specs.Wires.{came_in, came, is_served_alone, IsOfStart, IsWire, AreWires, IsLaid}
 use Rattle.child_end.specs.Programs.{told_in, told, AddsAll, HaveStarted, Leaves, is_failed_start}
 use Rattle.special_cli.specs.Objects.{OneIsLeft}
 use Rattle.child_end.specs.Wires.{WireValue}
@@ -97,7 +97,7 @@ one_wire old new journal x ear mouth wires starts adds numbered one both_one lin
     let wired : Wired journal wire.child wire.given wire.taken wire.rest = rw (is.child, is.given_is, is.taken_is, is.rest) halves.0 in
     let caused : Caused journal wire.child wire.left wire.read_faults wire.write_faults = rw (is.child, is.left_is, is.faults.0, is.faults.1) halves.1 in
     let heard : IsTrue (is_heard_in_turn journal wire.child) = rw is.child linked.link.turn in
-    let written : is_mains journal wire.child ≡ true → IsTrue (is_written_first journal wire.child) = λ mains. rw is.child linked.written in
+    let written : is_served_alone journal wire.child ≡ true → IsTrue (is_written_first journal wire.child) = λ mains. rw is.child linked.written in
     let inlet : IsOfStart old 1 wire.inlet_number = subst (IsOfStart old 1) (sym is.numbers.0) (of_start old new x mouth.number adds numbered.0) in
     let outlet : IsOfStart old 1 wire.outlet_number = subst (IsOfStart old 1) (sym is.numbers.1) (of_start old new x ear.number adds numbered.1) in
     let own : IsWire old journal 1 wire = record { wired = wired; caused = caused; heard = heard; written = written; inlet = inlet; outlet = outlet; closed = is.closed } in

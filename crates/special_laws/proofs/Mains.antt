@@ -2,16 +2,20 @@
 use Rattle.std.proofs.Common.{◌≡◌, ℕ, List, [], ◌∷◌, refl, Bool, true, false, not}
 use Rattle.std.specs.Prelude.{◌==◌, ◌||◌}
 use Rattle.journal_model.specs.declared.entry.Entry.{Entry}
+use Rattle.journal_model.specs.Journal.{is_tagged}
 use Rattle.journal_model.specs.Shares.{are_by, is_of_child}
 use Rattle.journal_model.proofs.Looks.{both}
-use Rattle.child_end.specs.Wires.{is_mains}
+use Rattle.child_end.specs.Wires.{is_mains, is_served_alone}
 
 either : (a b : Bool) → b ≡ true → (a || b) ≡ true
 either true b h = refl
 either false b h = h
 
-pub mains : (journal : List Entry) (c : ℕ) → are_by 0 journal ≡ true → is_mains journal c ≡ true
+mains : (journal : List Entry) (c : ℕ) → are_by 0 journal ≡ true → is_mains journal c ≡ true
 mains [] c h = refl
 mains (e ∷ more) c h =
     let t = both (e.by == 0) (are_by 0 more) h in
     rw (either (not (is_of_child c e.what)) (e.by == 0) t.0, mains more c t.1) refl
+
+pub alone : (journal : List Entry) (c : ℕ) → are_by 0 journal ≡ true → is_served_alone journal c ≡ true
+alone journal c h = either (not (is_tagged journal c)) (is_mains journal c) (mains journal c h)

@@ -11,7 +11,7 @@ ghost use Rattle.special_cli.specs.Endings.{IsChecked, IsTold, LacksMemory};
 ghost use Rattle.ann_outside.specs.Files.{Files};
 ghost use Rattle.child_end.specs.Outsides.{TableValue};
 ghost use Rattle.child_end.specs.Programs.{HaveStarted};
-ghost use Rattle.child_end.specs.Wires.{is_mains};
+ghost use Rattle.child_end.specs.Wires.{is_served_alone};
 ghost use Rattle.cli_words.specs.declared.command.RunWords.{RunWords};
 ghost use Rattle.journal_model.specs.declared.entry.Entry.{Entry};
 ghost use Rattle.run_tasks.specs.Inputs.{InputFlow};
@@ -85,11 +85,12 @@ pub fn early_lines_are_out_of_turn()
     ensures other { is_heard_in_turn (greeting ++ by_main (Got 1 (codes "DEBUG x")) ∷ []) 2 ≡ true }
 {}
 
-/// In a check, an info and an init, and in a run with one job, the main thread serves each child alone. There a request is written
-/// before it is answered (`written` of a wire).
+/// In a check, an info and an init, and in a run with one job, the main thread serves each child alone; and so is a child that takes no
+/// tags served, whoever its worker is. There a request is written before it is answered (`written` of a wire).
 pub fn one_thread_serves_alone()
-    ensures check { (told : Option ℕ) (key : List ℕ) (journal : List Entry) (c : ℕ) → IsChecked told key journal → is_mains journal c ≡ true }
-    ensures info { (key : Option (List ℕ)) (journal : List Entry) (c : ℕ) → IsInformed key journal → is_mains journal c ≡ true }
-    ensures init { (journal : List Entry) (c : ℕ) → IsSetup journal → is_mains journal c ≡ true }
-    ensures run { (words : RunWords) (clock : Option ℕ) (told : Option Files) (input : InputFlow) (workers : List TableValue) (journal : List Entry) (c : ℕ) → IsRunOf words clock told input workers journal → words.jobs ≡ 1 → is_mains journal c ≡ true }
+    ensures check { (told : Option ℕ) (key : List ℕ) (journal : List Entry) (c : ℕ) → IsChecked told key journal → is_served_alone journal c ≡ true }
+    ensures info { (key : Option (List ℕ)) (journal : List Entry) (c : ℕ) → IsInformed key journal → is_served_alone journal c ≡ true }
+    ensures init { (journal : List Entry) (c : ℕ) → IsSetup journal → is_served_alone journal c ≡ true }
+    ensures run { (words : RunWords) (clock : Option ℕ) (told : Option Files) (input : InputFlow) (workers : List TableValue) (journal : List Entry) (c : ℕ) → IsRunOf words clock told input workers journal → words.jobs ≡ 1 → is_served_alone journal c ≡ true }
+    ensures untagged { (journal : List Entry) (c : ℕ) → is_tagged journal c ≡ false → is_served_alone journal c ≡ true }
 {}

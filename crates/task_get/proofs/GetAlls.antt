@@ -42,7 +42,7 @@ between_first p = record {
   };
   wants = λ later. refl;
   begun = refl;
-  sound = record { names = refl; changes = refl; lengths = refl; found = refl; held = refl; few = omega arith; fresh = λ n low high. refl };
+  sound = record { names = refl; changes = refl; lengths = refl; found = refl; held = refl; told = λ before. refl; few = omega arith; fresh = λ n low high. refl };
   free = refl;
 }
 

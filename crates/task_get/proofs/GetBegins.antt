@@ -1,6 +1,6 @@
 -- The begin of a layout of chunks.
 use Rattle.std.proofs.Common.{◌≡◌, ◌∙◌, ℕ, ◌+◌, ◌-◌, ◌*◌, ◌≤◌, ◌<◌, ◌==◌, ◌⊎◌, inl, inr, Bool, true, false, cond, not, List, [], ◌∷◌, ◌++◌, length, map, drop, refl, sym, ap, subst, arith, append_assoc, append-nil, length-append}
-use Rattle.std.specs.Prelude.{if◌then◌else◌, Option, Some, None, unwrap_or, Result, Ok, Err}
+use Rattle.std.specs.Prelude.{if◌then◌else◌, bytes_eq, is_some, Option, Some, None, unwrap_or, Result, Ok, Err}
 use Rattle.std.specs.List.{list_all, filter_map, concat, range_with_len}
 use Rattle.std.specs.Int.{div_ceil}
 use Rattle.std.proofs.lemmas.Bool.{cases_lt, eqb-true}
@@ -28,14 +28,15 @@ use Rattle.task_run.specs.Stops.{call_stop}
 use Rattle.task_run.specs.Names.{part_of}
 use Rattle.task_run.specs.Layouts.{parts_of_layout}
 use Rattle.task_run.specs.Requests.{AskInOrder}
-use Rattle.task_run.specs.Reads.{length_or_none, reads_of, read_of, bytes_of, is_run, is_reading, is_known, appended, piece_of}
+use Rattle.task_run.specs.Reads.{length_or_none, reads_of, read_of, bytes_of, is_run, is_reading, is_known, appended, piece_of, holds, are_found_so}
 use Rattle.task_run.specs.Gets.{fetch_request, begins, lengths_at_begin, wanted, parts_wanted, held_reads, since_begin}
 use Rattle.task_run.specs.Ran.{answered, refusal}
 use Rattle.task_run.specs.Fetching.{Outcome}
 use Rattle.task_get.specs.Fronts.{Place, Turn, first_in, Sound, are_free, Within, Kept, Between, Ended, begin_of}
 use Rattle.task_get.specs.LayoutRuns.{parts_from, parts_between}
 use Rattle.task_get.specs.PartBegins.{Begin, Unlooked, Unmade, Made, Uncut, Unread, Resumed, keep_of, begin_calls, begin_result, BeginIs}
-use Rattle.task_run.proofs.Texts.{same_name}
+use Rattle.task_run.proofs.Texts.{apart, same_name}
+use Rattle.task_run.proofs.HeldLaws.{is_looking, holds_more, so_behind, holds_cut}
 use Rattle.task_get.proofs.LastCalls.{list_all-append, after_last-at}
 use Rattle.task_run.proofs.GetCallsLaws.{known_add, known_skip, placed, run_placed, bytes_placed, nat_same}
 use Rattle.task_get.proofs.GetEnds.{whole_reading, bytes_more, stop_is}
@@ -171,8 +172,9 @@ opened : (u : Turn) (size : ℕ) (calls seg : List Call) (n : ℕ) (reads : List
     → 0 < u.chunk → (u.chunk == 0) ≡ false → u.place.key.size ≡ Some size
     → held_reads u.place.file (calls ++ seg) ≡ reads → is_known (part_of u.place.file) (calls ++ seg) ≡ true → appended (part_of u.place.file) (since_begin u.place.file (calls ++ seg)) ≡ []
     → is_reading 0 (keep_of size u.chunk n) reads ≡ true
+    → ((before : List ℕ) → are_found_so (part_of u.place.file) (Some before) (calls ++ seg) ≡ true → holds (part_of u.place.file) (Some before) (calls ++ seg) ≡ Some (bytes_of reads))
     → Within u [] [] (parts_from u.place.key size u.chunk (held_of size u.chunk n)) (calls ++ seg) × Kept u [] [] (parts_from u.place.key size u.chunk (held_of size u.chunk n)) (calls ++ seg) reads []
-opened u size calls seg n reads b r l some c s held known unwritten reading = (
+opened u size calls seg n reads b r l some c s held known unwritten reading content = (
   record {
     tries = b.tries;
     all_done = refl;
@@ -200,6 +202,7 @@ opened u size calls seg n reads b r l some c s held known unwritten reading = (
     held_whole = ap (λ k. is_reading 0 k reads) (keep_is u.place.key size u.chunk (held_of size u.chunk n) some s (held_most size u.chunk n)) ∙ reading;
     bytes_are = refl;
     moved = unwritten;
+    content = λ before found. content before found ∙ ap Some (sym (append-nil (bytes_of reads)));
     whole = refl;
   },
 )
@@ -354,6 +357,47 @@ unread_stopped u calls n keep pieces e b r ne =
     (looked_stopped u calls (resumed_calls part n keep pieces []) n y (answered (refusal e)) b r (looked_resumed u calls n keep pieces [] (rest_none u calls n keep pieces) refl)
     (subst Q whole rest.of_part) refl (subst R split (resumed_run u calls n keep pieces (y ∷ []) rest)) (stop_is e ne))
 
+-- ---- what part holds then
+
+reads_looking : (part : List ℕ) (at : ℕ) (pieces : List (List ℕ)) → list_all is_looking (read_calls part at pieces) ≡ true
+reads_looking part at [] = refl
+reads_looking part at (piece ∷ pieces) = reads_looking part (at + length piece) pieces
+
+ending_looking : (part : List ℕ) (at left : ℕ) (ending : List Call) → EndsWhole part at left ending → list_all is_looking ending ≡ true
+ending_looking part at left [] e = refl
+ending_looking part at left (call ∷ []) e = rw e refl
+ending_looking part at left (call ∷ next ∷ more) e = absurd e
+
+-- it was made
+holds_made : (u : Turn) (calls : List Call) (before : List ℕ)
+    → holds (part_of u.place.file) (Some before) (calls ++ Size (part_of u.place.file) (Err E.Missing) ∷ Create (part_of u.place.file) (Ok tt) ∷ []) ≡ Some []
+holds_made u calls before =
+    holds_more (part_of u.place.file) (Some before) calls (Size (part_of u.place.file) (Err E.Missing) ∷ Create (part_of u.place.file) (Ok tt) ∷ [])
+    ∙ made (holds (part_of u.place.file) (Some before) calls)
+  where
+    made : (o : Option (List ℕ)) → (if bytes_eq (part_of u.place.file) (part_of u.place.file) then Some [] else o) ≡ Some []
+    made o = rw (same_name (part_of u.place.file)) refl
+
+-- it was cut, and what was left is what was read
+holds_resumed : (u : Turn) (calls : List Call) (n keep : ℕ) (more : List Call) (reads : List (ℕ × List ℕ)) → BetweenAt u calls → list_all is_looking more ≡ true
+    → reads_of (part_of u.place.file) more ≡ reads → is_reading 0 keep reads ≡ true
+    → (before : List ℕ) → are_found_so (part_of u.place.file) (Some before) (calls ++ Size (part_of u.place.file) (Ok n) ∷ Cut (part_of u.place.file) keep (Ok tt) ∷ more) ≡ true
+    → holds (part_of u.place.file) (Some before) (calls ++ Size (part_of u.place.file) (Ok n) ∷ Cut (part_of u.place.file) keep (Ok tt) ∷ more) ≡ Some (bytes_of reads)
+holds_resumed u calls n keep more reads b looks are reading before found =
+    holds_more part (Some before) calls seg ∙ by_held (holds part (Some before) calls) (b.sound.told before) (so_behind part (Some before) calls seg found)
+  where
+    part : List ℕ
+    part = part_of u.place.file
+
+    seg : List Call
+    seg = Size part (Ok n) ∷ Cut part keep (Ok tt) ∷ more
+
+    by_held : (o : Option (List ℕ)) → is_some o ≡ true → are_found_so part o seg ≡ true → holds part o seg ≡ Some (bytes_of reads)
+    by_held None k f = apart k
+    by_held (Some held) k f =
+        holds_cut part held keep more looks (ap (is_reading 0 keep) are ∙ reading) (so_behind part (Some held) (Size part (Ok n) ∷ []) (Cut part keep (Ok tt) ∷ more) f)
+        ∙ ap (λ l. Some (bytes_of l)) are
+
 pub begin_end : (u : Turn) (size : ℕ) (calls : List Call) (before after : Checker) (how : Begin) → BetweenAt u calls → 1 ≤ length u.rest → 0 < u.chunk → (u.chunk == 0) ≡ false → u.place.key.size ≡ Some size
     → BeginIs (part_of u.place.file) size u.chunk before after how → BeginEnd u size calls (begin_calls (part_of u.place.file) size u.chunk how) before after (begin_result size u.chunk how)
 begin_end u size calls before after (Unlooked E.NoMemory) b r some c s so =
@@ -376,7 +420,8 @@ begin_end u size calls before after Made b r some c s so =
     (ap (reads_of part) (created_since u calls (Ok tt)))
     (let P : List Call → Type 0 = λ l. is_known part l ≡ true in subst P (append_assoc calls (Size part (Err E.Missing) ∷ []) (Create part (Ok tt) ∷ [])) (known_add part (calls ++ Size part (Err E.Missing) ∷ []) (Create part (Ok tt)) (rw (same_name part) refl)))
     (ap (appended part) (created_since u calls (Ok tt)))
-    (let w = held_within size u.chunk 0 some in let e : keep_of size u.chunk 0 ≡ 0 = omega (arith, w) in ap (λ k. is_reading 0 k []) e) in
+    (let w = held_within size u.chunk 0 some in let e : keep_of size u.chunk 0 ≡ 0 = omega (arith, w) in ap (λ k. is_reading 0 k []) e)
+    (λ before found. holds_made u calls before) in
     let P : Checker → Type 0 = λ k. Checks before k [] in
     ([], o.0, o.1, subst P (sym so) (checks_nothing before))
 begin_end u size calls before after (Uncut n E.NoMemory) b r some c s so = looked_memory u calls _ n b r (looked_size u calls n)
@@ -404,7 +449,11 @@ begin_end u size calls before after (Resumed n pieces ending) b r some c s so =
     (looked_resumed u calls n keep pieces ending rest (ending_free u.place (length (concat pieces)) (keep - length (concat pieces)) ending so.0)) some c s
     (resumed_reads u calls n keep pieces ending rest) known
     (ap (appended part) (since_size u calls _ n (resumed_no_begin u calls n keep pieces ending rest)) ∙ ap concat none)
-    (whole_reading part keep pieces ending so.0 so.1 run) in
+    (whole_reading part keep pieces ending so.0 so.1 run)
+    (holds_resumed u calls n keep (read_calls part 0 pieces ++ ending) (placed 0 pieces ++ reads_of part ending) b
+    (list_all-append is_looking (read_calls part 0 pieces) ending (reads_looking part 0 pieces) (ending_looking part (length (concat pieces)) (keep - length (concat pieces)) ending so.0))
+    (filter_map-append (read_of part) (read_calls part 0 pieces) ending ∙ ap (λ l. l ++ reads_of part ending) (reads_placed part 0 pieces))
+    (whole_reading part keep pieces ending so.0 so.1 run)) in
     let bytes : concat pieces ≡ bytes_of (placed 0 pieces ++ reads_of part ending) =
     sym (bytes_more (placed 0 pieces) (reads_of part ending) ∙ ap (λ l. bytes_of (placed 0 pieces) ++ l) (ending_bytes part (length (concat pieces)) (keep - length (concat pieces)) ending so.0) ∙ append-nil (bytes_of (placed 0 pieces)) ∙ bytes_placed 0 pieces) in
     let P : List ℕ → Type 0 = λ l. Checks before after l in

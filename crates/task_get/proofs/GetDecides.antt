@@ -12,7 +12,7 @@ use Rattle.journal_model.specs.declared.answer.Answer.TheVariants as A
 use Rattle.task_asker.specs.Askings.{Asking}
 use Rattle.task_run.specs.Stops.{is_done, last_failed}
 use Rattle.task_run.specs.Names.{part_of}
-use Rattle.task_run.specs.Reads.{is_reading, is_removed, is_last_call_of, is_renaming, appended, bytes_of}
+use Rattle.task_run.specs.Reads.{is_reading, is_removed, is_last_call_of, is_renaming, appended, bytes_of, holds, are_found_so}
 use Rattle.task_run.specs.Gets.{lengths_at_begin, wanted, is_failed, failures, asked_last, first_asked, item, parts_last, is_plain_last, end_held, since_begin, held_reads, bytes_fetched, checked, are_read_whole, wrong_lengths, fit_in, is_got, IsSaid, IsChecked, IsKept, DecidesBy, Decides, GetAnswers}
 use Rattle.task_get.specs.Fronts.{Turn, first_in, Tried, begin_of}
 use Rattle.task_get.proofs.AskLaws.{item_behind}
@@ -83,16 +83,20 @@ end_is : (key : Parts) (sizes lengths : List ℕ) (asked : List Asking) (parts :
 end_is key sizes lengths asked [] e = rw e refl
 end_is key sizes lengths asked (part ∷ more) e = rw e refl
 
+-- what is so of part where it becomes the file
+pub record Becomes (u : Turn) (next : List Asking) (calls : List Call) : Type 0 where
+  pub moved : appended (part_of u.place.file) (since_begin u.place.file calls) ≡ bytes_fetched u.place.setup u.place.task calls (first_in u) next
+  pub content : (before : List ℕ) → are_found_so (part_of u.place.file) (Some before) calls ≡ true
+      → holds (part_of u.place.file) (Some before) calls ≡ Some ((if u.chunk == 0 then [] else bytes_of (held_reads u.place.file calls)) ++ bytes_fetched u.place.setup u.place.task calls (first_in u) next)
+  pub renamed : is_last_call_of (part_of u.place.file) (is_renaming (part_of u.place.file) u.place.file) calls ≡ true
+
 -- all that was wanted is there, and this is said of it
 pub answers_said : (u : Turn) (next : List Asking) (parts : List Part) (calls : List Call) (answer : Answer) → Last u next parts calls
     → wrong_lengths u.place.setup u.place.task u.place.key.size calls (first_in u) parts ≡ [] → count_by is_done next ≡ length parts
     → IsSaid u.place.key ((if u.chunk == 0 then [] else bytes_of (held_reads u.place.file calls)) ++ bytes_fetched u.place.setup u.place.task calls (first_in u) next) (fit_in answer)
     → ((u.chunk == 0) || is_reading 0 (begin_of u.place.key parts) (held_reads u.place.file calls)) ≡ true
     → are_read_whole u.place.setup u.place.task calls (first_in u) next ≡ true
-    → MatchBool (is_got answer)
-    ((appended (part_of u.place.file) (since_begin u.place.file calls) ≡ bytes_fetched u.place.setup u.place.task calls (first_in u) next)
-    × (is_last_call_of (part_of u.place.file) (is_renaming (part_of u.place.file) u.place.file) calls ≡ true))
-    (is_removed (part_of u.place.file) calls ≡ true)
+    → MatchBool (is_got answer) (Becomes u next calls) (is_removed (part_of u.place.file) calls ≡ true)
     → GetAnswers u.place.setup u.place.task u.place.key u.place.sizes u.place.file (u.past ++ next) calls answer
 answers_said u next parts calls answer l none count said held whole part =
     answers_of u next parts calls answer l (record {
@@ -133,8 +137,7 @@ answers_said u next parts calls answer l none count said held whole part =
     }
 
     by_test : (b : Bool)
-        → MatchBool b ((appended (part_of u.place.file) (since_begin u.place.file calls) ≡ bytes_fetched u.place.setup u.place.task calls (first_in u) next)
-        × (is_last_call_of (part_of u.place.file) (is_renaming (part_of u.place.file) u.place.file) calls ≡ true)) (is_removed (part_of u.place.file) calls ≡ true)
-        → MatchBool b (IsKept u.place.setup u.place.task u.place.file (u.past ++ next) calls) (is_removed (part_of u.place.file) calls ≡ true)
-    by_test true k = record { moved = k.0 ∙ sym bytes; renamed = k.1 }
+        → MatchBool b (Becomes u next calls) (is_removed (part_of u.place.file) calls ≡ true)
+        → MatchBool b (IsKept u.place.setup u.place.task u.place.sizes u.place.file (u.past ++ next) calls) (is_removed (part_of u.place.file) calls ≡ true)
+    by_test true k = record { moved = k.moved ∙ sym bytes; held = λ before found. k.content before found ∙ ap Some (sym all); renamed = k.renamed }
     by_test false k = k

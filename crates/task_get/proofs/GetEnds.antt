@@ -20,13 +20,14 @@ use Rattle.task_run.specs.Gets.{fetch_request, begins}
 use Rattle.task_run.specs.Ran.{answered, refusal}
 use Rattle.task_run.specs.Fetching.{Files3}
 use Rattle.task_run.proofs.Texts.{same_name}
+use Rattle.task_run.proofs.HeldLaws.{is_growing}
 use Rattle.task_run.proofs.GetCallsLaws.{Apart, Good, fair_read, known_skip, known_copy, copy_reads, bytes_placed, copy_appends, placed, nat_same}
 use Rattle.task_get.proofs.GetRuns.{Going, done}
 
 -- ---- how it goes on
 
 going_none : (setup : Setup) (t : ℕ) (key : Parts) (file : List ℕ) (request : Option HostMessage) (at : ℕ) → AsksFor (fetch_request setup t) 1 key (done request at) → Going setup t key file request at []
-going_none setup t key file request at h = record { asks = h; good = record { fair = record { names = refl; changes = refl; lengths = refl; no_length = refl; no_read = refl }; found = refl; free = refl }; run = refl }
+going_none setup t key file request at h = record { asks = h; good = record { fair = record { names = refl; changes = refl; lengths = refl; no_length = refl; no_read = refl; lasting = refl }; found = refl; free = refl }; run = refl }
 
 -- the first two calls
 abbrev begun : List ℕ → List ℕ → ℕ → List Call
@@ -48,18 +49,20 @@ pub record Tail (file fetch : List ℕ) (past : List Call) (at : ℕ) (calls : L
   pub unwritten : filter_map (piece_of (part_of file)) calls ≡ []
   pub unsized_more : lengths_found fetch calls ≡ []
   pub no_begin : list_all (λ call. not (begins (part_of file) call)) calls ≡ true
+  pub grown : list_all (is_growing (part_of file)) calls ≡ true
   pub known_fetch : is_known fetch (past ++ calls) ≡ true
   pub known_part : is_known (part_of file) (past ++ calls) ≡ true
 
 pub tail_of : (file fetch : List ℕ) (past : List Call) (at left : ℕ) (calls : List Call) → Apart file fetch → is_known fetch past ≡ true → is_known (part_of file) past ≡ true
     → EndsWhole fetch at left calls → Tail file fetch past at calls
 tail_of file fetch past at left [] a f p e = record {
-  good = record { fair = record { names = refl; changes = refl; lengths = refl; no_length = refl; no_read = refl }; found = refl; free = refl };
+  good = record { fair = record { names = refl; changes = refl; lengths = refl; no_length = refl; no_read = refl; lasting = refl }; found = refl; free = refl };
   run = refl;
   empty = refl;
   unwritten = refl;
   unsized_more = refl;
   no_begin = refl;
+  grown = refl;
   known_fetch = rw (append-nil past) f;
   known_part = rw (append-nil past) p;
 }
@@ -70,6 +73,7 @@ tail_of file fetch past at left (call ∷ []) a f p e = rw e (record {
   unwritten = refl;
   unsized_more = refl;
   no_begin = refl;
+  grown = refl;
   known_fetch = known_skip fetch past (ReadAt fetch at (Ok [])) refl f;
   known_part = known_skip (part_of file) past (ReadAt fetch at (Ok [])) refl p;
 })
@@ -111,6 +115,7 @@ pub record Facts (file fetch : List ℕ) (pieces : List (List ℕ)) (ending call
   pub bytes : bytes_of (reads_of fetch calls) ≡ concat pieces
   pub written : concat (filter_map (piece_of (part_of file)) calls) ≡ concat pieces
   pub no_begin : list_all (λ call. not (begins (part_of file) call)) calls ≡ true
+  pub grown : list_all (is_growing (part_of file)) calls ≡ true
 
 pub bytes_more : (xs ys : List (ℕ × List ℕ)) → bytes_of (xs ++ ys) ≡ bytes_of xs ++ bytes_of ys
 bytes_more [] ys = refl
@@ -124,13 +129,17 @@ copy_no_begin : (part from to : List ℕ) (at : ℕ) (pieces : List (List ℕ)) 
 copy_no_begin part from to at [] = refl
 copy_no_begin part from to at (piece ∷ pieces) = copy_no_begin part from to (at + length piece) pieces
 
+copy_grown : (part from to : List ℕ) (at : ℕ) (pieces : List (List ℕ)) → list_all (is_growing part) (copy_calls from to at pieces) ≡ true
+copy_grown part from to at [] = refl
+copy_grown part from to at (piece ∷ pieces) = copy_grown part from to (at + length piece) pieces
+
 list_all_more : {X : Type 0} (p : X → Bool) (xs ys : List X) → list_all p xs ≡ true → list_all p ys ≡ true → list_all p (xs ++ ys) ≡ true
 list_all_more p xs ys a b = rw (list_all-append p xs ys) (rw a b)
 
 pub moved_facts : (file fetch : List ℕ) (past : List Call) (pieces : List (List ℕ)) (ending more : List Call) → Apart file fetch → Tail file fetch past (length (concat pieces)) ending
-    → lengths_found fetch more ≡ [] → reads_of fetch more ≡ [] → filter_map (piece_of (part_of file)) more ≡ [] → list_all (λ call. not (begins (part_of file) call)) more ≡ true
+    → lengths_found fetch more ≡ [] → reads_of fetch more ≡ [] → filter_map (piece_of (part_of file)) more ≡ [] → list_all (λ call. not (begins (part_of file) call)) more ≡ true → list_all (is_growing (part_of file)) more ≡ true
     → Facts file fetch pieces ending (copy_calls fetch (part_of file) 0 pieces ++ (ending ++ more))
-moved_facts file fetch past pieces ending more a t u r w b = record {
+moved_facts file fetch past pieces ending more a t u r w b g = record {
   sized = rw (filter_map-append (length_found fetch) copied (ending ++ more), filter_map-append (length_found fetch) ending more) (rw (copy_unsized fetch (part_of file) 0 pieces, t.unsized_more, u) refl);
   reads_are = rw (filter_map-append (read_of fetch) copied (ending ++ more), filter_map-append (read_of fetch) ending more) (rw (r, append-nil (reads_of fetch ending)) (ap (λ l. l ++ reads_of fetch ending) (copy_reads fetch (part_of file) 0 pieces)));
   bytes = rw (filter_map-append (read_of fetch) copied (ending ++ more), filter_map-append (read_of fetch) ending more) (rw r
@@ -138,6 +147,7 @@ moved_facts file fetch past pieces ending more a t u r w b = record {
   written = rw (filter_map-append (piece_of (part_of file)) copied (ending ++ more), filter_map-append (piece_of (part_of file)) ending more) (rw (t.unwritten, w) (rw (append-nil (filter_map (piece_of (part_of file)) copied)) (copy_appends fetch (part_of file) 0 pieces)));
   no_begin = list_all_more (λ call. not (begins (part_of file) call)) copied (ending ++ more) (copy_no_begin (part_of file) fetch (part_of file) 0 pieces)
       (list_all_more (λ call. not (begins (part_of file) call)) ending more t.no_begin b);
+  grown = list_all_more (is_growing (part_of file)) copied (ending ++ more) (copy_grown (part_of file) fetch (part_of file) 0 pieces) (list_all_more (is_growing (part_of file)) ending more t.grown g);
 }
   where
     copied : List Call

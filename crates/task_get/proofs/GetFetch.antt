@@ -87,7 +87,7 @@ pub record Moving (h : Here) (seg : List Call) : Type 0 where
   pub run : is_run 0 (reads_of (fetch_in h) seg) ≡ true
 
 pub moving_none : (h : Here) → Moving h []
-moving_none h = record { good = record { fair = record { names = refl; changes = refl; lengths = refl; no_length = refl; no_read = refl }; found = refl; free = refl }; others = λ m b d. refl; run = refl }
+moving_none h = record { good = record { fair = record { names = refl; changes = refl; lengths = refl; no_length = refl; no_read = refl; lasting = refl }; found = refl; free = refl }; others = λ m b d. refl; run = refl }
 
 same_reads : (name : List ℕ) (seg : List Call) (y : Call) → read_of name y ≡ None → reads_of name (seg ++ y ∷ []) ≡ reads_of name seg
 same_reads name seg y r = rw (filter_map-append (read_of name) seg (y ∷ [])) (rw r (append-nil (reads_of name seg)))
@@ -171,7 +171,7 @@ moving_c : (h : Here) (pre : List Call) (pieces : List (List ℕ)) → FetchingA
 moving_c h pre pieces f r =
     let P : List Call → Type 0 = λ l. Moving h (pre ++ l) in
     subst P (append-nil (copies_in h pieces))
-    (moving_copied h pre pieces [] f r (record { fair = record { names = refl; changes = refl; lengths = refl; no_length = refl; no_read = refl }; found = refl; free = refl }) (λ m b d. refl) refl)
+    (moving_copied h pre pieces [] f r (record { fair = record { names = refl; changes = refl; lengths = refl; no_length = refl; no_read = refl; lasting = refl }; found = refl; free = refl }) (λ m b d. refl) refl)
 
 -- a piece was read and not written
 moving_read : (h : Here) (pre : List Call) (pieces : List (List ℕ)) (piece : List ℕ) → FetchingAt h → Ready h pre

@@ -1,6 +1,6 @@
 -- Calls of part within a get: those at a layout's begin, and the one at its end.
 use Rattle.std.proofs.Common.{◌≡◌, ◌∙◌, ℕ, ◌+◌, ◌-◌, ◌≤◌, ◌==◌, Bool, true, false, not, List, [], ◌∷◌, ◌++◌, length, map, refl, sym, ap, subst, arith, append-nil, length-append, eq-eqb}
-use Rattle.std.specs.Prelude.{if◌then◌else◌, Some, None, Result, Ok, Err}
+use Rattle.std.specs.Prelude.{if◌then◌else◌, Some, None, is_some, Result, Ok, Err}
 use Rattle.std.specs.Bool.{MatchBool}
 use Rattle.std.specs.List.{list_all, filter_map}
 use Rattle.std.proofs.lemmas.List.{take-append-le}
@@ -19,7 +19,7 @@ use Rattle.task_asker.specs.Askings.{Asking}
 use Rattle.task_run.specs.Stops.{is_done, call_stop, AnsweredBy, all_but_last}
 use Rattle.task_run.specs.Names.{part_of, fetch_files}
 use Rattle.task_run.specs.Requests.{rounds, RoundsAsk}
-use Rattle.task_run.specs.Reads.{length_or_none, reads_of, read_of, bytes_of, is_run, is_reading, is_known, appended, takes_away, is_renaming, is_last_call_of, is_removed, piece_of}
+use Rattle.task_run.specs.Reads.{length_or_none, reads_of, read_of, bytes_of, is_run, is_reading, is_known, appended, holds, takes_away, is_renaming, is_last_call_of, is_removed, piece_of}
 use Rattle.task_run.specs.Discipline.{are_found, name_only, changes_as_result, size_of_only}
 use Rattle.task_run.specs.Gets.{fetch_request, begins, lengths_at_begin, wanted, wrong_lengths, held_reads, since_begin, bytes_fetched, fit_in, is_got, IsSaid, GetAsks, GetAnswers}
 use Rattle.task_run.specs.Runs.{fetched_files}
@@ -27,6 +27,7 @@ use Rattle.task_run.specs.Ran.{answered}
 use Rattle.task_run.specs.Fetching.{Outcome, if_made, discarded, settling, settled}
 use Rattle.task_get.specs.Fronts.{Place, Turn, first_in, fetch_at, keys_in, is_calm, is_apart, Sound, Within, Kept, Between, Ended, begin_of}
 use Rattle.task_run.proofs.Texts.{apart, same_name}
+use Rattle.task_run.proofs.HeldLaws.{is_lasting, is_growing, told, holds_more, so_front, holds_grown}
 use Rattle.task_get.proofs.LastCalls.{list_all-append}
 use Rattle.task_get.proofs.AskLaws.{count_all}
 use Rattle.task_run.proofs.GetCallsLaws.{Apart, found_more}
@@ -48,9 +49,10 @@ pub record OfPart (p : Place) (front seg : List Call) : Type 0 where
   pub lengths : size_of_only (part_of p.file ∷ []) seg ≡ true
   pub found : are_found (part_of p.file) front seg ≡ true
   pub others : (n : ℕ) → list_all (is_apart (fetch_at p n)) seg ≡ true
+  pub lasting : list_all (is_lasting (part_of p.file)) seg ≡ true
 
 pub of_none : (p : Place) (front : List Call) → OfPart p front []
-of_none p front = record { names = refl; changes = refl; lengths = refl; found = refl; others = λ n. refl }
+of_none p front = record { names = refl; changes = refl; lengths = refl; found = refl; others = λ n. refl; lasting = refl }
 
 pub of_more : (p : Place) (front xs ys : List Call) → OfPart p front xs → OfPart p (front ++ xs) ys → OfPart p front (xs ++ ys)
 of_more p front xs ys a b = record {
@@ -59,6 +61,7 @@ of_more p front xs ys a b = record {
   lengths = list_all-append _ xs ys a.lengths b.lengths;
   found = found_more (part_of p.file) front xs ys a.found b.found;
   others = λ n. list_all-append _ xs ys (a.others n) (b.others n);
+  lasting = list_all-append _ xs ys a.lasting b.lasting;
 }
 
 pub of_size : (p : Place) (front : List Call) (r : Result ℕ DeskError) → OfPart p front (Size (part_of p.file) r ∷ [])
@@ -68,6 +71,7 @@ of_size p front r = record {
   lengths = rw (same_name (part_of p.file)) refl;
   found = refl;
   others = λ n. rw (part_apart p n).part_fetch refl;
+  lasting = refl;
 }
 
 pub of_create : (p : Place) (front : List Call) (r : Outcome) → OfPart p front (Create (part_of p.file) r ∷ [])
@@ -77,6 +81,7 @@ of_create p front r = record {
   lengths = refl;
   found = refl;
   others = λ n. refl;
+  lasting = refl;
 }
 
 pub of_cut : (p : Place) (front : List Call) (keep : ℕ) (r : Outcome) → is_known (part_of p.file) front ≡ true → OfPart p front (Cut (part_of p.file) keep r ∷ [])
@@ -86,6 +91,7 @@ of_cut p front keep r k = record {
   lengths = refl;
   found = rw k refl;
   others = λ n. refl;
+  lasting = refl;
 }
 
 pub of_read : (p : Place) (front : List Call) (at : ℕ) (r : Result (List ℕ) DeskError) → is_known (part_of p.file) front ≡ true → OfPart p front (ReadAt (part_of p.file) at r ∷ [])
@@ -95,6 +101,7 @@ of_read p front at r k = record {
   lengths = refl;
   found = rw k refl;
   others = λ n. rw (part_apart p n).part_fetch refl;
+  lasting = refl;
 }
 
 of_rename : (p : Place) (front : List Call) (r : Outcome) → is_known (part_of p.file) front ≡ true → OfPart p front (Rename (part_of p.file) p.file r ∷ [])
@@ -104,6 +111,7 @@ of_rename p front r k = record {
   lengths = refl;
   found = rw k refl;
   others = λ n. refl;
+  lasting = rw (part_apart p 0).file_part refl;
 }
 
 of_remove : (p : Place) (front : List Call) (r : Outcome) → OfPart p front (Remove (part_of p.file) r ∷ [])
@@ -113,6 +121,7 @@ of_remove p front r = record {
   lengths = refl;
   found = rw (same_name (part_of p.file)) refl;
   others = λ n. refl;
+  lasting = refl;
 }
 
 sub_none : (names : List (List ℕ)) → Sub [] names
@@ -127,6 +136,7 @@ sound_part p asked calls seg s o held = record {
       (sub_cons (part_of p.file) [] (fetched_files p.setup p.task 1 asked) (sub_none _)) o.lengths);
   found = found_more (part_of p.file) [] calls seg s.found o.found;
   held = held;
+  told = λ before. ap is_some (holds_more (part_of p.file) (Some before) calls seg) ∙ told (part_of p.file) (holds (part_of p.file) (Some before) calls) seg o.lasting (s.told before);
   few = s.few;
   fresh = λ n low high. list_all-append _ calls seg (s.fresh n low high) (o.others n);
 }
@@ -196,11 +206,11 @@ settle_end u cur parts calls held bytes fit r w k c said = by_fit fit said r
     p : Place
     p = u.place
 
-    answers : (y : Call) (answer : Answer) → OfPart p calls (y ∷ []) → length_or_none (part_of p.file) y ≡ None → read_of (part_of p.file) y ≡ None → begins (part_of p.file) y ≡ false → piece_of (part_of p.file) y ≡ None
+    answers : (y : Call) (answer : Answer) → OfPart p calls (y ∷ []) → length_or_none (part_of p.file) y ≡ None → read_of (part_of p.file) y ≡ None → begins (part_of p.file) y ≡ false → piece_of (part_of p.file) y ≡ None → is_growing (part_of p.file) y ≡ true
         → IsSaid p.key (bytes_of held ++ bytes) (fit_in answer)
         → MatchBool (is_got answer) (is_last_call_of (part_of p.file) (is_renaming (part_of p.file) p.file) (calls ++ y ∷ []) ≡ true) (is_removed (part_of p.file) (calls ++ y ∷ []) ≡ true)
         → GetAnswers p.setup p.task p.key p.sizes p.file (u.past ++ cur) (calls ++ y ∷ []) answer
-    answers y answer o no_length no_read no_begin no_piece s last =
+    answers y answer o no_length no_read no_begin no_piece grows s last =
         let lengths : lengths_at_begin p.file (calls ++ y ∷ []) ≡ lengths_at_begin p.file calls = begin_lengths p.file calls (y ∷ []) (rw no_length refl) in
         let behind : list_all (λ call. not (begins (part_of p.file) call)) (y ∷ []) ≡ true = rw no_begin refl in
         let none : reads_of (part_of p.file) (y ∷ []) ≡ [] = rw no_read refl in
@@ -208,6 +218,7 @@ settle_end u cur parts calls held bytes fit r w k c said = by_fit fit said r
         let fetched : bytes_fetched p.setup p.task (calls ++ y ∷ []) (first_in u) cur ≡ bytes = same_bytes p.setup p.task (first_in u) cur calls (y ∷ []) (λ i low high. o.others i) ∙ k.bytes_are in
         let nothing : appended (part_of p.file) (y ∷ []) ≡ [] = rw no_piece refl in
         let moved : appended (part_of p.file) (since_begin p.file (calls ++ y ∷ [])) ≡ bytes = appended_more p.file calls (y ∷ []) behind ∙ ap (λ l. appended (part_of p.file) (since_begin p.file calls) ++ l) nothing ∙ append-nil (appended (part_of p.file) (since_begin p.file calls)) ∙ k.moved in
+        let grown : list_all (is_growing (part_of p.file)) (y ∷ []) ≡ true = rw grows refl in
         let P : List ℕ → Type 0 = λ l. IsSaid p.key l (fit_in answer) in
         let all : (if u.chunk == 0 then [] else bytes_of (held_reads p.file (calls ++ y ∷ []))) ++ bytes_fetched p.setup p.task (calls ++ y ∷ []) (first_in u) cur ≡ bytes_of held ++ bytes =
         ap (λ (b : Bool). (if b then [] else bytes_of (held_reads p.file (calls ++ y ∷ []))) ++ bytes_fetched p.setup p.task (calls ++ y ∷ []) (first_in u) cur) c
@@ -226,11 +237,20 @@ settle_end u cur parts calls held bytes fit r w k c said = by_fit fit said r
         (right_or (u.chunk == 0) (is_reading 0 (begin_of p.key parts) (held_reads p.file (calls ++ y ∷ [])))
         (ap (is_reading 0 (begin_of p.key parts)) reads ∙ ap (λ (l : List Part). is_reading 0 (begin_of p.key l) held) (sym parts_same) ∙ k.held_whole))
         (same_whole p.setup p.task (first_in u) cur calls (y ∷ []) (λ i low high. o.others i) ∙ k.whole)
-        (by_test _ _ _ (is_got answer) (moved ∙ sym fetched) last)
+        (by_test _ _ _ (is_got answer)
+        (λ last. record {
+          moved = moved ∙ sym fetched;
+          content = λ before found.
+              holds_more (part_of p.file) (Some before) calls (y ∷ [])
+              ∙ ap (λ o. holds (part_of p.file) o (y ∷ [])) (k.content before (so_front (part_of p.file) (Some before) calls (y ∷ []) found))
+              ∙ holds_grown (part_of p.file) (bytes_of held ++ bytes) (y ∷ []) grown
+              ∙ ap (λ l. Some ((bytes_of held ++ bytes) ++ l)) nothing ∙ ap Some (append-nil (bytes_of held ++ bytes) ∙ sym all);
+          renamed = last;
+        }) last)
       where
-        by_test : (M L R : Type 0) (b : Bool) → M → MatchBool b L R → MatchBool b (M × L) R
-        by_test M L R true m l = (m, l)
-        by_test M L R false m r = r
+        by_test : (K L R : Type 0) (b : Bool) → (L → K) → MatchBool b L R → MatchBool b K R
+        by_test K L R true make l = make l
+        by_test K L R false make r = r
 
     finished : (y : Call) (answer : Answer) → OfPart p calls (y ∷ []) → call_stop (part_of p.file) y ≡ None → length_or_none (part_of p.file) y ≡ None → read_of (part_of p.file) y ≡ None
         → AnsweredBy [] answer (GetAnswers p.setup p.task p.key p.sizes p.file (u.past ++ cur) (calls ++ y ∷ []) answer) → Ended p (u.past ++ cur) (calls ++ y ∷ []) answer
@@ -249,11 +269,11 @@ settle_end u cur parts calls held bytes fit r w k c said = by_fit fit said r
         → Ended p (u.past ++ cur) (calls ++ if_made r (Remove (part_of p.file) r)) (answered (discarded answer r))
     removed answer (Ok tt') by bad s =
         finished (Remove (part_of p.file) (Ok tt')) answer (of_remove p calls (Ok tt')) refl refl refl
-        (by _ (answers (Remove (part_of p.file) (Ok tt')) answer (of_remove p calls (Ok tt')) refl refl refl refl s
+        (by _ (answers (Remove (part_of p.file) (Ok tt')) answer (of_remove p calls (Ok tt')) refl refl refl refl refl s
         (rw bad (last_call (part_of p.file) (takes_away (part_of p.file)) calls (Remove (part_of p.file) (Ok tt')) (same_name (part_of p.file)) ∙ same_name (part_of p.file)))))
     removed answer (Err E.Missing) by bad s =
         finished (Remove (part_of p.file) (Err E.Missing)) answer (of_remove p calls (Err E.Missing)) (rw (same_name (part_of p.file)) refl) refl refl
-        (by _ (answers (Remove (part_of p.file) (Err E.Missing)) answer (of_remove p calls (Err E.Missing)) refl refl refl refl s
+        (by _ (answers (Remove (part_of p.file) (Err E.Missing)) answer (of_remove p calls (Err E.Missing)) refl refl refl refl refl s
         (rw bad (last_call (part_of p.file) (takes_away (part_of p.file)) calls (Remove (part_of p.file) (Err E.Missing)) (same_name (part_of p.file)) ∙ same_name (part_of p.file)))))
     removed answer (Err E.Failed) by bad s = stopped (Remove (part_of p.file) (Err E.Failed)) A.FileFault (of_remove p calls (Err E.Failed)) refl refl refl
     removed answer (Err E.NoMemory) by bad s = memory
@@ -262,7 +282,7 @@ settle_end u cur parts calls held bytes fit r w k c said = by_fit fit said r
         → Ended p (u.past ++ cur) (calls ++ if_made r (settling (record { file = p.file; part = part_of p.file; fetch = [] }) fit r)) (answered (settled fit r))
     by_fit F.Fits s (Ok tt') =
         finished (Rename (part_of p.file) p.file (Ok tt')) A.Got (of_rename p calls (Ok tt') k.known) refl refl refl
-        (answers (Rename (part_of p.file) p.file (Ok tt')) A.Got (of_rename p calls (Ok tt') k.known) refl refl refl refl s
+        (answers (Rename (part_of p.file) p.file (Ok tt')) A.Got (of_rename p calls (Ok tt') k.known) refl refl refl refl (rw (part_apart p 0).file_part refl) s
         (last_call (part_of p.file) (is_renaming (part_of p.file) p.file) calls (Rename (part_of p.file) p.file (Ok tt')) (rw (same_name (part_of p.file)) refl) ∙ rw (same_name (part_of p.file), same_name p.file) refl))
     by_fit F.Fits s (Err E.Missing) = stopped (Rename (part_of p.file) p.file (Err E.Missing)) A.NoFile (of_rename p calls (Err E.Missing) k.known) refl refl refl
     by_fit F.Fits s (Err E.Failed) = stopped (Rename (part_of p.file) p.file (Err E.Failed)) A.FileFault (of_rename p calls (Err E.Failed) k.known) refl refl refl

@@ -28,7 +28,7 @@ use Rattle.task_run.specs.Stops.{is_done, is_done_at, asking_stop, call_stop, An
 use Rattle.task_run.specs.Names.{part_of, fetch_file}
 use Rattle.task_run.specs.Requests.{AsksFor, AskInOrder, rounds, RoundsAsk}
 use Rattle.task_run.specs.Reads.{lengths_found, reads_of, is_known, is_run, is_reading, takes_away, is_removed}
-use Rattle.task_run.specs.Gets.{fetch_request, lengths_at_begin, wanted, wrong_lengths, is_wrong, is_failed, failures, asked_last, GetAsks}
+use Rattle.task_run.specs.Gets.{fetch_request, lengths_at_begin, wanted, wrong_lengths, is_wrong, is_read_whole, is_failed, failures, asked_last, GetAsks}
 use Rattle.task_run.specs.Ran.{refusal, is_verdict_of}
 use Rattle.task_run.specs.Fetching.{Outcome, discarded}
 use Rattle.task_get.specs.Fronts.{Turn, first_in, fetch_at, keys_in, is_calm, is_apart, Tried, Sound, are_free, Within, Kept, Between, Ended}
@@ -223,7 +223,7 @@ came h len size held bytes before after pieces ending f k s is w most c =
     subst P (ap (λ l. Size (fetch_in h) (Ok len) ∷ l) (sym (append_assoc (copies_in h pieces) ending (Remove (fetch_in h) (Ok tt) ∷ [])))) (
       concat pieces,
       within_next u h.cur h.got h.left h.part h.x h.n h.calls seg f (segment_of h seg moving) moving.run moving.good.free (ap (filter (is_wrong u.place.key.size h.part)) sized ∙ rw right refl),
-      kept_next u h.cur h.got h.left h.part h.x h.n h.calls seg held bytes (concat pieces) f k (segment_of h seg moving) (rw (apart_in h).fetch_part facts.no_begin) known facts.bytes facts.written whole,
+      kept_next u h.cur h.got h.left h.part h.x h.n h.calls seg held bytes (concat pieces) f k (segment_of h seg moving) (rw (apart_in h).fetch_part facts.no_begin) facts.grown known facts.bytes facts.written whole,
       c,
       refl,
     )
@@ -245,7 +245,7 @@ came h len size held bytes before after pieces ending f k s is w most c =
 
     facts : Facts (file_in h) (fetch_in h) pieces ending (moved_calls (file_in h) (fetch_in h) pieces ending)
     facts = moved_facts (file_in h) (fetch_in h) ((h.calls ++ pre) ++ copies_in h pieces) pieces ending (Remove (fetch_in h) (Ok tt) ∷ []) (apart_in h)
-        (tail_in h pre (len - length (concat pieces)) pieces ending ready w) refl refl refl refl
+        (tail_in h pre (len - length (concat pieces)) pieces ending ready w) refl refl refl refl refl
 
     known : is_known (part_in h) (h.calls ++ seg) ≡ true
     known = part_known_moved h pre (len - length (concat pieces)) pieces ending ready w
@@ -259,8 +259,8 @@ came h len size held bytes before after pieces ending f k s is w most c =
     reading : is_reading 0 len (reads_of (fetch_in h) seg) ≡ true
     reading = rw facts.reads_are (whole_reading (fetch_in h) len pieces ending w most (rw facts.reads_are at moving.run))
 
-    whole : list_all (λ j. is_reading 0 j (reads_of (fetch_in h) seg)) (lengths_found (fetch_in h) seg) ≡ true
-    whole = ap (list_all (λ j. is_reading 0 j (reads_of (fetch_in h) seg))) sized ∙ ap (λ b. b && true) reading
+    whole : is_read_whole (reads_of (fetch_in h) seg) (lengths_found (fetch_in h) seg) ≡ true
+    whole = ap (is_read_whole (reads_of (fetch_in h) seg)) sized ∙ ap (λ b. b && true) reading
 
 -- how it goes on behind a request that is done
 pub come_end : (h : Here) (len size : ℕ) (held : List (ℕ × List ℕ)) (bytes : List ℕ) (before after : Checker) (how : Come) → FetchingAt h

@@ -1,6 +1,6 @@
 -- The plain layout, tried behind others.
 use Rattle.std.proofs.Common.{◌≡◌, ◌∙◌, ℕ, ◌+◌, ◌-◌, ◌≤◌, ◌<◌, ◌^◌, ◌==◌, Bool, true, false, not, List, [], ◌∷◌, ◌++◌, length, refl, sym, ap, subst, arith, append_assoc, append-nil, length-append, eq-eqb}
-use Rattle.std.specs.Prelude.{◌&&◌, Option, Some, None, unwrap_or, filter, Result, Ok, Err}
+use Rattle.std.specs.Prelude.{◌&&◌, if◌then◌else◌, bytes_eq, Option, Some, None, unwrap_or, filter, Result, Ok, Err}
 use Rattle.std.specs.Bool.{MatchBool}
 use Rattle.std.specs.List.{list_all, filter_map, concat}
 use Rattle.std.proofs.lemmas.List.Elements.{filter_map-append}
@@ -25,22 +25,23 @@ use Rattle.task_run.specs.declared.setup.Setup.{Setup}
 use Rattle.task_run.specs.Names.{part_of, fetch_file}
 use Rattle.task_run.specs.Stores.{is_size}
 use Rattle.task_run.specs.Requests.{AsksFor, AskInOrder}
-use Rattle.task_run.specs.Reads.{lengths_found, reads_of, read_of, bytes_of, is_known, is_reading, takes_away, is_last_call_of, is_removed, is_renaming, appended, piece_of}
+use Rattle.task_run.specs.Reads.{lengths_found, reads_of, read_of, bytes_of, is_known, is_reading, takes_away, is_last_call_of, is_removed, is_renaming, appended, holds, piece_of}
 use Rattle.task_run.specs.Discipline.{are_found}
-use Rattle.task_run.specs.Gets.{fetch_request, begins, since_begin, lengths_at_begin, wanted, is_wrong, bytes_fetched, IsSaid, fit_in, is_got, is_failed, failures, GetAsks, Decides, GetAnswers}
+use Rattle.task_run.specs.Gets.{fetch_request, begins, since_begin, lengths_at_begin, wanted, is_wrong, is_read_whole, bytes_fetched, IsSaid, fit_in, is_got, is_failed, failures, GetAsks, Decides, GetAnswers}
 use Rattle.task_run.specs.Ran.{answered, is_verdict_of, undone_answer}
 use Rattle.task_run.specs.Fetching.{Fetches, Files3, Outcome, if_made, discarded, kept, Move, NotMade, NotCopied, NotRemoved, Settled, move_calls, move_result, MoveIs, Fetch, NotSized, WrongSize, Moved, fetch_calls, fetch_result, FetchIs}
 use Rattle.task_get.specs.Fronts.{Place, Turn, fetch_at, is_apart, is_calm, Tried, Sound, Within, Between, Ended}
 use Rattle.task_get.specs.LayoutRuns.{place_at, WholeRan}
 use Rattle.fetch_copy.proofs.CopyLaws.{gained_nothing}
 use Rattle.task_run.proofs.Texts.{apart, same_name}
+use Rattle.task_run.proofs.HeldLaws.{is_growing, holds_more, holds_grown}
 use Rattle.task_get.proofs.LastCalls.{after_last-at}
 use Rattle.task_get.proofs.AskLaws.{count_all}
 use Rattle.task_run.proofs.GetCallsLaws.{Fair, fair_size, fair_create, fair_remove_part, fair_rename, known_add, known_skip}
 use Rattle.task_get.proofs.GetEnds.{Facts, moved_facts, whole_reading, moved_calls, regrouped, last_call}
 use Rattle.task_get.proofs.ReadLaws.{begin_lengths, reads_behind, lengths_behind}
 use Rattle.task_get.proofs.GetFronts.{Fore, asks_of, ended_finished}
-use Rattle.task_get.proofs.GetDecides.{Last, answers_misfit, answers_said}
+use Rattle.task_get.proofs.GetDecides.{Last, answers_misfit, answers_said, Becomes}
 use Rattle.task_get.proofs.GetWithin.{own_apart, none_failed, sound_asked}
 use Rattle.task_get.proofs.GetRuns.{wrong_if}
 use Rattle.task_run.proofs.Lists.{all_taken}
@@ -123,10 +124,16 @@ plain_wrong p past done tried x calls seg m f s l g removed =
     answers_misfit (record { place = p; past = past; done = done; tried = tried; chunk = 0; rest = [] }) (x ∷ []) (whole_part p.key ∷ []) (calls ++ seg) m (plain_last p past done tried x calls seg f g)
     (ap (λ r. filter (is_wrong p.key.size (whole_part p.key)) r ++ []) found ∙ rw w refl) removed
 
+-- these bytes were appended to part, which was made anew and holds nothing else, and was renamed to the file
+record IsMoved (p : Place) (calls : List Call) (bytes : List ℕ) : Type 0 where
+  pub moved : appended (part_of p.file) (since_begin p.file calls) ≡ bytes
+  pub content : (before : List ℕ) → holds (part_of p.file) (Some before) calls ≡ Some bytes
+  pub renamed : is_last_call_of (part_of p.file) (is_renaming (part_of p.file) p.file) calls ≡ true
+
 plain_said : (p : Place) (past : List Asking) (done : List (List Part)) (tried : List ℕ) (x : Asking) (calls seg : List Call) (m : ℕ) (bytes : List ℕ) (answer : Answer) → FetchingAt (plain_here p past done tried x calls)
     → Moving (plain_here p past done tried x calls) seg → is_size p.key.size m ≡ true → lengths_found (fetch_at p (length past + 1)) seg ≡ m ∷ [] → bytes_of (reads_of (fetch_at p (length past + 1)) seg) ≡ bytes
     → is_reading 0 m (reads_of (fetch_at p (length past + 1)) seg) ≡ true → IsSaid p.key bytes (fit_in answer)
-    → MatchBool (is_got answer) ((appended (part_of p.file) (since_begin p.file (calls ++ seg)) ≡ bytes) × (is_last_call_of (part_of p.file) (is_renaming (part_of p.file) p.file) (calls ++ seg) ≡ true))
+    → MatchBool (is_got answer) (IsMoved p (calls ++ seg) bytes)
     (is_removed (part_of p.file) (calls ++ seg) ≡ true)
     → GetAnswers p.setup p.task p.key p.sizes p.file (past ++ x ∷ []) (calls ++ seg) answer
 plain_said p past done tried x calls seg m bytes answer f g s l b whole said part =
@@ -135,7 +142,7 @@ plain_said p past done tried x calls seg m bytes answer f g s l b whole said par
     (count_all is_done (x ∷ []) (rw f.is_done_now refl))
     (let P : List ℕ → Type 0 = λ z. IsSaid p.key z (fit_in answer) in subst P (sym fetched) said)
     refl
-    (ap (λ r. list_all (λ k. is_reading 0 k r) (lengths_found name (calls ++ seg)) && true) reads ∙ ap (λ r. list_all (λ k. is_reading 0 k (reads_of name seg)) r && true) found ∙ rw whole refl)
+    (ap (λ r. is_read_whole r (lengths_found name (calls ++ seg)) && true) reads ∙ ap (λ r. is_read_whole (reads_of name seg) r && true) found ∙ rw whole refl)
     (by_test (is_got answer) part)
   where
     name : List ℕ
@@ -157,9 +164,9 @@ plain_said p past done tried x calls seg m bytes answer f g s l b whole said par
     fetched = append-nil (bytes_of (reads_of (fetch_at p (length past + 1)) (calls ++ seg))) ∙ ap bytes_of reads ∙ b
 
     by_test : (t : Bool)
-        → MatchBool t ((appended (part_of p.file) (since_begin p.file (calls ++ seg)) ≡ bytes) × (is_last_call_of (part_of p.file) (is_renaming (part_of p.file) p.file) (calls ++ seg) ≡ true)) (is_removed (part_of p.file) (calls ++ seg) ≡ true)
-        → MatchBool t ((appended (part_of p.file) (since_begin p.file (calls ++ seg)) ≡ bytes_fetched p.setup p.task (calls ++ seg) (length past + 1) (x ∷ [])) × (is_last_call_of (part_of p.file) (is_renaming (part_of p.file) p.file) (calls ++ seg) ≡ true)) (is_removed (part_of p.file) (calls ++ seg) ≡ true)
-    by_test true k = (k.0 ∙ sym fetched, k.1)
+        → MatchBool t (IsMoved p (calls ++ seg) bytes) (is_removed (part_of p.file) (calls ++ seg) ≡ true)
+        → MatchBool t (Becomes (record { place = p; past = past; done = done; tried = tried; chunk = 0; rest = [] }) (x ∷ []) (calls ++ seg)) (is_removed (part_of p.file) (calls ++ seg) ≡ true)
+    by_test true k = record { moved = k.moved ∙ sym fetched; content = λ before found. k.content before ∙ ap Some (sym fetched); renamed = k.renamed }
     by_test false k = k
 
 -- ---- behind the whole copy: the last call
@@ -176,6 +183,7 @@ record LastOfPart (h : Here) (y : Call) : Type 0 where
   pub no_read : reads_of (fetch_in h) (y ∷ []) ≡ []
   pub no_piece : filter_map (piece_of (part_in h)) (y ∷ []) ≡ []
   pub no_begin : list_all (λ call. not (begins (part_in h) call)) (y ∷ []) ≡ true
+  pub grows : list_all (is_growing (part_in h)) (y ∷ []) ≡ true
 
 copied_of : (h : Here) (n : ℕ) (pieces : List (List ℕ)) (ending : List Call) (y : Call) → FetchingAt h → EndsWhole (fetch_in h) (length (concat pieces)) (n - length (concat pieces)) ending → LastOfPart h y → Copied h n pieces ending y
 copied_of h n pieces ending y f w o = record {
@@ -184,7 +192,7 @@ copied_of h n pieces ending y f w o = record {
   facts = let P : List Call → Type 0 = λ l. Facts (file_in h) (fetch_in h) pieces ending l in
       subst P (sym (append_assoc (copies_in h pieces) (ending ++ Remove (fetch_in h) (Ok tt) ∷ []) (y ∷ []) ∙ ap (λ l. copies_in h pieces ++ l) (append_assoc ending (Remove (fetch_in h) (Ok tt) ∷ []) (y ∷ []))))
       (moved_facts (file_in h) (fetch_in h) ((h.calls ++ plain_pre h n) ++ copies_in h pieces) pieces ending (Remove (fetch_in h) (Ok tt) ∷ y ∷ []) (apart_in h)
-      (tail_in h (plain_pre h n) (n - length (concat pieces)) pieces ending (plain_ready h n f) w) o.no_length o.no_read o.no_piece o.no_begin);
+      (tail_in h (plain_pre h n) (n - length (concat pieces)) pieces ending (plain_ready h n f) w) o.no_length o.no_read o.no_piece o.no_begin o.grows);
 }
 
 plain_settled : (p : Place) (past : List Asking) (done : List (List Part)) (tried : List ℕ) (x : Asking) (calls : List Call) (n : ℕ) (pieces : List (List ℕ)) (ending : List Call) (y : Call) (answer : Answer)
@@ -229,12 +237,26 @@ plain_settled p past done tried x calls n pieces ending y answer f w most o fair
         ap (since_begin p.file) (sym (append_assoc calls (Size (fetch_in h) (Ok n) ∷ []) (Create (part_in h) (Ok tt) ∷ (moved_calls p.file (fetch_in h) pieces ending ++ y ∷ []))))
         ∙ after_last-at (begins (part_in h)) (calls ++ Size (fetch_in h) (Ok n) ∷ []) (Create (part_in h) (Ok tt)) (moved_calls p.file (fetch_in h) pieces ending ++ y ∷ []) c.facts.no_begin (same_name (part_in h))
 
+    content : (before : List ℕ) → holds (part_of p.file) (Some before) (calls ++ seg) ≡ Some (concat pieces)
+    content before =
+        holds_more (part_of p.file) (Some before) calls seg
+        ∙ ap (λ o. holds (part_of p.file) o (moved_calls p.file (fetch_in h) pieces ending ++ y ∷ [])) (made (holds (part_of p.file) (Some before) calls))
+        ∙ holds_grown (part_of p.file) [] (moved_calls p.file (fetch_in h) pieces ending ++ y ∷ []) c.facts.grown
+        ∙ ap Some c.facts.written
+      where
+        made : (o : Option (List ℕ)) → (if bytes_eq (part_of p.file) (part_of p.file) then Some [] else o) ≡ Some []
+        made o = rw (same_name (part_of p.file)) refl
+
     at_end : calls ++ seg ≡ (calls ++ front) ++ y ∷ []
     at_end = sym (append_assoc calls front (y ∷ []))
 
     by_test : (t : Bool) → MatchBool t (is_last_call_of (part_of p.file) (is_renaming (part_of p.file) p.file) ((calls ++ front) ++ y ∷ []) ≡ true) (is_removed (part_of p.file) ((calls ++ front) ++ y ∷ []) ≡ true)
-        → MatchBool t ((appended (part_of p.file) (since_begin p.file (calls ++ seg)) ≡ concat pieces) × (is_last_call_of (part_of p.file) (is_renaming (part_of p.file) p.file) (calls ++ seg) ≡ true)) (is_removed (part_of p.file) (calls ++ seg) ≡ true)
-    by_test true k = (ap (appended (part_of p.file)) since ∙ c.facts.written, ap (is_last_call_of (part_of p.file) (is_renaming (part_of p.file) p.file)) at_end ∙ k)
+        → MatchBool t (IsMoved p (calls ++ seg) (concat pieces)) (is_removed (part_of p.file) (calls ++ seg) ≡ true)
+    by_test true k = record {
+      moved = ap (appended (part_of p.file)) since ∙ c.facts.written;
+      content = content;
+      renamed = ap (is_last_call_of (part_of p.file) (is_renaming (part_of p.file) p.file)) at_end ∙ k;
+    }
     by_test false k = ap (is_removed (part_of p.file)) at_end ∙ k
 
 -- ---- all ways
@@ -253,13 +275,13 @@ plain_removed : (p : Place) (past : List Asking) (done : List (List Part)) (trie
 plain_removed p past done tried x calls n pieces ending (Ok tt') answer f w most s said bad by =
     let h = plain_here p past done tried x calls in
     let y : Call = Remove (part_of p.file) (Ok tt') in
-    plain_settled p past done tried x calls n pieces ending y answer f w most (record { no_length = refl; no_read = refl; no_piece = refl; no_begin = refl }) (fair_remove_part p.file (fetch_in h) (apart_in h) (Ok tt'))
+    plain_settled p past done tried x calls n pieces ending y answer f w most (record { no_length = refl; no_read = refl; no_piece = refl; no_begin = refl; grows = refl }) (fair_remove_part p.file (fetch_in h) (apart_in h) (Ok tt'))
     (rw (same_name (part_of p.file)) refl) refl (λ m b d. refl) refl s said by
     (rw bad (last_call (part_of p.file) (takes_away (part_of p.file)) (calls ++ (plain_pre h n ++ moved_calls p.file (fetch_in h) pieces ending)) y (same_name (part_of p.file)) ∙ same_name (part_of p.file)))
 plain_removed p past done tried x calls n pieces ending (Err E.Missing) answer f w most s said bad by =
     let h = plain_here p past done tried x calls in
     let y : Call = Remove (part_of p.file) (Err E.Missing) in
-    plain_settled p past done tried x calls n pieces ending y answer f w most (record { no_length = refl; no_read = refl; no_piece = refl; no_begin = refl }) (fair_remove_part p.file (fetch_in h) (apart_in h) (Err E.Missing))
+    plain_settled p past done tried x calls n pieces ending y answer f w most (record { no_length = refl; no_read = refl; no_piece = refl; no_begin = refl; grows = refl }) (fair_remove_part p.file (fetch_in h) (apart_in h) (Err E.Missing))
     (rw (same_name (part_of p.file)) refl) (rw (same_name (part_of p.file)) refl) (λ m b d. refl) refl s said by
     (rw bad (last_call (part_of p.file) (takes_away (part_of p.file)) (calls ++ (plain_pre h n ++ moved_calls p.file (fetch_in h) pieces ending)) y (same_name (part_of p.file)) ∙ same_name (part_of p.file)))
 plain_removed p past done tried x calls n pieces ending (Err E.Failed) answer f w most s said bad by =
@@ -279,21 +301,21 @@ plain_kept : (p : Place) (past : List Asking) (done : List (List Part)) (tried :
 plain_kept p past done tried x calls n pieces ending (Ok tt') f w most s said =
     let h = plain_here p past done tried x calls in
     let y : Call = Rename (part_of p.file) p.file (Ok tt') in
-    let known = (copied_of h n pieces ending y f w (record { no_length = refl; no_read = refl; no_piece = refl; no_begin = refl })).known in
-    plain_settled p past done tried x calls n pieces ending y A.Got f w most (record { no_length = refl; no_read = refl; no_piece = refl; no_begin = refl }) (fair_rename p.file (fetch_in h) (apart_in h) (Ok tt'))
+    let known = (copied_of h n pieces ending y f w (record { no_length = refl; no_read = refl; no_piece = refl; no_begin = refl; grows = rw (apart_in h).file_part refl })).known in
+    plain_settled p past done tried x calls n pieces ending y A.Got f w most (record { no_length = refl; no_read = refl; no_piece = refl; no_begin = refl; grows = rw (apart_in h).file_part refl }) (fair_rename p.file (fetch_in h) (apart_in h) (Ok tt'))
     (rw known refl) refl (λ m b d. refl) refl s said (λ X z. z)
     (last_call (part_of p.file) (is_renaming (part_of p.file) p.file) (calls ++ (plain_pre h n ++ moved_calls p.file (fetch_in h) pieces ending)) y (rw (same_name (part_of p.file)) refl) ∙ rw (same_name (part_of p.file), same_name p.file) refl)
 plain_kept p past done tried x calls n pieces ending (Err E.Missing) f w most s said =
     let h = plain_here p past done tried x calls in
     let y : Call = Rename (part_of p.file) p.file (Err E.Missing) in
-    let known = (copied_of h n pieces ending y f w (record { no_length = refl; no_read = refl; no_piece = refl; no_begin = refl })).known in
+    let known = (copied_of h n pieces ending y f w (record { no_length = refl; no_read = refl; no_piece = refl; no_begin = refl; grows = rw (apart_in h).file_part refl })).known in
     let P : List Call → Type 0 = λ l. EndedAt h l A.NoFile in
     subst P (append_assoc (plain_pre h n) (moved_calls p.file (fetch_in h) pieces ending) (y ∷ []))
     (stopped_at h (plain_pre h n ++ moved_calls p.file (fetch_in h) pieces ending) y A.NoFile f (plain_moving h n pieces ending f w) (fair_rename p.file (fetch_in h) (apart_in h) (Err E.Missing)) (rw known refl) refl (λ m b d. refl) refl)
 plain_kept p past done tried x calls n pieces ending (Err E.Failed) f w most s said =
     let h = plain_here p past done tried x calls in
     let y : Call = Rename (part_of p.file) p.file (Err E.Failed) in
-    let known = (copied_of h n pieces ending y f w (record { no_length = refl; no_read = refl; no_piece = refl; no_begin = refl })).known in
+    let known = (copied_of h n pieces ending y f w (record { no_length = refl; no_read = refl; no_piece = refl; no_begin = refl; grows = rw (apart_in h).file_part refl })).known in
     let P : List Call → Type 0 = λ l. EndedAt h l A.FileFault in
     subst P (append_assoc (plain_pre h n) (moved_calls p.file (fetch_in h) pieces ending) (y ∷ []))
     (stopped_at h (plain_pre h n ++ moved_calls p.file (fetch_in h) pieces ending) y A.FileFault f (plain_moving h n pieces ending f w) (fair_rename p.file (fetch_in h) (apart_in h) (Err E.Failed)) (rw known refl) refl (λ m b d. refl) refl)

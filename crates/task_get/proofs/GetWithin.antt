@@ -1,6 +1,6 @@
 -- A get within a layout: a part more that is asked for, and the calls that fetch it.
 use Rattle.std.proofs.Common.{◌≡◌, ◌∙◌, ℕ, ◌+◌, ◌-◌, ◌<◌, ◌^◌, true, not, List, [], ◌∷◌, ◌++◌, length, map, take, refl, sym, ap, subst, arith, append_assoc, append-nil, length-append}
-use Rattle.std.specs.Prelude.{◌&&◌, filter, Option, is_none}
+use Rattle.std.specs.Prelude.{◌&&◌, filter, Option, Some, is_none, is_some}
 use Rattle.std.specs.List.{list_all, filter_map}
 use Rattle.std.proofs.lemmas.List.{map-append, take-append-le}
 use Rattle.std.proofs.Math.Seq.{take-append_seam}
@@ -14,12 +14,13 @@ use Rattle.task_asker.specs.Askings.{Asking}
 use Rattle.task_run.specs.Stops.{is_done, call_stop, all_but_last}
 use Rattle.task_run.specs.Names.{part_of, fetch_files}
 use Rattle.task_run.specs.Requests.{AsksFor, AskInOrder, rounds, RoundsAsk}
-use Rattle.task_run.specs.Reads.{length_or_none, lengths_found, reads_of, bytes_of, is_run, is_reading, is_known, appended}
+use Rattle.task_run.specs.Reads.{length_or_none, lengths_found, reads_of, bytes_of, is_run, is_known, appended, holds}
 use Rattle.task_run.specs.Discipline.{are_found}
-use Rattle.task_run.specs.Gets.{fetch_request, begins, lengths_at_begin, wanted, is_failed, held_reads, are_read, are_read_whole, bytes_fetched, wrong_lengths, is_wrong, GetAsks}
+use Rattle.task_run.specs.Gets.{fetch_request, begins, lengths_at_begin, wanted, is_failed, held_reads, are_read, is_read_whole, are_read_whole, bytes_fetched, wrong_lengths, is_wrong, GetAsks}
 use Rattle.task_run.specs.Runs.{fetched_files}
 use Rattle.task_get.specs.Fronts.{Place, Turn, first_in, fetch_at, keys_in, is_calm, is_apart, Sound, are_free, Within, Kept}
 use Rattle.task_run.proofs.Texts.{apart}
+use Rattle.task_run.proofs.HeldLaws.{is_growing, told, holds_more, so_front, holds_grown}
 use Rattle.task_get.proofs.LastCalls.{list_all-append}
 use Rattle.task_get.proofs.AskLaws.{asks_done, asks_last}
 use Rattle.task_run.proofs.GetCallsLaws.{Fair, found_more}
@@ -95,6 +96,7 @@ sound_asked p asked x calls s few = record {
       (sub_cons (part_of p.file) (fetched_files p.setup p.task 1 asked) (fetched_files p.setup p.task 1 (asked ++ x ∷ [])) (more_fetched p asked x)) s.lengths;
   found = s.found;
   held = s.held;
+  told = s.told;
   few = let e : length (asked ++ x ∷ []) ≡ length asked + 1 = length-append asked (x ∷ []) in omega (arith, e, few);
   fresh = λ m above below. let e : length (asked ++ x ∷ []) ≡ length asked + 1 = length-append asked (x ∷ []) in s.fresh m (omega (arith, e, above)) below;
 }
@@ -109,6 +111,7 @@ sound_fetch p asked x n calls seg s is few d g = record {
       (sub_cons (part_of p.file) (fetch_at p n ∷ []) (fetched_files p.setup p.task 1 (asked ++ x ∷ [])) owned) g.fair.lengths);
   found = found_more (part_of p.file) [] calls seg s.found g.found;
   held = held_run p.file calls seg g.fair.no_read s.held;
+  told = λ before. ap is_some (holds_more (part_of p.file) (Some before) calls seg) ∙ told (part_of p.file) (holds (part_of p.file) (Some before) calls) seg g.fair.lasting (s.told before);
   few = before.few;
   fresh = λ m above below. list_all-append _ calls seg (before.fresh m above below) (g.others m below (λ e. let l : length (asked ++ x ∷ []) ≡ length asked + 1 = length-append asked (x ∷ []) in omega (arith, e, is, above, l)));
 }
@@ -280,11 +283,11 @@ within_next u cur got left part x n calls seg f g run free right = record {
 
 pub kept_next : (u : Turn) (cur : List Asking) (got left : List Part) (part : Part) (x : Asking) (n : ℕ) (calls seg : List Call) (held : List (ℕ × List ℕ)) (bytes more : List ℕ)
     → Fetching u cur got left part x n calls → Kept u cur got (part ∷ left) calls held bytes → Segment u.place n calls seg
-    → list_all (λ call. not (begins (part_of u.place.file) call)) seg ≡ true → is_known (part_of u.place.file) (calls ++ seg) ≡ true
+    → list_all (λ call. not (begins (part_of u.place.file) call)) seg ≡ true → list_all (is_growing (part_of u.place.file)) seg ≡ true → is_known (part_of u.place.file) (calls ++ seg) ≡ true
     → bytes_of (reads_of (fetch_at u.place n) seg) ≡ more → appended (part_of u.place.file) seg ≡ more
-    → list_all (λ k. is_reading 0 k (reads_of (fetch_at u.place n) seg)) (lengths_found (fetch_at u.place n) seg) ≡ true
+    → is_read_whole (reads_of (fetch_at u.place n) seg) (lengths_found (fetch_at u.place n) seg) ≡ true
     → Kept u (cur ++ x ∷ []) (got ++ part ∷ []) left (calls ++ seg) held (bytes ++ more)
-kept_next u cur got left part x n calls seg held bytes more f k g no_begin known bs moved whole = record {
+kept_next u cur got left part x n calls seg held bytes more f k g no_begin grown known bs moved whole = record {
   begun = ap length (begin_lengths u.place.file calls seg g.fair.no_length) ∙ k.begun;
   known = known;
   held_are = held_more u.place.file calls seg no_begin ∙ rw g.fair.no_read (append-nil (held_reads u.place.file calls)) ∙ k.held_are;
@@ -296,12 +299,17 @@ kept_next u cur got left part x n calls seg held bytes more f k g no_begin known
       ∙ ap (λ r. bytes ++ (bytes_of r ++ [])) (reads_behind (fetch_at u.place n) calls seg own)
       ∙ ap (λ l. bytes ++ l) (append-nil (bytes_of (reads_of (fetch_at u.place n) seg)) ∙ bs);
   moved = appended_more u.place.file calls seg no_begin ∙ ap (λ l. l ++ appended (part_of u.place.file) seg) k.moved ∙ ap (λ l. bytes ++ l) moved;
+  content = λ before found.
+      holds_more (part_of u.place.file) (Some before) calls seg
+      ∙ ap (λ o. holds (part_of u.place.file) o seg) (k.content before (so_front (part_of u.place.file) (Some before) calls seg found))
+      ∙ holds_grown (part_of u.place.file) (bytes_of held ++ bytes) seg grown
+      ∙ ap (λ l. Some ((bytes_of held ++ bytes) ++ l)) moved ∙ ap Some (append_assoc (bytes_of held) bytes more);
   whole =
       whole_more u.place.setup u.place.task (first_in u) (calls ++ seg) cur (x ∷ [])
       ∙ ap (λ b. b && are_read_whole u.place.setup u.place.task (calls ++ seg) (first_in u + length cur) (x ∷ [])) (same_whole u.place.setup u.place.task (first_in u) cur calls seg others ∙ k.whole)
       ∙ ap (λ m. are_read_whole u.place.setup u.place.task (calls ++ seg) m (x ∷ [])) (sym f.number)
-      ∙ ap (λ r. list_all (λ j. is_reading 0 j r) (lengths_found (fetch_at u.place n) (calls ++ seg)) && true) (reads_behind (fetch_at u.place n) calls seg own)
-      ∙ ap (λ l. list_all (λ j. is_reading 0 j (reads_of (fetch_at u.place n) seg)) l && true) (lengths_behind (fetch_at u.place n) calls seg own)
+      ∙ ap (λ r. is_read_whole r (lengths_found (fetch_at u.place n) (calls ++ seg)) && true) (reads_behind (fetch_at u.place n) calls seg own)
+      ∙ ap (λ l. is_read_whole (reads_of (fetch_at u.place n) seg) l && true) (lengths_behind (fetch_at u.place n) calls seg own)
       ∙ rw whole refl;
 }
   where

@@ -13,9 +13,9 @@ use Rattle.task_asker.specs.Askings.{Asking}
 use Rattle.task_run.specs.declared.setup.Setup.{Setup}
 use Rattle.task_run.specs.Stops.{is_done}
 use Rattle.task_run.specs.Names.{fetch_file, fetch_files, part_of, is_among}
-use Rattle.task_run.specs.Reads.{length_or_none, length_found, lengths_found, read_of, reads_of, bytes_of, is_run, is_reading, piece_of, appended}
+use Rattle.task_run.specs.Reads.{length_or_none, length_found, lengths_found, read_of, reads_of, bytes_of, is_run, piece_of, appended}
 use Rattle.task_run.specs.Discipline.{are_among, names_in, name_only, changes_as_result, size_among, size_of_only}
-use Rattle.task_run.specs.Gets.{begins, lengths_at_begin, since_begin, held_reads, bytes_fetched, are_read, are_read_whole, wrong_lengths, is_wrong}
+use Rattle.task_run.specs.Gets.{begins, lengths_at_begin, since_begin, held_reads, bytes_fetched, are_read, is_read_whole, are_read_whole, wrong_lengths, is_wrong}
 use Rattle.task_run.specs.Runs.{fetched_files}
 use Rattle.task_get.specs.Fronts.{is_apart}
 use Rattle.task_get.proofs.LastCalls.{after_last-at, after_last-more, Last, last_of}
@@ -193,9 +193,9 @@ same_whole setup t n (a ∷ more) xs ys h =
     let one : reads_of (fetch_file setup t n) (xs ++ ys) ≡ reads_of (fetch_file setup t n) xs = reads_before (fetch_file setup t n) xs ys (first_apart setup t n (length more) ys g) in
     let long : lengths_found (fetch_file setup t n) (xs ++ ys) ≡ lengths_found (fetch_file setup t n) xs = lengths_before (fetch_file setup t n) xs ys (first_apart setup t n (length more) ys g) in
     let rest : are_read_whole setup t (xs ++ ys) (n + 1) more ≡ are_read_whole setup t xs (n + 1) more = same_whole setup t (n + 1) more xs ys (rest_apart setup t n (length more) ys g) in
-    ap (λ r. list_all (λ k. is_reading 0 k r) (lengths_found (fetch_file setup t n) (xs ++ ys)) && are_read_whole setup t (xs ++ ys) (n + 1) more) one
-    ∙ ap (λ l. list_all (λ k. is_reading 0 k (reads_of (fetch_file setup t n) xs)) l && are_read_whole setup t (xs ++ ys) (n + 1) more) long
-    ∙ ap (λ b. list_all (λ k. is_reading 0 k (reads_of (fetch_file setup t n) xs)) (lengths_found (fetch_file setup t n) xs) && b) rest
+    ap (λ r. is_read_whole r (lengths_found (fetch_file setup t n) (xs ++ ys)) && are_read_whole setup t (xs ++ ys) (n + 1) more) one
+    ∙ ap (λ l. is_read_whole (reads_of (fetch_file setup t n) xs) l && are_read_whole setup t (xs ++ ys) (n + 1) more) long
+    ∙ ap (λ b. is_read_whole (reads_of (fetch_file setup t n) xs) (lengths_found (fetch_file setup t n) xs) && b) rest
 
 pub same_wrong : (setup : Setup) (t : ℕ) (size : Option ℕ) (n : ℕ) (parts : List Part) (xs ys : List Call) → Apart setup t n (length parts) ys
     → wrong_lengths setup t size (xs ++ ys) n parts ≡ wrong_lengths setup t size xs n parts
@@ -238,9 +238,9 @@ pub whole_more : (setup : Setup) (t n : ℕ) (calls : List Call) (xs ys : List A
 whole_more setup t n calls [] ys = let e : n + 0 ≡ n = omega arith in ap (λ k. are_read_whole setup t calls k ys) (sym e)
 whole_more setup t n calls (x ∷ xs) ys =
     let e : (n + 1) + length xs ≡ n + length (x ∷ xs) = omega arith in
-    ap (λ b. list_all (λ k. is_reading 0 k (reads_of (fetch_file setup t n) calls)) (lengths_found (fetch_file setup t n) calls) && b)
+    ap (λ b. is_read_whole (reads_of (fetch_file setup t n) calls) (lengths_found (fetch_file setup t n) calls) && b)
     (whole_more setup t (n + 1) calls xs ys ∙ ap (λ k. are_read_whole setup t calls (n + 1) xs && are_read_whole setup t calls k ys) e)
-    ∙ both_and (list_all (λ k. is_reading 0 k (reads_of (fetch_file setup t n) calls)) (lengths_found (fetch_file setup t n) calls)) (are_read_whole setup t calls (n + 1) xs) (are_read_whole setup t calls (n + length (x ∷ xs)) ys)
+    ∙ both_and (is_read_whole (reads_of (fetch_file setup t n) calls) (lengths_found (fetch_file setup t n) calls)) (are_read_whole setup t calls (n + 1) xs) (are_read_whole setup t calls (n + length (x ∷ xs)) ys)
 
 pub wrong_more : (setup : Setup) (t : ℕ) (size : Option ℕ) (calls : List Call) (n : ℕ) (xs ys : List Part)
     → wrong_lengths setup t size calls n (xs ++ ys) ≡ wrong_lengths setup t size calls n xs ++ wrong_lengths setup t size calls (n + length xs) ys

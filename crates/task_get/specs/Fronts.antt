@@ -1,5 +1,5 @@
 -- How far a get has come, layout by layout.
-use Rattle.std.specs.Prelude.{ℕ, ◌≡◌, ◌≤◌, ◌<◌, ◌^◌, ◌+◌, ◌-◌, ◌||◌, not, Bool, true, List, [], ◌∷◌, ◌++◌, length, map, is_none, bytes_eq, unwrap_or}
+use Rattle.std.specs.Prelude.{ℕ, ◌≡◌, ◌≤◌, ◌<◌, ◌^◌, ◌+◌, ◌-◌, ◌||◌, not, Bool, true, List, [], ◌∷◌, ◌++◌, length, map, Some, is_none, is_some, bytes_eq, unwrap_or}
 use Rattle.std.specs.List.{list_all}
 use Rattle.ann_key.specs.Keys.{Parts}
 use Rattle.chunk_plan.specs.Layouts.{Part}
@@ -12,7 +12,7 @@ use Rattle.task_run.specs.declared.setup.Setup.{Setup}
 use Rattle.task_run.specs.Stops.{is_done, asking_stop, call_stop, is_stop_last, stops_of, AnsweredBy}
 use Rattle.task_run.specs.Names.{fetch_file, fetch_files, part_of}
 use Rattle.task_run.specs.Requests.{rounds, AskInOrder, RoundsAsk}
-use Rattle.task_run.specs.Reads.{is_known, is_run, is_reading, appended}
+use Rattle.task_run.specs.Reads.{is_known, is_run, is_reading, bytes_of, appended, holds, are_found_so}
 use Rattle.task_run.specs.Discipline.{name_only, changes_as_result, size_of_only, are_found}
 use Rattle.task_run.specs.Gets.{fetch_request, lengths_at_begin, wanted, is_failed, failures, asked_last, since_begin, held_reads, bytes_fetched, are_read, are_read_whole, wrong_lengths, GetAsks, GetAnswers}
 use Rattle.task_run.specs.Runs.{GetCalls, fetched_files}
@@ -51,13 +51,15 @@ pub record Tried (p : Place) (past : List Asking) (done : List (List Part)) (tri
       → RoundsAsk (fetch_request p.setup p.task) 1 (map keys_in done ++ more) (rounds (past ++ next))
   pub last : (next : List Asking) → list_all (λ a. not (is_failed a)) next ≡ true → asked_last (past ++ next) ≡ next
 
--- The calls name and change what they may, in the order that they may; and none of a file that is fetched later.
+-- The calls name and change what they may, in the order that they may; and none of a file that is fetched later. What part holds is known
+-- behind them where it was before.
 pub record Sound (p : Place) (asked : List Asking) (calls : List Call) : Type 0 where
   pub names : name_only (p.file ∷ part_of p.file ∷ fetch_files p.setup p.task (length asked)) calls ≡ true
   pub changes : list_all (changes_as_result p.file (fetch_files p.setup p.task (length asked))) calls ≡ true
   pub lengths : size_of_only (part_of p.file ∷ fetched_files p.setup p.task 1 asked) calls ≡ true
   pub found : are_found (part_of p.file) [] calls ≡ true
   pub held : is_run 0 (held_reads p.file calls) ≡ true
+  pub told : (before : List ℕ) → is_some (holds (part_of p.file) (Some before) calls) ≡ true
   pub few : length asked < 2 ^ 64
   pub fresh : (n : ℕ) → length asked < n → n < 2 ^ 64 → list_all (is_apart (fetch_at p n)) calls ≡ true
 
@@ -106,7 +108,8 @@ abbrev pub begin_of : Parts → List Part → ℕ
 begin_of key [] = unwrap_or key.size 0
 begin_of key (part ∷ more) = part.from
 
--- Part holds what it held at the layout's begin, which was read, and what was fetched since.
+-- Part holds what it held at the layout's begin, which was read, and what was fetched since: where all that was found of it is so, whatever
+-- it held before the task, these bytes and no others.
 pub record Kept (u : Turn) (cur : List Asking) (got left : List Part) (calls : List Call) (held : List (ℕ × List ℕ)) (bytes : List ℕ) : Type 0 where
   pub begun : length (lengths_at_begin u.place.file calls) ≡ length u.done + 1
   pub known : is_known (part_of u.place.file) calls ≡ true
@@ -114,6 +117,7 @@ pub record Kept (u : Turn) (cur : List Asking) (got left : List Part) (calls : L
   pub held_whole : is_reading 0 (begin_of u.place.key (got ++ left)) held ≡ true
   pub bytes_are : bytes_fetched u.place.setup u.place.task calls (first_in u) cur ≡ bytes
   pub moved : appended (part_of u.place.file) (since_begin u.place.file calls) ≡ bytes
+  pub content : (before : List ℕ) → are_found_so (part_of u.place.file) (Some before) calls ≡ true → holds (part_of u.place.file) (Some before) calls ≡ Some (bytes_of held ++ bytes)
   pub whole : are_read_whole u.place.setup u.place.task calls (first_in u) cur ≡ true
 
 -- The get has ended with this answer.

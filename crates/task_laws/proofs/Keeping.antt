@@ -19,8 +19,8 @@ use Rattle.task_run.specs.Stops.{is_done, last_failed}
 use Rattle.task_run.specs.Names.{fetch_file}
 use Rattle.task_run.specs.Requests.{AskInOrder}
 use Rattle.task_run.specs.Layouts.{chunk_sizes, sizes_tried, parts_of_layout, keys_of_layout}
-use Rattle.task_run.specs.Reads.{lengths_found, bytes_of}
-use Rattle.task_run.specs.Gets.{fetch_request, lengths_at_begin, wanted, failures, item, asked_last, first_asked, parts_last, is_plain_last, held_reads, bytes_fetched, checked, is_wrong, wrong_lengths, GetAsks, IsChecked, IsKept, DecidesBy, Decides, GetAnswers}
+use Rattle.task_run.specs.Reads.{lengths_found, reads_of, bytes_of}
+use Rattle.task_run.specs.Gets.{fetch_request, lengths_at_begin, wanted, failures, item, asked_last, first_asked, parts_last, is_plain_last, held_reads, bytes_fetched, checked, is_wrong, is_read_whole, are_read_whole, wrong_lengths, GetAsks, IsChecked, IsKept, DecidesBy, Decides, GetAnswers}
 use Rattle.task_run.proofs.Texts.{apart}
 use Rattle.task_run.proofs.GotLaws.{never_failed, get_fits}
 use Rattle.task_laws.specs.Contents.{AreFetched}
@@ -45,10 +45,10 @@ nil_behind : {X : Type 0} (xs ys : List X) → xs ++ ys ≡ [] → ys ≡ []
 nil_behind [] ys e = e
 nil_behind (x ∷ xs) ys e = absurd cc
 
-right_length : (size : ℕ) (part : Part) (content lengths : List ℕ) → lengths ≢ [] → list_all (λ n. n == length content) lengths ≡ true → filter (is_wrong (Some size) part) lengths ≡ []
+right_length : (size : ℕ) (part : Part) (content lengths : List ℕ) (reads : List (ℕ × List ℕ)) → is_read_whole reads lengths ≡ true → list_all (λ n. n == length content) lengths ≡ true → filter (is_wrong (Some size) part) lengths ≡ []
     → length content ≡ part.to - part.from
-right_length size part content [] some l w = absurd (some refl)
-right_length size part content (k ∷ ks) some l w = by_test (k == part.to - part.from) refl w
+right_length size part content [] reads some l w = apart some
+right_length size part content (k ∷ ks) reads some l w = by_test (k == part.to - part.from) refl w
   where
     is : k ≡ length content
     is = eqb-true k (length content) (and_parts (k == length content) (list_all (λ n. n == length content) ks) l).0
@@ -58,19 +58,20 @@ right_length size part content (k ∷ ks) some l w = by_test (k == part.to - par
     by_test false e w = absurd cc
 
 contents_long : (setup : Setup) (t size : ℕ) (calls : List Call) (n : ℕ) (asked : List Asking) (parts : List Part) (contents : List (List ℕ)) → AreFetched setup t calls n asked contents
-    → length asked ≡ length parts → wrong_lengths setup t (Some size) calls n parts ≡ [] → length (concat contents) ≡ total parts
+    → length asked ≡ length parts → wrong_lengths setup t (Some size) calls n parts ≡ [] → are_read_whole setup t calls n asked ≡ true → length (concat contents) ≡ total parts
 unfolding total
-contents_long setup t size calls n [] [] [] f l w = refl
-contents_long setup t size calls n [] (part ∷ parts) contents f l w = absurd (omega arith)
-contents_long setup t size calls n [] [] (c ∷ contents) f l w = absurd f
-contents_long setup t size calls n (a ∷ more) [] contents f l w = absurd (omega arith)
-contents_long setup t size calls n (a ∷ more) (part ∷ parts) [] f l w = absurd f
-contents_long setup t size calls n (a ∷ more) (part ∷ parts) (content ∷ contents) f l w =
+contents_long setup t size calls n [] [] [] f l w r = refl
+contents_long setup t size calls n [] (part ∷ parts) contents f l w r = absurd (omega arith)
+contents_long setup t size calls n [] [] (c ∷ contents) f l w r = absurd f
+contents_long setup t size calls n (a ∷ more) [] contents f l w r = absurd (omega arith)
+contents_long setup t size calls n (a ∷ more) (part ∷ parts) [] f l w r = absurd f
+contents_long setup t size calls n (a ∷ more) (part ∷ parts) (content ∷ contents) f l w r =
+    let whole = and_parts (is_read_whole (reads_of (fetch_file setup t n) calls) (lengths_found (fetch_file setup t n) calls)) (are_read_whole setup t calls (n + 1) more) r in
     let here : filter (is_wrong (Some size) part) (lengths_found (fetch_file setup t n) calls) ≡ [] = nil_front (filter (is_wrong (Some size) part) (lengths_found (fetch_file setup t n) calls)) (wrong_lengths setup t (Some size) calls (n + 1) parts) w in
     let later : wrong_lengths setup t (Some size) calls (n + 1) parts ≡ [] = nil_behind (filter (is_wrong (Some size) part) (lengths_found (fetch_file setup t n) calls)) (wrong_lengths setup t (Some size) calls (n + 1) parts) w in
-    let one : length content ≡ part.to - part.from = right_length size part content (lengths_found (fetch_file setup t n) calls) f.0.looked f.0.shows.lengths here in
+    let one : length content ≡ part.to - part.from = right_length size part content (lengths_found (fetch_file setup t n) calls) (reads_of (fetch_file setup t n) calls) whole.0 f.0.lengths here in
     let count : length more ≡ length parts = omega arith in
-    let rest : length (concat contents) ≡ total parts = contents_long setup t size calls (n + 1) more parts contents f.1 count later in
+    let rest : length (concat contents) ≡ total parts = contents_long setup t size calls (n + 1) more parts contents f.1 count later whole.1 in
     length-append content (concat contents) ∙ omega arith
 
 slices_long : (content : List ℕ) (parts : List Part) → list_all (λ (p : Part). nat_le p.to (length content)) parts ≡ true → length (concat (map (λ (part : Part). slice_range content part.from part.to) parts)) ≡ total parts
@@ -118,7 +119,7 @@ record Decided (setup : Setup) (t : ℕ) (key : Parts) (sizes : List ℕ) (file 
   right : wrong_lengths setup t key.size calls (first_asked asked) (parts_last key sizes (lengths_at_begin file calls) asked) ≡ []
   done : count_by is_done (asked_last asked) ≡ length (parts_last key sizes (lengths_at_begin file calls) asked)
   was : IsChecked setup t key sizes file asked calls A.Got
-  kept : IsKept setup t file asked calls
+  kept : IsKept setup t sizes file asked calls
 
 decided : (setup : Setup) (t : ℕ) (key : Parts) (sizes : List ℕ) (file : List ℕ) (asked : List Asking) (calls : List Call) → GetAnswers setup t key sizes file asked calls A.Got → Decided setup t key sizes file asked calls
 decided setup t key sizes file asked calls r = by_test (failures asked == length sizes) refl r.answered
@@ -205,6 +206,7 @@ keeps setup t key sizes file asked calls contents sized a r fresh f = record {
   in_order = whole.in_order;
   appended_are = d.kept.moved ∙ bytes;
   checked_are = is_all;
+  holds_all = λ before found. d.kept.held before found ∙ ap Some is_all;
   fits = let P : List ℕ → Type 0 = λ x. FitsKey key x in subst P is_all fits;
   renamed = d.kept.renamed;
 }
@@ -239,7 +241,7 @@ keeps setup t key sizes file asked calls contents sized a r fresh f = record {
         let R : Option ℕ → Type 0 = λ o. wrong_lengths setup t o calls (first_asked asked) (parts_last key sizes (lengths_at_begin file calls) asked) ≡ [] in
         let Q : List Part → Type 0 = λ ps. wrong_lengths setup t (Some size) calls (first_asked asked) ps ≡ [] in
         let long : length (concat contents) ≡ total (parts_of_layout key (chunk_last sizes asked)) =
-        contents_long setup t size calls (first_asked asked) (asked_last asked) (parts_of_layout key (chunk_last sizes asked)) contents f (all ∙ keys_long) (subst Q whole.parts (subst R e d.right)) in
+        contents_long setup t size calls (first_asked asked) (asked_last asked) (parts_of_layout key (chunk_last sizes asked)) contents f (all ∙ keys_long) (subst Q whole.parts (subst R e d.right)) d.was.fetched_whole in
         let sum : total (parts_of_layout key (chunk_last sizes asked)) ≡ size =
         ap (λ (o : Option ℕ). total (layout key (unwrap_or o 0) (chunk_last sizes asked))) e ∙ layout_long key size (chunk_last sizes asked) in
         let H : Option ℕ → Type 0 = λ o. HasSize o (length (checked setup t file sizes asked calls)) in

@@ -25,7 +25,7 @@ use Rattle.task_run.specs.declared.setup.Setup.{Setup}
 use Rattle.task_run.specs.Askings.{past_claim, asking_of, askings_from, run_askings, run_notings}
 use Rattle.task_run.specs.Requests.{AsksFor, AskInOrder}
 use Rattle.task_run.specs.Layouts.{sizes_tried, parts_of_layout}
-use Rattle.task_run.specs.Reads.{appended}
+use Rattle.task_run.specs.Reads.{holds}
 use Rattle.task_run.specs.Gets.{fetch_request, asked_last, first_asked}
 use Rattle.task_run.specs.Runs.{is_chunked}
 use Rattle.task_run.proofs.Texts.{apart}
@@ -228,10 +228,10 @@ range_is o setup told journal t u n chunk key content stores one p a s base plac
         (ap (λ (x : Option Parts). (unwrap_or x p.key)) keys) in
         record {
           bytes =
-              ap (λ (b : Bool). if b then appended (file_named s.asks) (told.calls s.task) else told.held s.at) chunking
-              ∙ ap (λ (m : ℕ). appended (file_named s.asks) (told.calls m)) of_task
-              ∙ ap (λ (x : HostMessage). appended (file_named x) (told.calls u)) store.asks
-              ∙ range.bytes
+              ap (λ (b : Bool). if b then unwrap_or (holds (file_named s.asks) None (told.calls s.task)) [] else told.held s.at) chunking
+              ∙ ap (λ (m : ℕ). unwrap_or (holds (file_named s.asks) None (told.calls m)) []) of_task
+              ∙ ap (λ (x : HostMessage). unwrap_or (holds (file_named x) None (told.calls u)) []) store.asks
+              ∙ ap (λ (o : Option (List ℕ)). unwrap_or o []) range.bytes
               ∙ ap (λ (m : ℕ). slice_range content m range.part.to) (sym same.from)
               ∙ ap (λ (m : ℕ). slice_range content p.from m) (sym same.to);
           size = same.size;
@@ -278,6 +278,7 @@ pub keeps_stored_content : KeepsStoredContent
 keeps_stored_content o setup told journal number t u key content stores legal faithful got base one = record {
   appended_are = kept.appended_are ∙ whole;
   checked_are = kept.checked_are ∙ whole;
+  holds_all = λ before found. kept.holds_all before found ∙ ap Some whole;
   fits = let P : List ℕ → Type 0 = λ x. FitsKey key x in subst P whole kept.fits;
   renamed = kept.renamed;
 }

@@ -18,7 +18,7 @@ use Rattle.task_run.specs.Gets.{fetch_request, lengths_at_begin, wanted, asked_l
 use Rattle.task_run.specs.Runs.{TaskRun}
 use Rattle.task_laws.specs.Contents.{Shows, AreFetched}
 use Rattle.task_laws.specs.Changes.{Request}
-use Rattle.task_laws.specs.Faithful.{Told, sent, IsFaithful, IsStoredFor, AreStoredFor, AreLookedAt}
+use Rattle.task_laws.specs.Faithful.{Told, sent, IsFaithful, IsStoredFor, AreStoredFor}
 use Rattle.task_laws.specs.Retrieval.{KeepsStored}
 use Rattle.task_laws.proofs.LastRounds.{LastAsks, last_asks}
 use Rattle.task_laws.proofs.GotEnds.{GotEnds, got_ends}
@@ -40,21 +40,21 @@ shown o setup told journal t n key a s faithful asks stored = by_request a.reque
     by_request request q got = absurd got
 
 all_shown : (o : Opening) (setup : Setup) (told : Told) (journal : List Entry) (t n : ℕ) (keys : List Parts) (asked : List Asking) (stores : List Request) → IsFaithful o setup told journal
-    → AskInOrder (fetch_request setup t) n keys asked → AreStoredFor journal t asked stores → AreLookedAt setup t (told.calls t) n asked
+    → AskInOrder (fetch_request setup t) n keys asked → AreStoredFor journal t asked stores
     → AreFetched setup t (told.calls t) n asked (map (sent o setup told) stores)
-all_shown o setup told journal t n keys [] [] faithful asks stored looked = tt
-all_shown o setup told journal t n keys [] (s ∷ stores) faithful asks stored looked = absurd stored
-all_shown o setup told journal t n keys (a ∷ more) [] faithful asks stored looked = absurd stored
-all_shown o setup told journal t n [] (a ∷ more) (s ∷ stores) faithful asks stored looked = absurd asks
-all_shown o setup told journal t n (key ∷ keys) (a ∷ more) (s ∷ stores) faithful asks stored looked = (
-  record { looked = looked.0; shows = shown o setup told journal t n key a s faithful asks.0 stored.0 },
-  all_shown o setup told journal t (n + 1) keys more stores faithful asks.1 stored.1 looked.1,
+all_shown o setup told journal t n keys [] [] faithful asks stored = tt
+all_shown o setup told journal t n keys [] (s ∷ stores) faithful asks stored = absurd stored
+all_shown o setup told journal t n keys (a ∷ more) [] faithful asks stored = absurd stored
+all_shown o setup told journal t n [] (a ∷ more) (s ∷ stores) faithful asks stored = absurd asks
+all_shown o setup told journal t n (key ∷ keys) (a ∷ more) (s ∷ stores) faithful asks stored = (
+  shown o setup told journal t n key a s faithful asks.0 stored.0,
+  all_shown o setup told journal t (n + 1) keys more stores faithful asks.1 stored.1,
 )
 
 pub keeps_stored : KeepsStored
 keeps_stored o setup told journal number t key stores faithful got =
     got_keeps got.run.task t setup got.run.layouts (run_askings got.run.run) (told.calls t) (run_notings got.run.run) key (map (sent o setup told) stores) got.keyed ran got.afresh
-    (all_shown o setup told journal t (first_asked (run_askings got.run.run)) _ (asked_last (run_askings got.run.run)) stores faithful asks.in_order got.stored got.looked)
+    (all_shown o setup told journal t (first_asked (run_askings got.run.run)) _ (asked_last (run_askings got.run.run)) stores faithful asks.in_order got.stored)
   where
     ran : TaskRun got.run.task t setup got.run.layouts (run_askings got.run.run) (told.calls t) (run_notings got.run.run) A.Got
     ran = let P : Answer → Type 0 = λ x. TaskRun got.run.task t setup got.run.layouts (run_askings got.run.run) (told.calls t) (run_notings got.run.run) x in subst P got.got got.run.ran

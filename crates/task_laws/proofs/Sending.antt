@@ -1,6 +1,6 @@
 -- What a store in chunks sends of its file.
 use Rattle.std.proofs.Common.{◌≡◌, ◌∙◌, ◌⊎◌, inl, inr, ℕ, ◌+◌, ◌-◌, ◌≤◌, ◌==◌, min, Bool, true, false, not, List, [], ◌∷◌, length, take, drop, refl, sym, ap, subst, arith}
-use Rattle.std.specs.Prelude.{◌≢◌, ◌&&◌, ◌||◌, cond, nat_lt, nat_le, Option, Some, None, IfSome, is_some, map, filter}
+use Rattle.std.specs.Prelude.{◌≢◌, ◌&&◌, ◌||◌, cond, nat_lt, nat_le, Option, Some, None, IfSome, is_some, map, filter, unwrap_or, option_map, bytes_eq}
 use Rattle.std.specs.Bool.{MatchBool}
 use Rattle.std.specs.List.{list_all, filter_map, cons_option, slice_range}
 use Rattle.std.proofs.Math.Seq.{take-take}
@@ -20,14 +20,14 @@ use Rattle.task_run.specs.declared.setup.Setup.{Setup}
 use Rattle.task_run.specs.Names.{chunk_file}
 use Rattle.task_run.specs.Requests.{AsksFor, AskInOrder}
 use Rattle.task_run.specs.Layouts.{parts_of_layout, keys_of_layout}
-use Rattle.task_run.specs.Reads.{length_found, lengths_found, reads_of, reads_between, bytes_of, is_run, appended}
+use Rattle.task_run.specs.Reads.{length_found, lengths_found, reads_of, reads_between, bytes_of, is_run, appended, holds, is_read_of}
 use Rattle.task_run.specs.Checks.{present_request}
-use Rattle.task_run.specs.Stores.{is_size, fits_length, chunk_request, questions, found, transfers, missing_parts, is_front, is_copied, copied_length, part_length, are_whole, PlainStoreAsks, ChunkStoreAsks}
+use Rattle.task_run.specs.Stores.{is_size, fits_length, chunk_request, questions, found, transfers, missing_parts, is_front, is_copied, copied_length, part_length, is_filled, are_whole, PlainStoreAsks, ChunkStoreAsks}
 use Rattle.task_run.specs.Runs.{RunOf, TaskRun, is_chunked, WorkAsks}
 use Rattle.task_run.proofs.Texts.{apart}
-use Rattle.task_laws.specs.Contents.{is_read_of, Shows}
+use Rattle.task_run.proofs.HeldLaws.{reads_front}
+use Rattle.task_laws.specs.Contents.{Shows}
 use Rattle.task_laws.specs.Sent.{IsRangeSent, ChunksAreRanges}
-use Rattle.task_laws.proofs.FileContents.{stretch}
 use Rattle.task_laws.proofs.Members.{IsIn, is_in, contained, in_split, in_dropped, all_in}
 
 -- ---- no question stores
@@ -51,6 +51,11 @@ record IsOfPart (setup : Setup) (t : ℕ) (file : List ℕ) (calls : List Call) 
   keyed : key_reading text ≡ Some part.key
   copied : (is_run part.from (reads_between file part.from part.to calls) && is_front (appended name calls) (bytes_of (reads_between file part.from part.to calls))) ≡ true
   long : length (appended name calls) ≡ part.to - part.from
+  filled : holds name None calls ≡ Some (appended name calls)
+
+filled_holds : (bytes : List ℕ) (held : Option (List ℕ)) → unwrap_or (option_map (bytes_eq bytes) held) false ≡ true → held ≡ Some bytes
+filled_holds bytes None h = apart h
+filled_holds bytes (Some x) h = ap (λ (l : List ℕ). Some l) (sym ((bytes_eq-Decides bytes x).0 h))
 
 part_of_transfer : (setup : Setup) (t : ℕ) (file : List ℕ) (calls : List Call) (n : ℕ) (parts : List Part) (asked : List Asking) (a : Asking) (text name : List ℕ)
     → AskInOrder (chunk_request setup t) n (map (λ (p : Part). p.key) parts) asked → are_whole setup t file calls n parts asked ≡ true → IsIn a asked → a.request ≡ Some (Transfer true text name)
@@ -59,24 +64,27 @@ part_of_transfer setup t file calls n parts [] a text name h w k e = absurd k
 part_of_transfer setup t file calls n [] (b ∷ more) a text name h w k e = absurd h
 part_of_transfer setup t file calls n (part ∷ parts) (b ∷ more) a text name h w (inr k) e =
     let rest : are_whole setup t file calls (n + 1) parts more ≡ true =
-    (and_parts (is_copied setup t file calls n part && copied_length setup t calls n == part_length part) (are_whole setup t file calls (n + 1) parts more) w).1 in
+    (and_parts (is_copied setup t file calls n part && copied_length setup t calls n == part_length part && is_filled setup t calls n) (are_whole setup t file calls (n + 1) parts more) w).1 in
     let later : IsOfPart setup t file calls parts text name = part_of_transfer setup t file calls (n + 1) parts more a text name h.1 rest k e in
-    record { part = later.part; there = inr later.there; keyed = later.keyed; copied = later.copied; long = later.long }
+    record { part = later.part; there = inr later.there; keyed = later.keyed; copied = later.copied; long = later.long; filled = later.filled }
 part_of_transfer setup t file calls n (part ∷ parts) (b ∷ more) a text name h w (inl is) e =
     let P : Option HostMessage → Type 0 = λ o. AsksFor (chunk_request setup t) n part.key (record { request = o; verdict = b.verdict }) in
     let of : b.request ≡ Some (Transfer true text name) = ap (λ (x : Asking). x.request) is ∙ e in
     let asks : (Transfer true text name ≡ Transfer true text (chunk_file setup t n)) × (key_reading text ≡ Some part.key) = subst P of h.0 in
     let named : name ≡ chunk_file setup t n = let q : Transfer true text name ≡ Transfer true text (chunk_file setup t n) = asks.0 in cc in
-    let both = and_parts (is_copied setup t file calls n part) (copied_length setup t calls n == part_length part)
-    (and_parts (is_copied setup t file calls n part && copied_length setup t calls n == part_length part) (are_whole setup t file calls (n + 1) parts more) w).0 in
+    let first = and_parts (is_copied setup t file calls n part && copied_length setup t calls n == part_length part) (is_filled setup t calls n)
+    (and_parts (is_copied setup t file calls n part && copied_length setup t calls n == part_length part && is_filled setup t calls n) (are_whole setup t file calls (n + 1) parts more) w).0 in
+    let both = and_parts (is_copied setup t file calls n part) (copied_length setup t calls n == part_length part) first.0 in
     let C : List ℕ → Type 0 = λ f. (is_run part.from (reads_between file part.from part.to calls) && is_front (appended f calls) (bytes_of (reads_between file part.from part.to calls))) ≡ true in
     let L : List ℕ → Type 0 = λ f. length (appended f calls) ≡ part.to - part.from in
+    let F : List ℕ → Type 0 = λ f. holds f None calls ≡ Some (appended f calls) in
     record {
       part = part;
       there = inl refl;
       keyed = asks.1;
       copied = subst C (sym named) both.0;
       long = subst L (sym named) (eqb-true (copied_length setup t calls n) (part_length part) both.1);
+      filled = subst F (sym named) (filled_holds (appended (chunk_file setup t n) calls) (holds (chunk_file setup t n) None calls) first.1);
     }
 
 -- ---- its bytes
@@ -96,7 +104,7 @@ range_sent setup t file content calls parts text name shows p =
     let both = and_parts (is_run p.part.from (reads_between file p.part.from p.part.to calls)) (is_front (appended name calls) (bytes_of (reads_between file p.part.from p.part.to calls))) p.copied in
     let shown : list_all (is_read_of content) (reads_between file p.part.from p.part.to calls) ≡ true =
     all_filtered (is_read_of content) (λ (r : ℕ × List ℕ). nat_le p.part.from r.0 && nat_lt r.0 p.part.to) (reads_of file calls) shows.reads in
-    let read : bytes_of reads ≡ take (length (bytes_of reads)) (drop p.part.from content) = stretch content p.part.from reads both.0 shown in
+    let read : bytes_of reads ≡ take (length (bytes_of reads)) (drop p.part.from content) = reads_front content p.part.from reads both.0 shown in
     let front : appended name calls ≡ take (length (appended name calls)) (bytes_of reads) = (bytes_eq-Decides (appended name calls) (take (length (appended name calls)) (bytes_of reads))).0 both.1 in
     let short : length (appended name calls) ≡ min (length (appended name calls)) (length (bytes_of reads)) = ap length front ∙ length-take (length (appended name calls)) (bytes_of reads) in
     let few : length (appended name calls) ≤ length (bytes_of reads) = omega arith in
@@ -132,7 +140,7 @@ chunk_ranges setup t key file content asked calls noted a text name s shows k e 
       part = p.part;
       there = contained p.part (parts_of_layout key setup.chunk) (in_dropped p.part (found asked) (parts_of_layout key setup.chunk) p.there);
       keyed = p.keyed;
-      bytes = range_sent setup t file content calls (missing_parts key setup.chunk asked) text name shows p;
+      bytes = p.filled ∙ ap (λ (l : List ℕ). Some l) (range_sent setup t file content calls (missing_parts key setup.chunk asked) text name shows p);
     }
 
     by_place : IsIn a (take (questions asked) asked) ⊎ IsIn a (transfers asked) → IsRangeSent setup key content calls text name

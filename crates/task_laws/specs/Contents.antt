@@ -1,28 +1,19 @@
 -- What calls show of the content of a file.
-use Rattle.std.specs.Prelude.{ℕ, ◌≡◌, ◌≢◌, ◌+◌, ◌==◌, ◌&&◌, ◌||◌, nat_lt, nat_le, Bool, true, List, [], ◌∷◌, length, take, drop, bytes_eq}
+use Rattle.std.specs.Prelude.{ℕ, ◌≡◌, ◌+◌, ◌==◌, true, List, [], ◌∷◌, length}
 use Rattle.std.specs.List.{list_all}
 use Rattle.ann_outside.specs.declared.file_desk.Call.{Call}
 use Rattle.task_asker.specs.Askings.{Asking}
 use Rattle.task_run.specs.declared.setup.Setup.{Setup}
 use Rattle.task_run.specs.Names.{fetch_file}
-use Rattle.task_run.specs.Reads.{lengths_found, reads_of}
-
--- the read brought bytes of this content from its place on, and none only at its end
-abbrev pub is_read_of : List ℕ → ℕ × List ℕ → Bool
-is_read_of content read = bytes_eq read.1 (take (length read.1) (drop read.0 content)) && (nat_lt 0 (length read.1) || nat_le (length content) read.0)
+use Rattle.task_run.specs.Reads.{lengths_found, reads_of, is_read_of}
 
 -- All that the calls found and read of the file is of this content.
 pub record Shows (name content : List ℕ) (calls : List Call) : Type 0 where
   pub lengths : list_all (λ n. n == length content) (lengths_found name calls) ≡ true
   pub reads : list_all (is_read_of content) (reads_of name calls) ≡ true
 
--- The file was looked at, and shows this content.
-pub record IsFetched (name content : List ℕ) (calls : List Call) : Type 0 where
-  pub looked : lengths_found name calls ≢ []
-  pub shows : Shows name content calls
-
 -- the files that these requests fetched, the first of which is request n, show these contents
 abbrev pub AreFetched : Setup → ℕ → List Call → ℕ → List Asking → List (List ℕ) → Type 0
 AreFetched setup t calls n [] [] = Unit {0}
-AreFetched setup t calls n (a ∷ more) (content ∷ contents) = IsFetched (fetch_file setup t n) content calls × AreFetched setup t calls (n + 1) more contents
+AreFetched setup t calls n (a ∷ more) (content ∷ contents) = Shows (fetch_file setup t n) content calls × AreFetched setup t calls (n + 1) more contents
 AreFetched setup t calls n asked contents = ⊥

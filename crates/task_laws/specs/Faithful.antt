@@ -1,5 +1,5 @@
 -- What a STORE sent, and when a remote is faithful in a run.
-use Rattle.std.specs.Prelude.{ℕ, ◌≡◌, ◌≢◌, ◌+◌, Bool, false, if◌then◌else◌, List, [], ◌∷◌, Option, Some, None}
+use Rattle.std.specs.Prelude.{ℕ, ◌≡◌, Bool, false, if◌then◌else◌, List, [], ◌∷◌, Option, Some, None, unwrap_or}
 use Rattle.ann_key.specs.Keys.{Parts, key_reading}
 use Rattle.ann_outside.specs.declared.file_desk.Call.{Call}
 use Rattle.annex_model.specs.Messages.{HostMessage, Transfer}
@@ -9,8 +9,7 @@ use Rattle.journal_model.specs.Legality.{task_of}
 use Rattle.task_text.specs.declared.task.Task.{Task}
 use Rattle.task_asker.specs.Askings.{Asking}
 use Rattle.task_run.specs.declared.setup.Setup.{Setup}
-use Rattle.task_run.specs.Names.{fetch_file}
-use Rattle.task_run.specs.Reads.{lengths_found, appended}
+use Rattle.task_run.specs.Reads.{holds}
 use Rattle.task_run.specs.Runs.{is_chunked}
 use Rattle.task_laws.specs.Changes.{Request, Retrieves}
 use Rattle.task_laws.specs.Contents.{Shows}
@@ -35,9 +34,10 @@ is_chunking setup (Some task) = of_key (key_reading task.key)
     of_key None = false
     of_key (Some key) = is_chunked setup key
 
--- what a STORE sent: of a chunk what the task's calls appended to the file that it names, else what was held as its file
+-- What a STORE sent: of a chunk what the file that it names holds by the task's calls, and nothing where they don't say; else what was held
+-- as its file.
 abbrev pub sent : Opening → Setup → Told → Request → List ℕ
-sent o setup told s = if is_chunking setup (task_of o s.task) then appended (file_named s.asks) (told.calls s.task) else told.held s.at
+sent o setup told s = if is_chunking setup (task_of o s.task) then unwrap_or (holds (file_named s.asks) None (told.calls s.task)) [] else told.held s.at
 
 -- What each retrieved key's file shows is what the STORE before it sent.
 abbrev pub IsFaithful : Opening → Setup → Told → List Entry → Type 0
@@ -54,8 +54,3 @@ abbrev pub AreStoredFor : List Entry → ℕ → List Asking → List Request �
 AreStoredFor journal t [] [] = Unit {0}
 AreStoredFor journal t (a ∷ more) (s ∷ stores) = IsStoredFor journal t a.request s × AreStoredFor journal t more stores
 AreStoredFor journal t asked stores = ⊥
-
--- the files that these requests fetched, the first of which is request n, were looked at
-abbrev pub AreLookedAt : Setup → ℕ → List Call → ℕ → List Asking → Type 0
-AreLookedAt setup t calls n [] = Unit {0}
-AreLookedAt setup t calls n (a ∷ more) = (lengths_found (fetch_file setup t n) calls ≢ []) × AreLookedAt setup t calls (n + 1) more

@@ -11,7 +11,7 @@ use Rattle.task_run.specs.declared.setup.Setup.{Setup}
 use Rattle.task_run.specs.Names.{part_of}
 use Rattle.task_run.specs.Layouts.{sizes_tried, keys_of_layout}
 use Rattle.task_run.specs.Requests.{AskInOrder}
-use Rattle.task_run.specs.Reads.{appended, is_renaming, is_last_call_of}
+use Rattle.task_run.specs.Reads.{appended, holds, are_found_so, is_renaming, is_last_call_of}
 use Rattle.task_run.specs.Gets.{fetch_request, lengths_at_begin, failures, item, asked_last, first_asked, since_begin, is_plain_last, checked}
 use Rattle.task_run.specs.Runs.{TaskRun}
 use Rattle.task_laws.specs.Contents.{AreFetched}
@@ -25,12 +25,14 @@ abbrev pub is_afresh : List ℕ → List ℕ → List Asking → List Call → B
 is_afresh sizes file asked calls = is_plain_last sizes asked || list_all (λ n. n == 0) (lengths_at_begin file calls)
 
 -- The last layout's keys were asked for in their order, each into a file of its own. These contents, one behind the other, were appended
--- to part since it was begun, and are all that was checked; they fit the key. Then part was renamed to the file.
+-- to part since it was begun, and are all that was checked; they fit the key. Where all that was found of part is so, whatever it held
+-- before the task, they are all that it holds in the end. Then it was renamed to the file.
 pub record Keeps (setup : Setup) (t : ℕ) (key : Parts) (sizes : List ℕ) (file : List ℕ) (asked : List Asking) (calls : List Call) (contents : List (List ℕ)) : Type 0 where
   pub all : length (asked_last asked) ≡ length (keys_of_layout key (chunk_last sizes asked))
   pub in_order : AskInOrder (fetch_request setup t) (first_asked asked) (keys_of_layout key (chunk_last sizes asked)) (asked_last asked)
   pub appended_are : appended (part_of file) (since_begin file calls) ≡ concat contents
   pub checked_are : checked setup t file sizes asked calls ≡ concat contents
+  pub holds_all : (before : List ℕ) → are_found_so (part_of file) (Some before) calls ≡ true → holds (part_of file) (Some before) calls ≡ Some (concat contents)
   pub fits : FitsKey key (concat contents)
   pub renamed : is_last_call_of (part_of file) (is_renaming (part_of file) file) calls ≡ true
 

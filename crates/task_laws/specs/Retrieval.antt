@@ -11,13 +11,13 @@ use Rattle.task_run.specs.declared.setup.Setup.{Setup}
 use Rattle.task_run.specs.Askings.{run_askings}
 use Rattle.task_run.specs.Layouts.{sizes_tried}
 use Rattle.task_run.specs.Names.{part_of}
-use Rattle.task_run.specs.Reads.{appended, is_renaming, is_last_call_of}
-use Rattle.task_run.specs.Gets.{asked_last, first_asked, since_begin, checked}
+use Rattle.task_run.specs.Reads.{appended, holds, are_found_so, is_renaming, is_last_call_of}
+use Rattle.task_run.specs.Gets.{asked_last, since_begin, checked}
 use Rattle.task_run.specs.Runs.{is_chunked}
 use Rattle.task_rounds.specs.JournalRuns.{JournalRun}
 use Rattle.task_laws.specs.Changes.{Request}
 use Rattle.task_laws.specs.Contents.{Shows}
-use Rattle.task_laws.specs.Faithful.{Told, sent, IsFaithful, AreStoredFor, AreLookedAt}
+use Rattle.task_laws.specs.Faithful.{Told, sent, IsFaithful, AreStoredFor}
 use Rattle.task_laws.specs.Kept.{is_afresh, Keeps}
 
 -- A run of task t by any number got its content, afresh, and these stored the keys of its last layout before it retrieved them.
@@ -27,7 +27,6 @@ pub record GotStored (o : Opening) (setup : Setup) (told : Told) (journal : List
   pub got : run.run.answer ≡ Got
   pub afresh : is_afresh (sizes_tried key run.layouts) run.task.file (run_askings run.run) (told.calls t) ≡ true
   pub stored : AreStoredFor journal t (asked_last (run_askings run.run)) stores
-  pub looked : AreLookedAt setup t (told.calls t) (first_asked (run_askings run.run)) (asked_last (run_askings run.run))
 
 -- With a faithful remote such a run keeps what these sent, one behind the other, as its file.
 abbrev pub KeepsStored : Type 0
@@ -50,10 +49,12 @@ pub record StoredInChunks (o : Opening) (setup : Setup) (told : Told) (journal :
   pub of_task : All (λ s. s.task ≡ u) stores
   pub shows : Shows run.task.file content (told.calls u)
 
--- That content was appended to part since it was begun, is all that was checked, and fits the key. Then part was renamed to the file.
+-- That content was appended to part since it was begun, is all that was checked, and fits the key. Where all that was found of part is so,
+-- whatever it held before the task, it is all that part holds in the end. Then part was renamed to the file.
 pub record KeepsContent (o : Opening) (setup : Setup) (told : Told) (journal : List Entry) (number t : ℕ) (key : Parts) (run : JournalRun o setup (told.calls t) number t journal) (content : List ℕ) : Type 0 where
   pub appended_are : appended (part_of run.task.file) (since_begin run.task.file (told.calls t)) ≡ content
   pub checked_are : checked setup t run.task.file (sizes_tried key run.layouts) (run_askings run.run) (told.calls t) ≡ content
+  pub holds_all : (before : List ℕ) → are_found_so (part_of run.task.file) (Some before) (told.calls t) ≡ true → holds (part_of run.task.file) (Some before) (told.calls t) ≡ Some content
   pub fits : FitsKey key content
   pub renamed : is_last_call_of (part_of run.task.file) (is_renaming (part_of run.task.file) run.task.file) (told.calls t) ≡ true
 

@@ -10,7 +10,7 @@ use Rattle.journal_model.specs.declared.entry.Entry.{Entry}
 use Rattle.journal_model.specs.declared.opening.Opening.{Opening}
 use Rattle.journal_model.specs.Rows.{by_main, greeting, opening_of}
 use Rattle.task_text.specs.declared.task.Work.TheVariants.{Store, Get}
-use Rattle.task_run.specs.Rows.{task_of, fetched_2_1, got_hi, sized}
+use Rattle.task_run.specs.Rows.{task_of, fetched_2_1, got_hi, sized, store_ten, c1, chunk_2}
 use Rattle.task_laws.specs.Changes.{Request}
 use Rattle.task_laws.specs.Faithful.{Told}
 
@@ -80,6 +80,19 @@ told_hi = told_of (codes "hi") got_hi
 
 abbrev pub told_ho : Told
 told_ho = told_of (codes "ho") got_hi
+
+-- ---- a task stores a key in chunks
+
+abbrev pub one_store : Opening
+one_store = opening_of (store_ten ∷ [])
+
+-- its request for the first chunk
+abbrev pub first_chunk : Request
+first_chunk = record { at = 14; child = 1; job = 3; task = 1; asks = Transfer true c1 chunk_2 }
+
+-- this is what its calls did; for a plain store other bytes were held
+abbrev pub told_calls : List Call → Told
+told_calls calls = record { calls = λ t. calls; held = λ place. codes "held" }
 
 -- ---- a change between
 

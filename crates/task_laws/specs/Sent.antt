@@ -1,5 +1,5 @@
 -- What a store in chunks sends of its file.
-use Rattle.std.specs.Prelude.{ℕ, ◌≡◌, true, List, Contains, Some}
+use Rattle.std.specs.Prelude.{ℕ, ◌≡◌, true, List, Contains, Some, None}
 use Rattle.std.specs.List.{slice_range}
 use Rattle.ann_key.specs.Keys.{Parts, key_reading}
 use Rattle.ann_outside.specs.declared.file_desk.Call.{Call}
@@ -11,18 +11,18 @@ use Rattle.task_text.specs.declared.task.Work.TheVariants as W
 use Rattle.task_asker.specs.Askings.{Asking, Noting}
 use Rattle.task_run.specs.declared.setup.Setup.{Setup}
 use Rattle.task_run.specs.Layouts.{parts_of_layout}
-use Rattle.task_run.specs.Reads.{appended}
+use Rattle.task_run.specs.Reads.{holds}
 use Rattle.task_run.specs.Runs.{TaskRun, is_chunked}
 use Rattle.task_laws.specs.Contents.{Shows}
 
--- what was appended to the file is the content's bytes in the range of the chunk with this key
+-- the file holds the content's bytes in the range of the chunk with this key, and no others
 pub record IsRangeSent (setup : Setup) (key : Parts) (content : List ℕ) (calls : List Call) (text file : List ℕ) : Type 0 where
   pub part : Part
   pub there : Contains (parts_of_layout key setup.chunk) part
   pub keyed : key_reading text ≡ Some part.key
-  pub bytes : appended file calls ≡ slice_range content part.from part.to
+  pub bytes : holds file None calls ≡ Some (slice_range content part.from part.to)
 
--- Whatever its file's content, as its calls show it: a store in chunks stores each chunk from a file that got the chunk's range of it.
+-- Whatever its file's content, as its calls show it: a store in chunks stores each chunk from a file that holds the chunk's range of it.
 abbrev pub ChunksAreRanges : Type 0
 ChunksAreRanges =
     (task : Task) (t : ℕ) (setup : Setup) (layouts : List (ℕ × ℕ)) (asked : List Asking) (calls : List Call) (noted : List Noting) (answer : Answer) (key : Parts) (content : List ℕ)

@@ -6,7 +6,7 @@ ghost use Rattle.ann_outside.specs.declared.file_desk.DeskError.TheVariants.{Mis
 ghost use Rattle.journal_model.specs.declared.answer.Answer.TheVariants.{Got};
 ghost use Rattle.journal_model.specs.declared.verdict.Verdict.TheVariants.{Done, Failed, Unknown};
 ghost use Rattle.journal_model.specs.Rows.{greeting};
-ghost use Rattle.task_run.specs.Rows.{setup_of, store_a, stores_a, sized, get_abc, fetched_1, gets_abc, got_abc, renamed, part_gone, store_ten, stores_ten, stored_ten, lost_ten, stored_short, get_ten, gets_ten, resumed_ten, check_ten, checks_ten, finds_ten, asks, c1, fetched_2_1, got_hi};
+ghost use Rattle.task_run.specs.Rows.{setup_of, store_a, stores_a, sized, get_abc, fetched_1, gets_abc, got_abc, renamed, part_gone, store_ten, stores_ten, stored_ten, cut_behind_filling, made_twice, lost_ten, stored_short, get_ten, gets_ten, resumed_ten, check_ten, checks_ten, finds_ten, asks, c1, fetched_2_1, got_hi};
 ghost use Rattle.annex_model.specs.Messages.{Checkpresent, Transfer};
 ghost use Rattle.task_rounds.specs.JournalRuns.{JournalRun};
 ghost use Rattle.task_run.specs.Askings.{run_askings};
@@ -16,7 +16,7 @@ ghost use Rattle.task_laws.specs.Faithful.{sent, IsFaithful};
 ghost use Rattle.task_laws.specs.Kept.{is_afresh};
 ghost use Rattle.task_laws.specs.Retrieval.{GotStored};
 ghost use Rattle.task_laws.specs.WentWell.{WentWell};
-ghost use Rattle.task_laws.specs.Rows.{ten_parts, worm_parts, abc_parts, hi, hi_parts, store_then_get, storing, stored_then_got, the_store, the_retrieve, told_hi, told_ho, stored_again, removed, other_removed, not_stored};
+ghost use Rattle.task_laws.specs.Rows.{ten_parts, worm_parts, abc_parts, hi, hi_parts, store_then_get, storing, stored_then_got, the_store, the_retrieve, told_hi, told_ho, one_store, first_chunk, told_calls, stored_again, removed, other_removed, not_stored};
 
 /// A store whose questions were answered in any way went well, and not one that failed, whose child was gone, or whose file shrank.
 pub fn stores_went_well()
@@ -63,6 +63,15 @@ pub fn what_stored()
     ensures again { stored_by (greeting ++ storing ++ stored_again ∷ []) hi 17 19 ≡ None }
     ensures removed { stored_by (greeting ++ storing ++ removed ∷ []) hi 17 19 ≡ None }
     ensures other_removed { stored_by (greeting ++ storing ++ other_removed ∷ []) hi 17 19 ≡ Some the_store }
+{}
+
+/// What a STORE of a chunk sent is what its file held: all of it, or what was left of it, or what it got behind its making anew.
+pub fn what_chunks_sent()
+    ensures whole { sent one_store (setup_of 4) (told_calls stored_ten) first_chunk ≡ codes "0123" }
+    ensures cut { sent one_store (setup_of 4) (told_calls cut_behind_filling) first_chunk ≡ codes "01" }
+    ensures made_twice { sent one_store (setup_of 4) (told_calls made_twice) first_chunk ≡ codes "23" }
+    ensures unknown { sent one_store (setup_of 4) (told_calls []) first_chunk ≡ [] }
+    ensures plain { sent one_store (setup_of 0) (told_calls stored_ten) first_chunk ≡ codes "held" }
 {}
 
 /// A remote that sends what was stored is faithful, and one that sends another content isn't.

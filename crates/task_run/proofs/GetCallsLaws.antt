@@ -14,6 +14,7 @@ use Rattle.task_run.specs.Reads.{length_or_none, reads_of, is_run, is_known, kno
 use Rattle.task_run.specs.Discipline.{name_only, changes_as_result, size_of_only, size_among, are_found, are_among, names_in, needed_by}
 use Rattle.task_run.specs.Fetching.{Outcome}
 use Rattle.task_run.proofs.Texts.{same_name, apart}
+use Rattle.task_run.proofs.HeldLaws.{is_lasting}
 
 -- the fetched file is not part, and part is not the file
 pub record Apart (file fetch : List ℕ) : Type 0 where
@@ -29,6 +30,7 @@ pub record Fair (file fetch : List ℕ) (calls : List Call) : Type 0 where
   pub lengths : size_of_only (part_of file ∷ fetch ∷ []) calls ≡ true
   pub no_length : filter_map (length_or_none (part_of file)) calls ≡ []
   pub no_read : reads_of (part_of file) calls ≡ []
+  pub lasting : list_all (is_lasting (part_of file)) calls ≡ true
 
 all_more : {X : Type 0} (p : X → Bool) (xs ys : List X) → list_all p xs ≡ true → list_all p ys ≡ true → list_all p (xs ++ ys) ≡ true
 all_more p xs ys a b = rw (list_all-append p xs ys) (rw a b)
@@ -43,6 +45,7 @@ fair_more file fetch xs ys h k = record {
   lengths = all_more (size_among (part_of file ∷ fetch ∷ [])) xs ys h.lengths k.lengths;
   no_length = none_more (length_or_none (part_of file)) xs ys h.no_length k.no_length;
   no_read = none_more (read_of (part_of file)) xs ys h.no_read k.no_read;
+  lasting = all_more (is_lasting (part_of file)) xs ys h.lasting k.lasting;
 }
 
 -- ---- single calls
@@ -63,6 +66,7 @@ fair_size file fetch a r = record {
   lengths = rw (a.fetch_part, same_name fetch) refl;
   no_length = rw a.fetch_part refl;
   no_read = refl;
+  lasting = refl;
 }
 
 pub fair_create : (file fetch : List ℕ) → Apart file fetch → (r : Outcome) → Fair file fetch (Create (part_of file) r ∷ [])
@@ -72,6 +76,7 @@ fair_create file fetch a r = record {
   lengths = refl;
   no_length = refl;
   no_read = refl;
+  lasting = refl;
 }
 
 pub fair_read : (file fetch : List ℕ) → Apart file fetch → (at : ℕ) (r : Result (List ℕ) DeskError) → Fair file fetch (ReadAt fetch at r ∷ [])
@@ -81,6 +86,7 @@ fair_read file fetch a at r = record {
   lengths = refl;
   no_length = refl;
   no_read = rw a.fetch_part refl;
+  lasting = refl;
 }
 
 pub fair_append : (file fetch : List ℕ) → Apart file fetch → (piece : List ℕ) (r : Outcome) → Fair file fetch (Append (part_of file) piece r ∷ [])
@@ -90,6 +96,7 @@ fair_append file fetch a piece r = record {
   lengths = refl;
   no_length = refl;
   no_read = refl;
+  lasting = refl;
 }
 
 pub fair_remove_fetch : (file fetch : List ℕ) → Apart file fetch → (r : Outcome) → Fair file fetch (Remove fetch r ∷ [])
@@ -99,6 +106,7 @@ fair_remove_fetch file fetch a r = record {
   lengths = refl;
   no_length = refl;
   no_read = refl;
+  lasting = refl;
 }
 
 pub fair_remove_part : (file fetch : List ℕ) → Apart file fetch → (r : Outcome) → Fair file fetch (Remove (part_of file) r ∷ [])
@@ -108,6 +116,7 @@ fair_remove_part file fetch a r = record {
   lengths = refl;
   no_length = refl;
   no_read = refl;
+  lasting = refl;
 }
 
 pub fair_rename : (file fetch : List ℕ) → Apart file fetch → (r : Outcome) → Fair file fetch (Rename (part_of file) file r ∷ [])
@@ -117,6 +126,7 @@ fair_rename file fetch a r = record {
   lengths = refl;
   no_length = refl;
   no_read = refl;
+  lasting = rw a.file_part refl;
 }
 
 -- ---- calls that were not refused, behind others
@@ -168,7 +178,7 @@ known_add name past c e = ap last_is_true same ∙ last_true-snoc (filter_map (k
 
 pub copy_good : (file fetch : List ℕ) → Apart file fetch → (past : List Call) (at : ℕ) (pieces : List (List ℕ))
     → is_known fetch past ≡ true → is_known (part_of file) past ≡ true → Good file fetch past (copy_calls fetch (part_of file) at pieces)
-copy_good file fetch a past at [] f p = record { fair = record { names = refl; changes = refl; lengths = refl; no_length = refl; no_read = refl }; found = refl; free = refl }
+copy_good file fetch a past at [] f p = record { fair = record { names = refl; changes = refl; lengths = refl; no_length = refl; no_read = refl; lasting = refl }; found = refl; free = refl }
 copy_good file fetch a past at (piece ∷ pieces) f p =
     good_more file fetch past (ReadAt fetch at (Ok piece) ∷ []) (Append (part_of file) piece (Ok tt) ∷ copy_calls fetch (part_of file) (at + length piece) pieces)
     record { fair = fair_read file fetch a at (Ok piece); found = rw f refl; free = refl }

@@ -20,7 +20,7 @@ use Rattle.task_run.specs.Stops.{is_done, all_but_last, last_failed}
 use Rattle.task_run.specs.Names.{fetch_file, part_of}
 use Rattle.task_run.specs.Requests.{rounds, RoundsAsk}
 use Rattle.task_run.specs.Layouts.{parts_of_layout}
-use Rattle.task_run.specs.Reads.{length_or_none, lengths_found, reads_of, bytes_of, is_run, is_reading, appended, is_removed, is_renaming, is_last_call_of}
+use Rattle.task_run.specs.Reads.{length_or_none, lengths_found, reads_of, bytes_of, is_run, is_reading, appended, holds, are_found_so, is_removed, is_renaming, is_last_call_of}
 
 abbrev pub fetch_request : Setup → ℕ → ℕ → List ℕ → HostMessage
 fetch_request setup t n key = Transfer false key (fetch_file setup t n)
@@ -143,11 +143,16 @@ abbrev pub IsSaid : Parts → List ℕ → Option Fit → Type 0
 IsSaid key bytes None = ⊥
 IsSaid key bytes (Some fit) = IsSaidOf key bytes fit
 
--- each fetched file, the first of which is that of request n, was read from its begin to the length that was found
+-- a length was found, and the reads go from the begin to it
+abbrev pub is_read_whole : List (ℕ × List ℕ) → List ℕ → Bool
+is_read_whole reads [] = false
+is_read_whole reads (k ∷ lengths) = list_all (λ n. is_reading 0 n reads) (k ∷ lengths)
+
+-- each fetched file, the first of which is that of request n, was looked at, and read from its begin to the length that was found
 abbrev pub are_read_whole : Setup → ℕ → List Call → ℕ → List Asking → Bool
 are_read_whole setup t calls n [] = true
 are_read_whole setup t calls n (a ∷ more) =
-    list_all (λ k. is_reading 0 k (reads_of (fetch_file setup t n) calls)) (lengths_found (fetch_file setup t n) calls) && are_read_whole setup t calls (n + 1) more
+    is_read_whole (reads_of (fetch_file setup t n) calls) (lengths_found (fetch_file setup t n) calls) && are_read_whole setup t calls (n + 1) more
 
 -- All that part held and all that was fetched was read, and this is said of it.
 pub record IsChecked (setup : Setup) (t : ℕ) (key : Parts) (sizes : List ℕ) (file : List ℕ) (asked : List Asking) (calls : List Call) (answer : Answer) : Type 0 where
@@ -163,9 +168,11 @@ abbrev pub DecidesBy : List ℕ → Type 0 → Type 0 → Answer → Type 0
 DecidesBy [] AllDone Said answer = AllDone × Said
 DecidesBy (n ∷ more) AllDone Said answer = answer ≡ SizeAnswer n
 
--- The fetched bytes were appended to part, which was renamed to the file then.
-pub record IsKept (setup : Setup) (t : ℕ) (file : List ℕ) (asked : List Asking) (calls : List Call) : Type 0 where
+-- The fetched bytes were appended to part. Where all that was found of part is so, whatever it held before, it holds the checked bytes
+-- and no others now. Then it was renamed to the file.
+pub record IsKept (setup : Setup) (t : ℕ) (sizes : List ℕ) (file : List ℕ) (asked : List Asking) (calls : List Call) : Type 0 where
   pub moved : appended (part_of file) (since_begin file calls) ≡ bytes_fetched setup t calls (first_asked asked) (asked_last asked)
+  pub held : (before : List ℕ) → are_found_so (part_of file) (Some before) calls ≡ true → holds (part_of file) (Some before) calls ≡ Some (checked setup t file sizes asked calls)
   pub renamed : is_last_call_of (part_of file) (is_renaming (part_of file) file) calls ≡ true
 
 -- Where a file that was fetched hasn't its part's length, the answer is Size with that length. Else all that was wanted is done, and the
@@ -175,7 +182,7 @@ pub record Decides (setup : Setup) (t : ℕ) (key : Parts) (sizes : List ℕ) (f
   pub by_length : DecidesBy (wrong_lengths setup t key.size calls (first_asked asked) (parts_last key sizes (lengths_at_begin file calls) asked))
       (count_by is_done (asked_last asked) ≡ length (parts_last key sizes (lengths_at_begin file calls) asked))
       (IsChecked setup t key sizes file asked calls answer) answer
-  pub part : MatchBool (is_got answer) (IsKept setup t file asked calls) (is_removed (part_of file) calls ≡ true)
+  pub part : MatchBool (is_got answer) (IsKept setup t sizes file asked calls) (is_removed (part_of file) calls ≡ true)
 
 -- Failed with the last verdict exactly where every layout failed.
 pub record GetAnswers (setup : Setup) (t : ℕ) (key : Parts) (sizes : List ℕ) (file : List ℕ) (asked : List Asking) (calls : List Call) (answer : Answer) : Type 0 where

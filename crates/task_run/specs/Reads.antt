@@ -1,5 +1,5 @@
--- What the calls read, wrote and found of a file.
-use Rattle.std.specs.Prelude.{ℕ, ◌+◌, ◌-◌, ◌==◌, ◌&&◌, ◌||◌, nat_le, nat_lt, Bool, true, false, if◌then◌else◌, List, [], ◌∷◌, length, map, filter, Option, Some, None, Result, Ok, Err, bytes_eq}
+-- What the calls read, wrote and found of a file, and what it holds behind them.
+use Rattle.std.specs.Prelude.{ℕ, ◌+◌, ◌-◌, ◌==◌, ◌&&◌, ◌||◌, nat_le, nat_lt, Bool, true, false, if◌then◌else◌, List, [], ◌∷◌, length, take, drop, map, filter, unwrap_or, option_map, ◌++◌, Option, Some, None, Result, Ok, Err, bytes_eq}
 use Rattle.std.specs.List.{filter_map, concat}
 use Rattle.ann_outside.specs.declared.file_desk.DeskError.{DeskError}
 use Rattle.ann_outside.specs.declared.file_desk.DeskError.TheVariants.{Failed, Missing, NoMemory}
@@ -79,6 +79,35 @@ piece_of name _ = None
 -- all that was appended to the file
 abbrev pub appended : List ℕ → List Call → List ℕ
 appended name calls = concat (filter_map (piece_of name) calls)
+
+-- ---- what a file holds
+
+-- What a file holds behind the call, where it is known what it held before. A file that is made anew holds nothing; of one that another
+-- is renamed to, it isn't known. One that is removed or renamed is told as it was.
+abbrev pub held_after : List ℕ → Option (List ℕ) → Call → Option (List ℕ)
+held_after name held (Create other (Ok done)) = if bytes_eq other name then Some [] else held
+held_after name held (Append other piece (Ok done)) = if bytes_eq other name then option_map (λ (bytes : List ℕ). bytes ++ piece) held else held
+held_after name held (Cut other size (Ok done)) = if bytes_eq other name then option_map (take size) held else held
+held_after name held (Rename from to (Ok done)) = if bytes_eq to name then None else held
+held_after name held call = held
+
+abbrev pub holds : List ℕ → Option (List ℕ) → List Call → Option (List ℕ)
+holds name held [] = held
+holds name held (call ∷ more) = holds name (held_after name held call) more
+
+-- the read brought bytes of this content from its place on, and none only at its end
+abbrev pub is_read_of : List ℕ → ℕ × List ℕ → Bool
+is_read_of content read = bytes_eq read.1 (take (length read.1) (drop read.0 content)) && (nat_lt 0 (length read.1) || nat_le (length content) read.0)
+
+-- what the call found of the file is so, where the file held this
+abbrev pub is_found_so : List ℕ → Option (List ℕ) → Call → Bool
+is_found_so name None call = true
+is_found_so name (Some held) call = unwrap_or (option_map (λ n. n == length held) (length_found name call)) true && unwrap_or (option_map (is_read_of held) (read_of name call)) true
+
+-- so is all that the calls found of it, in turn
+abbrev pub are_found_so : List ℕ → Option (List ℕ) → List Call → Bool
+are_found_so name held [] = true
+are_found_so name held (call ∷ more) = is_found_so name held call && are_found_so name (held_after name held call) more
 
 -- ---- whether a file is there
 

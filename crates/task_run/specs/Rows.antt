@@ -54,6 +54,10 @@ moved name part bytes = ReadAt name 0 (Ok bytes) ∷ Append part bytes (Ok tt) �
 abbrev pub got_abc : List ℕ → List Call
 got_abc bytes = sized fetched_1 3 ++ Create (codes "o.part") (Ok tt) ∷ moved fetched_1 (codes "o.part") bytes
 
+-- the last byte of part is cut away
+abbrev pub cut_abc : List Call
+cut_abc = Cut (codes "o.part") 2 (Ok tt) ∷ []
+
 abbrev pub renamed : List Call
 renamed = Rename (codes "o.part") (codes "o") (Ok tt) ∷ []
 
@@ -107,6 +111,18 @@ stored_ten =
     sized (codes "f") 10 ++ cut_out chunk_2 0 (codes "0123") ++ dropped_file chunk_2 ++ cut_out chunk_3 4 (codes "4567") ++ dropped_file chunk_3
     ++ cut_out chunk_4 8 (codes "89") ++ dropped_file chunk_4
 
+-- the same, but the first chunk's file is cut behind its filling
+abbrev pub cut_behind_filling : List Call
+cut_behind_filling =
+    sized (codes "f") 10 ++ cut_out chunk_2 0 (codes "0123") ++ Cut chunk_2 2 (Ok tt) ∷ dropped_file chunk_2 ++ cut_out chunk_3 4 (codes "4567")
+    ++ dropped_file chunk_3 ++ cut_out chunk_4 8 (codes "89") ++ dropped_file chunk_4
+
+-- the same, but the first chunk's file gets two bytes, is made anew, and gets the other two
+abbrev pub made_twice : List Call
+made_twice =
+    sized (codes "f") 10 ++ cut_out chunk_2 0 (codes "01") ++ cut_out chunk_2 2 (codes "23") ++ dropped_file chunk_2 ++ cut_out chunk_3 4 (codes "4567")
+    ++ dropped_file chunk_3 ++ cut_out chunk_4 8 (codes "89") ++ dropped_file chunk_4
+
 -- all chunks are there
 abbrev pub finds_ten : List Asking
 finds_ten = asks (Checkpresent c1) (Done 13) ∷ asks (Checkpresent c2) (Done 16) ∷ asks (Checkpresent c3) (Done 19) ∷ []
@@ -133,6 +149,10 @@ stores_empty = asks (Checkpresent empty_c1) (Absent 13) ∷ asks (Transfer true 
 abbrev pub stored_empty : List Call
 stored_empty = sized (codes "f") 0 ++ Create chunk_2 (Ok tt) ∷ Remove chunk_2 (Ok tt) ∷ []
 
+-- a front of it, where the chunk's file was never made
+abbrev pub never_made : List Call
+never_made = sized (codes "f") 0
+
 -- what is left of a fetch is taken up
 abbrev pub get_ten : Task
 get_ten = task_of Get ten (codes "o")
@@ -149,6 +169,18 @@ resumed_ten =
 abbrev pub unread_ten : List Call
 unread_ten =
     sized (codes "o.part") 9 ++ Cut (codes "o.part") 8 (Ok tt) ∷ sized fetched_1 2 ++ moved fetched_1 (codes "o.part") (codes "89") ++ renamed
+
+-- the same without the cut, so that the last of the nine bytes stays in front of what is appended
+abbrev pub grown_on_nine : List Call
+grown_on_nine =
+    sized (codes "o.part") 9 ++ ReadAt (codes "o.part") 0 (Ok (codes "01234567")) ∷ sized fetched_1 2
+    ++ moved fetched_1 (codes "o.part") (codes "89") ++ renamed
+
+-- and with a cut behind what was appended
+abbrev pub cut_behind_ten : List Call
+cut_behind_ten =
+    sized (codes "o.part") 9 ++ Cut (codes "o.part") 8 (Ok tt) ∷ ReadAt (codes "o.part") 0 (Ok (codes "01234567")) ∷ sized fetched_1 2
+    ++ moved fetched_1 (codes "o.part") (codes "89") ++ Cut (codes "o.part") 9 (Ok tt) ∷ renamed
 
 -- and with a look at its first half alone, which doesn't fit then
 abbrev pub half_read_ten : List Call

@@ -1,5 +1,5 @@
 -- What a store asks, reads, writes and notes, and how it is answered.
-use Rattle.std.specs.Prelude.{ℕ, ◌≡◌, ◌≢◌, ◌+◌, ◌-◌, ◌==◌, ◌&&◌, ◌||◌, not, nat_le, nat_lt, Bool, true, false, if◌then◌else◌, List, [], ◌∷◌, length, take, drop, map, Option, Some, None, MatchOption, bytes_eq, is_some, count_by}
+use Rattle.std.specs.Prelude.{ℕ, ◌≡◌, ◌≢◌, ◌+◌, ◌-◌, ◌==◌, ◌&&◌, ◌||◌, not, nat_le, nat_lt, Bool, true, false, if◌then◌else◌, List, [], ◌∷◌, length, take, drop, map, Option, Some, None, MatchOption, bytes_eq, is_some, unwrap_or, option_map, count_by}
 use Rattle.std.specs.Bool.{MatchBool}
 use Rattle.std.specs.List.{list_all, list_any}
 use Rattle.ann_key.specs.Keys.{Parts}
@@ -15,7 +15,7 @@ use Rattle.task_run.specs.Stops.{is_done, is_question, all_but_last, last_failed
 use Rattle.task_run.specs.Names.{chunk_file}
 use Rattle.task_run.specs.Requests.{AskInOrder}
 use Rattle.task_run.specs.Layouts.{keys_of_layout, parts_of_layout}
-use Rattle.task_run.specs.Reads.{lengths_found, reads_between, bytes_of, is_run, is_at_end, appended, is_removed}
+use Rattle.task_run.specs.Reads.{lengths_found, reads_between, bytes_of, is_run, is_at_end, appended, holds, is_removed}
 use Rattle.task_run.specs.Checks.{present_request}
 
 abbrev pub is_size : Option ℕ → ℕ → Bool
@@ -90,12 +90,16 @@ copied_length setup t calls n = length (appended (chunk_file setup t n) calls)
 abbrev pub part_length : Part → ℕ
 part_length part = part.to - part.from
 
--- each transfer, the first of which is request n, is of a file with all bytes of its part
+-- the file of request n was made, and holds what it got
+abbrev pub is_filled : Setup → ℕ → List Call → ℕ → Bool
+is_filled setup t calls n = unwrap_or (option_map (bytes_eq (appended (chunk_file setup t n) calls)) (holds (chunk_file setup t n) None calls)) false
+
+-- each transfer, the first of which is request n, is of a file that holds all bytes of its part and no others
 abbrev pub are_whole : Setup → ℕ → List ℕ → List Call → ℕ → List Part → List Asking → Bool
 are_whole setup t file calls n parts [] = true
 are_whole setup t file calls n [] (a ∷ more) = false
 are_whole setup t file calls n (part ∷ parts) (a ∷ more) =
-    is_copied setup t file calls n part && copied_length setup t calls n == part_length part && are_whole setup t file calls (n + 1) parts more
+    is_copied setup t file calls n part && copied_length setup t calls n == part_length part && is_filled setup t calls n && are_whole setup t file calls (n + 1) parts more
 
 -- the files of these transfers, the first of which is request n, are removed
 abbrev pub are_removed : Setup → ℕ → List Call → ℕ → List Asking → Bool

@@ -1,18 +1,19 @@
 // Laws over the definitions, each the contract of a function with nothing to do.
-ghost use Rattle.std.specs.Prelude.{take, drop, ◌≡◌, ◌++◌, [], ◌∷◌, codes, Ok, Err, Some};
+ghost use Rattle.std.specs.Prelude.{take, drop, ◌≡◌, ◌++◌, [], ◌∷◌, codes, Ok, Err, Some, None};
 ghost use Rattle.journal_model.specs.declared.verdict.Why.TheVariants.{Eof};
 ghost use Rattle.journal_model.specs.declared.verdict.Verdict.TheVariants.{Done, Failed, Ended};
 ghost use Rattle.ann_outside.specs.declared.file_desk.DeskError.TheVariants.{Missing, Failed as CallFailed};
 ghost use Rattle.ann_outside.specs.declared.file_desk.Call.TheVariants.{Size, Create};
 ghost use Rattle.journal_model.specs.declared.answer.Answer.TheVariants.{Stored, Got, Present, Dropped, Absent as AbsentAnswer, FileFault, NoFile, Memory, Failed as FailedAnswer, Ended as EndedAnswer, Size as SizeAnswer, Hash as HashAnswer};
-ghost use Rattle.task_run.specs.Rows.{task_of, setup_of, asks, notes, store_a, stores_a, sized, get_abc, fetched_1, gets_abc, got_abc, renamed, part_gone, store_ten, stores_ten, stored_ten, finds_ten, lost_ten, stored_short, stores_empty, stored_empty, empty_key, get_ten, gets_ten, resumed_ten, unread_ten, half_read_ten, get_none, goes_on_ten, short_then_more, drop_ten, drops_ten, check_ten, checks_ten, abc, get_md5, gets_md5, resumed_foo, gets_whole_md5, fetched_foo, gets_hi, got_hi};
+ghost use Rattle.task_run.specs.Rows.{task_of, setup_of, asks, notes, store_a, stores_a, sized, get_abc, fetched_1, gets_abc, got_abc, cut_abc, renamed, part_gone, store_ten, stores_ten, stored_ten, finds_ten, lost_ten, stored_short, cut_behind_filling, made_twice, stores_empty, stored_empty, never_made, empty_key, get_ten, gets_ten, resumed_ten, unread_ten, grown_on_nine, cut_behind_ten, half_read_ten, get_none, goes_on_ten, short_then_more, drop_ten, drops_ten, check_ten, checks_ten, abc, get_md5, gets_md5, resumed_foo, gets_whole_md5, fetched_foo, gets_hi, got_hi};
 ghost use Rattle.ann_key.specs.Keys.{Parts, key_reading};
 ghost use Rattle.ann_digest.specs.Fits.{IsDigestFor, FitsKey};
 ghost use Rattle.task_run.specs.Runs.{TaskRun};
 ghost use Rattle.annex_model.specs.Messages.{Transfer};
-ghost use Rattle.std.specs.Prelude.{true};
+ghost use Rattle.std.specs.Prelude.{true, false};
 ghost use Rattle.task_text.specs.declared.task.Work.TheVariants.{Store, Get};
 ghost use Rattle.task_run.specs.RunLaws.{GotNeedsFit};
+ghost use Rattle.task_run.specs.Reads.{holds, are_found_so};
 ghost use Rattle.task_run.specs.Askings.{TaskStretch, run_askings, run_notings, desk_of};
 ghost use Rattle.task_run.specs.StretchRows.{dropped_twice, removes};
 ghost use Rattle.journal_model.specs.Rows.{crossed};
@@ -78,6 +79,10 @@ pub fn chunk_store_runs()
     ensures not_cut_short { TaskRun store_ten 1 (setup_of 4) [] (take 1 finds_ten) (sized (codes "f") 10) [] (SizeAnswer 0) → ⊥ }
     ensures unread_short { TaskRun store_ten 1 (setup_of 4) [] (take 2 stores_ten) (take 10 stored_ten) [] (SizeAnswer 4) → ⊥ }
     ensures unasked { TaskRun store_ten 1 (setup_of 4) [] (drop 1 stores_ten) stored_ten (notes 4 3 3 ∷ []) Stored → ⊥ }
+    ensures memory { TaskRun (task_of Store empty_key (codes "f")) 1 (setup_of 4) [] stores_empty (take 2 stored_empty) [] Memory }
+    ensures cut_behind_filling { TaskRun store_ten 1 (setup_of 4) [] stores_ten cut_behind_filling (notes 4 3 4 ∷ []) Stored → ⊥ }
+    ensures made_twice { TaskRun store_ten 1 (setup_of 4) [] stores_ten made_twice (notes 4 3 4 ∷ []) Stored → ⊥ }
+    ensures never_made { TaskRun (task_of Store empty_key (codes "f")) 1 (setup_of 4) [] stores_empty never_made [] Memory → ⊥ }
 {}
 
 /// A get in the plain layout fetches into a file of the task's own, moves that to part, checks what was read, and renames part where it
@@ -94,6 +99,7 @@ pub fn plain_get_runs()
     ensures never_sized { TaskRun get_abc 1 (setup_of 0) [] (gets_abc (Done 13)) (drop 1 (got_abc (codes "abc")) ++ renamed) [] Got → ⊥ }
     ensures length_passed_over { TaskRun get_abc 1 (setup_of 0) [] (gets_abc (Done 13)) (sized fetched_1 2 ++ drop 1 (got_abc (codes "abc")) ++ renamed) [] Got → ⊥ }
     ensures never_renamed { TaskRun get_abc 1 (setup_of 0) [] (gets_abc (Done 13)) (got_abc (codes "abc")) [] Got → ⊥ }
+    ensures never_looked_at { TaskRun (task_of Get (codes "WORM--a") (codes "o")) 1 (setup_of 0) [] (asks (Transfer false (codes "WORM--a") fetched_1) (Done 13) ∷ []) (Create (codes "o.part") (Ok tt) ∷ renamed) [] Got → ⊥ }
     ensures misses { TaskRun get_abc 1 (setup_of 0) [] (gets_abc (Done 13)) (Size fetched_1 (Err Missing) ∷ []) [] Got → ⊥ }
     ensures not_absent { TaskRun get_abc 1 (setup_of 0) [] (gets_abc (Done 13)) (Size fetched_1 (Err Missing) ∷ []) [] AbsentAnswer → ⊥ }
 {}
@@ -108,10 +114,26 @@ pub fn fitting_runs()
     ensures got_then { TaskRun (task_of Get (codes "WORM-s2--a") (codes "o")) 2 (setup_of 0) [] gets_hi got_hi [] Got }
     ensures got_as_other { TaskRun (task_of Get (codes "WORM-s2--a") (codes "o")) 1 (setup_of 0) [] gets_hi got_hi [] Got → ⊥ }
     ensures not_looked_at { TaskRun get_ten 1 (setup_of 0) ((4, 3) ∷ []) gets_ten unread_ten [] Got → ⊥ }
+    ensures grown_on_nine { TaskRun get_ten 1 (setup_of 0) ((4, 3) ∷ []) gets_ten grown_on_nine [] Got → ⊥ }
+    ensures cut_behind_resumed { TaskRun get_ten 1 (setup_of 0) ((4, 3) ∷ []) gets_ten cut_behind_ten [] Got → ⊥ }
+    ensures cut_behind { TaskRun get_abc 1 (setup_of 0) [] (gets_abc (Done 13)) (got_abc (codes "abc") ++ cut_abc ++ renamed) [] Got → ⊥ }
     ensures never_begun { TaskRun get_none 1 (setup_of 0) ((4, 1) ∷ []) [] (Create (codes "o.part") (Ok tt) ∷ renamed) [] Got → ⊥ }
     ensures goes_on { TaskRun get_ten 1 (setup_of 0) ((4, 3) ∷ []) goes_on_ten short_then_more [] (SizeAnswer 3) → ⊥ }
     ensures half_looked_at { TaskRun get_ten 1 (setup_of 0) ((4, 3) ∷ []) gets_ten half_read_ten [] (SizeAnswer 6) → ⊥ }
     ensures not_asked { TaskRun get_ten 1 (setup_of 0) ((4, 3) ∷ []) [] resumed_ten [] Got → ⊥ }
+{}
+
+/// What part holds behind such calls, and of which contents all that they found of it is so.
+pub fn part_holds()
+    ensures found { are_found_so (codes "o.part") (Some (codes "012345678")) resumed_ten ≡ true }
+    ensures other_length { are_found_so (codes "o.part") (Some (codes "01234567")) resumed_ten ≡ false }
+    ensures other_bytes { are_found_so (codes "o.part") (Some (codes "01234S678")) resumed_ten ≡ false }
+    ensures resumed { holds (codes "o.part") (Some (codes "012345678")) resumed_ten ≡ Some (codes "0123456789") }
+    ensures grown { holds (codes "o.part") (Some (codes "012345678")) grown_on_nine ≡ Some (codes "01234567889") }
+    ensures cut_behind { holds (codes "o.part") (Some (codes "012345678")) cut_behind_ten ≡ Some (codes "012345678") }
+    ensures made { holds (codes "o.part") None (got_abc (codes "abc")) ≡ Some (codes "abc") }
+    ensures unknown { holds (codes "o.part") None resumed_ten ≡ None }
+    ensures replaced { holds (codes "o") (Some []) renamed ≡ None }
 {}
 
 /// Where the bytes that part held and those that were fetched have another digest than the key, the answer is this digest and part is gone.

@@ -1,6 +1,6 @@
 -- The calls of a store in chunks.
 use Rattle.std.proofs.Common.{◌≡◌, ◌∙◌, ℕ, zero, suc, ◌+◌, ◌<◌, ◌≤◌, List, [], ◌∷◌, ◌++◌, length, map, refl, sym, ap, subst, arith, append-nil, append_assoc, take}
-use Rattle.std.specs.Prelude.{Bool, true, false, ◌&&◌, ◌||◌, nat_le, nat_lt, ◌==◌, bytes_eq, filter, is_none, Ok, Err}
+use Rattle.std.specs.Prelude.{Bool, true, false, ◌&&◌, ◌||◌, nat_le, nat_lt, ◌==◌, bytes_eq, filter, is_none, Option, Some, None, Ok, Err}
 use Rattle.std.specs.List.{list_all, list_any, filter_map, concat, range_with_len}
 use Rattle.std.proofs.Math.Seq.{take-append_seam}
 use Rattle.std.proofs.lemmas.List.Elements.{filter_map-append}
@@ -16,7 +16,7 @@ use Rattle.fetch_copy.specs.CopiesOut.{reads_before}
 use Rattle.task_run.specs.declared.setup.Setup.{Setup}
 use Rattle.task_run.specs.Stops.{call_stop}
 use Rattle.task_run.specs.Names.{chunk_file, chunk_files, is_among}
-use Rattle.task_run.specs.Reads.{reads_of, read_of, bytes_of, is_run, piece_of, appended, is_call_of, is_known}
+use Rattle.task_run.specs.Reads.{reads_of, read_of, bytes_of, is_run, piece_of, appended, held_after, holds, is_call_of, is_known}
 use Rattle.task_run.specs.Discipline.{are_among, names_in, changed_by, size_among, are_found}
 use Rattle.task_run.specs.Stores.{is_size_call, is_front}
 use Rattle.task_store.specs.ChunkStoring.{cut_calls}
@@ -297,7 +297,48 @@ cutting_removed file name from to calls r c = record {
     wrote : appended name (calls ++ Remove name r ∷ []) ≡ appended name calls
     wrote = ap concat (filter_map-append (piece_of name) calls (Remove name r ∷ []) ∙ append-nil (filter_map (piece_of name) calls))
 
--- ---- how the pieces end
+-- ---- what the files hold
+
+pub holds_both : (name : List ℕ) (held : Option (List ℕ)) (xs ys : List Call) → holds name held (xs ++ ys) ≡ holds name (holds name held xs) ys
+holds_both name held [] ys = refl
+holds_both name held (x ∷ xs) ys = holds_both name (held_after name held x) xs ys
+
+-- another file holds what it held
+pub own_held : (file name other : List ℕ) (from : ℕ) (held : Option (List ℕ)) → bytes_eq name other ≡ false → (xs : List Call) → list_all (own file name from) xs ≡ true → holds other held xs ≡ held
+own_held file name other from held d [] k = refl
+own_held file name other from held d (c ∷ xs) k =
+    let parts = and_parts (own file name from c) (list_all (own file name from) xs) k in
+    ap (λ h. holds other h xs) (by_call c parts.0) ∙ own_held file name other from held d xs parts.1
+  where
+    by_call : (c : Call) → own file name from c ≡ true → held_after other held c ≡ held
+    by_call (ReadAt named at answer) h = refl
+    by_call (Create named (Ok done)) h = let e : named ≡ name = same_text named name h in rw e (rw d refl)
+    by_call (Create named (Err error)) h = refl
+    by_call (Append named piece (Ok done)) h = let e : named ≡ name = same_text named name h in rw e (rw d refl)
+    by_call (Append named piece (Err error)) h = refl
+    by_call (Remove named answer) h = refl
+    by_call (Size named answer) h = apart h
+    by_call (K.Cut named size answer) h = apart h
+    by_call (Rename named to answer) h = apart h
+
+-- whatever the file held before, behind these calls it holds what they append to it
+abbrev pub Fills : List ℕ → List Call → Type 0
+Fills name calls = (held : Option (List ℕ)) → holds name held calls ≡ Some (appended name calls)
+
+pub copy_held : (file name held : List ℕ) (at : ℕ) (pieces : List (List ℕ)) → holds name (Some held) (copy_calls file name at pieces) ≡ Some (held ++ concat pieces)
+copy_held file name held at [] = ap (λ l. Some l) (sym (append-nil held))
+copy_held file name held at (piece ∷ pieces) =
+    let first : held_after name (Some held) (Append name piece (Ok tt)) ≡ Some (held ++ piece) = rw (same_name name) refl in
+    ap (λ (h : Option (List ℕ)). holds name h (copy_calls file name (at + length piece) pieces)) first
+    ∙ copy_held file name (held ++ piece) (at + length piece) pieces
+    ∙ ap (λ l. Some l) (append_assoc held piece (concat pieces))
+
+-- the removal of a file tells it as it was
+pub fills_removed : (name : List ℕ) (calls : List Call) (r : _) → Fills name calls → Fills name (calls ++ Remove name r ∷ [])
+fills_removed name calls r h held = holds_both name held calls (Remove name r ∷ []) ∙ h held ∙ ap (λ l. Some l) (sym wrote)
+  where
+    wrote : appended name (calls ++ Remove name r ∷ []) ≡ appended name calls
+    wrote = ap concat (filter_map-append (piece_of name) calls (Remove name r ∷ []) ∙ append-nil (filter_map (piece_of name) calls))
 
 -- ---- files that are there
 

@@ -193,7 +193,7 @@ are_whole_from setup t key file size m (suc k) calls (a ∷ ts) low w =
     let first : WholeAt setup t key file size m calls = w m (omega arith) (omega arith) in
     let rest : are_whole setup t file (with_size file size calls) (m + 1 + 1) (chunk_parts setup key size (m + 1) k) ts ≡ true =
     are_whole_from setup t key file size (m + 1) k calls ts (omega arith) (λ c least most. w c (omega arith) (omega arith)) in
-    rw (first.copied, first.long, rest) refl
+    rw (first.copied, first.long, first.filled, rest) refl
 
 pub are_removed_from : (setup : Setup) (t m : ℕ) (calls : List Call) (ts : List Asking) → ((c : ℕ) → m ≤ c → c < m + length ts → is_removed (chunk_file setup t (c + 1)) calls ≡ true)
     → are_removed setup t calls (m + 1) ts ≡ true

@@ -1,6 +1,6 @@
 -- Runs of tasks that store content in chunks.
 use Rattle.std.proofs.Common.{◌≡◌, ◌∙◌, ℕ, zero, suc, ◌+◌, ◌-◌, ◌*◌, ◌^◌, ◌<◌, ◌≤◌, List, [], ◌∷◌, ◌++◌, length, map, refl, sym, ap, subst, arith, append-nil, length-append, add-zero}
-use Rattle.std.specs.Prelude.{Bool, true, false, ◌&&◌, not, nat_le, nat_lt, ◌==◌, bytes_eq, filter, is_none, Ok}
+use Rattle.std.specs.Prelude.{Bool, true, false, ◌&&◌, not, nat_le, nat_lt, ◌==◌, bytes_eq, filter, is_none, Some, None, Ok}
 use Rattle.std.specs.List.{list_all, list_any, filter_map, concat, range_with_len}
 use Rattle.std.proofs.Math.Nat.{mul-le-mul_right}
 use Rattle.std.proofs.lemmas.List.Elements.{filter_map-append, filter-append}
@@ -17,15 +17,15 @@ use Rattle.task_run.specs.declared.setup.Setup.{Setup}
 use Rattle.task_run.specs.Stops.{call_stop, all_but_last, is_done, is_question}
 use Rattle.task_run.specs.Names.{chunk_file, chunk_files, part_of}
 use Rattle.task_run.specs.Requests.{AsksFor, AskInOrder}
-use Rattle.task_run.specs.Reads.{read_of, reads_of, reads_between, is_last, takes_away, piece_of, appended, is_call_of, is_known, is_removed}
+use Rattle.task_run.specs.Reads.{read_of, reads_of, reads_between, is_last, takes_away, piece_of, appended, holds, is_call_of, is_known, is_removed}
 use Rattle.task_run.specs.Discipline.{name_only, change_only, size_of_only, are_among, names_in, changed_by, size_among, are_found}
-use Rattle.task_run.specs.Stores.{is_size_call, is_copied, copied_length, part_length, chunk_request}
+use Rattle.task_run.specs.Stores.{is_size_call, is_copied, copied_length, part_length, is_filled, chunk_request}
 use Rattle.task_store.specs.ChunkStoring.{chunk_keys}
 use Rattle.task_run.proofs.Texts.{same_name}
 use Rattle.task_run.proofs.GetCallsLaws.{found_more, nat_same}
 use Rattle.task_run.proofs.Lists.{but_last}
 use Rattle.task_run.proofs.FileNames.{chunk_files_differ}
-use Rattle.task_store.proofs.ChunkStoreCalls.{lt_true, le_of, lt_of, lt_false, all_imp, all_more, all_kept, own, own_named, own_changed, own_length, own_no_size, own_pieces, own_calls, own_reads, Cutting, chunk_among}
+use Rattle.task_store.proofs.ChunkStoreCalls.{lt_true, le_of, lt_of, lt_false, all_imp, all_more, all_kept, own, own_named, own_changed, own_length, own_no_size, own_pieces, own_calls, own_reads, Cutting, holds_both, own_held, Fills, chunk_among}
 
 -- ---- ranges
 
@@ -117,6 +117,7 @@ with_size file size calls = Size file (Ok size) ∷ calls
 pub record WholeAt (setup : Setup) (t : ℕ) (key : Parts) (file : List ℕ) (size c : ℕ) (calls : List Call) : Type 0 where
   pub copied : is_copied setup t file (with_size file size calls) (c + 1) (chunk_part key size setup.chunk c) ≡ true
   pub long : (copied_length setup t (with_size file size calls) (c + 1) == part_length (chunk_part key size setup.chunk c)) ≡ true
+  pub filled : is_filled setup t (with_size file size calls) (c + 1) ≡ true
 
 -- behind the question that found chunk f + 1 missing, which is request f + 1; chunk c is stored by request c + 1
 pub record Front (setup : Setup) (t : ℕ) (key : Parts) (file : List ℕ) (size f : ℕ) (asked : List Asking) (calls : List Call) : Type 0 where
@@ -181,15 +182,24 @@ pub whole_still : (setup : Setup) (t : ℕ) (key : Parts) (file : List ℕ) (siz
 whole_still setup t key file size k c calls more low small o w = record {
   copied = rw (reads, wrote) w.copied;
   long = rw wrote w.long;
+  filled = rw (wrote, held) w.filled;
 }
   where
+    differ : bytes_eq (chunk_file setup t (c + 1)) (chunk_file setup t (k + 1)) ≡ false
+    differ = chunk_files_differ setup t (c + 1) (k + 1) small (omega arith) (λ e. omega arith)
+
+    held : holds (chunk_file setup t (k + 1)) None (calls ++ more) ≡ holds (chunk_file setup t (k + 1)) None calls
+    held =
+        holds_both (chunk_file setup t (k + 1)) None calls more
+        ∙ own_held file (chunk_file setup t (c + 1)) (chunk_file setup t (k + 1)) (from_of setup.chunk c) (holds (chunk_file setup t (k + 1)) None calls) differ more o
+
     reads : reads_between file (from_of setup.chunk k) (to_of size setup.chunk k) (calls ++ more) ≡ reads_between file (from_of setup.chunk k) (to_of size setup.chunk k) calls
     reads = between_kept file (from_of setup.chunk k) (to_of size setup.chunk k) (from_of setup.chunk c) calls more (ranges_apart size setup.chunk k c low)
         (own_reads file (chunk_file setup t (c + 1)) (from_of setup.chunk c) more o)
 
     wrote : appended (chunk_file setup t (k + 1)) (calls ++ more) ≡ appended (chunk_file setup t (k + 1)) calls
     wrote = appended_both (chunk_file setup t (k + 1)) calls more
-        (own_pieces file (chunk_file setup t (c + 1)) (chunk_file setup t (k + 1)) (from_of setup.chunk c) (chunk_files_differ setup t (c + 1) (k + 1) small (omega arith) (λ e. omega arith)) more o)
+        (own_pieces file (chunk_file setup t (c + 1)) (chunk_file setup t (k + 1)) (from_of setup.chunk c) differ more o)
 
 pub still_removed : (setup : Setup) (t : ℕ) (file : List ℕ) (size k c from : ℕ) (calls more : List Call) → k < c → c + 1 < 2 ^ 64
     → list_all (own file (chunk_file setup t (c + 1)) from) more ≡ true → bytes_eq file (chunk_file setup t (k + 1)) ≡ false
@@ -308,24 +318,28 @@ chunk_uncopied setup t key file size c calls b n = rw (reads, wrote) refl
 chunk_whole : (setup : Setup) (t : ℕ) (key : Parts) (file : List ℕ) (size c : ℕ) (calls more : List Call)
     → list_all (λ (r : ℕ × List ℕ). nat_lt r.0 (from_of setup.chunk c)) (reads_of file calls) ≡ true → filter_map (piece_of (chunk_file setup t (c + 1))) calls ≡ []
     → Cutting file (chunk_file setup t (c + 1)) (from_of setup.chunk c) (to_of size setup.chunk c) more
-    → length (appended (chunk_file setup t (c + 1)) more) ≡ to_of size setup.chunk c - from_of setup.chunk c
+    → length (appended (chunk_file setup t (c + 1)) more) ≡ to_of size setup.chunk c - from_of setup.chunk c → Fills (chunk_file setup t (c + 1)) more
     → WholeAt setup t key file size c (calls ++ more)
-chunk_whole setup t key file size c calls more b n x l = record {
+chunk_whole setup t key file size c calls more b n x l fills = record {
   copied = chunk_copied setup t key file size c calls more b n x;
   long = rw wrote (rw l (nat_same (to_of size setup.chunk c - from_of setup.chunk c)));
+  filled = rw (wrote, held) (same_name (appended (chunk_file setup t (c + 1)) more));
 }
   where
     wrote : appended (chunk_file setup t (c + 1)) (calls ++ more) ≡ appended (chunk_file setup t (c + 1)) more
     wrote = appended_only (chunk_file setup t (c + 1)) calls more n
+
+    held : holds (chunk_file setup t (c + 1)) None (calls ++ more) ≡ Some (appended (chunk_file setup t (c + 1)) more)
+    held = holds_both (chunk_file setup t (c + 1)) None calls more ∙ fills (holds (chunk_file setup t (c + 1)) None calls)
 
 -- the front with the next chunk asked for
 pub front_asked : (setup : Setup) (t : ℕ) (key : Parts) (file : List ℕ) (size f : ℕ) (asked : List Asking) (calls more : List Call) (c : ℕ) (a : Asking)
     → Going setup t key file size f asked calls c → c ≤ count_of size setup.chunk → count_of size setup.chunk + 1 < 2 ^ 64
     → Cutting file (chunk_file setup t (c + 1)) (from_of setup.chunk c) (to_of size setup.chunk c) more → are_found (part_of file) (with_size file size calls) more ≡ true
     → AsksFor (chunk_request setup t) (c + 1) (with_chunk setup.chunk c key) a → is_question a ≡ false
-    → length (appended (chunk_file setup t (c + 1)) more) ≡ to_of size setup.chunk c - from_of setup.chunk c
+    → length (appended (chunk_file setup t (c + 1)) more) ≡ to_of size setup.chunk c - from_of setup.chunk c → Fills (chunk_file setup t (c + 1)) more
     → Front setup t key file size f (asked ++ a ∷ []) (calls ++ more)
-front_asked setup t key file size f asked calls more c a g last small x is_found h differs l = record {
+front_asked setup t key file size f asked calls more c a g last small x is_found h differs l fills = record {
   in_order = order_more (chunk_request setup t) (λ number. with_chunk setup.chunk number key) (f + 2) (f + 1) (count_of size setup.chunk - f) asked a g.front.in_order
       (omega (arith, g.so_many)) (at_place (f + 2 + length asked) (f + 1 + length asked) (omega (arith, g.so_many)) g.so_many);
   no_questions = all_more (λ q. not (is_question q)) asked (a ∷ []) g.front.no_questions (rw differs refl);
@@ -362,7 +376,7 @@ front_asked setup t key file size f asked calls more c a g last small x is_found
         let not_below : c ≤ k = not_lt k c e in
         let same : k ≡ c = omega arith in
         let P : ℕ → Type 0 = λ m. WholeAt setup t key file size m (calls ++ more) in
-        subst P (sym same) (chunk_whole setup t key file size c calls more g.before (g.fresh c (omega arith) (omega arith)) x l)
+        subst P (sym same) (chunk_whole setup t key file size c calls more g.before (g.fresh c (omega arith) (omega arith)) x l fills)
       where
         not_lt : (m n : ℕ) → nat_lt m n ≡ false → n ≤ m
         not_lt m n e = grind (arith, nat_tests)

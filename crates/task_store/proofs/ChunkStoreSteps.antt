@@ -26,12 +26,12 @@ use Rattle.std.proofs.Math.Nat.{mul-le-mul_right, suc-mul}
 use Rattle.std.proofs.lemmas.Grind.{div_ceil_times}
 use Rattle.fetch_copy.specs.Copies.{copy_calls, EndsWhole, EndsEarly}
 use Rattle.fetch_copy.specs.CopiesOut.{reads_before}
-use Rattle.task_run.specs.Reads.{is_known, piece_of, appended}
+use Rattle.task_run.specs.Reads.{is_known, piece_of, appended, held_after, holds}
 use Rattle.std.specs.Prelude.{nat_le}
 use Rattle.task_run.proofs.Texts.{other_name}
 use Rattle.task_run.proofs.FileNames.{chunk_not_part}
 use Rattle.task_run.proofs.GetCallsLaws.{found_more, known_skip, known_add, known_copy}
-use Rattle.task_store.proofs.ChunkStoreCalls.{le_true, lt_of, Cutting, Ending, cutting_cut, cutting_removed, known_created, known_removed, copy_found, copy_free}
+use Rattle.task_store.proofs.ChunkStoreCalls.{le_true, lt_of, Cutting, Ending, cutting_cut, cutting_removed, cut_appends, holds_both, copy_held, Fills, fills_removed, known_created, known_removed, copy_found, copy_free}
 use Rattle.task_store.proofs.ChunkStoreRuns.{front_asked, still_removed, removed_last, reads_later, fresh_later}
 use Rattle.task_store.specs.ChunkStoring.{cut_calls}
 
@@ -71,6 +71,28 @@ read_known : (name file : List ℕ) (past : List Call) (at : ℕ) (o : Option (L
 read_known name file past at None k = rw (append-nil past) k
 read_known name file past at (Some piece) k = known_skip name past (ReadAt file at (Ok piece)) refl k
 
+-- it leaves a file that is made and copied to before it as it is
+read_fills : (file name : List ℕ) (from : ℕ) (pieces : List (List ℕ)) (at : ℕ) (o : Option (List ℕ)) → Fills name (cut_calls file name from pieces (last_read file at o))
+read_fills file name from pieces at o held =
+    let made : held_after name held (Create name (Ok tt)) ≡ Some [] = rw (same_name name) refl in
+    ap (λ (h : Option (List ℕ)). holds name h (copy_calls file name from pieces ++ last_read file at o)) made
+    ∙ holds_both name (Some []) (copy_calls file name from pieces) (last_read file at o)
+    ∙ same o
+    ∙ copy_held file name [] from pieces
+    ∙ ap (λ l. Some l) (sym wrote)
+  where
+    same : (o : Option (List ℕ))
+        → holds name (holds name (Some []) (copy_calls file name from pieces)) (last_read file at o) ≡ holds name (Some []) (copy_calls file name from pieces)
+    same None = refl
+    same (Some piece) = refl
+
+    unwritten : (o : Option (List ℕ)) → filter_map (piece_of name) (last_read file at o) ≡ []
+    unwritten None = refl
+    unwritten (Some piece) = refl
+
+    wrote : appended name (cut_calls file name from pieces (last_read file at o)) ≡ concat pieces
+    wrote = cut_appends file name from pieces (last_read file at o) (unwritten o)
+
 -- ---- a range that was copied
 
 pub record Copied (setup : Setup) (t : ℕ) (file : List ℕ) (size c : ℕ) (calls more : List Call) : Type 0 where
@@ -79,6 +101,7 @@ pub record Copied (setup : Setup) (t : ℕ) (file : List ℕ) (size c : ℕ) (ca
   pub free : is_free file more ≡ true
   pub named : is_known (chunk_file setup t (c + 1)) (with_size file size (calls ++ more)) ≡ true
   pub filed : is_known file (with_size file size (calls ++ more)) ≡ true
+  pub fills : Fills (chunk_file setup t (c + 1)) more
 
 pub copied_of : (setup : Setup) (t : ℕ) (key : Parts) (file : List ℕ) (size f : ℕ) (ts : List Asking) (calls : List Call) (c : ℕ) (pieces : List (List ℕ)) (o : Option (List ℕ))
     → Going setup t key file size f ts calls c → c ≤ count_of size setup.chunk
@@ -91,6 +114,7 @@ copied_of setup t key file size f ts calls c pieces o g last w = record {
   free = all_more (λ call. is_none (call_stop (part_of file) call)) copied (last_read file at o) (copy_free (part_of file) file name from pieces) (read_free file at o);
   named = subst (λ (l : List Call). is_known name l ≡ true) joined (read_known name file past_2 at o (known_copy name file name past_1 from pieces named_1));
   filed = subst (λ (l : List Call). is_known file l ≡ true) joined (read_known file file past_2 at o filed_2);
+  fills = read_fills file name from pieces at o;
 }
   where
     name : List ℕ
@@ -163,7 +187,7 @@ pub removal_of : (setup : Setup) (t : ℕ) (key : Parts) (file : List ℕ) (size
     → length (appended (chunk_file setup t (c + 1)) more) ≡ to_of size setup.chunk c - from_of setup.chunk c
     → Removal setup t key file size f (ts ++ a ∷ []) (calls ++ (more ++ Remove (chunk_file setup t (c + 1)) (Ok tt) ∷ [])) (c + 1)
 removal_of setup t key file size f ts calls more c a g last small x h differs l = record {
-  front = front_asked setup t key file size f ts calls (more ++ gone) c a g last small cutting found_all h differs (ap length wrote ∙ l);
+  front = front_asked setup t key file size f ts calls (more ++ gone) c a g last small cutting found_all h differs (ap length wrote ∙ l) (fills_removed name more (Ok tt) x.fills);
   free = all_more (λ call. is_none (call_stop (part_of file) call)) calls (more ++ gone) g.free (all_more (λ call. is_none (call_stop (part_of file) call)) more gone x.free refl);
   removed = λ k low high. by_test k low high (nat_lt k c) refl;
 }

@@ -42,7 +42,7 @@ use Rattle.std.specs.Prelude.{nat_le}
 use Rattle.task_run.proofs.Texts.{other_name}
 use Rattle.task_run.proofs.FileNames.{chunk_not_part}
 use Rattle.task_run.proofs.GetCallsLaws.{found_more, placed, bytes_placed}
-use Rattle.task_store.proofs.ChunkStoreCalls.{le_true, own, Cutting, cutting_removed, cutting_create, cut_reads, cut_appends, bytes_more}
+use Rattle.task_store.proofs.ChunkStoreCalls.{le_true, own, Cutting, cutting_removed, Fills, fills_removed, cutting_create, cut_reads, cut_appends, bytes_more}
 use Rattle.task_store.proofs.ChunkStoreRuns.{front_same, front_asked, still_removed}
 use Rattle.task_store.specs.ChunkStoring.{from_file, Cut, Chunk, NotMade, NotCopied, CutShort, Unasked, Undone, Settled, cut_calls, chunk_calls, chunk_asked, chunk_result, ChunkIs, is_settled_at}
 use Rattle.task_store.proofs.ChunkStoreEnds.{Missing, store_task, are_free, all_done_free, end_memory, end_call, end_asking, calls_of, front_asks, chunked_is, sought_free, sought_length, sought_split, run_finished}
@@ -475,10 +475,11 @@ chunk_ends setup t key text file layouts size f qs ts calls c how m g last so ne
 
     asked_front : (more : List Call) (a : Asking) → Cutting file (chunk_file setup t (c + 1)) (from_of setup.chunk c) (to_of size setup.chunk c) more
         → are_found (part_of file) (with_size file size calls) more ≡ true → AsksFor (from_file (chunk_file setup t (c + 1))) 1 (with_chunk setup.chunk c key) a
-        → length (appended (chunk_file setup t (c + 1)) more) ≡ to_of size setup.chunk c - from_of setup.chunk c → Front setup t key file size f (ts ++ a ∷ []) (calls ++ more)
-    asked_front more a k is_found h l =
+        → length (appended (chunk_file setup t (c + 1)) more) ≡ to_of size setup.chunk c - from_of setup.chunk c → Fills (chunk_file setup t (c + 1)) more
+        → Front setup t key file size f (ts ++ a ∷ []) (calls ++ more)
+    asked_front more a k is_found h l fills =
         front_asked setup t key file size f ts calls more c a g last m.small k is_found (asks_as setup t (c + 1) (with_chunk setup.chunk c key) a.request a.verdict h)
-        (no_question name (with_chunk setup.chunk c key) a.request a.verdict h) l
+        (no_question name (with_chunk setup.chunk c key) a.request a.verdict h) l fills
 
     undone : (pieces : List (List ℕ)) (ending : List Call) (a : Asking) → Cut file (chunk_file setup t (c + 1)) (from_of setup.chunk c) (to_of size setup.chunk c) pieces ending
         → length (concat pieces) ≡ to_of size setup.chunk c - from_of setup.chunk c → AsksFor (from_file (chunk_file setup t (c + 1))) 1 (with_chunk setup.chunk c key) a
@@ -491,7 +492,7 @@ chunk_ends setup t key text file layouts size f qs ts calls c how m g last so ne
         let P : Option Answer → Type 0 = λ o. RunOf setup t (store_task text file) key layouts (qs ++ (ts ++ a ∷ [])) (with_size file size (calls ++ cut pieces ending)) [] (answered (so_far (Ok o))) in
         let stops : asking_stop W.Store a ≡ Some v.0 = rw (no_question name (with_chunk setup.chunk c key) a.request a.verdict h) v.1 in
         subst P (sym v.2) (end_asking setup t key text file layouts size f qs ts a (calls ++ cut pieces ending) v.0 m (most_too a)
-        (asked_front (cut pieces ending) a x.cutting x.found h (wrote_all pieces ending k l)) free_ts stops
+        (asked_front (cut pieces ending) a x.cutting x.found h (wrote_all pieces ending k l) x.fills) free_ts stops
         (all_more (λ call. is_none (call_stop (part_of file) call)) calls (cut pieces ending) g.free x.free))
 
     free_too : (a : Asking) → is_settled_at a.verdict ≡ true → are_free (ts ++ a ∷ []) ≡ true
@@ -515,7 +516,7 @@ chunk_ends setup t key text file layouts size f qs ts calls c how m g last so ne
         let removes : are_found (part_of file) (with_size file size (calls ++ cut pieces ending)) (Remove name (Err e) ∷ []) ≡ true = rw (chunk_not_part setup t (c + 1) file) (rw x.named refl) in
         subst P j (end_call setup t key text file layouts size f qs (ts ++ a ∷ []) (calls ++ cut pieces ending) (Remove name (Err e)) answer m (most_too a)
         (subst Q (sym j) (asked_front (cut pieces ending ++ Remove name (Err e) ∷ []) a (cutting_removed file name from to (cut pieces ending) (Err e) x.cutting)
-        (found_more (part_of file) (with_size file size calls) (cut pieces ending) (Remove name (Err e) ∷ []) x.found removes) h (ap length wrote ∙ wrote_all pieces ending k l)))
+        (found_more (part_of file) (with_size file size calls) (cut pieces ending) (Remove name (Err e) ∷ []) x.found removes) h (ap length wrote ∙ wrote_all pieces ending k l) (fills_removed name (cut pieces ending) (Err e) x.fills)))
         (free_too a s) (all_more (λ call. is_none (call_stop (part_of file) call)) calls (cut pieces ending) g.free x.free) stop)
 
     -- the chunk's file wasn't removed
@@ -528,7 +529,7 @@ chunk_ends setup t key text file layouts size f qs ts calls c how m g last so ne
         let x : Copied setup t file size c calls (cut_calls file name from pieces ending) = all_copied pieces ending k in
         let P : List Call → Type 0 = λ q. RunOf setup t (store_task text file) key layouts (qs ++ (ts ++ a ∷ [])) (with_size file size (calls ++ q)) [] A.Memory in
         subst P (sym (append-nil (cut pieces ending))) (end_memory setup t key text file layouts size f qs (ts ++ a ∷ []) (calls ++ cut pieces ending) m (most_too a)
-        (asked_front (cut pieces ending) a x.cutting x.found h (wrote_all pieces ending k l)) (free_too a s)
+        (asked_front (cut pieces ending) a x.cutting x.found h (wrote_all pieces ending k l) x.fills) (free_too a s)
         (all_more (λ call. is_none (call_stop (part_of file) call)) calls (cut pieces ending) g.free x.free))
     unremoved pieces ending a E.Failed k l h s = removal_stopped pieces ending a E.Failed A.FileFault k l h s refl
     unremoved pieces ending a E.Missing k l h s = removal_stopped pieces ending a E.Missing A.NoFile k l h s (rw (chunk_not_part setup t (c + 1) file) refl)

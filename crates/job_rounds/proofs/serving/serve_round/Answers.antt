@@ -44,7 +44,7 @@ pub returns-in-Done-clause-held : goal.returns-in-Done-clause-held
 returns-in-Done-clause-held g c =
     c.close_child.ensures.held
     (round_held c.args.bench.core.opening c.args.setup.now _ c.args.bench.core.journal c.round_tagged-core.result.core.journal (link_of c.round_tagged-core.result.link.ear c.round_tagged-core.result.link.mouth) _ _
-    (by_done c.round_tagged-core.result.outcome c.in-Done.is c.round_tagged-core.ensures.round) c.args.link.ear.child c.round_tagged-core.ensures.same.0.0 c.requires.can.wired.written)
+    (by_done c.round_tagged-core.result.outcome c.in-Done.is c.round_tagged-core.ensures.round) c.args.link.ear.child c.round_tagged-core.ensures.same.0.0 (sym c.requires.can.tag) c.requires.can.wired.written)
 
 pub returns-in-Done-clause-desks : goal.returns-in-Done-clause-desks
 returns-in-Done-clause-desks g c =

@@ -38,7 +38,7 @@ ran = record {
     record { in_order = search rules; each_failed = refl; each_begun = refl; each_right = refl; held_read = refl; fetched_read = refl },
     refl,
   );
-  answered = record { answered = record { begun = refl; by_length = (refl, record { said = record { size = refl; name = λ naming e. absurd (no_digest naming.kind naming.extended e) }; held_whole = refl; fetched_whole = refl }); part = record { moved = refl; renamed = refl } } };
+  answered = record { answered = record { begun = refl; by_length = (refl, record { said = record { size = refl; name = λ naming e. absurd (no_digest naming.kind naming.extended e) }; held_whole = refl; fetched_whole = refl }); part = record { moved = refl; held = λ before found. refl; renamed = refl } } };
 }
 
 abbrev stretch : TaskStretch stored_then_got 2
@@ -68,9 +68,6 @@ run = record {
 retrieves : Retrieves stored_then_got the_retrieve the_store hi fetched_2_1
 retrieves = record { there = (3, omega arith, refl); asks = refl; answered = 19; done = refl; stored = refl }
 
-never : (n : ℕ) (more : List ℕ) → n ∷ more ≡ [] → ⊥
-never n more e = cc
-
 pub returns : goal.returns
 unfolding digits
 returns c = record {
@@ -79,5 +76,4 @@ returns c = record {
   got = refl;
   afresh = refl;
   stored = ((the_retrieve, refl, retrieves), tt);
-  looked = (never 2 [], tt);
 }

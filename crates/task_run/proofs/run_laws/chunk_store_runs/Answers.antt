@@ -105,3 +105,29 @@ returns-clause-lost c = record {
   );
   answered = refl;
 }
+
+pub returns-clause-memory : goal.returns-clause-memory
+unfolding digits
+returns-clause-memory c = record {
+  asked_till_stop = refl;
+  calls_till_stop = refl;
+  found = refl;
+  work = (
+    record { names = refl; changes = refl; lengths = refl },
+    record {
+      size_first = refl;
+      fits = λ some. refl;
+      questions_in_order = search rules;
+      each_found = refl;
+      only_missing = refl;
+      transfers_in_order = search rules;
+      each_stored = refl;
+      each_whole = refl;
+      next_copied = refl;
+      each_removed = refl;
+      noted_once = refl;
+      noted_last = λ some. absurd (some refl);
+    },
+  );
+  answered = tt;
+}
