@@ -190,7 +190,8 @@ pub(crate) fn differing(left: &Left, audit: &str, wanted: Wanted<'_>) -> &'stati
     if most_busy(&left.journal) < wanted.busy {
         return "busy";
     }
-    if !are_done_once(&left.journal, wanted.out.lines().count()) {
+    let tasks = u32::try_from(wanted.out.lines().count()).unwrap_or(u32::MAX);
+    if !are_done_once(&left.journal, tasks) {
         return "claims";
     }
     ""

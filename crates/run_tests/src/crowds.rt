@@ -1,7 +1,7 @@
 // Many checks over several children that take no tags.
 use crate::cases::{Wanted, differing, play, run_objects};
 use crate::children::{UNTAGGED, UNTAGGED_GREETING, add_cues, cue};
-use crate::many::{checks, play_checks, prompt_child};
+use crate::many::{make_checks, play_checks, prompt_child};
 use crate::stage::Starts;
 use ann_key::NoMemory;
 use cue_programs::Cue;
@@ -27,7 +27,7 @@ fn expect_pool<R: Threads + Wait + Abort + Sync>(
     children: u32,
     tasks: u32,
 ) -> Result<(), Fail> {
-    let checks = checks(alloc, tasks)?;
+    let checks = make_checks(alloc, tasks)?;
     let starts = starts(alloc, children, tasks, usize::MAX)?;
     let (left, audit) = play_checks(rt, alloc, children, &checks, starts)?;
     let wanted = Wanted {

@@ -80,10 +80,10 @@ fn is_done_once(journal: &Journal, task: u32) -> bool {
 }
 
 /// Whether each of the first so many tasks was claimed once, and then answered once by the number that claimed it.
-pub(crate) fn are_done_once(journal: &Journal, tasks: usize) -> bool {
+pub(crate) fn are_done_once(journal: &Journal, tasks: u32) -> bool {
     let mut all = true;
     for before in 0..tasks {
-        let task = (before as u32).wrapping_add(1);
+        let task = before.wrapping_add(1);
         all = all && is_done_once(journal, task);
     }
     all

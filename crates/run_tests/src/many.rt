@@ -44,7 +44,7 @@ pub(crate) struct Checks {
 }
 
 /// Checks of so many keys, whose answers go by their numbers.
-pub(crate) fn checks(alloc: Global, count: u32) -> Result<Checks, NoMemory> {
+pub(crate) fn make_checks(alloc: Global, count: u32) -> Result<Checks, NoMemory> {
     let mut input = String::new(alloc);
     let mut out = String::new(alloc);
     for number in 0..count {
@@ -59,12 +59,12 @@ pub(crate) fn checks(alloc: Global, count: u32) -> Result<Checks, NoMemory> {
 }
 
 // The request for the key of that number.
-fn request(alloc: Global, number: u32) -> Result<String, NoMemory> {
+fn request_text(alloc: Global, number: u32) -> Result<String, NoMemory> {
     Ok(format!(in alloc; "CHECKPRESENT WORM--{number}")?)
 }
 
 // Its answer.
-fn reply(alloc: Global, number: u32) -> Result<String, NoMemory> {
+fn reply_text(alloc: Global, number: u32) -> Result<String, NoMemory> {
     let reply = &REPLIES[number as usize % 3];
     let says = reply.says;
     let text = reply.text;
@@ -80,8 +80,8 @@ pub(crate) fn prompt_child(
     let mut cues = Vec::new(alloc);
     add_cues(alloc, &mut cues, greets)?;
     for number in 0..count {
-        let asked = request(alloc, number)?;
-        let said = reply(alloc, number)?;
+        let asked = request_text(alloc, number)?;
+        let said = reply_text(alloc, number)?;
         cues.push(cue(
             alloc,
             [asked.as_str()].as_slice(),
@@ -98,10 +98,10 @@ fn patient_child(alloc: Global, count: u32) -> Result<Vec<Cue>, NoMemory> {
     let mut when = Vec::new(alloc);
     let mut say = Vec::new(alloc);
     for number in 0..count {
-        when.push(Bytes::copy(alloc, request(alloc, number)?.as_bytes())?)?;
+        when.push(Bytes::copy(alloc, request_text(alloc, number)?.as_bytes())?)?;
         say.push((
             number,
-            Bytes::copy(alloc, reply(alloc, number)?.as_bytes())?,
+            Bytes::copy(alloc, reply_text(alloc, number)?.as_bytes())?,
         ))?;
     }
     say.reverse();
@@ -130,7 +130,7 @@ fn expect_crowd<R: Threads + Wait + Abort + Sync>(
     child: Vec<Cue>,
     busy: u64,
 ) -> Result<(), Fail> {
-    let checks = checks(alloc, tasks)?;
+    let checks = make_checks(alloc, tasks)?;
     let mut starts = Starts::new(alloc);
     starts.add(child, usize::MAX)?;
     let (left, audit) = play_checks(rt, alloc, jobs, &checks, starts)?;

@@ -1,5 +1,6 @@
 // Programs in memory of which some starts fail, and each child's output ends where it is told to.
-ghost use Rattle.std.specs.Prelude.{◌≡◌, ◌≤◌, None};
+ghost use Rattle.std.specs.Prelude.{◌≤◌, None};
+ghost use Rattle.ann_outside.specs.Causes.{Rose};
 
 use ann_key::NoMemory;
 use ann_outside::{Failed, Programs, StartError, Started};
@@ -62,7 +63,10 @@ impl<'a, R> StagePrograms<'a, R> {
     }
 
     // A start failed.
-    fn fail(&mut self) {
+    fn fail(&mut self)
+        ensures later { self.old.faults ≤ self.new.faults }
+        ensures rose { Rose self.old.faults self.new.faults }
+    {
         self.faults = self.faults.saturating_add(1);
     }
 }
