@@ -10,6 +10,8 @@ mod cases;
 #[cfg(test)]
 mod children;
 #[cfg(test)]
+mod crowds;
+#[cfg(test)]
 mod ends;
 #[cfg(test)]
 mod journals;
@@ -19,6 +21,8 @@ mod keys;
 mod many;
 #[cfg(test)]
 mod overlap;
+#[cfg(test)]
+mod pool;
 #[cfg(test)]
 mod stage;
 #[cfg(test)]
