@@ -1,6 +1,6 @@
 -- What a get that is answered Got keeps.
 use Rattle.std.proofs.Common.{◌≡◌, ◌∙◌, ◌⊎◌, inl, inr, ℕ, zero, suc, ◌+◌, ◌-◌, ◌<◌, ◌≤◌, ◌==◌, min, Bool, true, false, not, List, [], ◌∷◌, ◌++◌, length, take, drop, refl, sym, ap, subst, arith, length-append, length-drop}
-use Rattle.std.specs.Prelude.{◌≢◌, ◌||◌, cond, if◌then◌else◌, nat_le, Option, Some, None, is_some, filter, map, unwrap_or, replicate, count_by}
+use Rattle.std.specs.Prelude.{◌||◌, cond, if◌then◌else◌, nat_le, Option, Some, None, is_some, filter, map, unwrap_or, replicate, count_by}
 use Rattle.std.specs.Bool.{MatchBool}
 use Rattle.std.specs.List.{list_all, concat, slice_range, range_with_len}
 use Rattle.std.proofs.lemmas.Bool.{and_parts, or_cases, eqb-true, eqb-false, leb-true}

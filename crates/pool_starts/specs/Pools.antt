@@ -1,0 +1,72 @@
+-- What gathering a pool leaves: in the journal, of its children, and of the programs.
+use Rattle.std.specs.Prelude.{ℕ, ◌≡◌, ◌≤◌, ◌+◌, ◌||◌, min, Bool, true, false, List, [], ◌∷◌, ◌++◌, length, Option, Some, None}
+use Rattle.std.specs.List.{list_all}
+use Rattle.ann_outside.specs.Starts.{Starts}
+use Rattle.ann_outside.specs.Causes.{Rose}
+use Rattle.journal_model.specs.declared.entry.What.{What}
+use Rattle.journal_model.specs.declared.entry.What.TheVariants.{Claim}
+use Rattle.journal_model.specs.declared.entry.Entry.{Entry}
+use Rattle.journal_model.specs.declared.opening.Opening.{Opening}
+use Rattle.journal_model.specs.Journal.{any, is_ended}
+use Rattle.journal_model.specs.Legality.{count, is_start}
+use Rattle.journal_model.specs.Shares.{are_by}
+use Rattle.host_core.specs.Steps.{unclaimed}
+use Rattle.child_end.specs.Wires.{WireValue, IsOfStart, came}
+use Rattle.child_end.specs.Programs.{HaveStarted, ProgramsValue, is_failed_start}
+use Rattle.gathering.specs.Rounds.{LinkValue}
+use Rattle.gathering.specs.Laws.{children_of}
+use Rattle.lone_rounds.specs.Starting.{children}
+use Rattle.lone_rounds.specs.Rounds.{is_of_run}
+use Rattle.lone_rounds.specs.Stints.{IsLinked}
+use Rattle.pool_rounds.specs.Pool.{PoolCan}
+use Rattle.pool_starts.specs.Slots.{AllInTurn, in_pool, last_slot, offers_tags}
+
+-- a task is claimed
+abbrev pub is_claim : What → Bool
+is_claim (Claim task child) = true
+is_claim w = false
+
+-- the child is that of one of the links
+abbrev pub is_among : List LinkValue → ℕ → Bool
+is_among [] c = false
+is_among (l ∷ more) c = (l.ear.child == c) || is_among more c
+
+-- Behind the ready child of slot 0 the main thread started and greeted children in other slots, in turn, without offering ASYNC. Each
+-- is ready and among these links, or has ended. No task was claimed. A round over all the links may begin. Where it is whole, each slot
+-- of the run's had its start, as far as there are tasks.
+pub record Gathered (o : Opening) (jobs : ℕ) (old new : List Entry) (first : LinkValue) (links : List LinkValue) (whole : Bool) : Type 0 where
+  pub later : List Entry
+  pub is : new ≡ old ++ later
+  pub main : are_by 0 later ≡ true
+  pub within : list_all (λ e. in_pool (count is_start old + 1) e.what) later ≡ true
+  pub unclaimed_yet : any is_claim later ≡ false
+  pub untagged : any offers_tags later ≡ false
+  pub asks : list_all (λ e. is_of_run e.what) later ≡ true
+  pub turn : AllInTurn o jobs old later
+  pub ended : list_all (λ c. is_ended new c || is_among links c) (children later) ≡ true
+  pub can : PoolCan o new (first ∷ links)
+  pub manned : whole ≡ true → min jobs (length (unclaimed o new)) ≤ last_slot new + 1
+
+-- ---- seats
+
+-- a seat: of a child that is over, by its wire, or of one that serves
+pub data SeatValue : Type 0 where
+  OverBy : WireValue → SeatValue
+  Serves : SeatValue
+
+-- A seat for each child that a start gave, in order, where n starts stand before these: a wire that is linked to the journal, or the
+-- next link's.
+abbrev pub AreSeated : Option Starts → List Entry → ℕ → List (Option ℕ) → List SeatValue → List LinkValue → Type 0
+AreSeated starts journal n [] [] [] = Unit {0}
+AreSeated starts journal n (None ∷ cs) seats links = AreSeated starts journal (n + 1) cs seats links
+AreSeated starts journal n (Some c ∷ cs) (OverBy wire ∷ seats) links = (wire.child ≡ c) × IsLinked starts journal (n + 1) wire × AreSeated starts journal (n + 1) cs seats links
+AreSeated starts journal n (Some c ∷ cs) (Serves ∷ seats) (l ∷ links) =
+    (l.ear.child ≡ c) × IsOfStart starts (n + 1) l.mouth.number × IsOfStart starts (n + 1) l.ear.number × AreSeated starts journal (n + 1) cs seats links
+AreSeated starts journal n _ _ _ = ⊥
+
+-- of the objects: the children's seats, the starts that the entries have, and a fault where one failed
+pub record GathersBy (wanted : Type 0) (program : List ℕ) (new later : List Entry) (before after : ProgramsValue) (seats : List SeatValue) (links : List LinkValue) : Type 0 where
+  pub seated : AreSeated before.starts new 0 (came later) seats links
+  pub started : HaveStarted wanted program later before.starts after.starts
+  pub fault : any is_failed_start later ≡ true → Rose before.faults after.faults
+  pub later_faults : before.faults ≤ after.faults

@@ -1,0 +1,143 @@
+-- In which slots a run starts its children, and what spends a start of slot 0.
+use Rattle.std.specs.Prelude.{ℕ, zero, suc, ◌≡◌, ◌≤◌, ◌<◌, ◌+◌, ◌==◌, ◌&&◌, ◌||◌, not, min, nat_le, Bool, true, false, List, [], ◌∷◌, ◌++◌, length, Option, Some, None}
+use Rattle.std.specs.List.{last_or, list_any}
+use Rattle.journal_model.specs.declared.entry.What.{What}
+use Rattle.journal_model.specs.declared.entry.What.TheVariants.{Claim, Start, NoStart, Ask, Put, Sent, Mute, Got, End, Verdict as Settled, Lost, Answer as Answered, Note}
+use Rattle.journal_model.specs.declared.entry.Entry.{Entry}
+use Rattle.journal_model.specs.declared.opening.Opening.{Opening}
+use Rattle.journal_model.specs.Journal.{each_of, is_mute, why_of}
+use Rattle.journal_model.specs.Legality.{count, is_prepared}
+use Rattle.host_core.specs.Steps.{unclaimed}
+use Rattle.lone_rounds.specs.Starting.{AllOffer, is_ready_untagged, is_spent, is_unclosed}
+
+-- ---- starts
+
+-- the slot of a start, whether it gave a child or not
+abbrev pub slot_of : What → Option ℕ
+slot_of (Start child slot offer) = Some slot
+slot_of (NoStart slot) = Some slot
+slot_of w = None
+
+-- the slot of the last start
+abbrev pub last_slot : List Entry → ℕ
+last_slot past = last_or 0 (each_of slot_of past)
+
+-- a start, or a claim
+abbrev pub begins_by_start : What → Option Bool
+begins_by_start (Start child slot offer) = Some true
+begins_by_start (NoStart slot) = Some true
+begins_by_start (Claim task child) = Some false
+begins_by_start w = None
+
+-- no task was claimed since the last start
+abbrev pub is_unclaimed_since : List Entry → Bool
+is_unclaimed_since past = last_or false (each_of begins_by_start past)
+
+-- the child that a start of slot 0 gave, or none
+abbrev pub first_in : What → Option (Option ℕ)
+first_in (Start child slot offer) = if slot == 0 then Some (Some child) else None
+first_in (NoStart slot) = if slot == 0 then Some None else None
+first_in w = None
+
+abbrev pub is_ready_pool : List Entry → Option ℕ → Bool
+is_ready_pool past (Some child) = is_ready_untagged past child
+is_ready_pool past None = false
+
+-- the last start of slot 0 gave a child that is ready and takes no tags: so a pool serves
+abbrev pub has_pool : List Entry → Bool
+has_pool past = is_ready_pool past (last_or None (each_of first_in past))
+
+-- A start in another slot than 0 is of a pool, in the slot behind the last start's; that slot is one of the run's, there is a task for
+-- it, and none was claimed since the last start.
+pub record IsNextSlot (o : Opening) (jobs : ℕ) (past : List Entry) (before : ℕ) : Type 0 where
+  pub pool : has_pool past ≡ true
+  pub next : last_slot past ≡ before
+  pub unclaimed_since : is_unclaimed_since past ≡ true
+  pub there : before + 1 < jobs
+  pub needed : before + 1 < length (unclaimed o past)
+
+abbrev pub IsInSlot : Opening → ℕ → List Entry → ℕ → Type 0
+IsInSlot o jobs past zero = Unit {0}
+IsInSlot o jobs past (suc before) = IsNextSlot o jobs past before
+
+-- where a pool serves, each slot of the run's had its start, as far as there are tasks
+abbrev pub IsManned : Opening → ℕ → List Entry → Type 0
+IsManned o jobs past = has_pool past ≡ true → min jobs (length (unclaimed o past)) ≤ last_slot past + 1
+
+-- a start stands in its slot, and a task is claimed for a child where the pool is whole
+abbrev pub StandsInTurn : Opening → ℕ → List Entry → What → Type 0
+StandsInTurn o jobs past (Start child slot offer) = IsInSlot o jobs past slot
+StandsInTurn o jobs past (NoStart slot) = IsInSlot o jobs past slot
+StandsInTurn o jobs past (Claim task zero) = Unit {0}
+StandsInTurn o jobs past (Claim task (suc child)) = IsManned o jobs past
+StandsInTurn o jobs past w = Unit {0}
+
+-- so do all of the entries, which stand behind past
+abbrev pub AllInTurn : Opening → ℕ → List Entry → List Entry → Type 0
+AllInTurn o jobs past [] = Unit {0}
+AllInTurn o jobs past (e ∷ rest) = StandsInTurn o jobs past e.what × AllInTurn o jobs (past ++ e ∷ []) rest
+
+-- a start in slot 0
+abbrev pub is_first_start : What → Bool
+is_first_start (Start child slot offer) = slot == 0
+is_first_start (NoStart slot) = slot == 0
+is_first_start w = false
+
+-- Starts stand in their slots, at most so many in slot 0, and each offers ASYNC exactly where it is to.
+pub record AreStarts (o : Opening) (may : Bool) (limit jobs : ℕ) (journal : List Entry) : Type 0 where
+  pub turn : AllInTurn o jobs [] journal
+  pub few : count is_first_start journal ≤ limit
+  pub offers : AllOffer may [] journal
+
+-- ---- what a pool's children and workers make
+
+-- of no child before this one, and no start in slot 0
+abbrev pub in_pool : ℕ → What → Bool
+in_pool first (Claim task child) = true
+in_pool first (Start child slot offer) = nat_le first child && not (slot == 0)
+in_pool first (NoStart slot) = not (slot == 0)
+in_pool first (Ask child job task line) = nat_le first child
+in_pool first (Put child job line) = nat_le first child
+in_pool first (Sent child) = nat_le first child
+in_pool first (Mute child) = nat_le first child
+in_pool first (Got child line) = nat_le first child
+in_pool first (End child why) = nat_le first child
+in_pool first (Settled child job verdict) = nat_le first child
+in_pool first (Lost child task) = nat_le first child
+in_pool first (Answered task answer) = true
+in_pool first (Note task chunk count) = true
+
+-- a start that offers ASYNC
+abbrev pub offers_tags : What → Bool
+offers_tags (Start child slot offer) = offer
+offers_tags w = false
+
+-- ---- what spends a start of slot 0
+
+-- the child was ready, and is mute or ended without being closed
+abbrev pub is_lost : List Entry → ℕ → Bool
+is_lost past c = is_prepared past c && (is_mute past c || is_unclosed (why_of past c))
+
+-- the children of the other slots, up to the next start of slot 0
+abbrev pub pool_behind : List Entry → List ℕ
+pool_behind [] = []
+pool_behind (e ∷ rest) = of e.what
+  where
+    of : What → List ℕ
+    of (Start child slot offer) = if slot == 0 then [] else child ∷ pool_behind rest
+    of (NoStart slot) = if slot == 0 then [] else pool_behind rest
+    of w = pool_behind rest
+
+-- The start is in another slot; or it gave no child; or its child refused to get ready, is mute, or ended and was not closed; or one of
+-- its pool is lost.
+abbrev pub spends : List Entry → What → List Entry → Bool
+spends past (Start child slot offer) rest = not (slot == 0) || (is_spent past child || list_any (is_lost past) (pool_behind rest))
+spends past w rest = true
+
+-- each start among the entries is so
+abbrev pub are_spent : List Entry → List Entry → Bool
+are_spent past [] = true
+are_spent past (e ∷ rest) = spends past e.what rest && are_spent past rest
+
+abbrev pub AreSpent : List Entry → Type 0
+AreSpent past = are_spent past past ≡ true

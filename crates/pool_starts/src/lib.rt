@@ -1,0 +1,8 @@
+// The children of a pool: behind a child that is ready without tags, one more is started in each slot.
+#![tactic(auto)]
+
+mod pool;
+mod starting;
+
+pub use pool::{Gathering, Pool, Seat};
+pub use starting::gather;

@@ -1,0 +1,28 @@
+use ann_outside::{Sink, Source};
+use link_roles::{Lone, Wire};
+
+/// What became of a child of a pool, up to where the pool serves.
+#[derive(Drop)]
+pub enum Seat<I: Sink, O: Source, S: Drop> {
+    /// It isn't ready. It is closed, and its program was waited for.
+    Over(Wire<I, O>),
+    /// It serves, by the link in its turn. Its program is waited for by this.
+    Serving(S),
+}
+
+/// The children of a pool: a seat for each, and a link for each that serves, both in the order of the starts.
+#[derive(Drop)]
+pub struct Pool<I: Sink, O: Source, S: Drop> {
+    pub links: Vec<Lone<I, O>>,
+    pub seats: Vec<Seat<I, O, S>>,
+}
+
+/// What came of gathering a pool.
+pub enum Gathering<I: Sink, O: Source, S: Drop> {
+    /// Each slot had its start.
+    Whole(Pool<I, O, S>),
+    /// No memory was found to start a child; these were started before.
+    NoMemory(Pool<I, O, S>),
+    /// No memory was found for a pool, and nothing was done.
+    NoRoom { link: Lone<I, O>, stub: S },
+}
