@@ -1,1 +1,2 @@
+pub mod NoneUnserved
 pub mod Succeeding

@@ -10,13 +10,13 @@ use Rattle.task_run.specs.declared.setup.Setup.{Setup}
 use Rattle.lone_work.specs.Works.{DeskTells, TaskDone}
 use Rattle.task_laws.specs.LoneWell.{AreKeysRead, ChildrenWell, IsDeskWell, IsDoneWell}
 use Rattle.task_laws.specs.RunWell.{AreAskedWell}
-use Rattle.task_laws.proofs.NoZero.{none_without_child}
 use Rattle.task_laws.proofs.OneStore.{keeps_stored_content}
 use Rattle.task_laws.proofs.Retrieving.{keeps_stored}
 use Rattle.task_laws.proofs.RunsWell.{one_succeeds}
 use Rattle.job_rounds.specs.Desks.{AreDone, DesksDid, IsDone}
 use Rattle.job_laws.specs.JobsKeep.{JobsKeep}
 use Rattle.job_laws.specs.JobsWell.{JobsSucceed, JobsWentWell, all_done}
+use Rattle.job_laws.proofs.NoneUnserved.{none_unserved}
 
 module _ (o : Opening) (setup : Setup) (limit : ℕ) (journal : List Entry) where
   abbrev Well : TaskDone → Type 0
@@ -24,7 +24,7 @@ module _ (o : Opening) (setup : Setup) (limit : ℕ) (journal : List Entry) wher
 
   module _ (starts : 0 < limit) (keys : AreKeysRead o) (children : ChildrenWell journal) (asked : AreAskedWell o journal) where
     one_well : (r : TaskDone) → Well r → IsDone o setup limit journal r → IsDoneWell o r
-    one_well r desk (inr z) = absurd (none_without_child limit journal r.task starts children r.answer z.0)
+    one_well r desk (inr z) = absurd (none_unserved limit journal r.task starts children r.answer z.0)
     one_well r desk (inl c) = by_key (key_reading c.run.task.key) refl (keys r.task c.run.task c.run.is)
       where
         by_key : (x : Option Parts) → key_reading c.run.task.key ≡ x → is_some x ≡ true → IsDoneWell o r

@@ -1,5 +1,6 @@
 -- What is so of a run by many workers that went well from outside, and how its tasks are answered then.
 use Rattle.std.specs.Prelude.{ℕ, ◌<◌, ◌+◌, List, [], ◌∷◌, ◌++◌, All}
+use Rattle.journal_model.specs.declared.answer.Answer.{Answer}
 use Rattle.journal_model.specs.declared.entry.Entry.{Entry}
 use Rattle.journal_model.specs.declared.opening.Opening.{Opening}
 use Rattle.task_run.specs.declared.setup.Setup.{Setup}
@@ -7,6 +8,12 @@ use Rattle.lone_work.specs.Works.{DeskTells, TaskDone}
 use Rattle.task_laws.specs.LoneWell.{AreKeysRead, ChildrenWell, IsDeskWell, IsDoneWell}
 use Rattle.task_laws.specs.RunWell.{AreAskedWell}
 use Rattle.job_rounds.specs.Desks.{DesksDid}
+use Rattle.job_rounds.specs.Unserved.{IsUnserved}
+
+-- Where a start is allowed, and the journal's children all got ready, ended only when they were closed and could be written to, no task is
+-- claimed without a child.
+abbrev pub NoneUnserved : Type 0
+NoneUnserved = (limit : ℕ) (journal : List Entry) (t : ℕ) → 0 < limit → ChildrenWell journal → (answer : Answer) → IsUnserved limit journal t answer → ⊥
 
 -- what all desks did, one behind the other
 abbrev pub all_done : (o : Opening) (setup : Setup) (limit : ℕ) (journal past entries : List Entry) (k : ℕ) (desks desks' : List DeskTells) → DesksDid o setup limit journal past entries k desks desks' → List TaskDone

@@ -5,8 +5,13 @@ ghost use Rattle.journal_model.specs.declared.opening.Opening.{Opening};
 ghost use Rattle.journal_model.specs.Legality.{Legal};
 ghost use Rattle.task_run.specs.declared.setup.Setup.{Setup};
 ghost use Rattle.lone_work.specs.Works.{DeskTells};
-ghost use Rattle.job_laws.specs.JobsWell.{JobsSucceed};
+ghost use Rattle.job_laws.specs.JobsWell.{JobsSucceed, NoneUnserved};
 ghost use Rattle.job_laws.specs.JobsKeep.{JobsKeep};
+
+/// Where all went well with the children, no task is claimed without one.
+pub fn none_unserved()
+    ensures { NoneUnserved }
+{}
 
 /// Where all went well from outside, each task that was run is answered by its success, or by want of memory.
 pub fn jobs_succeed()

@@ -1,4 +1,4 @@
--- What the desks did, cs the journal grows.
+-- What the desks did, as the journal grows.
 use Rattle.std.proofs.Common.{◌≡◌, ℕ, ◌+◌, ◌<◌, List, [], ◌∷◌, ◌++◌, refl, sym, ap, subst, ◌∙◌, append_assoc, append-nil, true, false, ◌==◌, Some, None, Option, arith, inl, inr, length, suc}
 use Rattle.std.specs.Prelude.{map}
 use Rattle.std.specs.List.{cons_option}
@@ -7,16 +7,18 @@ use Rattle.journal_model.specs.declared.entry.What.{What}
 use Rattle.journal_model.specs.declared.entry.What.TheVariants.{Claim}
 use Rattle.journal_model.specs.declared.entry.Entry.{Entry}
 use Rattle.journal_model.specs.declared.opening.Opening.{Opening}
-use Rattle.journal_model.specs.Legality.{Legal, is_busy}
+use Rattle.journal_model.specs.Legality.{Legal, count, is_busy}
 use Rattle.journal_model.specs.Shares.{are_by}
 use Rattle.journal_model.proofs.Looks.{both, differ, same_number}
 use Rattle.task_run.specs.declared.setup.Setup.{Setup}
 use Rattle.lone_work.specs.Works.{DeskTells, RanFor, TaskDone, all_calls, claimed_task, claims_in}
 use Rattle.lone_work.proofs.Working.{run_lasts}
+use Rattle.lone_rounds.specs.Starting.{is_any_start}
 use Rattle.lone_rounds.specs.Rounds.{HasRun}
 use Rattle.lone_rounds.specs.Stints.{AllHaveRun, TasksDone}
-use Rattle.lone_rounds.proofs.Runs.{calls_both, caused_both, gained_more, gained_nothing, tasks_both, zero_lasts}
+use Rattle.lone_rounds.proofs.Runs.{calls_both, caused_both, gained_more, gained_nothing, tasks_both}
 use Rattle.job_rounds.specs.Desks.{AreDone, DeskDid, DesksDid, HasDesk, HaveDesks, IsDone, WorkerRun, claimed_for, claims_for, desk_of}
+use Rattle.job_rounds.proofs.Unserved.{unserved_lasts, zero_unserved}
 
 -- ---- what is claimed for a desk
 
@@ -110,7 +112,7 @@ module _ (o : Opening) (setup : Setup) (limit : ℕ) where
 
   done_lasts : (past more : List Entry) (r : TaskDone) → Legal o past → ((t : ℕ) → is_busy past t ≡ false) → IsDone o setup limit past r → IsDone o setup limit (past ++ more) r
   done_lasts past more r legal rest (inl h) = inl (worker_lasts past more r legal rest h)
-  done_lasts past more r legal rest (inr z) = inr (zero_lasts limit past more r.task r.answer z.0, z.1)
+  done_lasts past more r legal rest (inr z) = inr (unserved_lasts limit past more r.task r.answer z.0, z.1)
 
   pub all_last : (past more : List Entry) (rs : List TaskDone) → Legal o past → ((t : ℕ) → is_busy past t ≡ false) → AreDone o setup limit past rs → AreDone o setup limit (past ++ more) rs
   all_last past more [] legal rest h = tt
@@ -120,21 +122,21 @@ module _ (o : Opening) (setup : Setup) (limit : ℕ) where
   all_both journal [] ys h k = k
   all_both journal (r ∷ xs) ys h k = (h.0, all_both journal xs ys h.1 k)
 
-  -- what the main thread did
-  main_done : (journal : List Entry) (r : TaskDone) → HasRun o setup limit journal r → IsDone o setup limit journal r
-  main_done journal r (inl h) = inl (record { number = 0; run = h.run; child = h.child; answer = h.answer })
-  main_done journal r (inr z) = inr z
+  -- what the main thread did over one child at a time, in a run that could make more starts
+  main_done : (more : ℕ) (journal : List Entry) (r : TaskDone) → count is_any_start journal < more → HasRun o setup more journal r → IsDone o setup limit journal r
+  main_done more journal r fewer (inl h) = inl (record { number = 0; run = h.run; child = h.child; answer = h.answer })
+  main_done more journal r fewer (inr z) = inr (zero_unserved limit more journal r.task r.answer fewer z.0, z.1)
 
-  all_main : (journal : List Entry) (rs : List TaskDone) → AllHaveRun o setup limit journal rs → AreDone o setup limit journal rs
-  all_main journal [] h = tt
-  all_main journal (r ∷ rs) h = (main_done journal r h.0, all_main journal rs h.1)
+  all_main : (more : ℕ) (journal : List Entry) (rs : List TaskDone) → count is_any_start journal < more → AllHaveRun o setup more journal rs → AreDone o setup limit journal rs
+  all_main more journal [] fewer h = tt
+  all_main more journal (r ∷ rs) fewer h = (main_done more journal r fewer h.0, all_main more journal rs fewer h.1)
 
   -- ---- one desk
 
-  did_nothing : (journal past xs : List Entry) (k : ℕ) (desk : DeskTells) → claims_for k past xs ≡ [] → DeskDid o setup limit journal past xs k desk desk
+  pub did_nothing : (journal past xs : List Entry) (k : ℕ) (desk : DeskTells) → claims_for k past xs ≡ [] → DeskDid o setup limit journal past xs k desk desk
   did_nothing journal past xs k desk none = record { done = []; claimed = sym none; ran = tt; log_is = gained_nothing desk.log; caused = refl }
 
-  did_join : (journal past xs ys : List Entry) (k : ℕ) (a b d : DeskTells) → DeskDid o setup limit journal past xs k a b → DeskDid o setup limit journal (past ++ xs) ys k b d
+  pub did_join : (journal past xs ys : List Entry) (k : ℕ) (a b d : DeskTells) → DeskDid o setup limit journal past xs k a b → DeskDid o setup limit journal (past ++ xs) ys k b d
       → DeskDid o setup limit journal past (xs ++ ys) k a d
   did_join journal past xs ys k a b d s t = record {
     done = s.done ++ t.done;
@@ -182,20 +184,21 @@ module _ (o : Opening) (setup : Setup) (limit : ℕ) where
   others_nothing journal past xs k [] far main = tt
   others_nothing journal past xs k (d ∷ ds) far main = (did_nothing journal past xs k d (main_claims_no_other k past xs far main), others_nothing journal past xs (k + 1) ds (omega (arith, far)) main)
 
-  pub desks_main : (journal past xs : List Entry) (desk desk' : DeskTells) (others : List DeskTells) → are_by 0 xs ≡ true → TasksDone o setup limit journal xs desk desk'
+  pub desks_first : (journal past xs : List Entry) (desk desk' : DeskTells) (others : List DeskTells) → are_by 0 xs ≡ true → DeskDid o setup limit journal past xs 1 desk desk'
       → DesksDid o setup limit journal past xs 1 (desk ∷ others) (desk' ∷ others)
-  desks_main journal past xs desk desk' others main t = (
-    record {
-      done = t.done;
-      claimed = t.claimed ∙ sym (main_claims past xs main);
-      ran = all_main journal t.done t.ran;
-      log_is = t.log_is;
-      caused = t.caused;
-    },
-    others_nothing journal past xs 2 others (omega arith) main,
-  )
+  desks_first journal past xs desk desk' others main did = (did, others_nothing journal past xs 2 others (omega arith) main)
 
--- cs many desks before cs behind
+  pub desks_main : (more : ℕ) (journal past xs : List Entry) (desk desk' : DeskTells) (others : List DeskTells) → count is_any_start journal < more → are_by 0 xs ≡ true → TasksDone o setup more journal xs desk desk'
+      → DesksDid o setup limit journal past xs 1 (desk ∷ others) (desk' ∷ others)
+  desks_main more journal past xs desk desk' others fewer main t = desks_first journal past xs desk desk' others main record {
+    done = t.done;
+    claimed = t.claimed ∙ sym (main_claims past xs main);
+    ran = all_main more journal t.done fewer t.ran;
+    log_is = t.log_is;
+    caused = t.caused;
+  }
+
+-- as many desks before as behind
 pub desks_as_many : (o : Opening) (setup : Setup) (limit : ℕ) (journal past xs : List Entry) (k : ℕ) (cs bs : List DeskTells) → DesksDid o setup limit journal past xs k cs bs → length cs ≡ length bs
 desks_as_many o setup limit journal past xs k [] [] s = refl
 desks_as_many o setup limit journal past xs k [] (b ∷ bs) s = absurd s

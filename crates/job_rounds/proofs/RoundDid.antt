@@ -50,13 +50,13 @@ use Rattle.job_rounds.specs.Desks.{AreDone, DeskDid, DesksDid, HasDesk, HaveDesk
 
 -- ---- an entry that stands among others
 
-record Stands (xs : List Entry) (w : What) : Type 0 where
-  front : List Entry
-  by : ℕ
-  back : List Entry
-  is : xs ≡ front ++ entry by w ∷ back
+pub record Stands (xs : List Entry) (w : What) : Type 0 where
+  pub front : List Entry
+  pub by : ℕ
+  pub back : List Entry
+  pub is : xs ≡ front ++ entry by w ∷ back
 
-stands_behind : (e : Entry) (xs : List Entry) (w : What) → Stands xs w → Stands (e ∷ xs) w
+pub stands_behind : (e : Entry) (xs : List Entry) (w : What) → Stands xs w → Stands (e ∷ xs) w
 stands_behind e xs w s = record { front = e ∷ s.front; by = s.by; back = s.back; is = ap (λ (l : List Entry). e ∷ l) s.is }
 
 stands_in_more : (start xs : List Entry) (w : What) → Stands xs w → Stands (start ++ xs) w
@@ -296,7 +296,7 @@ round_desks o c n start rest tag r = all start rest tag r.posts r.numbered
 
 -- ---- what is left
 
-lost_unclosed : (why : Option Why) → is_some why ≡ true → (why ≡ Some Closed → ⊥) → is_unclosed why ≡ true
+pub lost_unclosed : (why : Option Why) → is_some why ≡ true → (why ≡ Some Closed → ⊥) → is_unclosed why ≡ true
 lost_unclosed None h n = absurd cc
 lost_unclosed (Some Closed) h n = absurd (n refl)
 lost_unclosed (Some why) h n = refl
@@ -338,12 +338,12 @@ round_unclosed o crew numbers start rest r = all rest r.mains
 
 -- ---- which desk
 
-same_test : (a b : Bool) → (a ≡ true → b ≡ true) → (b ≡ true → a ≡ true) → a ≡ b
+pub same_test : (a b : Bool) → (a ≡ true → b ≡ true) → (b ≡ true → a ≡ true) → a ≡ b
 same_test true b f g = sym (f refl)
 same_test false true f g = g refl
 same_test false false f g = refl
 
-equal_test : (m n : ℕ) → m ≡ n → (m == n) ≡ true
+pub equal_test : (m n : ℕ) → m ≡ n → (m == n) ≡ true
 equal_test m n e = subst (λ (x : ℕ). (m == x) ≡ true) e (same m)
 
 -- the kth desk is that of number k + 3
@@ -515,27 +515,17 @@ abbrev answer_given : Answer → What → Answer
 answer_given d (Answered task answer) = answer
 answer_given d w = d
 
-module _ (o : Opening) (setup : Setup) (limit : ℕ) (numbers : List ℕ) (start rest : List Entry) (l : LinkValue) (desks desks' : List DeskTells)
-    (legal : Legal o start) (tag : is_tagged start l.ear.child ≡ true) (leaves : TaggedLeaves o setup numbers start rest l desks desks') where
-  abbrev c : ℕ
-  c = l.ear.child
-
+-- Of any round, where its workers have the numbers behind `shift`: each task that was claimed is done, by its desk.
+module _ (o : Opening) (setup : Setup) (limit shift : ℕ) (start rest : List Entry) (dones : List (List TaskDone)) (whole : Legal o (start ++ rest))
+    (stands : (t : ℕ) → is_claimed rest t ≡ true → (c : ℕ) × (0 < c) × Stands rest (Claim t c)) (claimed_so : (k : ℕ) → claims_for k start rest ≡ claims_by (k + shift) rest)
+    (ran : (t n : ℕ) → is_taken_by rest n t ≡ true → JournalRun o setup (calls_from (1 + shift) dones n t) n t (start ++ rest)) where
   abbrev journal : List Entry
   journal = start ++ rest
 
-  posted : are_posted c rest ≡ true
-  posted = leaves.round.rounded.posts
-
-  whole : Legal o journal
-  whole = leaves.round.rounded.legal
-
   -- the run of a task was claimed and answered by these entries
-  run_tells : (n t : ℕ) (answer : Answer) (calls : List Call) → Stands rest (Claim t c) → Stands rest (Answered t answer) → (run : JournalRun o setup calls n t journal)
+  run_tells : (n t c : ℕ) (answer : Answer) (calls : List Call) → 0 < c → Stands rest (Claim t c) → Stands rest (Answered t answer) → (run : JournalRun o setup calls n t journal)
       → (0 < run.run.child) × (run.run.answer ≡ answer)
-  run_tells n t answer calls claim given run = (
-    subst (λ (x : ℕ). 0 < x) (sym (ap (claim_child 0) claimed)) (tagged_number o start c legal tag),
-    ap (answer_given answer) answered,
-  )
+  run_tells n t c answer calls some claim given run = (subst (λ (x : ℕ). 0 < x) (sym (ap (claim_child 0) claimed)) some, ap (answer_given answer) answered)
     where
       first : Stands journal (Claim t run.run.child)
       first = record {
@@ -560,7 +550,7 @@ module _ (o : Opening) (setup : Setup) (limit : ℕ) (numbers : List ℕ) (start
       answered = only_one (answers t) journal (Answered t run.run.answer) (Answered t answer) (answered_once o journal whole t) last (stands_in_more start rest (Answered t answer) given) (same t) (same t)
 
   -- each task of a desk's list is done
-  module _ (n : ℕ) (done : List TaskDone) (told : (t : ℕ) → calls_from 4 leaves.dones n t ≡ calls_of done t) (claimed : claims_by n rest ≡ tasks_of done) (answered : answers_by n rest ≡ answers_of done) where
+  module _ (n : ℕ) (done : List TaskDone) (told : (t : ℕ) → calls_from (1 + shift) dones n t ≡ calls_of done t) (claimed : claims_by n rest ≡ tasks_of done) (answered : answers_by n rest ≡ answers_of done) where
     one_done : (pre post : List TaskDone) (r : TaskDone) → done ≡ pre ++ r ∷ post → IsDone o setup limit journal r
     one_done pre post r place = inl (record { number = n; run = run; child = tells.0; answer = tells.1 })
       where
@@ -577,52 +567,59 @@ module _ (o : Opening) (setup : Setup) (limit : ℕ) (numbers : List ℕ) (start
             let once = claimed_once o journal whole r.task in
             subst (λ (ts : List ℕ). times r.task ts ≤ 1) tasks (omega (arith, before, both, once))
 
-        calls : calls_from 4 leaves.dones n r.task ≡ r.calls
+        calls : calls_from (1 + shift) dones n r.task ≡ r.calls
         calls = told r.task ∙ ap (λ (rs : List TaskDone). calls_of rs r.task) place ∙ calls_here pre post r few
 
         run : JournalRun o setup r.calls n r.task journal
-        run = subst (λ (cs : List Call). JournalRun o setup cs n r.task journal) calls (leaves.round.ran r.task n taken)
+        run = subst (λ (cs : List Call). JournalRun o setup cs n r.task journal) calls (ran r.task n taken)
 
-        claim : Stands rest (Claim r.task c)
-        claim = claim_stands c r.task rest posted (taken_claimed rest n r.task taken)
+        claim : (c : ℕ) × (0 < c) × Stands rest (Claim r.task c)
+        claim = stands r.task (taken_claimed rest n r.task taken)
 
         given : Stands rest (Answered r.task r.answer)
         given = answer_stands n r.task r.answer rest (answers_of pre) (answers_of post) (answered ∙ ap answers_of place ∙ map-append (λ (x : TaskDone). (x.task, x.answer)) pre (r ∷ post))
 
         tells : (0 < run.run.child) × (run.run.answer ≡ r.answer)
-        tells = run_tells n r.task r.answer r.calls claim given run
+        tells = run_tells n r.task claim.0 r.answer r.calls claim.1 claim.2 given run
 
     all_done : (pre rs : List TaskDone) → done ≡ pre ++ rs → AreDone o setup limit journal rs
     all_done pre [] place = tt
     all_done pre (r ∷ rs) place = (one_done pre rs r place, all_done (pre ++ r ∷ []) rs (place ∙ sym (append_assoc pre (r ∷ []) rs)))
 
-  desk_did : (k n : ℕ) → n ≡ k + 3 → (done : List TaskDone) (d e : DeskTells) → ((t : ℕ) → calls_from 4 leaves.dones n t ≡ calls_of done t) → CrewDid rest n done d e
+  desk_did : (k n : ℕ) → n ≡ k + shift → (done : List TaskDone) (d e : DeskTells) → ((t : ℕ) → calls_from (1 + shift) dones n t ≡ calls_of done t) → CrewDid rest n done d e
       → DeskDid o setup limit journal start rest k d e
   desk_did k n is done d e told did = record {
     done = done;
-    claimed = sym did.claimed ∙ ap (λ (m : ℕ). claims_by m rest) is ∙ sym (claims_same c k start rest tag posted);
+    claimed = sym did.claimed ∙ ap (λ (m : ℕ). claims_by m rest) is ∙ sym (claimed_so k);
     ran = all_done n done told did.claimed did.answered [] done refl;
     log_is = did.log_is;
     caused = did.caused;
   }
 
-  desks_did : (k n : ℕ) → n ≡ k + 3 → (dones : List (List TaskDone)) (ds es : List DeskTells) → ((m t : ℕ) → n ≤ m → calls_from 4 leaves.dones m t ≡ calls_from n dones m t)
-      → CrewDesks rest n dones ds es → DesksDid o setup limit journal start rest k ds es
-  desks_did k n is [] [] [] told did = tt
-  desks_did k n is [] [] (e ∷ es) told did = absurd did
-  desks_did k n is [] (d ∷ ds) es told did = absurd did
-  desks_did k n is (done ∷ dones) [] es told did = absurd did
-  desks_did k n is (done ∷ dones) (d ∷ ds) [] told did = absurd did
-  desks_did k n is (done ∷ dones) (d ∷ ds) (e ∷ es) told did = (
+  each_did : (k n : ℕ) → n ≡ k + shift → (rests : List (List TaskDone)) (ds es : List DeskTells) → ((m t : ℕ) → n ≤ m → calls_from (1 + shift) dones m t ≡ calls_from n rests m t)
+      → CrewDesks rest n rests ds es → DesksDid o setup limit journal start rest k ds es
+  each_did k n is [] [] [] told did = tt
+  each_did k n is [] [] (e ∷ es) told did = absurd did
+  each_did k n is [] (d ∷ ds) es told did = absurd did
+  each_did k n is (done ∷ rests) [] es told did = absurd did
+  each_did k n is (done ∷ rests) (d ∷ ds) [] told did = absurd did
+  each_did k n is (done ∷ rests) (d ∷ ds) (e ∷ es) told did = (
     desk_did k n is done d e (λ t. told n t (omega arith) ∙ (rw (same n) refl)) did.0,
-    desks_did (k + 1) (n + 1) (omega (arith, is)) dones ds es (λ m t more. told m t (omega (arith, more)) ∙ later m t more) did.1,
+    each_did (k + 1) (n + 1) (omega (arith, is)) rests ds es (λ m t more. told m t (omega (arith, more)) ∙ later m t more) did.1,
   )
     where
-      later : (m t : ℕ) → n + 1 ≤ m → calls_from n (done ∷ dones) m t ≡ calls_from (n + 1) dones m t
+      later : (m t : ℕ) → n + 1 ≤ m → calls_from n (done ∷ rests) m t ≡ calls_from (n + 1) rests m t
       later m t more =
           let other : (m == n) ≡ false = differ m n (λ z. absurd (let bad : ⊥ = omega (arith, z, more) in bad)) in
           rw other refl
 
-  -- Each task that was claimed is done, by its desk.
-  pub round_did : DesksDid o setup limit (start ++ rest) start rest 1 desks desks'
-  round_did = desks_did 1 4 (omega arith) leaves.dones desks desks' (λ m t more. refl) leaves.desks_did
+  pub any_round_did : (desks desks' : List DeskTells) → CrewDesks rest (1 + shift) dones desks desks' → DesksDid o setup limit (start ++ rest) start rest 1 desks desks'
+  any_round_did desks desks' did = each_did 1 (1 + shift) refl dones desks desks' (λ m t more. refl) did
+
+-- Each task that was claimed in a round over a tagged child is done, by its desk.
+pub round_did : (o : Opening) (setup : Setup) (limit : ℕ) (numbers : List ℕ) (start rest : List Entry) (l : LinkValue) (desks desks' : List DeskTells) → Legal o start → is_tagged start l.ear.child ≡ true
+    → TaggedLeaves o setup numbers start rest l desks desks' → DesksDid o setup limit (start ++ rest) start rest 1 desks desks'
+round_did o setup limit numbers start rest l desks desks' legal tag leaves =
+    any_round_did o setup limit 3 start rest leaves.dones leaves.round.rounded.legal
+    (λ t h. (l.ear.child, tagged_number o start l.ear.child legal tag, claim_stands l.ear.child t rest leaves.round.rounded.posts h)) (λ k. claims_same l.ear.child k start rest tag leaves.round.rounded.posts)
+    leaves.round.ran desks desks' leaves.desks_did

@@ -5,31 +5,34 @@ use Rattle.std.specs.List.{list_all, range_with_len}
 use Rattle.journal_model.specs.declared.entry.What.TheVariants.{Start}
 use Rattle.journal_model.specs.declared.entry.Entry.{Entry}
 use Rattle.journal_model.specs.declared.opening.Opening.{Opening}
-use Rattle.journal_model.specs.Journal.{asked_jobs, is_tagged, open_jobs}
+use Rattle.journal_model.specs.Journal.{any, asked_jobs, is_tagged, open_jobs}
 use Rattle.journal_model.specs.Legality.{Legal, is_busy}
 use Rattle.journal_model.proofs.Testing.{all-join}
 use Rattle.host_core.specs.Steps.{are_all_claimed}
 use Rattle.gathering.specs.Rounds.{IsAtRest}
 use Rattle.crew_roles.specs.TaggedRounds.{TaggedLeaves}
 use Rattle.child_start.specs.Greetings.{Greeted, IsReady}
+use Rattle.child_end.specs.Programs.{ProgramsValue}
+use Rattle.child_end.specs.Wires.{WireValue}
 use Rattle.task_run.specs.declared.setup.Setup.{Setup}
 use Rattle.task_run.specs.TaskRuns.{failed_start, unready_answer}
 use Rattle.lone_work.specs.Works.{DeskTells, claims_in}
-use Rattle.lone_rounds.specs.Starting.{is_ready_untagged, is_spent}
+use Rattle.lone_rounds.specs.Starting.{is_any_start, is_ready_untagged, is_spent}
 use Rattle.lone_rounds.specs.Rounds.{is_of_run, start_untaken}
-use Rattle.lone_rounds.specs.Stints.{in_stint, main_entry, next_child}
+use Rattle.lone_rounds.specs.Stints.{HasServed, Stint, Stretch, in_stint, main_entry, next_child}
 use Rattle.lone_rounds.proofs.Apart.{spent_on}
+use Rattle.lone_rounds.proofs.Growing.{starts_none}
 use Rattle.lone_rounds.proofs.Served.{answers_nothing, ready_now, served_stint, untagged}
 use Rattle.lone_rounds.proofs.Stinting.{Closing, closing, closing_part, closing_rests, greeting_part, greeting_takes_none, of_closing}
 use Rattle.lone_rounds.proofs.Tests.{claimed_on}
 use Rattle.lone_rounds.proofs.Turns.{ready_untaken}
 use Rattle.job_rounds.specs.Desks.{DesksDid, HaveDesks}
 use Rattle.job_rounds.specs.Servings.{Serves, ServesRound}
-use Rattle.job_rounds.specs.Starts.{JobStretch}
+use Rattle.job_rounds.specs.Starts.{JobStretch, OneJobStart, StartsAll}
 use Rattle.job_rounds.proofs.Desks.{desks_join, desks_nothing, desks_on, have_both, have_none}
 use Rattle.job_rounds.proofs.RoundDid.{round_asks, round_desks, round_did, round_over, round_within}
 use Rattle.job_rounds.proofs.Shutting.{rest_shut}
-use Rattle.job_rounds.proofs.Stretching.{closed_idle, served_idle, start_shuts, stint_job}
+use Rattle.job_rounds.proofs.Stretching.{closed_idle, job_start, more_than, served_idle, served_turn, stint_job, stretch_job}
 
 module _ (o : Opening) (setup : Setup) (limit : ℕ) (offer tagged : Bool) (old g new : List Entry) (c : ℕ) (desks desks' : List DeskTells)
     (legal : Legal o old) (greeted : Greeted old g 0 offer c) (legal' : Legal o g) (ready : IsReady g c) (tag : tagged ≡ is_tagged g c) (s : ServesRound o setup c g new desks desks') where
@@ -115,38 +118,71 @@ module _ (o : Opening) (setup : Setup) (limit : ℕ) (offer tagged : Bool) (old 
   abbrev n : ℕ
   n = length desks
 
-  pub round_stretch : JobStretch o setup limit offer (offer && tagged) (Start c 0 offer) old new desks desks'
-  round_stretch = record {
-    stretch = record {
-      later = later;
-      is = whole;
-      start = inl (ap (λ (n : ℕ). Start n 0 offer) greeted.next);
-      within = subst (λ (n : ℕ). list_all (λ (e : Entry). in_stint n e.what) later ≡ true) greeted.next within;
-      asks = asks;
-      rest = λ u. ap (λ (j : List Entry). is_busy j u) k.is ∙ closing_rests c k.tail k.one s.mid (λ t. ap (λ (j : List Entry). is_busy j t) s.round.1 ∙ calm.idle t) u;
-      ended = ap (λ (b : Bool). b && true) k.ended;
-      spent = over;
-      untaken = subst (λ (j : List Entry). failed_start j (start_untaken j) ≡ None) (sym whole)
-          (ready_untaken old later c offer c within (subst (λ (j : List Entry). unready_answer j c ≡ None) whole unready_none));
-      offers = untagged offer tagged ∙ ap (λ (b : Bool). offer && not (b || false)) (sym ready_said);
-    };
-    placed = have_both n (old ++ first ∷ []) greeted.more (rest ++ k.tail) (have_none n (old ++ first ∷ []) greeted.more (greeting_takes_none old g offer c greeted))
-        (subst (λ (p : List Entry). HaveDesks n p (rest ++ k.tail)) (greeted.grown ∙ sym (append_assoc old (first ∷ []) greeted.more))
-        (have_both n g rest k.tail (round_desks o s.link.ear.child n g rest (ap (is_tagged g) s.child ∙ s.tagged) leaves.round.rounded) (have_none n (g ++ rest) k.tail no_more)));
-    did = did;
-    alone = λ one. absurd (s.many one);
-    shut = start_shuts old new later offer (Start c 0 offer) c (inl (ap (λ (n : ℕ). Start n 0 offer) greeted.next)) whole within
-        (λ shut. closed_idle c s.mid new s.closes (ap (λ (j : List Entry). open_jobs j c) s.round.1 ∙ rest_shut (g ++ rest) calm c));
+  abbrev at_start : List Entry
+  at_start = old ++ first ∷ []
+
+  abbrev stretch : Stretch o offer (offer && tagged) (Start c 0 offer) old new
+  stretch = record {
+    later = later;
+    is = whole;
+    start = inl (ap (λ (n : ℕ). Start n 0 offer) greeted.next);
+    within = subst (λ (n : ℕ). list_all (λ (e : Entry). in_stint n e.what) later ≡ true) greeted.next within;
+    asks = asks;
+    rest = λ u. ap (λ (j : List Entry). is_busy j u) k.is ∙ closing_rests c k.tail k.one s.mid (λ t. ap (λ (j : List Entry). is_busy j t) s.round.1 ∙ calm.idle t) u;
+    ended = ap (λ (b : Bool). b && true) k.ended;
+    spent = over;
+    untaken = subst (λ (j : List Entry). failed_start j (start_untaken j) ≡ None) (sym whole)
+        (ready_untaken old later c offer c within (subst (λ (j : List Entry). unready_answer j c ≡ None) whole unready_none));
+    offers = untagged offer tagged ∙ ap (λ (b : Bool). offer && not (b || false)) (sym ready_said);
   }
 
+  placed : HaveDesks n at_start later
+  placed = have_both n at_start greeted.more (rest ++ k.tail) (have_none n at_start greeted.more (greeting_takes_none old g offer c greeted))
+      (subst (λ (p : List Entry). HaveDesks n p (rest ++ k.tail)) (greeted.grown ∙ sym (append_assoc old (first ∷ []) greeted.more))
+      (have_both n g rest k.tail (round_desks o s.link.ear.child n g rest (ap (is_tagged g) s.child ∙ s.tagged) leaves.round.rounded) (have_none n (g ++ rest) k.tail no_more)))
+
+  idle : open_jobs new c ≡ []
+  idle = closed_idle c s.mid new s.closes (ap (λ (j : List Entry). open_jobs j c) s.round.1 ∙ rest_shut (g ++ rest) calm c)
+
+  pub round_stretch : (full : Bool) → JobStretch o setup limit offer (offer && tagged) (Start c 0 offer) old new desks desks' full
+  round_stretch full = stretch_job stretch setup limit desks desks' full (served_turn o n offer old g new c legal' greeted ready (rest ++ k.tail) behind (inr s.tagged) later whole within) placed did
+      (λ one. absurd (s.many one)) (λ shut. subst (λ (n : ℕ). open_jobs new n ≡ []) greeted.next idle)
+
+  pub round_start : {program : List ℕ} {before after : ProgramsValue} {wires wires' : List WireValue} (full : Bool) → ((xs : List Entry) → any is_any_start xs ≡ false → StartsAll program new (first ∷ xs) before after wires wires')
+      → OneJobStart o setup limit offer (offer && tagged) full program old new desks desks' before after wires wires'
+  round_start full objects = job_start later whole (objects later (starts_none stretch)) (round_stretch full)
+
+-- by the main thread alone
+module _ (o : Opening) (setup : Setup) (limit : ℕ) (offer tagged : Bool) (old g new : List Entry) (c : ℕ) (desk desk' : DeskTells) (others : List DeskTells)
+    (legal : Legal o old) (left : are_all_claimed o old ≡ false) (greeted : Greeted old g 0 offer c) (legal' : Legal o g) (ready : IsReady g c) (tag : tagged ≡ is_tagged g c) (served : HasServed o setup c g new desk desk')
+    (few : (length (desk ∷ others) ≡ 1) ⊎ (is_tagged g c ≡ true)) where
+  stint : Stint o setup (more_than new) offer (offer && tagged) (Start c 0 offer) old new desk desk'
+  stint = served_stint o setup (more_than new) offer tagged old g new c desk desk' legal left greeted legal' ready tag served
+
+  closes : Closing c served.mid new
+  closes = closing c served.mid new served.closes
+
+  grown : new ≡ g ++ (served.worked.more ++ closes.tail)
+  grown = closes.is ∙ ap (λ (x : List Entry). x ++ closes.tail) served.worked.is ∙ append_assoc g served.worked.more closes.tail
+
+  alone_stretch : (full : Bool) → JobStretch o setup limit offer (offer && tagged) (Start c 0 offer) old new (desk ∷ others) (desk' ∷ others) full
+  alone_stretch full = stint_job o setup limit offer (offer && tagged) (Start c 0 offer) old new desk desk' others stint full
+      (served_turn o (length (desk ∷ others)) offer old g new c legal' greeted ready (served.worked.more ++ closes.tail) grown few stint.stretch.later stint.stretch.is
+      (subst (λ (n : ℕ). list_all (λ (e : Entry). in_stint n e.what) stint.stretch.later ≡ true) (sym greeted.next) stint.stretch.within))
+      (λ shut. served_idle o setup c (next_child old) g new desk desk' greeted.next served)
+
+  pub alone_start : {program : List ℕ} {before after : ProgramsValue} {wires wires' : List WireValue} (full : Bool) → ((xs : List Entry) → any is_any_start xs ≡ false → StartsAll program new (main_entry (Start c 0 offer) ∷ xs) before after wires wires')
+      → OneJobStart o setup limit offer (offer && tagged) full program old new (desk ∷ others) (desk' ∷ others) before after wires wires'
+  alone_start full objects = job_start stint.stretch.later stint.stretch.is (objects stint.stretch.later (starts_none stint.stretch)) (alone_stretch full)
+
 -- a child that is ready: tasks were done over it, by one worker or by a round
-pub served_job : (o : Opening) (setup : Setup) (limit : ℕ) (offer tagged : Bool) (old g new : List Entry) (c : ℕ) (desks desks' : List DeskTells) → Legal o old → are_all_claimed o old ≡ false → Greeted old g 0 offer c
-    → Legal o g → IsReady g c → tagged ≡ is_tagged g c → Serves o setup c g new desks desks' → JobStretch o setup limit offer (offer && tagged) (Start c 0 offer) old new desks desks'
-served_job o setup limit offer tagged old g new c desks desks' legal left greeted legal' ready tag (inl a) =
-    subst (λ (ds : List DeskTells). JobStretch o setup limit offer (offer && tagged) (Start c 0 offer) old new ds desks') (sym a.before)
-    (subst (λ (es : List DeskTells). JobStretch o setup limit offer (offer && tagged) (Start c 0 offer) old new (a.desk ∷ a.others) es) (sym a.after)
-    (stint_job o setup limit offer (offer && tagged) (Start c 0 offer) old new a.desk a.desk' a.others
-    (served_stint o setup limit offer tagged old g new c a.desk a.desk' legal left greeted legal' ready tag a.served)
-    (λ shut. served_idle o setup c (next_child old) g new a.desk a.desk' greeted.next a.served)))
-served_job o setup limit offer tagged old g new c desks desks' legal left greeted legal' ready tag (inr s) =
-    round_stretch o setup limit offer tagged old g new c desks desks' legal greeted legal' ready tag s
+pub served_start : (o : Opening) (setup : Setup) (limit : ℕ) (offer tagged : Bool) (old g new : List Entry) (c : ℕ) (desks desks' : List DeskTells) {program : List ℕ} {before after : ProgramsValue} {wires wires' : List WireValue} (full : Bool)
+    → Legal o old → are_all_claimed o old ≡ false → Greeted old g 0 offer c → Legal o g → IsReady g c → tagged ≡ is_tagged g c → Serves o setup c g new desks desks' → (length desks ≡ 1) ⊎ (is_tagged g c ≡ true)
+    → ((xs : List Entry) → any is_any_start xs ≡ false → StartsAll program new (main_entry (Start c 0 offer) ∷ xs) before after wires wires')
+    → OneJobStart o setup limit offer (offer && tagged) full program old new desks desks' before after wires wires'
+served_start o setup limit offer tagged old g new c desks desks' {program} {before} {after} {wires} {wires'} full legal left greeted legal' ready tag (inl a) few objects =
+    subst (λ (ds : List DeskTells). OneJobStart o setup limit offer (offer && tagged) full program old new ds desks' before after wires wires') (sym a.before)
+    (subst (λ (es : List DeskTells). OneJobStart o setup limit offer (offer && tagged) full program old new (a.desk ∷ a.others) es before after wires wires') (sym a.after)
+    (alone_start o setup limit offer tagged old g new c a.desk a.desk' a.others legal left greeted legal' ready tag a.served (subst (λ (ds : List DeskTells). (length ds ≡ 1) ⊎ (is_tagged g c ≡ true)) a.before few) full objects))
+served_start o setup limit offer tagged old g new c desks desks' full legal left greeted legal' ready tag (inr s) few objects =
+    round_start o setup limit offer tagged old g new c desks desks' legal greeted legal' ready tag s full objects

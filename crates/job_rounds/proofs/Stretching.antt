@@ -1,21 +1,26 @@
--- One start and what follows it, and a run between two starts.
-use Rattle.std.proofs.Common.{◌≡◌, ℕ, ◌+◌, ◌<◌, ◌≤◌, List, [], ◌∷◌, ◌++◌, refl, sym, ap, subst, ◌∙◌, append_assoc, length, Bool, true, false, ◌==◌, Some, None, arith, inl, inr, Ok, Err, Result}
-use Rattle.std.specs.Prelude.{MatchResult, is_some}
-use Rattle.std.specs.List.{list_all}
+-- One start of slot 0 and what follows it, over one child at a time.
+use Rattle.std.proofs.Common.{◌≡◌, ◌⊎◌, ℕ, ◌+◌, ◌<◌, List, [], ◌∷◌, ◌++◌, refl, sym, ap, subst, ◌∙◌, append_assoc, append-nil, length, Bool, true, false, not, Some, None, arith, inl, inr}
+use Rattle.std.specs.Prelude.{◌&&◌, is_some}
+use Rattle.std.specs.List.{cons_option, list_all, list_any}
+use Rattle.std.proofs.lemmas.List.{append_cancel_left}
+use Rattle.std.proofs.lemmas.List.Folds.{list_all-append}
 use Rattle.journal_model.specs.declared.answer.Answer.{Answer}
 use Rattle.journal_model.specs.declared.verdict.Why.TheVariants.{Closed}
 use Rattle.journal_model.specs.declared.entry.What.{What}
-use Rattle.journal_model.specs.declared.entry.What.TheVariants.{Start, NoStart}
+use Rattle.journal_model.specs.declared.entry.What.TheVariants.{Claim, Start, NoStart, End, Answer as Answered}
 use Rattle.journal_model.specs.declared.entry.Entry.{Entry}
 use Rattle.journal_model.specs.declared.opening.Opening.{Opening}
-use Rattle.journal_model.specs.Journal.{asks, asked_jobs, is_ended, is_tagged, open_jobs, why_of}
+use Rattle.journal_model.specs.Journal.{any, asks, asked_jobs, is_ended, is_tagged, open_jobs, why_of}
 use Rattle.journal_model.specs.Halves.{EarValue, MouthValue}
-use Rattle.journal_model.specs.Legality.{Legal}
+use Rattle.journal_model.specs.Legality.{Legal, count}
 use Rattle.journal_model.specs.Shares.{are_by}
 use Rattle.journal_model.proofs.Linking.{why_is_end}
-use Rattle.journal_model.proofs.Testing.{all-join}
+use Rattle.journal_model.proofs.Looks.{both}
+use Rattle.journal_model.proofs.Testing.{all-join, or_left}
+use Rattle.host_core.specs.Steps.{are_all_claimed}
 use Rattle.link_roles.specs.Alone.{Closes}
 use Rattle.link_roles.specs.Writings.{LoneWired}
+use Rattle.link_roles.proofs.Linked.{any_narrower}
 use Rattle.gathering.specs.Rounds.{IsAtRest}
 use Rattle.child_start.specs.Greetings.{Greeted, IsReady, is_of_greeting}
 use Rattle.child_start.proofs.Jobs.{idle_on}
@@ -24,21 +29,27 @@ use Rattle.child_end.specs.Wires.{WireValue}
 use Rattle.door_asker.specs.KnownLayouts.{IsBook}
 use Rattle.task_run.specs.declared.setup.Setup.{Setup}
 use Rattle.lone_work.specs.Works.{CanWork, DeskTells, claimed_task}
-use Rattle.lone_rounds.specs.Starting.{AreSpent, is_unclosed}
-use Rattle.lone_rounds.specs.Rounds.{left_answer}
-use Rattle.lone_rounds.specs.Stints.{AnswersLeft, AnswersOne, HasServed, IsStart, Kept, Stint, TurnsAway, answered_so, in_stint, main_entry, next_child}
-use Rattle.lone_rounds.proofs.Ending.{done_left, left_apart, left_main, spaced_left}
-use Rattle.lone_rounds.proofs.Growing.{apart, spaced_next, starts_none}
-use Rattle.lone_rounds.proofs.Leaving.{kept_next}
-use Rattle.lone_rounds.proofs.Served.{all_unclosed, greeting_unclosed, new_unclosed}
+use Rattle.lone_rounds.specs.Starting.{children, is_any_start, is_ready_untagged, is_spent, is_unclosed, started_in}
+use Rattle.lone_rounds.specs.Stints.{AnswersOne, HasServed, IsStart, Stint, Stretch, TurnsAway, in_stint, main_entry, next_child}
+use Rattle.lone_rounds.proofs.Apart.{no_start_in}
+use Rattle.lone_rounds.proofs.Growing.{starts_none}
+use Rattle.lone_rounds.proofs.Served.{all_unclosed, greeting_unclosed, new_unclosed, ready_now}
 use Rattle.lone_rounds.proofs.Stinting.{Closing, closing, greeting_part, greeting_rests, greeting_works, of_closing, one_idle}
-use Rattle.lone_rounds.proofs.Unready.{and_true}
+use Rattle.lone_rounds.proofs.Tests.{any_none, no_children}
+use Rattle.pool_starts.specs.Slots.{AllInTurn, IsManned, has_pool, in_pool, is_lost, offers_tags, pool_behind, spends}
 use Rattle.job_rounds.specs.Desks.{DesksDid, HaveDesks}
-use Rattle.job_rounds.specs.JobRuns.{RanJobs}
 use Rattle.job_rounds.specs.Servings.{CanBeServed}
-use Rattle.job_rounds.specs.Starts.{JobStretch, JobsBetween, OneJobStart}
-use Rattle.job_rounds.proofs.Desks.{desks_as_many, desks_join, desks_main, desks_nothing, desks_on, have_both, have_main, have_none}
-use Rattle.job_rounds.proofs.Shutting.{AreShut, rest_shut, shut_next, shut_open, unasked}
+use Rattle.job_rounds.specs.Starts.{JobStretch, OneJobStart, StartsAll}
+use Rattle.job_rounds.proofs.Desks.{desks_main, have_main}
+use Rattle.job_rounds.proofs.Shutting.{AreShut, rest_shut, shut_next, shut_open}
+use Rattle.job_rounds.proofs.Slots.{is_quiet, manned_none, manned_one, pool_of, quiet_starts, stint_pool, turn_both, turn_manned, turn_quiet}
+
+-- entries that all pass one test pass another
+pub all_in : (p q : What → Bool) → ((w : What) → p w ≡ true → q w ≡ true) → (xs : List Entry) → list_all (λ (e : Entry). p e.what) xs ≡ true → list_all (λ (e : Entry). q e.what) xs ≡ true
+all_in p q f [] h = refl
+all_in p q f (e ∷ xs) h =
+    let t = both (p e.what) (list_all (λ (x : Entry). p x.what) xs) h in
+    rw (f e.what t.0, all_in p q f xs t.1) refl
 
 -- ---- the start itself
 
@@ -46,7 +57,7 @@ start_asks : (old : List Entry) (offer : Bool) (first : What) (d : ℕ) → IsSt
 start_asks old offer first d (inl e) = ap (asks d) e
 start_asks old offer first d (inr e) = ap (asks d) e
 
-start_takes : (old : List Entry) (offer : Bool) (first : What) → IsStart old offer first → claimed_task first ≡ None
+pub start_takes : (old : List Entry) (offer : Bool) (first : What) → IsStart old offer first → claimed_task first ≡ None
 start_takes old offer first (inl e) = ap claimed_task e
 start_takes old offer first (inr e) = ap claimed_task e
 
@@ -62,24 +73,182 @@ start_shuts old new later offer first c start is within idle shut =
     whole : new ≡ (old ++ main_entry first ∷ []) ++ later
     whole = is ∙ sym (append_assoc old (main_entry first ∷ []) later)
 
+-- ---- what stands behind it
+
+-- what stands behind the start, where the journal has both
+pub behind_first : (old later more new : List Entry) (first : What) → new ≡ old ++ main_entry first ∷ later → new ≡ old ++ main_entry first ∷ more → later ≡ more
+behind_first old later more new first is so = tails (append_cancel_left old (main_entry first ∷ later) (main_entry first ∷ more) (sym is ∙ so))
+  where
+    tails : main_entry first ∷ later ≡ main_entry first ∷ more → later ≡ more
+    tails e = cc
+
+-- what stands behind the start starts nothing and claims nothing for a child
+pub record QuietStretch (old new : List Entry) (first : What) : Type 0 where
+  pub more : List Entry
+  pub is : new ≡ old ++ main_entry first ∷ more
+  pub quiet : list_all (λ e. is_quiet e.what) more ≡ true
+
+pub quiet_turns : {old new : List Entry} {first : What} (o : Opening) (jobs : ℕ) (q : QuietStretch old new first) (later : List Entry) → new ≡ old ++ main_entry first ∷ later → AllInTurn o jobs (old ++ main_entry first ∷ []) later
+quiet_turns {old} {new} {first} o jobs q later is = turn_quiet o jobs (old ++ main_entry first ∷ []) later
+    (subst (λ (x : List Entry). list_all (λ (e : Entry). is_quiet e.what) x ≡ true) (behind_first old q.more later new first q.is is) q.quiet)
+
+pub quiet_none : {old new : List Entry} {first : What} (q : QuietStretch old new first) → any is_any_start q.more ≡ false
+quiet_none q = any_none is_quiet is_any_start quiet_starts q.more q.quiet
+
+-- the stretch, and the objects of the same entries
+pub job_start : {o : Opening} {setup : Setup} {limit : ℕ} {offer next whole : Bool} {program : List ℕ} {first : What} {old new : List Entry} {desks desks' : List DeskTells} {before after : ProgramsValue} {wires wires' : List WireValue}
+    (later : List Entry) → new ≡ old ++ main_entry first ∷ later → StartsAll program new (main_entry first ∷ later) before after wires wires' → JobStretch o setup limit offer next first old new desks desks' whole
+    → OneJobStart o setup limit offer next whole program old new desks desks' before after wires wires'
+job_start {o} {setup} {limit} {offer} {next} {whole} {program} {first} {old} {new} {desks} {desks'} {before} {after} {wires} {wires'} later is objects s =
+    (first, s, subst (λ (x : List Entry). StartsAll program new (main_entry first ∷ x) before after wires wires') (behind_first old later s.later new first is s.is) objects)
+
+-- ---- over one child at a time
+
+pub no_tags : (w : What) → offers_tags w ≡ true → is_any_start w ≡ true
+no_tags (Start child slot offer) h = refl
+no_tags w h = absurd cc
+
+-- a start of slot 0, which its own child spends
+own_spends : (old new later : List Entry) (offer : Bool) (first : What) → IsStart old offer first → list_all (is_spent new) (children (main_entry first ∷ [])) ≡ true → spends new first later ≡ true
+own_spends old new later offer first (inl e) h = subst (λ (w : What). spends new w later ≡ true) (sym e)
+    (or_left (is_spent new (next_child old)) (list_any (is_lost new) (pool_behind later)) (both (is_spent new (next_child old)) true (subst (λ (w : What). list_all (is_spent new) (children (main_entry w ∷ [])) ≡ true) e h)).0)
+own_spends old new later offer first (inr e) h = ap (λ (w : What). spends new w later) e
+
+-- what a stretch of one child is in a run with several desks
+module _ {o : Opening} {offer next : Bool} {first : What} {old new : List Entry} (s : Stretch o offer next first old new) where
+  one_child : children (main_entry first ∷ s.later) ≡ children (main_entry first ∷ [])
+  one_child = ap (λ (ds : List ℕ). cons_option (started_in first) ds) (no_children s.later (starts_none s))
+
+  pub stretch_job : (setup : Setup) (limit : ℕ) (desks desks' : List DeskTells) (whole : Bool) → AllInTurn o (length desks) (old ++ main_entry first ∷ []) s.later → HaveDesks (length desks) (old ++ main_entry first ∷ []) s.later
+      → DesksDid o setup limit new (old ++ main_entry first ∷ []) s.later 1 desks desks' → (length desks ≡ 1 → are_by 0 s.later ≡ true) → (AreShut old → open_jobs new (next_child old) ≡ [])
+      → JobStretch o setup limit offer next first old new desks desks' whole
+  stretch_job setup limit desks desks' whole turn placed did alone idle = record {
+    later = s.later;
+    is = s.is;
+    start = s.start;
+    within = all_in (in_stint (next_child old)) (in_pool (next_child old)) (stint_pool (next_child old)) s.later s.within;
+    untagged = any_narrower offers_tags is_any_start no_tags s.later (starts_none s);
+    asks = s.asks;
+    turn = turn;
+    rest = s.rest;
+    ended = ap (list_all (is_ended new)) one_child ∙ s.ended;
+    spent = λ w. spent s.spent;
+    untaken = s.untaken;
+    offers = s.offers ∙ ap (λ (ds : List ℕ). offer && not (list_any (is_ready_untagged new) ds)) (sym one_child);
+    placed = placed;
+    did = did;
+    alone = alone;
+    shut = start_shuts old new s.later offer first (next_child old) s.start s.is s.within idle;
+  }
+    where
+      spent : (list_all (is_spent new) (children (main_entry first ∷ [])) ≡ true) ⊎ (are_all_claimed o new ≡ true) → (spends new first s.later ≡ true) ⊎ (are_all_claimed o new ≡ true)
+      spent (inl h) = inl (own_spends old new s.later offer first s.start h)
+      spent (inr h) = inr h
+
+-- more starts than the journal has
+abbrev pub more_than : List Entry → ℕ
+more_than journal = count is_any_start journal + 1
+
 -- ---- by the main thread alone
 
 module _ (o : Opening) (setup : Setup) (limit : ℕ) (offer next : Bool) (first : What) (old new : List Entry) where
-  pub stint_job : (desk desk' : DeskTells) (others : List DeskTells) → Stint o setup limit offer next first old new desk desk' → (AreShut old → open_jobs new (next_child old) ≡ [])
-      → JobStretch o setup limit offer next first old new (desk ∷ others) (desk' ∷ others)
-  stint_job desk desk' others s idle = record {
-    stretch = s.stretch;
-    placed = have_main (length (desk ∷ others)) (old ++ main_entry first ∷ []) s.stretch.later (omega arith) s.main;
-    did = desks_main o setup limit new (old ++ main_entry first ∷ []) s.stretch.later desk desk' others s.main s.done;
-    alone = λ one. s.main;
-    shut = start_shuts old new s.stretch.later offer first (next_child old) s.stretch.start s.stretch.is s.stretch.within idle;
-  }
+  pub stint_job : (desk desk' : DeskTells) (others : List DeskTells) (s : Stint o setup (more_than new) offer next first old new desk desk') → (whole : Bool)
+      → AllInTurn o (length (desk ∷ others)) (old ++ main_entry first ∷ []) s.stretch.later → (AreShut old → open_jobs new (next_child old) ≡ [])
+      → JobStretch o setup limit offer next first old new (desk ∷ others) (desk' ∷ others) whole
+  stint_job desk desk' others s whole turn idle =
+      stretch_job s.stretch setup limit (desk ∷ others) (desk' ∷ others) whole turn
+      (have_main (length (desk ∷ others)) (old ++ main_entry first ∷ []) s.stretch.later (omega arith) s.main)
+      (desks_main o setup limit (more_than new) new (old ++ main_entry first ∷ []) s.stretch.later desk desk' others (omega arith) s.main s.done)
+      (λ one. s.main) idle
 
   -- where no desk is used
-  pub stint_any : (desks : List DeskTells) → 0 < length desks → ((d : DeskTells) → Stint o setup limit offer next first old new d d) → (AreShut old → open_jobs new (next_child old) ≡ [])
-      → JobStretch o setup limit offer next first old new desks desks
-  stint_any [] some f idle = absurd (let bad : ⊥ = omega (arith, some) in bad)
-  stint_any (d ∷ ds) some f idle = stint_job d d ds (f d) idle
+  pub stint_any : (desks : List DeskTells) → 0 < length desks → ((d : DeskTells) → Stint o setup (more_than new) offer next first old new d d) → (whole : Bool) → QuietStretch old new first
+      → (AreShut old → open_jobs new (next_child old) ≡ []) → JobStretch o setup limit offer next first old new desks desks whole
+  stint_any [] some f whole q idle = absurd (let bad : ⊥ = omega (arith, some) in bad)
+  stint_any (d ∷ ds) some f whole q idle = stint_job d d ds (f d) whole (quiet_turns o (length (d ∷ ds)) q (f d).stretch.later (f d).stretch.is) idle
+
+-- ---- in which turn its entries stand
+
+greeting_quiet : (c : ℕ) (w : What) → is_of_greeting c w ≡ true → is_quiet w ≡ true
+greeting_quiet c (Start child slot offer) h = absurd cc
+greeting_quiet c (NoStart slot) h = absurd cc
+greeting_quiet c (Claim task child) h = absurd cc
+greeting_quiet c w h = refl
+
+pub quiet_greeting : (old g : List Entry) (offer : Bool) (c : ℕ) → (greeted : Greeted old g 0 offer c) → list_all (λ (e : Entry). is_quiet e.what) greeted.more ≡ true
+quiet_greeting old g offer c greeted = all_in (is_of_greeting c) is_quiet (greeting_quiet c) greeted.more greeted.own
+
+quiet_closing : (c : ℕ) (tail : List Entry) → (tail ≡ []) ⊎ (tail ≡ main_entry (End c Closed) ∷ []) → list_all (λ (e : Entry). is_quiet e.what) tail ≡ true
+quiet_closing c tail one = of_closing c tail one (λ (x : List Entry). list_all (λ (e : Entry). is_quiet e.what) x ≡ true) refl refl
+
+-- one task that was claimed without a child
+record QuietTail (old new : List Entry) : Type 0 where
+  tail : List Entry
+  is : new ≡ old ++ tail
+  quiet : list_all (λ e. is_quiet e.what) tail ≡ true
+
+quiet_one : (o : Opening) (old new : List Entry) (answer : Answer) (b : Bool) → AnswersOne o old new answer b → QuietTail old new
+quiet_one o old new answer true a = record { tail = main_entry (Claim a.0 0) ∷ main_entry (Answered a.0 answer) ∷ []; is = a.2; quiet = refl }
+quiet_one o old new answer false a = record { tail = []; is = a.0 ∙ sym (append-nil old); quiet = refl }
+
+-- where the greeted child was turned away
+pub away_quiet : (o : Opening) (offer : Bool) (old g new : List Entry) (c : ℕ) (answer : Answer) → Greeted old g 0 offer c → TurnsAway o c g new answer → QuietStretch old new (Start c 0 offer)
+away_quiet o offer old g new c answer greeted (mid, (b, a), closes) = record {
+  more = greeted.more ++ (one.tail ++ k.tail);
+  is = k.is ∙ ap (λ (x : List Entry). x ++ k.tail) one.is ∙ append_assoc g one.tail k.tail ∙ ap (λ (x : List Entry). x ++ (one.tail ++ k.tail)) greeted.grown
+      ∙ append_assoc old (main_entry (Start c 0 offer) ∷ greeted.more) (one.tail ++ k.tail);
+  quiet = all-join (λ (e : Entry). is_quiet e.what) greeted.more (one.tail ++ k.tail) (quiet_greeting old g offer c greeted) (all-join (λ (e : Entry). is_quiet e.what) one.tail k.tail one.quiet (quiet_closing c k.tail k.one));
+}
+  where
+    k : Closing c mid new
+    k = closing c mid new closes
+
+    one : QuietTail g mid
+    one = quiet_one o g mid answer b a
+
+-- where no child was started
+pub fault_quiet : (o : Opening) (old g new : List Entry) (answer : Answer) (b : Bool) → g ≡ old ++ main_entry (NoStart 0) ∷ [] → AnswersOne o g new answer b → QuietStretch old new (NoStart 0)
+fault_quiet o old g new answer b failed a = record {
+  more = one.tail;
+  is = one.is ∙ ap (λ (x : List Entry). x ++ one.tail) failed ∙ append_assoc old (main_entry (NoStart 0) ∷ []) one.tail;
+  quiet = one.quiet;
+}
+  where
+    one : QuietTail g new
+    one = quiet_one o g new answer b a
+
+-- where the child is ready, and there is one desk, or the child takes tags
+module _ (o : Opening) (jobs : ℕ) (offer : Bool) (old g new : List Entry) (c : ℕ) (legal : Legal o g) (greeted : Greeted old g 0 offer c) (ready : IsReady g c) where
+  abbrev at_start : List Entry
+  at_start = old ++ main_entry (Start c 0 offer) ∷ []
+
+  untagged_not : (more : List Entry) → list_all (λ (e : Entry). in_stint c e.what) more ≡ true → is_tagged g c ≡ true → has_pool (g ++ more) ≡ false
+  untagged_not more within tag =
+      let grown : g ++ more ≡ old ++ main_entry (Start c 0 offer) ∷ (greeted.more ++ more) = ap (λ (x : List Entry). x ++ more) greeted.grown ∙ append_assoc old (main_entry (Start c 0 offer) ∷ greeted.more) more in
+      let all : list_all (λ (e : Entry). in_pool c e.what) (greeted.more ++ more) ≡ true =
+      all_in (in_stint c) (in_pool c) (stint_pool c) (greeted.more ++ more) (all-join (λ (e : Entry). in_stint c e.what) greeted.more more (greeting_part c greeted.more greeted.own greeted.main).within within) in
+      ap has_pool grown ∙ pool_of old (greeted.more ++ more) c c offer all ∙ ap (λ (j : List Entry). is_ready_untagged j c) (sym grown)
+      ∙ ready_now o g more c legal ready greeted.idle within ∙ ap not tag
+
+  one_or_tagged : (more : List Entry) → list_all (λ (e : Entry). in_stint c e.what) more ≡ true → (jobs ≡ 1) ⊎ (is_tagged g c ≡ true) → IsManned o jobs (g ++ more)
+  one_or_tagged more within (inl one) = subst (λ (n : ℕ). IsManned o n (g ++ more)) (sym one) (manned_one o (g ++ more))
+  one_or_tagged more within (inr tag) = manned_none o jobs (g ++ more) (untagged_not more within tag)
+
+  pub served_turn : (more : List Entry) → new ≡ g ++ more → (jobs ≡ 1) ⊎ (is_tagged g c ≡ true) → (later : List Entry) → new ≡ old ++ main_entry (Start c 0 offer) ∷ later
+      → list_all (λ (e : Entry). in_stint c e.what) later ≡ true → AllInTurn o jobs at_start later
+  served_turn more behind few later is within =
+      let whole : new ≡ old ++ main_entry (Start c 0 offer) ∷ (greeted.more ++ more) = behind ∙ ap (λ (x : List Entry). x ++ more) greeted.grown ∙ append_assoc old (main_entry (Start c 0 offer) ∷ greeted.more) more in
+      let same : later ≡ greeted.more ++ more = behind_first old later (greeted.more ++ more) new (Start c 0 offer) is whole in
+      let here : list_all (λ (e : Entry). in_stint c e.what) more ≡ true =
+      (both (list_all (λ (e : Entry). in_stint c e.what) greeted.more) (list_all (λ (e : Entry). in_stint c e.what) more)
+      (sym (list_all-append (λ (e : Entry). in_stint c e.what) greeted.more more) ∙ ap (list_all (λ (e : Entry). in_stint c e.what)) (sym same) ∙ within)).1 in
+      subst (AllInTurn o jobs at_start) (sym same) (turn_both o jobs at_start greeted.more more (turn_quiet o jobs at_start greeted.more (quiet_greeting old g offer c greeted))
+      (subst (λ (p : List Entry). AllInTurn o jobs p more) (greeted.grown ∙ sym (append_assoc old (main_entry (Start c 0 offer) ∷ []) greeted.more))
+      (turn_manned o jobs g more (any_none (in_stint c) is_any_start (no_start_in c) more here)
+      (λ front rest split. one_or_tagged front (both (list_all (λ (e : Entry). in_stint c e.what) front) (list_all (λ (e : Entry). in_stint c e.what) rest)
+      (sym (list_all-append (λ (e : Entry). in_stint c e.what) front rest) ∙ ap (list_all (λ (e : Entry). in_stint c e.what)) (sym split) ∙ here)).0 few))))
+
+-- ---- its jobs
 
 pub closed_idle : (c : ℕ) (mid new : List Entry) → Closes 0 c mid new → open_jobs mid c ≡ [] → open_jobs new c ≡ []
 closed_idle c mid new h idle =
@@ -122,114 +291,3 @@ module _ (o : Opening) (old g : List Entry) (offer : Bool) (c : ℕ) (greeted : 
     unclosed = subst (λ (k : ℕ). why_of g k ≡ Some Closed → ⊥) (sym is) greeted_unclosed;
     tag = tag ∙ ap (is_tagged g) (sym is);
   }
-
--- ---- between two starts
-
-pub jobs_begin : (o : Opening) (setup : Setup) (may : Bool) (limit : ℕ) (journal : List Entry) (desks : List DeskTells) → journal ≡ [] → JobsBetween o setup may limit 0 may journal desks desks
-jobs_begin o setup may limit journal desks none = subst (λ (j : List Entry). JobsBetween o setup may limit 0 may j desks desks) (sym none) record {
-  spaced = record {
-    legal = record { stands = tt; nothing_due = refl };
-    slots = refl;
-    starts = refl;
-    offers = tt;
-    offered = and_true may;
-    ended = refl;
-    asks = refl;
-    rest = λ t. refl;
-    spent = inl refl;
-    untaken = refl;
-    few = tt;
-  };
-  placed = tt;
-  did = desks_nothing o setup limit [] [] [] 1 desks refl;
-  alone = λ one. refl;
-  shut = λ c. refl;
-}
-
-module _ {o : Opening} {setup : Setup} {may : Bool} {limit made : ℕ} {offer : Bool} {old : List Entry} {desks0 desks : List DeskTells} (b : JobsBetween o setup may limit made offer old desks0 desks) where
-  -- what was done before, and then by the same desks
-  did_then : (more : List Entry) (desks' : List DeskTells) → DesksDid o setup limit (old ++ more) old more 1 desks desks' → DesksDid o setup limit (old ++ more) [] (old ++ more) 1 desks0 desks'
-  did_then more desks' did = desks_join o setup limit (old ++ more) [] old more 1 desks0 desks desks' (desks_on o setup limit old more [] old 1 desks0 desks b.spaced.legal b.spaced.rest b.did) did
-
-  as_many : length desks0 ≡ length desks
-  as_many = desks_as_many o setup limit old [] old 1 desks0 desks b.did
-
-  alone_then : (more : List Entry) → (length desks ≡ 1 → are_by 0 more ≡ true) → length desks0 ≡ 1 → are_by 0 (old ++ more) ≡ true
-  alone_then more h one =
-      all-join (λ (e : Entry). e.by == 0) old more (b.alone one) (h (sym as_many ∙ one))
-
-  -- one start more
-  pub jobs_next : {next : Bool} {first : What} (new : List Entry) (desks' : List DeskTells) → JobStretch o setup limit offer next first old new desks desks' → Legal o new → JobsBetween o setup may limit (made + 1) next new desks0 desks'
-  jobs_next {next} {first} new desks' s legal = record {
-    spaced = spaced_next s.stretch b.spaced legal;
-    placed = subst (HaveDesks (length desks0) []) (sym s.stretch.is) (have_both (length desks0) [] old tail b.placed (
-        have_both (length desks0) old (main_entry first ∷ []) s.stretch.later (have_none (length desks0) old (main_entry first ∷ []) (rw (start_takes old offer first s.stretch.start) refl))
-        (subst (λ (n : ℕ). HaveDesks n (old ++ main_entry first ∷ []) s.stretch.later) (sym as_many) s.placed)));
-    did = subst (λ (j : List Entry). DesksDid o setup limit j [] j 1 desks0 desks') (sym s.stretch.is) (did_then tail desks' (
-        desks_join o setup limit (old ++ tail) old (main_entry first ∷ []) s.stretch.later 1 desks desks desks'
-        (desks_nothing o setup limit (old ++ tail) old (main_entry first ∷ []) 1 desks (rw (start_takes old offer first s.stretch.start) refl))
-        (subst (λ (j : List Entry). DesksDid o setup limit j (old ++ main_entry first ∷ []) s.stretch.later 1 desks desks') s.stretch.is s.did)));
-    alone = λ one. ap (are_by 0) s.stretch.is ∙ alone_then tail s.alone one;
-    shut = s.shut b.shut;
-  }
-    where
-      tail : List Entry
-      tail = main_entry first ∷ s.stretch.later
-
-  -- the tasks that were left are answered
-  module _ {new : List Entry} (some : 0 < length desks0) (all : made ≡ limit) (spent : AreSpent old) (a : AnswersLeft o old new (left_answer old)) (legal : Legal o new) where
-    abbrev left : List Entry
-    left = answered_so (left_answer old) a.tasks
-
-    did_left : (ds : List DeskTells) → DesksDid o setup limit (old ++ left) old left 1 ds ds
-    did_left [] = tt
-    did_left (d ∷ ds) = desks_main o setup limit (old ++ left) old left d d ds (left_main (left_answer old) a.tasks) (done_left b.spaced spent a legal setup limit d all)
-
-    pub jobs_left : JobsBetween o setup may limit made offer new desks0 desks
-    jobs_left = record {
-      spaced = spaced_left b.spaced spent a legal;
-      placed = subst (HaveDesks (length desks0) []) (sym a.is) (have_both (length desks0) [] old left b.placed (have_main (length desks0) old left some (left_main (left_answer old) a.tasks)));
-      did = subst (λ (j : List Entry). DesksDid o setup limit j [] j 1 desks0 desks) (sym a.is) (did_then left desks (did_left desks));
-      alone = λ one. ap (are_by 0) a.is ∙ alone_then left (λ x. left_main (left_answer old) a.tasks) one;
-      shut = λ d. ap (λ (j : List Entry). open_jobs j d) a.is ∙ idle_on old left d (unasked d left (left_apart (left_answer old) a.tasks d)) (b.shut d);
-    }
-
-pub ran_jobs : {o : Opening} {setup : Setup} {may : Bool} {limit made : ℕ} {offer : Bool} {journal : List Entry} {desks desks' : List DeskTells} → made ≤ limit → JobsBetween o setup may limit made offer journal desks desks'
-    → RanJobs o setup may limit journal desks desks'
-ran_jobs {o} {setup} {may} {limit} {made} {offer} {journal} le b = record {
-  legal = b.spaced.legal;
-  starts = record { slots = b.spaced.slots; few = (let n = b.spaced.starts in omega (arith, n, le)); offers = b.spaced.offers };
-  ended = b.spaced.ended;
-  asks = b.spaced.asks;
-  calm = record { idle = b.spaced.rest; shut = shut_open journal b.shut };
-  placed = b.placed;
-  did = b.did;
-  alone = b.alone;
-}
-
--- one start more, of a core under another name
-pub next_job_start : (o p : Opening) (setup : Setup) (may : Bool) (limit made : ℕ) (offer next : Bool) (program : List ℕ) (old new : List Entry) (desks0 desks desks' : List DeskTells) (start before after : ProgramsValue) (wires wires' : List WireValue)
-    → p ≡ o → JobsBetween o setup may limit made offer old desks0 desks → Kept program old start before wires → OneJobStart p setup limit offer next program old new desks desks' before after wires wires' → Legal o new
-    → JobsBetween o setup may limit (made + 1) next new desks0 desks' × Kept program new start after wires'
-next_job_start o p setup may limit made offer next program old new desks0 desks desks' start before after wires wires' same_opening b k (first, stretch, objects) legal =
-    let s : JobStretch o setup limit offer next first old new desks desks' = subst (λ (q : Opening). JobStretch q setup limit offer next first old new desks desks') same_opening stretch in
-    (jobs_next b new desks' s legal, kept_next k b.spaced.few new first s.stretch.later after wires' s.stretch.is (starts_none s.stretch) (apart s.stretch) objects)
-
--- ---- by the outcome
-
-pub at_ok : {A B : Type 0} (P : A → Type 0) (Q : B → Type 0) (r : Result A B) (a : A) → r ≡ Ok a → MatchResult r P Q → P a
-at_ok P Q r a e h = subst (λ x. MatchResult x P Q) e h
-
-pub at_err : {A B : Type 0} (P : A → Type 0) (Q : B → Type 0) (r : Result A B) (b : B) → r ≡ Err b → MatchResult r P Q → Q b
-at_err P Q r b e h = subst (λ x. MatchResult x P Q) e h
-
--- no child was started: nothing has changed
-pub between_kept : {o : Opening} {setup : Setup} {may : Bool} {limit made : ℕ} {offer : Bool} {old : List Entry} {desks0 desks : List DeskTells} (new : List Entry) (desks' : List DeskTells) → new ≡ old → desks' ≡ desks
-    → JobsBetween o setup may limit made offer old desks0 desks → JobsBetween o setup may limit made offer new desks0 desks'
-between_kept {o} {setup} {may} {limit} {made} {offer} {old} {desks0} {desks} new desks' ej ed b =
-    subst (λ (j : List Entry). JobsBetween o setup may limit made offer j desks0 desks') (sym ej) (subst (λ (ds : List DeskTells). JobsBetween o setup may limit made offer old desks0 ds) (sym ed) b)
-
-pub kept_kept : {program : List ℕ} {old : List Entry} {before after : ProgramsValue} {wires : List WireValue} (new : List Entry) (wires' : List WireValue) → new ≡ old → wires' ≡ wires → Kept program old before after wires
-    → Kept program new before after wires'
-kept_kept {program} {old} {before} {after} {wires} new wires' ej ew k =
-    subst (λ (j : List Entry). Kept program j before after wires') (sym ej) (subst (λ (ws : List WireValue). Kept program old before after ws) (sym ew) k)

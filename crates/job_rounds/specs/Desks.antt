@@ -10,7 +10,7 @@ use Rattle.journal_model.specs.Journal.{is_tagged}
 use Rattle.task_run.specs.declared.setup.Setup.{Setup}
 use Rattle.task_rounds.specs.JournalRuns.{JournalRun}
 use Rattle.lone_work.specs.Works.{CausedInTurn, DeskTells, TaskDone, all_calls}
-use Rattle.lone_rounds.specs.Rounds.{ZeroRun}
+use Rattle.job_rounds.specs.Unserved.{IsUnserved}
 
 -- ---- which desk
 
@@ -50,7 +50,7 @@ pub record WorkerRun (o : Opening) (setup : Setup) (journal : List Entry) (r : T
 
 -- over a child, or without one, by the main thread and without a call of its desk
 abbrev pub IsDone : Opening → Setup → ℕ → List Entry → TaskDone → Type 0
-IsDone o setup limit journal r = WorkerRun o setup journal r ⊎ (ZeroRun limit journal r.task r.answer × (r.calls ≡ []))
+IsDone o setup limit journal r = WorkerRun o setup journal r ⊎ (IsUnserved limit journal r.task r.answer × (r.calls ≡ []))
 
 abbrev pub AreDone : Opening → Setup → ℕ → List Entry → List TaskDone → Type 0
 AreDone o setup limit journal [] = Unit {0}

@@ -1,6 +1,6 @@
 -- What is done behind a child of slot 0 that is ready and takes no tags, where a run has several desks: a pool is gathered, serves and is
 -- closed.
-use Rattle.std.specs.Prelude.{ℕ, ◌≡◌, ◌⊎◌, ◌≤◌, ◌+◌, Bool, true, false, List, [], ◌∷◌, ◌++◌, length}
+use Rattle.std.specs.Prelude.{ℕ, ◌≡◌, ◌⊎◌, ◌≤◌, Bool, true, false, List, ◌∷◌, ◌++◌, length}
 use Rattle.std.specs.List.{list_all, list_any}
 use Rattle.ann_outside.specs.Causes.{Rose}
 use Rattle.journal_model.specs.declared.entry.Entry.{Entry}
@@ -55,3 +55,8 @@ pub record LeavesPool (wanted : Type 0) (program : List ℕ) (new later : List E
   pub started : HaveStarted wanted program later before.starts after.starts
   pub fault : any is_failed_start later ≡ true → Rose before.faults after.faults
   pub later_faults : before.faults ≤ after.faults
+
+-- both, of the same entries
+abbrev pub PoolServed : Type 0 → Opening → Setup → ℕ → List ℕ → List Entry → List Entry → List DeskTells → List DeskTells → Bool → EarValue → MouthValue → ProgramsValue → ProgramsValue → List WireValue → List WireValue → Type 0
+PoolServed wanted o setup limit program old new desks desks' whole ear mouth before after wires wires' =
+    (s : ServesPool o setup limit ear.child old new desks desks' whole) × LeavesPool wanted program new s.later ear mouth before after wires wires'

@@ -1,5 +1,5 @@
 -- What is done over a child that is ready.
-use Rattle.std.specs.Prelude.{ℕ, ◌≡◌, ◌⊎◌, ◌+◌, Bool, true, List, ◌∷◌, Some, length}
+use Rattle.std.specs.Prelude.{ℕ, ◌≡◌, ◌⊎◌, ◌+◌, Bool, true, false, List, [], ◌∷◌, Some, length}
 use Rattle.std.specs.List.{range_with_len}
 use Rattle.journal_model.specs.declared.verdict.Why.TheVariants.{Closed}
 use Rattle.journal_model.specs.declared.entry.Entry.{Entry}
@@ -13,7 +13,10 @@ use Rattle.gathering.specs.Rounds.{IsAtRest, LinkValue}
 use Rattle.task_run.specs.declared.setup.Setup.{Setup}
 use Rattle.lone_work.specs.Works.{CanWork, DeskTells}
 use Rattle.crew_roles.specs.TaggedRounds.{TaggedLeaves}
+use Rattle.child_end.specs.Programs.{ProgramsValue}
+use Rattle.child_end.specs.Wires.{WireValue}
 use Rattle.lone_rounds.specs.Stints.{HasServed}
+use Rattle.job_rounds.specs.Pools.{LeavesPool, PoolServed}
 
 -- the child is ready and idle, no task is busy and no job is open, and its link is wired; it takes tags or not
 pub record CanBeServed (o : Opening) (journal : List Entry) (ear : EarValue) (mouth : MouthValue) (tagged : Bool) : Type 0 where
@@ -44,3 +47,10 @@ pub record ServesRound (o : Opening) (setup : Setup) (c : ℕ) (old new : List E
 
 abbrev pub Serves : Opening → Setup → ℕ → List Entry → List Entry → List DeskTells → List DeskTells → Type 0
 Serves o setup c old new desks desks' = ServesAlone o setup c old new desks desks' ⊎ ServesRound o setup c old new desks desks'
+
+-- Of the child of slot 0, and of the objects: with one desk, or where it takes tags, it was served so, and its wire was laid; else a pool
+-- was gathered behind it.
+abbrev pub FirstServed : Type 0 → Opening → Setup → ℕ → List ℕ → List Entry → List Entry → List DeskTells → List DeskTells → Bool → EarValue → MouthValue → ProgramsValue → ProgramsValue → List WireValue → List WireValue → Type 0
+FirstServed wanted o setup limit program old new desks desks' whole ear mouth before after wires wires' =
+    (Serves o setup ear.child old new desks desks' × ((length desks ≡ 1) ⊎ (is_tagged old ear.child ≡ true)) × LeavesPool wanted program new [] ear mouth before after wires wires')
+    ⊎ ((length desks ≡ 1 → ⊥) × (is_tagged old ear.child ≡ false) × PoolServed wanted o setup limit program old new desks desks' whole ear mouth before after wires wires')

@@ -1,47 +1,100 @@
--- What one start and what follows it comes to, and how a run stands between two starts.
-use Rattle.std.specs.Prelude.{ℕ, ◌≡◌, ◌≤◌, Bool, true, List, [], ◌∷◌, ◌++◌, length, Result, MatchResult}
+-- What one start of slot 0 and what follows it comes to, and how a run stands between two of them.
+use Rattle.std.specs.Prelude.{ℕ, ◌≡◌, ◌⊎◌, ◌≤◌, ◌&&◌, not, Bool, true, false, List, [], ◌∷◌, ◌++◌, length, None, Result, MatchResult}
+use Rattle.std.specs.List.{list_all, list_any}
 use Rattle.ann_key.specs.declared.bytes.NoMemory.{NoMemory}
+use Rattle.ann_outside.specs.Causes.{Rose}
 use Rattle.journal_model.specs.declared.entry.What.{What}
 use Rattle.journal_model.specs.declared.entry.Entry.{Entry}
 use Rattle.journal_model.specs.declared.opening.Opening.{Opening}
-use Rattle.journal_model.specs.Journal.{open_jobs}
+use Rattle.journal_model.specs.Journal.{any, is_ended, open_jobs}
+use Rattle.journal_model.specs.Legality.{Legal, count, is_busy}
 use Rattle.journal_model.specs.Shares.{are_by}
+use Rattle.host_core.specs.Steps.{are_all_claimed}
 use Rattle.task_run.specs.declared.setup.Setup.{Setup}
+use Rattle.task_run.specs.TaskRuns.{failed_start}
 use Rattle.lone_work.specs.Works.{DeskTells}
-use Rattle.child_end.specs.Programs.{ProgramsValue}
-use Rattle.child_end.specs.Wires.{WireValue}
-use Rattle.lone_rounds.specs.Stints.{IsOver, MayHaveAsked, Spaced, StartsOne, Stretch, main_entry}
+use Rattle.child_end.specs.Programs.{AddsAll, ProgramsValue, is_failed_start, told}
+use Rattle.child_end.specs.Wires.{WireValue, came}
+use Rattle.lone_rounds.specs.Starting.{AllOffer, AreEnded, children, is_offered, is_ready_untagged}
+use Rattle.lone_rounds.specs.Rounds.{is_of_run, start_untaken}
+use Rattle.lone_rounds.specs.Stints.{AreLinked, IsOver, IsStart, MayHaveAsked, main_entry, next_child}
+use Rattle.pool_starts.specs.Slots.{AllInTurn, AreSpent, in_pool, is_first_start, offers_tags, spends}
 use Rattle.job_rounds.specs.Desks.{DesksDid, HaveDesks}
 
--- one start and what followed it, with what the desks did
-pub record JobStretch (o : Opening) (setup : Setup) (limit : ℕ) (offer next : Bool) (first : What) (old new : List Entry) (desks desks' : List DeskTells) : Type 0 where
-  pub stretch : Stretch o offer next first old new
-  pub placed : HaveDesks (length desks) (old ++ main_entry first ∷ []) stretch.later
-  pub did : DesksDid o setup limit new (old ++ main_entry first ∷ []) stretch.later 1 desks desks'
-  pub alone : length desks ≡ 1 → are_by 0 stretch.later ≡ true
+-- ---- one start of slot 0
+
+-- The journal has one start of slot 0 more, and what followed it: starts in other slots, in turn, none offering ASYNC, and nothing of an
+-- earlier child. No task is busy behind it, no job is open, and its children have ended. Where it is whole, the start is spent, or all
+-- tasks are claimed. `next` says whether ASYNC is offered from then on. Each task that was claimed is done, by its desk.
+pub record JobStretch (o : Opening) (setup : Setup) (limit : ℕ) (offer next : Bool) (first : What) (old new : List Entry) (desks desks' : List DeskTells) (whole : Bool) : Type 0 where
+  pub later : List Entry
+  pub is : new ≡ old ++ main_entry first ∷ later
+  pub start : IsStart old offer first
+  pub within : list_all (λ e. in_pool (next_child old) e.what) later ≡ true
+  pub untagged : any offers_tags later ≡ false
+  pub asks : list_all (λ e. is_of_run e.what) later ≡ true
+  pub turn : AllInTurn o (length desks) (old ++ main_entry first ∷ []) later
+  pub rest : (t : ℕ) → is_busy new t ≡ false
+  pub ended : list_all (is_ended new) (children (main_entry first ∷ later)) ≡ true
+  pub spent : whole ≡ true → (spends new first later ≡ true) ⊎ (are_all_claimed o new ≡ true)
+  pub untaken : failed_start new (start_untaken new) ≡ None
+  pub offers : next ≡ (offer && not (list_any (is_ready_untagged new) (children (main_entry first ∷ later))))
+  pub placed : HaveDesks (length desks) (old ++ main_entry first ∷ []) later
+  pub did : DesksDid o setup limit new (old ++ main_entry first ∷ []) later 1 desks desks'
+  pub alone : length desks ≡ 1 → are_by 0 later ≡ true
   pub shut : ((c : ℕ) → open_jobs old c ≡ []) → (c : ℕ) → open_jobs new c ≡ []
 
--- in the journal and of the objects
-abbrev pub OneJobStart : Opening → Setup → ℕ → Bool → Bool → List ℕ → List Entry → List Entry → List DeskTells → List DeskTells → ProgramsValue → ProgramsValue → List WireValue → List WireValue → Type 0
-OneJobStart o setup limit offer next program old new desks desks' before after wires wires' =
-    (first : What) × JobStretch o setup limit offer next first old new desks desks' × StartsOne program new first before after wires wires'
+-- The programs were asked for what the entries' starts say, the wires are those of their children, in order, and a fault was counted
+-- where a start failed.
+pub record StartsAll (program : List ℕ) (journal started : List Entry) (before after : ProgramsValue) (wires wires' : List WireValue) : Type 0 where
+  pub adds : AddsAll before.starts after.starts (told program started)
+  pub new : List WireValue
+  pub laid : wires' ≡ wires ++ new
+  pub linked : AreLinked before.starts journal 0 (came started) new
+  pub fault : any is_failed_start started ≡ true → Rose before.faults after.faults
+  pub later_faults : before.faults ≤ after.faults
 
--- no memory was found to start a child: nothing was noted or done, though the programs may have been asked
+-- in the journal and of the objects
+abbrev pub OneJobStart : Opening → Setup → ℕ → Bool → Bool → Bool → List ℕ → List Entry → List Entry → List DeskTells → List DeskTells → ProgramsValue → ProgramsValue → List WireValue → List WireValue → Type 0
+OneJobStart o setup limit offer next whole program old new desks desks' before after wires wires' =
+    (first : What) × (s : JobStretch o setup limit offer next first old new desks desks' whole) × StartsAll program new (main_entry first ∷ s.later) before after wires wires'
+
+-- nothing was noted or done, though the programs may have been asked
 pub record NotStarted (program : List ℕ) (old new : List Entry) (desks desks' : List DeskTells) (before after : ProgramsValue) (wires wires' : List WireValue) : Type 0 where
   pub journal : new ≡ old
   pub desks_are : desks' ≡ desks
   pub wires_are : wires' ≡ wires
   pub asked : MayHaveAsked program before after
 
--- so many starts were made, and each task that was claimed is done
-pub record JobsBetween (o : Opening) (setup : Setup) (may : Bool) (limit made : ℕ) (offer : Bool) (journal : List Entry) (desks desks' : List DeskTells) : Type 0 where
-  pub spaced : Spaced o may made offer journal
+-- No memory was found to start a child: of slot 0, and nothing was done; or of its pool, and those that were ready did tasks.
+abbrev pub LacksMemory : Opening → Setup → ℕ → Bool → List ℕ → List Entry → List Entry → List DeskTells → List DeskTells → ProgramsValue → ProgramsValue → List WireValue → List WireValue → Type 0
+LacksMemory o setup limit offer program old new desks desks' before after wires wires' =
+    NotStarted program old new desks desks' before after wires wires'
+    ⊎ ((next : Bool) × (mid : ProgramsValue) × OneJobStart o setup limit offer next false program old new desks desks' before mid wires wires' × MayHaveAsked program mid after)
+
+-- ---- between two starts
+
+-- So many starts of slot 0 were made, and each start stands in its slot and offers ASYNC where it is to. The children have ended, and
+-- where all were whole each start is spent, or all tasks are claimed. No task is busy, no job is open, and no start is left for a task to
+-- take. Each task that was claimed is done, by its desk.
+pub record JobsBetween (o : Opening) (setup : Setup) (may : Bool) (limit made : ℕ) (offer : Bool) (journal : List Entry) (desks desks' : List DeskTells) (whole : Bool) : Type 0 where
+  pub legal : Legal o journal
+  pub turn : AllInTurn o (length desks) [] journal
+  pub starts : count is_first_start journal ≡ made
+  pub offers : AllOffer may [] journal
+  pub offered : offer ≡ (may && is_offered journal)
+  pub ended : AreEnded journal
+  pub asks : list_all (λ e. is_of_run e.what) journal ≡ true
+  pub rest : (t : ℕ) → is_busy journal t ≡ false
+  pub spent : whole ≡ true → AreSpent journal ⊎ (are_all_claimed o journal ≡ true)
+  pub untaken : failed_start journal (start_untaken journal) ≡ None
   pub placed : HaveDesks (length desks) [] journal
   pub did : DesksDid o setup limit journal [] journal 1 desks desks'
   pub alone : length desks ≡ 1 → are_by 0 journal ≡ true
   pub shut : (c : ℕ) → open_jobs journal c ≡ []
 
--- the children were started, one after the other, until all starts were made or all tasks claimed, or no memory was found to start one
+-- the children were started until all starts of slot 0 were made or all tasks claimed, or no memory was found to start one
 abbrev pub JobsStarted : Opening → Setup → Bool → ℕ → List Entry → List DeskTells → List DeskTells → Result (Unit {0}) NoMemory → Type 0
 JobsStarted o setup may limit journal desks desks' result =
-    (made : ℕ) × (offer : Bool) × JobsBetween o setup may limit made offer journal desks desks' × (made ≤ limit) × MatchResult result (λ _. IsOver o limit made journal) (λ _. Unit {0})
+    (made : ℕ) × (offer : Bool) × (whole : Bool) × JobsBetween o setup may limit made offer journal desks desks' whole × (made ≤ limit)
+    × MatchResult result (λ _. (whole ≡ true) × IsOver o limit made journal) (λ _. Unit {0})

@@ -2,6 +2,7 @@
 #![tactic(auto)]
 
 mod bench;
+mod pooling;
 mod running;
 mod serving;
 mod starting;

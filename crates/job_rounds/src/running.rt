@@ -1,4 +1,4 @@
-ghost use Rattle.std.specs.Prelude.{◌≡◌, ◌≤◌, ◌<◌, [], map, IsErr, vec_len, vec_capacity, false};
+ghost use Rattle.std.specs.Prelude.{◌≡◌, ◌≤◌, ◌<◌, ◌*◌, [], map, IsErr, vec_len, vec_capacity, false};
 ghost use Rattle.annex_model.specs.Lines.{has_newline};
 ghost use Rattle.child_end.specs.Programs.{Leaves, programs_value};
 ghost use Rattle.child_end.specs.Wires.{wire_value};
@@ -19,10 +19,11 @@ use std::sync::Wait;
 use std::thread::Threads;
 use task_text::Task;
 
-/// Does all tasks over children that are started one after the other, and answers each. Over a child that takes tags, a worker for each
-/// desk does tasks side by side, in a thread of its own; over another, or where there are no threads, one worker does. Where a child is
-/// lost the next one goes on; where no start is left, the tasks that are left are answered `nochild`. `NoMemory` is answered where no
-/// memory was found to start a child; what was done until then stands in the journal.
+/// Does all tasks over children, and answers each. Over a child that takes tags, a worker for each desk does tasks side by side, in a thread
+/// of its own. Behind one that takes none, one more is started for each further desk, and each has a worker of its own. Where there are no
+/// threads, one worker does the tasks over the first. Where a child is lost the next start goes on; where none is left, the tasks that are
+/// left are answered `nochild`. `NoMemory` is answered where no memory was found to start a child; what was done until then stands in the
+/// journal.
 pub fn run_jobs<P: Programs, K: Desk + Send + Drop, R: Threads + Wait + Sync>(
     rt: &R,
     alloc: Global,
@@ -35,12 +36,13 @@ pub fn run_jobs<P: Programs, K: Desk + Send + Drop, R: Threads + Wait + Sync>(
 where
     P::Inlet: Send + Drop,
     P::Outlet: Send + Drop,
+    P::Stub: Drop,
     requires empty { bench.core.journal ≡ [] }
     requires tasks { (bench.core.opening.tasks ≡ tasks.now) × AreTasks tasks.now }
     requires starts { (0 < plan.now.starts) × (plan.now.starts ≤ 16) }
     requires folder { has_newline plan.now.setup.work ≡ false }
     requires desks { (0 < vec_len bench.desks) × (vec_len bench.desks ≤ 64) }
-    requires room { plan.now.starts ≤ vec_capacity wires.old }
+    requires room { plan.now.starts * vec_len bench.desks ≤ vec_capacity wires.old }
     requires none { wires.old.items ≡ [] }
     ensures ran { RanJobs bench.core.opening plan.now.setup plan.now.offers plan.now.starts result.0.core.journal (map (λ k. desk_tells (K.log k) (K.counts k)) bench.desks.items) (map (λ k. desk_tells (K.log k) (K.counts k)) result.0.desks.items) }
     ensures whole { IsWhole bench.core.opening result.0.core.journal result.1 }

@@ -1,18 +1,20 @@
-// The starts of a run: one child after the other.
-ghost use Rattle.std.specs.Prelude.{◌≡◌, ◌≤◌, ◌<◌, ◌+◌, ℕ, [], map, false, MatchResult, vec_len, vec_capacity};
+// The starts of a run: one child of slot 0 after the other.
+ghost use Rattle.std.specs.Prelude.{◌≡◌, ◌≤◌, ◌<◌, ◌+◌, ◌*◌, ℕ, [], map, false, true, IsErr, MatchResult, is_ok, vec_len, vec_capacity};
 ghost use Rattle.annex_model.specs.Lines.{has_newline};
 ghost use Rattle.child_end.specs.Programs.{programs_value};
 ghost use Rattle.child_end.specs.Wires.{wire_value};
 ghost use Rattle.child_start.specs.Cores.{IsSameCore};
 ghost use Rattle.host_core.specs.Steps.{are_all_claimed};
-ghost use Rattle.job_rounds.specs.Starts.{JobsStarted, NotStarted, OneJobStart};
-ghost use Rattle.journal_model.specs.Legality.{Legal, count, is_busy, is_start};
-ghost use Rattle.journal_model.specs.Journal.{is_open};
+ghost use Rattle.job_rounds.specs.Servings.{CanBeServed, FirstServed};
+ghost use Rattle.job_rounds.specs.Starts.{JobsStarted, LacksMemory, OneJobStart};
+ghost use Rattle.journal_model.specs.Legality.{Legal, count, is_start};
 ghost use Rattle.gathering.specs.Rounds.{IsAtRest};
 ghost use Rattle.lone_rounds.specs.Stints.{KeptOr};
 ghost use Rattle.lone_work.specs.Works.{AreTasks, desk_tells};
+ghost use Rattle.pool_starts.specs.Slots.{has_pool, is_unclaimed_since, last_slot};
 
 use crate::bench::Bench;
+use crate::pooling::serve_pool;
 use crate::serving::serve_ready;
 use ann_key::NoMemory;
 use ann_outside::{Desk, Programs};
@@ -20,7 +22,7 @@ use child_end::finish;
 use child_start::{Greeting, Mode, greet};
 use door_asker::know_book;
 use journal_model::Answer;
-use link_roles::Wire;
+use link_roles::{Lone, Wire};
 use lone_rounds::{Plan, answer_one, is_offered, not_prepared, turn_away};
 use std::alloc::Global;
 use std::marker::{Send, Sync};
@@ -28,8 +30,49 @@ use std::sync::Wait;
 use std::thread::Threads;
 use task_text::Task;
 
-// Starts one child and lets it do tasks. One task is answered by what came of a start that gave no child that is ready. Whether ASYNC is
-// to be offered to the next one.
+// Lets a child that is ready do tasks, and closes it. Where it takes no tags and there are several desks, a pool is gathered behind it.
+fn serve_child<P: Programs, K: Desk + Send + Drop, R: Threads + Wait + Sync>(
+    rt: &R,
+    alloc: Global,
+    programs: &mut P,
+    plan: &Plan,
+    tasks: &[Task],
+    link: Lone<P::Inlet, P::Outlet>,
+    stub: P::Stub,
+    tagged: bool,
+    bench: Bench<K>,
+    wires: &mut Vec<Wire<P::Inlet, P::Outlet>>,
+) -> (Bench<K>, Result<(), NoMemory>)
+where
+    P::Inlet: Send + Drop,
+    P::Outlet: Send + Drop,
+    P::Stub: Drop,
+    requires desks { (0 < vec_len bench.desks) × (vec_len bench.desks ≤ 64) }
+    requires tasks { (bench.core.opening.tasks ≡ tasks.now) × AreTasks tasks.now }
+    requires folder { has_newline plan.now.setup.work ≡ false }
+    requires can { CanBeServed bench.core.opening bench.core.journal link.ear link.mouth tagged }
+    requires few { count is_start bench.core.journal + 64 < 4294967295 }
+    requires pool { tagged ≡ false → has_pool bench.core.journal ≡ true }
+    requires last { last_slot bench.core.journal ≡ 0 }
+    requires since { is_unclaimed_since bench.core.journal ≡ true }
+    requires last_child { link.ear.child ≡ count is_start bench.core.journal }
+    requires room { vec_len wires.old + vec_len bench.desks ≤ vec_capacity wires.old }
+    ensures served { FirstServed (IsErr result.1) bench.core.opening plan.now.setup plan.now.starts plan.now.program bench.core.journal result.0.core.journal (map (λ k. desk_tells (K.log k) (K.counts k)) bench.desks.items) (map (λ k. desk_tells (K.log k) (K.counts k)) result.0.desks.items) (is_ok result.1) link.ear link.mouth
+        (programs_value (P.starts programs.old) (P.faults programs.old)) (programs_value (P.starts programs.new) (P.faults programs.new)) (map (wire_value P.Inlet.taken P.Inlet.faults P.Inlet.number P.Inlet.is_open P.Outlet.given P.Outlet.left P.Outlet.faults P.Outlet.number P.Outlet.is_open) wires.old.items) (map (wire_value P.Inlet.taken P.Inlet.faults P.Inlet.number P.Inlet.is_open P.Outlet.given P.Outlet.left P.Outlet.faults P.Outlet.number P.Outlet.is_open) wires.new.items) }
+    ensures room { (vec_len wires.new ≤ vec_len wires.old + vec_len bench.desks) × (vec_capacity wires.new ≡ vec_capacity wires.old) }
+    ensures core { IsSameCore bench.core result.0.core }
+    ensures desks { vec_len result.0.desks ≡ vec_len bench.desks }
+{
+    if !tagged && bench.desks.len() > 1 {
+        return serve_pool(rt, alloc, programs, plan, tasks, link, stub, bench, wires);
+    }
+    let (link, bench) = serve_ready(rt, alloc, tasks, &plan.setup, link, tagged, bench);
+    finish(programs, link, stub, wires);
+    (bench, Ok(()))
+}
+
+// Starts one child of slot 0 and lets it do tasks. One task is answered by what came of a start that gave no child that is ready. Whether
+// ASYNC is to be offered to the next one.
 fn start_one<P: Programs, K: Desk + Send + Drop, R: Threads + Wait + Sync>(
     rt: &R,
     alloc: Global,
@@ -43,18 +86,19 @@ fn start_one<P: Programs, K: Desk + Send + Drop, R: Threads + Wait + Sync>(
 where
     P::Inlet: Send + Drop,
     P::Outlet: Send + Drop,
+    P::Stub: Drop,
     requires legal { Legal bench.core.opening bench.core.journal }
     requires calm { IsAtRest bench.core.journal }
-    requires few { count is_start bench.core.journal < 4294967295 }
+    requires few { count is_start bench.core.journal + 65 < 4294967295 }
     requires left { are_all_claimed bench.core.opening bench.core.journal ≡ false }
     requires tasks { (bench.core.opening.tasks ≡ tasks.now) × AreTasks tasks.now }
     requires folder { has_newline plan.now.setup.work ≡ false }
     requires desks { (0 < vec_len bench.desks) × (vec_len bench.desks ≤ 64) }
-    requires room { vec_len wires.old < vec_capacity wires.old }
+    requires room { vec_len wires.old + vec_len bench.desks ≤ vec_capacity wires.old }
     ensures starts { MatchResult result.1
-        (λ next. OneJobStart bench.core.opening plan.now.setup plan.now.starts offer next plan.now.program bench.core.journal result.0.core.journal (map (λ k. desk_tells (K.log k) (K.counts k)) bench.desks.items) (map (λ k. desk_tells (K.log k) (K.counts k)) result.0.desks.items) (programs_value (P.starts programs.old) (P.faults programs.old)) (programs_value (P.starts programs.new) (P.faults programs.new)) (map (wire_value P.Inlet.taken P.Inlet.faults P.Inlet.number P.Inlet.is_open P.Outlet.given P.Outlet.left P.Outlet.faults P.Outlet.number P.Outlet.is_open) wires.old.items) (map (wire_value P.Inlet.taken P.Inlet.faults P.Inlet.number P.Inlet.is_open P.Outlet.given P.Outlet.left P.Outlet.faults P.Outlet.number P.Outlet.is_open) wires.new.items))
-        (λ _. NotStarted plan.now.program bench.core.journal result.0.core.journal (map (λ k. desk_tells (K.log k) (K.counts k)) bench.desks.items) (map (λ k. desk_tells (K.log k) (K.counts k)) result.0.desks.items) (programs_value (P.starts programs.old) (P.faults programs.old)) (programs_value (P.starts programs.new) (P.faults programs.new)) (map (wire_value P.Inlet.taken P.Inlet.faults P.Inlet.number P.Inlet.is_open P.Outlet.given P.Outlet.left P.Outlet.faults P.Outlet.number P.Outlet.is_open) wires.old.items) (map (wire_value P.Inlet.taken P.Inlet.faults P.Inlet.number P.Inlet.is_open P.Outlet.given P.Outlet.left P.Outlet.faults P.Outlet.number P.Outlet.is_open) wires.new.items)) }
-    ensures room { (vec_len wires.new ≤ vec_len wires.old + 1) × (vec_capacity wires.new ≡ vec_capacity wires.old) }
+        (λ next. OneJobStart bench.core.opening plan.now.setup plan.now.starts offer next true plan.now.program bench.core.journal result.0.core.journal (map (λ k. desk_tells (K.log k) (K.counts k)) bench.desks.items) (map (λ k. desk_tells (K.log k) (K.counts k)) result.0.desks.items) (programs_value (P.starts programs.old) (P.faults programs.old)) (programs_value (P.starts programs.new) (P.faults programs.new)) (map (wire_value P.Inlet.taken P.Inlet.faults P.Inlet.number P.Inlet.is_open P.Outlet.given P.Outlet.left P.Outlet.faults P.Outlet.number P.Outlet.is_open) wires.old.items) (map (wire_value P.Inlet.taken P.Inlet.faults P.Inlet.number P.Inlet.is_open P.Outlet.given P.Outlet.left P.Outlet.faults P.Outlet.number P.Outlet.is_open) wires.new.items))
+        (λ _. LacksMemory bench.core.opening plan.now.setup plan.now.starts offer plan.now.program bench.core.journal result.0.core.journal (map (λ k. desk_tells (K.log k) (K.counts k)) bench.desks.items) (map (λ k. desk_tells (K.log k) (K.counts k)) result.0.desks.items) (programs_value (P.starts programs.old) (P.faults programs.old)) (programs_value (P.starts programs.new) (P.faults programs.new)) (map (wire_value P.Inlet.taken P.Inlet.faults P.Inlet.number P.Inlet.is_open P.Outlet.given P.Outlet.left P.Outlet.faults P.Outlet.number P.Outlet.is_open) wires.old.items) (map (wire_value P.Inlet.taken P.Inlet.faults P.Inlet.number P.Inlet.is_open P.Outlet.given P.Outlet.left P.Outlet.faults P.Outlet.number P.Outlet.is_open) wires.new.items)) }
+    ensures room { (vec_len wires.new ≤ vec_len wires.old + vec_len bench.desks) × (vec_capacity wires.new ≡ vec_capacity wires.old) }
     ensures core { IsSameCore bench.core result.0.core }
     ensures desks { vec_len result.0.desks ≡ vec_len bench.desks }
 {
@@ -71,9 +115,13 @@ where
     ) {
         Greeting::Ready { link, stub, tagged } => {
             know_book(&bench.core.opening().notes);
-            let (link, bench) = serve_ready(rt, alloc, tasks, &plan.setup, link, tagged, bench);
-            finish(programs, link, stub, wires);
-            (bench, Ok(is_offered(offer, tagged)))
+            let (bench, served) = serve_child(
+                rt, alloc, programs, plan, tasks, link, stub, tagged, bench, wires,
+            );
+            match served {
+                Ok(()) => (bench, Ok(is_offered(offer, tagged))),
+                Err(NoMemory) => (bench, Err(NoMemory)),
+            }
         }
         Greeting::Refused {
             verdict,
@@ -103,7 +151,7 @@ where
     }
 }
 
-/// Starts children, one after the other, until all starts are made or all tasks claimed, or no memory is found to start one.
+/// Starts children of slot 0, one after the other, until all starts are made or all tasks claimed, or no memory is found to start one.
 pub(crate) fn start_children<P: Programs, K: Desk + Send + Drop, R: Threads + Wait + Sync>(
     rt: &R,
     alloc: Global,
@@ -116,12 +164,13 @@ pub(crate) fn start_children<P: Programs, K: Desk + Send + Drop, R: Threads + Wa
 where
     P::Inlet: Send + Drop,
     P::Outlet: Send + Drop,
+    P::Stub: Drop,
     requires empty { bench.core.journal ≡ [] }
     requires tasks { (bench.core.opening.tasks ≡ tasks.now) × AreTasks tasks.now }
     requires starts { (0 < plan.now.starts) × (plan.now.starts ≤ 16) }
     requires folder { has_newline plan.now.setup.work ≡ false }
     requires desks { (0 < vec_len bench.desks) × (vec_len bench.desks ≤ 64) }
-    requires room { plan.now.starts ≤ vec_capacity wires.old }
+    requires room { plan.now.starts * vec_len bench.desks ≤ vec_capacity wires.old }
     requires none { wires.old.items ≡ [] }
     ensures started { JobsStarted bench.core.opening plan.now.setup plan.now.offers plan.now.starts result.0.core.journal (map (λ k. desk_tells (K.log k) (K.counts k)) bench.desks.items) (map (λ k. desk_tells (K.log k) (K.counts k)) result.0.desks.items) result.1 }
     ensures kept { KeptOr plan.now.program result.0.core.journal (programs_value (P.starts programs.old) (P.faults programs.old)) (programs_value (P.starts programs.new) (P.faults programs.new)) (map (wire_value P.Inlet.taken P.Inlet.faults P.Inlet.number P.Inlet.is_open P.Outlet.given P.Outlet.left P.Outlet.faults P.Outlet.number P.Outlet.is_open) wires.new.items) result.1 }

@@ -1,24 +1,32 @@
 -- What gathering a pool leaves: in the journal, of its children, and of the programs.
-use Rattle.std.specs.Prelude.{ℕ, ◌≡◌, ◌≤◌, ◌+◌, ◌||◌, min, Bool, true, false, List, [], ◌∷◌, ◌++◌, length, Option, Some, None}
+use Rattle.std.specs.Prelude.{ℕ, ◌≡◌, ◌<◌, ◌≤◌, ◌+◌, ◌==◌, ◌||◌, not, min, map, vec_len, Bool, true, false, List, [], ◌∷◌, ◌++◌, length, Option, Some, None}
 use Rattle.std.specs.List.{list_all}
+use Rattle.ann_outside.specs.declared.Sink.{Ghosts as SinkGhosts}
+use Rattle.ann_outside.specs.declared.Source.{Ghosts as SourceGhosts}
 use Rattle.ann_outside.specs.Starts.{Starts}
-use Rattle.ann_outside.specs.Causes.{Rose}
+use Rattle.ann_outside.specs.Causes.{Rose, Stays}
 use Rattle.journal_model.specs.declared.entry.What.{What}
 use Rattle.journal_model.specs.declared.entry.What.TheVariants.{Claim}
 use Rattle.journal_model.specs.declared.entry.Entry.{Entry}
 use Rattle.journal_model.specs.declared.opening.Opening.{Opening}
 use Rattle.journal_model.specs.Journal.{any, is_ended}
-use Rattle.journal_model.specs.Legality.{count, is_start}
+use Rattle.journal_model.specs.Legality.{count, is_prepared, is_start}
 use Rattle.journal_model.specs.Shares.{are_by}
 use Rattle.host_core.specs.Steps.{unclaimed}
+use Rattle.link_roles.specs.declared.wire.Wire.{Wire}
 use Rattle.child_end.specs.Wires.{WireValue, IsOfStart, came}
 use Rattle.child_end.specs.Programs.{HaveStarted, ProgramsValue, is_failed_start}
 use Rattle.gathering.specs.Rounds.{LinkValue}
-use Rattle.gathering.specs.Laws.{children_of}
+use Rattle.crew_rounds.specs.Tagged.{link_of}
 use Rattle.lone_rounds.specs.Starting.{children}
 use Rattle.lone_rounds.specs.Rounds.{is_of_run}
 use Rattle.lone_rounds.specs.Stints.{IsLinked}
 use Rattle.pool_rounds.specs.Pool.{PoolCan}
+use Rattle.pool_starts.specs.declared.pool.Gathering.{Gathering}
+use Rattle.pool_starts.specs.declared.pool.Gathering.TheVariants.{Whole, NoMemory, NoRoom}
+use Rattle.pool_starts.specs.declared.pool.Pool.{Pool}
+use Rattle.pool_starts.specs.declared.pool.Seat.{Seat}
+use Rattle.pool_starts.specs.declared.pool.Seat.TheVariants.{Over, Serving}
 use Rattle.pool_starts.specs.Slots.{AllInTurn, in_pool, last_slot, offers_tags}
 
 -- a task is claimed
@@ -31,8 +39,8 @@ abbrev pub is_among : List LinkValue → ℕ → Bool
 is_among [] c = false
 is_among (l ∷ more) c = (l.ear.child == c) || is_among more c
 
--- Behind the ready child of slot 0 the main thread started and greeted children in other slots, in turn, without offering ASYNC. Each
--- is ready and among these links, or has ended. No task was claimed. A round over all the links may begin. Where it is whole, each slot
+-- Behind the ready child of slot 0 the main thread started and greeted children in other slots, in turn, without offering ASYNC. Each that
+-- is ready is among these links, and each that is not has ended. No task was claimed. A round over all the links may begin. Where it is whole, each slot
 -- of the run's had its start, as far as there are tasks.
 pub record Gathered (o : Opening) (jobs : ℕ) (old new : List Entry) (first : LinkValue) (links : List LinkValue) (whole : Bool) : Type 0 where
   pub later : List Entry
@@ -44,6 +52,7 @@ pub record Gathered (o : Opening) (jobs : ℕ) (old new : List Entry) (first : L
   pub asks : list_all (λ e. is_of_run e.what) later ≡ true
   pub turn : AllInTurn o jobs old later
   pub ended : list_all (λ c. is_ended new c || is_among links c) (children later) ≡ true
+  pub ready : list_all (λ c. not (is_prepared new c) || is_among links c) (children later) ≡ true
   pub can : PoolCan o new (first ∷ links)
   pub manned : whole ≡ true → min jobs (length (unclaimed o new)) ≤ last_slot new + 1
 
@@ -70,3 +79,42 @@ pub record GathersBy (wanted : Type 0) (program : List ℕ) (new later : List En
   pub started : HaveStarted wanted program later before.starts after.starts
   pub fault : any is_failed_start later ≡ true → Rose before.faults after.faults
   pub later_faults : before.faults ≤ after.faults
+
+-- ---- what gathering comes to
+
+-- what a seat tells, where its wire tells so much
+abbrev pub seat_value : {I O S : Type 0} → (Wire I O → WireValue) → Seat I O S → SeatValue
+seat_value tells (Over wire) = OverBy (tells wire)
+seat_value tells (Serving stub) = Serves
+
+-- A pool was gathered behind the child of slot 0, whose link is its first, as it was, and whose seat is its first. No more were seated
+-- than there are jobs.
+pub record IsPool (wanted : Type 0) (whole : Bool) (o : Opening) (jobs : ℕ) (program : List ℕ) (old new : List Entry) (first : LinkValue) (before after : ProgramsValue) (seats : List SeatValue) (links : List LinkValue) : Type 0 where
+  pub more : List LinkValue
+  pub others : List SeatValue
+  pub links_are : links ≡ first ∷ more
+  pub seats_are : seats ≡ Serves ∷ others
+  pub gathered : Gathered o jobs old new first more whole
+  pub by : GathersBy wanted program new gathered.later before after others more
+
+-- the pool's vectors: there is a link, no more links than seats, and no more seats than jobs, where there is a job
+pub record IsWithin (jobs links seats : ℕ) : Type 0 where
+  pub some : 0 < links
+  pub each : links ≤ seats
+  pub most : 0 < jobs → seats ≤ jobs
+
+abbrev pub PoolIs : {I O S : Type 0} {sinks : SinkGhosts I} {sources : SourceGhosts O} → Type 0 → Bool → (Wire I O → WireValue) → Opening → ℕ → List ℕ → List Entry → List Entry → LinkValue → ProgramsValue → ProgramsValue → Pool I O S sinks sources → Type 0
+PoolIs wanted whole tells o jobs program old new first before after pool =
+    IsPool wanted whole o jobs program old new first before after (map (seat_value tells) pool.seats.items) (map (λ l. link_of l.ear l.mouth) pool.links.items) × IsWithin jobs (vec_len pool.links) (vec_len pool.seats)
+
+-- nothing was done, and the link is as it was
+pub record IsUngathered (old new : List Entry) (first link : LinkValue) (before after : ProgramsValue) : Type 0 where
+  pub journal : new ≡ old
+  pub link_is : link ≡ first
+  pub starts : Stays before.starts after.starts
+  pub later_faults : before.faults ≤ after.faults
+
+abbrev pub GathersAs : {I O S : Type 0} {sinks : SinkGhosts I} {sources : SourceGhosts O} → (Wire I O → WireValue) → Opening → ℕ → List ℕ → List Entry → List Entry → LinkValue → ProgramsValue → ProgramsValue → Gathering I O S sinks sources → Type 0
+GathersAs tells o jobs program old new first before after (Whole pool) = PoolIs ⊥ true tells o jobs program old new first before after pool
+GathersAs tells o jobs program old new first before after (NoMemory pool) = PoolIs (Unit {0}) false tells o jobs program old new first before after pool
+GathersAs tells o jobs program old new first before after (NoRoom link stub) = IsUngathered old new first (link_of link.ear link.mouth) before after

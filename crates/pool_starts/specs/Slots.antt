@@ -1,5 +1,5 @@
 -- In which slots a run starts its children, and what spends a start of slot 0.
-use Rattle.std.specs.Prelude.{ℕ, zero, suc, ◌≡◌, ◌≤◌, ◌<◌, ◌+◌, ◌==◌, ◌&&◌, ◌||◌, not, min, nat_le, Bool, true, false, List, [], ◌∷◌, ◌++◌, length, Option, Some, None}
+use Rattle.std.specs.Prelude.{ℕ, zero, suc, ◌≡◌, ◌≤◌, ◌<◌, ◌+◌, ◌==◌, ◌&&◌, ◌||◌, not, if◌then◌else◌, min, nat_le, Bool, true, false, List, [], ◌∷◌, ◌++◌, length, Option, Some, None, option_and_then, unwrap_or}
 use Rattle.std.specs.List.{last_or, list_any}
 use Rattle.journal_model.specs.declared.entry.What.{What}
 use Rattle.journal_model.specs.declared.entry.What.TheVariants.{Claim, Start, NoStart, Ask, Put, Sent, Mute, Got, End, Verdict as Settled, Lost, Answer as Answered, Note}
@@ -20,7 +20,7 @@ slot_of w = None
 
 -- the slot of the last start
 abbrev pub last_slot : List Entry → ℕ
-last_slot past = last_or 0 (each_of slot_of past)
+last_slot past = unwrap_or (last_or None (each_of slot_of past)) 0
 
 -- a start, or a claim
 abbrev pub begins_by_start : What → Option Bool
@@ -31,7 +31,7 @@ begins_by_start w = None
 
 -- no task was claimed since the last start
 abbrev pub is_unclaimed_since : List Entry → Bool
-is_unclaimed_since past = last_or false (each_of begins_by_start past)
+is_unclaimed_since past = unwrap_or (last_or None (each_of begins_by_start past)) false
 
 -- the child that a start of slot 0 gave, or none
 abbrev pub first_in : What → Option (Option ℕ)
@@ -45,7 +45,7 @@ is_ready_pool past None = false
 
 -- the last start of slot 0 gave a child that is ready and takes no tags: so a pool serves
 abbrev pub has_pool : List Entry → Bool
-has_pool past = is_ready_pool past (last_or None (each_of first_in past))
+has_pool past = is_ready_pool past (option_and_then (λ child. child) (last_or None (each_of first_in past)))
 
 -- A start in another slot than 0 is of a pool, in the slot behind the last start's; that slot is one of the run's, there is a task for
 -- it, and none was claimed since the last start.
@@ -118,15 +118,16 @@ offers_tags w = false
 abbrev pub is_lost : List Entry → ℕ → Bool
 is_lost past c = is_prepared past c && (is_mute past c || is_unclosed (why_of past c))
 
+-- behind this entry stand these children, where the next start of slot 0 ends them
+abbrev pub behind_start : What → List ℕ → List ℕ
+behind_start (Start child slot offer) more = if slot == 0 then [] else child ∷ more
+behind_start (NoStart slot) more = if slot == 0 then [] else more
+behind_start w more = more
+
 -- the children of the other slots, up to the next start of slot 0
 abbrev pub pool_behind : List Entry → List ℕ
 pool_behind [] = []
-pool_behind (e ∷ rest) = of e.what
-  where
-    of : What → List ℕ
-    of (Start child slot offer) = if slot == 0 then [] else child ∷ pool_behind rest
-    of (NoStart slot) = if slot == 0 then [] else pool_behind rest
-    of w = pool_behind rest
+pool_behind (e ∷ rest) = behind_start e.what (pool_behind rest)
 
 -- The start is in another slot; or it gave no child; or its child refused to get ready, is mute, or ended and was not closed; or one of
 -- its pool is lost.

@@ -80,7 +80,7 @@ AreFresh (desk ∷ desks) = IsFresh desk × AreFresh desks
 abbrev pub table_tells : TableValue → DeskTells
 table_tells table = desk_tells table.log table.counts
 
--- From the opening that the words, the kept file, the input and the clock give, the tasks were done over one child at a time, by as many
+-- From the opening that the words, the kept file, the input and the clock give, the tasks were done by as many
 -- workers as the words say, each with a fresh desk, and each job's part fits. Where all went well from outside, each task succeeded, or
 -- memory was wanted; where the remote was faithful, gets kept what stores sent.
 pub record IsRunOf (words : RunWords) (clock : Option ℕ) (told : Option Files) (flow : InputFlow) (workers : List TableValue) (journal : List Entry) : Type 0 where

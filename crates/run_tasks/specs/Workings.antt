@@ -32,7 +32,7 @@ pub record IsPrepared (words : RunWords) (r : Ready) : Type 0 where
 
 -- ---- the tasks
 
--- the tasks of the opening were done over one child at a time, by as many workers as the words say, each with a fresh desk, and each
+-- the tasks of the opening were done by as many workers as the words say, each with a fresh desk, and each
 -- job's part fits
 pub record IsWorked (words : RunWords) (opening : Opening) (workers : List TableValue) (journal : List Entry) : Type 0 where
   pub before : List DeskTells

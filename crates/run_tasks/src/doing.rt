@@ -1,5 +1,5 @@
 // A run: its desks, what it begins with, and its tasks.
-ghost use Rattle.std.specs.Prelude.{◌≡◌, ◌≤◌, ◌<◌, ◌∷◌, [], IfOk, false, true, vec_len, vec_capacity};
+ghost use Rattle.std.specs.Prelude.{◌≡◌, ◌≤◌, ◌<◌, ◌*◌, ◌∷◌, [], IfOk, false, true, vec_len, vec_capacity};
 ghost use Rattle.annex_model.specs.Lines.{has_newline};
 ghost use Rattle.chunk_log.specs.ChunkLines.{IsWrittenUuid};
 ghost use Rattle.child_end.specs.Outsides.{OutsideValue};
@@ -31,7 +31,7 @@ struct Room<P: Programs, K: Desks> {
     tables: Vec<K::Desk>,
 }
 
-// Room for a wire of each start, for a desk of each worker, and for all desks.
+// Room for a wire of each child, of which each start may have one for each worker, for a desk of each worker, and for all desks.
 fn take_room<P: Programs, K: Desks>(
     alloc: Global,
     starts: u32,
@@ -41,10 +41,11 @@ where
     P::Inlet: Drop,
     P::Outlet: Drop,
     K::Desk: Drop,
+    requires few { (starts ≤ 16) × (jobs ≤ 64) }
     ensures none { IfOk result (λ r. (r.wires.items ≡ []) × (r.crew.items ≡ []) × (r.tables.items ≡ []) × (vec_len r.crew ≡ 0) × (vec_len r.tables ≡ 0)) }
-    ensures room { IfOk result (λ r. (starts ≤ vec_capacity r.wires) × (jobs ≤ vec_capacity r.crew) × (jobs < vec_capacity r.tables)) }
+    ensures room { IfOk result (λ r. (starts * jobs ≤ vec_capacity r.wires) × (jobs ≤ vec_capacity r.crew) × (jobs < vec_capacity r.tables)) }
 {
-    let wires = Vec::with_capacity(alloc, starts as usize)?;
+    let wires = Vec::with_capacity(alloc, starts as usize * jobs as usize)?;
     let crew = Vec::with_capacity(alloc, jobs as usize)?;
     let tables = Vec::with_capacity(alloc, jobs as usize + 1)?;
     Ok(Room {
@@ -100,6 +101,7 @@ pub fn do_tasks<P: Programs, K: Desks, I: Source, C: Clock, R: Threads + Wait + 
 where
     P::Inlet: Send + Drop,
     P::Outlet: Send + Drop,
+    P::Stub: Drop,
     K::Desk: Send + Drop,
     requires fit { IsFit (Run words.now) }
     requires uuid { IsWrittenUuid words.now.uuid }

@@ -1,5 +1,5 @@
-// The tasks of a run, over one child at a time, with a desk for each worker.
-ghost use Rattle.std.specs.Prelude.{◌≡◌, ◌≤◌, ◌<◌, [], IfOk, OnOk, false, map, vec_len, vec_capacity};
+// The tasks of a run, with a desk for each worker.
+ghost use Rattle.std.specs.Prelude.{◌≡◌, ◌≤◌, ◌<◌, ◌*◌, [], IfOk, OnOk, false, map, vec_len, vec_capacity};
 ghost use Rattle.annex_model.specs.Lines.{has_newline};
 ghost use Rattle.journal_model.specs.Beginnings.{MayBegin};
 ghost use Rattle.child_end.specs.Outsides.{table_value};
@@ -124,6 +124,7 @@ fn do_all<P: Programs, D: Desk + Send + Drop, R: Threads + Wait + Sync>(
 where
     P::Inlet: Send + Drop,
     P::Outlet: Send + Drop,
+    P::Stub: Drop,
     requires prepared { IsPrepared words.now ready }
     requires may { MayBegin ready.core.opening }
     requires jobs { (0 < words.now.jobs) × (words.now.jobs ≤ 64) }
@@ -131,7 +132,7 @@ where
     requires text { has_newline words.now.work ≡ false }
     requires crew { vec_len crew ≡ words.now.jobs }
     requires fresh { AreFresh (map (λ k. desk_tells (D.log k) (D.counts k)) crew.items) }
-    requires room { words.now.starts ≤ vec_capacity wires.old }
+    requires room { words.now.starts * words.now.jobs ≤ vec_capacity wires.old }
     requires none { wires.old.items ≡ [] }
     ensures ends { EndsWork words.now (D.files desk.old) (table_value D.counts D.files D.log desk.new) ready.core.opening (map (table_value D.counts D.files D.log) result.crew.items) result.journal.entries result.answers.items result.end }
     ensures crew { vec_len result.crew ≡ words.now.jobs }
@@ -175,13 +176,14 @@ pub(crate) fn work<P: Programs, K: Desks, R: Threads + Wait + Sync>(
 where
     P::Inlet: Send + Drop,
     P::Outlet: Send + Drop,
+    P::Stub: Drop,
     K::Desk: Send + Drop,
     requires may { MayBegin opening }
     requires jobs { (0 < words.now.jobs) × (words.now.jobs ≤ 64) }
     requires starts { (0 < words.now.starts) × (words.now.starts ≤ 16) }
     requires text { has_newline words.now.work ≡ false }
     requires crew { (crew.items ≡ []) × (words.now.jobs ≤ vec_capacity crew) }
-    requires room { words.now.starts ≤ vec_capacity wires.old }
+    requires room { words.now.starts * words.now.jobs ≤ vec_capacity wires.old }
     requires none { wires.old.items ≡ [] }
     ensures ends { EndsWork words.now (K.Desk.files desk.old) (table_value K.Desk.counts K.Desk.files K.Desk.log desk.new) opening (map (table_value K.Desk.counts K.Desk.files K.Desk.log) result.crew.items) result.journal.entries result.answers.items result.end }
     ensures desks { AddsWorkers words.now.jobs (K.made desks.old) (K.made desks.new) (map (table_value K.Desk.counts K.Desk.files K.Desk.log) result.crew.items) }
@@ -212,13 +214,14 @@ pub(crate) fn go_on<P: Programs, K: Desks, R: Threads + Wait + Sync>(
 where
     P::Inlet: Send + Drop,
     P::Outlet: Send + Drop,
+    P::Stub: Drop,
     K::Desk: Send + Drop,
     requires may { IfOk begun MayBegin }
     requires jobs { (0 < words.now.jobs) × (words.now.jobs ≤ 64) }
     requires starts { (0 < words.now.starts) × (words.now.starts ≤ 16) }
     requires text { has_newline words.now.work ≡ false }
     requires crew { (crew.items ≡ []) × (words.now.jobs ≤ vec_capacity crew) }
-    requires room { words.now.starts ≤ vec_capacity wires.old }
+    requires room { words.now.starts * words.now.jobs ≤ vec_capacity wires.old }
     requires none { wires.old.items ≡ [] }
     ensures goes_on { GoesOn words.now (table_value K.Desk.counts K.Desk.files K.Desk.log desk.old) (table_value K.Desk.counts K.Desk.files K.Desk.log desk.new) (map (table_value K.Desk.counts K.Desk.files K.Desk.log) result.crew.items) result.journal.entries result.answers.items begun result.end }
     ensures desks { AddsWorkers words.now.jobs (K.made desks.old) (K.made desks.new) (map (table_value K.Desk.counts K.Desk.files K.Desk.log) result.crew.items) }

@@ -30,6 +30,7 @@ pub(crate) fn run<P: Programs, K: Desks, I: Source, C: Clock, R: Threads + Wait 
 where
     P::Inlet: Send + Drop,
     P::Outlet: Send + Drop,
+    P::Stub: Drop,
     K::Desk: Send + Drop,
     requires fit { IsFit (Run words.now) }
     requires uuid { IsWrittenUuid words.now.uuid }

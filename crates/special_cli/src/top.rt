@@ -54,6 +54,7 @@ pub fn special<
 where
     P::Inlet: Send + Drop,
     P::Outlet: Send + Drop,
+    P::Stub: Drop,
     K::Desk: Send + Drop,
     requires open { (I.is_open input.old ≡ true) × (O.is_open out.old ≡ true) × (E.is_open err.old ≡ true) }
     ensures done { IsDone (C.answer clock.old) (record { programs = programs_value (P.starts programs) (P.faults programs); made = K.made desks }) (input_flow (I.given input.old) (I.given input.new) (I.left input.old) (I.left input.new) (I.faults input.old) (I.faults input.new)) (wish_of (texts_of words.now)) (flow (O.faults out.old) (O.faults out.new) (O.taken out.old) (O.taken out.new)) (flow (E.faults err.old) (E.faults err.new) (E.taken err.old) (E.taken err.new)) result.status result.left }
@@ -76,6 +77,7 @@ fn do_words<P: Programs, K: Desks, I: Source, C: Clock, R: Threads + Wait + Sync
 where
     P::Inlet: Send + Drop,
     P::Outlet: Send + Drop,
+    P::Stub: Drop,
     K::Desk: Send + Drop,
     requires input { I.is_open input.old ≡ true }
     ensures { Runs (C.answer clock.old) outside (input_flow (I.given input.old) (I.given input.new) (I.left input.old) (I.left input.new) (I.faults input.old) (I.faults input.new)) (wish_of (texts_of words.now)) result }
@@ -98,6 +100,7 @@ fn do_command<P: Programs, K: Desks, I: Source, C: Clock, R: Threads + Wait + Sy
 where
     P::Inlet: Send + Drop,
     P::Outlet: Send + Drop,
+    P::Stub: Drop,
     K::Desk: Send + Drop,
     requires words { AreRead command.now }
     requires input { I.is_open input.old ≡ true }

@@ -39,6 +39,18 @@ const DYING: &str = "#!/bin/sh\n\
     esac\n\
     done\n";
 
+// It writes down that it was started, and has each key.
+const COUNTED: &str = "#!/bin/sh\n\
+    echo started >>starts\n\
+    echo \"VERSION 1\"\n\
+    while IFS= read -r line; do\n\
+    case \"${line%% *}\" in\n\
+    EXTENSIONS) echo EXTENSIONS ;;\n\
+    PREPARE) echo PREPARE-SUCCESS ;;\n\
+    *) echo \"CHECKPRESENT-SUCCESS ${line#CHECKPRESENT }\" ;;\n\
+    esac\n\
+    done\n";
+
 // It says that it has sent a content: of one key it sent other bytes, of one too few, and of all others none.
 const LYING: &str = "#!/bin/sh\n\
     echo \"VERSION 1\"\n\
@@ -59,6 +71,7 @@ fn run<R: Threads + Wait + Sync>(
     threads: &R,
     rt: &HostRuntime,
     program: &str,
+    jobs: &str,
     starts: &str,
     input: &str,
 ) -> Result<Told, NoMemory> {
@@ -68,6 +81,8 @@ fn run<R: Threads + Wait + Sync>(
         program,
         "--uuid",
         UUID,
+        "--jobs",
+        jobs,
         "--starts",
         starts,
         "--work",
@@ -106,7 +121,7 @@ fn all_are<R: Threads + Wait + Sync>(
     status: u8,
 ) -> Result<bool, NoMemory> {
     let (tasks, answers) = lines(rt.alloc(), work, letter, answer)?;
-    let told = run(threads, rt, "./keeper.sh", "1", tasks.as_str())?;
+    let told = run(threads, rt, "./keeper.sh", "4", "1", tasks.as_str())?;
     Ok(told.is(status, answers.as_str(), ""))
 }
 
@@ -162,8 +177,8 @@ const CHECKS: &str = "check WORM--a\ncheck WORM--b\ncheck WORM--c\ncheck WORM--d
 #[test]
 fn a_second_start_goes_on_where_a_real_child_died(rt: HostRuntime) -> Result<(), Fail> {
     write_script(&rt, "./dying.sh", DYING)?;
-    let two = run(&rt, &rt, "./dying.sh", "2", CHECKS)?;
-    let one = run(&rt, &rt, "./dying.sh", "1", CHECKS)?;
+    let two = run(&rt, &rt, "./dying.sh", "1", "2", CHECKS)?;
+    let one = run(&rt, &rt, "./dying.sh", "1", "1", CHECKS)?;
     fs::remove_file(&rt, "./dying.sh")?;
     assert!(rt;
         two.is(
@@ -182,6 +197,26 @@ fn a_second_start_goes_on_where_a_real_child_died(rt: HostRuntime) -> Result<(),
     Ok(())
 }
 
+#[test]
+fn each_job_has_a_child_of_its_own_as_far_as_there_are_tasks(
+    rt: HostRuntime,
+) -> Result<(), Fail> {
+    write_script(&rt, "./counted.sh", COUNTED)?;
+    let few = run(&rt, &rt, "./counted.sh", "2", "1", CHECKS)?;
+    let two = fs::read(&rt, "starts")?;
+    fs::remove_file(&rt, "starts")?;
+    let many = run(&rt, &rt, "./counted.sh", "64", "1", CHECKS)?;
+    let five = fs::read(&rt, "starts")?;
+    fs::remove_file(&rt, "starts")?;
+    fs::remove_file(&rt, "./counted.sh")?;
+    let answers = "1 present\n2 present\n3 present\n4 present\n5 present\n";
+    assert!(rt; few.is(0, answers, ""));
+    assert!(rt; many.is(0, answers, ""));
+    assert!(rt; two.as_slice() == b"started\nstarted\n");
+    assert!(rt; five.as_slice() == b"started\nstarted\nstarted\nstarted\nstarted\n");
+    Ok(())
+}
+
 const GETS: &str = "get WORM-s3--nothing o1\n\
     get MD5-s3--900150983cd24fb0d6963f7d28e17f72 o2\n\
     get WORM-s3--short o3\n";
@@ -192,7 +227,7 @@ fn a_real_remote_that_says_success_is_not_believed_without_the_content(
 ) -> Result<(), Fail> {
     fs::create_dir(&rt, "work")?;
     write_script(&rt, "./lying.sh", LYING)?;
-    let told = run(&rt, &rt, "./lying.sh", "1", GETS)?;
+    let told = run(&rt, &rt, "./lying.sh", "4", "1", GETS)?;
     fs::remove_file(&rt, "./lying.sh")?;
     fs::remove_dir_all(&rt, "work")?;
     let any = fs::exists(&rt, "o1")? || fs::exists(&rt, "o2")? || fs::exists(&rt, "o3")?;

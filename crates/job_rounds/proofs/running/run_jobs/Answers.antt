@@ -5,8 +5,9 @@ use Rattle.journal_model.specs.Legality.{Legal}
 use Rattle.host_core.specs.Steps.{are_all_claimed}
 use Rattle.lone_rounds.specs.Rounds.{left_answer}
 use Rattle.lone_rounds.specs.Stints.{AnswersLeft}
-use Rattle.lone_rounds.proofs.Ending.{kept_left, leaves_kept, leaves_or, left_nothing, left_some, over_spent}
-use Rattle.job_rounds.proofs.Stretching.{at_err, at_ok, jobs_left, ran_jobs}
+use Rattle.lone_rounds.proofs.Ending.{leaves_kept, leaves_or, left_nothing, left_some}
+use Rattle.job_rounds.proofs.Between.{all_over, at_err, at_ok, ran_jobs, whole_of}
+use Rattle.job_rounds.proofs.Leftover.{jobs_left, kept_left}
 use Rattle.job_rounds.proofs.running.run_jobs.Goals as goal
 
 pub returns-then-unclaimed-gt0-clause-ran : goal.returns-then-unclaimed-gt0-clause-ran
@@ -19,11 +20,13 @@ returns-then-unclaimed-gt0-clause-ran g c =
     let same_opening = c.start_children-bench.ensures.core.opening in
     let left : are_all_claimed o mid ≡ false =
     ap (λ (w : Opening). are_all_claimed w mid) (sym same_opening) ∙ left_some p mid c.unclaimed.result c.unclaimed.ensures (λ z. (let some = c.if-unclaimed-gt0.true in omega (arith, some, z))) in
-    let over = over_spent t.2.spaced (at_ok _ _ c.start_children-bench.result.1 c.in-Ok.field-0 c.in-Ok.is t.4) left in
+    let ended = at_ok _ _ c.start_children-bench.result.1 c.in-Ok.field-0 c.in-Ok.is t.5 in
+    let b = whole_of _ t.3 ended.0 in
+    let over = all_over b ended.1 left in
     let a : AnswersLeft o mid new (left_answer mid) = subst (λ (w : Opening). AnswersLeft w mid new (left_answer mid)) same_opening c.answer_left.ensures.answers in
     let legal : Legal o new =
-    subst (λ (w : Opening). Legal w new) (c.answer_left.ensures.core.opening ∙ same_opening) (c.answer_left.ensures.core.legal (subst (λ (w : Opening). Legal w mid) (sym same_opening) t.2.spaced.legal)) in
-    ran_jobs t.3 (jobs_left t.2 (subst (λ (n : ℕ). 0 < n) (sym (length-map c.args.bench.desks.items _ ∙ sym c.args.bench.desks.ok.0)) c.requires.desks.0) over.0 over.1 a legal)
+    subst (λ (w : Opening). Legal w new) (c.answer_left.ensures.core.opening ∙ same_opening) (c.answer_left.ensures.core.legal (subst (λ (w : Opening). Legal w mid) (sym same_opening) t.3.legal)) in
+    ran_jobs t.4 (jobs_left b (subst (λ (n : ℕ). 0 < n) (sym (length-map c.args.bench.desks.items _ ∙ sym c.args.bench.desks.ok.0)) c.requires.desks.0) over.0 over.1 a legal)
 
 pub returns-then-unclaimed-gt0-clause-leaves : goal.returns-then-unclaimed-gt0-clause-leaves
 returns-then-unclaimed-gt0-clause-leaves g c =
@@ -35,14 +38,16 @@ returns-then-unclaimed-gt0-clause-leaves g c =
     let same_opening = c.start_children-bench.ensures.core.opening in
     let left : are_all_claimed o mid ≡ false =
     ap (λ (w : Opening). are_all_claimed w mid) (sym same_opening) ∙ left_some p mid c.unclaimed.result c.unclaimed.ensures (λ z. (let some = c.if-unclaimed-gt0.true in omega (arith, some, z))) in
-    let over = over_spent t.2.spaced (at_ok _ _ c.start_children-bench.result.1 c.in-Ok.field-0 c.in-Ok.is t.4) left in
+    let ended = at_ok _ _ c.start_children-bench.result.1 c.in-Ok.field-0 c.in-Ok.is t.5 in
+    let b = whole_of _ t.3 ended.0 in
+    let over = all_over b ended.1 left in
     let a : AnswersLeft o mid new (left_answer mid) = subst (λ (w : Opening). AnswersLeft w mid new (left_answer mid)) same_opening c.answer_left.ensures.answers in
     let legal : Legal o new =
-    subst (λ (w : Opening). Legal w new) (c.answer_left.ensures.core.opening ∙ same_opening) (c.answer_left.ensures.core.legal (subst (λ (w : Opening). Legal w mid) (sym same_opening) t.2.spaced.legal)) in
-    leaves_kept _ (kept_left t.2.spaced over.1 a legal (at_ok _ _ c.start_children-bench.result.1 c.in-Ok.field-0 c.in-Ok.is c.start_children-bench.ensures.kept))
+    subst (λ (w : Opening). Legal w new) (c.answer_left.ensures.core.opening ∙ same_opening) (c.answer_left.ensures.core.legal (subst (λ (w : Opening). Legal w mid) (sym same_opening) t.3.legal)) in
+    leaves_kept _ (kept_left b (subst (λ (n : ℕ). 0 < n) (sym (length-map c.args.bench.desks.items _ ∙ sym c.args.bench.desks.ok.0)) c.requires.desks.0) over.0 over.1 a legal (at_ok _ _ c.start_children-bench.result.1 c.in-Ok.field-0 c.in-Ok.is c.start_children-bench.ensures.kept))
 
 pub returns-else-unclaimed-gt0-clause-ran : goal.returns-else-unclaimed-gt0-clause-ran
-returns-else-unclaimed-gt0-clause-ran g c = (let t = c.start_children-bench.ensures.started in ran_jobs t.3 t.2)
+returns-else-unclaimed-gt0-clause-ran g c = (let t = c.start_children-bench.ensures.started in ran_jobs t.4 t.3)
 
 pub returns-else-unclaimed-gt0-clause-whole : goal.returns-else-unclaimed-gt0-clause-whole
 returns-else-unclaimed-gt0-clause-whole g c =
@@ -54,7 +59,7 @@ pub returns-else-unclaimed-gt0-clause-leaves : goal.returns-else-unclaimed-gt0-c
 returns-else-unclaimed-gt0-clause-leaves g c = leaves_kept _ (at_ok _ _ c.start_children-bench.result.1 c.in-Ok.field-0 c.in-Ok.is c.start_children-bench.ensures.kept)
 
 pub returns-in-Err-clause-ran : goal.returns-in-Err-clause-ran
-returns-in-Err-clause-ran g c = (let t = c.start_children-bench.ensures.started in ran_jobs t.3 t.2)
+returns-in-Err-clause-ran g c = (let t = c.start_children-bench.ensures.started in ran_jobs t.4 t.3)
 
 pub returns-in-Err-clause-leaves : goal.returns-in-Err-clause-leaves
 returns-in-Err-clause-leaves g c = (let k = at_err _ _ c.start_children-bench.result.1 c.in-Err.field-0 c.in-Err.is c.start_children-bench.ensures.kept in leaves_or _ refl k.1 k.2)

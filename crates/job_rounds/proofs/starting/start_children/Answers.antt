@@ -1,18 +1,21 @@
-use Rattle.std.proofs.Common.{arith, inl, inr, map, subst, sym, ap, refl, ◌∙◌, List, length}
+use Rattle.std.proofs.Common.{◌+◌, arith, inl, inr, map, subst, sym, ap, refl, ◌∙◌, List, length, true, vec_len}
+use Rattle.std.proofs.lemmas.Nat.{mul-le}
+use Rattle.std.proofs.lemmas.List.{length-map}
 use Rattle.journal_model.specs.declared.opening.Opening.{Opening}
 use Rattle.journal_model.specs.Legality.{Legal}
 use Rattle.host_core.specs.Steps.{are_all_claimed}
-use Rattle.child_end.specs.Wires.{wire_value}
-use Rattle.child_end.specs.Programs.{programs_value}
-use Rattle.lone_work.specs.Works.{desk_tells}
-use Rattle.lone_rounds.proofs.Ending.{cores_both, few_starts, kept_begin, left_nothing, left_some}
-use Rattle.job_rounds.proofs.Shutting.{shut_open}
-use Rattle.job_rounds.proofs.Stretching.{at_err, at_ok, between_kept, jobs_begin, kept_kept, next_job_start}
+use Rattle.child_end.specs.Wires.{WireValue, wire_value}
+use Rattle.child_end.specs.Programs.{ProgramsValue, programs_value}
+use Rattle.lone_work.specs.Works.{DeskTells, desk_tells}
+use Rattle.lone_rounds.proofs.Ending.{cores_both, kept_begin, left_nothing, left_some}
+use Rattle.job_rounds.proofs.Between.{at_err, at_ok, at_rest, jobs_begin}
+use Rattle.job_rounds.proofs.Objects.{wires_many}
+use Rattle.job_rounds.proofs.Steps.{broken_kept, broken_started, next_job_start, one_more}
 use Rattle.job_rounds.proofs.starting.start_children.Goals as goal
 
 pub children-init : goal.children-init
 children-init g c = record {
-  between = jobs_begin c.args.bench.core.opening c.args.plan.now.setup c.args.plan.now.offers c.args.plan.now.starts c.args.bench.core.journal (map (λ k. desk_tells (g.K.Desk.log k) (g.K.Desk.counts k)) c.args.bench.desks.items) c.requires.empty;
+  between = jobs_begin c.args.bench.core.opening c.args.plan.now.setup c.args.plan.now.offers c.args.plan.now.starts c.args.bench.core.journal (map (λ k. desk_tells (g.K.Desk.log k) (g.K.Desk.counts k)) c.args.bench.desks.items) true c.requires.empty;
   kept = kept_begin c.args.plan.now.program c.args.bench.core.journal (programs_value (g.P.Programs.starts c.args.programs.now) (g.P.Programs.faults c.args.programs.now)) (map (wire_value g.P.Inlet.Sink.taken g.P.Inlet.Sink.faults g.P.Inlet.Sink.number g.P.Inlet.Sink.is_open g.P.Outlet.Source.given g.P.Outlet.Source.left g.P.Outlet.Source.faults g.P.Outlet.Source.number g.P.Outlet.Source.is_open) c.args.wires.now.items) c.requires.empty (ap (map _) c.requires.none);
   core = record { opening = refl; legal = λ h. h };
   room = ((let none = c.args.wires.now.ok.0 ∙ ap (λ (xs : List _). length xs) c.requires.none in omega (arith, none)), refl);
@@ -24,9 +27,10 @@ returns-then-unclaimed-eq0-clause-started g c =
     let same_opening = c.children.invariant.core.opening in (
       c.children.made,
       c.children.offer,
+      true,
       c.children.invariant.between,
       (let below = c.children-test.true in let end = c.children.auto.made-end in omega (arith, below, end)),
-      inr (ap (λ (w : Opening). are_all_claimed w c.children.bench.core.journal) (sym same_opening) ∙ left_nothing c.children.bench.core.opening c.children.bench.core.journal c.unclaimed.result c.unclaimed.ensures c.if-unclaimed-eq0.true),
+      (refl, inr (ap (λ (w : Opening). are_all_claimed w c.children.bench.core.journal) (sym same_opening) ∙ left_nothing c.children.bench.core.opening c.children.bench.core.journal c.unclaimed.result c.unclaimed.ensures c.if-unclaimed-eq0.true)),
     )
 
 pub returns-then-unclaimed-eq0-clause-kept : goal.returns-then-unclaimed-eq0-clause-kept
@@ -39,17 +43,19 @@ pub returns-then-unclaimed-eq0-clause-desks : goal.returns-then-unclaimed-eq0-cl
 returns-then-unclaimed-eq0-clause-desks g c = c.children.invariant.desks
 
 pub start_one-after-requires-clause-legal : goal.start_one-after-requires-clause-legal
-start_one-after-requires-clause-legal g c = λ κs fresh. subst (λ (w : Opening). Legal w c.children.bench.core.journal) (sym c.children.invariant.core.opening) c.children.invariant.between.spaced.legal
+start_one-after-requires-clause-legal g c = λ κs fresh. subst (λ (w : Opening). Legal w c.children.bench.core.journal) (sym c.children.invariant.core.opening) c.children.invariant.between.legal
 
 pub start_one-after-requires-clause-calm : goal.start_one-after-requires-clause-calm
-start_one-after-requires-clause-calm g c = λ κs fresh. record { idle = c.children.invariant.between.spaced.rest; shut = shut_open c.children.bench.core.journal c.children.invariant.between.shut }
+start_one-after-requires-clause-calm g c = λ κs fresh. at_rest c.children.invariant.between
 
 pub start_one-after-requires-clause-few : goal.start_one-after-requires-clause-few
 start_one-after-requires-clause-few g c = λ κs fresh. (
+    let many = wires_many c.children.invariant.kept ∙ length-map c.children.wires.items _ ∙ sym c.children.wires.ok.0 in
+    let used = c.children.invariant.room.0 in
     let below = c.children-test.true in
     let end = c.children.auto.made-end in
-    let most = c.requires.starts.1 in
-    few_starts c.children.bench.core.journal c.children.made c.children.invariant.between.spaced.starts (omega (arith, below, end, most)))
+    let most = mul-le c.children.made (vec_len c.args.bench.desks) 16 64 (let starts = c.requires.starts.1 in omega (arith, below, end, starts)) c.requires.desks.1 in
+    omega (arith, many, used, most))
 
 pub start_one-after-requires-clause-left : goal.start_one-after-requires-clause-left
 start_one-after-requires-clause-left g c = λ κs fresh. left_some c.children.bench.core.opening c.children.bench.core.journal c.unclaimed.result c.unclaimed.ensures c.if-unclaimed-eq0.false
@@ -61,25 +67,55 @@ pub start_one-after-requires-clause-desks : goal.start_one-after-requires-clause
 start_one-after-requires-clause-desks g c = λ κs fresh. (let same = c.children.invariant.desks in let some = c.requires.desks.0 in let few = c.requires.desks.1 in (omega (arith, same, some), omega (arith, same, few)))
 
 pub start_one-after-requires-clause-room : goal.start_one-after-requires-clause-room
-start_one-after-requires-clause-room g c = λ κs fresh. (let below = c.children-test.true in let end = c.children.auto.made-end in let used = c.children.invariant.room.0 in let room = c.children.invariant.room.1 in let most = c.requires.room in omega (arith, below, end, used, room, most))
+start_one-after-requires-clause-room g c = λ κs fresh. (
+    let below = c.children-test.true in
+    let end = c.children.auto.made-end in
+    let used = c.children.invariant.room.0 in
+    let room = c.children.invariant.room.1 in
+    let same = c.children.invariant.desks in
+    let one = one_more c.children.made (vec_len c.args.bench.desks) in
+    let most = mul-le (c.children.made + 1) (vec_len c.args.bench.desks) c.args.plan.now.starts (vec_len c.args.bench.desks) (omega (arith, below, end)) (omega arith) in
+    let all = c.requires.room in
+    omega (arith, used, room, same, one, most, all))
 
 pub returns-in-Err-clause-started : goal.returns-in-Err-clause-started
 returns-in-Err-clause-started g c =
-    let none = at_err _ _ c.start_one-after.result.1 c.in-Err.field-0 c.in-Err.is c.start_one-after.ensures.starts in (
-      c.children.made,
-      c.children.offer,
-      between_kept c.start_one-after.result.0.core.journal (map (λ k. desk_tells (g.K.Desk.log k) (g.K.Desk.counts k)) c.start_one-after.result.0.desks.items) none.journal none.desks_are c.children.invariant.between,
-      (let below = c.children-test.true in let end = c.children.auto.made-end in omega (arith, below, end)),
-      tt,
-    )
+    let o = c.args.bench.core.opening in
+    let p = c.children.bench.core.opening in
+    let cur = c.children.bench.core.journal in
+    let new = c.start_one-after.result.0.core.journal in
+    let same_opening = c.children.invariant.core.opening in
+    let legal : Legal o new = subst (λ (w : Opening). Legal w new) (c.start_one-after.ensures.core.opening ∙ same_opening) (c.start_one-after.ensures.core.legal (subst (λ (w : Opening). Legal w cur) (sym same_opening) c.children.invariant.between.legal)) in
+    let desks0 : List DeskTells = (map (λ k. desk_tells (g.K.Desk.log k) (g.K.Desk.counts k)) c.args.bench.desks.items) in
+    let desks : List DeskTells = (map (λ k. desk_tells (g.K.Desk.log k) (g.K.Desk.counts k)) c.children.bench.desks.items) in
+    let desks' : List DeskTells = (map (λ k. desk_tells (g.K.Desk.log k) (g.K.Desk.counts k)) c.start_one-after.result.0.desks.items) in
+    let start : ProgramsValue = (programs_value (g.P.Programs.starts c.args.programs.now) (g.P.Programs.faults c.args.programs.now)) in
+    let before : ProgramsValue = (programs_value (g.P.Programs.starts c.children.programs) (g.P.Programs.faults c.children.programs)) in
+    let after : ProgramsValue = (programs_value (g.P.Programs.starts c.start_one-after.new.programs) (g.P.Programs.faults c.start_one-after.new.programs)) in
+    let wires : List WireValue = (map (wire_value g.P.Inlet.Sink.taken g.P.Inlet.Sink.faults g.P.Inlet.Sink.number g.P.Inlet.Sink.is_open g.P.Outlet.Source.given g.P.Outlet.Source.left g.P.Outlet.Source.faults g.P.Outlet.Source.number g.P.Outlet.Source.is_open) c.children.wires.items) in
+    let wires' : List WireValue = (map (wire_value g.P.Inlet.Sink.taken g.P.Inlet.Sink.faults g.P.Inlet.Sink.number g.P.Inlet.Sink.is_open g.P.Outlet.Source.given g.P.Outlet.Source.left g.P.Outlet.Source.faults g.P.Outlet.Source.number g.P.Outlet.Source.is_open) c.start_one-after.new.wires.items) in
+    broken_started o p c.args.plan.now.setup c.args.plan.now.offers c.args.plan.now.starts c.children.made c.children.offer c.args.plan.now.program cur new desks0 desks desks' before after wires wires' same_opening c.children.invariant.between
+    (at_err _ _ c.start_one-after.result.1 c.in-Err.field-0 c.in-Err.is c.start_one-after.ensures.starts) legal
+    (let below = c.children-test.true in let end = c.children.auto.made-end in omega (arith, below, end))
 
 pub returns-in-Err-clause-kept : goal.returns-in-Err-clause-kept
 returns-in-Err-clause-kept g c =
-    let none = at_err _ _ c.start_one-after.result.1 c.in-Err.field-0 c.in-Err.is c.start_one-after.ensures.starts in (
-      (programs_value (g.P.Programs.starts c.children.programs) (g.P.Programs.faults c.children.programs)),
-      kept_kept c.start_one-after.result.0.core.journal (map (wire_value g.P.Inlet.Sink.taken g.P.Inlet.Sink.faults g.P.Inlet.Sink.number g.P.Inlet.Sink.is_open g.P.Outlet.Source.given g.P.Outlet.Source.left g.P.Outlet.Source.faults g.P.Outlet.Source.number g.P.Outlet.Source.is_open) c.start_one-after.new.wires.items) none.journal none.wires_are c.children.invariant.kept,
-      none.asked,
-    )
+    let o = c.args.bench.core.opening in
+    let p = c.children.bench.core.opening in
+    let cur = c.children.bench.core.journal in
+    let new = c.start_one-after.result.0.core.journal in
+    let same_opening = c.children.invariant.core.opening in
+    let legal : Legal o new = subst (λ (w : Opening). Legal w new) (c.start_one-after.ensures.core.opening ∙ same_opening) (c.start_one-after.ensures.core.legal (subst (λ (w : Opening). Legal w cur) (sym same_opening) c.children.invariant.between.legal)) in
+    let desks0 : List DeskTells = (map (λ k. desk_tells (g.K.Desk.log k) (g.K.Desk.counts k)) c.args.bench.desks.items) in
+    let desks : List DeskTells = (map (λ k. desk_tells (g.K.Desk.log k) (g.K.Desk.counts k)) c.children.bench.desks.items) in
+    let desks' : List DeskTells = (map (λ k. desk_tells (g.K.Desk.log k) (g.K.Desk.counts k)) c.start_one-after.result.0.desks.items) in
+    let start : ProgramsValue = (programs_value (g.P.Programs.starts c.args.programs.now) (g.P.Programs.faults c.args.programs.now)) in
+    let before : ProgramsValue = (programs_value (g.P.Programs.starts c.children.programs) (g.P.Programs.faults c.children.programs)) in
+    let after : ProgramsValue = (programs_value (g.P.Programs.starts c.start_one-after.new.programs) (g.P.Programs.faults c.start_one-after.new.programs)) in
+    let wires : List WireValue = (map (wire_value g.P.Inlet.Sink.taken g.P.Inlet.Sink.faults g.P.Inlet.Sink.number g.P.Inlet.Sink.is_open g.P.Outlet.Source.given g.P.Outlet.Source.left g.P.Outlet.Source.faults g.P.Outlet.Source.number g.P.Outlet.Source.is_open) c.children.wires.items) in
+    let wires' : List WireValue = (map (wire_value g.P.Inlet.Sink.taken g.P.Inlet.Sink.faults g.P.Inlet.Sink.number g.P.Inlet.Sink.is_open g.P.Outlet.Source.given g.P.Outlet.Source.left g.P.Outlet.Source.faults g.P.Outlet.Source.number g.P.Outlet.Source.is_open) c.start_one-after.new.wires.items) in
+    broken_kept o p c.args.plan.now.setup c.args.plan.now.offers c.args.plan.now.starts c.children.made c.children.offer c.args.plan.now.program cur new desks0 desks desks' start before after wires wires' same_opening c.children.invariant.between c.children.invariant.kept
+    (at_err _ _ c.start_one-after.result.1 c.in-Err.field-0 c.in-Err.is c.start_one-after.ensures.starts)
 
 pub returns-in-Err-clause-core : goal.returns-in-Err-clause-core
 returns-in-Err-clause-core g c = cores_both c.children.invariant.core c.start_one-after.ensures.core
@@ -90,22 +126,27 @@ returns-in-Err-clause-desks g c = c.start_one-after.ensures.desks ∙ c.children
 pub children-preserved : goal.children-preserved
 children-preserved g c =
     let o = c.args.bench.core.opening in
+    let p = c.children.bench.core.opening in
     let cur = c.children.bench.core.journal in
     let new = c.start_one-after.result.0.core.journal in
     let same_opening = c.children.invariant.core.opening in
-    let legal : Legal o new = subst (λ (w : Opening). Legal w new) (c.start_one-after.ensures.core.opening ∙ same_opening) (c.start_one-after.ensures.core.legal (subst (λ (w : Opening). Legal w cur) (sym same_opening) c.children.invariant.between.spaced.legal)) in
-    let after = next_job_start o c.children.bench.core.opening c.args.plan.now.setup c.args.plan.now.offers c.args.plan.now.starts c.children.made c.children.offer c.in-Ok.next c.args.plan.now.program cur new
-    (map (λ k. desk_tells (g.K.Desk.log k) (g.K.Desk.counts k)) c.args.bench.desks.items) (map (λ k. desk_tells (g.K.Desk.log k) (g.K.Desk.counts k)) c.children.bench.desks.items) (map (λ k. desk_tells (g.K.Desk.log k) (g.K.Desk.counts k)) c.start_one-after.result.0.desks.items)
-    (programs_value (g.P.Programs.starts c.args.programs.now) (g.P.Programs.faults c.args.programs.now)) (programs_value (g.P.Programs.starts c.children.programs) (g.P.Programs.faults c.children.programs)) (programs_value (g.P.Programs.starts c.start_one-after.new.programs) (g.P.Programs.faults c.start_one-after.new.programs))
-    (map (wire_value g.P.Inlet.Sink.taken g.P.Inlet.Sink.faults g.P.Inlet.Sink.number g.P.Inlet.Sink.is_open g.P.Outlet.Source.given g.P.Outlet.Source.left g.P.Outlet.Source.faults g.P.Outlet.Source.number g.P.Outlet.Source.is_open) c.children.wires.items)
-    (map (wire_value g.P.Inlet.Sink.taken g.P.Inlet.Sink.faults g.P.Inlet.Sink.number g.P.Inlet.Sink.is_open g.P.Outlet.Source.given g.P.Outlet.Source.left g.P.Outlet.Source.faults g.P.Outlet.Source.number g.P.Outlet.Source.is_open) c.start_one-after.new.wires.items)
+    let legal : Legal o new = subst (λ (w : Opening). Legal w new) (c.start_one-after.ensures.core.opening ∙ same_opening) (c.start_one-after.ensures.core.legal (subst (λ (w : Opening). Legal w cur) (sym same_opening) c.children.invariant.between.legal)) in
+    let desks0 : List DeskTells = (map (λ k. desk_tells (g.K.Desk.log k) (g.K.Desk.counts k)) c.args.bench.desks.items) in
+    let desks : List DeskTells = (map (λ k. desk_tells (g.K.Desk.log k) (g.K.Desk.counts k)) c.children.bench.desks.items) in
+    let desks' : List DeskTells = (map (λ k. desk_tells (g.K.Desk.log k) (g.K.Desk.counts k)) c.start_one-after.result.0.desks.items) in
+    let start : ProgramsValue = (programs_value (g.P.Programs.starts c.args.programs.now) (g.P.Programs.faults c.args.programs.now)) in
+    let before : ProgramsValue = (programs_value (g.P.Programs.starts c.children.programs) (g.P.Programs.faults c.children.programs)) in
+    let after : ProgramsValue = (programs_value (g.P.Programs.starts c.start_one-after.new.programs) (g.P.Programs.faults c.start_one-after.new.programs)) in
+    let wires : List WireValue = (map (wire_value g.P.Inlet.Sink.taken g.P.Inlet.Sink.faults g.P.Inlet.Sink.number g.P.Inlet.Sink.is_open g.P.Outlet.Source.given g.P.Outlet.Source.left g.P.Outlet.Source.faults g.P.Outlet.Source.number g.P.Outlet.Source.is_open) c.children.wires.items) in
+    let wires' : List WireValue = (map (wire_value g.P.Inlet.Sink.taken g.P.Inlet.Sink.faults g.P.Inlet.Sink.number g.P.Inlet.Sink.is_open g.P.Outlet.Source.given g.P.Outlet.Source.left g.P.Outlet.Source.faults g.P.Outlet.Source.number g.P.Outlet.Source.is_open) c.start_one-after.new.wires.items) in
+    let after_one = next_job_start o p c.args.plan.now.setup c.args.plan.now.offers c.args.plan.now.starts c.children.made c.children.offer c.in-Ok.next true c.args.plan.now.program cur new desks0 desks desks' start before after wires wires'
     same_opening c.children.invariant.between c.children.invariant.kept (at_ok _ _ c.start_one-after.result.1 c.in-Ok.next c.in-Ok.is c.start_one-after.ensures.starts) legal in
     record {
-      between = after.0;
-      kept = after.1;
+      between = after_one.0;
+      kept = after_one.1;
       core = cores_both c.children.invariant.core c.start_one-after.ensures.core;
       room = (
-        (let was = c.children.invariant.room.0 in let now = c.start_one-after.ensures.room.0 in omega (arith, was, now)),
+        (let was = c.children.invariant.room.0 in let now = c.start_one-after.ensures.room.0 in let same = c.children.invariant.desks in let one = one_more c.children.made (vec_len c.args.bench.desks) in omega (arith, was, now, same, one)),
         c.start_one-after.ensures.room.1 ∙ c.children.invariant.room.1,
       );
       desks = c.start_one-after.ensures.desks ∙ c.children.invariant.desks;
@@ -115,9 +156,10 @@ pub returns-clause-started : goal.returns-clause-started
 returns-clause-started g c = (
   c.children.made,
   c.children.offer,
+  true,
   c.children.invariant.between,
   (let end = c.children.auto.made-end in omega (arith, end)),
-  inl (let over = c.children-test.false in let end = c.children.auto.made-end in omega (arith, over, end)),
+  (refl, inl (let over = c.children-test.false in let end = c.children.auto.made-end in omega (arith, over, end))),
 )
 
 pub returns-clause-kept : goal.returns-clause-kept

@@ -1,31 +1,57 @@
-use Rattle.std.proofs.Common.{◌<◌, Bool, List, ℕ, false, map, refl, sym, subst, ◌∙◌, length, None, true}
+use Rattle.std.proofs.Common.{◌<◌, Bool, List, ℕ, arith, false, map, refl, sym, ap, subst, ◌∙◌, length, None, true}
+use Rattle.std.specs.Prelude.{IsErr, is_ok}
 use Rattle.std.proofs.lemmas.List.{length-map}
 use Rattle.ann_outside.specs.Causes.{AddsOne}
 use Rattle.ann_outside.specs.Desks.{no_counts}
+use Rattle.journal_model.specs.declared.answer.Answer.{Answer}
 use Rattle.journal_model.specs.declared.answer.Answer.TheVariants.{Ended, StartFault, Unsent}
 use Rattle.journal_model.specs.declared.entry.What.TheVariants.{Start, NoStart}
 use Rattle.journal_model.specs.declared.opening.Opening.{Opening}
 use Rattle.journal_model.specs.Legality.{Legal}
-use Rattle.child_end.specs.Programs.{programs_value}
+use Rattle.child_end.specs.Programs.{ProgramsValue, programs_value}
+use Rattle.child_end.specs.Wires.{WireValue, wire_value}
 use Rattle.child_end.proofs.Held.{lone_held}
 use Rattle.door_asker.specs.KnownLayouts.{IsBook}
-use Rattle.lone_work.specs.Works.{desk_tells}
+use Rattle.lone_work.specs.Works.{DeskTells, desk_tells}
 use Rattle.lone_rounds.specs.Stints.{AnswersOne, TurnsAway, next_child}
-use Rattle.lone_rounds.proofs.Leaving.{starts_child, starts_kept, starts_none}
+use Rattle.lone_rounds.proofs.Leaving.{starts_child, starts_none}
 use Rattle.lone_rounds.proofs.Stinting.{greeting_rests, greeting_started}
 use Rattle.lone_rounds.proofs.Unready.{away_stint, fault_rests, fault_stint, unready_ended, unready_refused, unready_unsent}
-use Rattle.job_rounds.specs.Servings.{Serves}
-use Rattle.job_rounds.specs.Starts.{JobStretch}
-use Rattle.job_rounds.proofs.Rounding.{served_job}
-use Rattle.job_rounds.proofs.Stretching.{away_idle, can_be_served, fault_idle, stint_any}
+use Rattle.job_rounds.specs.Servings.{FirstServed}
+use Rattle.job_rounds.specs.Starts.{OneJobStart}
+use Rattle.job_rounds.proofs.Firsts.{first_err, first_ok, ok_no_err}
+use Rattle.job_rounds.proofs.Objects.{one_all}
+use Rattle.job_rounds.proofs.PoolStretch.{greeted_count, greeted_pool, greeted_slot, greeted_unclaimed}
+use Rattle.job_rounds.proofs.Stretching.{away_idle, away_quiet, can_be_served, fault_idle, fault_quiet, job_start, more_than, quiet_none, stint_any}
 use Rattle.job_rounds.proofs.starting.start_one.Goals as goal
 
-pub serve_ready-link-requires-clause-can : goal.serve_ready-link-requires-clause-can
-serve_ready-link-requires-clause-can g c = λ κs fresh.
+pub serve_child-bench-requires-clause-can : goal.serve_child-bench-requires-clause-can
+serve_child-bench-requires-clause-can g c = λ κs fresh.
     can_be_served c.greet.new.core.opening c.args.bench.core.journal c.greet.new.core.journal c.args.offer c.in-Ready.link.ear.child c.in-Ready.ensures.tells.0
     (subst (λ (w : Opening). Legal w c.args.bench.core.journal) (sym c.greet.ensures.core.opening) c.requires.legal) (c.greet.ensures.core.legal c.requires.legal)
     c.in-Ready.link.ear c.in-Ready.link.mouth c.in-Ready.tagged refl c.in-Ready.ensures.tells.1 c.in-Ready.ensures.tells.2
     (subst (λ (w : Opening). IsBook w.notes) c.opening.ensures c.know_book.ensures) c.requires.calm c.in-Ready.ensures.wired
+
+pub serve_child-bench-requires-clause-few : goal.serve_child-bench-requires-clause-few
+serve_child-bench-requires-clause-few g c = λ κs fresh. (
+    let one = greeted_count c.args.bench.core.opening c.args.bench.core.journal c.greet.new.core.journal c.args.offer c.in-Ready.link.ear.child c.in-Ready.ensures.tells.0 in
+    let few = c.requires.few in
+    omega (arith, one, few))
+
+pub serve_child-bench-requires-clause-pool : goal.serve_child-bench-requires-clause-pool
+serve_child-bench-requires-clause-pool g c = λ κs fresh plain.
+    greeted_pool c.args.bench.core.opening c.args.bench.core.journal c.greet.new.core.journal c.args.offer c.in-Ready.link.ear.child c.in-Ready.ensures.tells.0 c.in-Ready.ensures.tells.1 (sym c.in-Ready.ensures.tells.2 ∙ plain)
+
+pub serve_child-bench-requires-clause-last : goal.serve_child-bench-requires-clause-last
+serve_child-bench-requires-clause-last g c = λ κs fresh. greeted_slot c.args.bench.core.opening c.args.bench.core.journal c.greet.new.core.journal c.args.offer c.in-Ready.link.ear.child c.in-Ready.ensures.tells.0
+
+pub serve_child-bench-requires-clause-since : goal.serve_child-bench-requires-clause-since
+serve_child-bench-requires-clause-since g c = λ κs fresh. greeted_unclaimed c.args.bench.core.opening c.args.bench.core.journal c.greet.new.core.journal c.args.offer c.in-Ready.link.ear.child c.in-Ready.ensures.tells.0
+
+pub serve_child-bench-requires-clause-last_child : goal.serve_child-bench-requires-clause-last_child
+serve_child-bench-requires-clause-last_child g c = λ κs fresh. (
+    c.in-Ready.ensures.tells.0.next
+    ∙ sym (greeted_count c.args.bench.core.opening c.args.bench.core.journal c.greet.new.core.journal c.args.offer c.in-Ready.link.ear.child c.in-Ready.ensures.tells.0))
 
 pub turn_away-requires-clause-rest : goal.turn_away-requires-clause-rest
 turn_away-requires-clause-rest g c = greeting_rests c.args.bench.core.journal c.greet.new.core.journal c.args.offer c.in-Refused.link.ear.child c.in-Refused.ensures.tells.0 c.requires.calm.idle
@@ -49,31 +75,46 @@ pub answer_one-requires-clause-rest : goal.answer_one-requires-clause-rest
 answer_one-requires-clause-rest g c =
     fault_rests c.args.bench.core.opening c.args.plan.now.setup c.args.plan.now.starts c.args.offer c.args.bench.core.journal c.greet.new.core.journal c.greet.new.core.journal (desk_tells None no_counts) c.requires.left c.requires.calm.idle c.in-StartFault.ensures.tells
 
-pub returns-in-Ready-clause-starts : goal.returns-in-Ready-clause-starts
-returns-in-Ready-clause-starts g c =
+pub returns-in-Ok-clause-starts : goal.returns-in-Ok-clause-starts
+returns-in-Ok-clause-starts g c =
     let o = c.args.bench.core.opening in
     let old = c.args.bench.core.journal in
     let mid = c.greet.new.core.journal in
-    let new = c.serve_ready-link.result.1.core.journal in
-    let child = c.in-Ready.link.ear.child in
-    let tells = (map (λ k. desk_tells (g.K.Desk.log k) (g.K.Desk.counts k)) c.args.bench.desks.items) in
-    let tells' = (map (λ k. desk_tells (g.K.Desk.log k) (g.K.Desk.counts k)) c.serve_ready-link.result.1.desks.items) in
-    let same = c.serve_ready-link.ensures.same in (
-      Start child 0 c.args.offer,
-      subst (λ (next : Bool). JobStretch o c.args.plan.now.setup c.args.plan.now.starts c.args.offer next (Start child 0 c.args.offer) old new tells tells') (sym c.is_offered.ensures)
-          (served_job o c.args.plan.now.setup c.args.plan.now.starts c.args.offer c.in-Ready.tagged old mid new child tells tells' c.requires.legal c.requires.left c.in-Ready.ensures.tells.0
-          (subst (λ (w : Opening). Legal w mid) c.greet.ensures.core.opening (c.greet.ensures.core.legal c.requires.legal)) c.in-Ready.ensures.tells.1 c.in-Ready.ensures.tells.2
-          (subst (λ (w : Opening). Serves w c.args.plan.now.setup child mid new tells tells') c.greet.ensures.core.opening c.serve_ready-link.ensures.serves)),
-      starts_kept c.args.plan.now.program new child c.args.offer (programs_value (g.P.Programs.starts c.args.programs.now) (g.P.Programs.faults c.args.programs.now)) (g.P.Programs.starts c.greet.new.programs)
-          (programs_value (g.P.Programs.starts c.finish.new.programs) (g.P.Programs.faults c.finish.new.programs)) (g.P.Programs.faults c.greet.new.programs)
-          c.in-Ready.link.ear c.serve_ready-link.result.0.ear c.in-Ready.link.mouth c.serve_ready-link.result.0.mouth _ _
-          (subst (λ (p : List ℕ). AddsOne (g.P.Programs.starts c.args.programs.now) (g.P.Programs.starts c.greet.new.programs) (p, true)) c.view-program.ensures c.in-Ready.ensures.starts)
-          c.finish.ensures.starts c.in-Ready.ensures.later c.finish.ensures.later c.in-Ready.ensures.numbers
-          same.0 same.1 refl c.serve_ready-link.result.0.one_child c.serve_ready-link.ensures.held c.finish.ensures.laid,
-    )
+    let new = c.serve_child-bench.result.0.core.journal in
+    let desks : List DeskTells = map (λ k. desk_tells (g.K.Desk.log k) (g.K.Desk.counts k)) c.args.bench.desks.items in
+    let desks' : List DeskTells = map (λ k. desk_tells (g.K.Desk.log k) (g.K.Desk.counts k)) c.serve_child-bench.result.0.desks.items in
+    let before : ProgramsValue = programs_value (g.P.Programs.starts c.args.programs.now) (g.P.Programs.faults c.args.programs.now) in
+    let between : ProgramsValue = programs_value (g.P.Programs.starts c.greet.new.programs) (g.P.Programs.faults c.greet.new.programs) in
+    let after : ProgramsValue = programs_value (g.P.Programs.starts c.serve_child-bench.new.programs) (g.P.Programs.faults c.serve_child-bench.new.programs) in
+    let wires : List WireValue = (map (wire_value g.P.Inlet.Sink.taken g.P.Inlet.Sink.faults g.P.Inlet.Sink.number g.P.Inlet.Sink.is_open g.P.Outlet.Source.given g.P.Outlet.Source.left g.P.Outlet.Source.faults g.P.Outlet.Source.number g.P.Outlet.Source.is_open) c.args.wires.now.items) in
+    let wires' : List WireValue = (map (wire_value g.P.Inlet.Sink.taken g.P.Inlet.Sink.faults g.P.Inlet.Sink.number g.P.Inlet.Sink.is_open g.P.Outlet.Source.given g.P.Outlet.Source.left g.P.Outlet.Source.faults g.P.Outlet.Source.number g.P.Outlet.Source.is_open) c.serve_child-bench.new.wires.items) in
+    let r = c.serve_child-bench.result.1 in
+    let served = subst (λ (w : Opening). FirstServed (IsErr r) w c.args.plan.now.setup c.args.plan.now.starts c.args.plan.now.program mid new desks desks' (is_ok r) c.in-Ready.link.ear c.in-Ready.link.mouth between after wires wires') c.greet.ensures.core.opening c.serve_child-bench.ensures.served in
+    let adds : AddsOne before.starts between.starts (c.args.plan.now.program, true) = subst (λ (p : List ℕ). AddsOne before.starts between.starts (p, true)) c.view-program.ensures c.in-Ready.ensures.starts in
+    let legal' : Legal o mid = subst (λ (w : Opening). Legal w mid) c.greet.ensures.core.opening (c.greet.ensures.core.legal c.requires.legal) in
+    subst (λ (next : Bool). OneJobStart o c.args.plan.now.setup c.args.plan.now.starts c.args.offer next true c.args.plan.now.program old new desks desks' before after wires wires') (sym c.is_offered.ensures)
+    (first_ok o c.args.plan.now.setup c.args.plan.now.starts c.args.offer c.in-Ready.tagged old mid new desks desks' (IsErr r) c.args.plan.now.program c.in-Ready.link.ear c.in-Ready.link.mouth before between after wires wires'
+    c.requires.legal c.requires.left c.in-Ready.ensures.tells.0 legal' c.in-Ready.ensures.tells.1 c.in-Ready.ensures.tells.2 adds c.in-Ready.ensures.later c.in-Ready.ensures.numbers (is_ok r) (ap is_ok c.in-Ok.is) (ok_no_err r _ c.in-Ok.is) served)
 
-pub returns-in-Ready-clause-desks : goal.returns-in-Ready-clause-desks
-returns-in-Ready-clause-desks g c = c.serve_ready-link.ensures.desks
+pub returns-in-Err-clause-starts : goal.returns-in-Err-clause-starts
+returns-in-Err-clause-starts g c =
+    let o = c.args.bench.core.opening in
+    let old = c.args.bench.core.journal in
+    let mid = c.greet.new.core.journal in
+    let new = c.serve_child-bench.result.0.core.journal in
+    let desks : List DeskTells = map (λ k. desk_tells (g.K.Desk.log k) (g.K.Desk.counts k)) c.args.bench.desks.items in
+    let desks' : List DeskTells = map (λ k. desk_tells (g.K.Desk.log k) (g.K.Desk.counts k)) c.serve_child-bench.result.0.desks.items in
+    let before : ProgramsValue = programs_value (g.P.Programs.starts c.args.programs.now) (g.P.Programs.faults c.args.programs.now) in
+    let between : ProgramsValue = programs_value (g.P.Programs.starts c.greet.new.programs) (g.P.Programs.faults c.greet.new.programs) in
+    let after : ProgramsValue = programs_value (g.P.Programs.starts c.serve_child-bench.new.programs) (g.P.Programs.faults c.serve_child-bench.new.programs) in
+    let wires : List WireValue = (map (wire_value g.P.Inlet.Sink.taken g.P.Inlet.Sink.faults g.P.Inlet.Sink.number g.P.Inlet.Sink.is_open g.P.Outlet.Source.given g.P.Outlet.Source.left g.P.Outlet.Source.faults g.P.Outlet.Source.number g.P.Outlet.Source.is_open) c.args.wires.now.items) in
+    let wires' : List WireValue = (map (wire_value g.P.Inlet.Sink.taken g.P.Inlet.Sink.faults g.P.Inlet.Sink.number g.P.Inlet.Sink.is_open g.P.Outlet.Source.given g.P.Outlet.Source.left g.P.Outlet.Source.faults g.P.Outlet.Source.number g.P.Outlet.Source.is_open) c.serve_child-bench.new.wires.items) in
+    let r = c.serve_child-bench.result.1 in
+    let served = subst (λ (w : Opening). FirstServed (IsErr r) w c.args.plan.now.setup c.args.plan.now.starts c.args.plan.now.program mid new desks desks' (is_ok r) c.in-Ready.link.ear c.in-Ready.link.mouth between after wires wires') c.greet.ensures.core.opening c.serve_child-bench.ensures.served in
+    let adds : AddsOne before.starts between.starts (c.args.plan.now.program, true) = subst (λ (p : List ℕ). AddsOne before.starts between.starts (p, true)) c.view-program.ensures c.in-Ready.ensures.starts in
+    let legal' : Legal o mid = subst (λ (w : Opening). Legal w mid) c.greet.ensures.core.opening (c.greet.ensures.core.legal c.requires.legal) in
+    first_err o c.args.plan.now.setup c.args.plan.now.starts c.args.offer c.in-Ready.tagged old mid new desks desks' (IsErr r) c.args.plan.now.program c.in-Ready.link.ear c.in-Ready.link.mouth before between after wires wires'
+    c.requires.legal c.requires.left c.in-Ready.ensures.tells.0 legal' c.in-Ready.ensures.tells.1 c.in-Ready.ensures.tells.2 adds c.in-Ready.ensures.later c.in-Ready.ensures.numbers (is_ok r) (ap is_ok c.in-Err.is) served
 
 pub returns-in-Refused-clause-starts : goal.returns-in-Refused-clause-starts
 returns-in-Refused-clause-starts g c =
@@ -82,20 +123,22 @@ returns-in-Refused-clause-starts g c =
     let mid = c.greet.new.core.journal in
     let new = c.turn_away.new.core.journal in
     let child = c.in-Refused.link.ear.child in
-    let answer = c.not_prepared-answer.result in
-    let desks = (map (λ k. desk_tells (g.K.Desk.log k) (g.K.Desk.counts k)) c.args.bench.desks.items) in
+    let answer : Answer = c.not_prepared-answer.result in
+    let desks : List DeskTells = map (λ k. desk_tells (g.K.Desk.log k) (g.K.Desk.counts k)) c.args.bench.desks.items in
     let away : TurnsAway o child mid new answer = subst (λ (w : Opening). TurnsAway w child mid new answer) c.greet.ensures.core.opening c.turn_away.ensures.away in
-    let some : 0 < length desks = subst (λ (n : ℕ). 0 < n) (sym (length-map c.args.bench.desks.items _ ∙ sym c.args.bench.desks.ok.0)) c.requires.desks.0 in (
-      Start child 0 c.args.offer,
-      stint_any o c.args.plan.now.setup c.args.plan.now.starts c.args.offer c.args.offer (Start child 0 c.args.offer) old new desks some
-          (λ d. away_stint o c.args.plan.now.setup c.args.plan.now.starts c.args.offer old mid new child answer d c.requires.left c.requires.calm.idle c.in-Refused.ensures.tells.0 (unready_refused mid child c.in-Refused.verdict answer c.in-Refused.ensures.tells.1 c.not_prepared-answer.ensures) away)
-          (λ shut. away_idle o child (next_child old) mid new answer c.in-Refused.ensures.tells.0.next c.in-Refused.ensures.tells.0.idle away),
-      starts_child c.args.plan.now.program new child c.args.offer (programs_value (g.P.Programs.starts c.args.programs.now) (g.P.Programs.faults c.args.programs.now)) (g.P.Programs.starts c.greet.new.programs)
-          (programs_value (g.P.Programs.starts c.finish-in-Refused.new.programs) (g.P.Programs.faults c.finish-in-Refused.new.programs)) (g.P.Programs.faults c.greet.new.programs)
-          c.in-Refused.link.ear c.in-Refused.link.mouth _ _ (subst (λ (p : List ℕ). AddsOne (g.P.Programs.starts c.args.programs.now) (g.P.Programs.starts c.greet.new.programs) (p, true)) c.view-program.ensures c.in-Refused.ensures.starts)
-          c.finish-in-Refused.ensures.starts c.in-Refused.ensures.later c.finish-in-Refused.ensures.later c.in-Refused.ensures.numbers refl c.in-Refused.link.one_child
-          (lone_held new c.in-Refused.link.ear c.in-Refused.link.mouth (c.turn_away.ensures.wired c.in-Refused.ensures.wired)) c.finish-in-Refused.ensures.laid,
-    )
+    let some : 0 < length desks = subst (λ (n : ℕ). 0 < n) (sym (length-map c.args.bench.desks.items _ ∙ sym c.args.bench.desks.ok.0)) c.requires.desks.0 in
+    let quiet = away_quiet o c.args.offer old mid new child answer c.in-Refused.ensures.tells.0 away in
+    job_start quiet.more quiet.is
+    (one_all quiet.more (quiet_none quiet)
+    (starts_child c.args.plan.now.program new child c.args.offer (programs_value (g.P.Programs.starts c.args.programs.now) (g.P.Programs.faults c.args.programs.now)) (g.P.Programs.starts c.greet.new.programs)
+    (programs_value (g.P.Programs.starts c.finish.new.programs) (g.P.Programs.faults c.finish.new.programs)) (g.P.Programs.faults c.greet.new.programs)
+    c.in-Refused.link.ear c.in-Refused.link.mouth _ _ (subst (λ (p : List ℕ). AddsOne (g.P.Programs.starts c.args.programs.now) (g.P.Programs.starts c.greet.new.programs) (p, true)) c.view-program.ensures c.in-Refused.ensures.starts)
+    c.finish.ensures.starts c.in-Refused.ensures.later c.finish.ensures.later c.in-Refused.ensures.numbers refl c.in-Refused.link.one_child
+    (lone_held new c.in-Refused.link.ear c.in-Refused.link.mouth (c.turn_away.ensures.wired c.in-Refused.ensures.wired)) c.finish.ensures.laid))
+    (stint_any o c.args.plan.now.setup c.args.plan.now.starts c.args.offer c.args.offer (Start child 0 c.args.offer) old new desks some
+    (λ d. away_stint o c.args.plan.now.setup (more_than new) c.args.offer old mid new child answer d c.requires.left c.requires.calm.idle c.in-Refused.ensures.tells.0 (unready_refused mid child c.in-Refused.verdict answer c.in-Refused.ensures.tells.1 c.not_prepared-answer.ensures) away)
+    true quiet
+    (λ shut. away_idle o child (next_child old) mid new answer c.in-Refused.ensures.tells.0.next c.in-Refused.ensures.tells.0.idle away))
 
 pub returns-in-Ended-clause-starts : goal.returns-in-Ended-clause-starts
 returns-in-Ended-clause-starts g c =
@@ -104,20 +147,22 @@ returns-in-Ended-clause-starts g c =
     let mid = c.greet.new.core.journal in
     let new = c.turn_away-in-Ended.new.core.journal in
     let child = c.in-Ended.link.ear.child in
-    let answer = Ended c.in-Ended.why in
-    let desks = (map (λ k. desk_tells (g.K.Desk.log k) (g.K.Desk.counts k)) c.args.bench.desks.items) in
+    let answer : Answer = Ended c.in-Ended.why in
+    let desks : List DeskTells = map (λ k. desk_tells (g.K.Desk.log k) (g.K.Desk.counts k)) c.args.bench.desks.items in
     let away : TurnsAway o child mid new answer = subst (λ (w : Opening). TurnsAway w child mid new answer) c.greet.ensures.core.opening c.turn_away-in-Ended.ensures.away in
-    let some : 0 < length desks = subst (λ (n : ℕ). 0 < n) (sym (length-map c.args.bench.desks.items _ ∙ sym c.args.bench.desks.ok.0)) c.requires.desks.0 in (
-      Start child 0 c.args.offer,
-      stint_any o c.args.plan.now.setup c.args.plan.now.starts c.args.offer c.args.offer (Start child 0 c.args.offer) old new desks some
-          (λ d. away_stint o c.args.plan.now.setup c.args.plan.now.starts c.args.offer old mid new child answer d c.requires.left c.requires.calm.idle c.in-Ended.ensures.tells.0 (unready_ended mid child c.in-Ended.why c.in-Ended.ensures.tells.1) away)
-          (λ shut. away_idle o child (next_child old) mid new answer c.in-Ended.ensures.tells.0.next c.in-Ended.ensures.tells.0.idle away),
-      starts_child c.args.plan.now.program new child c.args.offer (programs_value (g.P.Programs.starts c.args.programs.now) (g.P.Programs.faults c.args.programs.now)) (g.P.Programs.starts c.greet.new.programs)
-          (programs_value (g.P.Programs.starts c.finish-in-Ended.new.programs) (g.P.Programs.faults c.finish-in-Ended.new.programs)) (g.P.Programs.faults c.greet.new.programs)
-          c.in-Ended.link.ear c.in-Ended.link.mouth _ _ (subst (λ (p : List ℕ). AddsOne (g.P.Programs.starts c.args.programs.now) (g.P.Programs.starts c.greet.new.programs) (p, true)) c.view-program.ensures c.in-Ended.ensures.starts)
-          c.finish-in-Ended.ensures.starts c.in-Ended.ensures.later c.finish-in-Ended.ensures.later c.in-Ended.ensures.numbers refl c.in-Ended.link.one_child
-          (lone_held new c.in-Ended.link.ear c.in-Ended.link.mouth (c.turn_away-in-Ended.ensures.wired c.in-Ended.ensures.wired)) c.finish-in-Ended.ensures.laid,
-    )
+    let some : 0 < length desks = subst (λ (n : ℕ). 0 < n) (sym (length-map c.args.bench.desks.items _ ∙ sym c.args.bench.desks.ok.0)) c.requires.desks.0 in
+    let quiet = away_quiet o c.args.offer old mid new child answer c.in-Ended.ensures.tells.0 away in
+    job_start quiet.more quiet.is
+    (one_all quiet.more (quiet_none quiet)
+    (starts_child c.args.plan.now.program new child c.args.offer (programs_value (g.P.Programs.starts c.args.programs.now) (g.P.Programs.faults c.args.programs.now)) (g.P.Programs.starts c.greet.new.programs)
+    (programs_value (g.P.Programs.starts c.finish-in-Ended.new.programs) (g.P.Programs.faults c.finish-in-Ended.new.programs)) (g.P.Programs.faults c.greet.new.programs)
+    c.in-Ended.link.ear c.in-Ended.link.mouth _ _ (subst (λ (p : List ℕ). AddsOne (g.P.Programs.starts c.args.programs.now) (g.P.Programs.starts c.greet.new.programs) (p, true)) c.view-program.ensures c.in-Ended.ensures.starts)
+    c.finish-in-Ended.ensures.starts c.in-Ended.ensures.later c.finish-in-Ended.ensures.later c.in-Ended.ensures.numbers refl c.in-Ended.link.one_child
+    (lone_held new c.in-Ended.link.ear c.in-Ended.link.mouth (c.turn_away-in-Ended.ensures.wired c.in-Ended.ensures.wired)) c.finish-in-Ended.ensures.laid))
+    (stint_any o c.args.plan.now.setup c.args.plan.now.starts c.args.offer c.args.offer (Start child 0 c.args.offer) old new desks some
+    (λ d. away_stint o c.args.plan.now.setup (more_than new) c.args.offer old mid new child answer d c.requires.left c.requires.calm.idle c.in-Ended.ensures.tells.0 (unready_ended mid child c.in-Ended.why c.in-Ended.ensures.tells.1) away)
+    true quiet
+    (λ shut. away_idle o child (next_child old) mid new answer c.in-Ended.ensures.tells.0.next c.in-Ended.ensures.tells.0.idle away))
 
 pub returns-in-Unsent-clause-starts : goal.returns-in-Unsent-clause-starts
 returns-in-Unsent-clause-starts g c =
@@ -126,20 +171,22 @@ returns-in-Unsent-clause-starts g c =
     let mid = c.greet.new.core.journal in
     let new = c.turn_away-in-Unsent.new.core.journal in
     let child = c.in-Unsent.link.ear.child in
-    let answer = Unsent in
-    let desks = (map (λ k. desk_tells (g.K.Desk.log k) (g.K.Desk.counts k)) c.args.bench.desks.items) in
+    let answer : Answer = Unsent in
+    let desks : List DeskTells = map (λ k. desk_tells (g.K.Desk.log k) (g.K.Desk.counts k)) c.args.bench.desks.items in
     let away : TurnsAway o child mid new answer = subst (λ (w : Opening). TurnsAway w child mid new answer) c.greet.ensures.core.opening c.turn_away-in-Unsent.ensures.away in
-    let some : 0 < length desks = subst (λ (n : ℕ). 0 < n) (sym (length-map c.args.bench.desks.items _ ∙ sym c.args.bench.desks.ok.0)) c.requires.desks.0 in (
-      Start child 0 c.args.offer,
-      stint_any o c.args.plan.now.setup c.args.plan.now.starts c.args.offer c.args.offer (Start child 0 c.args.offer) old new desks some
-          (λ d. away_stint o c.args.plan.now.setup c.args.plan.now.starts c.args.offer old mid new child answer d c.requires.left c.requires.calm.idle c.in-Unsent.ensures.tells.0 (unready_unsent mid child c.in-Unsent.ensures.tells.1) away)
-          (λ shut. away_idle o child (next_child old) mid new answer c.in-Unsent.ensures.tells.0.next c.in-Unsent.ensures.tells.0.idle away),
-      starts_child c.args.plan.now.program new child c.args.offer (programs_value (g.P.Programs.starts c.args.programs.now) (g.P.Programs.faults c.args.programs.now)) (g.P.Programs.starts c.greet.new.programs)
-          (programs_value (g.P.Programs.starts c.finish-in-Unsent.new.programs) (g.P.Programs.faults c.finish-in-Unsent.new.programs)) (g.P.Programs.faults c.greet.new.programs)
-          c.in-Unsent.link.ear c.in-Unsent.link.mouth _ _ (subst (λ (p : List ℕ). AddsOne (g.P.Programs.starts c.args.programs.now) (g.P.Programs.starts c.greet.new.programs) (p, true)) c.view-program.ensures c.in-Unsent.ensures.starts)
-          c.finish-in-Unsent.ensures.starts c.in-Unsent.ensures.later c.finish-in-Unsent.ensures.later c.in-Unsent.ensures.numbers refl c.in-Unsent.link.one_child
-          (lone_held new c.in-Unsent.link.ear c.in-Unsent.link.mouth (c.turn_away-in-Unsent.ensures.wired c.in-Unsent.ensures.wired)) c.finish-in-Unsent.ensures.laid,
-    )
+    let some : 0 < length desks = subst (λ (n : ℕ). 0 < n) (sym (length-map c.args.bench.desks.items _ ∙ sym c.args.bench.desks.ok.0)) c.requires.desks.0 in
+    let quiet = away_quiet o c.args.offer old mid new child answer c.in-Unsent.ensures.tells.0 away in
+    job_start quiet.more quiet.is
+    (one_all quiet.more (quiet_none quiet)
+    (starts_child c.args.plan.now.program new child c.args.offer (programs_value (g.P.Programs.starts c.args.programs.now) (g.P.Programs.faults c.args.programs.now)) (g.P.Programs.starts c.greet.new.programs)
+    (programs_value (g.P.Programs.starts c.finish-in-Unsent.new.programs) (g.P.Programs.faults c.finish-in-Unsent.new.programs)) (g.P.Programs.faults c.greet.new.programs)
+    c.in-Unsent.link.ear c.in-Unsent.link.mouth _ _ (subst (λ (p : List ℕ). AddsOne (g.P.Programs.starts c.args.programs.now) (g.P.Programs.starts c.greet.new.programs) (p, true)) c.view-program.ensures c.in-Unsent.ensures.starts)
+    c.finish-in-Unsent.ensures.starts c.in-Unsent.ensures.later c.finish-in-Unsent.ensures.later c.in-Unsent.ensures.numbers refl c.in-Unsent.link.one_child
+    (lone_held new c.in-Unsent.link.ear c.in-Unsent.link.mouth (c.turn_away-in-Unsent.ensures.wired c.in-Unsent.ensures.wired)) c.finish-in-Unsent.ensures.laid))
+    (stint_any o c.args.plan.now.setup c.args.plan.now.starts c.args.offer c.args.offer (Start child 0 c.args.offer) old new desks some
+    (λ d. away_stint o c.args.plan.now.setup (more_than new) c.args.offer old mid new child answer d c.requires.left c.requires.calm.idle c.in-Unsent.ensures.tells.0 (unready_unsent mid child c.in-Unsent.ensures.tells.1) away)
+    true quiet
+    (λ shut. away_idle o child (next_child old) mid new answer c.in-Unsent.ensures.tells.0.next c.in-Unsent.ensures.tells.0.idle away))
 
 pub returns-in-StartFault-clause-starts : goal.returns-in-StartFault-clause-starts
 returns-in-StartFault-clause-starts g c =
@@ -147,15 +194,17 @@ returns-in-StartFault-clause-starts g c =
     let old = c.args.bench.core.journal in
     let mid = c.greet.new.core.journal in
     let new = c.answer_one.new.core.journal in
-    let desks = (map (λ k. desk_tells (g.K.Desk.log k) (g.K.Desk.counts k)) c.args.bench.desks.items) in
+    let desks : List DeskTells = map (λ k. desk_tells (g.K.Desk.log k) (g.K.Desk.counts k)) c.args.bench.desks.items in
     let one : AnswersOne o mid new StartFault c.answer_one.result = subst (λ (w : Opening). AnswersOne w mid new StartFault c.answer_one.result) c.greet.ensures.core.opening c.answer_one.ensures.answers in
-    let some : 0 < length desks = subst (λ (n : ℕ). 0 < n) (sym (length-map c.args.bench.desks.items _ ∙ sym c.args.bench.desks.ok.0)) c.requires.desks.0 in (
-      NoStart 0,
-      stint_any o c.args.plan.now.setup c.args.plan.now.starts c.args.offer c.args.offer (NoStart 0) old new desks some
-          (λ d. fault_stint o c.args.plan.now.setup c.args.plan.now.starts c.args.offer old mid new d c.requires.left c.requires.calm.idle c.in-StartFault.ensures.tells c.answer_one.result one)
-          (λ shut. fault_idle o (next_child old) old mid new StartFault c.answer_one.result c.in-StartFault.ensures.tells one shut),
-      starts_none c.args.plan.now.program new (programs_value (g.P.Programs.starts c.args.programs.now) (g.P.Programs.faults c.args.programs.now))
-          (programs_value (g.P.Programs.starts c.greet.new.programs) (g.P.Programs.faults c.greet.new.programs)) _ _
-          (subst (λ (p : List ℕ). AddsOne (g.P.Programs.starts c.args.programs.now) (g.P.Programs.starts c.greet.new.programs) (p, false)) c.view-program.ensures c.in-StartFault.ensures.starts)
-          (c.in-StartFault.ensures.fault refl) c.in-StartFault.ensures.later refl,
-    )
+    let some : 0 < length desks = subst (λ (n : ℕ). 0 < n) (sym (length-map c.args.bench.desks.items _ ∙ sym c.args.bench.desks.ok.0)) c.requires.desks.0 in
+    let quiet = fault_quiet o old mid new StartFault c.answer_one.result c.in-StartFault.ensures.tells one in
+    job_start quiet.more quiet.is
+    (one_all quiet.more (quiet_none quiet)
+    (starts_none c.args.plan.now.program new (programs_value (g.P.Programs.starts c.args.programs.now) (g.P.Programs.faults c.args.programs.now))
+    (programs_value (g.P.Programs.starts c.greet.new.programs) (g.P.Programs.faults c.greet.new.programs)) _ _
+    (subst (λ (p : List ℕ). AddsOne (g.P.Programs.starts c.args.programs.now) (g.P.Programs.starts c.greet.new.programs) (p, false)) c.view-program.ensures c.in-StartFault.ensures.starts)
+    (c.in-StartFault.ensures.fault refl) c.in-StartFault.ensures.later refl))
+    (stint_any o c.args.plan.now.setup c.args.plan.now.starts c.args.offer c.args.offer (NoStart 0) old new desks some
+    (λ d. fault_stint o c.args.plan.now.setup (more_than new) c.args.offer old mid new d c.requires.left c.requires.calm.idle c.in-StartFault.ensures.tells c.answer_one.result one)
+    true quiet
+    (λ shut. fault_idle o (next_child old) old mid new StartFault c.answer_one.result c.in-StartFault.ensures.tells one shut))

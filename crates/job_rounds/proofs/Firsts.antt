@@ -1,0 +1,108 @@
+-- What came of a child of slot 0 that is ready, in the journal and of the objects.
+use Rattle.std.proofs.Common.{◌≡◌, ℕ, ◌≤◌, List, [], ◌∷◌, refl, sym, ap, subst, ◌∙◌, append-nil, Bool, true, false, inl, inr, Ok, Result}
+use Rattle.std.specs.Prelude.{◌&&◌, IsErr}
+use Rattle.ann_outside.specs.Causes.{AddsOne, Stays}
+use Rattle.journal_model.specs.declared.entry.What.TheVariants.{Start}
+use Rattle.journal_model.specs.declared.entry.Entry.{Entry}
+use Rattle.journal_model.specs.declared.opening.Opening.{Opening}
+use Rattle.journal_model.specs.Halves.{EarValue, MouthValue, IsSameEar, IsSameMouth}
+use Rattle.journal_model.specs.Journal.{any, is_tagged}
+use Rattle.journal_model.specs.Legality.{Legal}
+use Rattle.host_core.specs.Steps.{are_all_claimed}
+use Rattle.child_start.specs.Greetings.{AreNumbered, Greeted, IsReady}
+use Rattle.child_end.specs.Programs.{AddsAll, ProgramsValue, told}
+use Rattle.child_end.specs.Wires.{IsHeld, IsLaid, IsLeft, WireValue}
+use Rattle.task_run.specs.declared.setup.Setup.{Setup}
+use Rattle.lone_work.specs.Works.{DeskTells}
+use Rattle.lone_rounds.specs.Starting.{is_any_start}
+use Rattle.lone_rounds.specs.Stints.{ear_of, main_entry, mouth_of}
+use Rattle.lone_rounds.proofs.Leaving.{stays_none}
+use Rattle.job_rounds.specs.Pools.{IsLinkLeft, LeavesPool}
+use Rattle.job_rounds.specs.Servings.{FirstServed}
+use Rattle.job_rounds.specs.Starts.{LacksMemory, OneJobStart, StartsAll}
+use Rattle.job_rounds.proofs.PoolStretch.{Asked, all_told, asked_so, its_objects, none_started, pool_start}
+use Rattle.job_rounds.proofs.Rounding.{served_start}
+
+-- ---- the wire of one child
+
+module _ (journal : List Entry) (e ear : EarValue) (m mouth : MouthValue) (wire : WireValue) (one : mouth.child ≡ ear.child) (se : IsSameEar e ear) (sm : IsSameMouth m mouth) (is : IsLeft ear mouth wire) where
+  ear_is : ear_of wire ≡ ear
+  ear_is = rw (is.child, is.given_is, is.left_is, is.faults.1, is.numbers.1, is.rest) refl
+
+  mouth_is : mouth_of wire ≡ mouth
+  mouth_is = let same_child : wire.child ≡ mouth.child = is.child ∙ sym one in rw (same_child, is.taken_is, is.faults.0, is.numbers.0) refl
+
+  wire_left : IsHeld journal ear mouth → IsLinkLeft journal e m wire
+  wire_left h = record {
+    child = is.child ∙ se.0;
+    held = subst (λ (x : EarValue). IsHeld journal x (mouth_of wire)) (sym ear_is) (subst (λ (x : MouthValue). IsHeld journal ear x) (sym mouth_is) h);
+    numbers = (is.numbers.0 ∙ sm.1, is.numbers.1 ∙ se.1);
+    closed = is.closed;
+  }
+
+-- one child was served and finished
+pub lone_leaves : (W : Type 0) (program : List ℕ) (journal : List Entry) (before after : ProgramsValue) (e ear : EarValue) (m mouth : MouthValue) (wires wires' : List WireValue) → Stays before.starts after.starts → before.faults ≤ after.faults
+    → IsSameEar e ear → IsSameMouth m mouth → mouth.child ≡ ear.child → IsHeld journal ear mouth → IsLaid ear mouth wires wires' → LeavesPool W program journal [] e m before after wires wires'
+lone_leaves W program journal before after e ear m mouth wires wires' stays le se sm one held (wire, laid, is) = record {
+  own = wire;
+  more = [];
+  laid = laid;
+  left = wire_left journal e ear m mouth wire one se sm is held;
+  linked = tt;
+  started = inl (stays_none before.starts after.starts stays);
+  fault = λ failed. absurd (let bad : false ≡ true = failed in cc);
+  later_faults = le;
+}
+
+-- ---- what came of it
+
+module _ (o : Opening) (setup : Setup) (limit : ℕ) (offer tagged : Bool) (old g new : List Entry) (desks desks' : List DeskTells) (W : Type 0) (program : List ℕ) (ear : EarValue) (mouth : MouthValue) (before mid last : ProgramsValue) (wires wires' : List WireValue)
+    (legal : Legal o old) (left : are_all_claimed o old ≡ false) (greeted : Greeted old g 0 offer ear.child) (legal' : Legal o g) (ready : IsReady g ear.child) (tag : tagged ≡ is_tagged g ear.child)
+    (adds : AddsOne before.starts mid.starts (program, true)) (le : before.faults ≤ mid.faults) (numbered : AreNumbered mid.starts ear mouth) where
+  lone_objects : (after : ProgramsValue) → LeavesPool W program new [] ear mouth mid last wires wires' → AddsAll mid.starts after.starts (told program []) → after.faults ≡ last.faults
+      → (xs : List Entry) → any is_any_start xs ≡ false → StartsAll program new (main_entry (Start ear.child 0 offer) ∷ xs) before after wires wires'
+  lone_objects after l all same xs none = subst (λ (ys : List Entry). StartsAll program new (main_entry (Start ear.child 0 offer) ∷ ys) before after wires wires') (append-nil xs)
+      (its_objects program new xs [] ear.child offer before mid ear mouth adds le numbered refl none W last after wires wires' l all same)
+
+  untagged : is_tagged g ear.child ≡ false → (offer && false) ≡ (offer && tagged)
+  untagged h = ap (λ (b : Bool). offer && b) (sym (tag ∙ h))
+
+  made : (W → ⊥) → FirstServed W o setup limit program g new desks desks' true ear mouth mid last wires wires' → OneJobStart o setup limit offer (offer && tagged) true program old new desks desks' before last wires wires'
+  made none (inl (serves, few, l)) = served_start o setup limit offer tagged old g new ear.child desks desks' true legal left greeted legal' ready tag
+      serves few
+      (lone_objects last l (all_told W program [] mid last none l.started) refl)
+  made none (inr (many, plain, (s, l))) = subst (λ (next : Bool). OneJobStart o setup limit offer next true program old new desks desks' before last wires wires') (untagged plain)
+      (pool_start o setup limit offer old g new ear.child desks desks' true greeted legal' ready plain many s
+      (its_objects program new greeted.more s.later ear.child offer before mid ear mouth adds le numbered refl (none_started o old g offer ear.child greeted) W last last wires wires' l (all_told W program s.later mid last none l.started) refl))
+
+  pub first_ok : (whole : Bool) → whole ≡ true → (W → ⊥) → FirstServed W o setup limit program g new desks desks' whole ear mouth mid last wires wires'
+      → OneJobStart o setup limit offer (offer && tagged) true program old new desks desks' before last wires wires'
+  first_ok whole e none f = made none (subst (λ (b : Bool). FirstServed W o setup limit program g new desks desks' b ear mouth mid last wires wires') e f)
+
+  lacking : FirstServed W o setup limit program g new desks desks' false ear mouth mid last wires wires' → LacksMemory o setup limit offer program old new desks desks' before last wires wires'
+  lacking (inl (serves, few, l)) =
+      let a : Asked program [] mid last = asked_so W program [] mid last l.started in
+      inr (
+        offer && tagged,
+        a.mid,
+        served_start o setup limit offer tagged old g new ear.child desks desks' false legal left greeted legal' ready tag
+            serves few
+            (lone_objects a.mid l a.adds a.faults),
+        a.asked,
+      )
+  lacking (inr (many, plain, (s, l))) =
+      let a : Asked program s.later mid last = asked_so W program s.later mid last l.started in
+      inr (
+        offer && false,
+        a.mid,
+        pool_start o setup limit offer old g new ear.child desks desks' false greeted legal' ready plain many s
+            (its_objects program new greeted.more s.later ear.child offer before mid ear mouth adds le numbered refl (none_started o old g offer ear.child greeted) W last a.mid wires wires' l a.adds a.faults),
+        a.asked,
+      )
+
+  pub first_err : (whole : Bool) → whole ≡ false → FirstServed W o setup limit program g new desks desks' whole ear mouth mid last wires wires' → LacksMemory o setup limit offer program old new desks desks' before last wires wires'
+  first_err whole e f = lacking (subst (λ (b : Bool). FirstServed W o setup limit program g new desks desks' b ear mouth mid last wires wires') e f)
+
+-- an answer that is Ok is no Err
+pub ok_no_err : {A B : Type 0} (r : Result A B) (a : A) → r ≡ Ok a → IsErr r → ⊥
+ok_no_err {A} {B} r a e h = (let bad : false ≡ true = subst (λ (x : Result A B). IsErr x) e h in absurd cc)

@@ -1,0 +1,167 @@
+-- What a pool's links come to while they serve: the first link alone, or a round, and then their closing.
+use Rattle.std.proofs.Common.{◌≡◌, ℕ, ◌+◌, ◌<◌, List, [], ◌∷◌, ◌++◌, refl, sym, ap, subst, ◌∙◌, length, map, true, inl, inr, slice_index_or, slice_set}
+use Rattle.std.specs.Prelude.{All}
+use Rattle.std.specs.List.{range_with_len}
+use Rattle.std.proofs.lemmas.List.{length-map, map-append}
+use Rattle.std.proofs.lemmas.List.Elements.{All-cons, All-head, All-nil, All-tail, All-weaker}
+use Rattle.journal_model.specs.declared.entry.Entry.{Entry}
+use Rattle.journal_model.specs.declared.opening.Opening.{Opening}
+use Rattle.journal_model.specs.Journal.{is_started}
+use Rattle.journal_model.specs.Legality.{Legal}
+use Rattle.link_roles.specs.Alone.{KeepsLink}
+use Rattle.link_roles.specs.Writings.{LoneWired}
+use Rattle.gathering.specs.Laws.{GoesOn, children_of}
+use Rattle.gathering.specs.Rounds.{IsAtRest, LinkValue}
+use Rattle.child_end.specs.Wires.{IsHeld}
+use Rattle.child_end.proofs.Held.{lone_held}
+use Rattle.task_run.specs.declared.setup.Setup.{Setup}
+use Rattle.lone_work.specs.Works.{CanWork, DeskTells}
+use Rattle.lone_rounds.specs.Stints.{HasServed}
+use Rattle.crew_rounds.specs.declared.outcome.Outcome.{Outcome}
+use Rattle.crew_rounds.specs.declared.outcome.Outcome.TheVariants.{Done, NoMemory, NoThreads}
+use Rattle.crew_rounds.specs.Outcomes.{IfDone, IfKept}
+use Rattle.pool_rounds.specs.Pool.{AreSameLinks, MayServe, PoolCan, PoolLeaves}
+use Rattle.job_rounds.specs.PoolSteps.{ClosesAll, RoundsPool, ServesFirst, ServesLinks}
+use Rattle.job_rounds.proofs.Ends.{started_then}
+use Rattle.job_rounds.proofs.PoolClosings.{closes_held}
+use Rattle.job_rounds.proofs.PoolLinks.{all_mapped, all_unmapped, first_can, first_held, first_of_all, link_same}
+use Rattle.job_rounds.proofs.PoolMiddle.{ServedPart, served_calm, served_part}
+
+-- ---- the first link
+
+module _ {L : Type 0} (link : L → LinkValue) (o : Opening) (setup : Setup) (g mid : List Entry) (items : List L) (x y : L) (some : 0 < length items) (is : x ≡ slice_index_or items 0 x) (can : PoolCan o g (map link items)) where
+  abbrev others : List L
+  others = (first_of_all items x some is).0
+
+  place : items ≡ x ∷ others
+  place = (first_of_all items x some is).1
+
+  its : PoolCan o g (link x ∷ map link others)
+  its = subst (λ (ls : List L). PoolCan o g (map link ls)) place can
+
+  pub first_works : CanWork o (link x).ear.child g
+  first_works = first_can o g (link x) (map link others) its
+
+  pub first_keeps : ((z : L) → (link z).mouth.child ≡ (link z).ear.child) → {desk desk' : DeskTells} → HasServed o setup (link x).ear.child g mid desk desk' → KeepsLink g mid (link x).ear (link y).ear (link x).mouth (link y).mouth
+      → All (λ (z : L). IsHeld mid (link z).ear (link z).mouth) (slice_set items 0 y)
+  first_keeps one {desk} {desk'} served keeps = subst (λ (ls : List L). All (λ (z : L). IsHeld mid (link z).ear (link z).mouth) (slice_set ls 0 y)) (sym place)
+      (all_unmapped (λ (l : LinkValue). IsHeld mid l.ear l.mouth) link (y ∷ others)
+      (first_held o setup g mid (link x) (link y) (map link others) desk desk' its (all_mapped (λ (l : LinkValue). l.mouth.child ≡ l.ear.child) link one others) served keeps))
+
+  pub first_same : KeepsLink g mid (link x).ear (link y).ear (link x).mouth (link y).mouth → AreSameLinks (map link items) (map link (slice_set items 0 y))
+  first_same keeps = subst (λ (ls : List L). AreSameLinks (map link ls) (map link (slice_set ls 0 y))) (sym place) ((keeps.same_ear, keeps.same_mouth), link_same (map link others))
+
+-- ---- links of the same children
+
+pub same_children : (ls ms : List LinkValue) → AreSameLinks ls ms → children_of ms ≡ children_of ls
+same_children [] [] s = refl
+same_children [] (m ∷ ms) s = absurd s
+same_children (l ∷ ls) [] s = absurd s
+same_children (l ∷ ls) (m ∷ ms) s = rw (s.0.0.0, same_children ls ms s.1) refl
+
+pub same_links_both : (ls ms ns : List LinkValue) → AreSameLinks ls ms → AreSameLinks ms ns → AreSameLinks ls ns
+same_links_both [] [] [] s t = tt
+same_links_both [] [] (n ∷ ns) s t = absurd t
+same_links_both [] (m ∷ ms) ns s t = absurd s
+same_links_both (l ∷ ls) [] ns s t = absurd s
+same_links_both (l ∷ ls) (m ∷ ms) [] s t = absurd t
+same_links_both (l ∷ ls) (m ∷ ms) (n ∷ ns) s t =
+    (((t.0.0.0 ∙ s.0.0.0, t.0.0.1 ∙ s.0.0.1), (t.0.1.0 ∙ s.0.1.0, t.0.1.1 ∙ s.0.1.1)), same_links_both ls ms ns s.1 t.1)
+
+-- what holds of the children holds of those of the same links
+same_each : (P : ℕ → Type 0) (ls ms : List LinkValue) → AreSameLinks ls ms → All (λ (l : LinkValue). P l.ear.child) ls → All (λ (l : LinkValue). P l.ear.child) ms
+same_each P [] [] s h = All-nil (λ (l : LinkValue). P l.ear.child)
+same_each P [] (m ∷ ms) s h = absurd s
+same_each P (l ∷ ls) [] s h = absurd s
+same_each P (l ∷ ls) (m ∷ ms) s h =
+    All-cons (λ (x : LinkValue). P x.ear.child) m ms (subst P (sym s.0.0.0) (All-head (λ (x : LinkValue). P x.ear.child) l ls h)) (same_each P ls ms s.1 (All-tail (λ (x : LinkValue). P x.ear.child) l ls h))
+
+-- the children are started still
+pub still_started : (o : Opening) (g rest mid : List Entry) (ls ms : List LinkValue) → PoolCan o g ls → AreSameLinks ls ms → mid ≡ g ++ rest → All (λ (l : LinkValue). is_started mid l.ear.child ≡ true) ms
+still_started o g rest mid ls ms can same is =
+    same_each (λ (c : ℕ). is_started mid c ≡ true) ls ms same
+    (All-weaker (MayServe o g) (λ (l : LinkValue). is_started mid l.ear.child ≡ true) (λ l h. ap (λ (j : List Entry). is_started j l.ear.child) is ∙ started_then g rest l.ear.child h.serves.started) ls can.each)
+
+-- the links are held still, behind closings
+pub held_then : {L : Type 0} (link : L → LinkValue) → ((z : L) → (link z).mouth.child ≡ (link z).ear.child) → (cs : List ℕ) (old new : List Entry) → ClosesAll cs old new → (xs : List L)
+    → All (λ (z : L). IsHeld old (link z).ear (link z).mouth) xs → All (λ (z : L). IsHeld new (link z).ear (link z).mouth) xs
+held_then {L} link one cs old new closed xs h =
+    All-weaker (λ (z : L). IsHeld old (link z).ear (link z).mouth) (λ (z : L). IsHeld new (link z).ear (link z).mouth) (λ z k. closes_held cs old new (link z).ear (link z).mouth (one z) closed k) xs h
+
+-- ---- behind the main thread's work
+
+module _ (o : Opening) (setup : Setup) (g mid : List Entry) (desks desks' : List DeskTells) where
+  served_behind : (ls : List LinkValue) → PoolCan o g ls → ServesFirst o setup ls g mid desks desks' → (rest : List Entry) × (mid ≡ g ++ rest)
+  served_behind [] can s = absurd s
+  served_behind (l ∷ ls) can s =
+      let its = All-head (MayServe o g) l ls can.each in
+      let p : ServedPart l.ear.child g mid = served_part its.serves.legal its.serves.prepared s.served in
+      (p.rest, p.is)
+
+  pub alone_calm : (ls : List LinkValue) → PoolCan o g ls → ServesFirst o setup ls g mid desks desks' → IsAtRest mid
+  alone_calm [] can s = absurd s
+  alone_calm (l ∷ ls) can s = (let its = All-head (MayServe o g) l ls can.each in served_calm its.serves.legal can.calm its.serves.prepared s.served)
+
+  pub alone_started : (ls ms : List LinkValue) → PoolCan o g ls → ServesFirst o setup ls g mid desks desks' → AreSameLinks ls ms → All (λ (l : LinkValue). is_started mid l.ear.child ≡ true) ms
+  alone_started ls ms can s same = (let b = served_behind ls can s in still_started o g b.0 mid ls ms can same b.1)
+
+  pub alone_links : (new : List Entry) (ls ms : List LinkValue) → (Legal o g → Legal o mid) → ServesFirst o setup ls g mid desks desks' → AreSameLinks ls ms → ClosesAll (children_of ms) mid new → ServesLinks o setup g new ls ms desks desks'
+  alone_links new ls ms legal s same closed = record { mid = mid; legal = legal; done = inr s; closes = subst (λ (cs : List ℕ). ClosesAll cs mid new) (same_children ls ms same) closed }
+
+-- ---- behind a round
+
+module _ (o : Opening) (setup : Setup) (g mid : List Entry) (ls ms : List LinkValue) (desks desks' : List DeskTells) (r : RoundsPool o setup g mid ls ms desks desks') where
+  pub rounds_calm : IsAtRest mid
+  rounds_calm = subst IsAtRest (sym r.round.1) r.round.2.round.rounded.at_rest
+
+  pub rounds_legal : Legal o mid
+  rounds_legal = subst (Legal o) (sym r.round.1) r.round.2.round.rounded.legal
+
+  pub rounds_started : PoolCan o g ls → AreSameLinks ls ms → All (λ (l : LinkValue). is_started mid l.ear.child ≡ true) ms
+  rounds_started can same = still_started o g r.round.0 mid ls ms can same r.round.1
+
+  pub rounds_held : All (λ (l : LinkValue). IsHeld mid l.ear l.mouth) ms
+  rounds_held = subst (λ (j : List Entry). All (λ (l : LinkValue). IsHeld j l.ear l.mouth) ms) (sym r.round.1)
+      (All-weaker (λ (l : LinkValue). LoneWired (g ++ r.round.0) l.ear l.mouth) (λ (l : LinkValue). IsHeld (g ++ r.round.0) l.ear l.mouth) (λ l h. lone_held (g ++ r.round.0) l.ear l.mouth h) ms r.round.2.wired)
+
+  pub rounds_links : (new : List Entry) → AreSameLinks ls ms → ClosesAll (children_of ms) mid new → ServesLinks o setup g new ls ms desks desks'
+  rounds_links new same closed = record { mid = mid; legal = λ h. rounds_legal; done = inl r; closes = subst (λ (cs : List ℕ). ClosesAll cs mid new) (same_children ls ms same) closed }
+
+-- ---- the desks of a round
+
+-- the first desks had the round, and the others stand behind them again
+pub round_beside : {K : Type 0} (tells : K → DeskTells) (o : Opening) (setup : Setup) (g mid : List Entry) (ls ms : List LinkValue) (all used used' back others : List K) (m : ℕ) → length used ≡ length ls → m ≡ length ls
+    → all ≡ used ++ others → back ≡ used' ++ others → GoesOn g mid (λ rest. PoolLeaves o setup (range_with_len 1 (1 + m)) g rest ls ms (map tells used) (map tells used'))
+    → RoundsPool o setup g mid ls ms (map tells all) (map tells back)
+round_beside tells o setup g mid ls ms all used used' back others m many numbered before after goes = record {
+  used = map tells used;
+  used' = map tells used';
+  others = map tells others;
+  before = ap (map tells) before ∙ map-append tells used others;
+  after = ap (map tells) after ∙ map-append tells used' others;
+  many = length-map used tells ∙ many;
+  round = subst (λ (k : ℕ). GoesOn g mid (λ rest. PoolLeaves o setup (range_with_len 1 (1 + k)) g rest ls ms (map tells used) (map tells used'))) numbered goes;
+}
+
+pub if_done : {P Q : Type 0} (x : Outcome) → (P → Q) → IfDone x P → IfDone x Q
+if_done Done f h = f h
+if_done NoMemory f h = tt
+if_done NoThreads f h = tt
+
+pub if_kept : {P Q : Type 0} (x : Outcome) → (P → Q) → IfKept x P → IfKept x Q
+if_kept Done f h = tt
+if_kept NoMemory f h = f h
+if_kept NoThreads f h = f h
+
+-- ---- where no round began: what was done then was done from before it
+
+module _ {L K : Type 0} (link : L → LinkValue) (tells : K → DeskTells) (o p : Opening) (old mid : List Entry) (ls is : List L) (ks js : List K) (eo : p ≡ o) (ej : mid ≡ old) (el : is ≡ ls) (ek : js ≡ ks) where
+  pub can_kept : PoolCan o old (map link ls) → PoolCan p mid (map link is)
+  can_kept can = subst (λ (q : Opening). PoolCan q mid (map link is)) (sym eo) (subst (λ (j : List Entry). PoolCan o j (map link is)) (sym ej) (subst (λ (xs : List L). PoolCan o old (map link xs)) (sym el) can))
+
+  pub serves_kept : (setup : Setup) (new : List Entry) (ms : List LinkValue) (desks' : List DeskTells) → ServesLinks p setup mid new (map link is) ms (map tells js) desks' → ServesLinks o setup old new (map link ls) ms (map tells ks) desks'
+  serves_kept setup new ms desks' s =
+      subst (λ (q : Opening). ServesLinks q setup old new (map link ls) ms (map tells ks) desks') eo
+      (subst (λ (j : List Entry). ServesLinks p setup j new (map link ls) ms (map tells ks) desks') ej
+      (subst (λ (xs : List L). ServesLinks p setup mid new (map link xs) ms (map tells ks) desks') el
+      (subst (λ (xs : List K). ServesLinks p setup mid new (map link is) ms (map tells xs) desks') ek s)))

@@ -1,0 +1,60 @@
+-- What is done with a pool that was gathered: a round or one worker, the closing of its children, and the wires.
+use Rattle.std.specs.Prelude.{ℕ, ◌≡◌, ◌⊎◌, ◌+◌, List, [], ◌∷◌, ◌++◌, length}
+use Rattle.std.specs.List.{range_with_len}
+use Rattle.journal_model.specs.declared.entry.Entry.{Entry}
+use Rattle.journal_model.specs.declared.opening.Opening.{Opening}
+use Rattle.journal_model.specs.Legality.{Legal}
+use Rattle.link_roles.specs.Alone.{Closes}
+use Rattle.child_end.specs.Wires.{IsLeft, WireValue}
+use Rattle.gathering.specs.Laws.{GoesOn, children_of}
+use Rattle.gathering.specs.Rounds.{LinkValue}
+use Rattle.task_run.specs.declared.setup.Setup.{Setup}
+use Rattle.lone_work.specs.Works.{DeskTells}
+use Rattle.pool_rounds.specs.Pool.{PoolLeaves}
+use Rattle.pool_starts.specs.Pools.{OverBy, SeatValue, Serves}
+use Rattle.job_rounds.specs.Servings.{ServesAlone}
+
+-- the children are closed, one after the other
+abbrev pub ClosesAll : List ℕ → List Entry → List Entry → Type 0
+ClosesAll [] old new = new ≡ old
+ClosesAll (c ∷ cs) old new = (mid : List Entry) × Closes 0 c old mid × ClosesAll cs mid new
+
+-- a round over the links, with the first desks, one for each; the others did nothing
+pub record RoundsPool (o : Opening) (setup : Setup) (old new : List Entry) (links links' : List LinkValue) (desks desks' : List DeskTells) : Type 0 where
+  pub used : List DeskTells
+  pub used' : List DeskTells
+  pub others : List DeskTells
+  pub before : desks ≡ used ++ others
+  pub after : desks' ≡ used' ++ others
+  pub many : length used ≡ length links
+  pub round : GoesOn old new (λ rest. PoolLeaves o setup (range_with_len 1 (1 + length links)) old rest links links' used used')
+
+-- tasks were done over the first of the links by the main thread
+abbrev pub ServesFirst : Opening → Setup → List LinkValue → List Entry → List Entry → List DeskTells → List DeskTells → Type 0
+ServesFirst o setup [] old new desks desks' = ⊥
+ServesFirst o setup (l ∷ links) old new desks desks' = ServesAlone o setup l.ear.child old new desks desks'
+
+-- Tasks were done over the links by a round, or by the main thread over the first, and a legal journal stays so; then their children were
+-- closed.
+pub record ServesLinks (o : Opening) (setup : Setup) (old new : List Entry) (links links' : List LinkValue) (desks desks' : List DeskTells) : Type 0 where
+  pub mid : List Entry
+  pub legal : Legal o old → Legal o mid
+  pub done : RoundsPool o setup old mid links links' desks desks' ⊎ ServesFirst o setup links old mid desks desks'
+  pub closes : ClosesAll (children_of links) mid new
+
+-- how many of the seats' children serve
+abbrev pub serving : List SeatValue → ℕ
+serving [] = 0
+serving (OverBy own ∷ seats) = serving seats
+serving (Serves ∷ seats) = serving seats + 1
+
+-- the wires of seats, in order: a seat's own, or what the next link leaves
+abbrev pub AreSettled : List SeatValue → List LinkValue → List WireValue → Type 0
+AreSettled [] [] [] = Unit {0}
+AreSettled (OverBy own ∷ seats) links (wire ∷ wires) = (wire ≡ own) × AreSettled seats links wires
+AreSettled (Serves ∷ seats) (l ∷ links) (wire ∷ wires) = IsLeft l.ear l.mouth wire × AreSettled seats links wires
+AreSettled _ _ _ = ⊥
+
+-- such wires were laid behind the others
+abbrev pub AreLaid : List SeatValue → List LinkValue → List WireValue → List WireValue → Type 0
+AreLaid seats links old new = (wires : List WireValue) × (new ≡ old ++ wires) × AreSettled seats links wires
