@@ -1,4 +1,5 @@
 // A call of `special` over children that answer when they are asked, with desks and streams in memory.
+use crate::meeting::MeetingPrograms;
 use crate::stage::{StagePrograms, Starts};
 use ann_key::{Bytes, NoMemory};
 use ann_outside::{MemClock, MemDesk, MemDesks, MemSink, MemSource};
@@ -53,11 +54,13 @@ pub(crate) fn call<R: Threads + Wait + Sync>(
     let mut out = MemSink::new(alloc, usize::MAX, Vec::new(alloc));
     let mut err = MemSink::new(alloc, usize::MAX, Vec::new(alloc));
     let mut clock = MemClock::new(1_700_000_000_000_000);
+    let requests = starts.requests;
+    let stage = StagePrograms::new(rt, alloc, starts);
     let closing = special(
         rt,
         alloc,
         words.as_slice(),
-        StagePrograms::new(rt, alloc, starts),
+        MeetingPrograms::new(rt, alloc, stage, requests)?,
         MemDesks::new(alloc, desks),
         &mut input,
         &mut out,

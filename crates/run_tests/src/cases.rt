@@ -207,19 +207,30 @@ fn wanted_of(case: &Case) -> Wanted<'static> {
     }
 }
 
-/// Plays the row, and expects of it what it says.
-pub(crate) fn expect_case<R: Threads + Wait + Abort + Sync>(
+/// Plays the row, where so many requests must be written, to whichever child, before one is answered.
+pub(crate) fn expect_meeting<R: Threads + Wait + Abort + Sync>(
     rt: &R,
     alloc: Global,
     case: &Case,
+    requests: u64,
 ) -> Result<Left, Fail> {
-    let objects = objects_of(alloc, case)?;
+    let mut objects = objects_of(alloc, case)?;
+    objects.starts.requests = requests;
     let (left, audit) = play(rt, alloc, objects)?;
     let differs = differing(&left, audit.as_str(), wanted_of(case));
     let name = case.name;
     let out = left.out.as_str();
     assert!(rt; differs.is_empty(), "{name}: {differs}: {out}");
     Ok(left)
+}
+
+/// Plays the row, and expects of it what it says.
+pub(crate) fn expect_case<R: Threads + Wait + Abort + Sync>(
+    rt: &R,
+    alloc: Global,
+    case: &Case,
+) -> Result<Left, Fail> {
+    expect_meeting(rt, alloc, case, 0)
 }
 
 /// Plays the rows.

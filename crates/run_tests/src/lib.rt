@@ -20,6 +20,8 @@ mod keys;
 #[cfg(test)]
 mod many;
 #[cfg(test)]
+mod meeting;
+#[cfg(test)]
 mod overlap;
 #[cfg(test)]
 mod pool;

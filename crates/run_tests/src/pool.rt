@@ -1,5 +1,5 @@
 // Tasks side by side over several children that take no tags, each started in a slot of its own.
-use crate::cases::{Case, expect_all, expect_case};
+use crate::cases::{Case, expect_all, expect_case, expect_meeting};
 use crate::children::{NONE, PLAIN, Says, Start, UNTAGGED, UNTAGGED_GREETING};
 use crate::journals::slots_before_claims;
 use std::alloc::Global;
@@ -383,6 +383,96 @@ const LAST_TWO: Start = Start::Child {
     bytes: usize::MAX,
 };
 
+// A child that answers each of eight checks.
+const ANY_OF_EIGHT: Start = Start::Child {
+    greets: UNTAGGED,
+    says: &[
+        Says {
+            when: &["CHECKPRESENT WORM--a"],
+            say: &[(NONE, "CHECKPRESENT-SUCCESS WORM--a\n")],
+        },
+        Says {
+            when: &["CHECKPRESENT WORM--b"],
+            say: &[(NONE, "CHECKPRESENT-FAILURE WORM--b\n")],
+        },
+        Says {
+            when: &["CHECKPRESENT WORM--c"],
+            say: &[(NONE, "CHECKPRESENT-SUCCESS WORM--c\n")],
+        },
+        Says {
+            when: &["CHECKPRESENT WORM--d"],
+            say: &[(NONE, "CHECKPRESENT-FAILURE WORM--d\n")],
+        },
+        Says {
+            when: &["CHECKPRESENT WORM--e"],
+            say: &[(NONE, "CHECKPRESENT-SUCCESS WORM--e\n")],
+        },
+        Says {
+            when: &["CHECKPRESENT WORM--f"],
+            say: &[(NONE, "CHECKPRESENT-FAILURE WORM--f\n")],
+        },
+        Says {
+            when: &["CHECKPRESENT WORM--g"],
+            say: &[(NONE, "CHECKPRESENT-SUCCESS WORM--g\n")],
+        },
+        Says {
+            when: &["CHECKPRESENT WORM--h"],
+            say: &[(NONE, "CHECKPRESENT-UNKNOWN WORM--h why\n")],
+        },
+    ],
+    bytes: usize::MAX,
+};
+
+// No child answers before so many tasks were asked for as must be open at once; a child that waits in vain ends.
+static MEETINGS: [Case; 3] = [
+    Case {
+        name: "two children, and none answers before both were asked",
+        jobs: 2,
+        starts: 1,
+        input: "check WORM--a\ncheck WORM--b\n",
+        children: &[TWO_OF_THREE, TWO_OF_THREE],
+        files: &[],
+        out: "1 present\n2 present\n",
+        status: 0,
+        children_started: 2,
+        busy: 2,
+    },
+    Case {
+        name: "the same where one knows nothing of extensions, and then a third task",
+        jobs: 2,
+        starts: 1,
+        input: THREE,
+        children: &[OLD, WHOLE],
+        files: &[],
+        out: "1 present\n2 absent\n3 present\n",
+        status: 1,
+        children_started: 2,
+        busy: 2,
+    },
+    Case {
+        name: "eight children, and none answers before all were asked",
+        jobs: 8,
+        starts: 1,
+        input: "check WORM--a\ncheck WORM--b\ncheck WORM--c\ncheck WORM--d\n\
+            check WORM--e\ncheck WORM--f\ncheck WORM--g\ncheck WORM--h\n",
+        children: &[
+            ANY_OF_EIGHT,
+            ANY_OF_EIGHT,
+            ANY_OF_EIGHT,
+            ANY_OF_EIGHT,
+            ANY_OF_EIGHT,
+            ANY_OF_EIGHT,
+            ANY_OF_EIGHT,
+            ANY_OF_EIGHT,
+        ],
+        files: &[],
+        out: "1 present\n2 absent\n3 present\n4 absent\n5 present\n6 absent\n7 present\n8 unknown why\n",
+        status: 1,
+        children_started: 8,
+        busy: 8,
+    },
+];
+
 // All children of a round are started, in the slots 0, 1 and so on, before a task is claimed.
 fn expect_slots<R: Threads + Wait + Abort + Sync>(
     rt: &R,
@@ -415,4 +505,12 @@ fn a_child_that_is_not_ready_stays_out(rt: HostRuntime) -> Result<(), Fail> {
 #[test]
 fn each_child_of_a_round_ends_alone(rt: HostRuntime) -> Result<(), Fail> {
     expect_all(&rt, rt.alloc(), ENDS.as_slice())
+}
+
+#[test]
+fn tasks_overlap_over_children_without_tags(rt: HostRuntime) -> Result<(), Fail> {
+    for case in MEETINGS.iter() {
+        let _left = expect_meeting(&rt, rt.alloc(), case, case.busy)?;
+    }
+    Ok(())
 }

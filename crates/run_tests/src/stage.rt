@@ -10,11 +10,13 @@ use std::marker::Sync;
 use std::sync::Wait;
 use std::vec;
 
-/// Starts to come: for each behind how many bytes its child's output ends, or none where it fails; and the cues of the children.
+/// Starts to come: for each behind how many bytes its child's output ends, or none where it fails; the cues of the children; and
+/// how many requests must have been written, to whichever child, before one is answered.
 #[derive(Drop)]
 pub(crate) struct Starts {
     pub ends: Vec<Option<usize>>,
     pub children: Vec<Vec<Cue>>,
+    pub requests: u64,
 }
 
 impl Starts {
@@ -23,6 +25,7 @@ impl Starts {
         Starts {
             ends: Vec::new(alloc),
             children: Vec::new(alloc),
+            requests: 0,
         }
     }
 
@@ -50,7 +53,7 @@ pub(crate) struct StagePrograms<'a, R> {
 
 impl<'a, R> StagePrograms<'a, R> {
     pub(crate) fn new(rt: &'a R, alloc: Global, starts: Starts) -> StagePrograms<'a, R> {
-        let Starts { ends, children } = starts;
+        let Starts { ends, children, .. } = starts;
         StagePrograms {
             programs: CutPrograms {
                 programs: CuePrograms::new(rt, alloc, children),
