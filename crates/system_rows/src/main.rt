@@ -85,9 +85,18 @@ fn left_text(alloc: Global, left: &Left, word: &str) -> Result<String, NoMemory>
             said.push_str(left.journal.trim_end())?;
             Ok(said)
         }
-        "asked" => words::told(alloc, words::quoted(alloc, left.written.as_str())?.as_str()),
-        "rest" => words::told(alloc, words::quoted(alloc, left.rest.as_str())?.as_str()),
-        _ => words::told(alloc, words::printed(alloc, &left.rest.len())?.as_str()),
+        "asked" => words::told(
+            alloc,
+            words::quoted(alloc, left.wires.written.as_str())?.as_str(),
+        ),
+        "rest" => words::told(
+            alloc,
+            words::quoted(alloc, left.wires.rest.as_str())?.as_str(),
+        ),
+        _ => words::told(
+            alloc,
+            words::printed(alloc, &left.wires.rest.len())?.as_str(),
+        ),
     }
 }
 

@@ -4,25 +4,30 @@ ghost use Rattle.std.specs.Prelude.{◌<◌};
 use ann_key::{Bytes, NoMemory, Text};
 use ann_outside::{MemChild, MemClock, MemDesk, MemDesks, MemPrograms, MemSink, MemSource};
 use entry_text::text_of;
-use special_cli::special;
+use special_cli::{Closing, special};
 use std::alloc::Global;
 use std::marker::Sync;
 use std::str;
 use std::sync::Wait;
 use std::thread::Threads;
 
-/// What a call leaves: the journal as text, the desks, and of the wires the children's numbers, what was written to them and what
-/// was read and not fed.
+/// What a call leaves: the journal as text, the wires and the desks.
 #[derive(Drop)]
 pub(crate) struct Left {
     pub(crate) status: u8,
     pub(crate) out: String,
     pub(crate) err: String,
     pub(crate) journal: String,
+    pub(crate) wires: Wires,
+    pub(crate) tables: Vec<MemDesk>,
+}
+
+/// Of the wires the children's numbers, what was written to them and what was read and not fed.
+#[derive(Drop)]
+pub(crate) struct Wires {
     pub(crate) children: Vec<u32>,
     pub(crate) written: String,
     pub(crate) rest: String,
-    pub(crate) tables: Vec<MemDesk>,
 }
 
 /// What a child says, so many bytes a read.
@@ -46,23 +51,18 @@ pub(crate) fn first_lines(alloc: Global, says: &str, count: usize) -> Result<Vec
 }
 
 /// A child that says these pieces, with reads and writes that fail.
-pub(crate) fn child(
-    alloc: Global,
-    says: Vec<Bytes>,
-    read_fails: &[u64],
-    write_fails: &[u64],
-) -> Result<MemChild, NoMemory> {
-    Ok(MemChild {
+pub(crate) fn child(says: Vec<Bytes>, read_fails: Vec<u64>, write_fails: Vec<u64>) -> MemChild {
+    MemChild {
         says,
-        read_fails: Vec::from_slice(alloc, read_fails)?,
-        write_fails: Vec::from_slice(alloc, write_fails)?,
-    })
+        read_fails,
+        write_fails,
+    }
 }
 
 /// A child that says this text at once.
 pub(crate) fn saying(alloc: Global, says: &str) -> Result<MemChild, NoMemory> {
     let says = pieces(alloc, says, usize::MAX)?;
-    child(alloc, says, &[], &[])
+    Ok(child(says, Vec::new(alloc), Vec::new(alloc)))
 }
 
 /// The desk of a call: its files, each with its text, and which of its calls fail.
@@ -101,14 +101,15 @@ pub(crate) struct Objects {
     pub(crate) out_fails: Vec<u64>,
 }
 
-/// The call with the words between bars.
-pub(crate) fn run<R: Threads + Wait + Sync>(
+// What a call returned, and what it wrote to out and to err.
+type Called = (Closing<MemPrograms, MemDesks>, MemSink, MemSink);
+
+fn called<R: Threads + Wait + Sync>(
     rt: &R,
     alloc: Global,
-    words: &str,
+    words: &[String],
     objects: Objects,
-) -> Result<Left, NoMemory> {
-    let words = words_of(alloc, words)?;
+) -> Called {
     let Objects {
         programs,
         desks,
@@ -121,32 +122,52 @@ pub(crate) fn run<R: Threads + Wait + Sync>(
     let mut err = MemSink::new(alloc, 7, Vec::new(alloc));
     let mut clock = MemClock::new(1_700_000_000_000_000);
     let closing = special(
-        rt,
-        alloc,
-        words.as_slice(),
-        programs,
-        desks,
-        &mut input,
-        &mut out,
-        &mut err,
-        &mut clock,
+        rt, alloc, words, programs, desks, &mut input, &mut out, &mut err, &mut clock,
     );
-    let mut left = Left {
+    (closing, out, err)
+}
+
+/// The call with the words between bars.
+pub(crate) fn run<R: Threads + Wait + Sync>(
+    rt: &R,
+    alloc: Global,
+    words: &str,
+    objects: Objects,
+) -> Result<Left, NoMemory> {
+    let words = words_of(alloc, words)?;
+    left_of(alloc, called(rt, alloc, words.as_slice(), objects))
+}
+
+fn left_of(alloc: Global, called: Called) -> Result<Left, NoMemory> {
+    let (closing, out, err) = called;
+    let out = String::from_str(alloc, shown(out.taken()))?;
+    let err = String::from_str(alloc, shown(err.taken()))?;
+    let journal = text_of(alloc, &closing.journal)?;
+    let wires = wires_of(alloc, &closing)?;
+    Ok(Left {
         status: closing.status,
-        out: String::from_str(alloc, shown(out.taken()))?,
-        err: String::from_str(alloc, shown(err.taken()))?,
-        journal: text_of(alloc, &closing.journal)?,
-        children: Vec::new(alloc),
-        written: String::new(alloc),
-        rest: String::new(alloc),
+        out,
+        err,
+        journal,
+        wires,
         tables: closing.tables,
-    };
+    })
+}
+
+fn wires_of(alloc: Global, closing: &Closing<MemPrograms, MemDesks>) -> Result<Wires, NoMemory> {
+    let mut children = Vec::new(alloc);
+    let mut written = String::new(alloc);
+    let mut rest = String::new(alloc);
     for wire in &closing.wires {
-        left.children.push(wire.child)?;
-        left.written.push_str(shown(wire.inlet.taken()))?;
-        left.rest.push_str(shown(wire.rest.view()))?;
+        children.push(wire.child)?;
+        written.push_str(shown(wire.inlet.taken()))?;
+        rest.push_str(shown(wire.rest.view()))?;
     }
-    Ok(left)
+    Ok(Wires {
+        children,
+        written,
+        rest,
+    })
 }
 
 /// The words between bars; none in an empty text.

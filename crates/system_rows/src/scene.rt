@@ -19,20 +19,44 @@ pub(crate) struct Scene {
     // Bytes a read; 0 for whole lines.
     bytes: usize,
     lines: usize,
-    // The starts that fail; a child's end counts as well.
-    start_fails: Vec<u64>,
-    read_fails: Vec<u64>,
-    write_fails: Vec<u64>,
-    out_fails: Vec<u64>,
-    // The files of desk 0, and its calls that fail.
+    // The calls that fail, each by its kind and its number.
+    faults: Vec<(Fault, u64)>,
+    // The files of desk 0, and those of the first worker's desk.
     files: Vec<(String, String)>,
-    desk_fails: Vec<u64>,
-    // Those of the first worker's desk.
     worker_files: Vec<(String, String)>,
-    worker_fails: Vec<u64>,
     input: String,
-    input_fails: Vec<u64>,
     left: Option<Left>,
+}
+
+// The kinds of calls that can fail. Among the starts the ends of children count as well.
+#[derive(Clone, Copy, PartialEq, Eq)]
+enum Fault {
+    Start,
+    Read,
+    Write,
+    Out,
+    Desk,
+    Worker,
+    Input,
+}
+
+static FAULTS: [(&str, Fault); 7] = [
+    ("nostart", Fault::Start),
+    ("readfault", Fault::Read),
+    ("writefault", Fault::Write),
+    ("outfault", Fault::Out),
+    ("deskfault", Fault::Desk),
+    ("workerfault", Fault::Worker),
+    ("inputfault", Fault::Input),
+];
+
+fn fault_of(word: &str) -> Option<Fault> {
+    for (name, fault) in FAULTS.iter() {
+        if *name == word {
+            return Some(*fault);
+        }
+    }
+    None
 }
 
 fn number(text: &str) -> u64 {
@@ -84,16 +108,10 @@ impl Scene {
             more: Vec::new(alloc),
             bytes: usize::MAX,
             lines: usize::MAX,
-            start_fails: Vec::new(alloc),
-            read_fails: Vec::new(alloc),
-            write_fails: Vec::new(alloc),
-            out_fails: Vec::new(alloc),
+            faults: Vec::new(alloc),
             files: Vec::new(alloc),
-            desk_fails: Vec::new(alloc),
             worker_files: Vec::new(alloc),
-            worker_fails: Vec::new(alloc),
             input: String::new(alloc),
-            input_fails: Vec::new(alloc),
             left: None,
         }
     }
@@ -105,31 +123,64 @@ impl Scene {
 
     /// Sets how the objects are: `says` begins another call, `then` another child of it.
     pub(crate) fn set(&mut self, alloc: Global, word: &str, rest: &str) -> Result<(), NoMemory> {
+        if let Some(fault) = fault_of(word) {
+            return self.add_fault(fault, number(rest));
+        }
+        match word {
+            "says" | "then" | "input" => self.set_text(alloc, word, written_out(alloc, rest)?),
+            "file" | "worker" => self.add_file(word, named_text(alloc, rest)?),
+            "fill" => self.fill(alloc, size(rest)),
+            _ => {
+                self.set_size(word, size(rest));
+                Ok(())
+            }
+        }
+    }
+
+    // Without a number the first start fails.
+    fn add_fault(&mut self, fault: Fault, number: u64) -> Result<(), NoMemory> {
+        let number = match fault {
+            Fault::Start => number.max(1),
+            _ => number,
+        };
+        self.faults.push((fault, number))?;
+        Ok(())
+    }
+
+    fn set_text(&mut self, alloc: Global, word: &str, text: String) -> Result<(), NoMemory> {
         match word {
             "says" => {
                 *self = Scene::new(alloc);
-                self.says = written_out(alloc, rest)?;
+                self.says = text;
+                Ok(())
             }
-            "fill" => self.fill(alloc, size(rest))?,
-            "bytes" => self.bytes = size(rest),
-            "lines" => {
-                self.bytes = 0;
-                self.lines = size(rest);
+            "then" => {
+                self.more.push(text)?;
+                Ok(())
             }
-            "then" => self.more.push(written_out(alloc, rest)?)?,
-            "nostart" => self.start_fails.push(number(rest).max(1))?,
-            "readfault" => self.read_fails.push(number(rest))?,
-            "writefault" => self.write_fails.push(number(rest))?,
-            "outfault" => self.out_fails.push(number(rest))?,
-            "deskfault" => self.desk_fails.push(number(rest))?,
-            "file" => self.files.push(named_text(alloc, rest)?)?,
-            "worker" => self.worker_files.push(named_text(alloc, rest)?)?,
-            "workerfault" => self.worker_fails.push(number(rest))?,
-            "input" => self.input = written_out(alloc, rest)?,
-            "inputfault" => self.input_fails.push(number(rest))?,
-            _ => {}
+            _ => {
+                self.input = text;
+                Ok(())
+            }
         }
+    }
+
+    fn add_file(&mut self, word: &str, file: (String, String)) -> Result<(), NoMemory> {
+        if word == "file" {
+            self.files.push(file)?;
+            return Ok(());
+        }
+        self.worker_files.push(file)?;
         Ok(())
+    }
+
+    fn set_size(&mut self, word: &str, size: usize) {
+        if word == "bytes" {
+            self.bytes = size;
+        } else if word == "lines" {
+            self.bytes = 0;
+            self.lines = size;
+        }
     }
 
     // Puts so many letters for the mark in what the child says.
@@ -147,17 +198,41 @@ impl Scene {
         words: &str,
     ) -> Result<String, NoMemory> {
         let words = written_out(alloc, words)?;
-        let objects = Objects {
-            programs: self.programs(alloc)?,
-            desks: self.desks(alloc)?,
-            given: memory::pieces(alloc, self.input.as_str(), 4096)?,
-            input_fails: Vec::from_slice(alloc, &self.input_fails)?,
-            out_fails: Vec::from_slice(alloc, &self.out_fails)?,
-        };
+        let objects = self.objects(alloc)?;
         let left = memory::run(rt, alloc, words.as_str(), objects)?;
+        self.keep(alloc, left)
+    }
+
+    fn objects(&self, alloc: Global) -> Result<Objects, NoMemory> {
+        let given = memory::pieces(alloc, self.input.as_str(), 4096)?;
+        let input_fails = self.fails(alloc, Fault::Input)?;
+        let out_fails = self.fails(alloc, Fault::Out)?;
+        let desks = self.desks(alloc)?;
+        Ok(Objects {
+            programs: self.programs(alloc)?,
+            desks,
+            given,
+            input_fails,
+            out_fails,
+        })
+    }
+
+    // What is printed of what a call left, which is kept.
+    fn keep(&mut self, alloc: Global, left: Left) -> Result<String, NoMemory> {
         let said = said(alloc, &left)?;
         self.left = Some(left);
         Ok(said)
+    }
+
+    // The numbers of the calls of this kind that fail.
+    fn fails(&self, alloc: Global, kind: Fault) -> Result<Vec<u64>, NoMemory> {
+        let mut list = Vec::new(alloc);
+        for (fault, number) in &self.faults {
+            if *fault == kind {
+                list.push(*number)?;
+            }
+        }
+        Ok(list)
     }
 
     /// Audits the file of that name as the last call left it on desk 0: its text is the input.
@@ -179,8 +254,10 @@ impl Scene {
     // Desk 0 and the first worker's; those behind them have no files.
     fn desks(&self, alloc: Global) -> Result<MemDesks, NoMemory> {
         let mut desks = Vec::new(alloc);
-        desks.push(memory::desk(alloc, &self.files, &self.desk_fails)?)?;
-        desks.push(memory::desk(alloc, &self.worker_files, &self.worker_fails)?)?;
+        let fails = self.fails(alloc, Fault::Desk)?;
+        desks.push(memory::desk(alloc, &self.files, &fails)?)?;
+        let fails = self.fails(alloc, Fault::Worker)?;
+        desks.push(memory::desk(alloc, &self.worker_files, &fails)?)?;
         Ok(MemDesks::new(alloc, desks))
     }
 
@@ -190,7 +267,9 @@ impl Scene {
         } else {
             memory::pieces(alloc, self.says.as_str(), self.bytes)?
         };
-        memory::child(alloc, says, &self.read_fails, &self.write_fails)
+        let read_fails = self.fails(alloc, Fault::Read)?;
+        let write_fails = self.fails(alloc, Fault::Write)?;
+        Ok(memory::child(says, read_fails, write_fails))
     }
 
     fn programs(&self, alloc: Global) -> Result<MemPrograms, NoMemory> {
@@ -199,7 +278,7 @@ impl Scene {
         for says in &self.more {
             children.push(memory::saying(alloc, says.as_str())?)?;
         }
-        let fails = Vec::from_slice(alloc, &self.start_fails)?;
+        let fails = self.fails(alloc, Fault::Start)?;
         Ok(MemPrograms::new(alloc, children, fails))
     }
 }
@@ -209,7 +288,7 @@ fn said(alloc: Global, left: &Left) -> Result<String, NoMemory> {
     let status = words::printed(alloc, &left.status)?;
     let out = words::quoted(alloc, left.out.as_str())?;
     let err = words::quoted(alloc, left.err.as_str())?;
-    let children = words::named(alloc, &left.children.as_slice())?;
+    let children = words::named(alloc, &left.wires.children.as_slice())?;
     let list = [
         status.as_str(),
         out.as_str(),
