@@ -66,7 +66,7 @@ pub record NotStarted (program : List ℕ) (old new : List Entry) (desks desks' 
   pub wires_are : wires' ≡ wires
   pub asked : MayHaveAsked program before after
 
--- No memory was found to start a child: of slot 0, and nothing was done; or of its pool, and those that were ready did tasks.
+-- No memory was found to start a child: of slot 0, and nothing was done; or of its pool, and the children that were started have ended.
 abbrev pub LacksMemory : Opening → Setup → ℕ → Bool → List ℕ → List Entry → List Entry → List DeskTells → List DeskTells → ProgramsValue → ProgramsValue → List WireValue → List WireValue → Type 0
 LacksMemory o setup limit offer program old new desks desks' before after wires wires' =
     NotStarted program old new desks desks' before after wires wires'
