@@ -1,26 +1,30 @@
 """What a scripted remote is written with.
 
-`say` and `hear` are one line of the wire each; `greet` is the usual beginning.
-`play` answers by cues: it says the lines of the first cue whose requests were
-all heard, and goes on with the next one.
+`say` and `hear` are one line of the wire each, `greet` is the usual beginning, and
+`serve` answers requests by a table. A child ends before the time of its case is
+over, so that the case can tell what came.
 """
 
 import os
+import signal
 import sys
 import time
 
+signal.alarm(int(float(os.environ.get("CASE_LIMIT", "30")) * 0.7))
 log = None
 
 
 def log_as(name):
-    """Logs what is heard as `< LINE` and what is said as `> LINE`, in the first NAME.N.log that isn't there yet."""
+    """Logs what is heard as `< LINE` and what is said as `> LINE`, in the first NAME.N.log that isn't there; gives N."""
     global log
-    number = 1
+    number = 0
     while log is None:
+        number += 1
         try:
             log = os.open(f"{name}.{number}.log", os.O_WRONLY | os.O_CREAT | os.O_EXCL | os.O_APPEND, 0o600)
         except FileExistsError:
-            number += 1
+            pass
+    return number
 
 
 def note(mark, data):
@@ -62,15 +66,14 @@ def ask(line):
     return hear().partition(" ")[2]
 
 
-def greet(extensions=""):
-    """Gets ready. With ASYNC the lines behind the extensions have tags."""
+def greet(extensions="", ready="PREPARE-SUCCESS"):
+    """Gets ready. With the extension ASYNC the lines after it have tags; with None the extensions are unknown."""
     say("VERSION 1")
     require_start(hear(), "EXTENSIONS")
-    say(f"EXTENSIONS {extensions}".strip())
-    line = hear()
-    tag, line = untagged(line)
+    say("UNSUPPORTED-REQUEST" if extensions is None else f"EXTENSIONS {extensions}".strip())
+    tag, line = untagged(hear())
     require_start(line, "PREPARE")
-    say(tag + "PREPARE-SUCCESS")
+    say(tag + ready)
 
 
 def require_start(line, word):
@@ -94,39 +97,43 @@ def requests():
         yield tag, line.split(" ")
 
 
-def play(cues):
-    """Plays cues in their order.
-
-    A cue is the messages that must be heard, in any order, and the says: each a
-    number, of the message whose tag it takes, and a text.
-    """
-    for when, says in cues:
-        tags = {}
-        while len(tags) < len(when):
-            tag, line = untagged(hear())
-            for number, message in enumerate(when):
-                if number not in tags and line == message:
-                    tags[number] = tag
-                    break
-        for number, text in says:
-            say(tags.get(number, "") + text)
+def serve(answers):
+    """Answers each request by its text; ends at one that has no answer there."""
+    for tag, words in requests():
+        answer = answers.get(" ".join(words))
+        if answer is None:
+            sys.exit(0)
+        say(tag + answer)
 
 
-def meet(folder, count, name=None):
+def hear_all(*messages):
+    """Hears each of the messages, in any order, and gives their tags in the order of the messages."""
+    tags = [None] * len(messages)
+    while None in tags:
+        tag, line = untagged(hear())
+        left = [at for at, message in enumerate(messages) if tags[at] is None and message == line]
+        if not left:
+            print(f"child: {line!r} came, which is none of {messages!r}", file=sys.stderr)
+            sys.exit(1)
+        tags[left[0]] = tag
+    return tags
+
+
+def meet(folder, count):
     """Waits until as many as `count` have come to the folder."""
-    name = name or f"{os.getpid()}"
     os.makedirs(folder, exist_ok=True)
-    open(os.path.join(folder, name), "w").close()
-    while len(os.listdir(folder)) < count:
-        time.sleep(0.002)
+    number = 0
+    while True:
+        number += 1
+        try:
+            os.close(os.open(os.path.join(folder, str(number)), os.O_CREAT | os.O_EXCL))
+            break
+        except FileExistsError:
+            pass
+    wait_for(os.path.join(folder, str(count)))
 
 
 def wait_for(path):
     """Waits until the file is there."""
     while not os.path.exists(path):
         time.sleep(0.002)
-
-
-def end_silently():
-    """Ends without another word."""
-    os._exit(0)

@@ -212,6 +212,11 @@ class Room:
             head += f"log_as({self.path(name)!r})\n"
         return self.script(name, head + body)
 
+    def children(self, name, *bodies):
+        """Makes a remote whose first start plays the first body, and so on; further starts end at once. All are logged."""
+        body = f"number = log_as({self.path(name)!r})\nbodies = {list(bodies)!r}\n"
+        return self.child(name, body + "if number <= len(bodies):\n    exec(bodies[number - 1])\n")
+
     def run(self, words, input=b"", env=None):
         """Runs a program in the room."""
         return run(words, input=input, env=env, cwd=self.folder)

@@ -54,6 +54,35 @@ class Journal(NamedTuple):
         """The lines that the child said, as far as they were fed."""
         return [entry.line for entry in self.of("got") if entry.child == child]
 
+    def most_busy(self):
+        """How many tasks were claimed and not yet answered, at most."""
+        busy = most = 0
+        for entry in self.of("claim", "answer"):
+            busy += 1 if entry.word == "claim" else -1
+            most = max(most, busy)
+        return most
+
+    def odd_tasks(self):
+        """The tasks that were not claimed once and then answered once by the number that claimed them."""
+        turns = {str(task): [] for task in range(1, len(self.tasks) + 1)}
+        for entry in self.of("claim", "answer"):
+            turns[entry.parts[0]].append((entry.word, entry.by))
+        return [
+            task for task, turn in turns.items()
+            if [word for word, _ in turn] != ["claim", "answer"] or turn[0][1] != turn[1][1]
+        ]
+
+    def waits(self, first, second):
+        """Whether the second task was claimed after the answer of the first."""
+        answered = [entry.place for entry in self.of("answer") if entry.parts[0] == str(first)]
+        claimed = [entry.place for entry in self.of("claim") if entry.parts[0] == str(second)]
+        return answered[0] < claimed[0]
+
+    def slots_before_claims(self):
+        """The slots of the starts before the first claim."""
+        first = self.of("claim")[0].place
+        return [int(entry.parts[1]) for entry in self.of("start") if entry.place < first]
+
 
 def entry_of(place, text):
     by, word, *rest = text.split(" ", 2)

@@ -1,7 +1,7 @@
 #!/usr/bin/env python3
 """Runs the tests of the built programs.
 
-    python3 tests/run.py [--list] [--times] [--jobs N] [NAME..]
+    python3 tests/run.py [--list] [--times] [--jobs N] [--patience N] [NAME..]
 
 A NAME chooses the cases whose file or name has it; without one all run. Each
 case runs in a process group of its own, which is ended when the case has ended
@@ -101,6 +101,7 @@ class Running:
             os.setpgid(0, 0)
             signal.signal(signal.SIGTERM, signal.SIG_DFL)
             signal.signal(signal.SIGINT, signal.SIG_DFL)
+            os.environ["CASE_LIMIT"] = str(self.case.limit)
             nothing = os.open(os.devnull, os.O_RDONLY)
             prints = os.open(self.folder / "prints", os.O_WRONLY | os.O_CREAT, 0o600)
             os.dup2(nothing, 0)
@@ -221,9 +222,12 @@ def main():
     parser.add_argument("--list", action="store_true", help="print the cases' names alone")
     parser.add_argument("--times", action="store_true", help="print how long each case took")
     parser.add_argument("--jobs", type=int, default=len(os.sched_getaffinity(0)), help="cases side by side")
+    parser.add_argument("--patience", type=float, default=1, help="how much longer cases may take, as with slow builds")
     parser.add_argument("names", nargs="*", metavar="NAME", help="run the cases whose file or name has it")
     words = parser.parse_args()
-    cases = chosen(load_cases(), words.names)
+    cases = [
+        case._replace(limit=case.limit * words.patience) for case in chosen(load_cases(), words.names)
+    ]
     if words.list:
         print("\n".join(case.name for case in cases))
         return 0
