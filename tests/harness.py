@@ -5,9 +5,14 @@ a function under `@table(ROWS)`, called once for each row; `@limits` gives a cas
 another time limit, or says that it mostly waits.
 """
 
+import fcntl
 import os
+import shutil
+import signal
 import subprocess
 import sys
+import threading
+import time
 from pathlib import Path
 from typing import Callable, NamedTuple
 
@@ -216,6 +221,30 @@ class Room:
         """Makes a remote whose first start plays the first body, and so on; further starts end at once. All are logged."""
         body = f"number = log_as({self.path(name)!r})\nbodies = {list(bodies)!r}\n"
         return self.child(name, body + "if number <= len(bodies):\n    exec(bodies[number - 1])\n")
+
+    def fail_a_start(self, name):
+        """Makes NAME.fails: the first start of it fails, and from then on the program NAME is there in its place.
+
+        The file is open for writing, so that it can't be started. A lease on it holds a start up till the program is back,
+        so that the next start finds it.
+        """
+        fails = self.path(name + ".fails")
+        shutil.copy(self.path(name), fails)
+        shutil.copy(self.path(name), self.path(name + ".good"))
+        held = os.open(fails, os.O_RDWR)
+        signal.signal(signal.SIGIO, signal.SIG_IGN)
+        try:
+            fcntl.fcntl(held, fcntl.F_SETLEASE, fcntl.F_WRLCK)
+        except OSError as why:
+            skip(f"no lease on a file here: {why}")
+
+        def let_go():
+            while fcntl.fcntl(held, fcntl.F_GETLEASE) == fcntl.F_WRLCK:
+                time.sleep(0.001)
+            os.rename(self.path(name + ".good"), self.path(name))
+            fcntl.fcntl(held, fcntl.F_SETLEASE, fcntl.F_UNLCK)
+
+        threading.Thread(target=let_go, daemon=True).start()
 
     def run(self, words, input=b"", env=None):
         """Runs a program in the room."""

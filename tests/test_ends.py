@@ -63,10 +63,12 @@ def case_a_child_dies_with_eight_jobs_open_and_no_start_is_left(room):
     expect_run(room, "./remote", checks(*EIGHT, "i", "j"), out, jobs=8, busy=8)
 
 
-def case_a_child_dies_with_eight_jobs_open_and_the_next_start_fails(room):
-    room.children("remote", "import os\nos.unlink(sys.argv[0])\n" + DIES_OF_EIGHT)
-    out = EIGHT_ENDED + "9 startfault\n10 nochild\n"
-    expect_run(room, "./remote", checks(*EIGHT, "i", "j"), out, jobs=8, starts=2, busy=8)
+def case_a_child_dies_with_eight_jobs_open_then_a_start_fails_and_then_a_child_does_the_rest(room):
+    room.children("remote", 'os.rename("remote.fails", "remote")\n' + DIES_OF_EIGHT,
+                  f"greet('ASYNC')\nserve({check_answers(j='SUCCESS')!r})\n")
+    room.fail_a_start("remote")
+    out = EIGHT_ENDED + "9 startfault\n10 present\n"
+    expect_run(room, "./remote", checks(*EIGHT, "i", "j"), out, jobs=8, starts=3, children=2, busy=8)
 
 
 def case_a_child_that_ends_in_its_greeting_costs_a_task(room):

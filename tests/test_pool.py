@@ -1,5 +1,7 @@
 """Tasks side by side over a pool: several children that take no tags, each started in a slot of its own."""
 
+import os
+
 from harness import expect, limits, require, table
 from runs import check_answers, checks, expect_run
 from test_overlap import many_checks
@@ -32,8 +34,10 @@ DROPS = f"""
 greet(None)
 serve({ANSWERS | {"REMOVE WORM--a": "REMOVE-SUCCESS WORM--a", "REMOVE WORM--b": "REMOVE-FAILURE WORM--b no line"}!r})
 """
-# The next start fails.
-REMOVES_ITSELF = "import os\nos.unlink(sys.argv[0])\n"
+# The starts after it fail.
+REMOVES_ITSELF = "os.unlink(sys.argv[0])\n"
+# The next start fails, where a room makes one fail.
+FAILS_NEXT = 'os.rename("remote.fails", "remote")\n'
 
 
 @table([
@@ -66,19 +70,26 @@ def a_child_that_is_not_ready_stays_out_and_costs_no_task(room, jobs, bodies, st
     expect_run(room, "./remote", THREE, "1 present\n2 absent\n3 present\n", jobs=jobs, children=started)
 
 
-def case_two_ways_not_to_get_ready_and_starts_that_fail_beside_a_child_that_is_ready(room):
-    # the third child, which ends in its greeting, is the last that is started
-    room.children("remote", DROPS, REFUSED, REMOVES_ITSELF + BROKEN)
+def case_each_way_not_to_get_ready_and_one_child_more_that_is_ready(room):
+    room.children("remote", DROPS, FAILS_NEXT + REFUSED, BROKEN, DROPS)
+    room.fail_a_start("remote")
     tasks = THREE + "drop WORM--a\ndrop WORM--b\n"
     out = "1 present\n2 absent\n3 present\n4 dropped\n5 failed no line\n"
-    journal = expect_run(room, "./remote", tasks, out, jobs=8, children=3)
-    expect([entry.parts for entry in journal.of("nostart")], [["3"], ["4"]], "the slots whose start failed")
+    journal = expect_run(room, "./remote", tasks, out, jobs=8, children=4)
+    expect([entry.parts for entry in journal.of("nostart")], [["2"]], "the slots whose start failed")
 
 
 def case_a_first_child_that_cannot_get_ready_costs_a_task_and_then_two_are_ready(room):
     room.children("remote", REFUSED, WHOLE, WHOLE)
     out = "1 notprepared no disk\n2 absent\n3 present\n"
     expect_run(room, "./remote", THREE, out, jobs=2, starts=2, children=3)
+
+
+def case_a_first_start_that_fails_costs_a_task_and_then_two_give_children(room):
+    room.children("remote", OLD, WHOLE)
+    room.fail_a_start("remote")
+    os.rename(room.path("remote.fails"), room.path("remote"))
+    expect_run(room, "./remote", THREE, "1 startfault\n2 absent\n3 present\n", jobs=2, starts=2, children=2)
 
 
 LAST_TWO = f"greet()\nserve({check_answers(c='FAILURE', d='SUCCESS')!r})\n"
