@@ -97,9 +97,9 @@ def skip(why):
 
 
 def shown(value):
-    text = value if isinstance(value, str) else repr(value)
-    if isinstance(value, str) and (value != value.strip() or not value.isprintable()):
-        text = repr(value) if "\n" not in value.rstrip("\n") else value
+    """A value for a reader: texts of one plain line as they are, and all else as Python writes it."""
+    is_plain = isinstance(value, str) and value.isprintable() and value == value.strip() != ""
+    text = value if is_plain else repr(value)
     return text if len(text) <= SHOWN else f"{text[:SHOWN]}.. ({len(text)} characters)"
 
 

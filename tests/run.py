@@ -130,8 +130,8 @@ class Running:
         try:
             state, text = json.loads(self.said)
         except ValueError:
-            taken = time.monotonic() - self.began
-            state, text = "failed", f"no end within {self.case.limit} s (stopped after {taken:.1f} s)"
+            is_late = time.monotonic() >= self.deadline
+            state, text = "failed", f"no end within {self.case.limit} s" if is_late else "it ended without a word"
         try:
             prints = (self.folder / "prints").read_text(errors="backslashreplace")
         except OSError:
