@@ -72,6 +72,16 @@ def case_a_store_that_fails_leaves_nothing_where_contents_are_put_together(room)
     expect(contents(directory), {}, "the contents")
 
 
+def case_what_was_left_a_day_ago_is_removed_and_what_is_new_is_not(room):
+    directory = room.mkdir("directory")
+    now = time.time()
+    for name, hours in [("old", 25), ("new", 23)]:
+        path = room.write(f"directory/tmp/{name}", "left")
+        os.utime(path, (now - hours * 3600, now - hours * 3600))
+    Kit(directory).close()
+    expect(unfinished(directory), ["new"], "what is left")
+
+
 def run_words(room, directory, number=0):
     """The words of a run over the folder, with a kept file of its own for each number."""
     kept = room.write(f"kept.{number}", f"annex-keep 1\nconfig directory {directory}\n")
