@@ -149,7 +149,7 @@ def case_a_journal_file_that_cannot_be_made_is_told_and_the_kept_file_was_writte
     expect(room.text("keep"), "annex-keep 1\nstate WORM--a there\n", "the kept file")
 
 
-# The kept file has 36 bytes; the lines of the journal end behind 16, 58, 70, 82 bytes.
+# The kept file has 33 bytes; the lines of the journal end behind 16, 58, 70, 82 bytes.
 @table([("nothing fits behind the kept file", 40, 16), ("three lines fit", 75, 70), ("four lines fit", 82, 82)])
 def a_journal_file_that_cannot_be_added_to_has_its_first_lines(room, size, whole):
     furnish(room)
