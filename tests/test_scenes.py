@@ -3,7 +3,7 @@
 import scenes
 from harness import table
 
-FILES = ["check.txt", "info.txt", "init.txt", "run.txt", "kept.txt", "chunks.txt", "audit_words.txt"]
+FILES = ["check.txt", "info.txt", "init.txt", "run.txt", "kept.txt", "chunks.txt", "audit_words.txt", "asides.txt", "messages.txt"]
 
 
 @table([(f"{file}: {heading}", rows) for file in FILES for heading, rows in scenes.sections(file)])
