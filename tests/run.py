@@ -212,6 +212,9 @@ class Runner:
 
 
 def stop(number, _):
+    """Ends the run, and with it the cases; a second signal changes nothing."""
+    signal.signal(signal.SIGTERM, signal.SIG_IGN)
+    signal.signal(signal.SIGINT, signal.SIG_IGN)
     raise SystemExit(128 + number)
 
 
