@@ -141,14 +141,12 @@ class Running:
 
 
 def remove(folder):
-    """Removes the folder, also where a case took rights of it away."""
-    def grant(function, path, _):
-        os.chmod(os.path.dirname(path), 0o700)
-        if os.path.isdir(path) and not os.path.islink(path):
-            os.chmod(path, 0o700)
-        function(path)
-
-    shutil.rmtree(folder, onerror=grant)
+    """Removes the folder, also where a case took rights of folders in it away."""
+    for path, names, _ in os.walk(folder):
+        for inner in (os.path.join(path, name) for name in names):
+            if not os.path.islink(inner):
+                os.chmod(inner, 0o700)
+    shutil.rmtree(folder)
 
 
 class Runner:
@@ -214,6 +212,9 @@ class Runner:
 
 
 def stop(number, _):
+    """Ends the run, and with it the cases; a second signal changes nothing."""
+    signal.signal(signal.SIGTERM, signal.SIG_IGN)
+    signal.signal(signal.SIGINT, signal.SIG_IGN)
     raise SystemExit(128 + number)
 
 

@@ -7,7 +7,7 @@ import time
 from harness import ANNEX_REMOTE_DIR, SPECIAL, UUID, expect, finish, limits, require, run, skip, start, table
 from kits import Kit, contents, unfinished
 
-SMALL, LARGE = 200_000, 20_000_000
+SMALL, MIDDLE, LARGE = 200_000, 4_000_000, 20_000_000
 
 
 def piece(number, size):
@@ -23,14 +23,14 @@ def read(path):
 
 @limits(60)
 @table([
-    ("2 processes, one key, 0.2 MB", 2, True, SMALL, 70),
+    ("2 processes, one key, 0.2 MB", 2, True, SMALL, 80),
     ("8 processes, one key, 0.2 MB", 8, True, SMALL, 50),
     ("2 processes, different keys, 0.2 MB", 2, False, SMALL, 40),
-    ("8 processes, different keys, 0.2 MB", 8, False, SMALL, 20),
-    ("2 processes, one key, 20 MB", 2, True, LARGE, 8),
-    ("8 processes, one key, 20 MB", 8, True, LARGE, 4),
-    ("2 processes, different keys, 20 MB", 2, False, LARGE, 6),
-    ("8 processes, different keys, 20 MB", 8, False, LARGE, 2),
+    ("8 processes, different keys, 0.2 MB", 8, False, SMALL, 17),
+    ("2 processes, one key, 20 MB", 2, True, LARGE, 6),
+    ("8 processes, one key, 20 MB", 8, True, LARGE, 2),
+    ("2 processes, different keys, 20 MB", 2, False, LARGE, 4),
+    ("8 processes, different keys, 20 MB", 8, False, LARGE, 1),
 ])
 def processes_that_store_at_once_damage_nothing(room, processes, is_one_key, size, rounds):
     directory = room.mkdir("directory")
@@ -91,7 +91,7 @@ def run_words(room, directory, number=0):
 def case_a_key_twice_in_a_run_of_two_jobs_holds_the_second_content(room):
     directory = room.mkdir("directory")
     one, two = room.write("one", piece(1, SMALL)), room.write("two", piece(2, SMALL))
-    for turn in range(5):
+    for turn in range(3):
         tasks = f"store WORM--a{turn} {one}\nstore WORM--a{turn} {two}\n"
         done = run([*run_words(room, directory), "--jobs", "2"], input=tasks)
         expect(done, (0, "1 stored\n2 stored\n", ""))
@@ -133,7 +133,7 @@ def processes_of(program, group):
 @limits(60)
 def case_a_run_that_is_killed_and_started_again_at_once_stores_the_whole_content(room):
     directory = room.mkdir("directory")
-    content = piece(3, LARGE)
+    content = piece(3, MIDDLE)
     file = room.write("content", content)
     program = os.path.realpath(ANNEX_REMOTE_DIR)
     damaged = []
