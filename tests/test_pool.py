@@ -152,6 +152,7 @@ for _, words in requests():
     expect_run(room, "./remote", tasks, out, jobs=jobs, children=jobs, busy=jobs)
 
 
+@limits(60)
 @table([(f"{tasks} tasks by {children} children", children, tasks) for children, tasks in [(2, 20), (8, 100)]])
 def many_tasks_are_answered_once_by_many_children(room, children, tasks):
     lines, answers, out = many_checks(tasks)
