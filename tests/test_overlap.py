@@ -68,6 +68,7 @@ def many_checks(count):
     return tasks, answers, out
 
 
+@limits(60)
 @table([(f"{tasks} tasks by {jobs} workers", jobs, tasks)
         for jobs, tasks in [(1, 3), (2, 8), (8, 2), (8, 50), (64, 1), (64, 5), (64, 500)]])
 def each_task_is_answered_once(room, jobs, tasks):
@@ -76,6 +77,7 @@ def each_task_is_answered_once(room, jobs, tasks):
     expect_run(room, "./remote", lines, out, jobs=jobs)
 
 
+@limits(60)
 @table([(f"{jobs} workers", jobs) for jobs in (2, 8, 64)])
 def as_many_tasks_are_open_at_once_as_there_are_workers(room, jobs):
     lines, answers, out = many_checks(jobs)

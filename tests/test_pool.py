@@ -153,11 +153,37 @@ for _, words in requests():
 
 
 @limits(60)
-@table([(f"{tasks} tasks by {children} children", children, tasks) for children, tasks in [(2, 20), (8, 100), (64, 100)]])
+@table([(f"{tasks} tasks by {children} children", children, tasks) for children, tasks in [(2, 20), (8, 100)]])
 def many_tasks_are_answered_once_by_many_children(room, children, tasks):
     lines, answers, out = many_checks(tasks)
     room.children("remote", *[f"greet()\nserve({answers!r})\n"] * children)
     expect_run(room, "./remote", lines, out, jobs=children, children=children)
+
+
+# It answers as many_checks has it, and is quick to start.
+QUICK = """
+echo "VERSION 1"
+while IFS= read -r line; do
+  case "$line" in
+    EXTENSIONS*) echo EXTENSIONS ;;
+    PREPARE) echo PREPARE-SUCCESS ;;
+    *)
+      number=${line#CHECKPRESENT WORM--}
+      case $((number % 3)) in
+        0) echo "CHECKPRESENT-SUCCESS WORM--$number" ;;
+        1) echo "CHECKPRESENT-FAILURE WORM--$number" ;;
+        2) echo "CHECKPRESENT-UNKNOWN WORM--$number why" ;;
+      esac ;;
+  esac
+done
+"""
+
+
+@limits(60)
+def case_100_tasks_are_answered_once_by_64_children(room):
+    lines, _, out = many_checks(100)
+    room.script("remote", QUICK)
+    expect_run(room, "./remote", lines, out, jobs=64, children=64)
 
 
 def case_all_children_of_two_pools_end_one_by_one(room):

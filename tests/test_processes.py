@@ -2,12 +2,14 @@
 
 import os
 import shutil
+import signal
+import subprocess
 import time
 
 from harness import ANNEX_REMOTE_DIR, SPECIAL, UUID, expect, finish, limits, require, run, skip, start, table
 from kits import Kit, contents, unfinished
 
-SMALL, MIDDLE, LARGE = 200_000, 4_000_000, 20_000_000
+SMALL, MIDDLE, LARGE = 200_000, 5_000_000, 20_000_000
 
 
 def piece(number, size):
@@ -82,10 +84,10 @@ def case_what_was_left_a_day_ago_is_removed_and_what_is_new_is_not(room):
     expect(unfinished(directory), ["new"], "what is left")
 
 
-def run_words(room, directory, number=0):
+def run_words(room, directory, program=ANNEX_REMOTE_DIR, number=0):
     """The words of a run over the folder, with a kept file of its own for each number."""
     kept = room.write(f"kept.{number}", f"annex-keep 1\nconfig directory {directory}\n")
-    return [SPECIAL, "run", "--program", ANNEX_REMOTE_DIR, "--uuid", UUID, "--work", room.path(), "--keep", kept]
+    return [SPECIAL, "run", "--program", program, "--uuid", UUID, "--work", room.path(), "--keep", kept]
 
 
 def case_a_key_twice_in_a_run_of_two_jobs_holds_the_second_content(room):
@@ -106,7 +108,7 @@ def case_two_runs_of_the_same_keys_at_once_store_each_of_them_whole(room):
     keys = [f"WORM--k{number}" for number in range(25)]
     files = [room.write(f"content {number}", piece(number, SMALL)) for number in range(25)]
     tasks = "".join(f"store {key} {file}\n" for key, file in zip(keys, files))
-    words = [[*run_words(room, directory, number), "--jobs", "4"] for number in range(2)]
+    words = [[*run_words(room, directory, number=number), "--jobs", "4"] for number in range(2)]
     processes = [start(one) for one in words]
     for process in processes:
         process.stdin.write(tasks.encode())
@@ -118,48 +120,96 @@ def case_two_runs_of_the_same_keys_at_once_store_each_of_them_whole(room):
     expect(damaged, [], "the damaged keys")
 
 
-def processes_of(program, group):
-    """The processes of the group that run the program."""
-    found = []
-    for name in os.listdir("/proc"):
+def begin_and_kill(room, task, directory, is_stopped):
+    """Kills a run while its remote puts a content together, and gives the remote, which goes on or is stopped.
+
+    None where the remote was too quick.
+    """
+    left = unfinished(directory)
+    room.write("pid")
+    killed = start(run_words(room, directory, room.path("slow")), stdout=subprocess.DEVNULL, cwd=room.path())
+    killed.stdin.write(task.encode())
+    killed.stdin.close()
+    while unfinished(directory) == left and killed.poll() is None:
+        pass
+    remote = int(room.text("pid"))
+    if is_stopped:
+        send(remote, signal.SIGSTOP)
+    is_begun = unfinished(directory) != left
+    killed.kill()
+    killed.wait()
+    if is_begun:
+        return remote
+    go_on_to_end(remote)
+    return None
+
+
+def sizes_of_unfinished(directory):
+    """How long the files are that are being put together, as far as they are still there."""
+    sizes = {}
+    for name in unfinished(directory):
         try:
-            if name.isdigit() and os.getpgid(int(name)) == group and os.readlink(f"/proc/{name}/exe") == program:
-                found.append(int(name))
-        except OSError:
-            pass  # it has ended
-    return found
+            sizes[name] = os.path.getsize(os.path.join(directory, "tmp", name))
+        except FileNotFoundError:
+            pass
+    return sizes
+
+
+def send(process, number):
+    """Sends the signal to a process, which may have ended."""
+    try:
+        os.kill(process, number)
+    except ProcessLookupError:
+        pass
+
+
+def go_on_to_end(process):
+    """Lets a process go on that may be stopped and is no child of this one, and waits until it has ended."""
+    send(process, signal.SIGCONT)
+    while True:
+        try:
+            with open(f"/proc/{process}/stat") as file:
+                if file.read().rpartition(")")[2].split()[0] == "Z":
+                    return
+        except FileNotFoundError:
+            return
+        time.sleep(0.002)
 
 
 @limits(60)
 def case_a_run_that_is_killed_and_started_again_at_once_stores_the_whole_content(room):
+    room.script("slow", f"echo $$ >pid\nexec {ANNEX_REMOTE_DIR}\n")
     directory = room.mkdir("directory")
     content = piece(3, MIDDLE)
     file = room.write("content", content)
-    program = os.path.realpath(ANNEX_REMOTE_DIR)
-    damaged = []
-    for turn in range(25):
+    damaged, turn = [], 0
+    while turn < 25:
         key = f"WORM--t{turn}"
         task = f"store {key} {file}\n"
-        left = set(unfinished(directory))
-        killed = start(run_words(room, directory))
-        killed.stdin.write(task.encode())
-        killed.stdin.close()
-        # it is killed when its remote has begun to put the content together, and the remote goes on alone
-        while set(unfinished(directory)) == left and killed.poll() is None:
-            time.sleep(0.0005)
-        killed.kill()
-        done = run(run_words(room, directory, 1), input=task)
+        # the remote of the killed run goes on at once, or when the next has begun its store, or after it
+        when = ["at once", "beside it", "beside it", "beside it", "after it"][turn % 5]
+        remote = begin_and_kill(room, task, directory, when != "at once")
+        if remote is None:
+            continue
+        sizes = sizes_of_unfinished(directory)
+        again = start(run_words(room, directory, number=1))
+        again.stdin.write(task.encode())
+        again.stdin.close()
+        again.stdin = None
+        if when == "beside it":
+            while sizes_of_unfinished(directory) == sizes and again.poll() is None:
+                pass
+            send(remote, signal.SIGCONT)
+        done = finish(again)
         expect(done, (0, "1 stored\n", ""), f"what the second run of round {turn} says")
         is_whole = read(contents(directory)[key]) == content
-        while processes_of(program, os.getpgid(0)):
-            time.sleep(0.002)
+        go_on_to_end(remote)
         if not is_whole or read(contents(directory)[key]) != content:
             damaged.append(turn)
-        killed.wait()
-        killed.stdout.close()
-        killed.stderr.close()
         os.unlink(contents(directory)[key])
+        turn += 1
     expect(damaged, [], "the rounds that left a damaged content")
+    expect(unfinished(directory), [], "what is left of contents that were put together")
 
 
 # Two commands with one kept file.

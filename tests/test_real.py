@@ -1,6 +1,6 @@
 """`special` over small real programs."""
 
-from harness import UUID, expect, table
+from harness import UUID, expect, limits, table
 from runs import checks, status_of
 
 # It has the keys that are files of its folder.
@@ -107,6 +107,7 @@ def run(room, program, tasks, *words):
     return room.special("run", "--program", program, "--uuid", UUID, "--work", "work", *words, input=tasks)
 
 
+@limits(60)
 def case_200_keys_are_stored_checked_got_and_dropped_over_a_pool_of_four(room):
     keys = range(1, 201)
     contents = {n: str(n % 10) * n for n in keys}
