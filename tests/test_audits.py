@@ -1,16 +1,16 @@
 """`special audit` over texts of runs that are worked by hand from docs/FORMATS.md.
 
-`rows/audits.txt` and `rows/journals.txt` have them; `# TEXT` is a heading, and the rows behind it are one case.
+`rows/audits.txt` and `rows/journals.txt` have them; `# TEXT` is a heading, and the rows after it are one case.
 
-- `new` begins a text, and `> LINE` is its next line. The text stays behind the next headings.
-- `front LINES PIECE`: an audit of the text's first lines, written in pieces of so many bytes. `unended` behind it leaves the last
-  byte out.
+- `new` begins a text, and `> LINE` is its next line. The text holds for the next headings too.
+- `front LINES PIECE`: an audit of the text's first lines, written in pieces of so many bytes. With `unended` the last byte is left
+  out.
 - `audit EDITS`: of the text with other entries. An edit is a place and `-` for an entry that is left out, `= ENTRY` for another one
   in its stead, or `+ ENTRY` for one before it. They are made one after the other, and the last line then has the number of entries.
 - `lines EDITS`: of the text with other lines. The edits are the same, at a line's number from 1, and all else stays as it is.
 - `tasks N`: of a text with so many tasks. `bytes TEXT`: of these bytes, where `\\n` is a line's end.
 
-Behind `=>` stands what is found: `legal`, `wrong ENTRY KIND`, or the line that is refused with its reason.
+After `=>` comes what is found: `legal`, `wrong ENTRY KIND`, or the line that is refused with its reason.
 """
 
 import scenes
