@@ -1,6 +1,6 @@
 """Plays scenes: rows of what children say and which files there are, and of what must come.
 
-`rows/*.txt` have them. `# TEXT` is a heading, and the scenes behind it are one case. In a scene
+`rows/*.txt` have them. `# TEXT` is a heading, and the scenes after it are one case. In a scene
 
 - `says TEXT` is what the first child says, `then TEXT` what the next one does, as `saying.py` tells; without a `says`
   nothing is said;
@@ -26,7 +26,7 @@ from harness import SPECIAL, TESTS, as_bytes, expect, require
 ROWS = TESTS / "rows"
 KEY = "SHA256E-s0--e3b0c44298fc1c149afbf4c8996fb92427ae41e4649b934ca495991b7852b855"
 ESCAPES = {"n": b"\n", "r": b"\r", "t": b"\t", "f": b"\xff", "\\": b"\\", '"': b'"'}
-# The first of November 2025: the clock of a test is behind it, and the times that are written in rows are before it.
+# The first of November 2025: a test runs later, and the times that are written in rows are earlier.
 LATE = 1_761_955_200
 
 
@@ -156,7 +156,7 @@ def timeless(data):
 
 
 def play(room, rows):
-    """Plays the scenes of a section; each begins with its first `says` behind a call."""
+    """Plays the scenes of a section; a row that sets something after a call begins the next one."""
     number = 0
     scene = Scene(room, number)
     called = False

@@ -1,20 +1,20 @@
 """`special audit` over texts of runs that are worked by hand from docs/FORMATS.md.
 
-`rows/audits.txt` and `rows/journals.txt` have them; `# TEXT` is a heading, and the rows behind it are one case.
+`rows/audits.txt` and `rows/journals.txt` have them; `# TEXT` is a heading, and the rows after it are one case.
 
-- `new` begins a text, and `> LINE` is its next line. The text stays behind the next headings.
-- `front LINES PIECE`: an audit of the text's first lines, written in pieces of so many bytes. `unended` behind it leaves the last
-  byte out.
+- `new` begins a text, and `> LINE` is its next line. The text holds for the next headings too.
+- `front LINES PIECE`: an audit of the text's first lines, written in pieces of so many bytes. With `unended` the last byte is left
+  out.
 - `audit EDITS`: of the text with other entries. An edit is a place and `-` for an entry that is left out, `= ENTRY` for another one
   in its stead, or `+ ENTRY` for one before it. They are made one after the other, and the last line then has the number of entries.
 - `lines EDITS`: of the text with other lines. The edits are the same, at a line's number from 1, and all else stays as it is.
-- `tasks N`: of a text with so many tasks. `bytes TEXT`: of these bytes, where `\\n` is a line's end.
+- `bytes TEXT`: of these bytes, where `\\n` is a line's end.
 
-Behind `=>` stands what is found: `legal`, `wrong ENTRY KIND`, or the line that is refused with its reason.
+After `=>` comes what is found: `legal`, `wrong ENTRY KIND`, or the line that is refused with its reason.
 """
 
 import scenes
-from harness import SPECIAL, Done, audit, expect, finish, require, start, table
+from harness import SPECIAL, Done, audit, expect, finish, limits, require, start, table
 
 HEAD = "annex-journal 1\nuuid 00000000-0000-0000-0000-000000000000\nname \ngitdir \nstamp 0\n"
 
@@ -67,8 +67,6 @@ def played(lines, row):
         return audit(with_entries(lines, rest))
     if word == "lines":
         return audit(text_of(edited(lines, rest, -1)))
-    if word == "tasks":
-        return audit(HEAD + "task drop WORM--a\n" * int(rest) + "begin\nend 0\n")
     if word == "bytes":
         return audit(rest.replace("\\n", "\n"))
     count, size, *unended = rest.split(" ")
@@ -102,3 +100,10 @@ def a_text_is_audited(room, pairs):
 def case_the_input_is_read_to_its_end_before_a_line_is_refused(room):
     # A pipe holds 64 KiB: all that is written was read before the last pieces went in.
     expect(pieces_audited(b"x\n" * 500_000, 65536), done_of("line 1: entry"))
+
+
+@limits(120)
+def case_a_text_may_have_65536_tasks(room):
+    task = "task drop WORM--a\n"
+    expect(audit(HEAD + task * 65536 + "begin\nend 0\n"), done_of("legal"), "as many as there may be")
+    expect(audit(HEAD + task * 65537 + "begin\nend 0\n"), done_of("line 65542: entry"), "one more")

@@ -39,11 +39,11 @@ def furnish(room):
 
 @table([
     ("run: the first read", RUN, b""),
-    ("run: behind a task", RUN, b"check WORM--a\n"),
-    ("run: behind a line that would be refused", RUN, b"get\n"),
+    ("run: after a task", RUN, b"check WORM--a\n"),
+    ("run: after a line that would be refused", RUN, b"get\n"),
     ("audit: the first read", ["audit"], b""),
-    ("audit: behind a whole text", ["audit"], EMPTY.encode()),
-    ("audit: behind a line that would be refused", ["audit"], b"x\ny\n"),
+    ("audit: after a whole text", ["audit"], EMPTY.encode()),
+    ("audit: after a line that would be refused", ["audit"], b"x\ny\n"),
 ])
 def an_input_that_cannot_be_read_is_told_and_nothing_is_started(room, words, data):
     furnish(room)
@@ -98,7 +98,7 @@ def case_a_kept_file_that_cannot_be_read_ends_an_init_and_a_run_before_any_child
     expect(room.has("started"), False, "a child was started")
 
 
-def case_a_kept_file_that_cannot_be_made_is_told_behind_the_answer(room):
+def case_a_kept_file_that_cannot_be_made_is_told_after_the_answer(room):
     furnish(room)
     room.write("keep", "annex-keep 1\nconfig a b\n")
     room.write("keep.new/file")
@@ -107,7 +107,7 @@ def case_a_kept_file_that_cannot_be_made_is_told_behind_the_answer(room):
     expect(room.text("keep"), "annex-keep 1\nconfig a b\n", "the kept file")
 
 
-def case_a_kept_file_that_cannot_be_added_to_is_told_behind_the_answer(room):
+def case_a_kept_file_that_cannot_be_added_to_is_told_after_the_answer(room):
     furnish(room)
     room.write("keep", "annex-keep 1\nconfig a b\n")
     expect(init(room, size=20), Done(6, "initialized\n", FAILED), "init")
@@ -117,7 +117,7 @@ def case_a_kept_file_that_cannot_be_added_to_is_told_behind_the_answer(room):
 
 
 @table([("init", None), ("run", "check WORM--a\n")])
-def a_kept_file_that_cannot_be_replaced_is_told_behind_the_answer(room, tasks):
+def a_kept_file_that_cannot_be_replaced_is_told_after_the_answer(room, tasks):
     furnish(room)
     room.write("keep", "annex-keep 1\nconfig a b\n")
     env = {"DURING": "rm keep; mkdir keep keep/full"}
@@ -149,8 +149,8 @@ def case_a_journal_file_that_cannot_be_made_is_told_and_the_kept_file_was_writte
     expect(room.text("keep"), "annex-keep 1\nstate WORM--a there\n", "the kept file")
 
 
-# The kept file has 33 bytes; the lines of the journal end behind 16, 58, 70, 82 bytes.
-@table([("nothing fits behind the kept file", 40, 16), ("three lines fit", 75, 70), ("four lines fit", 82, 82)])
+# The kept file has 33 bytes; the lines of the journal end after 16, 58, 70 and 82 bytes.
+@table([("one line fits", 40, 16), ("three lines fit", 75, 70), ("four lines fit", 82, 82)])
 def a_journal_file_that_cannot_be_added_to_has_its_first_lines(room, size, whole):
     furnish(room)
     expect(journaled(room, size=size), Done(6, "1 present\n", FAILED))
@@ -186,7 +186,7 @@ def case_where_neither_the_kept_file_nor_the_journal_file_can_be_made_it_is_told
 GET = "get MD5-s3--900150983cd24fb0d6963f7d28e17f72 o\n"
 
 
-# What stands in the way, what the remote does to fetch, and the largest file.
+# What is in the way, what the remote does to fetch, and the largest file.
 @table([
     ("the fetched file cannot be read", [], "mkdir \"${words#* }\"", None),
     ("the part cannot be made", ["o.part/full"], None, None),
@@ -286,4 +286,4 @@ def case_a_remote_whose_input_fails_says_it_by_its_status(room):
     with failing_input(SAYS.encode()) as source:
         done = finish(room.start([ANNEX_REMOTE_DIR], stdin=source))
     answers = "VERSION 1\nGETCONFIG directory\nPREPARE-SUCCESS\nCHECKPRESENT-FAILURE WORM--a\n"
-    expect(done, Done(4, answers, ""), "a read behind three lines fails")
+    expect(done, Done(4, answers, ""), "a read after three lines fails")

@@ -224,7 +224,7 @@ def a_digest_is_taken_of_content_of_each_length_around_a_block(room, backend):
 
 
 def case_chunks_have_their_own_keys(room):
-    # 16 bytes in chunks of 10: what stands before and behind the fields of the chunk is the key's.
+    # 16 bytes in chunks of 10: what comes before and after the fields of the chunk is the key's.
     room.write("f", "0123456789abcdef")
     room.script("remote.sh", """
 echo "VERSION 1"

@@ -2,7 +2,7 @@
 
 `rows/keep.txt` has rows `TEXT => TEXT`: a kept file, and the same as `special init` writes it anew where it sets nothing; or
 `TEXT => keep line N` where line N may not stand there. `\\n` and `\\r` stand for bytes 10 and 13. `# TEXT` is a heading, and the
-rows behind it are one case.
+rows after it are one case.
 """
 
 import scenes
@@ -28,10 +28,10 @@ def a_kept_file_is_read_and_written_anew(room, rows):
         if wanted.startswith("keep line"):
             refused = Done(6, "", f"special: {wanted}\n")
             expect((done, run), (refused, refused), f"an init and a run with {row}")
-            expect(room.read("keep"), scenes.bytes_of(text), f"the file behind {row}")
+            expect(room.read("keep"), scenes.bytes_of(text), f"the file after {row}")
         else:
             expect((done, run), (Done(0, "initialized\n", ""), Done(0, "", "")), f"an init and a run with {row}")
-            expect(room.read("keep"), scenes.bytes_of(wanted), f"the file behind {row}")
+            expect(room.read("keep"), scenes.bytes_of(wanted), f"the file after {row}")
 
 
 def case_a_file_that_is_refused_starts_nothing(room):
@@ -63,7 +63,7 @@ cat > /dev/null
 
 def case_what_a_run_begins_with_stands_in_its_journal_in_order(room):
     room.script("remote.sh", REMOTE)
-    # Lines of each kind in any order: in the journal each stands above the one before it.
+    # Lines of each kind in any order: the journal has them in the order of docs/FORMATS.md.
     room.write("keep", "annex-keep 1\n"
                "chunks WORM--b 2s 00000000-0000-0000-0000-00000000000b:10 3\n"
                "url WORM--b http://x\nstate WORM--b t\nconfig b \nurl WORM--a http://y\nurl WORM--a \nwanted standard\n"

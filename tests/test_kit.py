@@ -168,14 +168,14 @@ def case_a_store_replaces_a_content_whole_and_one_that_fails_leaves_it(room):
             "TRANSFER-FAILURE STORE WORM--a disk failed\n")
     expect(served(room, says, 4096), Done(0, said, ""))
     served(room, READY + "TRANSFER RETRIEVE WORM--a out\n", 4096)
-    expect(room.text("out"), "old", "the content behind two stores that failed")
+    expect(room.text("out"), "old", "the content after two stores that failed")
     served(room, READY + "TRANSFER STORE WORM--a new\nTRANSFER RETRIEVE WORM--a out\n", 4096)
-    expect(room.text("out"), "a new content", "the content behind another store")
+    expect(room.text("out"), "a new content", "the content after another store")
 
 
 def case_a_disk_that_fails_is_told(room):
     room.write("new", "content")
-    # What is no file stands where the content belongs.
+    # What is no file is where the content belongs.
     room.mkdir("d/ed5/b32/WORM-s3--there/full")
     room.mkdir("out")
     requests = (("TRANSFER RETRIEVE WORM-s3--there x", "TRANSFER-FAILURE RETRIEVE WORM-s3--there disk failed"),

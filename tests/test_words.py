@@ -1,7 +1,7 @@
 """What the words of `special` ask for, and the texts that it prints on request.
 
 `rows/words.txt` has rows of words with a bar between each two, and each is a case; `# TEXT` is a heading.
-`$MUST` stands for the words that `run` can't do without. Behind `=>` stands
+`$MUST` stands for the words that `run` can't do without. After `=>` comes
 
 - `usage`: the words are refused, and nothing is started;
 - `check PROGRAM KEY`, `info PROGRAM KEY`, `init PROGRAM UUID NAME GITDIR KEEP SETTING..`, `audit`, `show PAGE`: what is done;

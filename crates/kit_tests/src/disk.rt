@@ -19,7 +19,7 @@ fn desk_of(alloc: Global, fails: &[u64]) -> Result<MemDesk, NoMemory> {
     MemDesk::new(alloc, files, Vec::from_slice(alloc, fails)?)
 }
 
-// What is said to the host's lines, and the desk behind them.
+// What is said to the host's lines, and the desk after them.
 #[derive(Drop)]
 struct Left {
     out: Vec<u8>,
