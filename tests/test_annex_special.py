@@ -16,7 +16,7 @@ def expect_whole(annex, files):
     expect(annex.recorded(), sorted(files), "what git-annex's log has in the remote")
 
 
-@limits(600)
+@limits(900)
 @table([
     ("whole", ["encryption=none"], 200, 200),
     # 133 files have one chunk, and the 67 of 10,000 bytes and more have two.
@@ -41,21 +41,21 @@ def two_hundred_files_are_copied_checked_got_and_dropped(room, settings, count, 
     expect(annex.recorded(), [], "what git-annex's log has after its fsck")
 
 
-@limits(120)
+@limits(300)
 def case_what_git_annex_stored_in_chunks_is_checked_and_got(room):
     annex = Annex(room)
-    files = contents(6, [30000])
+    files = contents(4, [20000])
     annex.add(files)
     annex.add_remote("encryption=none", "chunk=8KiB")
     annex.well("git", "annex", "move", "-q", "--to", REMOTE)
     # The notes tell the size of the chunks, whatever the setting is now.
     annex.well("git", "annex", "enableremote", "-q", REMOTE, "chunk=5kB")
-    expect(annex.special("check"), (0, "check: 6 keys: 6 present\n", ""), "a check")
-    expect(annex.special("get"), (0, "get: 6 keys: 6 got\n", ""), "a get")
+    expect(annex.special("check"), (0, "check: 4 keys: 4 present\n", ""), "a check")
+    expect(annex.special("get"), (0, "get: 4 keys: 4 got\n", ""), "a get")
     expect_whole(annex, files)
 
 
-@limits(120)
+@limits(300)
 def case_check_tells_where_the_remote_and_the_log_differ_and_changes_nothing(room):
     annex = Annex(room)
     annex.add({"a": "one", "b": "two", "c": "three"})
@@ -76,7 +76,7 @@ def case_check_tells_where_the_remote_and_the_log_differ_and_changes_nothing(roo
     expect(annex.recorded(), ["a", "c"], "git-annex's log after its own check")
 
 
-@limits(120)
+@limits(300)
 def case_a_get_of_damaged_content_fails_with_key_and_file(room):
     annex = Annex(room)
     annex.add({"a": "right", "b": "whole"})
@@ -96,7 +96,7 @@ def case_a_get_of_damaged_content_fails_with_key_and_file(room):
     expect(annex.present(), ["b"], "what is here")
 
 
-@limits(120)
+@limits(300)
 def case_a_drop_leaves_content_that_has_too_few_copies(room):
     annex = Annex(room)
     annex.add({"a": "one", "b": "two"})
@@ -113,7 +113,7 @@ def case_a_drop_leaves_content_that_has_too_few_copies(room):
     expect(annex.stored(), [key], "what the remote has")
 
 
-@limits(120)
+@limits(300)
 def case_a_drop_is_refused_where_git_annex_would_not_ask_again(room):
     annex = Annex(room)
     annex.add({"a": "one"})
@@ -129,7 +129,7 @@ def case_a_drop_is_refused_where_git_annex_would_not_ask_again(room):
     expect(annex.stored(), [annex.key("a")], "what the remote has")
 
 
-@limits(120)
+@limits(300)
 @table([
     ("shared encryption", ["encryption=shared"], "encryption=shared: only encryption=none is served here"),
     (
@@ -164,7 +164,7 @@ done
 """
 
 
-@limits(120)
+@limits(300)
 def case_a_remote_of_git_annex_s_own_is_refused(room):
     annex = Annex(room)
     directory = room.mkdir("directory")
@@ -180,7 +180,7 @@ def case_outside_a_repository_nothing_is_done(room):
     expect(done, (2, "", "annex-special: this is no git repository\n"))
 
 
-@limits(120)
+@limits(300)
 def case_a_key_that_no_line_can_name_is_told_and_the_others_are_done(room):
     annex = Annex(room)
     annex.add({"a": "one"})
@@ -191,7 +191,7 @@ def case_a_key_that_no_line_can_name_is_told_and_the_others_are_done(room):
     expect(done, (1, lines, ""))
 
 
-@limits(120)
+@limits(300)
 def case_paths_choose_the_keys_and_start_at_the_current_folder(room):
     annex = Annex(room)
     annex.add({"in/a": "one", "in/b": "two", "c": "three"})
@@ -230,7 +230,7 @@ done
 """
 
 
-@limits(120)
+@limits(300)
 def case_a_state_that_a_remote_sets_is_handed_to_it_in_the_next_run(room):
     annex = Annex(room)
     annex.add({"a": "one"})
@@ -245,7 +245,7 @@ def case_a_state_that_a_remote_sets_is_handed_to_it_in_the_next_run(room):
     expect(annex.special("check", env=env), (1, lines, ""), "a check")
 
 
-@limits(120)
+@limits(300)
 def case_journals_are_kept_where_they_are_asked_for(room):
     annex = Annex(room)
     annex.add({"a": "one"})
@@ -257,7 +257,7 @@ def case_journals_are_kept_where_they_are_asked_for(room):
     expect(room.special("audit", input=room.read(f"journals/{names[0]}")), (0, "legal\n", ""), "its audit")
 
 
-@limits(120)
+@limits(300)
 def case_a_journal_that_is_not_legal_ends_the_command_and_nothing_is_put_into_the_annex(room):
     annex = Annex(room)
     annex.add({"a": "one"})

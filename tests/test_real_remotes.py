@@ -90,12 +90,12 @@ def example(room):
     skip("git-annex's documentation isn't installed")
 
 
-@limits(200)
+@limits(400)
 def case_git_annex_s_example_works_over_the_plain_program(room):
     example(room).plain().expect_all_done(MANY)
 
 
-@limits(60)
+@limits(200)
 def case_git_annex_s_example_alone_says_version_2(room):
     # It is started three times at most.
     keys = Keys(room, 5)
@@ -146,7 +146,7 @@ master.Listen()
 """
 
 
-@limits(200)
+@limits(400)
 @table([("alone", False), ("over the plain program", True)])
 def an_annexremote_remote_works(room, plain):
     if not os.path.exists("/usr/bin/python3") or run(["/usr/bin/python3", "-c", "import annexremote"]).status != 0:
@@ -183,7 +183,7 @@ def case_rclone_in_its_default_layout_works_over_the_plain_program(room):
     rclone(room).plain().expect_all_done(MANY)
 
 
-@limits(200)
+@limits(400)
 def case_rclone_in_its_default_layout_does_not_find_alone_what_it_stored(room):
     # It puts the key right after the hash directories, and counts on the slash that git-annex gives at their end.
     keys, remote = Keys(room, FEW), rclone(room)
@@ -191,6 +191,6 @@ def case_rclone_in_its_default_layout_does_not_find_alone_what_it_stored(room):
     expect(remote.do(keys, "check"), keys.all("absent"), "a check")
 
 
-@limits(200)
+@limits(400)
 def case_rclone_without_hash_directories_works_alone(room):
     rclone(room, rclone_layout="nodir").expect_all_done(FEW)
