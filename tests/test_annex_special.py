@@ -1,9 +1,10 @@
 """`annex-special`, over repositories of git-annex and the directory remote."""
 
 import os
+import pty
 
 from annexed import ANNEX_SPECIAL, REMOTE, Annex, contents
-from harness import expect, limits, require, run, table
+from harness import as_text, expect, limits, require, run, start, table
 
 NOT_KNOWN = f"git-annex's log does not have this yet: run `git annex fsck --from {REMOTE}`\n"
 
@@ -243,6 +244,21 @@ def case_a_state_that_a_remote_sets_is_handed_to_it_in_the_next_run(room):
     key = annex.key("a")
     lines = f"unrecorded {key} a\ncheck: 1 key: 1 unrecorded\n{NOT_KNOWN}"
     expect(annex.special("check", env=env), (1, lines, ""), "a check")
+
+
+@limits(300)
+def case_a_terminal_sees_how_far_a_copy_is_and_nothing_of_it_stays(room):
+    annex = Annex(room)
+    annex.add({"a": "x" * 1500, "b": "y" * 1500})
+    annex.add_remote()
+    terminal, inlet = pty.openpty()
+    process = start([ANNEX_SPECIAL, REMOTE, "copy"], env=annex.env, cwd=annex.top, stderr=inlet)
+    out, _ = process.communicate()
+    os.close(inlet)
+    expect(as_text(out), f"copy: 2 keys: 2 stored\n{NOT_KNOWN}", "what is printed")
+    shown = as_text(os.read(terminal, 65536))
+    require("copy: 2 of 2 done, 0 failed, 3.0 kB, " in shown, f"what the terminal shows: {shown!r}")
+    require(shown.endswith(" left\r\x1b[K"), f"its end: {shown!r}")
 
 
 @limits(300)
