@@ -115,6 +115,17 @@ def case_a_drop_leaves_content_that_has_too_few_copies(room):
 
 
 @limits(300)
+def case_a_drop_leaves_content_of_which_another_file_wants_more_copies(room):
+    annex = Annex(room)
+    annex.add({"a": "one", "dear/a": "one", ".gitattributes": "dear/* annex.numcopies=2\n"})
+    annex.add_remote()
+    annex.well("git", "annex", "copy", "-q", "--to", REMOTE)
+    key = annex.key("a")
+    left = f"left {key} a: too few copies elsewhere, or none here\n"
+    expect(annex.special("drop", "a"), (1, f"{left}drop: 1 key: 1 left\n", ""))
+
+
+@limits(300)
 def case_a_drop_is_refused_where_git_annex_would_not_ask_again(room):
     annex = Annex(room)
     annex.add({"a": "one"})
