@@ -11,6 +11,9 @@ from kits import Kit, contents, unfinished
 
 SMALL, MIDDLE, LARGE = 200_000, 5_000_000, 20_000_000
 
+# What is stored is not waited for to be on the disk, which changes nothing of what others see, and takes time.
+WITHOUT_SYNC = {"ANNEX_REMOTE_DIR_SYNC": "0"}
+
 
 def piece(number, size):
     """A content that is another one for each number, and doesn't repeat itself."""
@@ -38,7 +41,7 @@ def processes_that_store_at_once_damage_nothing(room, processes, is_one_key, siz
     directory = room.mkdir("directory")
     pieces = [piece(number, size) for number in range(processes)]
     files = [room.write(f"content {number}", content) for number, content in enumerate(pieces)]
-    kits = [Kit(directory) for _ in range(processes)]
+    kits = [Kit(directory, env=WITHOUT_SYNC) for _ in range(processes)]
     damaged = 0
     for turn in range(rounds):
         keys = [f"WORM--t{turn}" + ("" if is_one_key else f"-{number}") for number in range(processes)]
@@ -127,7 +130,7 @@ def begin_and_kill(room, task, directory, is_stopped):
     """
     left = unfinished(directory)
     room.write("pid")
-    killed = start(run_words(room, directory, room.path("slow")), stdout=subprocess.DEVNULL, cwd=room.path())
+    killed = start(run_words(room, directory, room.path("remote")), stdout=subprocess.DEVNULL, cwd=room.path(), env=WITHOUT_SYNC)
     killed.stdin.write(task.encode())
     killed.stdin.close()
     while unfinished(directory) == left and killed.poll() is None:
@@ -178,7 +181,7 @@ def go_on_to_end(process):
 
 @limits(60)
 def case_a_run_that_is_killed_and_started_again_at_once_stores_the_whole_content(room):
-    room.script("slow", f"echo $$ >pid\nexec {ANNEX_REMOTE_DIR}\n")
+    room.script("remote", f"echo $$ >pid\nexec {ANNEX_REMOTE_DIR}\n")
     directory = room.mkdir("directory")
     content = piece(3, MIDDLE)
     file = room.write("content", content)
@@ -192,7 +195,7 @@ def case_a_run_that_is_killed_and_started_again_at_once_stores_the_whole_content
         if remote is None:
             continue
         sizes = sizes_of_unfinished(directory)
-        again = start(run_words(room, directory, number=1))
+        again = start(run_words(room, directory, number=1), env=WITHOUT_SYNC)
         again.stdin.write(task.encode())
         again.stdin.close()
         again.stdin = None
