@@ -5,8 +5,9 @@
 
 A NAME chooses the cases whose file or name has it; without one all run. Each
 case runs in a process group of its own, which is ended when the case has ended
-or its time is over, which is longer where others use the processors. The last line is `N passed, N failed`, and the status is 0
-only where none failed and at least one ran.
+or its time is over; it has more time where others use the processors. The last
+line is `N passed, N failed`, and the status is 0 only where none failed and at
+least one ran.
 """
 
 import argparse
