@@ -8,9 +8,9 @@ from harness import ANNEX_REMOTE_DIR, Differs, as_bytes, as_text, start
 class Kit:
     """A remote that keeps contents in a folder, and is ready."""
 
-    def __init__(self, directory):
+    def __init__(self, directory, env=None):
         self.directory = directory
-        self.process = start([ANNEX_REMOTE_DIR], stderr=None)
+        self.process = start([ANNEX_REMOTE_DIR], env=env, stderr=None)
         self.hear("VERSION 1")
         self.say("EXTENSIONS INFO")
         self.hear_start("EXTENSIONS")

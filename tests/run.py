@@ -5,8 +5,9 @@
 
 A NAME chooses the cases whose file or name has it; without one all run. Each
 case runs in a process group of its own, which is ended when the case has ended
-or its time is over. The last line is `N passed, N failed`, and the status is 0
-only where none failed and at least one ran.
+or its time is over; it has more time where others use the processors. The last
+line is `N passed, N failed`, and the status is 0 only where none failed and at
+least one ran.
 """
 
 import argparse
@@ -74,6 +75,11 @@ def outcome_of(case, room):
     return "passed", ""
 
 
+def busyness():
+    """How many want each processor; 1 where not all are wanted. A case gets that much more time."""
+    return max(1, os.getloadavg()[0] / len(os.sched_getaffinity(0)))
+
+
 class Running:
     """A case that runs in a process of its own."""
 
@@ -82,7 +88,8 @@ class Running:
         self.folder = folder
         self.said = b""
         self.began = time.monotonic()
-        self.deadline = self.began + case.limit
+        self.limit = round(case.limit * busyness())
+        self.deadline = self.began + self.limit
         (folder / "room").mkdir(parents=True)
         self.outlet, inlet = os.pipe()
         sys.stdout.flush()
@@ -101,7 +108,7 @@ class Running:
             os.setpgid(0, 0)
             signal.signal(signal.SIGTERM, signal.SIG_DFL)
             signal.signal(signal.SIGINT, signal.SIG_DFL)
-            os.environ["CASE_LIMIT"] = str(self.case.limit)
+            os.environ["CASE_LIMIT"] = str(self.limit)
             nothing = os.open(os.devnull, os.O_RDONLY)
             prints = os.open(self.folder / "prints", os.O_WRONLY | os.O_CREAT, 0o600)
             os.dup2(nothing, 0)
@@ -131,7 +138,7 @@ class Running:
             state, text = json.loads(self.said)
         except ValueError:
             is_late = time.monotonic() >= self.deadline
-            state, text = "failed", f"no end within {self.case.limit} s" if is_late else "it ended without a word"
+            state, text = "failed", f"no end within {self.limit} s" if is_late else "it ended without a word"
         try:
             prints = (self.folder / "prints").read_text(errors="backslashreplace")
         except OSError:

@@ -11,6 +11,9 @@ from kits import Kit, contents, unfinished
 
 SMALL, MIDDLE, LARGE = 200_000, 5_000_000, 20_000_000
 
+# What is stored is not waited for to be on the disk, which changes nothing of what others see, and takes time.
+WITHOUT_SYNC = {"ANNEX_REMOTE_DIR_SYNC": "0"}
+
 
 def piece(number, size):
     """A content that is another one for each number, and doesn't repeat itself."""
@@ -38,7 +41,7 @@ def processes_that_store_at_once_damage_nothing(room, processes, is_one_key, siz
     directory = room.mkdir("directory")
     pieces = [piece(number, size) for number in range(processes)]
     files = [room.write(f"content {number}", content) for number, content in enumerate(pieces)]
-    kits = [Kit(directory) for _ in range(processes)]
+    kits = [Kit(directory, env=WITHOUT_SYNC) for _ in range(processes)]
     damaged = 0
     for turn in range(rounds):
         keys = [f"WORM--t{turn}" + ("" if is_one_key else f"-{number}") for number in range(processes)]
@@ -127,7 +130,7 @@ def begin_and_kill(room, task, directory, is_stopped):
     """
     left = unfinished(directory)
     room.write("pid")
-    killed = start(run_words(room, directory, room.path("slow")), stdout=subprocess.DEVNULL, cwd=room.path())
+    killed = start(run_words(room, directory, room.path("remote")), stdout=subprocess.DEVNULL, cwd=room.path(), env=WITHOUT_SYNC)
     killed.stdin.write(task.encode())
     killed.stdin.close()
     while unfinished(directory) == left and killed.poll() is None:
@@ -178,7 +181,7 @@ def go_on_to_end(process):
 
 @limits(60)
 def case_a_run_that_is_killed_and_started_again_at_once_stores_the_whole_content(room):
-    room.script("slow", f"echo $$ >pid\nexec {ANNEX_REMOTE_DIR}\n")
+    room.script("remote", f"echo $$ >pid\nexec {ANNEX_REMOTE_DIR}\n")
     directory = room.mkdir("directory")
     content = piece(3, MIDDLE)
     file = room.write("content", content)
@@ -192,7 +195,7 @@ def case_a_run_that_is_killed_and_started_again_at_once_stores_the_whole_content
         if remote is None:
             continue
         sizes = sizes_of_unfinished(directory)
-        again = start(run_words(room, directory, number=1))
+        again = start(run_words(room, directory, number=1), env=WITHOUT_SYNC)
         again.stdin.write(task.encode())
         again.stdin.close()
         again.stdin = None
@@ -215,6 +218,7 @@ def case_a_run_that_is_killed_and_started_again_at_once_stores_the_whole_content
 # Two commands with one kept file.
 
 SETTING = """
+@BEGIN@
 echo "VERSION 1"
 while IFS= read -r line; do
   case "${line%% *}" in
@@ -233,9 +237,9 @@ done
 WAITS = "echo >begun; while [ ! -e go ]; do sleep 0.01; done"
 
 
-def remote(room, name, note, state):
-    """A remote that sets a state, after it has waited or noted that it was asked."""
-    room.script(name, SETTING.replace("@NOTE@", note).replace("@STATE@", state))
+def remote(room, name, begin=":", note=":"):
+    """A remote that sets a state of its name, and does something when it is started and when it is asked."""
+    room.script(name, SETTING.replace("@BEGIN@", begin).replace("@NOTE@", note).replace("@STATE@", name))
     return f"./{name}"
 
 
@@ -266,12 +270,12 @@ def wait_for(path):
 def the_second_with_one_kept_file_is_refused_before_any_start(room, first, second, is_kept):
     if is_kept:
         room.write("kept", "annex-keep 1\nconfig colour blue\n")
-    one = room.start(command(room, first, remote(room, "one", WAITS, "one")))
+    one = room.start(command(room, first, remote(room, "one", note=WAITS)))
     one.stdin.write(TASK)
     one.stdin.close()
     one.stdin = None
     wait_for(room.path("begun"))
-    refused = room.run(command(room, second, remote(room, "two", "echo >started", "two")), input=TASK)
+    refused = room.run(command(room, second, remote(room, "two", begin="echo >started")), input=TASK)
     started = room.has("started")
     room.write("go")
     done = finish(one)
@@ -287,7 +291,7 @@ def the_second_with_one_kept_file_is_refused_before_any_start(room, first, secon
 @table([("run", "run"), ("init", "init")])
 def a_killed_one_is_no_hindrance_to_the_next_with_its_kept_file(room, which):
     room.write("kept", "annex-keep 1\nconfig colour blue\n")
-    killed = room.start(command(room, which, remote(room, "one", WAITS, "one")))
+    killed = room.start(command(room, which, remote(room, "one", note=WAITS)))
     killed.stdin.write(TASK)
     killed.stdin.close()
     wait_for(room.path("begun"))
@@ -295,7 +299,7 @@ def a_killed_one_is_no_hindrance_to_the_next_with_its_kept_file(room, which):
     killed.wait()
     # as if it had been killed when it wrote the file
     room.write("kept.new", "annex-keep 1\nconfig col")
-    done = room.run(command(room, which, remote(room, "two", ":", "two")), input=TASK)
+    done = room.run(command(room, which, remote(room, "two")), input=TASK)
     expect(done, DONE[which], "what the next says")
     expect(room.text("kept"), KEPT[which].format("two"), "the kept file")
     expect(room.has("kept.new"), False, "whether the other file is left")
@@ -304,7 +308,7 @@ def a_killed_one_is_no_hindrance_to_the_next_with_its_kept_file(room, which):
 @limits(60)
 def case_many_runs_with_one_kept_file_keep_it_whole(room):
     room.write("kept", "annex-keep 1\nconfig colour blue\n")
-    program = remote(room, "one", ":", "one")
+    program = remote(room, "one")
     processes = [room.start(command(room, "run", program)) for _ in range(8)]
     for process in processes:
         process.stdin.write(TASK)
