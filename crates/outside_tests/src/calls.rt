@@ -7,6 +7,8 @@ pub enum Step<'a> {
     Size(&'a str),
     Read(&'a str, u64, u8),
     Create(&'a str),
+    CreateNew(&'a str),
+    Sync(&'a str),
     Append(&'a str, &'a str),
     Cut(&'a str, u64),
     Rename(&'a str, &'a str),
@@ -21,14 +23,17 @@ pub fn said<D: Desk>(alloc: Global, desk: &mut D, step: &Step<'_>) -> Result<Str
             Ok(size) => return format!(in alloc; "{size}"),
             Err(e) => Err(e),
         },
+        // a read asks for room
         Step::Read(name, from, room) => {
-            let room = usize::from(room).max(1);
+            let room = (room as usize).max(1);
             match desk.read_at(name, from, &mut buf[..room]) {
                 Ok(count) => return String::from_utf8_lossy(alloc, &buf[..count]),
                 Err(e) => Err(e),
             }
         }
         Step::Create(name) => desk.create(name),
+        Step::CreateNew(name) => desk.create_new(name),
+        Step::Sync(name) => desk.sync(name),
         Step::Append(name, text) => desk.append(name, text.as_bytes()),
         Step::Cut(name, size) => cut(desk, name, size),
         Step::Rename(from, to) => desk.rename(from, to),

@@ -1,5 +1,5 @@
 // Files of this machine.
-use crate::calls::Step::{Append, Create, Cut, Read, Remove, Rename, Size};
+use crate::calls::Step::{Append, Create, CreateNew, Cut, Read, Remove, Rename, Size, Sync};
 use crate::calls::said;
 use ann_key::NoMemory;
 use ann_os::OsDesks;
@@ -46,6 +46,16 @@ fn calls_on_files_and_folders(rt: HostRuntime) -> Result<(), Fail> {
         (Size("calls/deep/er/file"), "missing"),
         (Create("calls/other"), "done"),
         (Size("calls/other"), "0"),
+        // a file that is made only where there is none
+        (CreateNew("calls/new/file"), "done"),
+        (Append("calls/new/file", "x"), "done"),
+        (Sync("calls/new/file"), "done"),
+        (CreateNew("calls/new/file"), "failed"),
+        (Size("calls/new/file"), "1"),
+        (Sync("calls/none"), "missing"),
+        // a device in the place of a file stays
+        (Rename("calls/new/file", "/dev/full"), "failed"),
+        (Size("calls/new/file"), "1"),
         // names in a folder that isn't there, or that is a file
         (Append("calls/gone/x", "x"), "missing"),
         (Rename("calls/gone/x", "calls/none/x"), "missing"),
@@ -65,6 +75,26 @@ fn calls_on_files_and_folders(rt: HostRuntime) -> Result<(), Fail> {
         assert_eq!(rt; got.as_str(), *want, "at row {at}");
     }
     fs::remove_dir_all(&rt, "calls")?;
+    Ok(())
+}
+
+#[test]
+fn one_main_desk_at_a_time_reads_a_file(rt: HostRuntime) -> Result<(), Fail> {
+    let mut desks = OsDesks::new(&rt);
+    let mut worker = desks.desk(1)?;
+    let mut second = desks.desk(0)?;
+    {
+        let mut first = desks.desk(0)?;
+        let said_first = said(rt.alloc(), &mut first, &Read("locked/file", 0, 4))?;
+        assert_eq!(rt; said_first.as_str(), "missing");
+        let said_second = said(rt.alloc(), &mut second, &Read("locked/file", 0, 4))?;
+        assert_eq!(rt; said_second.as_str(), "failed");
+        let said_worker = said(rt.alloc(), &mut worker, &Read("locked/file", 0, 4))?;
+        assert_eq!(rt; said_worker.as_str(), "missing");
+    }
+    let said_then = said(rt.alloc(), &mut second, &Read("locked/file", 0, 4))?;
+    assert_eq!(rt; said_then.as_str(), "missing");
+    fs::remove_dir_all(&rt, "locked")?;
     Ok(())
 }
 
