@@ -3,3 +3,4 @@ pub mod Parted
 pub mod Written
 pub mod FirstItem
 pub mod Marking
+pub mod Weighing

@@ -1,26 +1,30 @@
 // The journal as a store: it lends its entries, and takes more within room that was taken before.
-ghost use Rattle.std.specs.Prelude.{◌≡◌, ◌+◌, ◌<◌, ◌≤◌, ◌^◌, ◌++◌, ◌∷◌, [], slice_get, option_map, length, OnOk, OnErr, IsOk, vec_len};
+ghost use Rattle.std.specs.Prelude.{◌≡◌, ◌+◌, ◌-◌, ◌<◌, ◌≤◌, ◌^◌, ◌++◌, ◌∷◌, [], slice_get, option_map, length, OnOk, OnErr, IsOk, vec_len};
 ghost use Rattle.journal_look.specs.Shown.{entry_shown};
 
 use crate::entry::{EntryRef, entry_of};
+use crate::lines::{left_after, left_behind};
 use crate::marks::{claimed_from, settled_from};
 use ann_key::NoMemory;
 use journal_model::{Entry, What};
 use std::alloc::Global;
 use std::marker::Model;
 
-/// A journal: contracts see its entries, and for how many in all it has room. It marks how many of its first entries ask only
-/// jobs that are settled, and below which number each task is claimed.
+/// A journal: contracts see its entries, and for how many in all it has room. It keeps how many more bytes its lines may have,
+/// and marks how many of its first entries ask only jobs that are settled, and below which number each task is claimed.
 #[derive(Drop)]
 pub struct Journal {
     entries: Vec<Entry>,
     room: usize,
+    left: usize,
     settled: usize,
     claimed: u32,
 }
 
 impl Model for Journal {
-    ghost use Rattle.std.specs.Prelude.{◌≤◌, ◌<◌, length, vec_capacity};
+    ghost use Rattle.std.specs.Prelude.{◌≡◌, ◌-◌, ◌≤◌, ◌<◌, length, vec_capacity};
+    ghost use Rattle.journal_model.specs.Limits.{most_line_bytes};
+    ghost use Rattle.journal_model.specs.Journal.{bytes_in};
     ghost use Rattle.journal_look.specs.JournalValue.{JournalValue};
     ghost use Rattle.journal_look.specs.Marks.{AreClaimed, AreSettled};
 
@@ -28,10 +32,12 @@ impl Model for Journal {
 
     ghost view = { λ j. record { entries = j.entries.items; room = j.room } };
 
-    ghost invariant = { λ j. (j.room ≤ vec_capacity j.entries) × (j.settled ≤ length j.entries.items) × AreSettled j.entries.items j.settled × (0 < j.claimed) × AreClaimed j.entries.items j.claimed };
+    ghost invariant = { λ j. (j.room ≤ vec_capacity j.entries) × (j.left ≡ most_line_bytes - bytes_in j.entries.items) × (j.settled ≤ length j.entries.items) × AreSettled j.entries.items j.settled × (0 < j.claimed) × AreClaimed j.entries.items j.claimed };
 }
 
 impl Journal {
+    ghost use Rattle.journal_model.specs.Limits.{most_line_bytes};
+    ghost use Rattle.journal_model.specs.Journal.{bytes_in};
     ghost use Rattle.journal_look.specs.Marks.{AreClaimed, AreSettled};
 
     /// A journal without entries, and without room. It takes no memory.
@@ -41,6 +47,7 @@ impl Journal {
         Journal {
             entries: Vec::new(alloc),
             room: 0,
+            left: left_behind(&[]),
             settled: 0,
             claimed: 1,
         }
@@ -51,9 +58,11 @@ impl Journal {
         ensures { result ≡ record { entries = entries.items; room = vec_len entries } }
     {
         let room = entries.len();
+        let left = left_behind(entries.as_slice());
         Journal {
             entries,
             room,
+            left,
             settled: 0,
             claimed: 1,
         }
@@ -98,7 +107,7 @@ impl Journal {
     }
 
     /// Appends the entry, for which there is room. It takes no memory.
-    #[tactic(auto, using(crate::proofs::Marking::settled_more, crate::proofs::Marking::claimed_more))]
+    #[tactic(auto, using(crate::proofs::Weighing::left_more, crate::proofs::Marking::settled_more, crate::proofs::Marking::claimed_more))]
     pub fn push(&mut self, entry: Entry)
         requires { length self.old.entries < self.old.room }
         ensures entries { self.new.entries ≡ self.old.entries ++ entry ∷ [] }
@@ -106,6 +115,7 @@ impl Journal {
     {
         let settles = matches!(entry.what, What::Verdict { .. });
         let claims = matches!(entry.what, What::Claim { .. });
+        self.left = left_after(self.left, &entry.what);
         match self.entries.push(entry) {
             Ok(()) => {}
             Err(_) => unreachable!(),
@@ -123,6 +133,13 @@ impl Journal {
         ensures { result.now ≡ self.now.entries }
     {
         self.entries.as_slice()
+    }
+
+    // How many more bytes the lines may have.
+    pub(crate) fn left(&self) -> usize
+        ensures { result ≡ most_line_bytes - bytes_in self.now.entries }
+    {
+        self.left
     }
 
     // How many of the first entries ask only jobs that are settled.
