@@ -1,37 +1,51 @@
 // The journal as a store: it lends its entries, and takes more within room that was taken before.
-ghost use Rattle.std.specs.Prelude.{◌≡◌, ◌+◌, ◌<◌, ◌≤◌, ◌^◌, ◌++◌, ◌∷◌, [], slice_get, option_map, length, OnOk, OnErr, IsOk, vec_len};
+ghost use Rattle.std.specs.Prelude.{◌≡◌, ◌+◌, ◌-◌, ◌<◌, ◌≤◌, ◌^◌, ◌++◌, ◌∷◌, [], slice_get, option_map, length, OnOk, OnErr, IsOk, IfSome, vec_len};
 ghost use Rattle.journal_look.specs.Shown.{entry_shown};
 
 use crate::entry::{EntryRef, entry_of};
+use crate::life::{self, Life, Lives};
+use crate::lines::{left_after, left_behind};
 use crate::marks::{claimed_from, settled_from};
 use ann_key::NoMemory;
 use journal_model::{Entry, What};
 use std::alloc::Global;
 use std::marker::Model;
 
-/// A journal: contracts see its entries, and for how many in all it has room. It marks how many of its first entries ask only
-/// jobs that are settled, and below which number each task is claimed.
+/// A journal: contracts see its entries, and for how many in all it has room. It keeps how many more bytes its lines may have and, where
+/// known says so, the lives of its children, and marks how many of its first entries ask only jobs that are settled, and below
+/// which number each task is claimed.
 #[derive(Drop)]
 pub struct Journal {
     entries: Vec<Entry>,
     room: usize,
+    left: usize,
+    known: bool,
+    lives: Lives,
     settled: usize,
     claimed: u32,
 }
 
 impl Model for Journal {
-    ghost use Rattle.std.specs.Prelude.{◌≤◌, ◌<◌, length, vec_capacity};
+    ghost use Rattle.std.specs.Prelude.{◌≡◌, ◌-◌, ◌≤◌, ◌<◌, length, vec_capacity, IsTrue};
+    ghost use Rattle.journal_model.specs.Limits.{most_line_bytes};
+    ghost use Rattle.journal_model.specs.Journal.{bytes_in};
     ghost use Rattle.journal_look.specs.JournalValue.{JournalValue};
+    ghost use Rattle.journal_look.specs.Lives.{AreLived};
     ghost use Rattle.journal_look.specs.Marks.{AreClaimed, AreSettled};
 
     ghost Value = { JournalValue };
 
     ghost view = { λ j. record { entries = j.entries.items; room = j.room } };
 
-    ghost invariant = { λ j. (j.room ≤ vec_capacity j.entries) × (j.settled ≤ length j.entries.items) × AreSettled j.entries.items j.settled × (0 < j.claimed) × AreClaimed j.entries.items j.claimed };
+    ghost invariant = { λ j. (j.room ≤ vec_capacity j.entries) × (j.left ≡ most_line_bytes - bytes_in j.entries.items) × (IsTrue j.known → AreLived j.entries.items j.lives) × (j.settled ≤ length j.entries.items) × AreSettled j.entries.items j.settled × (0 < j.claimed) × AreClaimed j.entries.items j.claimed };
 }
 
 impl Journal {
+    ghost use Rattle.journal_model.specs.Limits.{most_line_bytes};
+    ghost use Rattle.journal_model.specs.Journal.{any, bytes_in};
+    ghost use Rattle.journal_model.specs.Legality.{count, is_start};
+    ghost use Rattle.journal_look.specs.Looks.{is_no_start};
+    ghost use Rattle.journal_look.specs.Lives.{life_of};
     ghost use Rattle.journal_look.specs.Marks.{AreClaimed, AreSettled};
 
     /// A journal without entries, and without room. It takes no memory.
@@ -41,6 +55,9 @@ impl Journal {
         Journal {
             entries: Vec::new(alloc),
             room: 0,
+            left: left_behind(&[]),
+            known: true,
+            lives: life::none(alloc),
             settled: 0,
             claimed: 1,
         }
@@ -50,10 +67,15 @@ impl Journal {
     pub fn from_entries(entries: Vec<Entry>) -> Journal
         ensures { result ≡ record { entries = entries.items; room = vec_len entries } }
     {
+        let alloc = *entries.allocator();
         let room = entries.len();
+        let left = left_behind(entries.as_slice());
         Journal {
             entries,
             room,
+            left,
+            known: false,
+            lives: life::none(alloc),
             settled: 0,
             claimed: 1,
         }
@@ -93,12 +115,13 @@ impl Journal {
         };
         let spare = room.saturating_sub(self.entries.len());
         self.entries.reserve(spare)?;
+        self.lives.each.reserve(spare)?;
         self.room = room;
         Ok(())
     }
 
     /// Appends the entry, for which there is room. It takes no memory.
-    #[tactic(auto, using(crate::proofs::Marking::settled_more, crate::proofs::Marking::claimed_more))]
+    #[tactic(auto, using(crate::proofs::Weighing::left_more, crate::proofs::Marking::settled_more, crate::proofs::Marking::claimed_more))]
     pub fn push(&mut self, entry: Entry)
         requires { length self.old.entries < self.old.room }
         ensures entries { self.new.entries ≡ self.old.entries ++ entry ∷ [] }
@@ -106,6 +129,10 @@ impl Journal {
     {
         let settles = matches!(entry.what, What::Verdict { .. });
         let claims = matches!(entry.what, What::Claim { .. });
+        self.left = left_after(self.left, &entry.what);
+        if self.known {
+            self.known = life::note(&mut self.lives, &entry.what);
+        }
         match self.entries.push(entry) {
             Ok(()) => {}
             Err(_) => unreachable!(),
@@ -123,6 +150,43 @@ impl Journal {
         ensures { result.now ≡ self.now.entries }
     {
         self.entries.as_slice()
+    }
+
+    // How many more bytes the lines may have.
+    pub(crate) fn left(&self) -> usize
+        ensures { result ≡ most_line_bytes - bytes_in self.now.entries }
+    {
+        self.left
+    }
+
+    // The child's life, where it is known without the entries.
+    pub(crate) fn life(&self, child: u32) -> Option<Life>
+        ensures { IfSome result (λ life. life ≡ life_of self.now.entries child) }
+    {
+        if !self.known {
+            return None;
+        }
+        Some(life::look(&self.lives, child))
+    }
+
+    // How many children were started, where it is known without the entries.
+    pub(crate) fn starts(&self) -> Option<u64>
+        ensures { IfSome result (λ n. n ≡ count is_start self.now.entries) }
+    {
+        if !self.known {
+            return None;
+        }
+        Some(self.lives.starts)
+    }
+
+    // Whether a child couldn't be started, where it is known without the entries.
+    pub(crate) fn no_start(&self) -> Option<bool>
+        ensures { IfSome result (λ b. b ≡ any is_no_start self.now.entries) }
+    {
+        if !self.known {
+            return None;
+        }
+        Some(self.lives.no_start)
     }
 
     // How many of the first entries ask only jobs that are settled.
