@@ -5,3 +5,5 @@ pub mod FirstItem
 pub mod Marking
 pub mod Weighing
 pub mod Living
+pub mod Holding
+pub mod InWay

@@ -1,11 +1,12 @@
 // The journal as a store: it lends its entries, and takes more within room that was taken before.
-ghost use Rattle.std.specs.Prelude.{◌≡◌, ◌+◌, ◌-◌, ◌<◌, ◌≤◌, ◌^◌, ◌++◌, ◌∷◌, [], slice_get, option_map, length, OnOk, OnErr, IsOk, IfSome, vec_len};
+ghost use Rattle.std.specs.Prelude.{◌≡◌, ◌+◌, ◌-◌, ◌<◌, ◌≤◌, ◌^◌, ◌++◌, ◌∷◌, [], slice_get, option_map, length, OnOk, OnErr, IsOk, IfSome, IsTrue, false, vec_len};
 ghost use Rattle.journal_look.specs.Shown.{entry_shown};
 
 use crate::entry::{EntryRef, entry_of};
+use crate::held::{self, Held};
 use crate::life::{self, Life, Lives};
 use crate::lines::{left_after, left_behind};
-use crate::marks::{claimed_from, settled_from};
+use crate::marks::{claimed_from, claimed_in, settled_from};
 use ann_key::NoMemory;
 use journal_model::{Entry, What};
 use std::alloc::Global;
@@ -21,6 +22,8 @@ pub struct Journal {
     left: usize,
     known: bool,
     lives: Lives,
+    held: Vec<Held>,
+    top: u64,
     settled: usize,
     claimed: u32,
 }
@@ -31,21 +34,23 @@ impl Model for Journal {
     ghost use Rattle.journal_model.specs.Journal.{bytes_in};
     ghost use Rattle.journal_look.specs.JournalValue.{JournalValue};
     ghost use Rattle.journal_look.specs.Lives.{AreLived};
+    ghost use Rattle.journal_look.specs.Holds.{AreHeld, AreUnclaimed};
     ghost use Rattle.journal_look.specs.Marks.{AreClaimed, AreSettled};
 
     ghost Value = { JournalValue };
 
     ghost view = { λ j. record { entries = j.entries.items; room = j.room } };
 
-    ghost invariant = { λ j. (j.room ≤ vec_capacity j.entries) × (j.left ≡ most_line_bytes - bytes_in j.entries.items) × (IsTrue j.known → AreLived j.entries.items j.lives) × (j.settled ≤ length j.entries.items) × AreSettled j.entries.items j.settled × (0 < j.claimed) × AreClaimed j.entries.items j.claimed };
+    ghost invariant = { λ j. (j.room ≤ vec_capacity j.entries) × (j.left ≡ most_line_bytes - bytes_in j.entries.items) × (IsTrue j.known → AreLived j.entries.items j.lives) × (IsTrue j.known → AreHeld j.entries.items j.held.items) × (IsTrue j.known → AreUnclaimed j.entries.items j.top) × (j.settled ≤ length j.entries.items) × AreSettled j.entries.items j.settled × (0 < j.claimed) × AreClaimed j.entries.items j.claimed };
 }
 
 impl Journal {
     ghost use Rattle.journal_model.specs.Limits.{most_line_bytes};
     ghost use Rattle.journal_model.specs.Journal.{any, bytes_in};
-    ghost use Rattle.journal_model.specs.Legality.{count, is_start};
+    ghost use Rattle.journal_model.specs.Legality.{count, is_claimed, is_start};
     ghost use Rattle.journal_look.specs.Looks.{is_no_start};
     ghost use Rattle.journal_look.specs.Lives.{life_of};
+    ghost use Rattle.journal_look.specs.Holds.{AreHeld};
     ghost use Rattle.journal_look.specs.Marks.{AreClaimed, AreSettled};
 
     /// A journal without entries, and without room. It takes no memory.
@@ -58,6 +63,8 @@ impl Journal {
             left: left_behind(&[]),
             known: true,
             lives: life::none(alloc),
+            held: Vec::new(alloc),
+            top: 0,
             settled: 0,
             claimed: 1,
         }
@@ -76,6 +83,8 @@ impl Journal {
             left,
             known: false,
             lives: life::none(alloc),
+            held: Vec::new(alloc),
+            top: 0,
             settled: 0,
             claimed: 1,
         }
@@ -116,22 +125,26 @@ impl Journal {
         let spare = room.saturating_sub(self.entries.len());
         self.entries.reserve(spare)?;
         self.lives.each.reserve(spare)?;
+        self.held.reserve(spare)?;
         self.room = room;
         Ok(())
     }
 
     /// Appends the entry, for which there is room. It takes no memory.
-    #[tactic(auto, using(crate::proofs::Weighing::left_more, crate::proofs::Marking::settled_more, crate::proofs::Marking::claimed_more))]
+    #[tactic(auto, using(crate::proofs::Weighing::left_more, crate::proofs::Holding::held_more, crate::proofs::Holding::unclaimed_more, crate::proofs::Holding::claimed_now, crate::proofs::Marking::settled_more, crate::proofs::Marking::claimed_more))]
     pub fn push(&mut self, entry: Entry)
         requires { length self.old.entries < self.old.room }
         ensures entries { self.new.entries ≡ self.old.entries ++ entry ∷ [] }
         ensures room { self.new.room ≡ self.old.room }
     {
         let settles = matches!(entry.what, What::Verdict { .. });
-        let claims = matches!(entry.what, What::Claim { .. });
+        let claims = claimed_in(&entry.what);
         self.left = left_after(self.left, &entry.what);
         if self.known {
-            self.known = life::note(&mut self.lives, &entry.what);
+            let lived = life::note(&mut self.lives, &entry.what);
+            let held = held::note(&mut self.held, &entry);
+            self.top = held::top_after(self.top, &entry.what);
+            self.known = lived && held;
         }
         match self.entries.push(entry) {
             Ok(()) => {}
@@ -140,8 +153,8 @@ impl Journal {
         if settles {
             self.settled = settled_from(self.entries.as_slice(), self.settled);
         }
-        if claims {
-            self.claimed = claimed_from(self.entries.as_slice(), self.claimed);
+        if let Some(task) = claims {
+            self.claimed = claimed_from(self.entries.as_slice(), self.claimed, task, self.top);
         }
     }
 
@@ -187,6 +200,23 @@ impl Journal {
             return None;
         }
         Some(self.lives.no_start)
+    }
+
+    // The tasks that are held, where they are known without the entries.
+    pub(crate) fn held(&self) -> Option<&[Held]>
+        ensures { IfSome result (λ held. AreHeld self.now.entries held.now) }
+    {
+        if !self.known {
+            return None;
+        }
+        Some(self.held.as_slice())
+    }
+
+    // Whether the task is known to be behind all that are claimed.
+    pub(crate) fn is_behind(&self, task: u32) -> bool
+        ensures { IsTrue result → is_claimed self.now.entries task ≡ false }
+    {
+        self.known && self.top <= u64::from(task)
     }
 
     // How many of the first entries ask only jobs that are settled.
