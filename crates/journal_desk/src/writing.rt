@@ -1,16 +1,16 @@
 // Writes the text of a run at a desk, line by line.
-ghost use Rattle.std.specs.Prelude.{◌≡◌, ◌++◌, ◌∷◌, [], ◌<◌, Err, IfOk, None, Some, length, option_map, slice_get};
+ghost use Rattle.std.specs.Prelude.{◌≡◌, ◌++◌, ◌∷◌, [], ◌<◌, Err, IfOk, None, Some, length, map, option_map, slice_get};
 ghost use Rattle.ann_outside.specs.DeskCauses.{HasCauses};
 ghost use Rattle.ann_outside.specs.Files.{WhereTold};
 ghost use Rattle.annex_model.specs.Lines.{text};
 ghost use Rattle.desk_file.specs.Writes.{GrowsBy, Makes};
-ghost use Rattle.reg_file.specs.RegLines.{lines_of};
+ghost use Rattle.reg_file.specs.RegLines.{line_of, lines_of};
 ghost use Rattle.journal_lines.specs.JournalTexts.{journal_lines};
 ghost use Rattle.journal_desk.specs.JournalDesks.{HasWriteCauses, IsMadeAs, IsWrittenBy, IsWrittenIn, journal_text, line_appends, line_calls, with_end};
 
 use ann_key::{Bytes, NoMemory};
 use ann_outside::{Desk, DeskError};
-use journal_lines::{Counts, counts_of, print_counted};
+use journal_lines::{Kept, print_kept};
 use journal_look::Journal;
 use journal_model::Opening;
 use std::alloc::Global;
@@ -23,7 +23,8 @@ pub enum JournalWritten {
     Fault,
 }
 
-/// Makes the file anew, and adds the text of the run to it, a line at a time: it takes memory for one line.
+/// Makes the file anew, and adds the text of the run to it, a line at a time: it takes memory for one line, and for the list of
+/// what is kept.
 pub fn write_journal<D: Desk>(
     alloc: Global,
     desk: &mut D,
@@ -55,27 +56,32 @@ fn make_text<D: Desk>(
     ensures causes { HasCauses (D.counts desk.old) (D.counts desk.new) result }
     ensures found { result ≡ Err DeskError.Missing → D.files desk.old ≡ None }
 {
-    let Ok(counts) = counts_of(opening) else {
+    let Ok(registers) = opening.registers.lines() else {
         return Err(DeskError::NoMemory);
     };
-    let Ok(lines) = line_count(opening, counts, journal) else {
+    let kept = Kept {
+        registers: registers.as_slice(),
+        notes: opening.notes.len() as u64,
+    };
+    let Ok(lines) = line_count(opening, kept, journal) else {
         return Err(DeskError::NoMemory);
     };
     if let Err(error) = desk.create(name) {
         return Err(error);
     }
-    append_lines(alloc, desk, name, opening, counts, journal, lines)
+    append_lines(alloc, desk, name, opening, kept, journal, lines)
 }
 
 // How many lines the text has.
-fn line_count(opening: &Opening, counts: Counts, journal: &Journal) -> Result<u64, NoMemory>
-    requires registers { counts.registers ≡ length (lines_of opening.now.registers) }
-    requires notes { counts.notes ≡ length opening.now.notes }
+fn line_count(opening: &Opening, kept: Kept<'_>, journal: &Journal) -> Result<u64, NoMemory>
+    requires registers { map line_of kept.registers.now ≡ lines_of opening.now.registers }
+    requires notes { kept.notes ≡ length opening.now.notes }
     ensures { IfOk result (λ count. count ≡ length (journal_lines opening.now journal.now.entries)) }
 {
     let tasks = opening.tasks.view().len() as u64;
-    let kept = counts.registers.checked_add(counts.notes).ok_or(NoMemory)?;
-    let given = tasks.checked_add(kept).ok_or(NoMemory)?;
+    let registers = kept.registers.len() as u64;
+    let listed = registers.checked_add(kept.notes).ok_or(NoMemory)?;
+    let given = tasks.checked_add(listed).ok_or(NoMemory)?;
     let entries = journal.len().checked_add(7).ok_or(NoMemory)?;
     given.checked_add(entries).ok_or(NoMemory)
 }
@@ -87,19 +93,19 @@ fn append_lines<D: Desk>(
     desk: &mut D,
     name: &str,
     opening: &Opening,
-    counts: Counts,
+    kept: Kept<'_>,
     journal: &Journal,
     lines: u64,
 ) -> Result<(), DeskError>
-    requires registers { counts.registers ≡ length (lines_of opening.now.registers) }
-    requires notes { counts.notes ≡ length opening.now.notes }
+    requires registers { map line_of kept.registers.now ≡ lines_of opening.now.registers }
+    requires notes { kept.notes ≡ length opening.now.notes }
     requires lines { lines ≡ length (journal_lines opening.now journal.now.entries) }
     ensures calls { Makes (D.log desk.old) (D.log desk.new) (line_appends name.now (journal_lines opening.now journal.now.entries)) result }
     ensures files { WhereTold (D.files desk.old) (D.files desk.new) (GrowsBy name.now (journal_text opening.now journal.now.entries) result) }
     ensures causes { HasCauses (D.counts desk.old) (D.counts desk.new) result }
 {
     for n in 0..lines {
-        let Ok(line) = ended_line(alloc, opening, counts, journal, n) else {
+        let Ok(line) = ended_line(alloc, opening, kept, journal, n) else {
             return Err(DeskError::NoMemory);
         };
         if let Err(error) = desk.append(name, line.view()) {
@@ -113,16 +119,16 @@ fn append_lines<D: Desk>(
 fn ended_line(
     alloc: Global,
     opening: &Opening,
-    counts: Counts,
+    kept: Kept<'_>,
     journal: &Journal,
     n: u64,
 ) -> Result<Bytes, NoMemory>
-    requires registers { counts.registers ≡ length (lines_of opening.now.registers) }
-    requires notes { counts.notes ≡ length opening.now.notes }
+    requires registers { map line_of kept.registers.now ≡ lines_of opening.now.registers }
+    requires notes { kept.notes ≡ length opening.now.notes }
     requires within { n < length (journal_lines opening.now journal.now.entries) }
     ensures { IfOk result (λ bytes. Some bytes ≡ option_map with_end (slice_get (journal_lines opening.now journal.now.entries) n)) }
 {
-    match print_counted(alloc, opening, counts, journal, n) {
+    match print_kept(alloc, opening, kept, journal, n) {
         Ok(Some(line)) => {
             let mut bytes = line.into_vec();
             bytes.push(b'\n')?;

@@ -1,5 +1,5 @@
 -- A line of a text is one of its first section, or one behind it.
-use Rattle.std.proofs.Common.{◌≡◌, ℕ, zero, suc, ◌+◌, ◌<◌, ◌≤◌, List, [], ◌∷◌, ◌++◌, map, length, Some, None, refl, ap, ◌∙◌, arith, append_assoc}
+use Rattle.std.proofs.Common.{◌≡◌, ℕ, zero, suc, ◌+◌, ◌<◌, ◌≤◌, List, [], ◌∷◌, ◌++◌, map, length, get_or, Some, None, refl, sym, ap, ◌∙◌, arith, append_assoc}
 use Rattle.std.specs.List.{slice_get}
 use Rattle.std.specs.Prelude.{option_map}
 
@@ -38,6 +38,12 @@ module _ {X Y : Type 0} (f : X → Y) where
   pub length-mapped : (xs : List X) → length (map f xs) ≡ length xs
   length-mapped [] = refl
   length-mapped (x ∷ xs) = ap (λ (n : ℕ). suc n) (length-mapped xs)
+
+  -- what stands at a place, as it is shown
+  pub found_in : (xs : List X) (ys : List Y) (n : ℕ) (x : X) → map f xs ≡ ys → n < length xs → x ≡ get_or xs n x → slice_get ys n ≡ Some (f x)
+  found_in [] ys n x same h is = absurd (omega arith)
+  found_in (y ∷ xs) ys zero x same h is = ap (λ l. slice_get l 0) (sym same) ∙ ap (λ z. Some (f z)) (sym is)
+  found_in (y ∷ xs) ys (suc n) x same h is = ap (λ l. slice_get l (suc n)) (sym same) ∙ found_in xs (map f xs) n x refl (omega arith) is
 
 module _ {X Y : Type 0} (f : X → Y) (xs : List X) (rest : List Y) where
   pub mapped_first : (n : ℕ) (x : X) → slice_get xs n ≡ Some x → slice_get (map f xs ++ rest) n ≡ Some (f x)

@@ -5,7 +5,7 @@ mod desks;
 
 use ann_key::NoMemory;
 use desks::print_desks;
-use journal_lines::{counts_of, print_counted};
+use journal_lines::{Kept, print_kept};
 use journal_look::Journal;
 use journal_model::Opening;
 use journal_reader::{JournalError, Reader};
@@ -24,11 +24,15 @@ fn print_text(
     opening: &Opening,
     journal: &Journal,
 ) -> io::Result<()> {
-    let Ok(counts) = counts_of(opening) else {
+    let Ok(registers) = opening.registers.lines() else {
         return println!(rt; "no memory");
     };
+    let kept = Kept {
+        registers: registers.as_slice(),
+        notes: opening.notes.len() as u64,
+    };
     for n in 0..u64::MAX {
-        match print_counted(rt.alloc(), opening, counts, journal, n) {
+        match print_kept(rt.alloc(), opening, kept, journal, n) {
             Ok(Some(line)) => print_line(rt, line.view())?,
             Ok(None) => return Ok(()),
             Err(NoMemory) => return println!(rt; "no memory"),

@@ -1,5 +1,5 @@
 -- The first byte 10 of a list, and what stands before and behind it.
-use Rattle.std.proofs.Common.{◌≡◌, ℕ, ◌+◌, ◌-◌, ◌<◌, ◌≤◌, ◌==◌, Bool, true, false, not, List, [], ◌∷◌, ◌++◌, IsTrue, Some, None, length, take, drop, refl, sym, ap, ◌∙◌, arith, ⊎_elim, append_assoc}
+use Rattle.std.proofs.Common.{◌≡◌, ℕ, ◌+◌, ◌-◌, ◌<◌, ◌≤◌, ◌==◌, Bool, true, false, not, cond, suc, List, [], ◌∷◌, ◌++◌, IsTrue, Some, None, length, take, drop, refl, sym, ap, ◌∙◌, arith, ⊎_elim, append_assoc}
 use Rattle.std.specs.List.{position_or_len}
 use Rattle.std.proofs.lemmas.Bool.{false≢true, cases_lt, eqb-true}
 use Rattle.std.proofs.lemmas.List.{get_or-take, length-take, length-take-le, length-drop, drop-drop}
@@ -98,6 +98,23 @@ pub found_none : (bytes : List ℕ) → IsFirstByte (is_byte 10) bytes None → 
 found_none bytes is =
     position_or_len_is (λ b. b == 10) bytes (length bytes) 0 (omega arith)
     (λ k l. no_true _ (is k (omega arith) l)) (λ l. absurd (omega arith))
+
+-- a piece more behind bytes in which no line ends, or in which one does
+pub end_more : (bytes piece : List ℕ) → end_of bytes ≡ length bytes → end_of (bytes ++ piece) ≡ length bytes + end_of piece
+end_more [] piece h = refl
+end_more (b ∷ bs) piece h = go (b == 10) h
+  where
+    go : (s : Bool) → cond (not s) (1 + end_of bs) 0 ≡ suc (length bs) → cond (not s) (1 + end_of (bs ++ piece)) 0 ≡ suc (length bs) + end_of piece
+    go true h = absurd (omega arith)
+    go false h = let rest : end_of (bs ++ piece) ≡ length bs + end_of piece = end_more bs piece (omega arith) in omega arith
+
+pub end_stays : (bytes piece : List ℕ) → end_of bytes < length bytes → end_of (bytes ++ piece) ≡ end_of bytes
+end_stays [] piece h = absurd (omega arith)
+end_stays (b ∷ bs) piece h = go (b == 10) h
+  where
+    go : (s : Bool) → cond (not s) (1 + end_of bs) 0 < suc (length bs) → cond (not s) (1 + end_of (bs ++ piece)) 0 ≡ cond (not s) (1 + end_of bs) 0
+    go true h = refl
+    go false h = let rest : end_of (bs ++ piece) ≡ end_of bs = end_stays bs piece (omega arith) in omega arith
 
 pub has_line_at : (limit : ℕ) (bytes : List ℕ) → end_of bytes ≤ limit → end_of bytes < length bytes → has_line limit bytes ≡ true
 has_line_at limit bytes soon within = take_has (limit + 1) bytes (omega arith) within
