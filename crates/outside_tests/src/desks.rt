@@ -42,7 +42,6 @@ fn each_call_does_its_work(rt: HostRuntime) -> Result<(), Fail> {
         (Read("a", 3, 9), "lo"),
         (Read("a", 5, 9), ""),
         (Read("a", u64::MAX, 9), ""),
-        (Read("a", 0, 0), ""),
         (Create("c"), "done"),
         (Size("c"), "0"),
         (Append("c", "one"), "done"),
