@@ -1,12 +1,14 @@
 // Files of this machine.
 ghost use Rattle.std.specs.Prelude.{◌≡◌, ◌+◌, ◌<◌, ◌^◌, None, IfOk};
 ghost use Rattle.std.specs.Io.{ReadsAtMost};
-ghost use Rattle.ann_outside.specs.DeskCauses.{HasCauses, Counts};
+ghost use Rattle.ann_outside.specs.DeskCauses.{HasCauses, LeavesOther, Counts};
 ghost use Rattle.ann_outside.specs.Desks.{no_counts};
 
+use super::holding::Locks;
 use super::tries::read_once;
 use ann_key::NoMemory;
 use ann_outside::{Desk, DeskError, Desks, Failed};
+use std::alloc::AllocGlobal;
 use std::fs::{File, OpenFile, OpenOptions};
 use std::io::{ErrorKind, Seek, SeekFrom, Write};
 use std::marker::Send;
@@ -14,11 +16,20 @@ use std::path::Path;
 use std::rt::Files;
 use std::{fs, io};
 
-/// Files of this machine by their paths, which go from the folder that this process was started in. `create` and `rename`
-/// make the folders of the new name that are missing. A folder in the place of a file is a fault.
+/// Files of this machine by their paths, which go from the folder that this process was started in. `create`, `create_new` and
+/// `rename` make the folders of the new name that are missing. A folder in the place of a file is a fault, and so is a rename
+/// onto a device.
+///
+/// A file is on the disk when `rename` has given it its name, and so is the name.
+///
+/// Desk 0 is that of the main thread of a run. It locks each file that it reads before the first read, and holds the lock as
+/// long as it lives; where another process holds it the read is a fault. The other desks lock nothing.
 #[derive(Drop)]
 pub struct OsDesk<R> {
     rt: R,
+    // none where it locks nothing
+    locks: Option<Locks>,
+    syncs: bool,
     faults: u64,
     missing: u64,
 }
@@ -27,26 +38,41 @@ pub struct OsDesk<R> {
 #[derive(Drop)]
 pub struct OsDesks<R> {
     rt: R,
+    syncs: bool,
 }
 
-impl<R: Files + Clone + Drop + Send> OsDesks<R> {
+impl<R: Files<File = File> + AllocGlobal + Clone + Drop + Send> OsDesks<R> {
     /// The files of that runtime.
     pub fn new(rt: R) -> OsDesks<R>
         ensures { ⟦<OsDesks<R> as Desks>⟧.made result ≡ None }
     {
-        OsDesks { rt }
+        OsDesks { rt, syncs: true }
+    }
+
+    /// The files of that runtime, where no call waits for the disk: a loss of power may take what was said to be done.
+    pub fn unsynced(rt: R) -> OsDesks<R>
+        ensures { ⟦<OsDesks<R> as Desks>⟧.made result ≡ None }
+    {
+        OsDesks { rt, syncs: false }
     }
 }
 
-impl<R: Files + Clone + Drop + Send> Desks for OsDesks<R> {
+impl<R: Files<File = File> + AllocGlobal + Clone + Drop + Send> Desks for OsDesks<R> {
     type Desk = OsDesk<R>;
 
     ghost made = { λ s. None };
 
-    fn desk(&mut self, _number: u32) -> Result<OsDesk<R>, NoMemory> {
+    fn desk(&mut self, number: u32) -> Result<OsDesk<R>, NoMemory> {
+        let locks = if number == 0 {
+            Some(Locks::new(self.rt.alloc()))
+        } else {
+            None
+        };
         match self.rt.clone() {
             Ok(rt) => Ok(OsDesk {
                 rt,
+                locks,
+                syncs: self.syncs,
                 faults: 0,
                 missing: 0,
             }),
@@ -55,7 +81,7 @@ impl<R: Files + Clone + Drop + Send> Desks for OsDesks<R> {
     }
 }
 
-fn desk_error(error: io::Error) -> DeskError {
+pub(crate) fn desk_error(error: io::Error) -> DeskError {
     match error.kind() {
         ErrorKind::NotFound => DeskError::Missing,
         ErrorKind::OutOfMemory => DeskError::NoMemory,
@@ -64,7 +90,7 @@ fn desk_error(error: io::Error) -> DeskError {
 }
 
 // A file that is missing where none needs to be there is a fault.
-fn fault(error: DeskError) -> DeskError
+pub(crate) fn fault(error: DeskError) -> DeskError
     ensures { result ≡ DeskError.Missing → ⊥ }
 {
     match error {
@@ -96,7 +122,7 @@ fn read_from<R: Files>(rt: &R, name: &str, from: u64, buf: &mut [u8]) -> Result<
     Ok(count)
 }
 
-fn make_folders(rt: &impl Files, name: &str) -> Result<(), DeskError> {
+pub(crate) fn make_folders(rt: &impl Files, name: &str) -> Result<(), DeskError> {
     match Path::new(name).parent() {
         Some(folder) if !folder.as_str().is_empty() => {
             fs::create_dir_all(rt, folder).map_err(desk_error)
@@ -108,6 +134,13 @@ fn make_folders(rt: &impl Files, name: &str) -> Result<(), DeskError> {
 fn make(rt: &impl Files, name: &str) -> Result<(), DeskError> {
     make_folders(rt, name)?;
     let _ = File::create(rt, name).map_err(desk_error)?;
+    Ok(())
+}
+
+// A name that stands is a fault.
+fn make_new(rt: &impl Files, name: &str) -> Result<(), DeskError> {
+    make_folders(rt, name)?;
+    let _ = File::create_new(rt, name).map_err(desk_error)?;
     Ok(())
 }
 
@@ -129,18 +162,61 @@ fn shorten(rt: &impl Files, name: &str, size: u64) -> Result<(), DeskError> {
     file.set_len(size).map_err(desk_error)
 }
 
-// Once the file was found, something else that is missing is a fault.
-fn give_name(rt: &impl Files, from: &str, to: &str) -> Result<(), DeskError> {
-    let _ = size_of(rt, from)?;
-    make_folders(rt, to).map_err(fault)?;
-    fs::rename(rt, from, to).map_err(desk_error).map_err(fault)
+// What was written to the file is on the disk then.
+fn sync_file(rt: &impl Files, name: &str) -> Result<(), DeskError> {
+    let file = File::open(rt, name).map_err(desk_error)?;
+    file.sync_all().map_err(desk_error)
 }
 
-impl<R: Files> OsDesk<R> {
+// The names in the folder of that file are on the disk then.
+fn sync_folder(rt: &impl Files, name: &str) -> Result<(), DeskError> {
+    match Path::new(name).parent() {
+        Some(folder) if !folder.as_str().is_empty() => sync_file(rt, folder.as_str()),
+        _ => sync_file(rt, "."),
+    }
+}
+
+// A device or a folder in the place of a file isn't replaced.
+fn may_replace(rt: &impl Files, name: &str) -> Result<(), DeskError> {
+    match fs::metadata(rt, name) {
+        Ok(metadata) if !metadata.is_file() => Err(DeskError::Failed),
+        _ => Ok(()),
+    }
+}
+
+// Once the file was found, something else that is missing is a fault. Where only the last step fails the file has its new name.
+fn give_name(rt: &impl Files, from: &str, to: &str, syncs: bool) -> Result<(), DeskError> {
+    let _ = size_of(rt, from)?;
+    may_replace(rt, to)?;
+    make_folders(rt, to).map_err(fault)?;
+    if syncs {
+        sync_file(rt, from).map_err(fault)?;
+    }
+    fs::rename(rt, from, to).map_err(desk_error).map_err(fault)?;
+    if syncs {
+        sync_folder(rt, to).map_err(fault)?;
+    }
+    Ok(())
+}
+
+// Takes the file's lock, where this desk locks what it reads.
+fn lock<R: Files<File = File>>(
+    locks: &mut Option<Locks>,
+    rt: &R,
+    name: &str,
+) -> Result<(), DeskError> {
+    match locks {
+        Some(locks) => locks.take(rt, name),
+        None => Ok(()),
+    }
+}
+
+impl<R: Files<File = File>> OsDesk<R> {
     // Counts a fault or a missing file where the outcome is one, and hands the outcome on.
     fn counted<T>(&mut self, outcome: Result<T, DeskError>) -> Result<T, DeskError>
         ensures same { result ≡ outcome }
         ensures causes { HasCauses (⟦<OsDesk<R> as Desk>⟧.counts self.old) (⟦<OsDesk<R> as Desk>⟧.counts self.new) result }
+        ensures apart { LeavesOther (⟦<OsDesk<R> as Desk>⟧.counts self.old) (⟦<OsDesk<R> as Desk>⟧.counts self.new) result }
     {
         match outcome {
             Err(DeskError::Failed) => self.faults = self.faults.saturating_add(1),
@@ -151,7 +227,7 @@ impl<R: Files> OsDesk<R> {
     }
 }
 
-impl<R: Files> Desk for OsDesk<R> {
+impl<R: Files<File = File>> Desk for OsDesk<R> {
     ghost counts = { λ d. record { faults = d.faults; missing = d.missing } };
 
     ghost files = { λ d. None };
@@ -164,12 +240,20 @@ impl<R: Files> Desk for OsDesk<R> {
     }
 
     fn read_at(&mut self, name: &str, from: u64, buf: &mut [u8]) -> Result<usize, DeskError> {
-        let count = read_from(&self.rt, name, from, buf);
+        let count = match lock(&mut self.locks, &self.rt, name) {
+            Ok(()) => read_from(&self.rt, name, from, buf),
+            Err(error) => Err(error),
+        };
         self.counted(count)
     }
 
     fn create(&mut self, name: &str) -> Result<(), DeskError> {
         let done = make(&self.rt, name).map_err(fault);
+        self.counted(done)
+    }
+
+    fn create_new(&mut self, name: &str) -> Result<(), DeskError> {
+        let done = make_new(&self.rt, name).map_err(fault);
         self.counted(done)
     }
 
@@ -184,12 +268,21 @@ impl<R: Files> Desk for OsDesk<R> {
     }
 
     fn rename(&mut self, from: &str, to: &str) -> Result<(), DeskError> {
-        let done = give_name(&self.rt, from, to);
+        let done = give_name(&self.rt, from, to, self.syncs);
         self.counted(done)
     }
 
     fn remove(&mut self, name: &str) -> Result<(), DeskError> {
         let done = fs::remove_file(&self.rt, name).map_err(desk_error);
+        self.counted(done)
+    }
+
+    fn sync(&mut self, name: &str) -> Result<(), DeskError> {
+        let done = if self.syncs {
+            sync_file(&self.rt, name)
+        } else {
+            Ok(())
+        };
         self.counted(done)
     }
 }

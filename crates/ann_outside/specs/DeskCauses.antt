@@ -17,3 +17,8 @@ pub record HasCauses {T : Type 0} (old new : Counts) (result : Result T DeskErro
   pub missing : result ≡ Err Missing → Rose old.missing new.missing
   pub done : OnOk result (new ≡ old)
   pub no_memory : result ≡ Err NoMemory → new ≡ old
+
+-- Only the count of the answer rose: a missing file leaves the faults as they were, and a fault the missing files.
+pub record LeavesOther {T : Type 0} (old new : Counts) (result : Result T DeskError) : Type 0 where
+  pub failed : result ≡ Err Failed → new.missing ≡ old.missing
+  pub missing : result ≡ Err Missing → new.faults ≡ old.faults

@@ -1,5 +1,5 @@
 -- What each call does to the files of a desk that tells them.
-use Rattle.std.specs.Prelude.{ℕ, ◌≡◌, ◌≢◌, ◌≤◌, ◌<◌, ⊤, if◌then◌else◌, bytes_eq, List, [], ◌∷◌, ◌++◌, take, drop, length, slice_get, Option, Some, None, option_map, IfSome, Result, Ok, Err}
+use Rattle.std.specs.Prelude.{ℕ, ◌≡◌, ◌≢◌, ◌≤◌, ⊤, if◌then◌else◌, bytes_eq, List, [], ◌∷◌, ◌++◌, take, drop, length, slice_get, Option, Some, None, option_map, IfSome, Result, Ok, Err}
 use Rattle.ann_outside.specs.declared.file_desk.DeskError.{DeskError}
 use Rattle.ann_outside.specs.declared.file_desk.DeskError.TheVariants.{Failed, Missing, NoMemory}
 
@@ -44,12 +44,12 @@ SizeIs name files (Err Missing) = content name files ≡ None
 SizeIs name files (Err Failed) = ⊤
 SizeIs name files (Err NoMemory) = ⊤
 
--- These bytes stand in the file from a place on. None of a buffer that isn't empty are the end of the file.
+-- These bytes stand in the file from a place on. None are the end of the file.
 abbrev pub ReadIs : List ℕ → ℕ → List ℕ → Files → Result ℕ DeskError → Type 0
 ReadIs name from buffer files (Ok n) =
     content name files ≢ None
     × ((bytes : List ℕ) → content name files ≡ Some bytes
-    → (take n buffer ≡ take n (drop from bytes)) × (n ≡ 0 → 0 < length buffer → length bytes ≤ from))
+    → (take n buffer ≡ take n (drop from bytes)) × (n ≡ 0 → length bytes ≤ from))
 ReadIs name from buffer files (Err Missing) = content name files ≡ None
 ReadIs name from buffer files (Err Failed) = ⊤
 ReadIs name from buffer files (Err NoMemory) = ⊤
@@ -60,6 +60,20 @@ CreateDoes name (Ok done) old new = (content name new ≡ Some []) × OthersStay
 CreateDoes name (Err Failed) old new = OthersStay (λ other. other ≡ name) old new
 CreateDoes name (Err Missing) old new = ⊥
 CreateDoes name (Err NoMemory) old new = AllStay old new
+
+-- The file is there and empty, and there was none of its name. Where it wasn't made, every file is as before.
+abbrev pub CreateNewDoes : List ℕ → Result (Unit {0}) DeskError → Files → Files → Type 0
+CreateNewDoes name (Ok done) old new = (content name old ≡ None) × CreateDoes name (Ok done) old new
+CreateNewDoes name (Err Failed) old new = AllStay old new
+CreateNewDoes name (Err Missing) old new = ⊥
+CreateNewDoes name (Err NoMemory) old new = AllStay old new
+
+-- The file is there, or is missing.
+abbrev pub SyncIs : List ℕ → Files → Result (Unit {0}) DeskError → Type 0
+SyncIs name files (Ok done) = content name files ≢ None
+SyncIs name files (Err Missing) = content name files ≡ None
+SyncIs name files (Err Failed) = ⊤
+SyncIs name files (Err NoMemory) = ⊤
 
 -- The piece stands at the file's end; after a fault a prefix of it does.
 abbrev pub AppendDoes : List ℕ → List ℕ → Result (Unit {0}) DeskError → Files → Files → Type 0

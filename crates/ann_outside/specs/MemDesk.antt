@@ -1,5 +1,5 @@
 -- What a desk in memory holds, and what its calls count.
-use Rattle.std.specs.Prelude.{◌≡◌, Result, Ok, Err, true, false}
+use Rattle.std.specs.Prelude.{◌≡◌, ◌⊎◌, Result, Ok, Err, true, false}
 use Rattle.ann_outside.specs.Fails.{IsCall, fails_next}
 use Rattle.ann_outside.specs.declared.file_desk.DeskError.{DeskError}
 use Rattle.ann_outside.specs.declared.file_desk.DeskError.TheVariants.{Failed, Missing, NoMemory}
@@ -16,6 +16,13 @@ IsCounted old new (Ok x) = (fails_next old ≡ false) × IsCall old new false
 IsCounted old new (Err Failed) = (fails_next old ≡ true) × IsCall old new true
 IsCounted old new (Err Missing) = (fails_next old ≡ false) × IsCall old new false
 IsCounted old new (Err NoMemory) = new ≡ old
+
+-- A call fails where it is listed, or for this cause, and in no other case. Without memory no call was made.
+abbrev pub IsCountedOr : {T : Type 0} → Type 0 → Fails → Fails → Result T DeskError → Type 0
+IsCountedOr Cause old new (Ok x) = (fails_next old ≡ false) × ¬ Cause × IsCall old new false
+IsCountedOr Cause old new (Err Failed) = ((fails_next old ≡ true) ⊎ Cause) × IsCall old new true
+IsCountedOr Cause old new (Err Missing) = ⊥
+IsCountedOr Cause old new (Err NoMemory) = new ≡ old
 
 -- all but the log is as before
 pub record SameButLog (old new : MemDesk) : Type 0 where

@@ -3,13 +3,13 @@
 // A desk has a count of faults and a count of missing files, and neither ever falls. A call answers `Failed` only where
 // the first rose in that call, and `Missing` only where the second did. What files it has, and the log of its calls,
 // are meanings that it may or may not tell; a desk in memory tells them, a real one doesn't.
-ghost use Rattle.std.specs.Prelude.{◌≡◌, ℕ, ◌+◌, ◌<◌, ◌^◌, List, Option, IfOk, IfSome, MatchResult};
+ghost use Rattle.std.specs.Prelude.{◌≡◌, ℕ, ◌+◌, ◌<◌, ◌^◌, length, List, Option, IfOk, IfSome, MatchResult};
 ghost use Rattle.std.specs.Io.{ReadsAtMost};
 ghost use Rattle.ann_outside.specs.Calls.{logged, bytes_read, IsLogBlank};
 ghost use Rattle.ann_outside.specs.Causes.{AddsOne, Stays};
-ghost use Rattle.ann_outside.specs.DeskCauses.{HasCauses, Counts};
+ghost use Rattle.ann_outside.specs.DeskCauses.{HasCauses, LeavesOther, Counts};
 ghost use Rattle.ann_outside.specs.Desks.{Made, no_counts};
-ghost use Rattle.ann_outside.specs.Files.{Files, WhereTold, CanCut, SizeIs, ReadIs, CreateDoes, AppendDoes, CutDoes, RenameDoes, RemoveDoes};
+ghost use Rattle.ann_outside.specs.Files.{Files, WhereTold, CanCut, SizeIs, ReadIs, CreateDoes, CreateNewDoes, AppendDoes, CutDoes, RenameDoes, RemoveDoes, SyncIs};
 ghost use Rattle.ann_outside.specs.declared.file_desk.Call.{Call};
 ghost use Rattle.ann_outside.specs.declared.file_desk.Call.TheVariants.{Size, ReadAt, Create, Append, Cut, Rename, Remove};
 
@@ -78,16 +78,18 @@ pub trait Desk {
     /// The length of the file.
     fn size(&mut self, name: &str) -> Result<u64, DeskError>
         ensures causes { HasCauses (counts self.old) (counts self.new) result }
+        ensures apart { LeavesOther (counts self.old) (counts self.new) result }
         ensures files { files self.new ≡ files self.old }
         ensures told { IfSome (files self.old) (λ fs. SizeIs name.now fs result) }
         ensures log { log self.new ≡ logged (log self.old) (Size name.now result) };
 
-    /// Puts bytes of the file, from place `from` on, at the front of `buf`, and answers how many. 0 at a `buf` that isn't empty
-    /// is the end of the file.
+    /// Puts bytes of the file, from place `from` on, at the front of `buf`, and answers how many. 0 is the end of the file.
     fn read_at(&mut self, name: &str, from: u64, buf: &mut [u8]) -> Result<usize, DeskError>
+        requires { 0 < length buf.old }
         ensures bound { ReadsAtMost result buf.new }
         ensures place { IfOk result (λ n. from + n < 2 ^ 64) }
         ensures causes { HasCauses (counts self.old) (counts self.new) result }
+        ensures apart { LeavesOther (counts self.old) (counts self.new) result }
         ensures files { files self.new ≡ files self.old }
         ensures told { IfSome (files self.old) (λ fs. ReadIs name.now from buf.new fs result) }
         ensures log { log self.new ≡ logged (log self.old) (ReadAt name.now from (bytes_read buf.new result)) };
@@ -95,13 +97,24 @@ pub trait Desk {
     /// Makes the file, empty, and the folders of its name that are missing. It never answers `Missing`.
     fn create(&mut self, name: &str) -> Result<(), DeskError>
         ensures causes { HasCauses (counts self.old) (counts self.new) result }
+        ensures apart { LeavesOther (counts self.old) (counts self.new) result }
         ensures found { result ≡ Err DeskError.Missing → ⊥ }
         ensures files { WhereTold (files self.old) (files self.new) (CreateDoes name.now result) }
+        ensures log { log self.new ≡ logged (log self.old) (Create name.now result) };
+
+    /// Makes the file, empty, and the folders of its name that are missing. A name that stands is a fault. It never answers
+    /// `Missing`.
+    fn create_new(&mut self, name: &str) -> Result<(), DeskError>
+        ensures causes { HasCauses (counts self.old) (counts self.new) result }
+        ensures apart { LeavesOther (counts self.old) (counts self.new) result }
+        ensures found { result ≡ Err DeskError.Missing → ⊥ }
+        ensures files { WhereTold (files self.old) (files self.new) (CreateNewDoes name.now result) }
         ensures log { log self.new ≡ logged (log self.old) (Create name.now result) };
 
     /// Adds the piece at the end of the file.
     fn append(&mut self, name: &str, piece: &[u8]) -> Result<(), DeskError>
         ensures causes { HasCauses (counts self.old) (counts self.new) result }
+        ensures apart { LeavesOther (counts self.old) (counts self.new) result }
         ensures files { WhereTold (files self.old) (files self.new) (AppendDoes name.now piece.now result) }
         ensures log { log self.new ≡ logged (log self.old) (Append name.now piece.now result) };
 
@@ -109,20 +122,32 @@ pub trait Desk {
     fn cut(&mut self, name: &str, size: u64) -> Result<(), DeskError>
         requires { IfSome (files self.old) (λ fs. CanCut name.now size fs) }
         ensures causes { HasCauses (counts self.old) (counts self.new) result }
+        ensures apart { LeavesOther (counts self.old) (counts self.new) result }
         ensures files { WhereTold (files self.old) (files self.new) (CutDoes name.now size result) }
         ensures log { log self.new ≡ logged (log self.old) (Cut name.now size result) };
 
     /// Gives the file another name, in the place of the file that had it. Folders of that name that are missing are made.
     fn rename(&mut self, from: &str, to: &str) -> Result<(), DeskError>
         ensures causes { HasCauses (counts self.old) (counts self.new) result }
+        ensures apart { LeavesOther (counts self.old) (counts self.new) result }
         ensures files { WhereTold (files self.old) (files self.new) (RenameDoes from.now to.now result) }
         ensures log { log self.new ≡ logged (log self.old) (Rename from.now to.now result) };
 
     /// Takes the file away.
     fn remove(&mut self, name: &str) -> Result<(), DeskError>
         ensures causes { HasCauses (counts self.old) (counts self.new) result }
+        ensures apart { LeavesOther (counts self.old) (counts self.new) result }
         ensures files { WhereTold (files self.old) (files self.new) (RemoveDoes name.now result) }
         ensures log { log self.new ≡ logged (log self.old) (Remove name.now result) };
+
+    /// Puts what was added to the file on the disk before it answers `Ok`. What it is for lies outside of what a contract can
+    /// see, as with `Sink::flush`: to whoever asks the desk the files are the same before and after. It isn't in the log.
+    fn sync(&mut self, name: &str) -> Result<(), DeskError>
+        ensures causes { HasCauses (counts self.old) (counts self.new) result }
+        ensures apart { LeavesOther (counts self.old) (counts self.new) result }
+        ensures files { files self.new ≡ files self.old }
+        ensures told { IfSome (files self.old) (λ fs. SyncIs name.now fs result) }
+        ensures log { log self.new ≡ log self.old };
 }
 
 /// What makes desks, one for each worker.

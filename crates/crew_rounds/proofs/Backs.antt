@@ -17,10 +17,10 @@ use Rattle.crew_round.specs.declared.back.Back.{Back}
 use Rattle.crew_round.specs.declared.back.Back.TheVariants.{Stayed, Ran}
 use Rattle.crew_round.specs.Back.{CameBack}
 use Rattle.crew_round.specs.BackRole.{has_run, role_of}
-use Rattle.crew_roles.specs.Coming.{IsFresh}
-use Rattle.crew_roles.specs.Crewing.{AllManned, Manned, WorkerTells}
-use Rattle.crew_roles.specs.Roles.{EarRan, MouthRan, WorkerRan}
-use Rattle.crew_roles.proofs.Coming.{ears_come, mouths_come, workers_come, workers_stay}
+use Rattle.crew_rounds.specs.Coming.{IsFresh}
+use Rattle.crew_rounds.specs.Crewing.{AllManned, Manned, WorkerTells}
+use Rattle.crew_rounds.specs.Roles.{EarRan, MouthRan, WorkerRan}
+use Rattle.crew_rounds.proofs.Coming.{ears_come, mouths_come, workers_come, workers_stay}
 use Rattle.crew_rounds.specs.Tagged.{AreFresh, HasThrough}
 
 -- ---- an ear and a mouth

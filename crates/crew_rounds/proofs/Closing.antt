@@ -14,9 +14,9 @@ use Rattle.gathering.specs.Rounds.{CorePass, LinkValue}
 use Rattle.gathering.proofs.Halls.{AllHave, have}
 use Rattle.task_run.specs.declared.setup.Setup.{Setup}
 use Rattle.lone_work.specs.Works.{DeskTells}
-use Rattle.crew_roles.specs.Crewing.{AllManned, WorkerTells}
-use Rattle.crew_roles.specs.TaggedRounds.{TaggedLeaves, desks_of, passes_of}
-use Rattle.crew_roles.proofs.TaggedRounds.{tagged_closes}
+use Rattle.crew_rounds.specs.Crewing.{AllManned, WorkerTells}
+use Rattle.crew_rounds.specs.TaggedRounds.{TaggedLeaves, desks_of, passes_of}
+use Rattle.crew_rounds.proofs.TaggedRounds.{tagged_closes}
 use Rattle.crew_rounds.specs.declared.outcome.Outcome.{Outcome}
 use Rattle.crew_rounds.specs.declared.outcome.Outcome.TheVariants.{Done, NoMemory, NoThreads}
 use Rattle.crew_rounds.specs.Outcomes.{IfDone, IfKept}

@@ -25,10 +25,10 @@ use Rattle.crew_round.specs.declared.back.Back.{Back}
 use Rattle.crew_round.specs.declared.back.Back.TheVariants.{Stayed, Ran}
 use Rattle.crew_round.specs.Back.{CameBack}
 use Rattle.crew_round.specs.BackRole.{has_run, role_of}
-use Rattle.crew_roles.specs.Coming.{IsFresh}
-use Rattle.crew_roles.specs.Crewing.{AllManned, WorkerTells}
-use Rattle.crew_roles.specs.Roles.{CanHold, CanRunTasks, CanWork, EarRan, MouthRan, WorkerRan}
-use Rattle.crew_roles.specs.TaggedRounds.{passes_of, desks_of}
+use Rattle.crew_rounds.specs.Coming.{IsFresh}
+use Rattle.crew_rounds.specs.Crewing.{AllManned, WorkerTells}
+use Rattle.crew_rounds.specs.Roles.{CanHold, CanRunTasks, CanWork, EarRan, MouthRan, WorkerRan}
+use Rattle.crew_rounds.specs.TaggedRounds.{passes_of, desks_of}
 use Rattle.crew_rounds.specs.declared.outcome.Outcome.{Outcome}
 use Rattle.crew_rounds.specs.declared.outcome.Outcome.TheVariants.{Done, NoMemory, NoThreads}
 use Rattle.crew_rounds.specs.Backs.{roles_of}

@@ -4,3 +4,6 @@ pub mod Backs
 pub mod Ending
 pub mod Leaving
 pub mod Closing
+pub mod Crewing
+pub mod TaggedRounds
+pub mod Coming

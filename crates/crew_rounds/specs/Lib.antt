@@ -2,3 +2,8 @@ pub mod Backs
 pub mod Outcomes
 pub mod Settled
 pub mod Tagged
+pub mod Roles
+pub mod Crewing
+pub mod TaggedRounds
+pub mod Coming
+pub mod PoolChildren

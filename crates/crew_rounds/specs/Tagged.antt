@@ -11,9 +11,9 @@ use Rattle.gathering.specs.Laws.{MayBeginTagged}
 use Rattle.task_run.specs.declared.setup.Setup.{Setup}
 use Rattle.lone_work.specs.Works.{DeskTells}
 use Rattle.crew_work.specs.Crews.{CanServe}
-use Rattle.crew_roles.specs.Coming.{IsFresh}
-use Rattle.crew_roles.specs.Crewing.{AllManned, WorkerTells}
-use Rattle.crew_roles.specs.TaggedRounds.{passes_of, desks_of}
+use Rattle.crew_rounds.specs.Coming.{IsFresh}
+use Rattle.crew_rounds.specs.Crewing.{AllManned, WorkerTells}
+use Rattle.crew_rounds.specs.TaggedRounds.{passes_of, desks_of}
 
 abbrev pub link_of : EarValue → MouthValue → LinkValue
 link_of ear mouth = record { ear = ear; mouth = mouth }

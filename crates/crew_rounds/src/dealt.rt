@@ -2,8 +2,8 @@
 ghost use Rattle.std.specs.Prelude.{◌≡◌, ◌≤◌, ◌+◌, ◌++◌, [], All, map, reverse, vec_len, vec_capacity};
 ghost use Rattle.crew_rounds.specs.Backs.{roles_of};
 
+use crate::Worker;
 use ann_outside::Desk;
-use crew_roles::Worker;
 use crew_round::Back;
 use crew_work::Shared;
 use hall::{Hall, Pass};

@@ -2,9 +2,16 @@
 #![tactic(auto)]
 
 mod dealt;
+mod ear;
+pub mod laws;
+mod mouth;
 mod outcome;
 mod played;
 mod tagged;
+mod worker;
 
+pub use ear::EarRole;
+pub use mouth::MouthRole;
 pub use outcome::Outcome;
 pub use tagged::{TaggedRound, round_tagged, round_tagged_some};
+pub use worker::Worker;

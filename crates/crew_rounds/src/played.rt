@@ -16,8 +16,8 @@ ghost use Rattle.lone_work.specs.Works.{AreTasks, desk_tells};
 
 use crate::dealt::{SharedWorker, Site, deal, take_back};
 use crate::outcome::Outcome;
+use crate::{EarRole, MouthRole};
 use ann_outside::{Desk, Sink, Source};
-use crew_roles::{EarRole, MouthRole};
 use crew_round::{Back, Crew, Room, any_ran, run_crew};
 use hall::{Hall, Pass};
 use host_core::Core;

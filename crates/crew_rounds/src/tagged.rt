@@ -2,7 +2,7 @@
 ghost use Rattle.std.specs.Prelude.{◌≡◌, ◌≤◌, ◌<◌, ◌+◌, false, map, vec_len};
 ghost use Rattle.std.specs.List.{range_with_len};
 ghost use Rattle.annex_model.specs.Lines.{has_newline};
-ghost use Rattle.crew_roles.specs.TaggedRounds.{TaggedLeaves};
+ghost use Rattle.crew_rounds.specs.TaggedRounds.{TaggedLeaves};
 ghost use Rattle.crew_rounds.specs.Outcomes.{IfDone, IfKept, IsAsBefore};
 ghost use Rattle.crew_rounds.specs.Tagged.{TaggedCan, link_of};
 ghost use Rattle.gathering.specs.Laws.{GoesOn};

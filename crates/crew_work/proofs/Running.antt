@@ -19,7 +19,7 @@ use Rattle.journal_model.proofs.Testing.{all-split, or_left, or_right}
 use Rattle.journal_model.proofs.Working.{held_taken, idle_shut, taken_by-append, taken_claimed, tasks_kept}
 use Rattle.link_roles.proofs.Linked.{any_narrower}
 use Rattle.link_roles.proofs.Roles.{all_narrower, none_made}
-use Rattle.task_asker.specs.Askings.{Asking, Noting}
+use Rattle.task_run.specs.Askers.{Asking, Noting}
 use Rattle.task_run.specs.declared.setup.Setup.{Setup}
 use Rattle.task_run.specs.Askings.{TaskStretch, askings, askings_from, bounds_run, notings_from, run_askings, run_notings}
 use Rattle.task_run.specs.Ran.{behind_more}

@@ -16,7 +16,7 @@ use link_roles::Door;
 use std::alloc::Global;
 use std::sync::Wait;
 use talk_serial::Request;
-use task_asker::Asker;
+use task_run::Asker;
 
 // Asks one request of a task that the door's number holds.
 fn ask_for<D: Door, R: Wait>(

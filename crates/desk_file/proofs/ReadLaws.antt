@@ -20,13 +20,13 @@ use Rattle.desk_file.proofs.Logs.{gained_nothing, gained_more, gained_call, gain
 -- ---- one piece
 
 -- a read that gave nothing has met the end
-pub end_met : (name bytes more buffer : List ℕ) (from n : ℕ) (files : Files) → from ≡ length bytes → n ≡ 0 → 0 < length buffer → ReadIs name from buffer files (Ok n) → IsStepOf name bytes more files (Ok false)
-end_met name bytes more buffer from n files at none some h first = go (content name files) refl
+pub end_met : (name bytes more buffer : List ℕ) (from n : ℕ) (files : Files) → from ≡ length bytes → n ≡ 0 → ReadIs name from buffer files (Ok n) → IsStepOf name bytes more files (Ok false)
+end_met name bytes more buffer from n files at none h first = go (content name files) refl
   where
     go : (c : Option (List ℕ)) → content name files ≡ c → content name files ≡ Some bytes
     go None e = absurd (h.0 e)
     go (Some all) e =
-        let short : length all ≤ length bytes = subst (λ (k : ℕ). length all ≤ k) at ((h.1 all e).1 none some) in
+        let short : length all ≤ length bytes = subst (λ (k : ℕ). length all ≤ k) at ((h.1 all e).1 none) in
         e ∙ ap Some (sym (first all e ∙ take_all (length bytes) all short))
 
 -- one that gave something goes on

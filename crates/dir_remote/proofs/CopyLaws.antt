@@ -1,9 +1,9 @@
 -- How a copy goes, piece by piece.
-use Rattle.std.proofs.Common.{◌≡◌, ◌≢◌, ◌∙◌, ℕ, ◌+◌, ◌<◌, List, [], ◌++◌, length, take, drop, refl, sym, ap, subst, append-nil}
+use Rattle.std.proofs.Common.{◌≡◌, ◌≢◌, ◌∙◌, ℕ, ◌+◌, List, [], ◌++◌, take, drop, refl, sym, ap, subst, append-nil}
 use Rattle.std.specs.Prelude.{Option, Some, None, IfSome, option_map, Result, Ok, Err}
 use Rattle.std.proofs.Math.Seq.{take-add}
 use Rattle.std.proofs.lemmas.List.{take_all}
-use Rattle.ann_outside.specs.Files.{Files, content, WhereTold, OthersStay, ReadIs, CreateDoes, AppendDoes}
+use Rattle.ann_outside.specs.Files.{Files, content, WhereTold, OthersStay, ReadIs, CreateDoes, CreateNewDoes, AppendDoes, RemoveDoes}
 use Rattle.ann_outside.specs.declared.file_desk.DeskError.{DeskError}
 use Rattle.ann_outside.specs.declared.file_desk.DeskError.TheVariants.{Failed, Missing, NoMemory}
 use Rattle.dir_remote.specs.Copies.{PieceDoes, Copying, CopyDoes}
@@ -38,11 +38,11 @@ others_append to piece result a b c same does =
     (told_map (AppendDoes to piece result) (OthersStay (λ other. other ≡ to)) b c (append_others to piece result) does)
 
 -- nothing was left to read
-pub piece_end : (from to buffer : List ℕ) (at : ℕ) (a b : Option Files) → b ≡ a → 0 < length buffer
+pub piece_end : (from to buffer : List ℕ) (at : ℕ) (a b : Option Files) → b ≡ a
     → IfSome a (λ fs. ReadIs from at buffer fs (Ok 0)) → WhereTold a b (PieceDoes from to at (Ok 0))
-piece_end from to buffer at a b same some told =
+piece_end from to buffer at a b same told =
     told_map (λ x y. (y ≡ x) × ReadIs from at buffer x (Ok 0)) (PieceDoes from to at (Ok 0)) a b
-    (λ x y h. (h.1.0, λ bytes is. (ap (content to) h.0 ∙ sym (map_nil (content to x)), λ zero. (h.1.1 bytes is).1 refl some)))
+    (λ x y h. (h.1.0, λ bytes is. (ap (content to) h.0 ∙ sym (map_nil (content to x)), λ zero. (h.1.1 bytes is).1 refl)))
     (told_same (λ fs. ReadIs from at buffer fs (Ok 0)) a b same told)
 
 -- a piece was read and appended
@@ -157,3 +157,39 @@ copy_refused from to at e a b c copying piece =
     step Failed x y z so_far h d = tt
     step Missing x y z so_far h d = sym (so_far.others from d) ∙ h so_far.there
     step NoMemory x y z so_far h d = tt
+
+-- a file that is made only where there is none is made
+pub made_new : (name : List ℕ) (result : Result (Unit {0}) DeskError) (a b : Option Files) → WhereTold a b (CreateNewDoes name result) → WhereTold a b (CreateDoes name result)
+made_new name result a b does = told_map (CreateNewDoes name result) (CreateDoes name result) a b (by_result result) does
+  where
+    by_result : (r : Result (Unit {0}) DeskError) (x y : Files) → CreateNewDoes name r x y → CreateDoes name r x y
+    by_result (Ok done) x y h = h.1
+    by_result (Err Failed) x y h = λ other d. h other
+    by_result (Err Missing) x y h = absurd h
+    by_result (Err NoMemory) x y h = h
+
+pub remove_others : (name : List ℕ) (result : Result (Unit {0}) DeskError) (a b : Option Files) → WhereTold a b (RemoveDoes name result) → WhereTold a b (OthersStay (λ other. other ≡ name))
+remove_others name result a b does = told_map (RemoveDoes name result) (OthersStay (λ other. other ≡ name)) a b (by_result result) does
+  where
+    by_result : (r : Result (Unit {0}) DeskError) (x y : Files) → RemoveDoes name r x y → OthersStay (λ other. other ≡ name) x y
+    by_result (Ok done) x y h = h.2
+    by_result (Err Failed) x y h = λ other d. h other
+    by_result (Err Missing) x y h = λ other d. h.1 other
+    by_result (Err NoMemory) x y h = λ other d. h other
+
+-- what was copied is cleared away
+pub others_cleared : (name : List ℕ) (a b c : Option Files) → WhereTold a b (OthersStay (λ other. other ≡ name)) → WhereTold b c (OthersStay (λ other. other ≡ name))
+    → WhereTold a c (OthersStay (λ other. other ≡ name))
+others_cleared name a b c p q =
+    told_both (OthersStay (λ other. other ≡ name)) (OthersStay (λ other. other ≡ name)) (OthersStay (λ other. other ≡ name)) a b c
+    (λ x y z f g other d. g other d ∙ f other d) p q
+
+pub refused_cleared : (from to : List ℕ) (e : DeskError) (a b c : Option Files) → WhereTold a b (λ x y. from ≢ to → CopyDoes from to (Err e) x y)
+    → WhereTold b c (OthersStay (λ other. other ≡ to)) → WhereTold a c (λ x y. from ≢ to → CopyDoes from to (Err e) x y)
+refused_cleared from to e a b c p q =
+    told_both (λ x y. from ≢ to → CopyDoes from to (Err e) x y) (OthersStay (λ other. other ≡ to)) (λ x y. from ≢ to → CopyDoes from to (Err e) x y) a b c (step e) p q
+  where
+    step : (f : DeskError) (x y z : Files) → (from ≢ to → CopyDoes from to (Err f) x y) → OthersStay (λ other. other ≡ to) y z → from ≢ to → CopyDoes from to (Err f) x z
+    step Failed x y z h o d = tt
+    step Missing x y z h o d = h d
+    step NoMemory x y z h o d = tt

@@ -1,5 +1,9 @@
+pub mod CauseLaws
 pub mod CopyLaws
 pub mod FileNameLaws
+pub mod Mixture
+pub mod Mixing
 pub mod PlaceLaws
 pub mod Telling
+pub mod TraceLaws
 pub mod WorkLaws

@@ -1,6 +1,6 @@
 -- The names of files in the directory differ where they should.
-use Rattle.std.proofs.Common.{◌≡◌, ◌≢◌, ◌∙◌, ℕ, List, [], ◌∷◌, ◌++◌, refl, sym, ap, take, drop, append_assoc, arith}
-use Rattle.std.specs.Prelude.{Bool, true, false, Some, codes, ◌==◌, ◌||◌, nat_lt}
+use Rattle.std.proofs.Common.{◌≡◌, ◌≢◌, ◌∙◌, ℕ, List, [], ◌∷◌, ◌++◌, refl, sym, ap, subst, take, drop, append_assoc, arith}
+use Rattle.std.specs.Prelude.{Bool, true, false, Option, Some, None, IfSome, codes, ◌==◌, ◌||◌, nat_lt}
 use Rattle.std.specs.List.{list_any, list_all}
 use Rattle.std.proofs.lemmas.List.{append_cancel_left}
 use Rattle.std.specs.Str.{IsAscii, IsUtf8}
@@ -17,7 +17,7 @@ use Rattle.ann_key.specs.declared.key.KeyRef.{KeyRef}
 use Rattle.ann_key.proofs.Spelling.{spelled_of_read}
 use Rattle.ann_key.proofs.Unique.{spelling_unique}
 use Rattle.ann_digest.specs.Directories.{lower_of}
-use Rattle.dir_remote.specs.Contents.{IsContentName, IsOutside, place_of, temporary_name}
+use Rattle.dir_remote.specs.Contents.{IsContentName, IsMark, IsOutside, marked, place_of, temporary_name}
 use Rattle.dir_remote.proofs.FileNameLaws.{is_slash, file_name_clean, file_name_tells}
 
 slash_before : (front file : List ℕ) → list_any is_slash (front ++ 47 ∷ file) ≡ true
@@ -72,17 +72,59 @@ lower_slash base =
     let hex = encode_lower (md5 base) in
     ap (list_any is_slash) (append_assoc (take 3 hex) (47 ∷ []) (take 3 (drop 3 hex))) ∙ slash_before (take 3 hex) (take 3 (drop 3 hex))
 
-pub temporary_name_differs : (directory text other n : List ℕ) → IsContentName directory other n → n ≢ temporary_name directory text
-temporary_name_differs directory text other n p e =
-    let same = same_place directory (lower_of p.base) (codes "tmp") (file_name_of other) (file_name_of text) (file_name_clean other) (file_name_clean text) (sym p.whole ∙ e) in
+-- ---- marks
+
+or_false : (a b : Bool) → (a || b) ≡ false → (a ≡ false) × (b ≡ false)
+or_false true b e = absurd cc
+or_false false b e = (refl, e)
+
+any_append : (p : ℕ → Bool) (xs ys : List ℕ) → list_any p xs ≡ false → list_any p ys ≡ false → list_any p (xs ++ ys) ≡ false
+any_append p [] ys e f = f
+any_append p (x ∷ xs) ys e f =
+    let parts = or_false (p x) (list_any p xs) e in
+    rw (parts.0) (any_append p xs ys parts.1 f)
+
+clean_marked : (mark : Option (List ℕ)) (file : List ℕ) → IfSome mark IsMark → list_any is_slash file ≡ false → list_any is_slash (marked mark file) ≡ false
+clean_marked None file m clean = clean
+clean_marked (Some mark) file m clean = any_append is_slash mark (45 ∷ file) m.no_slash clean
+
+pub temporary_name_differs : (mark : Option (List ℕ)) (directory text other n : List ℕ) → IfSome mark IsMark → IsContentName directory other n → n ≢ temporary_name mark directory text
+temporary_name_differs mark directory text other n m p e =
+    let same = same_place directory (lower_of p.base) (codes "tmp") (file_name_of other) (marked mark (file_name_of text)) (file_name_clean other)
+    (clean_marked mark (file_name_of text) m (file_name_clean text)) (sym p.whole ∙ e) in
     let slash : true ≡ list_any is_slash (codes "tmp") = sym (lower_slash p.base) ∙ ap (list_any is_slash) same.0 in
     absurd cc
+
+-- what stands before the first dash
+first_dash : (a b f g : List ℕ) → list_any (λ c. c == 45) a ≡ false → list_any (λ c. c == 45) b ≡ false → a ++ 45 ∷ f ≡ b ++ 45 ∷ g → a ≡ b
+first_dash [] [] f g clean clean' e = refl
+first_dash [] (y ∷ b) f g clean clean' e =
+    let head : 45 ≡ y = cc in
+    let P : ℕ → Type 0 = λ c. (c == 45) ≡ false in
+    let bad : (45 == 45) ≡ false = subst P (sym head) (or_false (y == 45) (list_any (λ c. c == 45) b) clean').0 in
+    absurd cc
+first_dash (x ∷ a) [] f g clean clean' e =
+    let head : x ≡ 45 = cc in
+    let P : ℕ → Type 0 = λ c. (c == 45) ≡ false in
+    let bad : (45 == 45) ≡ false = subst P head (or_false (x == 45) (list_any (λ c. c == 45) a) clean).0 in
+    absurd cc
+first_dash (x ∷ a) (y ∷ b) f g clean clean' e =
+    let head : x ≡ y = cc in
+    let tail : a ++ 45 ∷ f ≡ b ++ 45 ∷ g = cc in
+    let rest : a ≡ b = first_dash a b f g (or_false (x == 45) (list_any (λ c. c == 45) a) clean).1 (or_false (y == 45) (list_any (λ c. c == 45) b) clean').1 tail in
+    cc
+
+pub temporary_names_differ : (directory a b text other : List ℕ) → a ≢ b → IsMark a → IsMark b → temporary_name (Some a) directory text ≢ temporary_name (Some b) directory other
+temporary_names_differ directory a b text other differ m n e =
+    let same = same_place directory (codes "tmp") (codes "tmp") (marked (Some a) (file_name_of text)) (marked (Some b) (file_name_of other))
+    (clean_marked (Some a) (file_name_of text) m (file_name_clean text)) (clean_marked (Some b) (file_name_of other) n (file_name_clean other)) e in
+    differ (first_dash a b (file_name_of text) (file_name_of other) m.no_dash n.no_dash same.1)
 
 pub content_name_inside : (directory text other n : List ℕ) → IsOutside directory other → IsContentName directory text n → other ≢ n
 content_name_inside directory text other n outside p e = outside (lower_of p.base ++ 47 ∷ file_name_of text) (e ∙ p.whole)
 
-pub temporary_name_inside : (directory text other : List ℕ) → IsOutside directory other → other ≢ temporary_name directory text
-temporary_name_inside directory text other outside e = outside (codes "tmp" ++ 47 ∷ file_name_of text) e
+pub temporary_name_inside : (mark : Option (List ℕ)) (directory text other : List ℕ) → IsOutside directory other → other ≢ temporary_name mark directory text
+temporary_name_inside mark directory text other outside e = outside (codes "tmp" ++ 47 ∷ marked mark (file_name_of text)) e
 
 -- ---- the folder is text
 

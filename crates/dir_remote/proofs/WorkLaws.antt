@@ -1,14 +1,15 @@
 -- What the work of a call does to the contents of the keys.
-use Rattle.std.proofs.Common.{◌≡◌, ◌≢◌, ◌∙◌, ℕ, List, refl, sym, ap, subst, arith}
+use Rattle.std.proofs.Common.{◌≡◌, ◌≢◌, ◌∙◌, ◌≤◌, ℕ, List, refl, sym, ap, subst, arith}
 use Rattle.std.specs.Str.{IsUtf8}
 use Rattle.ann_key.specs.FileNames.{file_name_of}
 use Rattle.std.specs.Prelude.{Bool, IsTrue, Option, None, IfSome, Result, Ok, Err}
+use Rattle.ann_outside.specs.Causes.{Rose}
 use Rattle.ann_outside.specs.DeskCauses.{Counts, HasCauses}
 use Rattle.ann_outside.specs.Files.{Files, content, WhereTold, OthersStay, AllStay, SizeIs, RenameDoes, RemoveDoes}
 use Rattle.ann_outside.specs.declared.file_desk.DeskError.{DeskError}
 use Rattle.ann_outside.specs.declared.file_desk.DeskError.TheVariants.{Failed, Missing, NoMemory}
 use Rattle.dir_remote.specs.Answers.{Works, StoreDoes, StoredUnder, RetrieveDoes, RetrievedTo, CheckDoes, RemoveDoes as RemovalDoes, is_of_transfer, is_of_check, is_of_removal}
-use Rattle.dir_remote.specs.Contents.{IsContentName, IsOutside, temporary_name}
+use Rattle.dir_remote.specs.Contents.{IsContentName, IsMark, IsOutside, temporary_name}
 use Rattle.dir_remote.specs.Copies.{CopyDoes}
 use Rattle.dir_remote.specs.Outcomes.{HasOutcomeCauses, IsUnnamed, refusal_of}
 use Rattle.dir_remote.specs.declared.outcome.Outcome.{Outcome}
@@ -17,6 +18,9 @@ use Rattle.dir_remote.proofs.PlaceLaws.{content_name_unique, content_names_diffe
 use Rattle.dir_remote.proofs.Telling.{told_refl, told_both, told_map, told_and, told_same}
 
 -- ---- causes
+
+rose_on : (a b c : ℕ) → Rose a b → b ≤ c → Rose a c
+rose_on a b c h low = omega (arith, h, low)
 
 pub causes_done : {T : Type 0} (old new : Counts) (result : Result T DeskError) → HasCauses old new result → HasOutcomeCauses old new O.Done
 causes_done old new result h =
@@ -72,6 +76,12 @@ pub causes_done_behind : {T : Type 0} (a b c : Counts) (x : T) → b ≡ a → H
 causes_done_behind {T} a b c x same h =
     let P : Counts → Type 0 = λ y. HasCauses {T = T} y c (Ok x) in
     causes_done {T = T} a c (Ok x) (subst P same h)
+
+pub causes_same_done : (a b : Counts) → b ≡ a → HasOutcomeCauses a b O.Done
+causes_same_done a b same =
+    let f : b.faults ≡ a.faults = ap (λ (k : Counts). k.faults) same in
+    let m : b.missing ≡ a.missing = ap (λ (k : Counts). k.missing) same in
+    record { faults_later = omega (arith, f); missing_later = omega (arith, m); failed = λ e. cc; missing = λ e. cc; not_there = λ e. cc }
 
 -- ---- nothing was done, since the key's file got no name
 
@@ -129,10 +139,10 @@ transfer_refused Does key counts after a b NoMemory text causes does = record { 
 
 -- ---- store
 
-pub store_uncopied : (directory key file temporary : List ℕ) (e : DeskError) (a b : Option Files) → temporary ≡ temporary_name directory key
+pub store_uncopied : (mark : Option (List ℕ)) → IfSome mark IsMark → (directory key file temporary : List ℕ) (e : DeskError) (a b : Option Files) → temporary ≡ temporary_name mark directory key
     → WhereTold a b (OthersStay (λ other. other ≡ temporary)) → WhereTold a b (λ x y. file ≢ temporary → CopyDoes file temporary (Err e) x y)
     → WhereTold a b (StoreDoes directory key file (refusal_of e))
-store_uncopied directory key file temporary e a b place others copied =
+store_uncopied mark m directory key file temporary e a b place others copied =
     told_map (λ x y. OthersStay (λ other. other ≡ temporary) x y × (file ≢ temporary → CopyDoes file temporary (Err e) x y)) (StoreDoes directory key file (refusal_of e)) a b step
     (told_and (OthersStay (λ other. other ≡ temporary)) (λ x y. file ≢ temporary → CopyDoes file temporary (Err e) x y) a b others copied)
   where
@@ -144,39 +154,39 @@ store_uncopied directory key file temporary e a b place others copied =
 
     step : (x y : Files) → (OthersStay (λ other. other ≡ temporary) x y × (file ≢ temporary → CopyDoes file temporary (Err e) x y)) → StoreDoes directory key file (refusal_of e) x y
     step x y h = record {
-      this = λ name is. by_error e name x y (h.0 name (λ same. temporary_name_differs directory key key name is (same ∙ place))) (λ outside. h.1 (λ same. temporary_name_inside directory key file outside (same ∙ place)));
-      other_keys = λ other name d is. h.0 name (λ same. temporary_name_differs directory key other name is (same ∙ place));
-      outside = λ other out. h.0 other (λ same. temporary_name_inside directory key other out (same ∙ place));
+      this = λ name is. by_error e name x y (h.0 name (λ same. temporary_name_differs mark directory key key name m is (same ∙ place))) (λ outside. h.1 (λ same. temporary_name_inside mark directory key file outside (same ∙ place)));
+      other_keys = λ other name d is. h.0 name (λ same. temporary_name_differs mark directory key other name m is (same ∙ place));
+      outside = λ other out. h.0 other (λ same. temporary_name_inside mark directory key other out (same ∙ place));
     }
 
 -- what a copy that was made leaves
 abbrev pub Copied : List ℕ → List ℕ → Files → Files → Type 0
 Copied file temporary x y = OthersStay (λ other. other ≡ temporary) x y × (file ≢ temporary → CopyDoes file temporary (Ok tt) x y)
 
-pub store_done : (directory key file temporary place : List ℕ) (a b c : Option Files) → temporary ≡ temporary_name directory key → IsContentName directory key place
+pub store_done : (mark : Option (List ℕ)) → IfSome mark IsMark → (directory key file temporary place : List ℕ) (a b c : Option Files) → temporary ≡ temporary_name mark directory key → IsContentName directory key place
     → WhereTold a b (OthersStay (λ other. other ≡ temporary)) → WhereTold a b (λ x y. file ≢ temporary → CopyDoes file temporary (Ok tt) x y)
     → WhereTold b c (RenameDoes temporary place (Ok tt)) → WhereTold a c (StoreDoes directory key file O.Done)
-store_done directory key file temporary place a b c at_temporary at_place others copied renamed =
+store_done mark m directory key file temporary place a b c at_temporary at_place others copied renamed =
     told_both (Copied file temporary) (RenameDoes temporary place (Ok tt)) (StoreDoes directory key file O.Done) a b c step
     (told_and (OthersStay (λ other. other ≡ temporary)) (λ x y. file ≢ temporary → CopyDoes file temporary (Ok tt) x y) a b others copied) renamed
   where
     step : (x y z : Files) → Copied file temporary x y → RenameDoes temporary place (Ok tt) y z → StoreDoes directory key file O.Done x z
     step x y z h r = record {
       this = λ name is outside.
-          let made = h.1 (λ same. temporary_name_inside directory key file outside (same ∙ at_temporary)) in
+          let made = h.1 (λ same. temporary_name_inside mark directory key file outside (same ∙ at_temporary)) in
           (made.0, ap (λ n. content n z) (content_name_unique directory key name place is at_place) ∙ r.1 ∙ made.1);
       other_keys = λ other name d is.
-          let away : name ≢ temporary = λ same. temporary_name_differs directory key other name is (same ∙ at_temporary) in
+          let away : name ≢ temporary = λ same. temporary_name_differs mark directory key other name m is (same ∙ at_temporary) in
           r.3 name away (content_names_differ directory key other name place d is at_place) ∙ h.0 name away;
       outside = λ other out.
-          let away : other ≢ temporary = λ same. temporary_name_inside directory key other out (same ∙ at_temporary) in
+          let away : other ≢ temporary = λ same. temporary_name_inside mark directory key other out (same ∙ at_temporary) in
           r.3 other away (content_name_inside directory key other place out at_place) ∙ h.0 other away;
     }
 
-pub store_unnamed : (directory key file temporary place : List ℕ) (e : DeskError) (a b c : Option Files) → temporary ≡ temporary_name directory key
+pub store_unnamed : (mark : Option (List ℕ)) → IfSome mark IsMark → (directory key file temporary place : List ℕ) (e : DeskError) (a b c : Option Files) → temporary ≡ temporary_name mark directory key
     → WhereTold a b (OthersStay (λ other. other ≡ temporary)) → WhereTold a b (λ x y. file ≢ temporary → CopyDoes file temporary (Ok tt) x y)
     → WhereTold b c (RenameDoes temporary place (Err e)) → WhereTold a c (StoreDoes directory key file (refusal_of e))
-store_unnamed directory key file temporary place e a b c at_temporary others copied renamed =
+store_unnamed mark m directory key file temporary place e a b c at_temporary others copied renamed =
     told_both (Copied file temporary) (RenameDoes temporary place (Err e)) (StoreDoes directory key file (refusal_of e)) a b c step
     (told_and (OthersStay (λ other. other ≡ temporary)) (λ x y. file ≢ temporary → CopyDoes file temporary (Ok tt) x y) a b others copied) renamed
   where
@@ -196,11 +206,44 @@ store_unnamed directory key file temporary place e a b c at_temporary others cop
         let stay = all_stay e y z r in
         record {
           this = λ name is.
-              by_error e name x y z (stay name ∙ h.0 name (λ same. temporary_name_differs directory key key name is (same ∙ at_temporary)))
-              (λ outside. h.1 (λ same. temporary_name_inside directory key file outside (same ∙ at_temporary))) r;
-          other_keys = λ other name d is. stay name ∙ h.0 name (λ same. temporary_name_differs directory key other name is (same ∙ at_temporary));
-          outside = λ other out. stay other ∙ h.0 other (λ same. temporary_name_inside directory key other out (same ∙ at_temporary));
+              by_error e name x y z (stay name ∙ h.0 name (λ same. temporary_name_differs mark directory key key name m is (same ∙ at_temporary)))
+              (λ outside. h.1 (λ same. temporary_name_inside mark directory key file outside (same ∙ at_temporary))) r;
+          other_keys = λ other name d is. stay name ∙ h.0 name (λ same. temporary_name_differs mark directory key other name m is (same ∙ at_temporary));
+          outside = λ other out. stay other ∙ h.0 other (λ same. temporary_name_inside mark directory key other out (same ∙ at_temporary));
         }
+
+-- what the store left under its temporary name is cleared away
+pub store_cleared : (mark : Option (List ℕ)) → IfSome mark IsMark → (directory key file temporary : List ℕ) (outcome : Outcome) (a b c : Option Files) → temporary ≡ temporary_name mark directory key
+    → WhereTold a b (StoreDoes directory key file outcome) → WhereTold b c (OthersStay (λ other. other ≡ temporary)) → WhereTold a c (StoreDoes directory key file outcome)
+store_cleared mark m directory key file temporary outcome a b c place does others =
+    told_both (StoreDoes directory key file outcome) (OthersStay (λ other. other ≡ temporary)) (StoreDoes directory key file outcome) a b c step does others
+  where
+    by_outcome : (o : Outcome) (name : List ℕ) (x y z : Files) → StoredUnder directory file name o x y → content name z ≡ content name y → StoredUnder directory file name o x z
+    by_outcome O.Done name x y z h same = λ out. ((h out).0, same ∙ (h out).1)
+    by_outcome O.NoSuchFile name x y z h same = (same ∙ h.0, h.1)
+    by_outcome O.NotThere name x y z h same = same ∙ h
+    by_outcome O.NotPrepared name x y z h same = same ∙ h
+    by_outcome O.NoDirectory name x y z h same = same ∙ h
+    by_outcome O.NotText name x y z h same = same ∙ h
+    by_outcome O.DiskFailed name x y z h same = same ∙ h
+    by_outcome O.NoMemory name x y z h same = same ∙ h
+
+    step : (x y z : Files) → StoreDoes directory key file outcome x y → OthersStay (λ other. other ≡ temporary) y z → StoreDoes directory key file outcome x z
+    step x y z h o = record {
+      this = λ name is. by_outcome outcome name x y z (h.this name is) (o name (λ same. temporary_name_differs mark directory key key name m is (same ∙ place)));
+      other_keys = λ other name d is. o name (λ same. temporary_name_differs mark directory key other name m is (same ∙ place)) ∙ h.other_keys other name d is;
+      outside = λ other out. o other (λ same. temporary_name_inside mark directory key other out (same ∙ place)) ∙ h.outside other out;
+    }
+
+-- a fault, and then what clearing away counted
+pub causes_cleared : (a b c : Counts) (outcome : Outcome) → HasOutcomeCauses a b outcome → b.faults ≤ c.faults → b.missing ≤ c.missing → HasOutcomeCauses a c outcome
+causes_cleared a b c outcome h f m = record {
+  faults_later = omega (arith, h.faults_later, f);
+  missing_later = omega (arith, h.missing_later, m);
+  failed = λ e. rose_on a.faults b.faults c.faults (h.failed e) f;
+  missing = λ e. rose_on a.missing b.missing c.missing (h.missing e) m;
+  not_there = λ e. rose_on a.missing b.missing c.missing (h.not_there e) m;
+}
 
 -- ---- retrieve
 

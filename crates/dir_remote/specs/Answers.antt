@@ -1,5 +1,5 @@
 -- What each call of the directory remote does and says.
-use Rattle.std.specs.Prelude.{ℕ, ◌≡◌, ◌≢◌, Bool, true, false, List, ◌∷◌, [], Option, Some, None, IsTrue, IfSome, OnOk, OnErr, Result}
+use Rattle.std.specs.Prelude.{ℕ, ◌≡◌, ◌≢◌, ◌⊎◌, Bool, true, false, List, ◌∷◌, [], Option, Some, None, IsTrue, IfSome, OnOk, OnErr, Result}
 use Rattle.std.specs.Str.{IsUtf8}
 use Rattle.ann_key.specs.FileNames.{file_name_of}
 use Rattle.ann_key.specs.declared.bytes.NoMemory.{NoMemory as WithoutMemory}
@@ -7,9 +7,11 @@ use Rattle.ann_outside.specs.DeskCauses.{Counts}
 use Rattle.ann_outside.specs.Files.{Files, content, OthersStay, AllStay, WhereTold}
 use Rattle.kit_core.specs.declared.call.Said.{Said}
 use Rattle.dir_remote.specs.Contents.{IsContentName, IsOutside, OutsideStays, OtherKeysStay, KeysStay}
+use Rattle.ann_outside.specs.declared.file_desk.Call.{Call}
+use Rattle.dir_remote.specs.Traces.{Traced}
 use Rattle.dir_remote.specs.Outcomes.{Says, HasOutcomeCauses, TextFits, PreparedFits}
 use Rattle.dir_remote.specs.declared.outcome.Outcome.{Outcome}
-use Rattle.dir_remote.specs.declared.outcome.Outcome.TheVariants.{Done, NotThere, NotPrepared, NoDirectory, NotText, NoSuchFile, NoMemory}
+use Rattle.dir_remote.specs.declared.outcome.Outcome.TheVariants.{Done, NotThere, NotPrepared, NoDirectory, NotText, DiskFailed, NoSuchFile, NoMemory}
 
 -- No and `no directory` are no words of these calls
 abbrev pub is_of_transfer : Outcome → Bool
@@ -80,14 +82,22 @@ pub record Works (is_word : Outcome → Bool) (Does : Outcome → Files → File
   pub causes : HasOutcomeCauses counts counts_after outcome
   pub files_do : WhereTold files files_after (Does outcome)
 
--- A call that works in the directory, where one was given, and says how that went. Without one nothing is done.
-pub record Answers (is_word : Outcome → Bool) (Does : List ℕ → Outcome → Files → Files → Type 0) (directory : Option (List ℕ)) (key : List ℕ)
-    (counts counts_after : Counts) (files files_after : Option Files) (result : Result Said WithoutMemory) : Type 0 where
+-- A call that isn't said to have failed at the disk counted no fault; a file that is cleared away after a failure may fail to go.
+abbrev pub IsCalm : Bool → Counts → Counts → Outcome → Type 0
+IsCalm clears old new outcome = (clears ≡ false) ⊎ (outcome ≡ Done) → outcome ≢ DiskFailed → new.faults ≡ old.faults
+
+-- A call that works in the directory, where one was given, makes these calls on the desk, and says how that went. Without a directory
+-- nothing is done.
+pub record Answers (is_word : Outcome → Bool) (Does : List ℕ → Outcome → Files → Files → Type 0) (Traces : List ℕ → Outcome → List Call → Type 0)
+    (clears : Bool) (directory : Option (List ℕ)) (key : List ℕ)
+    (counts counts_after : Counts) (files files_after : Option Files) (log log_after : Option (List Call)) (result : Result Said WithoutMemory) : Type 0 where
   pub outcome : Outcome
   pub says : Says outcome result
   pub prepared : PreparedFits directory outcome
   pub works : IfSome directory (λ d. Works is_word (Does d) key counts counts_after files files_after outcome)
-  pub idle : directory ≡ None → (counts_after ≡ counts) × (files_after ≡ files)
+  pub traced : IfSome directory (λ d. Traced (Traces d outcome) log log_after)
+  pub calm : IfSome directory (λ d. IsCalm clears counts counts_after outcome)
+  pub idle : directory ≡ None → (counts_after ≡ counts) × (files_after ≡ files) × (log_after ≡ log)
 
 -- the first value, or an empty one where there is none
 abbrev pub first_of : List (List ℕ) → List ℕ
@@ -99,7 +109,7 @@ abbrev pub PreparedBy : List ℕ → Outcome → Option (List ℕ) → Type 0
 PreparedBy value Done directory = (value ≢ []) × IsUtf8 value × (directory ≡ Some value)
 PreparedBy value NoDirectory directory = (value ≡ []) × (directory ≡ None)
 PreparedBy value NotText directory = (value ≢ []) × (¬ (IsUtf8 value)) × (directory ≡ None)
-PreparedBy value NoMemory directory = Unit {0}
+PreparedBy value NoMemory directory = IsUtf8 value
 PreparedBy value outcome directory = ⊥
 
 -- what a preparation makes of the value, and says; without memory the directory stays
@@ -111,5 +121,6 @@ pub record Prepares (value : List ℕ) (directory directory_after : Option (List
 
 -- what contracts see of a directory remote
 pub record DirValue (D : Type 0) : Type 0 where
+  pub mark : Option (List ℕ)
   pub directory : Option (List ℕ)
   pub desk : D

@@ -1,5 +1,6 @@
 -- Where the content of a key stands in a directory.
-use Rattle.std.specs.Prelude.{ℕ, ◌≡◌, ◌≢◌, codes, List, ◌∷◌, ◌++◌, Some}
+use Rattle.std.specs.Prelude.{ℕ, ◌≡◌, ◌≢◌, ◌==◌, false, codes, List, [], ◌∷◌, ◌++◌, Option, Some, None}
+use Rattle.std.specs.List.{list_any}
 use Rattle.ann_key.specs.Keys.{Parts, IsKey, key_reading, without_chunk}
 use Rattle.ann_key.specs.FileNames.{file_name_of}
 use Rattle.ann_digest.specs.Directories.{lower_of}
@@ -17,9 +18,20 @@ pub record IsContentName (directory text name : List ℕ) : Type 0 where
   pub base_is : IsKey base (without_chunk parts)
   pub whole : name ≡ place_of directory (lower_of base) (file_name_of text)
 
+-- a mark has bytes, and neither a slash nor a dash among them
+pub record IsMark (mark : List ℕ) : Type 0 where
+  pub some : mark ≢ []
+  pub no_slash : list_any (λ b. b == 47) mark ≡ false
+  pub no_dash : list_any (λ b. b == 45) mark ≡ false
+
+-- FILE, or MARK-FILE where the remote has a mark
+abbrev pub marked : Option (List ℕ) → List ℕ → List ℕ
+marked None file = file
+marked (Some mark) file = mark ++ 45 ∷ file
+
 -- where the content is put together before it gets its name
-abbrev pub temporary_name : List ℕ → List ℕ → List ℕ
-temporary_name directory text = place_of directory (codes "tmp") (file_name_of text)
+abbrev pub temporary_name : Option (List ℕ) → List ℕ → List ℕ → List ℕ
+temporary_name mark directory text = place_of directory (codes "tmp") (marked mark (file_name_of text))
 
 -- the file's name doesn't begin with the directory's name and a slash
 abbrev pub IsOutside : List ℕ → List ℕ → Type 0

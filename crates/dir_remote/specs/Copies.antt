@@ -1,5 +1,7 @@
 -- What a copy of a file does to the files of a desk.
-use Rattle.std.specs.Prelude.{ℕ, ◌≡◌, ◌≢◌, ◌≤◌, ⊤, List, ◌++◌, take, drop, length, option_map, Some, None, Result, Ok, Err}
+use Rattle.std.specs.Prelude.{ℕ, ◌≡◌, ◌≢◌, ◌≤◌, ⊤, Bool, false, List, ◌++◌, take, drop, length, option_map, Some, None, Result, Ok, Err, OnOk}
+use Rattle.ann_outside.specs.Causes.{Rose}
+use Rattle.ann_outside.specs.DeskCauses.{Counts}
 use Rattle.ann_outside.specs.Files.{Files, content, OthersStay}
 use Rattle.ann_outside.specs.declared.file_desk.DeskError.{DeskError}
 use Rattle.ann_outside.specs.declared.file_desk.DeskError.TheVariants.{Failed, Missing, NoMemory}
@@ -26,3 +28,13 @@ CopyDoes from to (Ok done) old new = (content from old ≢ None) × (content to 
 CopyDoes from to (Err Missing) old new = content from old ≡ None
 CopyDoes from to (Err Failed) old new = ⊤
 CopyDoes from to (Err NoMemory) old new = ⊤
+
+-- The counts haven't fallen, and Failed and Missing come only where theirs rose. Done leaves both as they were, and any answer but
+-- Failed that of the faults, where a copy that failed isn't cleared away.
+pub record HasCopyCauses (clears : Bool) (old new : Counts) (result : Result (Unit {0}) DeskError) : Type 0 where
+  pub faults_later : old.faults ≤ new.faults
+  pub missing_later : old.missing ≤ new.missing
+  pub failed : result ≡ Err Failed → Rose old.faults new.faults
+  pub missing : result ≡ Err Missing → Rose old.missing new.missing
+  pub done : OnOk result (new ≡ old)
+  pub calm : clears ≡ false → result ≢ Err Failed → new.faults ≡ old.faults

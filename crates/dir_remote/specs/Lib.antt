@@ -1,4 +1,6 @@
 pub mod Answers
 pub mod Contents
 pub mod Copies
+pub mod Interleavings
 pub mod Outcomes
+pub mod Traces

@@ -44,6 +44,12 @@ TextFits name NotText = ¬ (IsUtf8 name)
 TextFits name NoMemory = ⊤
 TextFits name outcome = IsUtf8 name
 
+-- why bytes gave no text
+abbrev pub IsNoText : List ℕ → Outcome → Type 0
+IsNoText bytes NotText = ¬ (IsUtf8 bytes)
+IsNoText bytes NoMemory = IsUtf8 bytes
+IsNoText bytes outcome = ⊥
+
 -- why a key's file got no name
 abbrev pub IsUnnamed : List ℕ → Outcome → Type 0
 IsUnnamed text NotText = ¬ (IsUtf8 (file_name_of text))

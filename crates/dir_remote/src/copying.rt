@@ -1,8 +1,11 @@
 // Copies of files, in steps.
-ghost use Rattle.std.specs.Prelude.{◌≡◌, ◌≢◌, ◌+◌, ◌<◌, ◌^◌, length, IfOk};
-ghost use Rattle.ann_outside.specs.DeskCauses.{HasCauses};
-ghost use Rattle.ann_outside.specs.Files.{WhereTold, OthersStay};
-ghost use Rattle.dir_remote.specs.Copies.{PieceDoes, CopyDoes};
+ghost use Rattle.std.specs.Prelude.{◌≡◌, ◌≢◌, ◌+◌, ◌<◌, ◌≤◌, ◌^◌, false, length, IfOk, IsTrue, Err};
+ghost use Rattle.ann_outside.specs.Calls.{logged};
+ghost use Rattle.ann_outside.specs.DeskCauses.{HasCauses, LeavesOther};
+ghost use Rattle.ann_outside.specs.Files.{WhereTold, OthersStay, CreateDoes, CreateNewDoes};
+ghost use Rattle.ann_outside.specs.declared.file_desk.Call.TheVariants.{Create};
+ghost use Rattle.dir_remote.specs.Copies.{PieceDoes, CopyDoes, HasCopyCauses};
+ghost use Rattle.dir_remote.specs.Traces.{Traced, Each, IsClearing, PieceTraces, CopyTraces};
 
 use ann_outside::{Desk, DeskError};
 use std::alloc::Global;
@@ -20,6 +23,8 @@ fn copy_piece<D: Desk>(
     requires { 0 < length buffer.old }
     ensures place { IfOk result (λ n. at + n < 2 ^ 64) }
     ensures causes { HasCauses (D.counts desk.old) (D.counts desk.new) result }
+    ensures apart { LeavesOther (D.counts desk.old) (D.counts desk.new) result }
+    ensures traced { Traced (PieceTraces from.now to.now at result) (D.log desk.old) (D.log desk.new) }
     ensures others { WhereTold (D.files desk.old) (D.files desk.new) (OthersStay (λ other. other ≡ to.now)) }
     ensures piece { WhereTold (D.files desk.old) (D.files desk.new) (PieceDoes from.now to.now at result) }
 {
@@ -33,16 +38,59 @@ fn copy_piece<D: Desk>(
     }
 }
 
-// Makes the one file anew with the content of the other.
-pub fn copy<D: Desk>(alloc: Global, desk: &mut D, from: &str, to: &str) -> Result<(), DeskError>
+// Makes the file, anew or only where there is none of its name.
+fn make<D: Desk>(desk: &mut D, name: &str, alone: bool) -> Result<(), DeskError>
     ensures causes { HasCauses (D.counts desk.old) (D.counts desk.new) result }
+    ensures apart { LeavesOther (D.counts desk.old) (D.counts desk.new) result }
+    ensures files { WhereTold (D.files desk.old) (D.files desk.new) (CreateDoes name.now result) }
+    ensures alone { IsTrue alone → WhereTold (D.files desk.old) (D.files desk.new) (CreateNewDoes name.now result) }
+    ensures log { D.log desk.new ≡ logged (D.log desk.old) (Create name.now result) }
+{
+    if alone {
+        desk.create_new(name)
+    } else {
+        desk.create(name)
+    }
+}
+
+// Clears the file away, where it is one's own, after a step that failed.
+pub fn give_up<D: Desk>(
+    desk: &mut D,
+    name: &str,
+    clears: bool,
+    error: DeskError,
+) -> Result<(), DeskError>
+    ensures same { result ≡ Err error }
+    ensures later { (D.counts desk.old).faults ≤ (D.counts desk.new).faults }
+    ensures missing { (D.counts desk.old).missing ≤ (D.counts desk.new).missing }
+    ensures calm { clears ≡ false → D.counts desk.new ≡ D.counts desk.old }
+    ensures others { WhereTold (D.files desk.old) (D.files desk.new) (OthersStay (λ other. other ≡ name.now)) }
+    ensures traced { Traced (Each (IsClearing clears name.now)) (D.log desk.old) (D.log desk.new) }
+{
+    if clears {
+        let _ = desk.remove(name);
+    }
+    Err(error)
+}
+
+// Makes the one file with the content of the other: anew, or only where there is none of its name. In that case a copy that
+// fails clears away what it made.
+pub fn copy<D: Desk>(
+    alloc: Global,
+    desk: &mut D,
+    from: &str,
+    to: &str,
+    alone: bool,
+) -> Result<(), DeskError>
+    ensures causes { HasCopyCauses alone (D.counts desk.old) (D.counts desk.new) result }
     ensures others { WhereTold (D.files desk.old) (D.files desk.new) (OthersStay (λ other. other ≡ to.now)) }
     ensures copied { WhereTold (D.files desk.old) (D.files desk.new) (λ old new. from.now ≢ to.now → CopyDoes from.now to.now result old new) }
+    ensures traced { Traced (CopyTraces alone from.now to.now result) (D.log desk.old) (D.log desk.new) }
 {
     let Ok(mut buffer) = vec![in alloc; 0; STEP] else {
         return Err(DeskError::NoMemory);
     };
-    if let Err(error) = desk.create(to) {
+    if let Err(error) = make(desk, to, alone) {
         return Err(error);
     }
     let mut at = 0;
@@ -50,7 +98,7 @@ pub fn copy<D: Desk>(alloc: Global, desk: &mut D, from: &str, to: &str) -> Resul
         match copy_piece(desk, from, to, at, buffer.as_mut_slice()) {
             Ok(0) => return Ok(()),
             Ok(count) => at += count,
-            Err(error) => return Err(error),
+            Err(error) => return give_up(desk, to, alone, error),
         }
     }
 }

@@ -2,9 +2,11 @@
 #![tactic(auto)]
 
 mod copying;
+pub mod laws;
 mod outcome;
 mod places;
 mod remote;
 mod works;
 
+pub use places::is_mark;
 pub use remote::DirRemote;

@@ -1,11 +1,13 @@
 // The directory remote.
-ghost use Rattle.std.specs.Prelude.{◌≡◌, ◌∷◌, [], not, codes, IsTrue, IfOk, None};
+ghost use Rattle.std.specs.Prelude.{◌≡◌, ◌∷◌, [], not, codes, false, is_some, IsTrue, IfOk, None, Some};
 ghost use Rattle.ann_key.specs.KeyRefs.{text_of};
 ghost use Rattle.annex_model.specs.Lines.{has_newline};
 ghost use Rattle.annex_model.specs.Messages.{is_sent_key};
 ghost use Rattle.kit_core.specs.declared.call.Asked.TheVariants.{Prepare, Store, Retrieve, Check, Remove};
 ghost use Rattle.kit_core.specs.Calls.{called, are_lines, is_line_said};
 ghost use Rattle.dir_remote.specs.Answers.{Answers, Prepares, StoreDoes, RetrieveDoes, CheckDoes, RemoveDoes, PreparedBy, first_of, is_of_transfer, is_of_check, is_of_removal};
+ghost use Rattle.dir_remote.specs.Contents.{IsMark};
+ghost use Rattle.dir_remote.specs.Traces.{Each, IsCheckCall, IsRemoveCall, IsRetrieveCall, StoreTraces};
 
 use crate::outcome::{Outcome, say};
 use crate::works;
@@ -22,26 +24,51 @@ use std::str;
 #[derive(Drop)]
 pub struct DirRemote<D: Desk> {
     alloc: Global,
+    mark: Option<Text>,
     directory: Option<Text>,
     desk: D,
 }
 
 impl<D: Desk> Model for DirRemote<D> {
+    ghost use Rattle.std.specs.Prelude.{IfSome};
     ghost use Rattle.dir_remote.specs.Answers.{DirValue};
+    ghost use Rattle.dir_remote.specs.Contents.{IsMark};
 
     ghost Value = { DirValue D };
 
-    ghost view = { λ r. record { directory = r.directory; desk = r.desk } };
+    ghost view = { λ r. record { mark = r.mark; directory = r.directory; desk = r.desk } };
+
+    ghost invariant = { λ r. IfSome r.mark IsMark };
 }
 
 impl<D: Desk> DirRemote<D> {
-    /// A remote over the desk, without a directory yet. It takes no memory.
+    /// A remote over the desk, without a directory yet. It puts contents together in `DIRECTORY/tmp/FILENAME`, so only one such
+    /// remote may use a directory at a time. It takes no memory.
     pub fn new(alloc: Global, desk: D) -> DirRemote<D>
+        ensures mark { result.mark ≡ None }
         ensures directory { result.directory ≡ None }
         ensures desk { result.desk ≡ desk }
     {
         DirRemote {
             alloc,
+            mark: None,
+            directory: None,
+            desk,
+        }
+    }
+
+    /// The same, for a directory that other remotes use at the same time, each with a mark of its own. It puts contents together
+    /// in `DIRECTORY/tmp/MARK-FILENAME`, in a file that it makes only where there is none of that name, and clears that file away
+    /// where a store fails. It takes no memory.
+    pub fn apart(alloc: Global, desk: D, mark: Text) -> DirRemote<D>
+        requires { IsMark mark }
+        ensures mark { result.mark ≡ Some mark }
+        ensures directory { result.directory ≡ None }
+        ensures desk { result.desk ≡ desk }
+    {
+        DirRemote {
+            alloc,
+            mark: Some(mark),
             directory: None,
             desk,
         }
@@ -53,6 +80,7 @@ impl<D: Desk> DirRemote<D> {
     {
         let DirRemote {
             alloc: _,
+            mark: _,
             directory: _,
             desk,
         } = self;
@@ -104,6 +132,7 @@ impl<D: Desk> Remote for DirRemote<D> {
         ensures text { IfOk result (λ said. IsTrue (is_line_said said)) }
         ensures prepared { Prepares (first_of values.now) self.old.directory self.new.directory result }
         ensures desk { self.new.desk ≡ self.old.desk }
+        ensures mark { self.new.mark ≡ self.old.mark }
     {
         let (outcome, directory) = self.directory_of(first(values));
         let said = say(self.alloc, outcome)?;
@@ -117,8 +146,9 @@ impl<D: Desk> Remote for DirRemote<D> {
         ensures calls { None ≡ called None (Store (text_of key.entry) file.now) result }
         ensures settings { ⟦<DirRemote<D> as Remote>⟧.settings self.new ≡ ⟦<DirRemote<D> as Remote>⟧.settings self.old }
         ensures text { IfOk result (λ said. IsTrue (is_line_said said)) }
-        ensures stored { Answers is_of_transfer (λ d. StoreDoes d (text_of key.entry) file.now) self.old.directory (text_of key.entry)
-            (D.counts self.old.desk) (D.counts self.new.desk) (D.files self.old.desk) (D.files self.new.desk) result }
+        ensures stored { Answers is_of_transfer (λ d. StoreDoes d (text_of key.entry) file.now) (λ d. StoreTraces self.old.mark d (text_of key.entry) file.now) (is_some self.old.mark) self.old.directory (text_of key.entry)
+            (D.counts self.old.desk) (D.counts self.new.desk) (D.files self.old.desk) (D.files self.new.desk) (D.log self.old.desk) (D.log self.new.desk) result }
+        ensures mark { self.new.mark ≡ self.old.mark }
         ensures directory { self.new.directory ≡ self.old.directory }
     {
         let outcome = match &self.directory {
@@ -126,6 +156,7 @@ impl<D: Desk> Remote for DirRemote<D> {
                 self.alloc,
                 &mut self.desk,
                 directory.view(),
+                &self.mark,
                 key,
                 file,
             ),
@@ -140,8 +171,9 @@ impl<D: Desk> Remote for DirRemote<D> {
         ensures calls { None ≡ called None (Retrieve (text_of key.entry) file.now) result }
         ensures settings { ⟦<DirRemote<D> as Remote>⟧.settings self.new ≡ ⟦<DirRemote<D> as Remote>⟧.settings self.old }
         ensures text { IfOk result (λ said. IsTrue (is_line_said said)) }
-        ensures retrieved { Answers is_of_transfer (λ d. RetrieveDoes d (text_of key.entry) file.now) self.old.directory (text_of key.entry)
-            (D.counts self.old.desk) (D.counts self.new.desk) (D.files self.old.desk) (D.files self.new.desk) result }
+        ensures retrieved { Answers is_of_transfer (λ d. RetrieveDoes d (text_of key.entry) file.now) (λ d _. Each (IsRetrieveCall d (text_of key.entry) file.now)) false self.old.directory (text_of key.entry)
+            (D.counts self.old.desk) (D.counts self.new.desk) (D.files self.old.desk) (D.files self.new.desk) (D.log self.old.desk) (D.log self.new.desk) result }
+        ensures mark { self.new.mark ≡ self.old.mark }
         ensures directory { self.new.directory ≡ self.old.directory }
     {
         let outcome = match &self.directory {
@@ -162,8 +194,9 @@ impl<D: Desk> Remote for DirRemote<D> {
         ensures calls { None ≡ called None (Check (text_of key.entry)) result }
         ensures settings { ⟦<DirRemote<D> as Remote>⟧.settings self.new ≡ ⟦<DirRemote<D> as Remote>⟧.settings self.old }
         ensures text { IfOk result (λ said. IsTrue (is_line_said said)) }
-        ensures checked { Answers is_of_check (λ d. CheckDoes d (text_of key.entry)) self.old.directory (text_of key.entry)
-            (D.counts self.old.desk) (D.counts self.new.desk) (D.files self.old.desk) (D.files self.new.desk) result }
+        ensures checked { Answers is_of_check (λ d. CheckDoes d (text_of key.entry)) (λ d _. Each (IsCheckCall d (text_of key.entry))) false self.old.directory (text_of key.entry)
+            (D.counts self.old.desk) (D.counts self.new.desk) (D.files self.old.desk) (D.files self.new.desk) (D.log self.old.desk) (D.log self.new.desk) result }
+        ensures mark { self.new.mark ≡ self.old.mark }
         ensures directory { self.new.directory ≡ self.old.directory }
     {
         let outcome = match &self.directory {
@@ -178,8 +211,9 @@ impl<D: Desk> Remote for DirRemote<D> {
         ensures calls { None ≡ called None (Remove (text_of key.entry)) result }
         ensures settings { ⟦<DirRemote<D> as Remote>⟧.settings self.new ≡ ⟦<DirRemote<D> as Remote>⟧.settings self.old }
         ensures text { IfOk result (λ said. IsTrue (is_line_said said)) }
-        ensures removed { Answers is_of_removal (λ d. RemoveDoes d (text_of key.entry)) self.old.directory (text_of key.entry)
-            (D.counts self.old.desk) (D.counts self.new.desk) (D.files self.old.desk) (D.files self.new.desk) result }
+        ensures removed { Answers is_of_removal (λ d. RemoveDoes d (text_of key.entry)) (λ d _. Each (IsRemoveCall d (text_of key.entry))) false self.old.directory (text_of key.entry)
+            (D.counts self.old.desk) (D.counts self.new.desk) (D.files self.old.desk) (D.files self.new.desk) (D.log self.old.desk) (D.log self.new.desk) result }
+        ensures mark { self.new.mark ≡ self.old.mark }
         ensures directory { self.new.directory ≡ self.old.directory }
     {
         let outcome = match &self.directory {

@@ -1,11 +1,14 @@
 // The work of a remote in a directory that is known.
+ghost use Rattle.std.specs.Prelude.{false, is_some, IfSome};
 ghost use Rattle.ann_key.specs.KeyRefs.{text_of};
-ghost use Rattle.dir_remote.specs.Answers.{Works, StoreDoes, RetrieveDoes, CheckDoes, RemoveDoes, is_of_transfer, is_of_check, is_of_removal};
+ghost use Rattle.dir_remote.specs.Answers.{IsCalm, Works, StoreDoes, RetrieveDoes, CheckDoes, RemoveDoes, is_of_transfer, is_of_check, is_of_removal};
+ghost use Rattle.dir_remote.specs.Contents.{IsMark};
+ghost use Rattle.dir_remote.specs.Traces.{Each, IsCheckCall, IsRemoveCall, IsRetrieveCall, StoreTraces, Traced};
 
-use crate::copying::copy;
+use crate::copying::{copy, give_up};
 use crate::outcome::{Outcome, refusal};
 use crate::places::{content_place, temporary_place};
-use ann_key::KeyRef;
+use ann_key::{KeyRef, Text};
 use ann_outside::{Desk, DeskError};
 use std::alloc::Global;
 
@@ -14,27 +17,35 @@ pub fn store<D: Desk>(
     alloc: Global,
     desk: &mut D,
     directory: &str,
+    mark: &Option<Text>,
     key: KeyRef<'_>,
     file: &str,
 ) -> Outcome
-    ensures { Works is_of_transfer (StoreDoes directory.now (text_of key.entry) file.now) (text_of key.entry) (D.counts desk.old) (D.counts desk.new) (D.files desk.old) (D.files desk.new) result }
+    requires { IfSome mark.now IsMark }
+    ensures works { Works is_of_transfer (StoreDoes directory.now (text_of key.entry) file.now) (text_of key.entry) (D.counts desk.old) (D.counts desk.new) (D.files desk.old) (D.files desk.new) result }
+    ensures traced { Traced (StoreTraces mark.now directory.now (text_of key.entry) file.now result) (D.log desk.old) (D.log desk.new) }
+    ensures calm { IsCalm (is_some mark.now) (D.counts desk.old) (D.counts desk.new) result }
 {
     let content = match content_place(alloc, directory, key) {
         Ok(content) => content,
         Err(outcome) => return outcome,
     };
-    let temporary = match temporary_place(alloc, directory, key) {
+    let temporary = match temporary_place(alloc, directory, mark, key) {
         Ok(temporary) => temporary,
         Err(outcome) => return outcome,
     };
     let place = content.view();
     let beside = temporary.view();
-    if let Err(error) = copy(alloc, desk, file, beside) {
+    let alone = mark.is_some();
+    if let Err(error) = copy(alloc, desk, file, beside, alone) {
         return refusal(error);
     }
     match desk.rename(beside, place) {
         Ok(()) => Outcome::Done,
-        Err(error) => refusal(error),
+        Err(error) => {
+            let _ = give_up(desk, beside, alone, error);
+            refusal(error)
+        }
     }
 }
 
@@ -46,7 +57,9 @@ pub fn retrieve<D: Desk>(
     key: KeyRef<'_>,
     file: &str,
 ) -> Outcome
-    ensures { Works is_of_transfer (RetrieveDoes directory.now (text_of key.entry) file.now) (text_of key.entry) (D.counts desk.old) (D.counts desk.new) (D.files desk.old) (D.files desk.new) result }
+    ensures works { Works is_of_transfer (RetrieveDoes directory.now (text_of key.entry) file.now) (text_of key.entry) (D.counts desk.old) (D.counts desk.new) (D.files desk.old) (D.files desk.new) result }
+    ensures traced { Traced (Each (IsRetrieveCall directory.now (text_of key.entry) file.now)) (D.log desk.old) (D.log desk.new) }
+    ensures calm { IsCalm false (D.counts desk.old) (D.counts desk.new) result }
 {
     let content = match content_place(alloc, directory, key) {
         Ok(content) => content,
@@ -56,7 +69,7 @@ pub fn retrieve<D: Desk>(
     if let Err(error) = desk.size(place) {
         return refusal(error);
     }
-    match copy(alloc, desk, place, file) {
+    match copy(alloc, desk, place, file, false) {
         Ok(()) => Outcome::Done,
         Err(error) => refusal(error),
     }
@@ -64,7 +77,9 @@ pub fn retrieve<D: Desk>(
 
 // Whether there is a content.
 pub fn check<D: Desk>(alloc: Global, desk: &mut D, directory: &str, key: KeyRef<'_>) -> Outcome
-    ensures { Works is_of_check (CheckDoes directory.now (text_of key.entry)) (text_of key.entry) (D.counts desk.old) (D.counts desk.new) (D.files desk.old) (D.files desk.new) result }
+    ensures works { Works is_of_check (CheckDoes directory.now (text_of key.entry)) (text_of key.entry) (D.counts desk.old) (D.counts desk.new) (D.files desk.old) (D.files desk.new) result }
+    ensures traced { Traced (Each (IsCheckCall directory.now (text_of key.entry))) (D.log desk.old) (D.log desk.new) }
+    ensures calm { IsCalm false (D.counts desk.old) (D.counts desk.new) result }
 {
     let content = match content_place(alloc, directory, key) {
         Ok(content) => content,
@@ -81,7 +96,9 @@ pub fn check<D: Desk>(alloc: Global, desk: &mut D, directory: &str, key: KeyRef<
 
 // Takes the content away, where there is one.
 pub fn remove<D: Desk>(alloc: Global, desk: &mut D, directory: &str, key: KeyRef<'_>) -> Outcome
-    ensures { Works is_of_removal (RemoveDoes directory.now (text_of key.entry)) (text_of key.entry) (D.counts desk.old) (D.counts desk.new) (D.files desk.old) (D.files desk.new) result }
+    ensures works { Works is_of_removal (RemoveDoes directory.now (text_of key.entry)) (text_of key.entry) (D.counts desk.old) (D.counts desk.new) (D.files desk.old) (D.files desk.new) result }
+    ensures traced { Traced (Each (IsRemoveCall directory.now (text_of key.entry))) (D.log desk.old) (D.log desk.new) }
+    ensures calm { IsCalm false (D.counts desk.old) (D.counts desk.new) result }
 {
     let content = match content_place(alloc, directory, key) {
         Ok(content) => content,

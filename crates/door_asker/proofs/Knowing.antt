@@ -18,7 +18,7 @@ use Rattle.journal_model.proofs.Holding.{held_busy, held_unanswered}
 use Rattle.host_core.specs.declared.event.Event.TheVariants.{Layouts as LayoutsEvent}
 use Rattle.host_core.specs.declared.event.Reply.{Reply}
 use Rattle.host_core.specs.Steps.{Step, step_of, layouts_for}
-use Rattle.task_asker.specs.Askings.{Noting}
+use Rattle.task_run.specs.Askers.{Noting}
 use Rattle.task_run.specs.Askings.{askings, asking_of, noting_of, notings_from}
 use Rattle.link_roles.specs.Doors.{Passed, Made}
 use Rattle.door_asker.specs.AtTasks.{AskedFor, AtTask, NotedFor, SameTask, notings}

@@ -11,7 +11,7 @@ use Rattle.journal_model.specs.Journal.{any, each_of, is_open, verdict_of, addre
 use Rattle.journal_model.specs.Legality.{job_for, has_open_job}
 use Rattle.journal_model.proofs.Looks.{entry, same, either_left, either_right}
 use Rattle.journal_model.proofs.Working.{AllAsked, all_asked, kept_verdict}
-use Rattle.task_asker.specs.Askings.{Asking, Noting}
+use Rattle.task_run.specs.Askers.{Asking, Noting}
 use Rattle.task_run.specs.Askings.{asking_of, askings_from, askings, noting_of, notings_from}
 use Rattle.door_asker.specs.AtTasks.{notings}
 

@@ -28,7 +28,7 @@ use Rattle.host_core.specs.Steps.{Step, step_of, append, next_job}
 use Rattle.host_core.specs.declared.event.Event.TheVariants.{Note as NoteEvent}
 use Rattle.host_core.specs.declared.event.Reply.{Reply}
 use Rattle.host_core.specs.declared.event.Reply.TheVariants.{Done}
-use Rattle.task_asker.specs.Askings.{Asking, Noting, is_gone}
+use Rattle.task_run.specs.Askers.{Asking, Noting, is_gone}
 use Rattle.task_run.specs.Askings.{askings, lost_verdict}
 use Rattle.task_run.proofs.Askings.{asks_for, askings-unasked, askings-ask, askings-lost}
 use Rattle.link_roles.specs.Doors.{Passed, Appended, Made}

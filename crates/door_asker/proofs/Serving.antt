@@ -26,7 +26,7 @@ use Rattle.journal_model.proofs.Projecting.{invariant}
 use Rattle.journal_model.proofs.Testing.{or_left}
 use Rattle.journal_model.proofs.Verdicts.{unasked_none}
 use Rattle.host_core.specs.Steps.{may_request, next_job}
-use Rattle.task_asker.specs.Askings.{names_in_line}
+use Rattle.task_run.specs.Askers.{names_in_line}
 use Rattle.link_roles.specs.Doors.{Passed}
 use Rattle.link_roles.specs.Asks.{Grows, HasAsked, never}
 use Rattle.link_roles.proofs.Writings.{lone_apart}

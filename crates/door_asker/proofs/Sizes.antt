@@ -24,7 +24,7 @@ use Rattle.journal_model.proofs.Holding.{due_names}
 use Rattle.journal_model.proofs.Looks.{both, each_of-append}
 use Rattle.journal_model.proofs.Testing.{all-join}
 use Rattle.host_core.specs.Books.{notes_after}
-use Rattle.task_asker.specs.Askings.{are_layouts}
+use Rattle.task_run.specs.Askers.{are_layouts}
 use Rattle.door_asker.specs.KnownLayouts.{is_sized, known_layouts, layouts_at}
 
 -- ---- a number that isn't 0

@@ -6,7 +6,7 @@ use Rattle.journal_model.specs.declared.verdict.Verdict.{Verdict}
 use Rattle.journal_model.specs.declared.entry.Entry.{Entry}
 use Rattle.journal_model.specs.declared.opening.Opening.{Opening}
 use Rattle.journal_model.specs.Legality.{Legal, is_claimed_by, has_open_job}
-use Rattle.task_asker.specs.Askings.{Noting, AsksOne}
+use Rattle.task_run.specs.Askers.{Noting, AsksOne}
 use Rattle.task_run.specs.Askings.{askings, notings_from}
 
 -- the number holds task t, no job of which is open

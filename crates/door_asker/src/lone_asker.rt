@@ -12,7 +12,7 @@ use journal_model::Verdict;
 use link_roles::{Door, Lone};
 use std::alloc::Global;
 use talk_serial::Request;
-use task_asker::Asker;
+use task_run::Asker;
 
 // The name of the request's file, if it has one. It is text, as what the core may ask is.
 fn file_of(request: &Request) -> Option<&str>

@@ -2,7 +2,7 @@
 ghost use Rattle.std.specs.Prelude.{◌≡◌, ◌<◌, true, IfOk, OnErr};
 ghost use Rattle.host_core.specs.declared.event.Event.TheVariants.{Note};
 ghost use Rattle.journal_model.specs.Legality.{may_note, task_of};
-ghost use Rattle.task_asker.specs.Askings.{are_layouts};
+ghost use Rattle.task_run.specs.Askers.{are_layouts};
 ghost use Rattle.link_roles.specs.Doors.{IsSameDoor, Passed};
 ghost use Rattle.link_roles.specs.Asks.{Grows, never};
 ghost use Rattle.door_asker.specs.AtTasks.{AtTask, NotesNow, NotedFor, SameTask};

@@ -5,7 +5,7 @@ use Rattle.std.specs.List.{concat, list_all}
 use Rattle.std.proofs.lemmas.List.Folds.{list_all-append}
 use Rattle.std.proofs.lemmas.Bool.Decides.{nat_tests}
 use Rattle.ann_key.specs.declared.bytes.NoMemory.{NoMemory}
-use Rattle.ann_outside.specs.Calls.{Gained, logged}
+use Rattle.ann_outside.specs.Calls.{Gained, logged, bytes_read}
 use Rattle.ann_outside.specs.declared.file_desk.DeskError.{DeskError}
 use Rattle.ann_outside.specs.declared.file_desk.DeskError.TheVariants as E
 use Rattle.ann_outside.specs.declared.file_desk.Call.{Call}
@@ -14,7 +14,7 @@ use Rattle.fetch_copy.specs.declared.copied.Copied.{Copied}
 use Rattle.fetch_copy.specs.declared.copied.Copied.TheVariants.{Done}
 use Rattle.fetch_copy.specs.Copies.{copy_calls, CarryDoes, refusal_of, CountIs, EndsRefused, EndsEarly, RefusedBy}
 use Rattle.fetch_copy.specs.CopiesOut.{CopiesRange, CopiesOut, CopiesNothing, reads_before}
-use Rattle.fetch_copy.proofs.CopyLaws.{gained_nothing, gained_more, gained_call, concat-snoc, copy_calls-snoc, ends_refused, not_begun}
+use Rattle.fetch_copy.proofs.CopyLaws.{gained_nothing, gained_more, gained_call, concat-snoc, copy_calls-snoc, ends_refused, not_begun, carries_refused_read}
 
 -- The pieces that were read from the range's begin on, in their order, were appended.
 pub record Ranging (old new : Option (List Call)) (file name : List ℕ) (from to at : ℕ) : Type 0 where
@@ -141,3 +141,47 @@ pub nothing_refused : (e : DeskError) → CopiesNothing (refusal_of e)
 nothing_refused E.NoMemory = tt
 nothing_refused E.Failed = tt
 nothing_refused E.Missing = tt
+
+-- ---- a file that was emptied
+
+pub nothing_whole : (log : Option (List Call)) (file name : List ℕ) (from to : ℕ) → to ≤ from → CopiesRange [] log log file from to name (Ok (Done 0))
+nothing_whole log file name from to low = record {
+  pieces = [];
+  ending = [];
+  calls = gained_nothing log;
+  ends = omega (arith, low);
+  count = refl;
+  most = omega arith;
+  within = refl;
+}
+
+pub nothing_read : (a b : Option (List Call)) (file name buffer : List ℕ) (from to n : ℕ) → from < to → n ≡ 0 → file ≡ name → b ≡ logged a (ReadAt name from (bytes_read buffer (Ok n)))
+    → CopiesRange [] a b file from to name (Ok (Done 0))
+nothing_read a b file name buffer from to (suc n) low e same is = absurd (omega (arith, e))
+nothing_read a b file name buffer from to zero low e same is = record {
+  pieces = [];
+  ending = ReadAt file from (Ok []) ∷ [];
+  calls = is ∙ ap (λ f. logged a (ReadAt f from (Ok []))) (sym same) ∙ gained_call a (ReadAt file from (Ok [])) refl;
+  ends = ap (λ k. ReadAt file k (Ok [])) (sym (add-zero from));
+  count = refl;
+  most = omega arith;
+  within = rw (lt_true from to low) refl;
+}
+
+pub nothing_kept : (a b : Option (List Call)) (file name buffer : List ℕ) (from to n : ℕ) (e : NoMemory) → from < to → file ≡ name → b ≡ logged a (ReadAt name from (bytes_read buffer (Ok n)))
+    → CopiesRange [] a b file from to name (Err e)
+nothing_kept a b file name buffer from to n e low same is = record {
+  pieces = [];
+  ending = ReadAt file from (Ok (take n buffer)) ∷ [];
+  calls = is ∙ ap (λ f. logged a (ReadAt f from (Ok (take n buffer)))) (sym same) ∙ gained_call a (ReadAt file from (Ok (take n buffer))) refl;
+  ends = (take n buffer, ap (λ k. ReadAt file k (Ok (take n buffer))) (sym (add-zero from)));
+  count = tt;
+  most = omega arith;
+  within = rw (lt_true from to low) refl;
+}
+
+pub nothing_refused_read : (a b : Option (List Call)) (file name : List ℕ) (from to : ℕ) (e : DeskError) → from < to → file ≡ name → b ≡ logged a (ReadAt name from (Err e))
+    → CopiesRange [] a b file from to name (refusal_of e)
+nothing_refused_read a b file name from to e low same is =
+    range_refused a a b file name from to from e (ranging_nothing a file name from to) low
+    (carries_refused_read a b file name from e (is ∙ ap (λ f. logged a (ReadAt f from (Err e))) (sym same))) (omega arith)

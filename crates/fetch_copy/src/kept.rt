@@ -20,7 +20,8 @@ fn check_piece<D: Desk>(
     buffer: &mut [u8],
     checker: &mut Checker<'_>,
 ) -> Result<u64, DeskError>
-    requires { taken_of checker.old + length buffer.old < 2 ^ 64 }
+    requires some { 0 < length buffer.old }
+    requires room { taken_of checker.old + length buffer.old < 2 ^ 64 }
     ensures read { ReadDoes (D.log desk.old) (D.log desk.new) file.now at checker.old checker.new result }
     ensures most { IfOk result (λ n. n ≤ length buffer.old) }
     ensures causes { HasCauses (D.counts desk.old) (D.counts desk.new) result }

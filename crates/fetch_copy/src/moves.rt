@@ -19,6 +19,7 @@ pub fn carry_piece<D: Desk>(
     at: u64,
     buffer: &mut [u8],
 ) -> Result<usize, DeskError>
+    requires { 0 < length buffer.old }
     ensures carried { CarryDoes (D.log desk.old) (D.log desk.new) from.now to.now at buffer.new result }
     ensures most { IfOk result (λ n. n ≤ length buffer.new) }
     ensures causes { HasCauses (D.counts desk.old) (D.counts desk.new) result }
@@ -42,7 +43,8 @@ fn move_piece<D: Desk>(
     buffer: &mut [u8],
     checker: &mut Checker<'_>,
 ) -> Result<u64, DeskError>
-    requires { taken_of checker.old + length buffer.old < 2 ^ 64 }
+    requires some { 0 < length buffer.old }
+    requires room { taken_of checker.old + length buffer.old < 2 ^ 64 }
     ensures moved { StepDoes (D.log desk.old) (D.log desk.new) from.now part.now at checker.old checker.new result }
     ensures most { IfOk result (λ n. n ≤ length buffer.old) }
     ensures causes { HasCauses (D.counts desk.old) (D.counts desk.new) result }

@@ -1,4 +1,4 @@
-ghost use Rattle.std.specs.Prelude.{◌≡◌, ◌≤◌, ◌+◌, ◌-◌, [], ◌∷◌, Ok, length};
+ghost use Rattle.std.specs.Prelude.{◌≡◌, ◌<◌, ◌+◌, ◌-◌, [], ◌∷◌, Ok, length};
 ghost use Rattle.fetch_copy.specs.Copies.{CopyCauses};
 ghost use Rattle.fetch_copy.specs.CopiesOut.{CopiesOut, CopiesRange, CopiesNothing};
 
@@ -8,7 +8,7 @@ use ann_key::NoMemory;
 use ann_outside::Desk;
 use std::alloc::Global;
 
-// Appends the bytes of a file in the range to another, in steps as long as the buffer. Of no length they read nothing.
+// Appends the bytes of a file in the range to another, in steps as long as the buffer.
 fn copy_range<D: Desk>(
     desk: &mut D,
     file: &str,
@@ -17,8 +17,8 @@ fn copy_range<D: Desk>(
     name: &str,
     buffer: &mut [u8],
 ) -> Result<Copied, NoMemory>
+    requires { 0 < length buffer.old }
     ensures moved { CopiesRange [] (D.log desk.old) (D.log desk.new) file.now from to name.now result }
-    ensures nothing { length buffer.old ≡ 0 → CopiesNothing result }
     ensures causes { CopyCauses (D.counts desk.old) (D.counts desk.new) result }
 {
     let mut at = from;
@@ -33,16 +33,55 @@ fn copy_range<D: Desk>(
     Ok(Copied::Done(at - from))
 }
 
-// How many bytes a step of a copy has. A file that was emptied for the copy has none to read.
-fn step_between(file: &str, name: &str) -> usize
-    ensures most { result ≤ 65536 }
-    ensures itself { file.now ≡ name.now → result ≡ 0 }
+// Looks for the end of a file that was emptied for the copy. There are bytes in it only where somebody else writes to it
+// meanwhile, and those are left alone: the copy is given up as where no memory is found.
+fn copy_nothing<D: Desk>(
+    desk: &mut D,
+    file: &str,
+    from: u64,
+    to: u64,
+    name: &str,
+    buffer: &mut [u8],
+) -> Result<Copied, NoMemory>
+    requires some { 0 < length buffer.old }
+    requires same { file.now ≡ name.now }
+    ensures moved { CopiesRange [] (D.log desk.old) (D.log desk.new) file.now from to name.now result }
+    ensures nothing { CopiesNothing result }
+    ensures causes { CopyCauses (D.counts desk.old) (D.counts desk.new) result }
 {
-    if file == name { 0 } else { STEP }
+    if to <= from {
+        return Ok(Copied::Done(0));
+    }
+    match desk.read_at(name, from, buffer) {
+        Ok(0) => Ok(Copied::Done(0)),
+        Ok(_) => Err(NoMemory),
+        Err(error) => refused(error),
+    }
+}
+
+// Appends the bytes in the range to the file that was made for them.
+fn copy_made<D: Desk>(
+    desk: &mut D,
+    file: &str,
+    from: u64,
+    to: u64,
+    name: &str,
+    buffer: &mut [u8],
+) -> Result<Copied, NoMemory>
+    requires { 0 < length buffer.old }
+    ensures moved { CopiesRange [] (D.log desk.old) (D.log desk.new) file.now from to name.now result }
+    ensures itself { file.now ≡ name.now → CopiesNothing result }
+    ensures causes { CopyCauses (D.counts desk.old) (D.counts desk.new) result }
+{
+    if file == name {
+        copy_nothing(desk, file, from, to, name, buffer)
+    } else {
+        copy_range(desk, file, from, to, name, buffer)
+    }
 }
 
 /// Makes the file `name` of the bytes of `file` from the place `from` up to `to`, fewer where that file ends before. Where both names are
-/// one, the file is emptied first, and nothing is read.
+/// one, the file is emptied first, and nothing is copied.
 pub fn copy_out<D: Desk>(
     alloc: Global,
     desk: &mut D,
@@ -58,9 +97,8 @@ pub fn copy_out<D: Desk>(
     let Ok(mut buffer) = vec![in alloc; 0; STEP] else {
         return Err(NoMemory);
     };
-    let step = step_between(file, name);
     match desk.create(name) {
-        Ok(()) => copy_range(desk, file, from, to, name, &mut buffer[..step]),
+        Ok(()) => copy_made(desk, file, from, to, name, &mut buffer),
         Err(error) => refused(error),
     }
 }

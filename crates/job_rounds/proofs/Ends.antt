@@ -18,8 +18,8 @@ use Rattle.link_roles.proofs.Writings.{written_apart}
 use Rattle.link_roles.specs.Writings.{is_written_first}
 use Rattle.gathering.specs.Laws.{GoesOn}
 use Rattle.gathering.specs.Rounds.{IsAtRest, IsWired, LinkValue}
-use Rattle.crew_roles.specs.Crewing.{DesksDid as CrewDesks}
-use Rattle.crew_roles.specs.TaggedRounds.{TaggedLeaves}
+use Rattle.crew_rounds.specs.Crewing.{DesksDid as CrewDesks}
+use Rattle.crew_rounds.specs.TaggedRounds.{TaggedLeaves}
 use Rattle.child_end.specs.Wires.{IsHeld, is_mains}
 use Rattle.task_run.specs.declared.setup.Setup.{Setup}
 use Rattle.lone_work.specs.Works.{DeskTells, TaskDone}

@@ -22,3 +22,5 @@ pub mod PoolEnding
 pub mod PoolStretch
 pub mod Firsts
 pub mod Steps
+pub mod NoneUnserved
+pub mod Succeeding

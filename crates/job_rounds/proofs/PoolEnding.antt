@@ -19,7 +19,8 @@ use Rattle.task_run.specs.declared.setup.Setup.{Setup}
 use Rattle.lone_work.specs.Works.{DeskTells}
 use Rattle.lone_rounds.proofs.Leaving.{stays_none}
 use Rattle.lone_rounds.proofs.Stinting.{may_close}
-use Rattle.pool_rounds.specs.Pool.{AreSameLinks, MayServe}
+use Rattle.crew_rounds.specs.PoolChildren.{MayServe}
+use Rattle.pool_rounds.specs.Pool.{AreSameLinks}
 use Rattle.pool_starts.specs.Pools.{IsPool, IsUngathered, SeatValue, Serves}
 use Rattle.job_rounds.specs.Pools.{PoolServed}
 use Rattle.job_rounds.specs.PoolSteps.{AreLaid, ClosesAll, RoundsPool, ServesFirst, ServesLinks, serving}

@@ -23,7 +23,8 @@ use Rattle.lone_rounds.specs.Stints.{HasServed, in_stint}
 use Rattle.lone_rounds.proofs.Apart.{apart_in}
 use Rattle.lone_rounds.proofs.Stinting.{may_close}
 use Rattle.lone_rounds.proofs.Tests.{any_none}
-use Rattle.pool_rounds.specs.Pool.{AreSameLinks, MayServe, PoolCan}
+use Rattle.crew_rounds.specs.PoolChildren.{MayServe, PoolCan}
+use Rattle.pool_rounds.specs.Pool.{AreSameLinks}
 use Rattle.pool_starts.specs.Pools.{OverBy, SeatValue, Serves}
 use Rattle.job_rounds.specs.PoolSteps.{AreLaid, AreSettled, ClosesAll, serving}
 use Rattle.job_rounds.proofs.Ends.{started_then}

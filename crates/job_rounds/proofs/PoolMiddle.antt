@@ -42,7 +42,8 @@ use Rattle.lone_rounds.proofs.Served.{all_unclosed}
 use Rattle.lone_rounds.proofs.Stinting.{Closing, Part, closing, closing_part, closing_rests, of_closing, part_both, worker_part}
 use Rattle.lone_rounds.proofs.Tests.{any_none, claimed_on}
 use Rattle.crew_work.specs.Crews.{claims_by}
-use Rattle.pool_rounds.specs.Pool.{AreSameLinks, MayServe, PoolCan, PoolLeaves}
+use Rattle.crew_rounds.specs.PoolChildren.{MayServe, PoolCan}
+use Rattle.pool_rounds.specs.Pool.{AreSameLinks, PoolLeaves}
 use Rattle.pool_starts.specs.Pools.{is_claim}
 use Rattle.pool_starts.specs.Slots.{in_pool, is_lost}
 use Rattle.job_rounds.specs.Desks.{DesksDid, HaveDesks, claims_for}

@@ -20,7 +20,8 @@ use Rattle.lone_rounds.specs.Stints.{HasServed}
 use Rattle.crew_rounds.specs.declared.outcome.Outcome.{Outcome}
 use Rattle.crew_rounds.specs.declared.outcome.Outcome.TheVariants.{Done, NoMemory, NoThreads}
 use Rattle.crew_rounds.specs.Outcomes.{IfDone, IfKept}
-use Rattle.pool_rounds.specs.Pool.{AreSameLinks, MayServe, PoolCan, PoolLeaves}
+use Rattle.crew_rounds.specs.PoolChildren.{MayServe, PoolCan}
+use Rattle.pool_rounds.specs.Pool.{AreSameLinks, PoolLeaves}
 use Rattle.job_rounds.specs.PoolSteps.{ClosesAll, RoundsPool, ServesFirst, ServesLinks}
 use Rattle.job_rounds.proofs.Ends.{started_then}
 use Rattle.job_rounds.proofs.PoolClosings.{closes_held}

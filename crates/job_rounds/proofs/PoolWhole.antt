@@ -25,7 +25,7 @@ use Rattle.lone_rounds.specs.Rounds.{is_of_run}
 use Rattle.lone_rounds.specs.Starting.{children, is_any_start, started_in}
 use Rattle.lone_rounds.proofs.Apart.{ended_on}
 use Rattle.lone_rounds.proofs.Tests.{claimed_on, each_without, no_children}
-use Rattle.pool_rounds.specs.Pool.{MayServe, PoolCan}
+use Rattle.crew_rounds.specs.PoolChildren.{MayServe, PoolCan}
 use Rattle.pool_starts.specs.Pools.{AreSeated, Gathered, SeatValue, is_among, is_claim}
 use Rattle.pool_starts.specs.Slots.{AllInTurn, in_pool, is_lost, offers_tags}
 use Rattle.pool_starts.proofs.SlotLaws.{turn_both, turn_filled, turn_quiet}

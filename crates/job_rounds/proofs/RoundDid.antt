@@ -44,8 +44,8 @@ use Rattle.lone_rounds.proofs.Apart.{is_unclosed_end}
 use Rattle.lone_rounds.proofs.Later.{late, late_from}
 use Rattle.lone_rounds.proofs.Tests.{count-append, count_none}
 use Rattle.crew_work.specs.Crews.{answers_by, answers_of, calls_of, claims_by, tasks_of}
-use Rattle.crew_roles.specs.Crewing.{DeskDid as CrewDid, DesksDid as CrewDesks, calls_from}
-use Rattle.crew_roles.specs.TaggedRounds.{TaggedLeaves}
+use Rattle.crew_rounds.specs.Crewing.{DeskDid as CrewDid, DesksDid as CrewDesks, calls_from}
+use Rattle.crew_rounds.specs.TaggedRounds.{TaggedLeaves}
 use Rattle.job_rounds.specs.Desks.{AreDone, DeskDid, DesksDid, HasDesk, HaveDesks, IsDone, claimed_for, claims_for, desk_of}
 
 -- ---- an entry that stands among others

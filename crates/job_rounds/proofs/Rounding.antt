@@ -10,7 +10,7 @@ use Rattle.journal_model.specs.Legality.{Legal, is_busy}
 use Rattle.journal_model.proofs.Testing.{all-join}
 use Rattle.host_core.specs.Steps.{are_all_claimed}
 use Rattle.gathering.specs.Rounds.{IsAtRest}
-use Rattle.crew_roles.specs.TaggedRounds.{TaggedLeaves}
+use Rattle.crew_rounds.specs.TaggedRounds.{TaggedLeaves}
 use Rattle.child_start.specs.Greetings.{Greeted, IsReady}
 use Rattle.child_end.specs.Programs.{ProgramsValue}
 use Rattle.child_end.specs.Wires.{WireValue}

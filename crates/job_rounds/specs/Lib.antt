@@ -5,3 +5,5 @@ pub mod PoolSteps
 pub mod Servings
 pub mod Starts
 pub mod Unserved
+pub mod JobsWell
+pub mod JobsKeep

@@ -12,7 +12,7 @@ use Rattle.gathering.specs.Laws.{GoesOn}
 use Rattle.gathering.specs.Rounds.{IsAtRest, LinkValue}
 use Rattle.task_run.specs.declared.setup.Setup.{Setup}
 use Rattle.lone_work.specs.Works.{CanWork, DeskTells}
-use Rattle.crew_roles.specs.TaggedRounds.{TaggedLeaves}
+use Rattle.crew_rounds.specs.TaggedRounds.{TaggedLeaves}
 use Rattle.child_end.specs.Programs.{ProgramsValue}
 use Rattle.child_end.specs.Wires.{WireValue}
 use Rattle.lone_rounds.specs.Stints.{HasServed}

@@ -2,6 +2,7 @@
 #![tactic(auto)]
 
 mod bench;
+pub mod laws;
 mod pooling;
 mod running;
 mod serving;

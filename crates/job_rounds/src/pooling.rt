@@ -15,7 +15,8 @@ ghost use Rattle.job_rounds.specs.Servings.{CanBeServed};
 ghost use Rattle.journal_model.specs.Journal.{is_started};
 ghost use Rattle.journal_model.specs.Legality.{count, is_start};
 ghost use Rattle.lone_work.specs.Works.{AreTasks, desk_tells};
-ghost use Rattle.pool_rounds.specs.Pool.{AreAsBefore, AreSameLinks, PoolCan};
+ghost use Rattle.crew_rounds.specs.PoolChildren.{PoolCan};
+ghost use Rattle.pool_rounds.specs.Pool.{AreAsBefore, AreSameLinks};
 ghost use Rattle.pool_starts.specs.Pools.{seat_value};
 ghost use Rattle.pool_starts.specs.Slots.{has_pool, is_unclaimed_since, last_slot};
 

@@ -1,10 +1,10 @@
 -- How a file grows line by line, and what a refusal leaves of it.
-use Rattle.std.proofs.Common.{◌≡◌, ◌∙◌, ℕ, zero, suc, ◌+◌, ◌<◌, ◌≤◌, List, [], ◌∷◌, ◌++◌, length, refl, sym, ap, subst, arith, append_assoc, append-nil, take, drop, add-one}
-use Rattle.std.specs.Prelude.{Option, Some, None, option_map, Result, Ok, Err}
+use Rattle.std.proofs.Common.{◌≡◌, ◌∙◌, ℕ, zero, suc, ◌+◌, ◌<◌, ◌≤◌, List, [], ◌∷◌, ◌++◌, length, refl, sym, ap, subst, arith, append_assoc, append-nil, take, drop, add-one, inl, inr}
+use Rattle.std.specs.Prelude.{Option, Some, None, option_map, IfSome, Result, Ok, Err}
 use Rattle.std.specs.List.{slice_get}
 use Rattle.std.proofs.lemmas.List.{take_all}
 use Rattle.ann_outside.specs.Calls.{Gained, logged}
-use Rattle.ann_outside.specs.Files.{Files, content, WhereTold, CreateDoes, AppendDoes}
+use Rattle.ann_outside.specs.Files.{Files, content, WhereTold, CreateDoes, AppendDoes, SyncIs}
 use Rattle.ann_outside.specs.declared.file_desk.DeskError.{DeskError}
 use Rattle.ann_outside.specs.declared.file_desk.DeskError.TheVariants as E
 use Rattle.ann_outside.specs.declared.file_desk.Call.{Call}
@@ -12,7 +12,7 @@ use Rattle.ann_outside.specs.declared.file_desk.Call.TheVariants.{Create, Append
 use Rattle.annex_model.specs.Lines.{text}
 use Rattle.desk_file.specs.Writes.{IsRefusal, Makes, HasGrown, GrowsBy}
 use Rattle.desk_file.proofs.Logs.{gained_nothing, gained_more, gained_call, gained_without}
-use Rattle.journal_desk.specs.JournalDesks.{with_end, line_appends, line_calls, IsMadeAs}
+use Rattle.journal_desk.specs.JournalDesks.{with_end, line_appends, line_calls, IsMadeAs, MakesSynced}
 
 -- ---- lines
 
@@ -183,3 +183,35 @@ module _ (name : List ℕ) (lines : List (List ℕ)) where
   made_untold (Err E.Missing) (Some x) None c is p q = absurd p
   made_untold (Err E.Missing) (Some x) (Some y) None is p q = absurd q
   made_untold (Err E.Missing) (Some x) (Some y) (Some z) is p q = absurd (let bad : Some [] ≡ None = sym p.0 ∙ q.0 in cc)
+
+  -- ---- the sync of what was written
+
+  pub synced_calls : (a b c : Option (List Call)) (result : Result (Unit {0}) DeskError) → Makes a b (line_calls name lines) (Ok tt) → c ≡ b → MakesSynced a c (line_calls name lines) result
+  synced_calls a b c (Ok done) made same = subst (λ (x : Option (List Call)). Makes a x (line_calls name lines) (Ok tt)) (sym same) made
+  synced_calls a b c (Err e) made same = inr (subst (λ (x : Option (List Call)). Makes a x (line_calls name lines) (Ok tt)) (sym same) made)
+
+  pub unmade_calls : (a b : Option (List Call)) (e : DeskError) → Makes a b (line_calls name lines) (Err e) → MakesSynced a b (line_calls name lines) (Err e)
+  unmade_calls a b e made = inl made
+
+  pub synced_as : (result : Result (Unit {0}) DeskError) (a b c : Option Files) → WhereTold a b (IsMadeAs name (text lines) (Ok tt)) → c ≡ b → WhereTold a c (IsMadeAs name (text lines) result)
+  synced_as result a b c made same = subst (λ (x : Option Files). WhereTold a x (IsMadeAs name (text lines) result)) (sym same) (by_files a b made)
+    where
+      by_result : (r : Result (Unit {0}) DeskError) (x y : Files) → IsMadeAs name (text lines) (Ok tt) x y → IsMadeAs name (text lines) r x y
+      by_result (Ok done) x y h = h
+      by_result (Err e) x y h = h.1
+
+      by_files : (x y : Option Files) → WhereTold x y (IsMadeAs name (text lines) (Ok tt)) → WhereTold x y (IsMadeAs name (text lines) result)
+      by_files None None h = tt
+      by_files None (Some y) h = absurd h
+      by_files (Some x) None h = absurd h
+      by_files (Some x) (Some y) h = by_result result x y h
+
+  -- where files are told, the file that was written is found
+  pub synced_untold : (result : Result (Unit {0}) DeskError) (a b : Option Files) → result ≡ Err E.Missing → WhereTold a b (IsMadeAs name (text lines) (Ok tt))
+      → IfSome b (λ fs. SyncIs name fs result) → a ≡ None
+  synced_untold (Ok done) a b is made told = absurd cc
+  synced_untold (Err E.NoMemory) a b is made told = absurd cc
+  synced_untold (Err E.Failed) a b is made told = absurd cc
+  synced_untold (Err E.Missing) None b is made told = refl
+  synced_untold (Err E.Missing) (Some x) None is made told = absurd made
+  synced_untold (Err E.Missing) (Some x) (Some y) is made told = absurd (let bad : Some (text lines) ≡ None = sym made.0 ∙ told in cc)

@@ -32,11 +32,17 @@ line_appends name lines = map (λ line. Append name (with_end line) (Ok tt)) lin
 abbrev pub line_calls : List ℕ → List (List ℕ) → List Call
 line_calls name lines = Create name (Ok tt) ∷ line_appends name lines
 
--- these calls were made, or the first of them and then one that was refused
+-- these calls were made, or the first of them and then one that was refused; or all were made and the file's sync was refused, which
+-- stands in no log
+abbrev pub MakesSynced : Option (List Call) → Option (List Call) → List Call → Result (Unit {0}) DeskError → Type 0
+MakesSynced old new all (Ok done) = Makes old new all (Ok tt)
+MakesSynced old new all (Err e) = Makes old new all (Err e) ⊎ Makes old new all (Ok tt)
+
+-- the same of the calls that write the lines
 abbrev pub IsWrittenBy : Option (List Call) → Option (List Call) → List ℕ → List (List ℕ) → Result JournalWritten NoMemory → Type 0
-IsWrittenBy old new name lines (Ok Done) = Makes old new (line_calls name lines) (Ok tt)
-IsWrittenBy old new name lines (Ok Fault) = Makes old new (line_calls name lines) (Err E.Failed) ⊎ Makes old new (line_calls name lines) (Err E.Missing)
-IsWrittenBy old new name lines (Err e) = Makes old new (line_calls name lines) (Err E.NoMemory)
+IsWrittenBy old new name lines (Ok Done) = MakesSynced old new (line_calls name lines) (Ok tt)
+IsWrittenBy old new name lines (Ok Fault) = MakesSynced old new (line_calls name lines) (Err E.Failed) ⊎ MakesSynced old new (line_calls name lines) (Err E.Missing)
+IsWrittenBy old new name lines (Err e) = MakesSynced old new (line_calls name lines) (Err E.NoMemory)
 
 -- the file was made and has the text; after a refusal it may be there with less of it. No other file is touched
 abbrev pub IsMadeAs : List ℕ → List ℕ → Result (Unit {0}) DeskError → Files → Files → Type 0

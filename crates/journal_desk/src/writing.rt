@@ -6,7 +6,7 @@ ghost use Rattle.annex_model.specs.Lines.{text};
 ghost use Rattle.desk_file.specs.Writes.{GrowsBy, Makes};
 ghost use Rattle.reg_file.specs.RegLines.{lines_of};
 ghost use Rattle.journal_lines.specs.JournalTexts.{journal_lines};
-ghost use Rattle.journal_desk.specs.JournalDesks.{HasWriteCauses, IsMadeAs, IsWrittenBy, IsWrittenIn, journal_text, line_appends, line_calls, with_end};
+ghost use Rattle.journal_desk.specs.JournalDesks.{HasWriteCauses, IsMadeAs, IsWrittenBy, IsWrittenIn, MakesSynced, journal_text, line_appends, line_calls, with_end};
 
 use ann_key::{Bytes, NoMemory};
 use ann_outside::{Desk, DeskError};
@@ -23,7 +23,8 @@ pub enum JournalWritten {
     Fault,
 }
 
-/// Makes the file anew, and adds the text of the run to it, a line at a time: it takes memory for one line.
+/// Makes the file anew, and adds the text of the run to it, a line at a time: it takes memory for one line. At `Done` the text is
+/// on the disk.
 pub fn write_journal<D: Desk>(
     alloc: Global,
     desk: &mut D,
@@ -35,10 +36,29 @@ pub fn write_journal<D: Desk>(
     ensures files { WhereTold (D.files desk.old) (D.files desk.new) (IsWrittenIn name.now (journal_text opening.now journal.now.entries) result) }
     ensures causes { HasWriteCauses (D.files desk.old) (D.counts desk.old) (D.counts desk.new) result }
 {
-    match make_text(alloc, desk, name, opening, journal) {
+    match make_synced(alloc, desk, name, opening, journal) {
         Ok(()) => Ok(JournalWritten::Done),
         Err(DeskError::Failed | DeskError::Missing) => Ok(JournalWritten::Fault),
         Err(DeskError::NoMemory) => Err(NoMemory),
+    }
+}
+
+// Makes the file, adds all lines to it, and waits until they are on the disk.
+fn make_synced<D: Desk>(
+    alloc: Global,
+    desk: &mut D,
+    name: &str,
+    opening: &Opening,
+    journal: &Journal,
+) -> Result<(), DeskError>
+    ensures calls { MakesSynced (D.log desk.old) (D.log desk.new) (line_calls name.now (journal_lines opening.now journal.now.entries)) result }
+    ensures files { WhereTold (D.files desk.old) (D.files desk.new) (IsMadeAs name.now (journal_text opening.now journal.now.entries) result) }
+    ensures causes { HasCauses (D.counts desk.old) (D.counts desk.new) result }
+    ensures found { result ≡ Err DeskError.Missing → D.files desk.old ≡ None }
+{
+    match make_text(alloc, desk, name, opening, journal) {
+        Ok(()) => desk.sync(name),
+        Err(error) => Err(error),
     }
 }
 

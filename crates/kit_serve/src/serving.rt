@@ -42,6 +42,7 @@ fn hear<R: Remote, W: Sink>(kit: &mut Kit<R>, sink: &mut W, line: &[u8]) -> Resu
     ensures settings { R.settings kit.new.remote ≡ R.settings kit.old.remote }
     ensures later { W.faults sink.old ≤ W.faults sink.new }
     ensures fault { result ≡ Err WriteFault → Rose (W.faults sink.old) (W.faults sink.new) }
+    ensures quiet { (result ≡ Err WriteFault → ⊥) → W.faults sink.new ≡ W.faults sink.old }
     ensures open { W.is_open sink.new ≡ true }
     ensures number { W.number sink.new ≡ W.number sink.old }
 {
@@ -69,6 +70,7 @@ fn fill<S: Source>(splitter: &mut Splitter, source: &mut S) -> Result<(), End>
     ensures kept { IfErr result (λ _. splitter.new.bytes ≡ splitter.old.bytes) }
     ensures end { result ≡ Err Eof → IfSome (S.left source.new) (λ bytes. bytes ≡ []) }
     ensures fault { result ≡ Err ReadFault → Rose (S.faults source.old) (S.faults source.new) }
+    ensures quiet { (result ≡ Err ReadFault → ⊥) → S.faults source.new ≡ S.faults source.old }
     ensures others { (result ≡ Err Bad → ⊥) × (result ≡ Err WriteFault → ⊥) }
     ensures later { S.faults source.old ≤ S.faults source.new }
     ensures limit { splitter.new.limit ≡ splitter.old.limit }
@@ -106,6 +108,8 @@ fn turn<R: Remote, S: Source, W: Sink>(
     ensures end { result ≡ Err Eof → IfSome (S.left source.new) (λ bytes. bytes ≡ []) }
     ensures read_fault { result ≡ Err ReadFault → Rose (S.faults source.old) (S.faults source.new) }
     ensures write_fault { result ≡ Err WriteFault → Rose (W.faults sink.old) (W.faults sink.new) }
+    ensures read_quiet { (result ≡ Err ReadFault → ⊥) → S.faults source.new ≡ S.faults source.old }
+    ensures write_quiet { (result ≡ Err WriteFault → ⊥) → W.faults sink.new ≡ W.faults sink.old }
     ensures later { (S.faults source.old ≤ S.faults source.new) × (W.faults sink.old ≤ W.faults sink.new) }
     ensures limit { splitter.new.limit ≡ longest_line }
     ensures open { (S.is_open source.new ≡ true) × (W.is_open sink.new ≡ true) }
@@ -138,6 +142,8 @@ fn converse<R: Remote, S: Source, W: Sink>(
     ensures end { result ≡ Eof → IfSome (S.left source.new) (λ bytes. bytes ≡ []) }
     ensures read_fault { result ≡ ReadFault → Rose (S.faults source.old) (S.faults source.new) }
     ensures write_fault { result ≡ WriteFault → Rose (W.faults sink.old) (W.faults sink.new) }
+    ensures read_quiet { (result ≡ ReadFault → ⊥) → S.faults source.new ≡ S.faults source.old }
+    ensures write_quiet { (result ≡ WriteFault → ⊥) → W.faults sink.new ≡ W.faults sink.old }
     ensures later { (S.faults source.old ≤ S.faults source.new) × (W.faults sink.old ≤ W.faults sink.new) }
     ensures open { (S.is_open source.new ≡ true) × (W.is_open sink.new ≡ true) }
     ensures numbers { (S.number source.new ≡ S.number source.old) × (W.number sink.new ≡ W.number sink.old) }
@@ -166,6 +172,8 @@ fn talk<R: Remote, S: Source, W: Sink>(
     ensures end { result ≡ Eof → IfSome (S.left source.new) (λ bytes. bytes ≡ []) }
     ensures read_fault { result ≡ ReadFault → Rose (S.faults source.old) (S.faults source.new) }
     ensures write_fault { result ≡ WriteFault → Rose (W.faults sink.old) (W.faults sink.new) }
+    ensures read_quiet { (result ≡ ReadFault → ⊥) → S.faults source.new ≡ S.faults source.old }
+    ensures write_quiet { (result ≡ WriteFault → ⊥) → W.faults sink.new ≡ W.faults sink.old }
     ensures later { (S.faults source.old ≤ S.faults source.new) × (W.faults sink.old ≤ W.faults sink.new) }
     ensures open { (S.is_open source.new ≡ true) × (W.is_open sink.new ≡ true) }
     ensures numbers { (S.number source.new ≡ S.number source.old) × (W.number sink.new ≡ W.number sink.old) }
@@ -195,6 +203,8 @@ pub fn serve<R: Remote, S: Source, W: Sink>(
     ensures end { result.status ≡ 0 → IfSome (S.left source.new) (λ bytes. bytes ≡ []) }
     ensures read_fault { result.status ≡ 4 → Rose (S.faults source.old) (S.faults source.new) }
     ensures write_fault { result.status ≡ 5 → Rose (W.faults sink.old) (W.faults sink.new) }
+    ensures read_quiet { (result.status ≡ 4 → ⊥) → S.faults source.new ≡ S.faults source.old }
+    ensures write_quiet { (result.status ≡ 5 → ⊥) → W.faults sink.new ≡ W.faults sink.old }
     ensures later { (S.faults source.old ≤ S.faults source.new) × (W.faults sink.old ≤ W.faults sink.new) }
     ensures open { (S.is_open source.new ≡ true) × (W.is_open sink.new ≡ true) }
     ensures numbers { (S.number source.new ≡ S.number source.old) × (W.number sink.new ≡ W.number sink.old) }

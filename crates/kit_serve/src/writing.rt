@@ -13,6 +13,7 @@ fn write_line<W: Sink>(sink: &mut W, line: &[u8]) -> Result<(), Failed>
     ensures prefix { (n : ℕ) × Appends (W.taken sink.old) (W.taken sink.new) (take n (line.now ++ 10 ∷ [])) }
     ensures silent { StaysUntold (W.taken sink.old) (W.taken sink.new) }
     ensures later { W.faults sink.old ≤ W.faults sink.new }
+    ensures done { OnOk result (W.faults sink.new ≡ W.faults sink.old) }
     ensures err { OnErr result (Rose (W.faults sink.old) (W.faults sink.new)) }
     ensures open { W.is_open sink.new ≡ true }
     ensures number { W.number sink.new ≡ W.number sink.old }
@@ -28,6 +29,7 @@ pub(super) fn write_version<W: Sink>(sink: &mut W) -> Result<(), Failed>
     ensures prefix { (n : ℕ) × Appends (W.taken sink.old) (W.taken sink.new) (take n (codes "VERSION 1" ++ 10 ∷ [])) }
     ensures silent { StaysUntold (W.taken sink.old) (W.taken sink.new) }
     ensures later { W.faults sink.old ≤ W.faults sink.new }
+    ensures done { OnOk result (W.faults sink.new ≡ W.faults sink.old) }
     ensures err { OnErr result (Rose (W.faults sink.old) (W.faults sink.new)) }
     ensures open { W.is_open sink.new ≡ true }
     ensures number { W.number sink.new ≡ W.number sink.old }
@@ -43,6 +45,7 @@ pub(super) fn write_lines<W: Sink>(sink: &mut W, lines: &Lines) -> Result<(), Fa
     ensures prefix { (n : ℕ) × Appends (W.taken sink.old) (W.taken sink.new) (take n (text lines.now)) }
     ensures silent { StaysUntold (W.taken sink.old) (W.taken sink.new) }
     ensures later { W.faults sink.old ≤ W.faults sink.new }
+    ensures done { OnOk result (W.faults sink.new ≡ W.faults sink.old) }
     ensures err { OnErr result (Rose (W.faults sink.old) (W.faults sink.new)) }
     ensures open { W.is_open sink.new ≡ true }
     ensures number { W.number sink.new ≡ W.number sink.old }

@@ -19,7 +19,7 @@ fn desk_of(alloc: Global, fails: &[u64]) -> Result<MemDesk, NoMemory> {
     MemDesk::new(alloc, files, Vec::from_slice(alloc, fails)?)
 }
 
-// What is said to the host's lines, and the desk behind them.
+// What is said to the host's lines, and the desk after them.
 #[derive(Drop)]
 struct Left {
     out: Vec<u8>,
@@ -133,59 +133,6 @@ const FAULTS: [Row; 10] = [
     ),
 ];
 
-const MISSING: [Row; 7] = [
-    (
-        b"TRANSFER STORE WORM-s3--there none\n",
-        (0, 0),
-        b"TRANSFER-FAILURE STORE WORM-s3--there no such file\n",
-        Some(3),
-        None,
-    ),
-    (
-        b"TRANSFER RETRIEVE WORM--gone out\n",
-        (0, 0),
-        b"TRANSFER-FAILURE RETRIEVE WORM--gone no such file\n",
-        Some(3),
-        None,
-    ),
-    (
-        b"CHECKPRESENT WORM--gone\n",
-        (0, 0),
-        b"CHECKPRESENT-FAILURE WORM--gone\n",
-        Some(3),
-        None,
-    ),
-    (
-        b"REMOVE WORM--gone\n",
-        (0, 0),
-        b"REMOVE-SUCCESS WORM--gone\n",
-        Some(3),
-        None,
-    ),
-    (
-        b"CHECKPRESENT WORM--\xff\n",
-        (0, 0),
-        b"CHECKPRESENT-UNKNOWN WORM--\xff not text\n",
-        Some(3),
-        None,
-    ),
-    (
-        b"TRANSFER STORE WORM--gone new\nTRANSFER RETRIEVE WORM--gone out\nREMOVE WORM--gone\nCHECKPRESENT WORM--gone\n",
-        (0, 0),
-        b"TRANSFER-SUCCESS STORE WORM--gone\nTRANSFER-SUCCESS RETRIEVE WORM--gone\nREMOVE-SUCCESS WORM--gone\nCHECKPRESENT-FAILURE WORM--gone\n",
-        Some(3),
-        Some(70_000),
-    ),
-    // a chunk's key stands in the folder of the whole content's key
-    (
-        b"TRANSFER STORE WORM-s3-S2-C1--there new\nCHECKPRESENT WORM-s3-S2-C1--there\nCHECKPRESENT WORM-s3-S2-C2--there\n",
-        (0, 0),
-        b"TRANSFER-SUCCESS STORE WORM-s3-S2-C1--there\nCHECKPRESENT-SUCCESS WORM-s3-S2-C1--there\nCHECKPRESENT-FAILURE WORM-s3-S2-C2--there\n",
-        Some(3),
-        None,
-    ),
-];
-
 fn check_rows(rt: &impl Abort, alloc: Global, rows: &[Row]) -> Result<(), Fail> {
     for (request, (first, last), answer, there, out) in rows {
         for number in *first..=*last {
@@ -208,31 +155,4 @@ fn check_rows(rt: &impl Abort, alloc: Global, rows: &[Row]) -> Result<(), Fail> 
 #[test]
 fn a_content_is_whole_or_as_before_whichever_call_fails(rt: HostRuntime) -> Result<(), Fail> {
     check_rows(&rt, rt.alloc(), &FAULTS)
-}
-
-#[test]
-fn what_is_missing_is_said(rt: HostRuntime) -> Result<(), Fail> {
-    check_rows(&rt, rt.alloc(), &MISSING)
-}
-
-#[test]
-fn a_directory_is_text_and_not_empty(rt: HostRuntime) -> Result<(), Fail> {
-    let says = b"PREPARE\nVALUE \nPREPARE\nVALUE \xff\nCHECKPRESENT WORM--gone\n";
-    let left = served(rt.alloc(), says, &[])?;
-    let want =
-        b"VERSION 1\nGETCONFIG directory\nPREPARE-FAILURE no directory\nGETCONFIG directory\nPREPARE-FAILURE not text\nCHECKPRESENT-UNKNOWN WORM--gone not prepared\n";
-    assert_eq!(rt; left.out.as_slice(), want.as_slice());
-    Ok(())
-}
-
-// A chunk's content has its own name in the folder of the whole content.
-#[test]
-fn a_chunk_stands_in_the_folder_of_its_base(rt: HostRuntime) -> Result<(), Fail> {
-    let says = b"PREPARE\nVALUE d\nTRANSFER STORE WORM-s3-S2-C1--there new\n";
-    let left = served(rt.alloc(), says, &[])?;
-    assert_eq!(rt;
-        len_of(&left.desk, "d/ed5/b32/WORM-s3-S2-C1--there"),
-        Some(70_000)
-    );
-    Ok(())
 }

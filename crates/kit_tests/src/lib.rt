@@ -1,4 +1,4 @@
-// Tests of the kit over public calls: remotes that are served to a host in memory.
+//! Tests of the kit over public calls: a remote in memory whose calls fail, and kits as the children that a host starts.
 #![tactic(auto)]
 
 #[cfg(test)]
@@ -6,9 +6,5 @@ mod disk;
 mod empty;
 #[cfg(test)]
 mod programs;
-mod scripted;
-#[cfg(test)]
-mod serving;
 
 pub use empty::Empty;
-pub use scripted::{Scripted, Word};

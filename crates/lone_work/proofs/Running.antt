@@ -19,7 +19,7 @@ use Rattle.journal_model.specs.Shares.{are_by, makes_only}
 use Rattle.journal_model.proofs.Holding.{claimed, answered as answered_task, holder_append}
 use Rattle.journal_model.proofs.Looks.{any-append, both, entry}
 use Rattle.journal_model.proofs.Testing.{or_left}
-use Rattle.task_asker.specs.Askings.{Asking, Noting}
+use Rattle.task_run.specs.Askers.{Asking, Noting}
 use Rattle.task_run.specs.declared.setup.Setup.{Setup}
 use Rattle.task_run.specs.Askings.{TaskStretch, askings, askings_from, bounds_run, notings_from, run_askings, run_notings}
 use Rattle.task_run.specs.Ran.{Ran, HasTaskCauses, answered, behind_more}

@@ -21,10 +21,13 @@ pub fn said<D: Desk>(alloc: Global, desk: &mut D, step: &Step<'_>) -> Result<Str
             Ok(size) => return format!(in alloc; "{size}"),
             Err(e) => Err(e),
         },
-        Step::Read(name, from, room) => match desk.read_at(name, from, &mut buf[..room as usize]) {
-            Ok(count) => return String::from_utf8_lossy(alloc, &buf[..count]),
-            Err(e) => Err(e),
-        },
+        Step::Read(name, from, room) => {
+            let room = usize::from(room).max(1);
+            match desk.read_at(name, from, &mut buf[..room]) {
+                Ok(count) => return String::from_utf8_lossy(alloc, &buf[..count]),
+                Err(e) => Err(e),
+            }
+        }
         Step::Create(name) => desk.create(name),
         Step::Append(name, text) => desk.append(name, text.as_bytes()),
         Step::Cut(name, size) => cut(desk, name, size),

@@ -20,9 +20,9 @@ use Rattle.crew_round.specs.declared.back.Back.{Back}
 use Rattle.crew_round.specs.declared.back.Back.TheVariants.{Stayed, Ran}
 use Rattle.crew_round.specs.Back.{CameBack}
 use Rattle.crew_round.specs.BackRole.{has_run, role_of}
-use Rattle.crew_roles.specs.Coming.{IsFresh}
-use Rattle.crew_roles.specs.Roles.{WorkerRan}
-use Rattle.crew_roles.proofs.Coming.{begun_at}
+use Rattle.crew_rounds.specs.Coming.{IsFresh}
+use Rattle.crew_rounds.specs.Roles.{WorkerRan}
+use Rattle.crew_rounds.proofs.Coming.{begun_at}
 use Rattle.crew_rounds.specs.Tagged.{AreFresh}
 use Rattle.pool_rounds.specs.Left.{IsThroughAt, LoneBack, LoneTells, links_of, passes_of}
 use Rattle.pool_rounds.specs.Pool.{AreSameLinks}

@@ -29,14 +29,15 @@ use Rattle.task_run.specs.declared.setup.Setup.{Setup}
 use Rattle.task_rounds.specs.JournalRuns.{HasJournalRun}
 use Rattle.task_rounds.proofs.Lasting.{run_lasts}
 use Rattle.lone_work.specs.Works.{DeskTells, TaskDone}
-use Rattle.crew_roles.specs.Coming.{IsFresh}
-use Rattle.crew_roles.specs.Crewing.{calls_from}
+use Rattle.crew_rounds.specs.Coming.{IsFresh}
+use Rattle.crew_rounds.specs.Crewing.{calls_from}
 use Rattle.crew_rounds.specs.declared.outcome.Outcome.{Outcome}
 use Rattle.crew_rounds.specs.Outcomes.{IfDone}
 use Rattle.crew_rounds.specs.Tagged.{AreFresh}
 use Rattle.crew_rounds.proofs.Closing.{if_done}
 use Rattle.pool_rounds.specs.Left.{IsThroughAt, LoneBack, LoneTells, PoolLeft, desks_of, links_of, passes_of}
-use Rattle.pool_rounds.specs.Pool.{MayServe, PoolCan, PoolLeaves}
+use Rattle.crew_rounds.specs.PoolChildren.{MayServe, PoolCan}
+use Rattle.pool_rounds.specs.Pool.{PoolLeaves}
 use Rattle.pool_rounds.proofs.Manning.{by_place, came_numbers, did_all, dones_of, ends_all, pool_posted, same_children, wired_end}
 
 mapped_there : {A B : Type 0} (f : A → B) (xs : List A) (i : ℕ) (x : A) → slice_get xs i ≡ Some x → slice_get (map f xs) i ≡ Some (f x)

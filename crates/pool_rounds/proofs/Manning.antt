@@ -20,11 +20,11 @@ use Rattle.task_rounds.specs.JournalRuns.{HasJournalRun}
 use Rattle.lone_work.specs.Works.{TaskDone}
 use Rattle.crew_work.specs.Crews.{calls_of}
 use Rattle.crew_work.proofs.Ending.{lones_end}
-use Rattle.crew_roles.specs.Crewing.{DesksDid}
-use Rattle.crew_roles.proofs.Crewing.{Agree, Own, agree_here, agree_later, desk_did}
+use Rattle.crew_rounds.specs.Crewing.{DesksDid}
+use Rattle.crew_rounds.proofs.Crewing.{Agree, Own, agree_here, agree_later, desk_did}
 use Rattle.crew_rounds.specs.Tagged.{AreFresh}
 use Rattle.pool_rounds.specs.Left.{LoneBack, LoneTells, desks_of, links_of, passes_of}
-use Rattle.pool_rounds.specs.Pool.{MayServe}
+use Rattle.crew_rounds.specs.PoolChildren.{MayServe}
 
 -- each of the children has the post of who has it for itself, where the numbers begin with this
 abbrev pub Posted : (ℕ → Post) → ℕ → List ℕ → Type 0

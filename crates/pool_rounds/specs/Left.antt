@@ -11,7 +11,7 @@ use Rattle.gathering.specs.Tasks.{IsThrough}
 use Rattle.task_run.specs.declared.setup.Setup.{Setup}
 use Rattle.lone_work.specs.Works.{DeskTells}
 use Rattle.crew_work.specs.Crews.{Worked}
-use Rattle.crew_roles.specs.Coming.{IsFresh}
+use Rattle.crew_rounds.specs.Coming.{IsFresh}
 use Rattle.crew_rounds.specs.declared.outcome.Outcome.{Outcome}
 use Rattle.crew_rounds.specs.declared.outcome.Outcome.TheVariants.{Done, NoThreads}
 use Rattle.crew_rounds.specs.Tagged.{AreFresh}

@@ -14,20 +14,7 @@ use Rattle.task_run.specs.declared.setup.Setup.{Setup}
 use Rattle.task_rounds.specs.JournalRuns.{HasJournalRun}
 use Rattle.lone_work.specs.Works.{DeskTells, TaskDone}
 use Rattle.crew_work.specs.Crews.{CanServe}
-use Rattle.crew_roles.specs.Crewing.{DesksDid, calls_from}
-
--- The child of this link can serve in a round: it was got ready and not closed; and the link is wired to the journal, where each
--- request was written before a line answered it.
-pub record MayServe (o : Opening) (journal : List Entry) (l : LinkValue) : Type 0 where
-  pub serves : CanServe o l.ear.child journal
-  pub unclosed : why_of journal l.ear.child ≡ Some Closed → ⊥
-  pub wired : LoneWired journal l.ear l.mouth
-
--- A round over these links may begin: no task is busy and no job is open; the children differ, and each can serve.
-pub record PoolCan (o : Opening) (journal : List Entry) (links : List LinkValue) : Type 0 where
-  pub calm : IsAtRest journal
-  pub differ : Distinct (children_of links)
-  pub each : All (MayServe o journal) links
+use Rattle.crew_rounds.specs.Crewing.{DesksDid, calls_from}
 
 -- each link is that of the child, and of the start, of the link at its place
 abbrev pub AreSameLinks : List LinkValue → List LinkValue → Type 0

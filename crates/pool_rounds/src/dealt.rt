@@ -3,8 +3,8 @@ ghost use Rattle.std.specs.Prelude.{◌≡◌, ◌≤◌, ◌+◌, ◌++◌, [],
 ghost use Rattle.crew_rounds.specs.Backs.{roles_of};
 
 use ann_outside::{Desk, Sink, Source};
-use crew_roles::Worker;
 use crew_round::Back;
+use crew_rounds::Worker;
 use hall::{Hall, Pass};
 use host_core::Core;
 use link_roles::Lone;

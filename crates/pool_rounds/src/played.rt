@@ -9,7 +9,8 @@ ghost use Rattle.crew_rounds.specs.Tagged.{AreFresh, link_of};
 ghost use Rattle.hall.specs.Passes.{IsPassOf};
 ghost use Rattle.lone_work.specs.Works.{AreTasks, desk_tells};
 ghost use Rattle.pool_rounds.specs.Left.{PoolLeft, done_if};
-ghost use Rattle.pool_rounds.specs.Pool.{AreAsBefore, AreSameLinks, PoolCan};
+ghost use Rattle.crew_rounds.specs.PoolChildren.{PoolCan};
+ghost use Rattle.pool_rounds.specs.Pool.{AreAsBefore, AreSameLinks};
 
 use crate::dealt::{LoneWorker, Site, deal, take_back};
 use ann_outside::{Desk, Sink, Source};

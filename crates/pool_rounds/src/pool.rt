@@ -6,7 +6,8 @@ ghost use Rattle.crew_rounds.specs.Outcomes.{IfDone, IfKept};
 ghost use Rattle.crew_rounds.specs.Tagged.{link_of};
 ghost use Rattle.gathering.specs.Laws.{GoesOn};
 ghost use Rattle.lone_work.specs.Works.{AreTasks, desk_tells};
-ghost use Rattle.pool_rounds.specs.Pool.{AreAsBefore, AreSameLinks, PoolCan, PoolLeaves};
+ghost use Rattle.crew_rounds.specs.PoolChildren.{PoolCan};
+ghost use Rattle.pool_rounds.specs.Pool.{AreAsBefore, AreSameLinks, PoolLeaves};
 
 use crate::dealt::Site;
 use crate::played::{Kit, play};

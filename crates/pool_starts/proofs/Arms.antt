@@ -33,7 +33,7 @@ use Rattle.lone_rounds.proofs.Leaving.{adds_one, starts_child}
 use Rattle.lone_rounds.proofs.Served.{all_unclosed, greeting_unclosed, new_unclosed}
 use Rattle.lone_rounds.proofs.Stinting.{Closing, closing, closing_part, greeting_part, may_close, of_closing}
 use Rattle.crew_rounds.specs.Tagged.{link_of}
-use Rattle.pool_rounds.specs.Pool.{MayServe}
+use Rattle.crew_rounds.specs.PoolChildren.{MayServe}
 use Rattle.pool_starts.specs.Pools.{AreSeated, OverBy, SeatValue, Serves, is_among}
 use Rattle.pool_starts.specs.Seats.{SeatsOne, SeatsOver}
 use Rattle.pool_starts.proofs.Own.{greeting_own, own_rests, rest_shut, undone_unready}

@@ -11,7 +11,7 @@ use Rattle.child_end.specs.Programs.{AddsAll, HaveStarted, ProgramsValue, told}
 use Rattle.child_end.specs.Wires.{came}
 use Rattle.gathering.specs.Rounds.{LinkValue}
 use Rattle.lone_rounds.proofs.Leaving.{adds_both, adds_none, adds_one, rose_on, stays_none}
-use Rattle.pool_rounds.specs.Pool.{MayServe, PoolCan}
+use Rattle.crew_rounds.specs.PoolChildren.{MayServe, PoolCan}
 use Rattle.pool_starts.specs.Pools.{Gathered, IsPool, IsWithin, SeatValue, Serves}
 use Rattle.pool_starts.specs.Seats.{SeatsNone, SeatsOne}
 use Rattle.pool_starts.specs.Slots.{has_pool, is_unclaimed_since, last_slot}

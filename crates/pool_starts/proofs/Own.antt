@@ -29,7 +29,7 @@ use Rattle.lone_rounds.specs.Starting.{is_any_start}
 use Rattle.lone_rounds.specs.Stints.{in_stint}
 use Rattle.lone_rounds.proofs.Apart.{apart_in, no_start_in}
 use Rattle.lone_rounds.proofs.Tests.{any_none, each_none, each_without}
-use Rattle.pool_rounds.specs.Pool.{MayServe}
+use Rattle.crew_rounds.specs.PoolChildren.{MayServe}
 use Rattle.pool_starts.specs.Pools.{is_claim}
 use Rattle.pool_starts.specs.Slots.{in_pool, offers_tags}
 

@@ -28,7 +28,7 @@ use Rattle.lone_rounds.specs.Stints.{AreUpTo, main_entry, next_child}
 use Rattle.lone_rounds.proofs.Apart.{ended_on, ready_same}
 use Rattle.lone_rounds.proofs.Leaving.{adds_both, none_told, rose_on}
 use Rattle.lone_rounds.proofs.Tests.{UpTo, any_none, children_up_to, count-append, count_none, no_children, none_came, up_to_both, up_to_more}
-use Rattle.pool_rounds.specs.Pool.{MayServe, PoolCan}
+use Rattle.crew_rounds.specs.PoolChildren.{MayServe, PoolCan}
 use Rattle.pool_starts.specs.Pools.{AreSeated, Gathered, GathersBy, IsPool, OverBy, SeatValue, Serves, is_among, is_claim}
 use Rattle.pool_starts.specs.Seats.{IsSlotStart, SeatsOne}
 use Rattle.pool_starts.specs.Slots.{AllInTurn, IsInSlot, IsNextSlot, StandsInTurn, begins_by_start, has_pool, in_pool, is_first_start, is_ready_pool, is_unclaimed_since, last_slot, offers_tags, slot_of}

@@ -21,7 +21,7 @@ use Rattle.crew_rounds.specs.Tagged.{link_of}
 use Rattle.lone_rounds.specs.Starting.{children}
 use Rattle.lone_rounds.specs.Rounds.{is_of_run}
 use Rattle.lone_rounds.specs.Stints.{IsLinked}
-use Rattle.pool_rounds.specs.Pool.{PoolCan}
+use Rattle.crew_rounds.specs.PoolChildren.{PoolCan}
 use Rattle.pool_starts.specs.declared.pool.Gathering.{Gathering}
 use Rattle.pool_starts.specs.declared.pool.Gathering.TheVariants.{Whole, NoMemory, NoRoom}
 use Rattle.pool_starts.specs.declared.pool.Pool.{Pool}

@@ -16,7 +16,7 @@ use Rattle.gathering.specs.Rounds.{LinkValue}
 use Rattle.lone_rounds.specs.Rounds.{is_of_run}
 use Rattle.lone_rounds.specs.Starting.{children}
 use Rattle.lone_rounds.specs.Stints.{MayHaveAsked, main_entry, next_child}
-use Rattle.pool_rounds.specs.Pool.{MayServe}
+use Rattle.crew_rounds.specs.PoolChildren.{MayServe}
 use Rattle.pool_starts.specs.Pools.{AreSeated, SeatValue, OverBy, is_among}
 
 -- a start in the slot that doesn't offer ASYNC, which gave the next child or none

@@ -11,7 +11,7 @@ ghost use Rattle.child_end.specs.Wires.{wire_value};
 ghost use Rattle.crew_rounds.specs.Tagged.{link_of};
 ghost use Rattle.door_asker.specs.KnownLayouts.{IsBook};
 ghost use Rattle.gathering.specs.Rounds.{IsAtRest};
-ghost use Rattle.pool_rounds.specs.Pool.{PoolCan};
+ghost use Rattle.crew_rounds.specs.PoolChildren.{PoolCan};
 ghost use Rattle.pool_starts.specs.Pools.{GathersAs, Serves, seat_value};
 ghost use Rattle.pool_starts.specs.Seats.{SeatsNone, SeatsOne, SeatsOver};
 ghost use Rattle.pool_starts.specs.Slots.{has_pool, is_unclaimed_since, last_slot};

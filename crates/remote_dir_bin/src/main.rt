@@ -2,21 +2,32 @@
 // https://git-annex.branchable.com/design/external_special_remote_protocol/
 #![tactic(auto)]
 
-ghost use Rattle.std.specs.Prelude.{◌≡◌, true};
+mod sweeping;
+mod swept;
 
-use ann_os::{OsDesks, OsErrors, OsInput, OsOutput};
-use ann_outside::{Desks, Sink, write_all};
-use dir_remote::DirRemote;
-use kit_serve::{Served, serve};
-use std::env;
+ghost use Rattle.std.specs.Prelude.{◌≡◌, true, IfSome};
+ghost use Rattle.dir_remote.specs.Contents.{IsMark};
+
+use ann_key::Text;
+use ann_os::{OsClock, OsDesks, OsErrors, OsInput, OsOutput};
+use ann_outside::{Clock, Desks, Sink, write_all};
+use dir_remote::{DirRemote, is_mark};
+use kit_serve::serve;
+use std::alloc::Global;
+use std::io::Stdout;
 use std::process::ExitCode;
 use std::rt::Env;
+use std::{env, process};
+use swept::Swept;
 
 const HELP: &[u8] = b"\
 annex-remote-dir: a directory as a special remote of git-annex
 
 A host starts it without words and talks to it over its standard input and output.
 Its one setting is `directory`, the folder in which the contents of keys are kept.
+It says that a content is stored when it is on the disk. Where the environment has
+ANNEX_REMOTE_DIR_SYNC=0 it doesn't wait for the disk: it is faster, and a loss of power may
+take what was stored last.
 ";
 
 const VERSION: &[u8] = b"annex-remote-dir 0.1.0\n";
@@ -66,24 +77,61 @@ fn print<W: Sink>(sink: &mut W, text: &[u8], status: u8) -> u8
     }
 }
 
+// Whether a store waits for the disk.
+fn waits<R: Env + AllocGlobal>(rt: &R) -> bool {
+    match env::var(rt, "ANNEX_REMOTE_DIR_SYNC") {
+        Ok(value) => value.as_str() != "0",
+        Err(_) => true,
+    }
+}
+
+// A mark that no other remote of this machine has: the process, the time and the number of the remote in this process. None is want
+// of memory.
+fn mark_of(alloc: Global, process: u32, micros: u64) -> Option<Text>
+    ensures { IfSome result IsMark }
+{
+    let Ok(mark) = format!(in alloc; "{process}.{micros}.1") else {
+        return None;
+    };
+    let mark = Text::from_string(mark);
+    if is_mark(mark.view()) {
+        Some(mark)
+    } else {
+        None
+    }
+}
+
+// The remote's status at its end; 7 is want of memory.
+fn serve_directory(rt: &HostRuntime, out: &mut OsOutput<Stdout>) -> u8
+    requires { ⟦<OsOutput<Stdout> as Sink>⟧.is_open out.old ≡ true }
+{
+    let mut input = OsInput::new(rt.stdin());
+    let Some(mark) = mark_of(
+        rt.alloc(),
+        process::id(rt.process()),
+        OsClock::new(rt).now(),
+    ) else {
+        return 7;
+    };
+    let mut desks = if waits(rt) {
+        OsDesks::new(rt)
+    } else {
+        OsDesks::unsynced(rt)
+    };
+    let Ok(desk) = desks.desk(1) else {
+        return 7;
+    };
+    let remote = Swept::new(rt, DirRemote::apart(rt.alloc(), desk, mark));
+    serve(rt.alloc(), remote, &mut input, out).status
+}
+
 fn main(rt: HostRuntime) -> ExitCode {
     let mut out = OsOutput::new(rt.stdout());
     let status = match read_wish(&rt) {
         None => 7,
         Some(Wish::Print(text)) => print(&mut out, text, 0),
         Some(Wish::Refused) => print(&mut OsErrors::new(rt.stderr()), USAGE, 2),
-        Some(Wish::Serve) => {
-            let mut input = OsInput::new(rt.stdin());
-            match OsDesks::new(&rt).desk(0) {
-                Err(_) => 7,
-                Ok(desk) => {
-                    let remote = DirRemote::new(rt.alloc(), desk);
-                    let Served { status, remote } = serve(rt.alloc(), remote, &mut input, &mut out);
-                    let _desk = remote.close();
-                    status
-                }
-            }
-        }
+        Some(Wish::Serve) => serve_directory(&rt, &mut out),
     };
     ExitCode::from(status)
 }

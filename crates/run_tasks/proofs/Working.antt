@@ -17,7 +17,7 @@ use Rattle.run_tasks.specs.Inputs.{InputFlow, run_setup}
 use Rattle.run_tasks.specs.Runs.{MadeValue, AreFresh, IsAsBefore, IsRunOf, IsUnbegun, LacksJournal, EndsRun, IfUnwhole, table_tells}
 use Rattle.run_tasks.specs.Beginnings.{IsReady, BeginsRun}
 use Rattle.run_tasks.specs.Workings.{IsWorked, IsUnjournaled, Finishes, EndsWork, IsStopped, GoesOn}
-use Rattle.job_laws.proofs.Succeeding.{jobs_keep, jobs_succeed}
+use Rattle.job_rounds.proofs.Succeeding.{jobs_keep, jobs_succeed}
 use Rattle.run_tasks.specs.declared.made.RunEnd.{RunEnd}
 use Rattle.run_tasks.specs.declared.made.RunEnd.TheVariants.{BadKept, KeptTooLarge, FileFailed, InputFailed, Refused, Memory, Done}
 use Rattle.run_tasks.proofs.Kept.{as_before}

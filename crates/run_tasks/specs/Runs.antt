@@ -34,8 +34,8 @@ use Rattle.child_end.specs.Wires.{WireValue}
 use Rattle.child_end.specs.Programs.{Leaves}
 use Rattle.child_end.specs.Outsides.{OutsideValue, TableValue}
 use Rattle.lone_work.specs.Works.{DeskTells, desk_tells}
-use Rattle.job_laws.specs.JobsKeep.{JobsKeep}
-use Rattle.job_laws.specs.JobsWell.{JobsSucceed}
+use Rattle.job_rounds.specs.JobsKeep.{JobsKeep}
+use Rattle.job_rounds.specs.JobsWell.{JobsSucceed}
 use Rattle.job_rounds.specs.JobRuns.{RanJobs}
 use Rattle.run_tasks.specs.Inputs.{InputFlow, IsUnread, IsTaken, IsTextFor, IsRunOpening, run_setup}
 use Rattle.run_tasks.specs.declared.made.RunEnd.{RunEnd}

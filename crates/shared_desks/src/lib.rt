@@ -5,7 +5,7 @@
 #![tactic(auto)]
 
 ghost use Rattle.std.specs.Prelude.{◌≡◌, None, IfOk};
-ghost use Rattle.ann_outside.specs.DeskCauses.{HasCauses};
+ghost use Rattle.ann_outside.specs.DeskCauses.{HasCauses, LeavesOther};
 
 use ann_key::NoMemory;
 use ann_outside::{Desk, DeskError, Desks, MemDesk};
@@ -72,6 +72,7 @@ impl<R: Wait> SharedDesk<R> {
     fn counted<T>(&mut self, outcome: Result<T, DeskError>) -> Result<T, DeskError>
         ensures same { result ≡ outcome }
         ensures causes { HasCauses (⟦<SharedDesk<R> as Desk>⟧.counts self.old) (⟦<SharedDesk<R> as Desk>⟧.counts self.new) result }
+        ensures apart { LeavesOther (⟦<SharedDesk<R> as Desk>⟧.counts self.old) (⟦<SharedDesk<R> as Desk>⟧.counts self.new) result }
     {
         match outcome {
             Err(DeskError::Failed) => self.faults = self.faults.saturating_add(1),
@@ -119,6 +120,16 @@ impl<R: Wait> Desk for SharedDesk<R> {
         self.counted(done)
     }
 
+    fn create_new(&mut self, name: &str) -> Result<(), DeskError> {
+        let done = {
+            let mut desk = self.map.lock(&self.rt);
+            let done = desk.create_new(name);
+            desk.forget_log();
+            done
+        };
+        self.counted(done)
+    }
+
     fn append(&mut self, name: &str, piece: &[u8]) -> Result<(), DeskError> {
         let done = {
             let mut desk = self.map.lock(&self.rt);
@@ -155,6 +166,14 @@ impl<R: Wait> Desk for SharedDesk<R> {
             let done = desk.remove(name);
             desk.forget_log();
             done
+        };
+        self.counted(done)
+    }
+
+    fn sync(&mut self, name: &str) -> Result<(), DeskError> {
+        let done = {
+            let mut desk = self.map.lock(&self.rt);
+            desk.sync(name)
         };
         self.counted(done)
     }

@@ -1,4 +1,4 @@
-// Sources, sinks, programs and clocks, call by call: in memory, and over this machine.
+// Sources, sinks, programs and clocks, call by call: in memory, and streams of this machine.
 #![tactic(auto)]
 
 #[cfg(test)]

@@ -1,81 +1,8 @@
-// Real children and the real clock, and streams of std that fail.
-use ann_os::{OsClock, OsInput, OsOutput, OsPrograms};
-use ann_outside::{Clock, Failed, Programs, Sink, Source, StartError, Started};
+// The status of a real child, and streams of std that fail.
+use ann_os::{OsInput, OsOutput, OsPrograms};
+use ann_outside::{Failed, Programs, Sink, Source, StartError, Started};
 use std::io;
 use std::io::{ErrorKind, Read, Write};
-
-#[test]
-fn cat_gives_back_a_line(rt: HostRuntime) -> Result<(), StartError> {
-    let mut programs = OsPrograms::new(&rt);
-    let Started {
-        mut inlet,
-        mut outlet,
-        stub,
-    } = programs.start("cat")?;
-    let mut buf = [0; 64];
-    assert_eq!(rt; inlet.write("a line\n".as_bytes()), Ok(7));
-    assert_eq!(rt; inlet.flush(), Ok(()));
-    assert_eq!(rt; outlet.read(&mut buf), Ok(7));
-    assert_eq!(rt; &buf[..7], "a line\n".as_bytes());
-    inlet.close();
-    assert_eq!(rt; outlet.read(&mut buf), Ok(0));
-    outlet.close();
-    assert_eq!(rt; programs.finish(stub), Ok(0));
-    Ok(())
-}
-
-// The first child sees the end of its input while the second, which started later, still runs.
-#[test]
-fn a_later_child_holds_no_pipe_of_an_earlier_one(rt: HostRuntime) -> Result<(), StartError> {
-    let mut programs = OsPrograms::new(&rt);
-    let Started {
-        inlet: mut first_inlet,
-        outlet: mut first_outlet,
-        stub: first_stub,
-    } = programs.start("cat")?;
-    let Started {
-        mut inlet,
-        mut outlet,
-        stub,
-    } = programs.start("cat")?;
-    let mut buf = [0; 8];
-    first_inlet.close();
-    assert_eq!(rt; first_outlet.read(&mut buf), Ok(0));
-    assert_eq!(rt; programs.finish(first_stub), Ok(0));
-    assert_eq!(rt; inlet.write(&[10]), Ok(1));
-    assert_eq!(rt; outlet.read(&mut buf), Ok(1));
-    inlet.close();
-    assert_eq!(rt; programs.finish(stub), Ok(0));
-    Ok(())
-}
-
-#[test]
-fn a_missing_program_is_a_fault(rt: HostRuntime) {
-    let mut programs = OsPrograms::new(&rt);
-    for name in ["/nowhere/at/all", "annex-no-such-program", "/"] {
-        match programs.start(name) {
-            Err(error) => assert_eq!(rt; error, StartError::Failed, "at {name}"),
-            Ok(Started { stub, .. }) => panic!(rt; "{name} ends with {:?}", programs.finish(stub)),
-        }
-    }
-}
-
-// Once a child has closed its output it is gone, and what is written to it fails. No signal ends this test.
-#[test]
-fn a_write_to_a_child_that_is_gone_is_a_fault(rt: HostRuntime) -> Result<(), StartError> {
-    let mut programs = OsPrograms::new(&rt);
-    let Started {
-        mut inlet,
-        mut outlet,
-        stub,
-    } = programs.start("true")?;
-    let mut buf = [0; 8];
-    assert_eq!(rt; outlet.read(&mut buf), Ok(0));
-    assert_eq!(rt; programs.finish(stub), Ok(0));
-    assert_eq!(rt; inlet.write(&[10]), Err(Failed));
-    assert_eq!(rt; inlet.write(&[10]), Err(Failed));
-    Ok(())
-}
 
 #[test]
 fn a_status_is_handed_on(rt: HostRuntime) -> Result<(), StartError> {
@@ -87,13 +14,6 @@ fn a_status_is_handed_on(rt: HostRuntime) -> Result<(), StartError> {
     } = programs.start("false")?;
     assert_eq!(rt; programs.finish(stub), Ok(1));
     Ok(())
-}
-
-#[test]
-fn the_clock_goes_in_microseconds(rt: HostRuntime) {
-    let now = OsClock::new(&rt).now();
-    // the first moments of 2020 and of 2100
-    assert!(rt; now > 1_577_836_800_000_000 && now < 4_102_444_800_000_000);
 }
 
 // A stream that is interrupted, then takes or gives one byte, then fails, then takes or gives nothing.

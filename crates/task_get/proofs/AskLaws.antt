@@ -6,7 +6,7 @@ use Rattle.std.proofs.lemmas.Bool.{and_parts}
 use Rattle.std.proofs.lemmas.List.Sums.{sum_by-cons, sum_by-append}
 use Rattle.annex_model.specs.Messages.{HostMessage}
 use Rattle.ann_key.specs.Keys.{Parts}
-use Rattle.task_asker.specs.Askings.{Asking}
+use Rattle.task_run.specs.Askers.{Asking}
 use Rattle.task_run.specs.Stops.{is_done}
 use Rattle.task_run.specs.Requests.{AskInOrder, rounds, RoundsAsk}
 use Rattle.task_run.specs.Gets.{item}

@@ -21,7 +21,7 @@ use Rattle.fetch_copy.specs.Resumes.{read_calls}
 use Rattle.fetch_copy.proofs.CopyLaws.{checks_nothing}
 use Rattle.journal_model.specs.declared.answer.Answer.{Answer}
 use Rattle.journal_model.specs.declared.answer.Answer.TheVariants as A
-use Rattle.task_asker.specs.Askings.{Asking}
+use Rattle.task_run.specs.Askers.{Asking}
 use Rattle.task_get.specs.declared.get_begin.Begun.{Begun}
 use Rattle.task_get.specs.declared.get_begin.Begun.TheVariants as B
 use Rattle.task_run.specs.Stops.{call_stop}

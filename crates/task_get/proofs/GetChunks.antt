@@ -12,7 +12,7 @@ use Rattle.chunk_plan.specs.Layouts.{Part, chunk_part, count_of}
 use Rattle.fetch_copy.specs.Copies.{Checks}
 use Rattle.fetch_copy.proofs.CopyLaws.{gained_nothing, gained_more, checks_nothing, checks_more}
 use Rattle.journal_model.specs.declared.answer.Answer.TheVariants as A
-use Rattle.task_asker.specs.Askings.{Asking, IsSameTask}
+use Rattle.task_run.specs.Askers.{Asking, IsSameTask}
 use Rattle.task_run.specs.declared.setup.Setup.{Setup}
 use Rattle.task_get.specs.declared.get_chunk.Went.{Went}
 use Rattle.task_get.specs.declared.get_chunk.Went.TheVariants as T

@@ -15,7 +15,7 @@ use Rattle.journal_model.specs.declared.answer.Answer.{Answer}
 use Rattle.journal_model.specs.declared.answer.Answer.TheVariants as A
 use Rattle.task_text.specs.declared.task.Work.TheVariants as W
 use Rattle.ann_outside.specs.declared.file_desk.Call.{Call}
-use Rattle.task_asker.specs.Askings.{Asking}
+use Rattle.task_run.specs.Askers.{Asking}
 use Rattle.task_run.specs.Stops.{is_done, asking_stop, call_stop, stops_of, AnsweredBy, all_but_last}
 use Rattle.task_run.specs.Names.{part_of}
 use Rattle.task_run.specs.Requests.{rounds, RoundsAsk}

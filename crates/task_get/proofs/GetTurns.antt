@@ -20,7 +20,7 @@ use Rattle.ann_outside.specs.declared.file_desk.Call.{Call}
 use Rattle.ann_outside.specs.declared.file_desk.Call.TheVariants.{Size, Remove}
 use Rattle.fetch_copy.specs.Copies.{EndsWhole, Checks}
 use Rattle.fetch_copy.proofs.CopyLaws.{gained_nothing}
-use Rattle.task_asker.specs.Askings.{Asking, IsKept}
+use Rattle.task_run.specs.Askers.{Asking, IsKept}
 use Rattle.task_run.specs.declared.setup.Setup.{Setup}
 use Rattle.task_get.specs.declared.get_chunk.Went.{Went}
 use Rattle.task_get.specs.declared.get_chunk.Went.TheVariants as T

@@ -15,7 +15,7 @@ use Rattle.ann_outside.specs.declared.file_desk.Call.TheVariants.{Size, Create, 
 use Rattle.fetch_copy.specs.Copies.{EndsWhole}
 use Rattle.journal_model.specs.declared.answer.Answer.{Answer}
 use Rattle.journal_model.specs.declared.answer.Answer.TheVariants as A
-use Rattle.task_asker.specs.Askings.{Asking, AsksOne}
+use Rattle.task_run.specs.Askers.{Asking, AsksOne}
 use Rattle.std.specs.List.{last_or}
 use Rattle.annex_model.specs.Messages.{HostMessage, Transfer}
 use Rattle.journal_model.specs.declared.verdict.Verdict.{Verdict}

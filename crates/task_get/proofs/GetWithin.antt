@@ -10,7 +10,7 @@ use Rattle.annex_model.specs.Messages.{HostMessage}
 use Rattle.journal_model.specs.declared.verdict.Verdict.{Verdict}
 use Rattle.journal_model.specs.declared.verdict.Verdict.TheVariants as V
 use Rattle.ann_outside.specs.declared.file_desk.Call.{Call}
-use Rattle.task_asker.specs.Askings.{Asking}
+use Rattle.task_run.specs.Askers.{Asking}
 use Rattle.task_run.specs.Stops.{is_done, call_stop, all_but_last}
 use Rattle.task_run.specs.Names.{part_of, fetch_files}
 use Rattle.task_run.specs.Requests.{AsksFor, AskInOrder, rounds, RoundsAsk}

@@ -9,7 +9,7 @@ use Rattle.std.proofs.lemmas.List.FromFn.{map-range_with_len_more}
 use Rattle.ann_outside.specs.declared.file_desk.Call.{Call}
 use Rattle.ann_outside.specs.declared.file_desk.Call.TheVariants.{Size, ReadAt, Create, Append, Cut, Rename, Remove}
 use Rattle.chunk_plan.specs.Layouts.{Part}
-use Rattle.task_asker.specs.Askings.{Asking}
+use Rattle.task_run.specs.Askers.{Asking}
 use Rattle.task_run.specs.declared.setup.Setup.{Setup}
 use Rattle.task_run.specs.Stops.{is_done}
 use Rattle.task_run.specs.Names.{fetch_file, fetch_files, part_of, is_among}

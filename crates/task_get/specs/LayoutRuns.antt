@@ -10,7 +10,7 @@ use Rattle.chunk_plan.specs.Layouts.{Part, chunk_part, count_of}
 use Rattle.fetch_copy.specs.Copies.{Checks}
 use Rattle.journal_model.specs.declared.answer.Answer.{Answer}
 use Rattle.journal_model.specs.declared.answer.Answer.TheVariants.{Memory}
-use Rattle.task_asker.specs.Askings.{Asking}
+use Rattle.task_run.specs.Askers.{Asking}
 use Rattle.task_run.specs.declared.setup.Setup.{Setup}
 use Rattle.task_get.specs.declared.get_chunk.Went.{Went}
 use Rattle.task_get.specs.declared.get_chunk.Went.TheVariants as T

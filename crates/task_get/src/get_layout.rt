@@ -5,7 +5,7 @@ ghost use Rattle.ann_key.specs.KeyRefs.{parts_of, text_of};
 ghost use Rattle.annex_model.specs.Lines.{has_newline};
 ghost use Rattle.annex_model.specs.Messages.{is_sent_key};
 ghost use Rattle.chunk_plan.specs.Layouts.{count_of, from_of};
-ghost use Rattle.task_asker.specs.Askings.{IsSameTask};
+ghost use Rattle.task_run.specs.Askers.{IsSameTask};
 ghost use Rattle.task_get.specs.ChunkFetches.{answer_in};
 ghost use Rattle.task_get.specs.LayoutRuns.{NextRan, ChunksRan, LayoutRan};
 ghost use Rattle.task_run.specs.Names.{part_of};
@@ -21,9 +21,8 @@ use ann_key::{KeyRef, NoMemory};
 use ann_outside::Desk;
 use chunk_plan::{count, piece, range};
 use std::alloc::Global;
-use task_asker::Asker;
-use task_run::Setup;
 use task_run::names::fetch_name;
+use task_run::{Asker, Setup};
 
 // Asks for the chunk behind the first i, as the next request, and adds it to part.
 fn next_chunk<A: Asker, D: Desk>(

@@ -3,7 +3,7 @@ ghost use Rattle.std.specs.Prelude.{◌≡◌, ◌≢◌, ◌+◌, ◌<◌, ◌^
 ghost use Rattle.ann_key.specs.KeyRefs.{parts_of, text_of};
 ghost use Rattle.annex_model.specs.Lines.{has_newline};
 ghost use Rattle.annex_model.specs.Messages.{is_sent_key};
-ghost use Rattle.task_asker.specs.Askings.{IsSameTask, are_layouts};
+ghost use Rattle.task_run.specs.Askers.{IsSameTask, are_layouts};
 ghost use Rattle.task_get.specs.LayoutRuns.{WholeRan, TriesRan, GetRan};
 ghost use Rattle.task_get.specs.ChunkFetches.{answer_in};
 ghost use Rattle.task_run.specs.Ran.{HasTaskCauses};
@@ -21,10 +21,9 @@ use ann_outside::Desk;
 use chunk_plan::count;
 use journal_model::Answer;
 use std::alloc::Global;
-use task_asker::Asker;
 use task_run::answers::{is_done, undone_answer};
 use task_run::names::{fetch_name, part_name};
-use task_run::{Setup, ask};
+use task_run::{Asker, Setup, ask};
 use task_text::Task;
 
 // Fetches the key whole, by this name of the fetched file.

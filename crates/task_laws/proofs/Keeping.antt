@@ -13,7 +13,7 @@ use Rattle.annex_model.specs.Messages.{HostMessage}
 use Rattle.chunk_plan.specs.Layouts.{Part, layout, chunk_part, count_of}
 use Rattle.chunk_plan.proofs.Joined.{ranges_are_the_whole}
 use Rattle.journal_model.specs.declared.answer.Answer.TheVariants as A
-use Rattle.task_asker.specs.Askings.{Asking}
+use Rattle.task_run.specs.Askers.{Asking}
 use Rattle.task_run.specs.declared.setup.Setup.{Setup}
 use Rattle.task_run.specs.Stops.{is_done, last_failed}
 use Rattle.task_run.specs.Names.{fetch_file}

@@ -20,7 +20,7 @@ use Rattle.journal_model.specs.Journal.{verdict_of, addressed}
 use Rattle.journal_model.specs.Legality.{Legal, task_of, is_done}
 use Rattle.journal_model.proofs.Looks.{verdict_of-append}
 use Rattle.task_text.specs.declared.task.Task.{Task}
-use Rattle.task_asker.specs.Askings.{Asking}
+use Rattle.task_run.specs.Askers.{Asking}
 use Rattle.task_run.specs.declared.setup.Setup.{Setup}
 use Rattle.task_run.specs.Askings.{past_claim, asking_of, askings_from, run_askings, run_notings}
 use Rattle.task_run.specs.Requests.{AsksFor, AskInOrder}

@@ -8,7 +8,7 @@ use Rattle.journal_model.specs.declared.entry.Entry.{Entry}
 use Rattle.journal_model.specs.declared.entry.What.TheVariants.{Claim, Answer as Answered}
 use Rattle.journal_model.specs.declared.opening.Opening.{Opening}
 use Rattle.task_text.specs.declared.task.Task.{Task}
-use Rattle.task_asker.specs.Askings.{Asking}
+use Rattle.task_run.specs.Askers.{Asking}
 use Rattle.task_run.specs.declared.setup.Setup.{Setup}
 use Rattle.task_run.specs.Askings.{TaskStretch, askings_from, askings, run_askings, run_notings}
 use Rattle.task_run.proofs.Askings.{askings_from-append}

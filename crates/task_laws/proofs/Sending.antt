@@ -15,7 +15,7 @@ use Rattle.journal_model.specs.declared.answer.Answer.{Answer}
 use Rattle.task_text.specs.declared.task.Task.{Task}
 use Rattle.task_text.specs.declared.task.Work.{Work}
 use Rattle.task_text.specs.declared.task.Work.TheVariants as W
-use Rattle.task_asker.specs.Askings.{Asking, Noting}
+use Rattle.task_run.specs.Askers.{Asking, Noting}
 use Rattle.task_run.specs.declared.setup.Setup.{Setup}
 use Rattle.task_run.specs.Names.{chunk_file}
 use Rattle.task_run.specs.Requests.{AsksFor, AskInOrder}

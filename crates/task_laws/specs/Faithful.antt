@@ -7,7 +7,7 @@ use Rattle.journal_model.specs.declared.entry.Entry.{Entry}
 use Rattle.journal_model.specs.declared.opening.Opening.{Opening}
 use Rattle.journal_model.specs.Legality.{task_of}
 use Rattle.task_text.specs.declared.task.Task.{Task}
-use Rattle.task_asker.specs.Askings.{Asking}
+use Rattle.task_run.specs.Askers.{Asking}
 use Rattle.task_run.specs.declared.setup.Setup.{Setup}
 use Rattle.task_run.specs.Reads.{holds}
 use Rattle.task_run.specs.Runs.{is_chunked}

@@ -14,7 +14,7 @@ use Rattle.journal_model.proofs.Looks.{entry, each_of-append, either_left, eithe
 use Rattle.ann_outside.specs.declared.file_desk.Call.{Call}
 use Rattle.annex_model.specs.Messages.{host_reading}
 use Rattle.journal_model.specs.Journal.{addressed}
-use Rattle.task_asker.specs.Askings.{Asking, Noting}
+use Rattle.task_run.specs.Askers.{Asking, Noting}
 use Rattle.task_run.specs.declared.setup.Setup.{Setup}
 use Rattle.task_run.specs.Askings.{TaskStretch, past_claim, run_askings, run_notings, asking_of, askings_from, noting_of, notings_from}
 use Rattle.task_run.specs.Runs.{TaskRun}

@@ -4,7 +4,7 @@ use Rattle.std.specs.Prelude.{Bool, true, false, Option, Some, None, IfSome}
 use Rattle.ann_key.specs.Keys.{Parts, key_reading}
 use Rattle.journal_model.specs.declared.verdict.Verdict.{Verdict}
 use Rattle.annex_model.specs.Messages.{HostMessage, Checkpresent}
-use Rattle.task_asker.specs.Askings.{IsKept}
+use Rattle.task_run.specs.Askers.{IsKept}
 use Rattle.task_run.specs.Requests.{AsksFor}
 use Rattle.std.specs.Prelude.{IsTrue, ◌==◌, ◌&&◌, not}
 use Rattle.std.specs.List.{list_any}

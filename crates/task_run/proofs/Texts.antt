@@ -2,7 +2,7 @@
 use Rattle.std.proofs.Common.{◌≡◌, ◌∙◌, ℕ, ◌+◌, List, ◌∷◌, ◌++◌, length, refl, ap, arith, length-append}
 use Rattle.std.specs.Prelude.{Bool, true, false, bytes_eq}
 use Rattle.std.proofs.lemmas.Slice.Eq.{bytes_eq-Decides}
-use Rattle.task_asker.specs.Askings.{IsSameTask}
+use Rattle.task_run.specs.Askers.{IsSameTask}
 
 pub apart : {A : Type 0} → false ≡ true → A
 apart e = absurd (no e)

@@ -6,7 +6,7 @@ use Rattle.ann_key.specs.Keys.{Parts}
 use Rattle.journal_model.specs.declared.verdict.Verdict.{Verdict}
 use Rattle.journal_model.specs.declared.verdict.Verdict.TheVariants.{Unknown as UnknownAt}
 use Rattle.annex_model.specs.Messages.{HostMessage, Checkpresent}
-use Rattle.task_asker.specs.Askings.{Asking}
+use Rattle.task_run.specs.Askers.{Asking}
 use Rattle.journal_model.specs.declared.answer.Answer.{Answer}
 use Rattle.journal_model.specs.declared.answer.Answer.TheVariants.{Present, Absent, Unknown}
 use Rattle.task_run.specs.Stops.{is_done}

@@ -12,7 +12,7 @@ use Rattle.annex_model.specs.Messages.{HostMessage, Transfer}
 use Rattle.chunk_plan.specs.Layouts.{Part, held_of}
 use Rattle.ann_outside.specs.declared.file_desk.Call.{Call}
 use Rattle.ann_outside.specs.declared.file_desk.Call.TheVariants.{Size, Create}
-use Rattle.task_asker.specs.Askings.{Asking}
+use Rattle.task_run.specs.Askers.{Asking}
 use Rattle.journal_model.specs.declared.answer.Answer.{Answer}
 use Rattle.journal_model.specs.declared.answer.Answer.TheVariants.{Got, Size as SizeAnswer, Hash as HashAnswer}
 use Rattle.task_run.specs.declared.setup.Setup.{Setup}

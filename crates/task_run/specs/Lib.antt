@@ -16,3 +16,4 @@ pub mod Ran
 pub mod Fetching
 pub mod RunLaws
 pub mod StretchRows
+pub mod Askers

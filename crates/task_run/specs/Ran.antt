@@ -13,7 +13,7 @@ use Rattle.ann_outside.specs.Calls.{Gained}
 use Rattle.ann_outside.specs.declared.file_desk.Call.{Call}
 use Rattle.ann_outside.specs.declared.file_desk.DeskError.{DeskError}
 use Rattle.ann_outside.specs.declared.file_desk.DeskError.TheVariants as E
-use Rattle.task_asker.specs.Askings.{Asking, Noting}
+use Rattle.task_run.specs.Askers.{Asking, Noting}
 use Rattle.journal_model.specs.declared.answer.Answer.{Answer}
 use Rattle.journal_model.specs.declared.answer.Answer.TheVariants.{Size, Hash, Unsupported, Unsent as UnsentAnswer, Ended as EndedAnswer, Memory, Failed, FileFault, NoFile}
 use Rattle.task_run.specs.declared.setup.Setup.{Setup}

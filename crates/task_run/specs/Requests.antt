@@ -3,7 +3,7 @@ use Rattle.std.specs.Prelude.{ℕ, ◌≡◌, ◌+◌, if◌then◌else◌, true
 use Rattle.std.specs.List.{onto_first}
 use Rattle.annex_model.specs.Messages.{HostMessage, Transfer, Checkpresent, Remove}
 use Rattle.ann_key.specs.Keys.{Parts, key_reading}
-use Rattle.task_asker.specs.Askings.{Asking, is_gone}
+use Rattle.task_run.specs.Askers.{Asking, is_gone}
 use Rattle.task_run.specs.Stops.{is_done}
 
 -- the key that a request names

@@ -10,7 +10,7 @@ use Rattle.task_text.specs.declared.task.Task.{Task}
 use Rattle.ann_outside.specs.declared.file_desk.DeskError.TheVariants.{Missing}
 use Rattle.ann_outside.specs.declared.file_desk.Call.{Call}
 use Rattle.ann_outside.specs.declared.file_desk.Call.TheVariants.{Size, ReadAt, Create, Append, Cut, Rename, Remove}
-use Rattle.task_asker.specs.Askings.{Asking, Noting}
+use Rattle.task_run.specs.Askers.{Asking, Noting}
 use Rattle.task_run.specs.declared.setup.Setup.{Setup}
 
 abbrev pub task_of : Work → List ℕ → List ℕ → Task

@@ -7,7 +7,7 @@ use Rattle.task_text.specs.declared.task.Work.{Work}
 use Rattle.task_text.specs.declared.task.Work.TheVariants.{Store, Get, Check, Drop}
 use Rattle.task_text.specs.declared.task.Task.{Task}
 use Rattle.ann_outside.specs.declared.file_desk.Call.{Call}
-use Rattle.task_asker.specs.Askings.{Asking, Noting}
+use Rattle.task_run.specs.Askers.{Asking, Noting}
 use Rattle.journal_model.specs.declared.answer.Answer.{Answer}
 use Rattle.task_run.specs.declared.setup.Setup.{Setup}
 use Rattle.task_run.specs.Stops.{asking_stop, call_stop, is_stop_last, stops_of, AnsweredBy, is_done}

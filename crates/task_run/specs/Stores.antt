@@ -7,7 +7,7 @@ use Rattle.annex_model.specs.Messages.{HostMessage, Transfer}
 use Rattle.chunk_plan.specs.Layouts.{Part}
 use Rattle.ann_outside.specs.declared.file_desk.Call.{Call}
 use Rattle.ann_outside.specs.declared.file_desk.Call.TheVariants.{Size}
-use Rattle.task_asker.specs.Askings.{Asking, Noting}
+use Rattle.task_run.specs.Askers.{Asking, Noting}
 use Rattle.journal_model.specs.declared.answer.Answer.{Answer}
 use Rattle.journal_model.specs.declared.answer.Answer.TheVariants.{Stored, Size as SizeAnswer}
 use Rattle.task_run.specs.declared.setup.Setup.{Setup}

@@ -7,7 +7,7 @@ use Rattle.journal_model.specs.declared.verdict.Verdict.TheVariants.{Done, Faile
 use Rattle.journal_model.specs.declared.entry.What.TheVariants.{Claim, Ask, Sent, Got, Verdict as Settled, Note, Answer as Answered}
 use Rattle.journal_model.specs.declared.entry.Entry.{Entry}
 use Rattle.journal_model.specs.Rows.{by_main, greeting}
-use Rattle.task_asker.specs.Askings.{Asking}
+use Rattle.task_run.specs.Askers.{Asking}
 
 -- the request is asked, and fails
 abbrev pub first_within : List Entry

@@ -13,7 +13,7 @@ use Rattle.journal_model.specs.declared.entry.What.TheVariants.{Claim, Start, No
 use Rattle.journal_model.specs.declared.entry.Entry.{Entry}
 use Rattle.journal_model.specs.Journal.{each_of, first_of, is_ended, is_mute, verdict_of, why_of}
 use Rattle.journal_model.specs.Legality.{is_done}
-pub use Rattle.task_asker.specs.Askings.{Asking}
+pub use Rattle.task_run.specs.Askers.{Asking}
 pub use Rattle.task_run.specs.Askings.{lost_verdict, asking_of, askings_from, askings}
 
 -- the asking is of that request; the request is left out only where its child had ended or was mute

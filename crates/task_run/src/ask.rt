@@ -5,14 +5,14 @@ ghost use Rattle.std.specs.Prelude.{◌≡◌, true, false, IfOk};
 ghost use Rattle.ann_key.specs.KeyRefs.{text_of};
 ghost use Rattle.annex_model.specs.Lines.{has_newline};
 ghost use Rattle.annex_model.specs.Messages.{Checkpresent, Remove, Transfer, is_sent_key};
-ghost use Rattle.task_asker.specs.Askings.{AskAdds, IsSameTask};
+ghost use Rattle.task_run.specs.Askers.{AskAdds, IsSameTask};
 ghost use Rattle.task_run.specs.Ran.{is_verdict_of};
 
+use crate::Asker;
 use ann_key::{Key, KeyRef, NoMemory, Text};
 use journal_model::Verdict;
 use std::alloc::Global;
 use talk_serial::Request;
-use task_asker::Asker;
 
 /// Whether the key is there.
 pub fn present<A: Asker>(

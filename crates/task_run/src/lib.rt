@@ -3,11 +3,13 @@
 
 pub mod answers;
 pub mod ask;
+mod asker;
 mod check;
 pub mod laws;
 pub mod names;
 pub mod run_laws;
 mod setup;
 
+pub use asker::Asker;
 pub use check::check_answer;
 pub use setup::Setup;

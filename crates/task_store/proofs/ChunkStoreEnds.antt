@@ -13,7 +13,7 @@ use Rattle.journal_model.specs.declared.answer.Answer.TheVariants as A
 use Rattle.task_text.specs.declared.task.Task.{Task}
 use Rattle.task_text.specs.declared.task.Work.TheVariants as W
 use Rattle.ann_outside.specs.declared.file_desk.Call.{Call}
-use Rattle.task_asker.specs.Askings.{Asking, Noting, is_gone}
+use Rattle.task_run.specs.Askers.{Asking, Noting, is_gone}
 use Rattle.task_run.specs.declared.setup.Setup.{Setup}
 use Rattle.task_run.specs.Stops.{asking_stop, call_stop, verdict_stop, AnsweredBy, all_but_last, is_done, is_done_at, is_question}
 use Rattle.task_run.specs.Names.{part_of}

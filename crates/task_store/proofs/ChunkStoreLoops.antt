@@ -7,7 +7,7 @@ use Rattle.ann_key.specs.declared.bytes.NoMemory.{NoMemory}
 use Rattle.annex_model.specs.Messages.{HostMessage}
 use Rattle.journal_model.specs.declared.verdict.Verdict.{Verdict}
 use Rattle.journal_model.specs.declared.answer.Answer.{Answer}
-use Rattle.task_asker.specs.Askings.{Asking, Noting}
+use Rattle.task_run.specs.Askers.{Asking, Noting}
 use Rattle.task_store.specs.declared.chunk_store.Sought.TheVariants.{All, Missing, Over}
 use Rattle.task_run.specs.Stops.{verdict_stop, is_done, is_done_at}
 use Rattle.task_run.specs.Requests.{AsksFor, AskInOrder}

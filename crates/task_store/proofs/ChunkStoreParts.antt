@@ -12,7 +12,7 @@ use Rattle.chunk_plan.specs.Layouts.{Part, chunk_part, count_of}
 use Rattle.journal_model.specs.declared.verdict.Verdict.{Verdict}
 use Rattle.journal_model.specs.declared.verdict.Verdict.TheVariants.{Done, Failed, Absent, Unknown, Unsupported, Ended, Unsent}
 use Rattle.ann_outside.specs.declared.file_desk.Call.{Call}
-use Rattle.task_asker.specs.Askings.{Asking, is_gone}
+use Rattle.task_run.specs.Askers.{Asking, is_gone}
 use Rattle.task_run.specs.declared.setup.Setup.{Setup}
 use Rattle.task_run.specs.Stops.{is_done, is_done_at, is_question}
 use Rattle.task_run.specs.Names.{chunk_file}

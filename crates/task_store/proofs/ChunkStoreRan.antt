@@ -16,7 +16,7 @@ use Rattle.ann_outside.specs.declared.file_desk.DeskError.TheVariants as E
 use Rattle.ann_outside.specs.declared.file_desk.Call.{Call}
 use Rattle.ann_outside.specs.declared.file_desk.Call.TheVariants.{Size}
 use Rattle.fetch_copy.proofs.CopyLaws.{gained_call, gained_without, gained_more}
-use Rattle.task_asker.specs.Askings.{Asking, Noting}
+use Rattle.task_run.specs.Askers.{Asking, Noting}
 use Rattle.task_run.specs.declared.setup.Setup.{Setup}
 use Rattle.task_run.specs.Names.{part_of}
 use Rattle.task_run.specs.Layouts.{parts_of_layout}

@@ -12,7 +12,7 @@ use Rattle.annex_model.specs.Messages.{HostMessage}
 use Rattle.chunk_plan.specs.Layouts.{chunk_part, count_of, from_of, to_of}
 use Rattle.ann_outside.specs.declared.file_desk.Call.{Call}
 use Rattle.ann_outside.specs.declared.file_desk.Call.TheVariants.{Size, Remove}
-use Rattle.task_asker.specs.Askings.{Asking}
+use Rattle.task_run.specs.Askers.{Asking}
 use Rattle.task_run.specs.declared.setup.Setup.{Setup}
 use Rattle.task_run.specs.Stops.{call_stop, all_but_last, is_done, is_question}
 use Rattle.task_run.specs.Names.{chunk_file, chunk_files, part_of}

@@ -8,7 +8,7 @@ use Rattle.ann_key.specs.Keys.{Parts, with_chunk}
 use Rattle.chunk_plan.specs.Layouts.{count_of, from_of, to_of}
 use Rattle.ann_outside.specs.declared.file_desk.Call.{Call}
 use Rattle.ann_outside.specs.declared.file_desk.Call.TheVariants.{ReadAt, Create, Remove}
-use Rattle.task_asker.specs.Askings.{Asking}
+use Rattle.task_run.specs.Askers.{Asking}
 use Rattle.task_run.specs.declared.setup.Setup.{Setup}
 use Rattle.task_run.specs.Stops.{call_stop, is_done, is_question}
 use Rattle.task_run.specs.Names.{chunk_file, part_of}

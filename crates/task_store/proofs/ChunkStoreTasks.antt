@@ -15,7 +15,7 @@ use Rattle.journal_model.specs.declared.answer.Answer.TheVariants as A
 use Rattle.task_text.specs.declared.task.Work.TheVariants as W
 use Rattle.ann_outside.specs.declared.file_desk.Call.{Call}
 use Rattle.ann_outside.specs.declared.file_desk.Call.TheVariants.{ReadAt, Create, Append, Remove}
-use Rattle.task_asker.specs.Askings.{Asking, Noting}
+use Rattle.task_run.specs.Askers.{Asking, Noting}
 use Rattle.task_run.specs.declared.setup.Setup.{Setup}
 use Rattle.task_run.specs.Stops.{asking_stop, call_stop, verdict_stop, is_done, is_done_at, is_question, last_failed, failed_at}
 use Rattle.task_run.specs.Names.{chunk_file, part_of}

@@ -21,7 +21,7 @@ use Rattle.ann_outside.specs.declared.file_desk.Call.TheVariants.{Remove}
 use Rattle.fetch_copy.specs.declared.copied.Copied.TheVariants.{Done, Fault, Missing}
 use Rattle.fetch_copy.specs.CopiesOut.{CopiesOut}
 use Rattle.fetch_copy.proofs.CopyLaws.{gained_nothing, gained_more}
-use Rattle.task_asker.specs.Askings.{Asking, IsKept, AskAdds}
+use Rattle.task_run.specs.Askers.{Asking, IsKept, AskAdds}
 use Rattle.chunk_plan.specs.Layouts.{from_of, to_of, count_of}
 use Rattle.task_run.specs.Stops.{verdict_stop}
 use Rattle.task_run.specs.Requests.{AsksFor}

@@ -13,7 +13,7 @@ use Rattle.ann_outside.specs.declared.file_desk.Call.{Call}
 use Rattle.ann_outside.specs.declared.file_desk.Call.TheVariants.{Size, Create, Remove}
 use Rattle.fetch_copy.specs.Copies.{copy_calls, EndsWhole, EndsRefused}
 use Rattle.fetch_copy.specs.CopiesOut.{reads_before}
-use Rattle.task_asker.specs.Askings.{Asking, Noting}
+use Rattle.task_run.specs.Askers.{Asking, Noting}
 use Rattle.journal_model.specs.declared.answer.Answer.{Answer}
 use Rattle.journal_model.specs.declared.answer.Answer.TheVariants.{Size as SizeAnswer, Stored}
 use Rattle.task_run.specs.declared.setup.Setup.{Setup}

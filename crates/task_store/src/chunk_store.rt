@@ -9,7 +9,7 @@ ghost use Rattle.ann_outside.specs.declared.file_desk.Call.TheVariants.{Remove, 
 ghost use Rattle.chunk_plan.specs.Layouts.{count_of, from_of, to_of};
 ghost use Rattle.task_text.specs.TaskLines.{IsTask};
 ghost use Rattle.task_text.specs.declared.task.Work.TheVariants as W;
-ghost use Rattle.task_asker.specs.Askings.{IsSameTask};
+ghost use Rattle.task_run.specs.Askers.{IsSameTask};
 ghost use Rattle.task_run.specs.Checks.{present_request};
 ghost use Rattle.task_store.specs.ChunkStoring.{AsksNext, from_file, Seeks, StoresChunk, CopiesChunk, SettlesChunk, StoresFrom, StoresSized, StandsAs, IsQuiet, NotesChunks, removal_result, so_far};
 ghost use Rattle.task_run.specs.Fetching.{Outcome};
@@ -23,10 +23,9 @@ use chunk_plan::{count, piece, range};
 use fetch_copy::{Copied, copy_out};
 use journal_model::{Answer, Verdict};
 use std::alloc::Global;
-use task_asker::Asker;
 use task_run::answers::refused;
 use task_run::names::chunk_name;
-use task_run::{Setup, ask};
+use task_run::{Asker, Setup, ask};
 use task_text::Task;
 
 // What a remote has of a key's chunks, or how asking for them ended the task.

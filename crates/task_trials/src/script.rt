@@ -4,7 +4,7 @@ ghost use Rattle.annex_model.specs.Messages.{is_askable};
 ghost use Rattle.annex_model.specs.Turns.{turn_of};
 ghost use Rattle.journal_model.specs.Projection.{IsNamed};
 ghost use Rattle.talk_serial.specs.Requests.{message_of};
-ghost use Rattle.task_asker.specs.Askings.{Asking, Noting, AskAdds, NoteAdds, IsSameTask, names_in_line, are_layouts};
+ghost use Rattle.task_run.specs.Askers.{Asking, Noting, AskAdds, NoteAdds, IsSameTask, names_in_line, are_layouts};
 ghost use Rattle.task_trials.specs.Scripts.{pair_of, note_of, can_have};
 
 use ann_key::NoMemory;
@@ -12,7 +12,7 @@ use chunk_log::Layouts;
 use journal_model::Verdict;
 use std::alloc::Global;
 use talk_serial::Request;
-use task_asker::Asker;
+use task_run::Asker;
 
 /// An asker that takes its verdicts from a list, in order, and keeps what it was asked.
 ///

@@ -3,7 +3,7 @@ ghost use Rattle.std.specs.Prelude.{◌≡◌, [], true, false, IfOk};
 ghost use Rattle.std.specs.List.{list_any};
 ghost use Rattle.annex_model.specs.Lines.{has_newline};
 ghost use Rattle.chunk_log.specs.ChunkLines.{is_space};
-ghost use Rattle.task_asker.specs.Askings.{are_layouts};
+ghost use Rattle.task_run.specs.Askers.{are_layouts};
 ghost use Rattle.task_run.specs.Ran.{may_note};
 ghost use Rattle.task_text.specs.TaskLines.{IsTask};
 

@@ -19,7 +19,7 @@ use Rattle.journal_model.specs.declared.answer.Answer.{Answer}
 use Rattle.journal_model.specs.declared.answer.Answer.TheVariants as A
 use Rattle.task_text.specs.declared.task.Task.{Task}
 use Rattle.task_text.specs.declared.task.Work.TheVariants as W
-use Rattle.task_asker.specs.Askings.{Asking, Noting}
+use Rattle.task_run.specs.Askers.{Asking, Noting}
 use Rattle.task_run.specs.declared.setup.Setup.{Setup}
 use Rattle.task_works.specs.declared.layouts.Query.TheVariants as Q
 use Rattle.task_run.specs.Stops.{is_done, is_done_at, verdict_stop, failed_at, last_failed, all_but_last, AnsweredBy}

@@ -13,7 +13,7 @@ use Rattle.ann_key.specs.Keys.{Parts, key_reading}
 use Rattle.chunk_plan.specs.Layouts.{Part, count_of, chunk_part}
 use Rattle.annex_model.specs.Messages.{HostMessage}
 use Rattle.journal_model.specs.declared.verdict.Verdict.{Verdict}
-use Rattle.task_asker.specs.Askings.{Asking, IsKept, AsksOne}
+use Rattle.task_run.specs.Askers.{Asking, IsKept, AsksOne}
 use Rattle.task_works.specs.declared.layouts.Query.{Query}
 use Rattle.task_works.specs.declared.layouts.Query.TheVariants as Q
 use Rattle.task_run.specs.Layouts.{keys_of_layout}

@@ -9,7 +9,7 @@ use Rattle.journal_model.specs.declared.verdict.Verdict.{Verdict}
 use Rattle.journal_model.specs.declared.answer.Answer.{Answer}
 use Rattle.journal_model.specs.declared.answer.Answer.TheVariants.{Absent}
 use Rattle.task_text.specs.declared.task.Task.{Task}
-use Rattle.task_asker.specs.Askings.{Asking, Noting}
+use Rattle.task_run.specs.Askers.{Asking, Noting}
 use Rattle.task_run.specs.declared.setup.Setup.{Setup}
 use Rattle.task_works.specs.declared.layouts.Query.{Query}
 use Rattle.task_works.specs.declared.layouts.Query.TheVariants as Q

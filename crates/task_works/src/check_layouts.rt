@@ -2,7 +2,7 @@
 ghost use Rattle.std.specs.Prelude.{◌≡◌, true, false, Some, Ok, IfOk, is_some};
 ghost use Rattle.task_text.specs.TaskLines.{IsTask};
 ghost use Rattle.task_text.specs.declared.task.Work.TheVariants as W;
-ghost use Rattle.task_asker.specs.Askings.{IsSameTask};
+ghost use Rattle.task_run.specs.Askers.{IsSameTask};
 ghost use Rattle.task_run.specs.Ran.{RanAsking, may_follow_refusal};
 ghost use Rattle.task_works.specs.Rounds.{missing_more};
 ghost use Rattle.task_run.specs.Stops.{verdict_stop};
@@ -11,8 +11,7 @@ use crate::layouts::{Query, ask_layout, sizes_tried};
 use ann_key::NoMemory;
 use journal_model::{Answer, Verdict};
 use std::alloc::Global;
-use task_asker::Asker;
-use task_run::check_answer;
+use task_run::{Asker, check_answer};
 use task_text::Task;
 
 // Whether the verdict ends the check, whatever layouts are left.

@@ -2,7 +2,7 @@
 ghost use Rattle.std.specs.Prelude.{◌≡◌, true, false, Ok, IfOk, length};
 ghost use Rattle.task_text.specs.TaskLines.{IsTask};
 ghost use Rattle.task_text.specs.declared.task.Work.TheVariants as W;
-ghost use Rattle.task_asker.specs.Askings.{IsSameTask};
+ghost use Rattle.task_run.specs.Askers.{IsSameTask};
 ghost use Rattle.task_run.specs.Ran.{may_follow_refusal};
 ghost use Rattle.task_works.specs.Rounds.{NotesNone, RanNoting};
 
@@ -10,7 +10,7 @@ use crate::layouts::{Query, ask_layout, sizes_tried};
 use ann_key::NoMemory;
 use journal_model::Answer;
 use std::alloc::Global;
-use task_asker::Asker;
+use task_run::Asker;
 use task_run::answers::undone_answer;
 use task_text::Task;
 

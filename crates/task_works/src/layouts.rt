@@ -4,7 +4,7 @@ ghost use Rattle.annex_model.specs.Messages.{is_sent_key};
 ghost use Rattle.ann_key.specs.Keys.{key_reading};
 ghost use Rattle.ann_key.specs.KeyRefs.{parts_of, text_of};
 ghost use Rattle.chunk_plan.specs.Layouts.{count_of};
-ghost use Rattle.task_asker.specs.Askings.{AskAdds, IsSameTask, are_layouts};
+ghost use Rattle.task_run.specs.Askers.{AskAdds, IsSameTask, are_layouts};
 ghost use Rattle.task_run.specs.Layouts.{chunk_sizes, keys_of_layout};
 ghost use Rattle.task_run.specs.Ran.{is_verdict_of};
 ghost use Rattle.task_works.specs.Rounds.{asked_by, key_at, key_count, RoundAsks};
@@ -13,9 +13,8 @@ use ann_key::{Key, KeyRef, NoMemory};
 use chunk_log::Layouts;
 use journal_model::Verdict;
 use std::alloc::Global;
-use task_asker::Asker;
 use task_run::answers::is_done;
-use task_run::ask;
+use task_run::{Asker, ask};
 
 /// The chunk sizes of the layouts that are tried for content of this size, in their order. The last one is 0, the plain layout.
 pub fn sizes_tried(

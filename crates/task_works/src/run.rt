@@ -2,7 +2,7 @@
 ghost use Rattle.std.specs.Prelude.{◌≡◌, true, false, IfSome};
 ghost use Rattle.ann_key.specs.Keys.{key_reading};
 ghost use Rattle.annex_model.specs.Lines.{has_newline};
-ghost use Rattle.task_asker.specs.Askings.{IsSameTask};
+ghost use Rattle.task_run.specs.Askers.{IsSameTask};
 ghost use Rattle.task_run.specs.Ran.{Ran, HasTaskCauses, HasQuietCauses, RanStore, may_note};
 ghost use Rattle.task_run.specs.Runs.{is_chunked};
 ghost use Rattle.task_text.specs.TaskLines.{IsTask};
@@ -14,9 +14,8 @@ use ann_key::NoMemory;
 use ann_outside::Desk;
 use journal_model::Answer;
 use std::alloc::Global;
-use task_asker::Asker;
 use task_get::get_key;
-use task_run::Setup;
+use task_run::{Asker, Setup};
 use task_store::{store_chunks, store_whole};
 use task_text::{Task, Work};
 

@@ -2,10 +2,10 @@
 ghost use Rattle.std.specs.Prelude.{◌≡◌, ◌+◌, ◌-◌, ◌<◌, ◌^◌, [], ◌∷◌, ◌++◌, ◌≢◌, ℕ, List, Some, None, option_copied, length, min, drop, vec_len, vec_capacity, IfOk, OnOk, OnErr, IfSome, MatchResult};
 ghost use Rattle.std.specs.Io.{ReadsAtMost};
 ghost use Rattle.ann_outside.specs.Calls.{logged, bytes_read};
-ghost use Rattle.ann_outside.specs.DeskCauses.{HasCauses};
+ghost use Rattle.ann_outside.specs.DeskCauses.{HasCauses, LeavesOther};
 ghost use Rattle.ann_outside.specs.Desks.{no_counts};
 ghost use Rattle.ann_outside.specs.Fails.{Begins};
-ghost use Rattle.ann_outside.specs.Files.{content, OthersStay, WhereTold, CanCut, SizeIs, ReadIs, CreateDoes, AppendDoes, CutDoes, RenameDoes, RemoveDoes};
+ghost use Rattle.ann_outside.specs.Files.{content, OthersStay, WhereTold, CanCut, SizeIs, ReadIs, CreateDoes, CreateNewDoes, AppendDoes, CutDoes, RenameDoes, RemoveDoes, SyncIs};
 ghost use Rattle.ann_outside.specs.declared.file_desk.Call.{Call};
 ghost use Rattle.ann_outside.specs.declared.file_desk.Call.TheVariants.{Size, ReadAt, Create, Append, Cut, Rename, Remove};
 
@@ -27,7 +27,7 @@ pub struct MemDesk {
 }
 
 impl MemDesk {
-    ghost use Rattle.ann_outside.specs.MemDesk.{desk_fails, IsCounted, SameButLog, SameButFiles, SameButCounts, SameButRoom};
+    ghost use Rattle.ann_outside.specs.MemDesk.{desk_fails, IsCounted, IsCountedOr, SameButLog, SameButFiles, SameButCounts, SameButRoom};
 
     /// A desk with these files, of which the first of a name counts. The calls whose numbers are listed fail, counted
     /// from 1; a call that finds no memory isn't counted.
@@ -125,6 +125,7 @@ impl MemDesk {
         ensures memory { result ≡ Err DeskError.NoMemory → ⊥ }
         ensures counted { IsCounted (desk_fails self.old) (desk_fails self.new) result }
         ensures causes { HasCauses (⟦<MemDesk as Desk>⟧.counts self.old) (⟦<MemDesk as Desk>⟧.counts self.new) result }
+        ensures apart { LeavesOther (⟦<MemDesk as Desk>⟧.counts self.old) (⟦<MemDesk as Desk>⟧.counts self.new) result }
         ensures same { SameButCounts self.old self.new }
     {
         if self.fails.next() {
@@ -149,6 +150,7 @@ impl MemDesk {
         ensures memory { result ≡ Err DeskError.NoMemory → ⊥ }
         ensures counted { IsCounted (desk_fails self.old) (desk_fails self.new) result }
         ensures causes { HasCauses (⟦<MemDesk as Desk>⟧.counts self.old) (⟦<MemDesk as Desk>⟧.counts self.new) result }
+        ensures apart { LeavesOther (⟦<MemDesk as Desk>⟧.counts self.old) (⟦<MemDesk as Desk>⟧.counts self.new) result }
         ensures log { self.new.log ≡ self.old.log }
     {
         match self.settle(next) {
@@ -160,6 +162,29 @@ impl MemDesk {
         }
     }
 
+    // Counts the call, and makes the file where there is none of its name. One that stands is a fault.
+    fn make_new(&mut self, name: Text) -> Result<(), DeskError>
+        requires { vec_len self.old.files < vec_capacity self.old.files }
+        ensures files { CreateNewDoes name result self.old.files.items self.new.files.items }
+        ensures err { OnErr result (self.new.files.items ≡ self.old.files.items) }
+        ensures memory { result ≡ Err DeskError.NoMemory → ⊥ }
+        ensures counted { IsCountedOr (content name self.old.files.items ≢ None) (desk_fails self.old) (desk_fails self.new) result }
+        ensures causes { HasCauses (⟦<MemDesk as Desk>⟧.counts self.old) (⟦<MemDesk as Desk>⟧.counts self.new) result }
+        ensures apart { LeavesOther (⟦<MemDesk as Desk>⟧.counts self.old) (⟦<MemDesk as Desk>⟧.counts self.new) result }
+        ensures log { self.new.log ≡ self.old.log }
+    {
+        if self.fails.next() {
+            return Err(DeskError::Failed);
+        }
+        if find(self.files.as_slice(), name.view()).is_some() {
+            self.fails.count();
+            return Err(DeskError::Failed);
+        }
+        let empty = Bytes::from_vec(Vec::new(self.alloc));
+        put(&mut self.files, name, empty);
+        Ok(())
+    }
+
     // Counts the call, and gives the file its other name.
     fn move_file(&mut self, from: &str, to: Text, moved: Option<Bytes>) -> Result<(), DeskError>
         requires room { vec_len self.old.files < vec_capacity self.old.files }
@@ -169,6 +194,7 @@ impl MemDesk {
         ensures memory { result ≡ Err DeskError.NoMemory → ⊥ }
         ensures counted { IsCounted (desk_fails self.old) (desk_fails self.new) result }
         ensures causes { HasCauses (⟦<MemDesk as Desk>⟧.counts self.old) (⟦<MemDesk as Desk>⟧.counts self.new) result }
+        ensures apart { LeavesOther (⟦<MemDesk as Desk>⟧.counts self.old) (⟦<MemDesk as Desk>⟧.counts self.new) result }
         ensures log { self.new.log ≡ self.old.log }
     {
         match self.settle(moved) {
@@ -183,7 +209,7 @@ impl MemDesk {
 }
 
 impl Desk for MemDesk {
-    ghost use Rattle.ann_outside.specs.MemDesk.{desk_fails, IsCounted};
+    ghost use Rattle.ann_outside.specs.MemDesk.{desk_fails, IsCounted, IsCountedOr};
 
     ghost counts = { λ d. record { faults = d.fails.faults; missing = d.missing } };
 
@@ -195,6 +221,7 @@ impl Desk for MemDesk {
         ensures files { ⟦<MemDesk as Desk>⟧.files self.new ≡ ⟦<MemDesk as Desk>⟧.files self.old }
         ensures told { IfSome (⟦<MemDesk as Desk>⟧.files self.old) (λ fs. SizeIs name.now fs result) }
         ensures causes { HasCauses (⟦<MemDesk as Desk>⟧.counts self.old) (⟦<MemDesk as Desk>⟧.counts self.new) result }
+        ensures apart { LeavesOther (⟦<MemDesk as Desk>⟧.counts self.old) (⟦<MemDesk as Desk>⟧.counts self.new) result }
         ensures log { ⟦<MemDesk as Desk>⟧.log self.new ≡ logged (⟦<MemDesk as Desk>⟧.log self.old) (Size name.now result) }
         ensures counted { IsCounted (desk_fails self.old) (desk_fails self.new) result }
     {
@@ -211,6 +238,7 @@ impl Desk for MemDesk {
     }
 
     fn read_at(&mut self, name: &str, from: u64, buf: &mut [u8]) -> Result<usize, DeskError>
+        requires { 0 < length buf.old }
         ensures bound { ReadsAtMost result buf.new }
         ensures place { IfOk result (λ n. from + n < 2 ^ 64) }
         ensures files { ⟦<MemDesk as Desk>⟧.files self.new ≡ ⟦<MemDesk as Desk>⟧.files self.old }
@@ -219,6 +247,7 @@ impl Desk for MemDesk {
             → n ≡ min (length bytes - from) (length buf.old))) }
         ensures behind { MatchResult result (λ n. drop n buf.new ≡ drop n buf.old) (λ _. buf.new ≡ buf.old) }
         ensures causes { HasCauses (⟦<MemDesk as Desk>⟧.counts self.old) (⟦<MemDesk as Desk>⟧.counts self.new) result }
+        ensures apart { LeavesOther (⟦<MemDesk as Desk>⟧.counts self.old) (⟦<MemDesk as Desk>⟧.counts self.new) result }
         ensures log { ⟦<MemDesk as Desk>⟧.log self.new ≡ logged (⟦<MemDesk as Desk>⟧.log self.old) (ReadAt name.now from (bytes_read buf.new result)) }
         ensures counted { IsCounted (desk_fails self.old) (desk_fails self.new) result }
     {
@@ -254,6 +283,7 @@ impl Desk for MemDesk {
         ensures files { WhereTold (⟦<MemDesk as Desk>⟧.files self.old) (⟦<MemDesk as Desk>⟧.files self.new) (CreateDoes name.now result) }
         ensures err { OnErr result (⟦<MemDesk as Desk>⟧.files self.new ≡ ⟦<MemDesk as Desk>⟧.files self.old) }
         ensures causes { HasCauses (⟦<MemDesk as Desk>⟧.counts self.old) (⟦<MemDesk as Desk>⟧.counts self.new) result }
+        ensures apart { LeavesOther (⟦<MemDesk as Desk>⟧.counts self.old) (⟦<MemDesk as Desk>⟧.counts self.new) result }
         ensures log { ⟦<MemDesk as Desk>⟧.log self.new ≡ logged (⟦<MemDesk as Desk>⟧.log self.old) (Create name.now result) }
         ensures counted { IsCounted (desk_fails self.old) (desk_fails self.new) result }
     {
@@ -272,10 +302,34 @@ impl Desk for MemDesk {
         answer
     }
 
+    fn create_new(&mut self, name: &str) -> Result<(), DeskError>
+        ensures found { result ≡ Err DeskError.Missing → ⊥ }
+        ensures files { WhereTold (⟦<MemDesk as Desk>⟧.files self.old) (⟦<MemDesk as Desk>⟧.files self.new) (CreateNewDoes name.now result) }
+        ensures err { OnErr result (⟦<MemDesk as Desk>⟧.files self.new ≡ ⟦<MemDesk as Desk>⟧.files self.old) }
+        ensures causes { HasCauses (⟦<MemDesk as Desk>⟧.counts self.old) (⟦<MemDesk as Desk>⟧.counts self.new) result }
+        ensures apart { LeavesOther (⟦<MemDesk as Desk>⟧.counts self.old) (⟦<MemDesk as Desk>⟧.counts self.new) result }
+        ensures log { ⟦<MemDesk as Desk>⟧.log self.new ≡ logged (⟦<MemDesk as Desk>⟧.log self.old) (Create name.now result) }
+        ensures counted { IfSome (⟦<MemDesk as Desk>⟧.files self.old) (λ fs. IsCountedOr (content name.now fs ≢ None) (desk_fails self.old) (desk_fails self.new) result) }
+    {
+        let Ok(noted) = self.begin(name) else {
+            return Err(DeskError::NoMemory);
+        };
+        let Ok(filed) = self.begin_file(name) else {
+            return Err(DeskError::NoMemory);
+        };
+        let answer = self.make_new(filed);
+        self.end(Call::Create {
+            name: noted,
+            answer,
+        });
+        answer
+    }
+
     fn append(&mut self, name: &str, piece: &[u8]) -> Result<(), DeskError>
         ensures files { WhereTold (⟦<MemDesk as Desk>⟧.files self.old) (⟦<MemDesk as Desk>⟧.files self.new) (AppendDoes name.now piece.now result) }
         ensures err { OnErr result (⟦<MemDesk as Desk>⟧.files self.new ≡ ⟦<MemDesk as Desk>⟧.files self.old) }
         ensures causes { HasCauses (⟦<MemDesk as Desk>⟧.counts self.old) (⟦<MemDesk as Desk>⟧.counts self.new) result }
+        ensures apart { LeavesOther (⟦<MemDesk as Desk>⟧.counts self.old) (⟦<MemDesk as Desk>⟧.counts self.new) result }
         ensures log { ⟦<MemDesk as Desk>⟧.log self.new ≡ logged (⟦<MemDesk as Desk>⟧.log self.old) (Append name.now piece.now result) }
         ensures counted { IsCounted (desk_fails self.old) (desk_fails self.new) result }
     {
@@ -305,6 +359,7 @@ impl Desk for MemDesk {
         ensures files { WhereTold (⟦<MemDesk as Desk>⟧.files self.old) (⟦<MemDesk as Desk>⟧.files self.new) (CutDoes name.now size result) }
         ensures err { OnErr result (⟦<MemDesk as Desk>⟧.files self.new ≡ ⟦<MemDesk as Desk>⟧.files self.old) }
         ensures causes { HasCauses (⟦<MemDesk as Desk>⟧.counts self.old) (⟦<MemDesk as Desk>⟧.counts self.new) result }
+        ensures apart { LeavesOther (⟦<MemDesk as Desk>⟧.counts self.old) (⟦<MemDesk as Desk>⟧.counts self.new) result }
         ensures log { ⟦<MemDesk as Desk>⟧.log self.new ≡ logged (⟦<MemDesk as Desk>⟧.log self.old) (Cut name.now size result) }
         ensures counted { IsCounted (desk_fails self.old) (desk_fails self.new) result }
     {
@@ -331,6 +386,7 @@ impl Desk for MemDesk {
         ensures files { WhereTold (⟦<MemDesk as Desk>⟧.files self.old) (⟦<MemDesk as Desk>⟧.files self.new) (RenameDoes from.now to.now result) }
         ensures err { OnErr result (⟦<MemDesk as Desk>⟧.files self.new ≡ ⟦<MemDesk as Desk>⟧.files self.old) }
         ensures causes { HasCauses (⟦<MemDesk as Desk>⟧.counts self.old) (⟦<MemDesk as Desk>⟧.counts self.new) result }
+        ensures apart { LeavesOther (⟦<MemDesk as Desk>⟧.counts self.old) (⟦<MemDesk as Desk>⟧.counts self.new) result }
         ensures log { ⟦<MemDesk as Desk>⟧.log self.new ≡ logged (⟦<MemDesk as Desk>⟧.log self.old) (Rename from.now to.now result) }
         ensures counted { IsCounted (desk_fails self.old) (desk_fails self.new) result }
     {
@@ -359,6 +415,7 @@ impl Desk for MemDesk {
         ensures files { WhereTold (⟦<MemDesk as Desk>⟧.files self.old) (⟦<MemDesk as Desk>⟧.files self.new) (RemoveDoes name.now result) }
         ensures err { OnErr result (⟦<MemDesk as Desk>⟧.files self.new ≡ ⟦<MemDesk as Desk>⟧.files self.old) }
         ensures causes { HasCauses (⟦<MemDesk as Desk>⟧.counts self.old) (⟦<MemDesk as Desk>⟧.counts self.new) result }
+        ensures apart { LeavesOther (⟦<MemDesk as Desk>⟧.counts self.old) (⟦<MemDesk as Desk>⟧.counts self.new) result }
         ensures log { ⟦<MemDesk as Desk>⟧.log self.new ≡ logged (⟦<MemDesk as Desk>⟧.log self.old) (Remove name.now result) }
         ensures counted { IsCounted (desk_fails self.old) (desk_fails self.new) result }
     {
@@ -378,5 +435,20 @@ impl Desk for MemDesk {
             answer,
         });
         answer
+    }
+
+    fn sync(&mut self, name: &str) -> Result<(), DeskError>
+        ensures files { ⟦<MemDesk as Desk>⟧.files self.new ≡ ⟦<MemDesk as Desk>⟧.files self.old }
+        ensures told { IfSome (⟦<MemDesk as Desk>⟧.files self.old) (λ fs. SyncIs name.now fs result) }
+        ensures causes { HasCauses (⟦<MemDesk as Desk>⟧.counts self.old) (⟦<MemDesk as Desk>⟧.counts self.new) result }
+        ensures apart { LeavesOther (⟦<MemDesk as Desk>⟧.counts self.old) (⟦<MemDesk as Desk>⟧.counts self.new) result }
+        ensures log { ⟦<MemDesk as Desk>⟧.log self.new ≡ ⟦<MemDesk as Desk>⟧.log self.old }
+        ensures counted { IsCounted (desk_fails self.old) (desk_fails self.new) result }
+    {
+        let size = size_of(self.files.as_slice(), name);
+        match self.settle(size) {
+            Ok(_) => Ok(()),
+            Err(e) => Err(e),
+        }
     }
 }

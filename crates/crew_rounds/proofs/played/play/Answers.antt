@@ -4,7 +4,7 @@ use Rattle.std.specs.List.{list_any}
 use Rattle.journal_model.specs.Halves.{EarValue, MouthValue}
 use Rattle.lone_work.specs.Works.{desk_tells}
 use Rattle.crew_round.specs.BackRole.{has_run}
-use Rattle.crew_roles.specs.Roles.{CanHold, CanWork, EarRan, MouthRan, WorkerRan}
+use Rattle.crew_rounds.specs.Roles.{CanHold, CanWork, EarRan, MouthRan, WorkerRan}
 use Rattle.crew_rounds.specs.Settled.{Settles}
 use Rattle.crew_rounds.specs.Tagged.{AreFresh, TaggedCan, link_of}
 use Rattle.crew_rounds.proofs.Backs.{fresh_own}

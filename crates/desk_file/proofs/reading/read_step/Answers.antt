@@ -1,4 +1,4 @@
-use Rattle.std.proofs.Common.{◌≡◌, ◌<◌, length, arith}
+use Rattle.std.proofs.Common.{◌≡◌, length, arith}
 use Rattle.desk_file.proofs.Logs.{if_told}
 use Rattle.desk_file.proofs.ReadLaws.{end_met, piece_met, step_refused, step_unkept}
 use Rattle.desk_file.proofs.reading.read_step.Goals as goal
@@ -6,8 +6,7 @@ use Rattle.desk_file.proofs.reading.read_step.Goals as goal
 pub returns-in-Ok-eq0-clause-told : goal.returns-in-Ok-eq0-clause-told
 returns-in-Ok-eq0-clause-told g c =
     let at : c.len.result ≡ length c.args.bytes.now.items = omega (arith, c.len.ensures, c.args.bytes.now.ok.0) in
-    let some : 0 < length c.read_at.new.buf = omega (arith, c.requires, c.read_at.auto.buf) in
-    if_told (g.D.Desk.files c.args.desk.now) (λ files h. end_met c.args.name.now c.args.bytes.now.items c.args.bytes.now.items c.read_at.new.buf _ _ files at c.in-Ok-eq0.field-0-test some h) c.in-Ok-eq0.ensures.told
+    if_told (g.D.Desk.files c.args.desk.now) (λ files h. end_met c.args.name.now c.args.bytes.now.items c.args.bytes.now.items c.read_at.new.buf _ _ files at c.in-Ok-eq0.field-0-test h) c.in-Ok-eq0.ensures.told
 
 pub returns-in-Ok-extend_from_slice-clause-told : goal.returns-in-Ok-extend_from_slice-clause-told
 returns-in-Ok-extend_from_slice-clause-told g c =

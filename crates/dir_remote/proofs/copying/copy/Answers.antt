@@ -1,29 +1,39 @@
-use Rattle.std.proofs.Common.{◌∙◌, ℕ, arith, subst, Ok, Err}
+use Rattle.std.proofs.Common.{◌∙◌, ℕ, arith, refl, subst, Ok, Err}
 use Rattle.ann_outside.specs.Files.{WhereTold}
 use Rattle.dir_remote.specs.Copies.{PieceDoes}
-use Rattle.dir_remote.proofs.CopyLaws.{create_others, create_refused, copying_begins, copying_goes_on, copy_others, copy_ends, copy_refused}
-use Rattle.dir_remote.proofs.WorkLaws.{causes_ended, causes_broken}
+use Rattle.dir_remote.specs.Traces.{PieceTraces, Traced}
+use Rattle.dir_remote.proofs.CauseLaws.{copy_idle, copy_ended, copy_broken}
+use Rattle.dir_remote.proofs.CopyLaws.{create_others, create_refused, copying_begins, copying_goes_on, copy_others, copy_ends, copy_refused, others_cleared, refused_cleared}
+use Rattle.dir_remote.proofs.TraceLaws.{traced_none, copy_unmade_traced, copy_begins, copy_goes_on, copy_ends_traced, copy_breaks_traced}
 use Rattle.dir_remote.proofs.copying.copy.Goals as goal
+
+pub returns-in-Err-clause-causes : goal.returns-in-Err-clause-causes
+returns-in-Err-clause-causes g c =
+    copy_broken c.args.alone _ _ _ _ c.in-Err.error refl c.in-Err.ensures.causes c.in-Err.ensures.apart (omega arith) (omega arith) (λ t. refl)
 
 pub returns-in-Err-clause-others : goal.returns-in-Err-clause-others
 returns-in-Err-clause-others g c =
-    create_others c.args.to.now (Err c.in-Err.error) (g.D.Desk.files c.args.desk.now) (g.D.Desk.files c.create.new.self) c.in-Err.ensures.files
+    create_others c.args.to.now (Err c.in-Err.error) (g.D.Desk.files c.args.desk.now) (g.D.Desk.files c.make.new.desk) c.in-Err.ensures.files
 
 pub returns-in-Err-clause-copied : goal.returns-in-Err-clause-copied
 returns-in-Err-clause-copied g c =
-    create_refused c.args.from.now c.args.to.now c.in-Err.error (g.D.Desk.files c.args.desk.now) (g.D.Desk.files c.create.new.self) c.in-Err.ensures.files
+    create_refused c.args.from.now c.args.to.now c.in-Err.error (g.D.Desk.files c.args.desk.now) (g.D.Desk.files c.make.new.desk) c.in-Err.ensures.files
+
+pub returns-in-Err-clause-traced : goal.returns-in-Err-clause-traced
+returns-in-Err-clause-traced g c = copy_unmade_traced c.args.alone c.args.from.now c.args.to.now c.in-Err.error _ _ c.in-Err.ensures.log
 
 pub loop-buffer-init : goal.loop-buffer-init
 loop-buffer-init g c = record {
-  copying = copying_begins c.args.from.now c.args.to.now (g.D.Desk.files c.args.desk.now) (g.D.Desk.files c.create.new.self) c.in_default-create.ensures.files;
-  counts = c.in_default-create.ensures.causes.done;
+  copying = copying_begins c.args.from.now c.args.to.now (g.D.Desk.files c.args.desk.now) (g.D.Desk.files c.make.new.desk) c.in_default-make.ensures.files;
+  tracing = copy_begins c.args.from.now c.args.to.now _ _ c.in_default-make.ensures.log;
+  counts = c.in_default-make.ensures.causes.done;
   buffer = c.in-Ok.ensures.len;
   fits = omega arith;
 }
 
 pub returns-in-Ok-eq0-clause-causes : goal.returns-in-Ok-eq0-clause-causes
 returns-in-Ok-eq0-clause-causes g c =
-    causes_ended (g.D.Desk.counts c.args.desk.now) (g.D.Desk.counts c.loop-buffer.desk) (g.D.Desk.counts c.copy_piece.new.desk) c.in-Ok-eq0.field-0 c.loop-buffer.invariant.counts c.in-Ok-eq0.ensures.causes
+    copy_ended c.args.alone (g.D.Desk.counts c.args.desk.now) (g.D.Desk.counts c.loop-buffer.desk) (g.D.Desk.counts c.copy_piece.new.desk) c.in-Ok-eq0.field-0 c.loop-buffer.invariant.counts c.in-Ok-eq0.ensures.causes
 
 pub returns-in-Ok-eq0-clause-others : goal.returns-in-Ok-eq0-clause-others
 returns-in-Ok-eq0-clause-others g c =
@@ -35,11 +45,17 @@ returns-in-Ok-eq0-clause-copied g c =
     copy_ends c.args.from.now c.args.to.now c.loop-buffer.at (g.D.Desk.files c.args.desk.now) (g.D.Desk.files c.loop-buffer.desk) (g.D.Desk.files c.copy_piece.new.desk) c.loop-buffer.invariant.copying
     (subst P c.in-Ok-eq0.field-0-test c.in-Ok-eq0.ensures.piece)
 
+pub returns-in-Ok-eq0-clause-traced : goal.returns-in-Ok-eq0-clause-traced
+returns-in-Ok-eq0-clause-traced g c =
+    let P : ℕ → Type 0 = λ n. Traced (PieceTraces c.args.from.now c.args.to.now c.loop-buffer.at (Ok n)) (g.D.Desk.log c.loop-buffer.desk) (g.D.Desk.log c.copy_piece.new.desk) in
+    copy_ends_traced c.args.alone c.args.from.now c.args.to.now c.loop-buffer.at _ _ _ c.loop-buffer.invariant.tracing (subst P c.in-Ok-eq0.field-0-test c.in-Ok-eq0.ensures.traced)
+
 pub loop-buffer-preserved : goal.loop-buffer-preserved
 loop-buffer-preserved g c =
     let h = c.in-Ok-copy_piece.ensures in
     record {
       copying = copying_goes_on c.args.from.now c.args.to.now c.loop-buffer.at c.in-Ok-copy_piece.count (g.D.Desk.files c.args.desk.now) (g.D.Desk.files c.loop-buffer.desk) (g.D.Desk.files c.copy_piece.new.desk) c.loop-buffer.invariant.copying h.piece h.others;
+      tracing = copy_goes_on c.args.from.now c.args.to.now c.loop-buffer.at c.in-Ok-copy_piece.count _ _ _ c.in-Ok-copy_piece.count-test.1 c.loop-buffer.invariant.tracing h.traced;
       counts = h.causes.done ∙ c.loop-buffer.invariant.counts;
       buffer = c.loop-buffer.invariant.buffer;
       fits = h.place;
@@ -47,12 +63,31 @@ loop-buffer-preserved g c =
 
 pub returns-in-Err-copy_piece-clause-causes : goal.returns-in-Err-copy_piece-clause-causes
 returns-in-Err-copy_piece-clause-causes g c =
-    causes_broken (g.D.Desk.counts c.args.desk.now) (g.D.Desk.counts c.loop-buffer.desk) (g.D.Desk.counts c.copy_piece.new.desk) c.in-Err-copy_piece.error c.loop-buffer.invariant.counts c.in-Err-copy_piece.ensures.causes
+    let h = c.in-Err-copy_piece.ensures in
+    let k = c.give_up.ensures in
+    rw k.same (copy_broken c.args.alone (g.D.Desk.counts c.args.desk.now) (g.D.Desk.counts c.loop-buffer.desk) (g.D.Desk.counts c.copy_piece.new.desk) (g.D.Desk.counts c.give_up.new.desk) c.in-Err-copy_piece.error
+    c.loop-buffer.invariant.counts h.causes h.apart k.later k.missing k.calm)
 
 pub returns-in-Err-copy_piece-clause-others : goal.returns-in-Err-copy_piece-clause-others
 returns-in-Err-copy_piece-clause-others g c =
-    copy_others c.args.from.now c.args.to.now c.loop-buffer.at (g.D.Desk.files c.args.desk.now) (g.D.Desk.files c.loop-buffer.desk) (g.D.Desk.files c.copy_piece.new.desk) c.loop-buffer.invariant.copying c.in-Err-copy_piece.ensures.others
+    others_cleared c.args.to.now (g.D.Desk.files c.args.desk.now) (g.D.Desk.files c.copy_piece.new.desk) (g.D.Desk.files c.give_up.new.desk)
+    (copy_others c.args.from.now c.args.to.now c.loop-buffer.at (g.D.Desk.files c.args.desk.now) (g.D.Desk.files c.loop-buffer.desk) (g.D.Desk.files c.copy_piece.new.desk) c.loop-buffer.invariant.copying c.in-Err-copy_piece.ensures.others)
+    c.give_up.ensures.others
 
 pub returns-in-Err-copy_piece-clause-copied : goal.returns-in-Err-copy_piece-clause-copied
 returns-in-Err-copy_piece-clause-copied g c =
-    copy_refused c.args.from.now c.args.to.now c.loop-buffer.at c.in-Err-copy_piece.error (g.D.Desk.files c.args.desk.now) (g.D.Desk.files c.loop-buffer.desk) (g.D.Desk.files c.copy_piece.new.desk) c.loop-buffer.invariant.copying c.in-Err-copy_piece.ensures.piece
+    rw c.give_up.ensures.same
+    (refused_cleared c.args.from.now c.args.to.now c.in-Err-copy_piece.error (g.D.Desk.files c.args.desk.now) (g.D.Desk.files c.copy_piece.new.desk) (g.D.Desk.files c.give_up.new.desk)
+    (copy_refused c.args.from.now c.args.to.now c.loop-buffer.at c.in-Err-copy_piece.error (g.D.Desk.files c.args.desk.now) (g.D.Desk.files c.loop-buffer.desk) (g.D.Desk.files c.copy_piece.new.desk) c.loop-buffer.invariant.copying c.in-Err-copy_piece.ensures.piece)
+    c.give_up.ensures.others)
+
+pub returns-in-Err-copy_piece-clause-traced : goal.returns-in-Err-copy_piece-clause-traced
+returns-in-Err-copy_piece-clause-traced g c =
+    rw c.give_up.ensures.same
+    (copy_breaks_traced c.args.alone c.args.from.now c.args.to.now c.loop-buffer.at c.in-Err-copy_piece.error _ _ _ _ c.loop-buffer.invariant.tracing c.in-Err-copy_piece.ensures.traced c.give_up.ensures.traced)
+
+pub returns-in_default-clause-causes : goal.returns-in_default-clause-causes
+returns-in_default-clause-causes g c = copy_idle _ _
+
+pub returns-in_default-clause-traced : goal.returns-in_default-clause-traced
+returns-in_default-clause-traced g c = traced_none _ _ tt

@@ -1,10 +1,10 @@
-use Rattle.std.proofs.Common.{refl, arith, sym, length-take-le, ◌∙◌, ap}
+use Rattle.std.proofs.Common.{refl}
 use Rattle.fetch_copy.proofs.CopyLaws.{causes_refused}
 use Rattle.fetch_copy.proofs.RangeLaws.{out_made, out_refused, out_without, nothing_refused}
 use Rattle.fetch_copy.proofs.range.copy_out.Goals as goal
 
 pub returns-in-Ok-create-clause-copied : goal.returns-in-Ok-create-clause-copied
-returns-in-Ok-create-clause-copied g c = out_made _ _ _ _ _ _ _ _ c.in-Ok-create.ensures.log c.copy_range.ensures.moved
+returns-in-Ok-create-clause-copied g c = out_made _ _ _ _ _ _ _ _ c.in-Ok-create.ensures.log c.copy_made.ensures.moved
 
 pub returns-clause-copied : goal.returns-clause-copied
 returns-clause-copied g c = rw c.refused.ensures (out_refused _ _ _ _ _ _ _ c.in-Err.ensures.log)
@@ -20,9 +20,3 @@ returns-in_default-clause-itself g c = λ e. tt
 
 pub returns-clause-itself : goal.returns-clause-itself
 returns-clause-itself g c = λ e. rw c.refused.ensures (nothing_refused c.in-Err.error)
-
-pub slice_bounds-copy_range-end : goal.slice_bounds-copy_range-end
-slice_bounds-copy_range-end g c = sym (length-take-le c.step_between-step.result c.deref_mut.result.now (omega (arith, c.in-Ok.ensures.len, c.deref_mut.ensures.len)))
-
-pub returns-in-Ok-create-clause-itself : goal.returns-in-Ok-create-clause-itself
-returns-in-Ok-create-clause-itself g c = λ e. c.copy_range.ensures.nothing (rw (c.step_between-step.ensures.itself e) refl)

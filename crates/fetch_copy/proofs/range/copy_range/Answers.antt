@@ -1,10 +1,10 @@
 use Rattle.std.proofs.Common.{◌∙◌, ℕ, refl, arith, length-take}
 use Rattle.fetch_copy.proofs.CopyLaws.{causes_nothing, causes_refused, causes_from}
-use Rattle.fetch_copy.proofs.RangeLaws.{ranging_nothing, ranging_more, range_whole, range_short, range_refused, nothing_refused}
+use Rattle.fetch_copy.proofs.RangeLaws.{ranging_nothing, ranging_more, range_whole, range_short, range_refused}
 use Rattle.fetch_copy.proofs.range.copy_range.Goals as goal
 
 pub loop-at-init : goal.loop-at-init
-loop-at-init g c = record { ranging = ranging_nothing _ _ _ _ _; nothing = λ e. refl; as_long = refl; least = omega arith; most = omega arith; quiet = refl }
+loop-at-init g c = record { ranging = ranging_nothing _ _ _ _ _; as_long = refl; least = omega arith; most = omega arith; quiet = refl }
 
 pub loop-at-preserved : goal.loop-at-preserved
 loop-at-preserved g c =
@@ -12,7 +12,6 @@ loop-at-preserved g c =
     let h = c.in-Ok.ensures in
     record {
       ranging = ranging_more _ _ _ _ _ _ _ _ _ _ i.ranging c.loop-at-test.true h.carried h.most c.in-Ok.moved-test.1;
-      nothing = λ none. absurd (c.in-Ok.moved-test.1 (omega (arith, h.most, length-take {A = ℕ}, c.min-room.ensures, i.as_long)));
       as_long = omega (arith, i.as_long);
       least = omega arith;
       most = omega (arith, h.most, length-take {A = ℕ}, c.min-room.ensures);
@@ -41,12 +40,3 @@ returns-clause-moved g c = let i = c.loop-at.invariant in range_whole _ _ _ _ _ 
 
 pub returns-clause-causes : goal.returns-clause-causes
 returns-clause-causes g c = causes_from _ _ _ _ c.loop-at.invariant.quiet (causes_nothing _ _ refl)
-
-pub returns-in-Ok-eq0-clause-nothing : goal.returns-in-Ok-eq0-clause-nothing
-returns-in-Ok-eq0-clause-nothing g c = λ e. omega (arith, c.loop-at.invariant.nothing e)
-
-pub returns-in-Err-clause-nothing : goal.returns-in-Err-clause-nothing
-returns-in-Err-clause-nothing g c = λ e. rw c.refused.ensures (nothing_refused c.in-Err.error)
-
-pub returns-clause-nothing : goal.returns-clause-nothing
-returns-clause-nothing g c = λ e. omega (arith, c.loop-at.invariant.nothing e)

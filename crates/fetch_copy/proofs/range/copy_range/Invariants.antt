@@ -5,7 +5,6 @@ use Rattle.fetch_copy.proofs.range.copy_range.Given as goal
 abbrev pub invariant-loop-at : goal.invariant-loop-at
 invariant-loop-at g l = record {
   ranging : Ranging (g.D.Desk.log l.fn.desk) (g.D.Desk.log l.desk) l.file l.name l.from l.to l.at;
-  nothing : length l.fn.buffer ≡ 0 → l.at ≡ l.from;
   as_long : length l.buffer ≡ length l.fn.buffer;
   least : l.from ≤ l.at;
   most : l.at - l.from ≤ l.to - l.from;

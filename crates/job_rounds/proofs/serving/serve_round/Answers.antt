@@ -4,7 +4,7 @@ use Rattle.std.specs.List.{range_with_len}
 use Rattle.journal_model.specs.Journal.{is_started}
 use Rattle.link_roles.specs.Alone.{Closes}
 use Rattle.gathering.specs.Laws.{GoesOn}
-use Rattle.crew_roles.specs.TaggedRounds.{TaggedLeaves}
+use Rattle.crew_rounds.specs.TaggedRounds.{TaggedLeaves}
 use Rattle.crew_rounds.specs.Tagged.{link_of}
 use Rattle.lone_work.specs.Works.{desk_tells}
 use Rattle.job_rounds.proofs.Ends.{alone_kept, by_done, by_kept, legal_kept, round_as_many, round_closes, round_held, round_started}

@@ -12,6 +12,7 @@ invariant-loop g l = record {
   live : is_last l.kit.stage ≡ false;
   limit : l.splitter.limit ≡ longest_line;
   later : (g.S.Source.faults l.initial.source ≤ g.S.Source.faults l.source) × (g.W.Sink.faults l.initial.sink ≤ g.W.Sink.faults l.sink);
+  quiet : (g.S.Source.faults l.source ≡ g.S.Source.faults l.initial.source) × (g.W.Sink.faults l.sink ≡ g.W.Sink.faults l.initial.sink);
   opened : (g.S.Source.is_open l.source ≡ true) × (g.W.Sink.is_open l.sink ≡ true);
   numbers : (g.S.Source.number l.source ≡ g.S.Source.number l.initial.source) × (g.W.Sink.number l.sink ≡ g.W.Sink.number l.initial.sink);
   settings : g.R.Remote.settings l.kit.remote ≡ g.R.Remote.settings l.initial.kit.remote;

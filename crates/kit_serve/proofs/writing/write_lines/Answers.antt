@@ -17,6 +17,7 @@ loop-line-preserved g c =
           (appends_both (g.W.Sink.taken c.args.sink.now) (g.W.Sink.taken c.loop-line.sink) (g.W.Sink.taken c.write_line.new.sink) (text (take i ls)) (c.view.result.now ++ 10 ∷ [])
           c.loop-line.invariant.took c.in_ok-write_line.ensures.ok);
       silent = λ untold. c.write_line.ensures.silent (c.loop-line.invariant.silent untold);
+      quiet = c.in_ok-write_line.ensures.done ∙ c.loop-line.invariant.quiet;
       later = omega (arith, c.loop-line.invariant.later, c.write_line.ensures.later);
       opened = c.write_line.ensures.open;
       number = c.write_line.ensures.number ∙ c.loop-line.invariant.number;

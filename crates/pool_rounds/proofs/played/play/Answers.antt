@@ -3,12 +3,12 @@ use Rattle.hall.specs.Passes.{seen_of}
 use Rattle.link_roles.specs.Moves.{IsSameLink}
 use Rattle.link_roles.specs.Writings.{LoneWired}
 use Rattle.lone_work.specs.Works.{desk_tells}
-use Rattle.crew_roles.specs.Roles.{CanWork, WorkerRan}
+use Rattle.crew_rounds.specs.Roles.{CanWork, WorkerRan}
 use Rattle.crew_rounds.specs.Tagged.{AreFresh, link_of}
 use Rattle.crew_rounds.proofs.Backs.{fresh_own}
 use Rattle.crew_rounds.proofs.Leaving.{may_all, may_work}
 use Rattle.crew_rounds.proofs.Places.{pairwise_length}
-use Rattle.pool_rounds.specs.Pool.{MayServe}
+use Rattle.crew_rounds.specs.PoolChildren.{MayServe}
 use Rattle.pool_rounds.proofs.Backs.{links_still, lone_so}
 use Rattle.pool_rounds.proofs.Leaving.{played, serving}
 use Rattle.pool_rounds.proofs.played.play.Goals as goal

@@ -1,6 +1,6 @@
 use Rattle.std.proofs.Common.{◌≡◌, false, map, take, Ok}
 use Rattle.ann_key.specs.KeyRefs.{parts_of}
-use Rattle.task_asker.specs.Askings.{IsSameTask}
+use Rattle.task_run.specs.Askers.{IsSameTask}
 use Rattle.task_run.specs.Layouts.{keys_of_layout}
 use Rattle.task_run.specs.Ran.{may_follow_refusal}
 use Rattle.task_works.specs.Rounds.{Missed}

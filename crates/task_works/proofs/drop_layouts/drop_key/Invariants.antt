@@ -1,6 +1,6 @@
 use Rattle.std.proofs.Common.{take}
 use Rattle.ann_key.specs.KeyRefs.{parts_of}
-use Rattle.task_asker.specs.Askings.{IsSameTask}
+use Rattle.task_run.specs.Askers.{IsSameTask}
 use Rattle.task_works.specs.Rounds.{Removed}
 use Rattle.task_works.proofs.drop_layouts.drop_key.Given as goal
 

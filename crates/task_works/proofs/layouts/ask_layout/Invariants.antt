@@ -1,6 +1,6 @@
 use Rattle.std.proofs.Common.{◌≡◌}
 use Rattle.ann_key.specs.KeyRefs.{parts_of}
-use Rattle.task_asker.specs.Askings.{IsSameTask}
+use Rattle.task_run.specs.Askers.{IsSameTask}
 use Rattle.task_run.specs.Layouts.{keys_of_layout}
 use Rattle.task_works.specs.Rounds.{Asked}
 use Rattle.task_works.proofs.layouts.ask_layout.Given as goal

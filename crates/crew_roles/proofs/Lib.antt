@@ -1,3 +1,0 @@
-pub mod Crewing
-pub mod TaggedRounds
-pub mod Coming

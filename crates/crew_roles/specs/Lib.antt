@@ -1,4 +1,0 @@
-pub mod Roles
-pub mod Crewing
-pub mod TaggedRounds
-pub mod Coming

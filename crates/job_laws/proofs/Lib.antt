@@ -1,2 +1,0 @@
-pub mod NoneUnserved
-pub mod Succeeding

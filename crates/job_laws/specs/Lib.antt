@@ -1,2 +1,0 @@
-pub mod JobsWell
-pub mod JobsKeep

@@ -1,0 +1,24 @@
+// Each law is the contract of a function with nothing to do.
+ghost use Rattle.std.specs.Prelude.{ℕ, List};
+ghost use Rattle.journal_model.specs.declared.entry.Entry.{Entry};
+ghost use Rattle.journal_model.specs.declared.opening.Opening.{Opening};
+ghost use Rattle.journal_model.specs.Legality.{Legal};
+ghost use Rattle.task_run.specs.declared.setup.Setup.{Setup};
+ghost use Rattle.lone_work.specs.Works.{DeskTells};
+ghost use Rattle.job_rounds.specs.JobsWell.{JobsSucceed, NoneUnserved};
+ghost use Rattle.job_rounds.specs.JobsKeep.{JobsKeep};
+
+/// Where all went well with the children, no task is claimed without one.
+pub fn none_unserved()
+    ensures { NoneUnserved }
+{}
+
+/// Where all went well from outside, each task that was run is answered by its success, or by want of memory.
+pub fn jobs_succeed()
+    ensures { (o : Opening) (setup : Setup) (limit : ℕ) (journal past entries : List Entry) (k : ℕ) (desks desks' : List DeskTells) → JobsSucceed o setup limit journal past entries k desks desks' }
+{}
+
+/// In a legal journal, with a faithful remote, a get keeps what the stores of its keys sent.
+pub fn jobs_keep()
+    ensures { (o : Opening) (setup : Setup) (journal : List Entry) → Legal o journal → JobsKeep o setup journal }
+{}

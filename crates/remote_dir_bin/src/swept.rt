@@ -1,0 +1,67 @@
+// A directory remote that clears its folder of temporary files when it gets ready.
+ghost use Rattle.std.specs.Prelude.{None};
+
+use crate::sweeping::sweep;
+use ann_key::{KeyRef, NoMemory};
+use ann_outside::Desk;
+use dir_remote::DirRemote;
+use kit_core::{Remote, Said, Values};
+use std::alloc::AllocGlobal;
+use std::rt::{Clock, Files};
+use std::str;
+
+/// Hands each call on to the directory remote.
+#[derive(Drop)]
+pub struct Swept<R, D: Desk> {
+    rt: R,
+    remote: DirRemote<D>,
+}
+
+impl<R: Files + AllocGlobal + Clock + Clone + Drop, D: Desk> Swept<R, D> {
+    pub fn new(rt: R, remote: DirRemote<D>) -> Swept<R, D> {
+        Swept { rt, remote }
+    }
+
+    // Old files of the directory that the values name.
+    fn sweep(&self, values: &Values) {
+        if let Some(value) = values.view().first() {
+            if let Ok(directory) = str::from_utf8(value.view()) {
+                sweep(&self.rt, directory);
+            }
+        }
+    }
+}
+
+impl<R: Files + AllocGlobal + Clock + Clone + Drop, D: Desk> Remote for Swept<R, D> {
+    ghost settings = { λ r. ⟦<DirRemote<D> as Remote>⟧.settings r.remote };
+
+    ghost calls = { λ r. None };
+
+    fn setting(&self, n: u32) -> Option<&str> {
+        self.remote.setting(n)
+    }
+
+    fn prepare(&mut self, values: &Values) -> Result<Said, NoMemory> {
+        let said = self.remote.prepare(values)?;
+        if let Said::Yes = &said {
+            self.sweep(values);
+        }
+        Ok(said)
+    }
+
+    fn store(&mut self, key: KeyRef<'_>, file: &str) -> Result<Said, NoMemory> {
+        self.remote.store(key, file)
+    }
+
+    fn retrieve(&mut self, key: KeyRef<'_>, file: &str) -> Result<Said, NoMemory> {
+        self.remote.retrieve(key, file)
+    }
+
+    fn check(&mut self, key: KeyRef<'_>) -> Result<Said, NoMemory> {
+        self.remote.check(key)
+    }
+
+    fn remove(&mut self, key: KeyRef<'_>) -> Result<Said, NoMemory> {
+        self.remote.remove(key)
+    }
+}

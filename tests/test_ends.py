@@ -1,0 +1,106 @@
+"""Children that take tags and end with jobs open, and the starts after them."""
+
+from harness import expect, table
+from runs import check_answers, checks, expect_run
+
+BOTH = 'greet("ASYNC")\na, b = hear_all("CHECKPRESENT WORM--a", "CHECKPRESENT WORM--b")\n'
+LAST = f"greet('ASYNC')\nserve({check_answers(c='SUCCESS')!r})\n"
+
+
+@table([
+    ("a tag of no job", 'say("J 99 CHECKPRESENT-SUCCESS WORM--a")\nhear()\n',
+     "foul J 99 CHECKPRESENT-SUCCESS WORM--a"),
+    ("no tag", 'say("CHECKPRESENT-SUCCESS WORM--a")\nhear()\n',
+     "foul CHECKPRESENT-SUCCESS WORM--a"),
+    ("ERROR with the tag of one job", 'say(b + "ERROR no disk")\nhear()\n',
+     "ended error no disk"),
+    ("nothing more", "",
+     "ended eof"),
+])
+def a_child_ends_with_both_jobs_and_the_next_does_the_rest(room, last_words, answer):
+    room.children("remote", BOTH + last_words, LAST)
+    out = f"1 {answer}\n2 {answer}\n3 present\n"
+    expect_run(room, "./remote", checks("a", "b", "c"), out, jobs=2, starts=2, children=2, busy=2)
+
+
+def case_no_start_is_left_after_a_child_that_ended_with_both_jobs(room):
+    room.children("remote", BOTH + 'say("J 99 CHECKPRESENT-SUCCESS WORM--a")\nhear()\n', LAST)
+    foul = "foul J 99 CHECKPRESENT-SUCCESS WORM--a"
+    expect_run(room, "./remote", checks("a", "b", "c"), f"1 {foul}\n2 {foul}\n3 nochild\n", jobs=2, busy=2)
+
+
+def case_an_answer_that_is_cut_off_is_none(room):
+    room.children("remote", BOTH + """
+say(a + "CHECKPRESENT-SUCCESS WORM--a")
+say_cut(b + "CHECKPRESENT-SUC")
+""")
+    expect_run(room, "./remote", checks("a", "b"), "1 present\n2 ended eof\n", jobs=2, busy=2)
+
+
+EIGHT = "abcdefgh"
+DIES_OF_EIGHT = f"""
+greet("ASYNC")
+hear_all(*{[f"CHECKPRESENT WORM--{letter}" for letter in EIGHT]!r})
+say_cut("J")
+"""
+EIGHT_ENDED = "".join(f"{task} ended eof\n" for task in range(1, 9))
+
+
+def case_a_child_dies_with_eight_jobs_open_and_the_next_does_the_rest(room):
+    room.children("remote", DIES_OF_EIGHT, """
+greet("ASYNC")
+i, j = hear_all("CHECKPRESENT WORM--i", "CHECKPRESENT WORM--j")
+say(j + "CHECKPRESENT-FAILURE WORM--j", i + "CHECKPRESENT-SUCCESS WORM--i")
+hear()
+""")
+    out = EIGHT_ENDED + "9 present\n10 absent\n"
+    expect_run(room, "./remote", checks(*EIGHT, "i", "j"), out, jobs=8, starts=2, children=2, busy=8)
+
+
+def case_a_child_dies_with_eight_jobs_open_and_no_start_is_left(room):
+    room.children("remote", DIES_OF_EIGHT)
+    out = EIGHT_ENDED + "9 nochild\n10 nochild\n"
+    expect_run(room, "./remote", checks(*EIGHT, "i", "j"), out, jobs=8, busy=8)
+
+
+def case_a_child_dies_with_eight_jobs_open_then_a_start_fails_and_then_a_child_does_the_rest(room):
+    room.children("remote", 'os.rename("remote.fails", "remote")\n' + DIES_OF_EIGHT,
+                  f"greet('ASYNC')\nserve({check_answers(j='SUCCESS')!r})\n")
+    room.fail_a_start("remote")
+    out = EIGHT_ENDED + "9 startfault\n10 present\n"
+    expect_run(room, "./remote", checks(*EIGHT, "i", "j"), out, jobs=8, starts=3, children=2, busy=8)
+
+
+def case_a_child_that_ends_in_its_greeting_costs_a_task(room):
+    room.children("remote", """
+say("VERSION 1")
+hear()
+say("EXTENSIONS ASYNC")
+hear()
+say_cut("J 1 PREPARE-SUC")
+""", """
+greet("ASYNC")
+b, c = hear_all("CHECKPRESENT WORM--b", "CHECKPRESENT WORM--c")
+say(c + "CHECKPRESENT-SUCCESS WORM--c", b + "CHECKPRESENT-SUCCESS WORM--b")
+hear()
+""")
+    out = "1 ended eof\n2 present\n3 present\n"
+    expect_run(room, "./remote", checks("a", "b", "c"), out, jobs=2, starts=2, children=2, busy=2)
+
+
+def case_each_child_that_cannot_get_ready_costs_a_task(room):
+    refuses = 'greet("ASYNC", ready="PREPARE-FAILURE no disk")\nhear()\n'
+    room.children("remote", refuses, refuses, LAST)
+    out = "1 notprepared no disk\n2 notprepared no disk\n3 present\n"
+    expect_run(room, "./remote", checks("a", "b", "c"), out, jobs=64, starts=3, children=3)
+
+
+def case_each_start_that_fails_costs_a_task(room):
+    out = "1 startfault\n2 startfault\n3 nochild\n"
+    expect_run(room, "./not-there", checks("a", "b", "c"), out, jobs=8, starts=2, children=0)
+
+
+def case_nothing_is_started_without_tasks(room):
+    room.children("remote", LAST)
+    expect_run(room, "./remote", "", "", jobs=8, starts=2, children=0, busy=0)
+    expect(room.has("remote.1.log"), False, "a log of the remote")
