@@ -1,0 +1,3 @@
+pub mod Oldest
+pub mod Prefixes
+pub mod Turning

@@ -1,0 +1,126 @@
+// The program `annex-remote-plain`: it stands between a host and a remote of git-annex, and says what the remote says in plain words.
+// https://git-annex.branchable.com/design/external_special_remote_protocol/
+#![tactic(auto)]
+
+ghost use Rattle.std.specs.Prelude.{◌≡◌, true};
+
+mod passing;
+mod wish;
+
+use ann_os::{OsErrors, OsInput, OsOutput, OsPrograms};
+use ann_outside::{Programs, Sink, Source, StartError, Started, write_all};
+use passing::{Shared, hear_remote, last_status, remote_status, start_hearing};
+use std::alloc::{AllocGlobal, Global};
+use std::marker::Send;
+use std::process::{ExitCode, Processes, SystemProcess};
+use std::sync::Wait;
+use std::thread::Threads;
+use wish::{Wish, read_wish};
+
+const HELP: &[u8] = b"\
+annex-remote-plain: another remote, in plain words
+
+A host starts it without words and talks to it over its standard input and output.
+It starts the program that ANNEX_REMOTE_PROGRAM names, and passes the lines on both ways.
+";
+
+const VERSION: &[u8] = b"annex-remote-plain 0.1.0\n";
+
+const USAGE: &[u8] = b"annex-remote-plain: it takes no words\n";
+
+const UNNAMED: &[u8] =
+    b"annex-remote-plain: ANNEX_REMOTE_PROGRAM must name a program, without arguments\n";
+
+const NOT_STARTED: &[u8] =
+    b"annex-remote-plain: the program that ANNEX_REMOTE_PROGRAM names can't be started\n";
+
+// Status 5 where it can't be written.
+fn print<W: Sink>(sink: &mut W, text: &[u8], status: u8) -> u8
+    requires { W.is_open sink.old ≡ true }
+{
+    if write_all(sink, text).is_ok() && sink.flush().is_ok() {
+        status
+    } else {
+        5
+    }
+}
+
+// Passes the lines on both ways until the remote has ended, and answers the status to end with.
+fn pass_on<
+    R: Threads + Wait + Copy + Send + 'static,
+    I: Sink + Send + Drop + 'static,
+    O: Source + Drop,
+    T: Drop,
+    P: Programs<Inlet = I, Outlet = O, Stub = T>,
+    S: Source + Send + Drop + 'static,
+    W: Sink,
+>(rt: R, alloc: Global, programs: &mut P, started: Started<I, O, T>, host: S, out: &mut W) -> u8
+    requires inlet { I.is_open started.inlet ≡ true }
+    requires outlet { O.is_open started.outlet ≡ true }
+    requires host { S.is_open host ≡ true }
+    requires out { W.is_open out.old ≡ true }
+{
+    let Started {
+        inlet,
+        mut outlet,
+        stub,
+    } = started;
+    let Ok(shared) = Shared::new(alloc) else {
+        return 7;
+    };
+    let Ok(theirs) = shared.again() else {
+        return 7;
+    };
+    if !start_hearing(rt, alloc, theirs, host, inlet) {
+        return 7;
+    }
+    let Ok(end) = hear_remote(rt, alloc, &shared, &mut outlet, out) else {
+        return 7;
+    };
+    match remote_status(end) {
+        Some(status) => status,
+        None => {
+            let code = programs.finish(stub);
+            last_status(shared.asked(), code)
+        }
+    }
+}
+
+// Starts the program, and stands between it and the host.
+fn serve<
+    R: Threads + Wait + Processes<Started = SystemProcess> + AllocGlobal + Copy + Send + 'static,
+    S: Source + Send + Drop + 'static,
+    W: Sink,
+    E: Sink,
+>(rt: R, program: &str, host: S, out: &mut W, err: &mut E) -> u8
+    requires host { S.is_open host ≡ true }
+    requires out { W.is_open out.old ≡ true }
+    requires err { E.is_open err.old ≡ true }
+{
+    let mut programs = OsPrograms::new(rt);
+    match programs.start(program) {
+        Ok(started) => pass_on(rt, rt.alloc(), &mut programs, started, host, out),
+        Err(StartError::NoMemory) => 7,
+        Err(StartError::Failed) => print(err, NOT_STARTED, 3),
+    }
+}
+
+fn main(rt: HostRuntime) -> ExitCode {
+    let mut out = OsOutput::new(rt.stdout());
+    let mut err = OsErrors::new(rt.stderr());
+    let status = match read_wish(&rt) {
+        Wish::Help => print(&mut out, HELP, 0),
+        Wish::Version => print(&mut out, VERSION, 0),
+        Wish::Refused => print(&mut err, USAGE, 2),
+        Wish::Unnamed => print(&mut err, UNNAMED, 2),
+        Wish::NoMemory => 7,
+        Wish::Serve(program) => serve(
+            rt,
+            program.as_str(),
+            OsInput::new(rt.stdin()),
+            &mut out,
+            &mut err,
+        ),
+    };
+    ExitCode::from(status)
+}
