@@ -305,15 +305,23 @@ def a_killed_one_is_no_hindrance_to_the_next_with_its_kept_file(room, which):
     expect(room.has("kept.new"), False, "whether the other file is left")
 
 
+def give_task(process):
+    """Gives the run its input; one that was refused may have ended before it reads any."""
+    try:
+        process.stdin.write(TASK)
+        process.stdin.close()
+    except BrokenPipeError:
+        pass
+    process.stdin = None
+
+
 @limits(60)
 def case_many_runs_with_one_kept_file_keep_it_whole(room):
     room.write("kept", "annex-keep 1\nconfig colour blue\n")
     program = remote(room, "one")
     processes = [room.start(command(room, "run", program)) for _ in range(8)]
     for process in processes:
-        process.stdin.write(TASK)
-        process.stdin.close()
-        process.stdin = None
+        give_task(process)
     ends = {finish(process) for process in processes}
     require(DONE["run"] in ends, f"none of the runs is done: {ends}")
     expect(ends - {DONE["run"], (6, "", "special: file failed\n")}, set(), "other ends")
