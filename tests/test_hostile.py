@@ -73,7 +73,9 @@ def a_child_that_closes_its_input_and_stays(room, heard):
 
 
 def case_a_child_that_closes_its_input_and_goes_on_talking(room):
-    room.script("child.sh", GREETING + "exec 0<&-\n" + printed("DEBUG no job is open") * 100 + "sleep 1\n")
+    heard = printed("VERSION 1") + "read -r line\n" + printed("EXTENSIONS") + "read -r line\nexec 0<&-\n"
+    says = printed("PREPARE-SUCCESS") + printed("DEBUG I hear nothing more") * 100
+    room.script("child.sh", heard + says + "sleep 1\n")
     expect(room.special("check", "./child.sh", E), (1, "1 unsent\n", ""))
 
 
