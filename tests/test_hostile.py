@@ -229,7 +229,7 @@ WORDS = {"stored", "got", "present", "dropped", "absent", "unsupported", "unsent
 
 
 @table([(f"seeds from {first}", first) for first in range(FIRST, FIRST + RUNS, PER_CASE)])
-@limits(120)
+@limits(240)
 def hostile_children(room, first):
     for seed in range(first, first + PER_CASE):
         Trial(room, seed).run()
@@ -250,7 +250,7 @@ class Trial:
         command = self.random.choice(["check", "info", "init", "run", "run", "run", "run", "run"])
         began = time.monotonic()
         getattr(self, f"try_{command}")()
-        require(time.monotonic() - began < 30, f"{self}: it took too long")
+        require(time.monotonic() - began < 100, f"{self}: it took too long")
         wait_until_gone([pid for pid, _, _ in self.logs()])
 
     def __str__(self):
