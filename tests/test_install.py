@@ -103,6 +103,30 @@ def each_option_of_run_is_in_the_help_the_page_and_the_completions(room, option)
         require(spelling in (TOP / name).read_text(), f"it isn't in {name}")
 
 
+@table([(answer, answer) for answer in (
+    "stored", "dropped", "got", "present", "absent", "failed", "size", "hash", "nofile", "filefault", "nochild", "unknown",
+    "unsupported", "notprepared", "ended", "memory", "foul", "unsent", "startfault",
+)])
+def each_answer_is_in_the_help_and_the_manual(room, answer):
+    words = room.special("run", "--help").out.replace(",", " ").split()
+    require(answer in words, "it isn't in the help")
+    manual = (TOP / "docs/MANUAL.md").read_text()
+    require(f"`{answer}`" in manual or f"`{answer} " in manual, "it isn't in the manual")
+
+
+@table([(f"status {status}", str(status)) for status in range(8)])
+def each_status_is_in_the_help_and_the_manual(room, status):
+    lines = [line.split(" ")[0] for line in room.special("--help").out.splitlines()]
+    require(status in lines, "it isn't in the help")
+    require(f"\n| {status} | " in (TOP / "docs/MANUAL.md").read_text(), "it isn't in the manual")
+
+
+def case_the_help_fits_a_terminal_of_120_columns(room):
+    for words in (["--help"], *([command, "--help"] for command in ("check", "info", "init", "run", "audit"))):
+        longest = max(len(line) for line in room.special(*words).out.splitlines())
+        require(longest <= 120, f"{words}: a line has {longest} columns")
+
+
 @table([(name, name) for name in ("special.bash", "annex-special.bash")])
 def bash_reads_the_completion(room, name):
     expect(run(["bash", "-n", TOP / "completions" / name]), (0, "", ""))

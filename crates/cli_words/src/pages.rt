@@ -15,7 +15,26 @@ const OVERVIEW: &str = "special asks external special remotes of git-annex.\n\
     special --help                                      this text\n\
     special --version                                   the version\n\
     \n\
-    PROGRAM speaks the protocol of external special remotes on its standard input and output.\n";
+    PROGRAM speaks the protocol of external special remotes on its standard input and output. It is a path or a name\n\
+    in PATH, and gets no arguments. A script in the current folder is ./remote.sh.\n\
+    \n\
+    Example:\n\
+    \n\
+    U=6f9619ff-8b86-d011-b42d-00cf4fc964ff\n\
+    special init annex-remote-dir $U folder.keep directory=$HOME/contents\n\
+    echo \"store WORM-s6--hello hello.txt\" | special run --program annex-remote-dir --uuid $U --keep folder.keep\n\
+    \n\
+    Statuses:\n\
+    \n\
+    0  all went well\n\
+    1  some answer is no success\n\
+    2  special: usage. The words are wrong. Mostly it is --chunk 1M (write 1048576), an option given twice, or a UUID\n\
+    \x20  that is none\n\
+    3  special: line N: REASON. Line N of the input can't be taken\n\
+    4  special: input failed. The input couldn't be read\n\
+    5  a write to the output failed\n\
+    6  special: keep .. or special: file failed. KEEP or the journal file can't be read or written, or KEEP is in use\n\
+    7  special: memory. There wasn't enough memory\n";
 
 const CHECK: &str = "special check PROGRAM KEY\n\
     \n\
@@ -46,8 +65,8 @@ const INIT: &str = "special init PROGRAM UUID KEEP [NAME=VALUE ..]\n\
 
 const RUN: &str = "special run --program PROGRAM --uuid UUID [OPTIONS]\n\
     \n\
-    Does the tasks of the input over children of PROGRAM, and prints the number of each task and its answer. A line of the\n\
-    input is a task: store KEY FILE, get KEY FILE, check KEY or drop KEY.\n\
+    Does the tasks of the input over children of PROGRAM. A line of the input is a task: store KEY FILE, get KEY FILE,\n\
+    check KEY or drop KEY. When all are done, one line for each is printed, in order: its number and its answer.\n\
     \n\
     --program PROGRAM  the program that serves the remote\n\
     --uuid UUID        the remote's UUID\n\
@@ -56,11 +75,39 @@ const RUN: &str = "special run --program PROGRAM --uuid UUID [OPTIONS]\n\
     --name NAME        the remote's name (default remote)\n\
     --gitdir FOLDER    the repository's git directory (default .git)\n\
     --keep FILE        the kept file, which is read before the tasks and written after them (default: none)\n\
-    --journal FILE     the file in which the journal of the run is written after the tasks (default: none)\n\
-    --work FOLDER      the folder for files that the run makes (default .)\n\
+    --journal FILE     the file in which the journal of the run is written after the tasks; what it held is lost\n\
+    \x20                  (default: none)\n\
+    --work FOLDER      the folder for files that the run makes, which must exist (default .)\n\
     --starts NUMBER    how often a child may be started in the first place, 1 to 16 (default 3)\n\
     \n\
-    The status is 0 where each answer is stored, got, present or dropped.\n";
+    Files and folders are relative to the current folder, in which the children run too. Numbers are plain digits:\n\
+    --chunk 1048576, and not 1M.\n\
+    \n\
+    Example:\n\
+    \n\
+    printf 'store WORM-s6--hello hello.txt\\nget WORM-s6--hello again.txt\\n' > tasks\n\
+    special run --program annex-remote-dir --uuid 6f9619ff-8b86-d011-b42d-00cf4fc964ff --keep folder.keep < tasks\n\
+    \n\
+    Answers:\n\
+    \n\
+    stored, got, dropped      it is done\n\
+    present, absent           the remote has the content, or hasn't\n\
+    unknown TEXT              the remote can't tell now\n\
+    failed TEXT               the remote said that it failed\n\
+    size N, hash HEX          the file, or what was fetched, doesn't fit the key\n\
+    nofile, filefault         there is no such file, or it couldn't be read or written\n\
+    unsupported               the remote doesn't know the request\n\
+    notprepared TEXT          the remote can't get ready\n\
+    startfault                PROGRAM couldn't be started. Mostly it is a script without ./ or without leave to be run\n\
+    nochild                   all starts are used up\n\
+    ended WHY, foul LINE      the child ended, or said LINE where it may not stand\n\
+    unsent, memory            a write to the child failed, or there wasn't enough memory\n\
+    \n\
+    The status is 0 where each answer is stored, got, present or dropped, and 1 where some other one is among them.\n\
+    It is 3 where special: line N: REASON was printed, and nothing was started. REASON word: the line doesn't begin\n\
+    with a task's word in lower case; key: there is no key after it; unsendable: the key holds a space or a control\n\
+    character, as in lines that end with CRLF; chunkkey: it is the key of a chunk; file: a FILE is missing; many,\n\
+    long and large: there are too many lines, or too many bytes.\n";
 
 const AUDIT: &str = "special audit\n\
     \n\
