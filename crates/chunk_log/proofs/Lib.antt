@@ -1,6 +1,7 @@
 pub mod Counting
 pub mod Cuts
 pub mod Digits
+pub mod Halving
 pub mod Inserting
 pub mod InOrder
 pub mod Kept
