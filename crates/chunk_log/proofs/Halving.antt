@@ -9,12 +9,7 @@ use Rattle.std.proofs.lemmas.Bool.{and_parts}
 use Rattle.std.proofs.lemmas.List.Sums.{prefix_len_is}
 use Rattle.chunk_log.specs.NoteBooks.{in_order, is_before, place_cmp}
 use Rattle.chunk_log.specs.declared.note.Note.{Note}
-use Rattle.chunk_log.proofs.Places.{place_total}
-
-less : (o : Ordering) → is_lt o ≡ true → o ≡ Less
-less Less h = refl
-less Equal h = absurd cc
-less Greater h = absurd cc
+use Rattle.chunk_log.proofs.Places.{less, place_total}
 
 -- one of those behind
 behind : (x : Note) (xs : List Note) (j : ℕ) (d : Note) → list_all (is_before x) xs ≡ true → j < length xs → is_before x (get_or xs j d) ≡ true

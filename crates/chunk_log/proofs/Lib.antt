@@ -1,3 +1,4 @@
+pub mod AtRemote
 pub mod Counting
 pub mod Cuts
 pub mod Digits
