@@ -8,15 +8,10 @@ use Rattle.std.specs.declared.cmp.Ordering.TheVariants.{Less, Equal, Greater}
 use Rattle.std.proofs.lemmas.Bool.{and_parts}
 use Rattle.chunk_log.specs.NoteBooks.{in_order, inserted, is_before, is_no_later, place_cmp, placed}
 use Rattle.chunk_log.specs.declared.note.Note.{Note}
-use Rattle.chunk_log.proofs.Places.{place_total}
+use Rattle.chunk_log.proofs.Places.{less, place_total}
 
 both : (a b : Bool) → a ≡ true → b ≡ true → (a && b) ≡ true
 both a b h k = rw (h, k) refl
-
-less : (o : Ordering) → is_lt o ≡ true → o ≡ Less
-less Less h = refl
-less Equal h = absurd cc
-less Greater h = absurd cc
 
 -- what stands behind a note stands behind each that has its place, or stands before it
 alike : (x note : Note) → place_cmp x note ≡ Equal → (xs : List Note) → list_all (is_before x) xs ≡ true → list_all (is_before note) xs ≡ true

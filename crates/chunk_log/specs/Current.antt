@@ -5,9 +5,17 @@ use Rattle.std.specs.List.Sorted.{IsPermutation, IsSortedBy}
 use Rattle.chunk_log.specs.declared.note.Note.{Note}
 use Rattle.chunk_log.specs.declared.standing.Standing.{Standing}
 
+-- whether a note is of a key at a remote
+abbrev pub is_at : List ℕ → List ℕ → Note → Bool
+is_at key uuid note = bytes_eq note.key key && bytes_eq note.line.uuid uuid
+
 -- whether a note says that a remote has chunks of a key
 abbrev pub is_current : List ℕ → List ℕ → Note → Bool
-is_current key uuid note = bytes_eq note.key key && bytes_eq note.line.uuid uuid && not (note.line.count == 0)
+is_current key uuid note = is_at key uuid note && not (note.line.count == 0)
+
+-- where the notes of a key at a remote begin: none of them stands before this place
+abbrev pub first_place : List ℕ → List ℕ → Note
+first_place key uuid = record { key = key; line = record { stamp = record { seconds = 0; nanos = 0 }; uuid = uuid; chunk = 0; count = 0 } }
 
 abbrev pub standing_of : Note → Standing
 standing_of note = record { stamp = note.line.stamp; chunk = note.line.chunk; count = note.line.count }

@@ -66,6 +66,13 @@ impl NoteBook {
         Ok(NoteBook { notes })
     }
 
+    /// How many lines there are. It takes no memory.
+    pub fn len(&self) -> usize
+        ensures { result ≡ length self.now }
+    {
+        self.notes.len()
+    }
+
     /// The nth line, by key text, then UUID, then chunk size. It takes no memory.
     pub fn line(&self, n: usize) -> Option<(KeyRef<'_>, &ChunkLine)>
         ensures nth { option_map (λ line. record { key = text_of line.0; line = line.1.now }) result ≡ slice_get self.now n }

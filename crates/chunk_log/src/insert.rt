@@ -1,21 +1,20 @@
 // A note more, at its place.
 ghost use Rattle.std.specs.Prelude.{◌≡◌, ◌≤◌, ◌<◌, ◌++◌, length, take, drop, OnOk, OnErr, IfOk, IsTrue};
 ghost use Rattle.std.specs.List.{prefix_len};
-ghost use Rattle.chunk_log.specs.NoteBooks.{inserted, is_before, is_taken, replaced};
+ghost use Rattle.chunk_log.specs.NoteBooks.{in_order, inserted, is_before, is_taken, replaced};
 
 use crate::note::Note;
 use crate::order::is_no_later;
 use ann_key::NoMemory;
 use std::alloc::Global;
 
+// The notes stand in order, so the place is found by halving.
 fn place_of(notes: &[Note], note: &Note) -> usize
+    requires { IsTrue (in_order notes.now) }
     ensures value { result ≡ prefix_len (λ other. is_before other note.now) notes.now }
     ensures bound { result ≤ length notes.now }
 {
-    notes
-        .iter()
-        .take_while(|other| other.place_cmp(note).is_lt())
-        .count()
+    notes.partition_point(|other| other.place_cmp(note).is_lt())
 }
 
 fn is_taken(notes: &[Note], note: &Note) -> bool
@@ -39,6 +38,7 @@ fn replace(notes: &mut [Note], at: usize, note: Note)
 }
 
 pub fn insert(notes: &mut Vec<Note>, note: Note) -> Result<(), NoMemory>
+    requires { IsTrue (in_order notes.old.items) }
     ensures ok { OnOk result (notes.new.items ≡ inserted note notes.old.items) }
     ensures err { OnErr result (notes.new.items ≡ notes.old.items) }
 {

@@ -1,19 +1,21 @@
-// Writes the text of a run at a desk, line by line.
-ghost use Rattle.std.specs.Prelude.{◌≡◌, ◌++◌, ◌∷◌, [], ◌<◌, Err, IfOk, None, Some, length, option_map, slice_get};
+// Writes the text of a run at a desk, in pieces of whole lines.
+ghost use Rattle.std.specs.Prelude.{◌≡◌, ◌+◌, ◌<◌, ◌≤◌, ◌⊎◌, [], Err, IfErr, IfOk, IsTrue, OnOk, None, Some, length, map, option_map, slice_get};
 ghost use Rattle.ann_outside.specs.DeskCauses.{HasCauses};
 ghost use Rattle.ann_outside.specs.Files.{WhereTold};
-ghost use Rattle.annex_model.specs.Lines.{text};
-ghost use Rattle.desk_file.specs.Writes.{GrowsBy, Makes};
-ghost use Rattle.reg_file.specs.RegLines.{lines_of};
+ghost use Rattle.desk_file.specs.Writes.{GrowsBy};
+ghost use Rattle.reg_file.specs.RegLines.{line_of, lines_of};
 ghost use Rattle.journal_lines.specs.JournalTexts.{journal_lines};
-ghost use Rattle.journal_desk.specs.JournalDesks.{HasWriteCauses, IsMadeAs, IsWrittenBy, IsWrittenIn, MakesSynced, journal_text, line_appends, line_calls, with_end};
+ghost use Rattle.journal_desk.specs.JournalDesks.{AppendsLines, HasWriteCauses, IsMadeAs, IsWrittenBy, IsWrittenIn, MakesLines, MakesSynced, RefusesPiece, TakesUp, journal_text, with_end};
 
-use ann_key::{Bytes, NoMemory};
+use ann_key::NoMemory;
 use ann_outside::{Desk, DeskError};
-use journal_lines::{Counts, counts_of, print_counted};
+use journal_lines::{Kept, print_kept};
 use journal_look::Journal;
 use journal_model::Opening;
 use std::alloc::Global;
+
+// The most bytes of a piece of several lines.
+const MOST: usize = 65536;
 
 /// What came of writing a journal file.
 #[derive(Clone, Copy, Debug, PartialEq, Eq)]
@@ -23,8 +25,8 @@ pub enum JournalWritten {
     Fault,
 }
 
-/// Makes the file anew, and adds the text of the run to it, a line at a time: it takes memory for one line. At `Done` the text is
-/// on the disk.
+/// Makes the file anew, and adds the text of the run to it in pieces of whole lines, of up to 64 KiB. It takes memory for a piece,
+/// and for the list of the registers' lines. At `Done` the text is on the disk.
 pub fn write_journal<D: Desk>(
     alloc: Global,
     desk: &mut D,
@@ -51,7 +53,7 @@ fn make_synced<D: Desk>(
     opening: &Opening,
     journal: &Journal,
 ) -> Result<(), DeskError>
-    ensures calls { MakesSynced (D.log desk.old) (D.log desk.new) (line_calls name.now (journal_lines opening.now journal.now.entries)) result }
+    ensures calls { MakesSynced (D.log desk.old) (D.log desk.new) name.now (journal_lines opening.now journal.now.entries) result }
     ensures files { WhereTold (D.files desk.old) (D.files desk.new) (IsMadeAs name.now (journal_text opening.now journal.now.entries) result) }
     ensures causes { HasCauses (D.counts desk.old) (D.counts desk.new) result }
     ensures found { result ≡ Err DeskError.Missing → D.files desk.old ≡ None }
@@ -70,83 +72,120 @@ fn make_text<D: Desk>(
     opening: &Opening,
     journal: &Journal,
 ) -> Result<(), DeskError>
-    ensures calls { Makes (D.log desk.old) (D.log desk.new) (line_calls name.now (journal_lines opening.now journal.now.entries)) result }
+    ensures calls { MakesLines (D.log desk.old) (D.log desk.new) name.now (journal_lines opening.now journal.now.entries) result }
     ensures files { WhereTold (D.files desk.old) (D.files desk.new) (IsMadeAs name.now (journal_text opening.now journal.now.entries) result) }
     ensures causes { HasCauses (D.counts desk.old) (D.counts desk.new) result }
     ensures found { result ≡ Err DeskError.Missing → D.files desk.old ≡ None }
 {
-    let Ok(counts) = counts_of(opening) else {
+    let Ok(registers) = opening.registers.lines() else {
         return Err(DeskError::NoMemory);
     };
-    let Ok(lines) = line_count(opening, counts, journal) else {
+    let kept = Kept {
+        registers: registers.as_slice(),
+        notes: opening.notes.len() as u64,
+    };
+    let Ok(lines) = line_count(opening, kept, journal) else {
         return Err(DeskError::NoMemory);
     };
     if let Err(error) = desk.create(name) {
         return Err(error);
     }
-    append_lines(alloc, desk, name, opening, counts, journal, lines)
+    append_lines(alloc, desk, name, opening, kept, journal, lines)
 }
 
 // How many lines the text has.
-fn line_count(opening: &Opening, counts: Counts, journal: &Journal) -> Result<u64, NoMemory>
-    requires registers { counts.registers ≡ length (lines_of opening.now.registers) }
-    requires notes { counts.notes ≡ length opening.now.notes }
+fn line_count(opening: &Opening, kept: Kept<'_>, journal: &Journal) -> Result<u64, NoMemory>
+    requires registers { map line_of kept.registers.now ≡ lines_of opening.now.registers }
+    requires notes { kept.notes ≡ length opening.now.notes }
     ensures { IfOk result (λ count. count ≡ length (journal_lines opening.now journal.now.entries)) }
 {
     let tasks = opening.tasks.view().len() as u64;
-    let kept = counts.registers.checked_add(counts.notes).ok_or(NoMemory)?;
-    let given = tasks.checked_add(kept).ok_or(NoMemory)?;
+    let registers = kept.registers.len() as u64;
+    let listed = registers.checked_add(kept.notes).ok_or(NoMemory)?;
+    let given = tasks.checked_add(listed).ok_or(NoMemory)?;
     let entries = journal.len().checked_add(7).ok_or(NoMemory)?;
     given.checked_add(entries).ok_or(NoMemory)
 }
 
-// Adds each line at the end of the file. The lines are counted before, and none past the last is asked for: want of memory for
-// it would come behind the last call, and an error says that some call was not made.
+// Adds the lines at the end of the file. They are counted before, and none past the last is asked for: running out of memory for it
+// would come after the last piece was full, and an error says that some call was not made.
 fn append_lines<D: Desk>(
     alloc: Global,
     desk: &mut D,
     name: &str,
     opening: &Opening,
-    counts: Counts,
+    kept: Kept<'_>,
     journal: &Journal,
     lines: u64,
 ) -> Result<(), DeskError>
-    requires registers { counts.registers ≡ length (lines_of opening.now.registers) }
-    requires notes { counts.notes ≡ length opening.now.notes }
+    requires registers { map line_of kept.registers.now ≡ lines_of opening.now.registers }
+    requires notes { kept.notes ≡ length opening.now.notes }
     requires lines { lines ≡ length (journal_lines opening.now journal.now.entries) }
-    ensures calls { Makes (D.log desk.old) (D.log desk.new) (line_appends name.now (journal_lines opening.now journal.now.entries)) result }
+    ensures calls { AppendsLines (D.log desk.old) (D.log desk.new) name.now (journal_lines opening.now journal.now.entries) result }
     ensures files { WhereTold (D.files desk.old) (D.files desk.new) (GrowsBy name.now (journal_text opening.now journal.now.entries) result) }
     ensures causes { HasCauses (D.counts desk.old) (D.counts desk.new) result }
 {
+    let mut piece = Vec::new(alloc);
     for n in 0..lines {
-        let Ok(line) = ended_line(alloc, opening, counts, journal, n) else {
+        let Ok(line) = ended_line(alloc, opening, kept, journal, n) else {
             return Err(DeskError::NoMemory);
         };
-        if let Err(error) = desk.append(name, line.view()) {
+        if let Err(error) = take_up(desk, name, &mut piece, line) {
             return Err(error);
         }
     }
+    desk.append(name, piece.as_slice())
+}
+
+// Puts the line behind the piece. Where that would make it too long, the piece is added to the file, and the line is the next piece.
+fn take_up<D: Desk>(
+    desk: &mut D,
+    name: &str,
+    piece: &mut Vec<u8>,
+    line: Vec<u8>,
+) -> Result<(), DeskError>
+    ensures ok { OnOk result (TakesUp (D.log desk.old) (D.log desk.new) (D.files desk.old) (D.files desk.new) name.now piece.old.items line.items piece.new.items) }
+    ensures err { IfErr result (λ e. RefusesPiece (D.log desk.old) (D.log desk.new) (D.files desk.old) (D.files desk.new) name.now piece.old.items e) }
+    ensures causes { HasCauses (D.counts desk.old) (D.counts desk.new) result }
+{
+    if joins(piece.as_slice(), line.as_slice()) {
+        return match piece.extend_from_slice(line.as_slice()) {
+            Ok(()) => Ok(()),
+            Err(_) => Err(DeskError::NoMemory),
+        };
+    }
+    if let Err(error) = desk.append(name, piece.as_slice()) {
+        return Err(error);
+    }
+    *piece = line;
     Ok(())
 }
 
-// A line of the text with its end. There is such a line, so any other answer is want of memory.
+// Whether the line may join the piece: an empty piece takes any line.
+fn joins(piece: &[u8], line: &[u8]) -> bool
+    ensures { IsTrue result → piece.now ≡ [] ⊎ length piece.now + length line.now ≤ 65536 }
+{
+    piece.is_empty() || piece.len() <= MOST && line.len() <= MOST - piece.len()
+}
+
+// A line of the text with its end. There is such a line, so any other answer is out of memory.
 fn ended_line(
     alloc: Global,
     opening: &Opening,
-    counts: Counts,
+    kept: Kept<'_>,
     journal: &Journal,
     n: u64,
-) -> Result<Bytes, NoMemory>
-    requires registers { counts.registers ≡ length (lines_of opening.now.registers) }
-    requires notes { counts.notes ≡ length opening.now.notes }
+) -> Result<Vec<u8>, NoMemory>
+    requires registers { map line_of kept.registers.now ≡ lines_of opening.now.registers }
+    requires notes { kept.notes ≡ length opening.now.notes }
     requires within { n < length (journal_lines opening.now journal.now.entries) }
-    ensures { IfOk result (λ bytes. Some bytes ≡ option_map with_end (slice_get (journal_lines opening.now journal.now.entries) n)) }
+    ensures { IfOk result (λ line. Some line.items ≡ option_map with_end (slice_get (journal_lines opening.now journal.now.entries) n)) }
 {
-    match print_counted(alloc, opening, counts, journal, n) {
+    match print_kept(alloc, opening, kept, journal, n) {
         Ok(Some(line)) => {
             let mut bytes = line.into_vec();
             bytes.push(b'\n')?;
-            Ok(Bytes::from_vec(bytes))
+            Ok(bytes)
         }
         _ => Err(NoMemory),
     }

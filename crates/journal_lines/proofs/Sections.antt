@@ -1,5 +1,5 @@
 -- A line of a text is one of its first section, or one behind it.
-use Rattle.std.proofs.Common.{◌≡◌, ℕ, zero, suc, ◌+◌, ◌<◌, ◌≤◌, List, [], ◌∷◌, ◌++◌, map, length, Some, None, refl, ap, ◌∙◌, arith, append_assoc}
+use Rattle.std.proofs.Common.{◌≡◌, ℕ, zero, suc, ◌+◌, ◌<◌, ◌≤◌, List, [], ◌∷◌, ◌++◌, map, length, get_or, Some, None, refl, sym, ap, ◌∙◌, arith, append_assoc}
 use Rattle.std.specs.List.{slice_get}
 use Rattle.std.specs.Prelude.{option_map}
 
@@ -38,6 +38,12 @@ module _ {X Y : Type 0} (f : X → Y) where
   pub length-mapped : (xs : List X) → length (map f xs) ≡ length xs
   length-mapped [] = refl
   length-mapped (x ∷ xs) = ap (λ (n : ℕ). suc n) (length-mapped xs)
+
+  -- what is at a place of the list, as it is shown
+  pub found_in : (xs : List X) (ys : List Y) (n : ℕ) (d : X) → map f xs ≡ ys → n < length xs → slice_get ys n ≡ Some (f (get_or xs n d))
+  found_in [] ys n d same h = absurd (omega arith)
+  found_in (x ∷ xs) ys zero d same h = ap (λ l. slice_get l 0) (sym same)
+  found_in (x ∷ xs) ys (suc n) d same h = ap (λ l. slice_get l (suc n)) (sym same) ∙ found_in xs (map f xs) n d refl (omega arith)
 
 module _ {X Y : Type 0} (f : X → Y) (xs : List X) (rest : List Y) where
   pub mapped_first : (n : ℕ) (x : X) → slice_get xs n ≡ Some x → slice_get (map f xs ++ rest) n ≡ Some (f x)

@@ -3,4 +3,4 @@
 
 mod printing;
 
-pub use printing::{Counts, counts_of, print_counted, print_line};
+pub use printing::{Kept, print_kept, print_line};

@@ -1,24 +1,25 @@
 // Printing the text of a run, line by line.
 ghost use Rattle.std.specs.Prelude.{◌≡◌, ◌++◌, ◌∷◌, [], ◌<◌, IfOk, Some, length, map, slice_get};
-ghost use Rattle.reg_file.specs.RegLines.{lines_of};
+ghost use Rattle.reg_file.specs.RegLines.{line_of, lines_of};
 ghost use Rattle.keep_text.specs.KeptFiles.{written_note};
 ghost use Rattle.entry_lines.specs.Entries.{entry_line};
 ghost use Rattle.journal_lines.specs.JournalTexts.{worded, first_lines, last_lines, task_line, keep_line, kept_lines, journal_lines, told, end_line};
 
 use ann_key::{Bytes, NoMemory};
-use chunk_log::NoteBook;
 use entry_lines::print_lent;
 use journal_look::Journal;
 use journal_model::Opening;
 use keep_text::{note_line, register_line};
-use reg_file::Registers;
+use reg_file::RegLine;
 use std::alloc::Global;
 use task_text::write_task;
 
-/// How many registers have a line, and how many notes there are.
+/// What is kept, as it is looked up once where all lines are printed.
 #[derive(Clone, Copy)]
-pub struct Counts {
-    pub registers: u64,
+pub struct Kept<'a> {
+    /// The lines of the registers.
+    pub registers: &'a [RegLine<'a>],
+    /// How many notes there are.
     pub notes: u64,
 }
 
@@ -31,57 +32,31 @@ pub fn print_line(
 ) -> Result<Option<Bytes>, NoMemory>
     ensures { IfOk result (λ line. line ≡ slice_get (journal_lines opening.now journal.now.entries) n) }
 {
-    let counts = counts_of(opening)?;
-    print_counted(alloc, opening, counts, journal, n)
+    let registers = opening.registers.lines()?;
+    let kept = Kept {
+        registers: registers.as_slice(),
+        notes: opening.notes.len() as u64,
+    };
+    print_kept(alloc, opening, kept, journal, n)
 }
 
-/// What is counted once where all lines are printed.
-pub fn counts_of(opening: &Opening) -> Result<Counts, NoMemory>
-    ensures registers { IfOk result (λ counts. counts.registers ≡ length (lines_of opening.now.registers)) }
-    ensures notes { IfOk result (λ counts. counts.notes ≡ length opening.now.notes) }
-{
-    let registers = register_count(&opening.registers)?;
-    let notes = note_count(&opening.notes)?;
-    Ok(Counts { registers, notes })
-}
-
-fn register_count(registers: &Registers) -> Result<u64, NoMemory>
-    ensures { IfOk result (λ count. count ≡ length (lines_of registers.now)) }
-{
-    let mut count: u64 = 0;
-    while registers.line(count as usize).is_some() {
-        count = count.checked_add(1).ok_or(NoMemory)?;
-    }
-    Ok(count)
-}
-
-fn note_count(notes: &NoteBook) -> Result<u64, NoMemory>
-    ensures { IfOk result (λ count. count ≡ length notes.now) }
-{
-    let mut count: u64 = 0;
-    while notes.line(count as usize).is_some() {
-        count = count.checked_add(1).ok_or(NoMemory)?;
-    }
-    Ok(count)
-}
-
-/// The same line as `print_line` gives, where it is counted already what is kept.
-pub fn print_counted(
+/// The same line as `print_line` gives, where what is kept is looked up already.
+pub fn print_kept(
     alloc: Global,
     opening: &Opening,
-    counts: Counts,
+    kept: Kept<'_>,
     journal: &Journal,
     n: u64,
 ) -> Result<Option<Bytes>, NoMemory>
-    requires registers { counts.registers ≡ length (lines_of opening.now.registers) }
-    requires notes { counts.notes ≡ length opening.now.notes }
+    requires registers { map line_of kept.registers.now ≡ lines_of opening.now.registers }
+    requires notes { kept.notes ≡ length opening.now.notes }
     ensures { IfOk result (λ line. line ≡ slice_get (journal_lines opening.now journal.now.entries) n) }
 {
     if n < 5 {
         let line = first_line(alloc, opening, n)?;
         Ok(Some(line))
     } else {
-        behind_stamp(alloc, opening, counts, journal, n - 5)
+        behind_stamp(alloc, opening, kept, journal, n - 5)
     }
 }
 
@@ -117,12 +92,12 @@ fn worded(alloc: Global, word: &[u8], text: &[u8]) -> Result<Bytes, NoMemory>
 fn behind_stamp(
     alloc: Global,
     opening: &Opening,
-    counts: Counts,
+    kept: Kept<'_>,
     journal: &Journal,
     n: u64,
 ) -> Result<Option<Bytes>, NoMemory>
-    requires registers { counts.registers ≡ length (lines_of opening.now.registers) }
-    requires notes { counts.notes ≡ length opening.now.notes }
+    requires registers { map line_of kept.registers.now ≡ lines_of opening.now.registers }
+    requires notes { kept.notes ≡ length opening.now.notes }
     ensures { IfOk result (λ line. line ≡ slice_get (map task_line opening.now.tasks ++ (map keep_line (kept_lines opening.now.registers opening.now.notes) ++ last_lines journal.now.entries)) n) }
 {
     let tasks = opening.tasks.view();
@@ -132,39 +107,39 @@ fn behind_stamp(
         let line = worded(alloc, b"task", spelled.view())?;
         Ok(Some(line))
     } else {
-        behind_tasks(alloc, opening, counts, journal, n - count)
+        behind_tasks(alloc, opening, kept, journal, n - count)
     }
 }
 
 fn behind_tasks(
     alloc: Global,
     opening: &Opening,
-    counts: Counts,
+    kept: Kept<'_>,
     journal: &Journal,
     n: u64,
 ) -> Result<Option<Bytes>, NoMemory>
-    requires registers { counts.registers ≡ length (lines_of opening.now.registers) }
-    requires notes { counts.notes ≡ length opening.now.notes }
+    requires registers { map line_of kept.registers.now ≡ lines_of opening.now.registers }
+    requires notes { kept.notes ≡ length opening.now.notes }
     ensures { IfOk result (λ line. line ≡ slice_get (map keep_line (kept_lines opening.now.registers opening.now.notes) ++ last_lines journal.now.entries) n) }
 {
-    match opening.registers.line(n as usize) {
-        Some(register) => {
-            let written = register_line(alloc, register)?;
-            let line = worded(alloc, b"keep", written.view())?;
-            Ok(Some(line))
-        }
-        None => behind_registers(alloc, opening, counts, journal, n - counts.registers),
+    let count = kept.registers.len() as u64;
+    if n < count {
+        let written = register_line(alloc, kept.registers[n as usize])?;
+        let line = worded(alloc, b"keep", written.view())?;
+        Ok(Some(line))
+    } else {
+        behind_registers(alloc, opening, kept.notes, journal, n - count)
     }
 }
 
 fn behind_registers(
     alloc: Global,
     opening: &Opening,
-    counts: Counts,
+    notes: u64,
     journal: &Journal,
     n: u64,
 ) -> Result<Option<Bytes>, NoMemory>
-    requires { counts.notes ≡ length opening.now.notes }
+    requires { notes ≡ length opening.now.notes }
     ensures { IfOk result (λ line. line ≡ slice_get (map keep_line (map written_note opening.now.notes) ++ last_lines journal.now.entries) n) }
 {
     match opening.notes.line(n as usize) {
@@ -173,7 +148,7 @@ fn behind_registers(
             let line = worded(alloc, b"keep", written.view())?;
             Ok(Some(line))
         }
-        None => last_line(alloc, journal, n - counts.notes),
+        None => last_line(alloc, journal, n - notes),
     }
 }
 

@@ -36,8 +36,10 @@ impl Model for Reader {
 }
 
 impl Reader {
-    ghost use Rattle.std.specs.Prelude.{◌≡◌, OnOk, IfErr, IsTrue};
+    ghost use Rattle.std.specs.Prelude.{◌≡◌, ℕ, Err, OnOk, IfErr, IsTrue};
     ghost use Rattle.journal_reader.specs.Readings.{start, Follows, IsFault, Took, is_open};
+    ghost use Rattle.journal_reader.specs.declared.error.JournalError.TheVariants.{BadLine};
+    ghost use Rattle.journal_reader.specs.declared.place.Place.TheVariants.{Refused};
 
     /// A reader that awaits the first line. It takes no memory.
     pub fn new(alloc: Global) -> Reader
@@ -57,10 +59,12 @@ impl Reader {
         }
     }
 
-    /// Takes the next line, without its byte 10, where it can follow those before it.
+    /// Takes the next line, without its byte 10, where it can follow those before it. After a line was refused each call answers
+    /// the same, without memory.
     pub fn push(&mut self, line: &[u8]) -> Result<(), JournalError>
         ensures taken { OnOk result (Follows self.old line.now self.new) }
         ensures fault { IfErr result (λ error. IsFault self.old line.now self.new error) }
+        ensures refused { (bad : ℕ) → self.old.place ≡ Refused bad → (result ≡ Err (BadLine bad)) × (self.new ≡ self.old) }
     {
         if let Place::Refused { line } = self.place {
             return Err(JournalError::BadLine { line });

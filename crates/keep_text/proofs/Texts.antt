@@ -59,18 +59,6 @@ module _ {X Y : Type 0} (f : X → Y) where
     pub all_got : None ≡ slice_get xs k → got ≡ map f xs
     all_got past = so_far ∙ ap (map f) (whole_front xs n (ap (slice_get xs) (sym same) ∙ sym past))
 
--- the same of the places themselves
-module _ {X : Type 0} (xs got : List X) (n k : ℕ) (same : k ≡ n) (so_far : got ≡ take n xs) where
-  pub one_taken : (got' : List X) (n' : ℕ) (x : X) → n' ≡ n + 1 → Some x ≡ slice_get xs k → got' ≡ got ++ x ∷ [] → got' ≡ take n' xs
-  one_taken got' n' x next found pushed =
-      pushed
-      ∙ ap (λ g. g ++ x ∷ []) so_far
-      ∙ sym (next_front (λ (x : X). x) xs n x (ap (slice_get xs) (sym same) ∙ sym found))
-      ∙ ap (λ (i : ℕ). take i xs) (sym (next ∙ add-one n))
-
-  pub all_taken : None ≡ slice_get xs k → got ≡ xs
-  all_taken past = so_far ∙ whole_front (λ (x : X). x) xs n (ap (slice_get xs) (sym same) ∙ sym past)
-
 -- ---- one element more at the end of a text
 next_item : {X : Type 0} (xs : List X) (i : ℕ) (x : X) → i < length xs → x ≡ get_or xs i x → take (i + 1) xs ≡ take i xs ++ x ∷ []
 next_item xs i x h is = ap (λ (n : ℕ). take n xs) (add-one i) ∙ take-suc xs i x h ∙ ap (λ z. take i xs ++ z ∷ []) (sym is)

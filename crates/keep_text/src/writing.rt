@@ -22,33 +22,18 @@ pub fn write_keep(
     ensures { IfOk result (λ bytes. bytes ≡ kept_text config.now now.now notes.now) }
 {
     let mut text = Vec::from_slice(alloc, b"annex-keep 1\n")?;
-    push_registers(alloc, &mut text, config, true)?;
-    push_registers(alloc, &mut text, now, false)?;
+    push_registers(&mut text, config, true)?;
+    push_registers(&mut text, now, false)?;
     push_notes(alloc, &mut text, notes)?;
     Ok(Bytes::from_vec(text))
 }
 
 // The lines of the registers that are config lines, or the others.
-fn push_registers(
-    alloc: Global,
-    text: &mut Vec<u8>,
-    registers: &Registers,
-    config: bool,
-) -> Result<(), NoMemory>
+fn push_registers(text: &mut Vec<u8>, registers: &Registers, config: bool) -> Result<(), NoMemory>
     ensures { OnOk result (text.new.items ≡ text.old.items ++ text_of_lines (lines_of_kind config registers.now)) }
 {
-    let lines = all_lines(alloc, registers)?;
+    let lines = registers.lines()?;
     push_kind(text, lines.as_slice(), config)
-}
-
-fn all_lines<'a>(alloc: Global, registers: &'a Registers) -> Result<Vec<RegLine<'a>>, NoMemory>
-    ensures { IfOk result (λ lines. map register_line lines.items ≡ lines_of registers.now) }
-{
-    let mut lines = Vec::new(alloc);
-    while let Some(line) = registers.line(lines.len()) {
-        lines.push(line)?;
-    }
-    Ok(lines)
 }
 
 fn push_kind(text: &mut Vec<u8>, lines: &[RegLine<'_>], config: bool) -> Result<(), NoMemory>

@@ -1,5 +1,6 @@
 pub mod Fed
 pub mod LinkLists
+pub mod Listing
 pub mod Orders
 pub mod PairLists
 pub mod Readings

@@ -1,5 +1,5 @@
 // The URLs of keys.
-ghost use Rattle.std.specs.Prelude.{◌≡◌, [], IfOk, OnOk, OnErr, ◌&&◌, nat_eq, bytes_eq, filter, option_map, option_copied, slice_get};
+ghost use Rattle.std.specs.Prelude.{◌≡◌, [], IfOk, OnOk, OnErr, ◌&&◌, nat_eq, bytes_eq, filter, map, option_map, option_copied, slice_get};
 ghost use Rattle.std.specs.List.{starts_with};
 ghost use Rattle.reg_file.specs.Links.{with_link, without_link, urls_at};
 
@@ -68,6 +68,17 @@ impl Links {
     {
         let (key, url) = self.links.iter().nth(n)?;
         Some((key.as_slice(), url.as_slice()))
+    }
+
+    /// All keys and their URLs, lent, in their order.
+    pub(crate) fn all(&self, alloc: Global) -> Result<Vec<(&[u8], &[u8])>, NoMemory>
+        ensures { IfOk result (λ all. map (λ e. (e.0.now, e.1.now)) all.items ≡ self.now) }
+    {
+        let mut all = Vec::new(alloc);
+        for (key, url) in self.links.iter() {
+            all.push((key.as_slice(), url.as_slice()))?;
+        }
+        Ok(all)
     }
 
     pub(crate) fn copy(&self) -> Result<Links, NoMemory>

@@ -1,5 +1,5 @@
 // The registers.
-ghost use Rattle.std.specs.Prelude.{◌≡◌, map, IsTrue, IfOk, IfSome, OnOk, OnErr, option_map, slice_get};
+ghost use Rattle.std.specs.Prelude.{◌≡◌, ◌++◌, map, IsTrue, IfOk, IfSome, OnOk, OnErr, option_map, slice_get};
 ghost use Rattle.ann_key.specs.Keys.{is_key};
 
 use crate::line::RegLine;
@@ -38,7 +38,7 @@ impl Model for Registers {
 
 impl Registers {
     ghost use Rattle.reg_file.specs.Registers.{nothing_set, config_of, creds_of, state_of, urls_of, with_config, with_creds, with_wanted, with_state, with_url, SetsConfig, SetsCreds, SetsWanted, SetsState, SetsUrl, is_line, is_word, IsKept};
-    ghost use Rattle.reg_file.specs.RegLines.{ConfigLine, StateLine, UrlLine, line_of, lines_of, later_lines_of, keyed_lines_of};
+    ghost use Rattle.reg_file.specs.RegLines.{ConfigLine, StateLine, UrlLine, line_of, lines_of, wanted_lines, later_lines_of, keyed_lines_of};
 
     /// Nothing is set. It takes no memory.
     pub fn new(alloc: Global) -> Registers
@@ -189,6 +189,56 @@ impl Registers {
             return self.config_line(n);
         }
         self.later_line(n - configs)
+    }
+
+    /// All lines in the order of `line`, in one pass. The list takes memory; the texts in it are lent.
+    pub fn lines(&self) -> Result<Vec<RegLine<'_>>, NoMemory>
+        ensures value { IfOk result (λ lines. map line_of lines.items ≡ lines_of self.now) }
+        ensures kept { IsKept self.now }
+    {
+        let mut lines = Vec::new(self.alloc);
+        self.push_config(&mut lines)?;
+        self.push_wanted(&mut lines)?;
+        self.push_states(&mut lines)?;
+        self.push_urls(&mut lines)?;
+        Ok(lines)
+    }
+
+    fn push_config<'a>(&'a self, lines: &mut Vec<RegLine<'a>>) -> Result<(), NoMemory>
+        ensures { OnOk result (map line_of lines.new.items ≡ map line_of lines.old.items ++ map (λ e. ConfigLine e.0 e.1) self.now.config) }
+    {
+        for (name, value) in self.config.all(self.alloc)? {
+            lines.push(RegLine::Config { name, value })?;
+        }
+        Ok(())
+    }
+
+    fn push_wanted<'a>(&'a self, lines: &mut Vec<RegLine<'a>>) -> Result<(), NoMemory>
+        ensures { OnOk result (map line_of lines.new.items ≡ map line_of lines.old.items ++ wanted_lines self.now.wanted) }
+    {
+        if !self.wanted.is_empty() {
+            let value = self.wanted.as_slice();
+            lines.push(RegLine::Wanted { value })?;
+        }
+        Ok(())
+    }
+
+    fn push_states<'a>(&'a self, lines: &mut Vec<RegLine<'a>>) -> Result<(), NoMemory>
+        ensures { OnOk result (map line_of lines.new.items ≡ map line_of lines.old.items ++ map (λ e. StateLine e.0 e.1) self.now.state) }
+    {
+        for (key, value) in self.state.all(self.alloc)? {
+            lines.push(RegLine::State { key, value })?;
+        }
+        Ok(())
+    }
+
+    fn push_urls<'a>(&'a self, lines: &mut Vec<RegLine<'a>>) -> Result<(), NoMemory>
+        ensures { OnOk result (map line_of lines.new.items ≡ map line_of lines.old.items ++ map (λ e. UrlLine e.0 e.1) self.now.urls) }
+    {
+        for (key, url) in self.urls.all(self.alloc)? {
+            lines.push(RegLine::Url { key, url })?;
+        }
+        Ok(())
     }
 
     fn config_line(&self, n: usize) -> Option<RegLine<'_>>

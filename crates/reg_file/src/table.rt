@@ -1,5 +1,5 @@
 // Texts under names.
-ghost use Rattle.std.specs.Prelude.{◌≡◌, [], IfOk, OnOk, OnErr, option_map, slice_get, length};
+ghost use Rattle.std.specs.Prelude.{◌≡◌, [], IfOk, OnOk, OnErr, option_map, slice_get, length, map};
 ghost use Rattle.reg_file.specs.Tables.{text_at, put, without};
 
 use ann_key::NoMemory;
@@ -68,6 +68,17 @@ impl Table {
     {
         let (name, value) = self.entries.iter().nth(n)?;
         Some((name.as_slice(), value.as_slice()))
+    }
+
+    /// All entries, lent, in their order.
+    pub(crate) fn all(&self, alloc: Global) -> Result<Vec<(&[u8], &[u8])>, NoMemory>
+        ensures { IfOk result (λ all. map (λ e. (e.0.now, e.1.now)) all.items ≡ self.now) }
+    {
+        let mut all = Vec::new(alloc);
+        for (name, value) in self.entries.iter() {
+            all.push((name.as_slice(), value.as_slice()))?;
+        }
+        Ok(all)
     }
 
     pub(crate) fn copy(&self) -> Result<Table, NoMemory>

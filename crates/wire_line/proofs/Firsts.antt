@@ -1,8 +1,8 @@
 -- The first byte 10 of a list, and what stands before and behind it.
-use Rattle.std.proofs.Common.{◌≡◌, ℕ, ◌+◌, ◌-◌, ◌<◌, ◌≤◌, ◌==◌, Bool, true, false, not, List, [], ◌∷◌, ◌++◌, IsTrue, Some, None, length, take, drop, refl, sym, ap, ◌∙◌, arith, ⊎_elim, append_assoc}
+use Rattle.std.proofs.Common.{◌≡◌, ℕ, ◌+◌, ◌-◌, ◌<◌, ◌≤◌, ◌==◌, Bool, true, false, not, cond, suc, List, [], ◌∷◌, ◌++◌, IsTrue, Some, None, length, take, drop, refl, sym, ap, ◌∙◌, arith, ⊎_elim, append_assoc}
 use Rattle.std.specs.List.{position_or_len}
 use Rattle.std.proofs.lemmas.Bool.{false≢true, cases_lt, eqb-true}
-use Rattle.std.proofs.lemmas.List.{get_or-take, length-take, length-take-le, length-drop, drop-drop}
+use Rattle.std.proofs.lemmas.List.{get_or-take, length-take, length-drop, drop-drop, drop-append-le}
 use Rattle.std.proofs.lemmas.List.Folds.{list_any_at, list_any_none, list_all-append}
 use Rattle.std.proofs.lemmas.List.Sums.{position_or_len_is, fails_before_first, passes_at_first, prefix_len-le-length, split_at_first}
 use Rattle.annex_model.specs.Lines.{has_newline, text}
@@ -69,22 +69,19 @@ takes_line bytes within read lines cut =
       apart = rw list_all-append (rw (cut.apart, no_newline_before bytes) refl);
     }
 
-length-first_line : (bytes : List ℕ) → length (first_line bytes) ≡ end_of bytes
-length-first_line bytes = length-take-le (end_of bytes) bytes (end_of-le-length bytes)
-
--- the first line and its byte 10 are dropped by moving the start
-pub dropped : (start : ℕ) (items bytes line : List ℕ) → drop start items ≡ bytes → line ≡ first_line bytes
-    → drop (start + (length line + 1)) items ≡ after_line bytes
-dropped start items bytes line held is =
-    let len : length line ≡ end_of bytes = ap length is ∙ length-first_line bytes in
-    sym (drop-drop (length line + 1) start items) ∙ ap (drop (length line + 1)) held ∙ ap (λ n. drop (n + 1) bytes) len
-
-pub dropped_within : (start : ℕ) (items bytes line : List ℕ) → start ≤ length items → drop start items ≡ bytes
-    → line ≡ first_line bytes → end_of bytes < length bytes → start + (length line + 1) ≤ length items
-dropped_within start items bytes line in_items held is within =
-    let len : length line ≡ end_of bytes = ap length is ∙ length-first_line bytes in
+-- the first line's end stands among the items, and what stands after it is what is held without that line
+pub end_in : (start end : ℕ) (items bytes : List ℕ) → start ≤ length items → end ≡ start + end_of (drop start items) → drop start items ≡ bytes
+    → end_of bytes < length bytes → end + 1 ≤ length items
+end_in start end items bytes low is held within =
+    let at : end_of (drop start items) ≡ end_of bytes = ap end_of held in
     let left : length items - start ≡ length bytes = sym (length-drop start items) ∙ ap length held in
     omega arith
+
+pub after_end : (start end : ℕ) (items bytes : List ℕ) → end ≡ start + end_of (drop start items) → drop start items ≡ bytes → drop (end + 1) items ≡ after_line bytes
+after_end start end items bytes is held =
+    let at : end_of (drop start items) ≡ end_of bytes = ap end_of held in
+    let place : end + 1 ≡ start + (end_of bytes + 1) = omega arith in
+    ap (λ n. drop n items) place ∙ sym (drop-drop (end_of bytes + 1) start items) ∙ ap (drop (end_of bytes + 1)) held
 
 -- what a search for byte 10 says of the first line
 pub found_at : (bytes : List ℕ) (at : ℕ) → IsFirstByte (is_byte 10) bytes (Some at) → (end_of bytes ≡ at) × (at < length bytes)
@@ -98,6 +95,42 @@ pub found_none : (bytes : List ℕ) → IsFirstByte (is_byte 10) bytes None → 
 found_none bytes is =
     position_or_len_is (λ b. b == 10) bytes (length bytes) 0 (omega arith)
     (λ k l. no_true _ (is k (omega arith) l)) (λ l. absurd (omega arith))
+
+-- where the first line ends once a piece stands after the bytes: in the piece if no line ends in the bytes
+step_more : (s : Bool) (m n k l : ℕ) → cond (not s) (1 + m) 0 ≡ suc n → (m ≡ n → k ≡ n + l) → cond (not s) (1 + k) 0 ≡ suc n + l
+step_more true m n k l h f = absurd (omega arith)
+step_more false m n k l h f = let rest : k ≡ n + l = f (omega arith) in omega arith
+
+pub end_more : (bytes piece : List ℕ) → end_of bytes ≡ length bytes → end_of (bytes ++ piece) ≡ length bytes + end_of piece
+end_more [] piece h = omega arith
+end_more (b ∷ bs) piece h = step_more (b == 10) (end_of bs) (length bs) (end_of (bs ++ piece)) (end_of piece) h (λ e. end_more bs piece e)
+
+step_stays : (s : Bool) (m n k : ℕ) → cond (not s) (1 + m) 0 < suc n → (m < n → k ≡ m) → cond (not s) (1 + k) 0 ≡ cond (not s) (1 + m) 0
+step_stays true m n k h f = refl
+step_stays false m n k h f = let rest : k ≡ m = f (omega arith) in omega arith
+
+pub end_stays : (bytes piece : List ℕ) → end_of bytes < length bytes → end_of (bytes ++ piece) ≡ end_of bytes
+end_stays [] piece h = absurd (omega arith)
+end_stays (b ∷ bs) piece h = step_stays (b == 10) (end_of bs) (length bs) (end_of (bs ++ piece)) h (λ l. end_stays bs piece l)
+
+-- the end, once a piece stands after the items
+module _ (start end : ℕ) (items piece : List ℕ) (low : start ≤ length items) (is : end ≡ start + end_of (drop start items)) where
+  pub end_pushed : (after : List ℕ) → after ≡ items ++ piece → end ≡ length items → end + end_of piece ≡ start + end_of (drop start after)
+  end_pushed after pushed none =
+      let left : length (drop start items) ≡ length items - start = length-drop start items in
+      let more : end_of (drop start items ++ piece) ≡ length (drop start items) + end_of piece = end_more (drop start items) piece (omega arith) in
+      let held : end_of (drop start after) ≡ end_of (drop start items ++ piece) = ap (λ (l : List ℕ). end_of (drop start l)) pushed ∙ ap end_of (drop-append-le start items piece low) in
+      omega arith
+
+  pub end_kept : (after : List ℕ) → after ≡ items ++ piece → (end ≡ length items → ⊥) → end ≡ start + end_of (drop start after)
+  end_kept after pushed some =
+      let left : length (drop start items) ≡ length items - start = length-drop start items in
+      let fits : end_of (drop start items) ≤ length (drop start items) = end_of-le-length (drop start items) in
+      let within : end_of (drop start items) < length (drop start items) =
+      ⊎_elim (λ early. early) (λ late. absurd (some (omega arith))) (cases_lt (end_of (drop start items)) (length (drop start items))) in
+      let stays : end_of (drop start items ++ piece) ≡ end_of (drop start items) = end_stays (drop start items) piece within in
+      let held : end_of (drop start after) ≡ end_of (drop start items ++ piece) = ap (λ (l : List ℕ). end_of (drop start l)) pushed ∙ ap end_of (drop-append-le start items piece low) in
+      omega arith
 
 pub has_line_at : (limit : ℕ) (bytes : List ℕ) → end_of bytes ≤ limit → end_of bytes < length bytes → has_line limit bytes ≡ true
 has_line_at limit bytes soon within = take_has (limit + 1) bytes (omega arith) within

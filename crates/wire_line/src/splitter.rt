@@ -1,4 +1,5 @@
-ghost use Rattle.std.specs.Prelude.{◌≡◌, ◌+◌, ◌≤◌, [], ◌∷◌, ◌++◌, drop, length, IsOk, IsTrue, OnErr, OnOk};
+ghost use Rattle.std.specs.Prelude.{◌≡◌, ◌+◌, ◌≤◌, ◌==◌, [], ◌∷◌, ◌++◌, drop, length, IsOk, IsTrue, OnErr, OnOk};
+ghost use Rattle.std.specs.List.{position_or_len};
 ghost use Rattle.std.specs.Vec.{vec_capacity, vec_len};
 ghost use Rattle.wire_line.specs.HeldBytes.{after_line, first_line, has_line, KeepsFew, MovesFew, TakesLine, TakesPiece};
 ghost use Rattle.wire_line.specs.Nexts.{IsNext, NextOfLines};
@@ -26,10 +27,14 @@ pub struct Splitter {
     bytes: Vec<u8>,
     // The bytes before this place are dropped lines.
     start: usize,
+    // Where the first held line ends: the place of its byte 10, or the end of the bytes. A byte that was
+    // looked at once is never searched again.
+    end: usize,
 }
 
 impl Model for Splitter {
-    ghost use Rattle.std.specs.Prelude.{◌≤◌, ◌-◌, drop};
+    ghost use Rattle.std.specs.Prelude.{◌≡◌, ◌≤◌, ◌+◌, ◌-◌, ◌==◌, drop};
+    ghost use Rattle.std.specs.List.{position_or_len};
     ghost use Rattle.std.specs.Vec.{vec_capacity, vec_len};
     ghost use Rattle.wire_line.specs.HeldBytes.{HeldBytes};
 
@@ -37,7 +42,7 @@ impl Model for Splitter {
 
     ghost view = { λ s. record { limit = s.limit; bytes = drop s.start s.bytes.items; room = vec_capacity s.bytes - vec_len s.bytes; dropped = s.start } };
 
-    ghost invariant = { λ s. s.start ≤ vec_len s.bytes };
+    ghost invariant = { λ s. (s.start ≤ vec_len s.bytes) × (s.end ≡ s.start + position_or_len (λ b. b == 10) (drop s.start s.bytes.items)) };
 }
 
 impl Splitter {
@@ -51,6 +56,7 @@ impl Splitter {
             limit,
             bytes: Vec::new(alloc),
             start: 0,
+            end: 0,
         }
     }
 
@@ -67,7 +73,11 @@ impl Splitter {
         ensures keeps { KeepsFew self.old self.new (length piece.now) }
     {
         self.compact(piece.len());
+        let held = self.bytes.len();
         self.bytes.extend_from_slice(piece)?;
+        if self.end == held {
+            self.end += end_of(piece);
+        }
         Ok(())
     }
 
@@ -91,7 +101,7 @@ impl Splitter {
         ensures next { IsNext self.now.limit self.now.bytes result }
         ensures of_lines { NextOfLines self.now.limit self.now.bytes result }
     {
-        first_of(&self.bytes[self.start..], self.limit)
+        first_of(&self.bytes[self.start..], self.end - self.start, self.limit)
     }
 
     /// Takes the first line and its byte 10 away. It takes no memory.
@@ -104,11 +114,11 @@ impl Splitter {
         ensures room { self.old.room ≤ self.new.room }
         ensures dropped { self.new.dropped ≡ self.old.dropped + length (first_line self.old.bytes) + 1 }
     {
-        let length = match self.first() {
-            Next::Line(line) => line.len(),
-            Next::Long | Next::More => unreachable!(),
-        };
-        self.start += length + 1;
+        let bytes = self.bytes.as_slice();
+        let start = self.end + 1;
+        let end = end_from(bytes, start);
+        self.start = start;
+        self.end = end;
     }
 
     /// What is held. It takes no memory.
@@ -119,6 +129,7 @@ impl Splitter {
             limit: _,
             mut bytes,
             start,
+            end: _,
         } = self;
         drop_front(&mut bytes, start);
         Bytes::from_vec(bytes)
@@ -136,19 +147,43 @@ impl Splitter {
         let spare = self.bytes.capacity() - self.bytes.len();
         if spare < wanted && self.bytes.len() - self.start <= self.start {
             drop_front(&mut self.bytes, self.start);
+            self.end -= self.start;
             self.start = 0;
         }
     }
 }
 
-fn first_of(held: &[u8], limit: usize) -> Next<'_>
+// Where the first byte 10 stands, or the length where there is none.
+fn end_of(bytes: &[u8]) -> usize
+    ensures value { result ≡ position_or_len (λ b. b == 10) bytes.now }
+    ensures bound { result ≤ length bytes.now }
+{
+    match memchr(10, bytes) {
+        Some(at) => at,
+        None => bytes.len(),
+    }
+}
+
+// The same of the bytes from a place on, as a place among all.
+fn end_from(bytes: &[u8], start: usize) -> usize
+    requires { start ≤ length bytes.now }
+    ensures { result ≡ start + position_or_len (λ b. b == 10) (drop start bytes.now) }
+{
+    start + end_of(&bytes[start..])
+}
+
+// What stands first, where the first line has that length.
+fn first_of(held: &[u8], line: usize, limit: usize) -> Next<'_>
+    requires { line ≡ position_or_len (λ b. b == 10) held.now }
     ensures next { IsNext limit held.now result }
     ensures of_lines { NextOfLines limit held.now result }
 {
-    match memchr(10, held) {
-        Some(at) if at <= limit => Next::Line(&held[..at]),
-        None if held.len() <= limit => Next::More,
-        _ => Next::Long,
+    if line > limit {
+        Next::Long
+    } else if line < held.len() {
+        Next::Line(&held[..line])
+    } else {
+        Next::More
     }
 }
 

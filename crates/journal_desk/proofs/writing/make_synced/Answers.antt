@@ -1,6 +1,5 @@
-use Rattle.std.proofs.Common.{refl}
 use Rattle.journal_lines.specs.JournalTexts.{journal_lines}
-use Rattle.journal_desk.proofs.Added.{synced_calls, synced_as, synced_untold, unmade_calls}
+use Rattle.journal_desk.proofs.Added.{synced_calls, synced_as, synced_untold}
 use Rattle.journal_desk.proofs.writing.make_synced.Goals as goal
 
 pub returns-in-Ok-clause-calls : goal.returns-in-Ok-clause-calls

@@ -36,5 +36,5 @@ pub returns-in-None : goal.returns-in-None
 returns-in-None c =
     let past : length c.args.opening.now.notes ≤ c.args.n = not_there c.args.opening.now.notes c.args.n (sym c.in-None.ensures.nth) in
     let long : length (map written_note c.args.opening.now.notes) ≡ length c.args.opening.now.notes = length-mapped written_note c.args.opening.now.notes in
-    let rest = mapped_behind keep_line (map written_note c.args.opening.now.notes) (last_lines c.args.journal.now.entries) c.args.n (c.args.n - c.args.counts.notes) (omega (arith, c.requires)) in
+    let rest = mapped_behind keep_line (map written_note c.args.opening.now.notes) (last_lines c.args.journal.now.entries) c.args.n (c.args.n - c.args.notes) (omega (arith, c.requires)) in
     subst (λ (v : Option (List ℕ)). IfOk c.last_line.result (λ line. line ≡ v)) (sym rest) c.last_line.ensures
