@@ -3,3 +3,5 @@ pub mod Parted
 pub mod Written
 pub mod FirstItem
 pub mod Marking
+pub mod Weighing
+pub mod Tabling

@@ -2,3 +2,4 @@ pub mod JournalValue
 pub mod Shown
 pub mod Looks
 pub mod Marks
+pub mod Tables

@@ -1,37 +1,37 @@
 // The journal as a store: it lends its entries, and takes more within room that was taken before.
-ghost use Rattle.std.specs.Prelude.{◌≡◌, ◌+◌, ◌<◌, ◌≤◌, ◌^◌, ◌++◌, ◌∷◌, [], slice_get, option_map, length, OnOk, OnErr, IsOk, vec_len};
+ghost use Rattle.std.specs.Prelude.{◌≡◌, ◌+◌, ◌-◌, ◌<◌, ◌≤◌, ◌^◌, ◌++◌, ◌∷◌, [], slice_get, option_map, length, OnOk, OnErr, IsOk, vec_len};
 ghost use Rattle.journal_look.specs.Shown.{entry_shown};
 
 use crate::entry::{EntryRef, entry_of};
-use crate::marks::{claimed_from, settled_from};
+use crate::tables::{self, Tables};
 use ann_key::NoMemory;
 use journal_model::{Entry, What};
 use std::alloc::Global;
 use std::marker::Model;
 
-/// A journal: contracts see its entries, and for how many in all it has room. It marks how many of its first entries ask only
-/// jobs that are settled, and below which number each task is claimed.
+/// A journal: contracts see its entries, and for how many in all it has room. It keeps tables beside them.
 #[derive(Drop)]
 pub struct Journal {
     entries: Vec<Entry>,
     room: usize,
-    settled: usize,
-    claimed: u32,
+    tables: Tables,
 }
 
 impl Model for Journal {
-    ghost use Rattle.std.specs.Prelude.{◌≤◌, ◌<◌, length, vec_capacity};
+    ghost use Rattle.std.specs.Prelude.{◌≤◌, vec_capacity};
     ghost use Rattle.journal_look.specs.JournalValue.{JournalValue};
-    ghost use Rattle.journal_look.specs.Marks.{AreClaimed, AreSettled};
+    ghost use Rattle.journal_look.specs.Tables.{AreTabled};
 
     ghost Value = { JournalValue };
 
     ghost view = { λ j. record { entries = j.entries.items; room = j.room } };
 
-    ghost invariant = { λ j. (j.room ≤ vec_capacity j.entries) × (j.settled ≤ length j.entries.items) × AreSettled j.entries.items j.settled × (0 < j.claimed) × AreClaimed j.entries.items j.claimed };
+    ghost invariant = { λ j. (j.room ≤ vec_capacity j.entries) × AreTabled j.entries.items j.tables };
 }
 
 impl Journal {
+    ghost use Rattle.journal_model.specs.Limits.{most_line_bytes};
+    ghost use Rattle.journal_model.specs.Journal.{bytes_in};
     ghost use Rattle.journal_look.specs.Marks.{AreClaimed, AreSettled};
 
     /// A journal without entries, and without room. It takes no memory.
@@ -41,8 +41,7 @@ impl Journal {
         Journal {
             entries: Vec::new(alloc),
             room: 0,
-            settled: 0,
-            claimed: 1,
+            tables: tables::tables_of(&[]),
         }
     }
 
@@ -51,11 +50,11 @@ impl Journal {
         ensures { result ≡ record { entries = entries.items; room = vec_len entries } }
     {
         let room = entries.len();
+        let tables = tables::tables_of(entries.as_slice());
         Journal {
             entries,
             room,
-            settled: 0,
-            claimed: 1,
+            tables,
         }
     }
 
@@ -98,7 +97,6 @@ impl Journal {
     }
 
     /// Appends the entry, for which there is room. It takes no memory.
-    #[tactic(auto, using(crate::proofs::Marking::settled_more, crate::proofs::Marking::claimed_more))]
     pub fn push(&mut self, entry: Entry)
         requires { length self.old.entries < self.old.room }
         ensures entries { self.new.entries ≡ self.old.entries ++ entry ∷ [] }
@@ -106,16 +104,12 @@ impl Journal {
     {
         let settles = matches!(entry.what, What::Verdict { .. });
         let claims = matches!(entry.what, What::Claim { .. });
+        tables::note(&mut self.tables, &entry);
         match self.entries.push(entry) {
             Ok(()) => {}
             Err(_) => unreachable!(),
         }
-        if settles {
-            self.settled = settled_from(self.entries.as_slice(), self.settled);
-        }
-        if claims {
-            self.claimed = claimed_from(self.entries.as_slice(), self.claimed);
-        }
+        tables::raise(&mut self.tables, self.entries.as_slice(), settles, claims);
     }
 
     // All entries, in order.
@@ -125,12 +119,19 @@ impl Journal {
         self.entries.as_slice()
     }
 
+    // How many more bytes the lines may have.
+    pub(crate) fn left(&self) -> usize
+        ensures { result ≡ most_line_bytes - bytes_in self.now.entries }
+    {
+        self.tables.left
+    }
+
     // How many of the first entries ask only jobs that are settled.
     pub(crate) fn settled(&self) -> usize
         ensures bound { result ≤ length self.now.entries }
         ensures settled { AreSettled self.now.entries result }
     {
-        self.settled
+        self.tables.settled
     }
 
     // A task below which each is claimed.
@@ -138,6 +139,6 @@ impl Journal {
         ensures some { 0 < result }
         ensures claimed { AreClaimed self.now.entries result }
     {
-        self.claimed
+        self.tables.claimed
     }
 }

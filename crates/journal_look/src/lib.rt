@@ -8,6 +8,7 @@ mod journal;
 mod lines;
 mod looks;
 mod marks;
+mod tables;
 mod talks;
 mod tasks;
 

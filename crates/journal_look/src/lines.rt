@@ -1,5 +1,5 @@
 // What the lines of the journal say: the greeting, tags, and what is still to be written.
-ghost use Rattle.std.specs.Prelude.{◌≡◌, ◌≤◌, ◌==◌, slice_get, filter, length, find, option_copied, option_map, IfOk, bytes_eq, codes, drop, nat_le};
+ghost use Rattle.std.specs.Prelude.{◌≡◌, ◌≤◌, ◌-◌, ◌==◌, slice_get, filter, length, find, option_copied, option_map, IfOk, bytes_eq, codes, drop};
 ghost use Rattle.std.specs.List.{list_any, slice_split};
 ghost use Rattle.annex_model.specs.Messages.{remote_reading, is_space};
 ghost use Rattle.annex_model.specs.Tags.{names_async, untag, without_tag};
@@ -34,26 +34,31 @@ fn line_bytes(what: &What) -> usize
     }
 }
 
-/// Whether the lines of the entries have as many bytes as a journal may have.
-fn is_heavy(entries: &[Entry]) -> bool
-    ensures { result ≡ nat_le most_line_bytes (bytes_in entries.now) }
+/// How many more bytes the lines may have after the entry, where so many were left.
+pub(super) fn left_after(left: usize, what: &What) -> usize
+    ensures { result ≡ left - line_bytes what.now }
+{
+    left.saturating_sub(line_bytes(what))
+}
+
+/// How many more bytes the lines may have after the entries.
+pub(super) fn left_of(entries: &[Entry]) -> usize
+    ensures { result ≡ most_line_bytes - bytes_in entries.now }
 {
     let mut left = MOST_LINE_BYTES;
     for e in entries {
-        let bytes = line_bytes(&e.what);
-        if left <= bytes {
-            return true;
-        }
-        left -= bytes;
+        left = left_after(left, &e.what);
     }
-    false
+    left
 }
 
-/// Whether the journal takes no further line of a child.
-pub(super) fn is_full(entries: &[Entry]) -> bool
+/// Whether the journal takes no further line of a child, where its lines may have so many more bytes.
+#[tactic(auto, using(crate::proofs::Weighing::full_by_left))]
+pub(super) fn is_full(entries: &[Entry], left: usize) -> bool
+    requires { left ≡ most_line_bytes - bytes_in entries.now }
     ensures { result ≡ is_full entries.now }
 {
-    MOST_ENTRIES <= entries.len() || is_heavy(entries)
+    MOST_ENTRIES <= entries.len() || left == 0
 }
 
 /// Whether the line spells VERSION with number 1.

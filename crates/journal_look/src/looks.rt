@@ -165,7 +165,7 @@ pub fn said_at(journal: &Journal, child: u32, job: u64, at: u64) -> Option<&[u8]
 pub fn is_full(journal: &Journal) -> bool
     ensures { result ≡ is_full journal.now.entries }
 {
-    lines::is_full(journal.entries())
+    lines::is_full(journal.entries(), journal.left())
 }
 
 /// The line got at a place, if one was.

@@ -1,4 +1,4 @@
-use Rattle.std.proofs.Common.{◌∙◌, ap, sym, List, ℕ}
+use Rattle.std.proofs.Common.{◌∙◌, ap, sym, List}
 use Rattle.std.specs.Prelude.{not}
 use Rattle.journal_model.specs.Journal.{first_of, is_settled, asked_jobs}
 use Rattle.journal_model.specs.declared.entry.Entry.{Entry}

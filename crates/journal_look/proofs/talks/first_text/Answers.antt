@@ -1,4 +1,4 @@
-use Rattle.std.proofs.Common.{◌∙◌, ap, Option, Some, List, ℕ, take}
+use Rattle.std.proofs.Common.{◌∙◌, ap, Some, List, ℕ, take}
 use Rattle.journal_model.specs.Journal.{addressed}
 use Rattle.journal_look.proofs.FirstItem.{first_some_at, first_none_at}
 use Rattle.journal_look.proofs.talks.first_text.Goals as goal

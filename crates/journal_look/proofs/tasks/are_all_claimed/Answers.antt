@@ -1,4 +1,4 @@
-use Rattle.std.proofs.Common.{◌≡◌, ◌∙◌, ◌+◌, ◌-◌, ap, ℕ, length}
+use Rattle.std.proofs.Common.{◌∙◌, ◌+◌, ◌-◌, ap, ℕ, length}
 use Rattle.std.specs.List.{list_all, range_with_len}
 use Rattle.journal_model.specs.Legality.{is_claimed}
 use Rattle.journal_look.proofs.Marking.{all_from}

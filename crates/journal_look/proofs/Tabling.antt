@@ -1,0 +1,18 @@
+-- The tables of a journal after one more entry.
+use Rattle.std.proofs.Common.{◌≡◌, ◌∙◌, ℕ, ◌-◌, List, [], ◌∷◌, ◌++◌, arith, length-append}
+use Rattle.journal_model.specs.declared.entry.Entry.{Entry}
+use Rattle.journal_model.specs.Journal.{line_bytes}
+use Rattle.journal_look.specs.Tables.{AreTabled}
+use Rattle.journal_look.specs.declared.tables.Tables.{Tables}
+use Rattle.journal_look.proofs.Weighing.{left_more}
+use Rattle.journal_look.proofs.Marking.{settled_more, claimed_more}
+
+pub noted : (past : List Entry) (e : Entry) (old : Tables) (left : ℕ) → left ≡ old.left - line_bytes e.what → AreTabled past old
+    → AreTabled (past ++ e ∷ []) (record old { left = left })
+noted past e old left less are = record {
+  left = less ∙ left_more past e old.left are.left;
+  bound = let b = are.bound in let n = length-append past (e ∷ []) in omega arith;
+  settled = settled_more past e old.settled are.bound are.settled;
+  some = are.some;
+  claimed = claimed_more past e old.claimed are.claimed;
+}

@@ -1,0 +1,49 @@
+// What a journal keeps beside its entries, so that a question needn't go through them.
+ghost use Rattle.std.specs.Prelude.{◌≡◌, ◌++◌, ◌∷◌, [], List};
+ghost use Rattle.journal_model.specs.declared.entry.Entry.{Entry};
+ghost use Rattle.journal_look.specs.Tables.{AreTabled};
+
+use crate::lines::{left_after, left_of};
+use crate::marks::{claimed_from, settled_from};
+use journal_model::{Entry, What};
+
+/// How many more bytes the lines may have, how many of the first entries ask only jobs that are settled, and below which number
+/// each task is claimed.
+#[derive(Drop)]
+pub(super) struct Tables {
+    pub left: usize,
+    pub settled: usize,
+    pub claimed: u32,
+}
+
+/// The tables of these entries.
+#[tactic(auto, using(crate::proofs::Marking::none_settled, crate::proofs::Marking::none_claimed))]
+pub(super) fn tables_of(entries: &[Entry]) -> Tables
+    ensures { AreTabled entries.now result }
+{
+    Tables {
+        left: left_of(entries),
+        settled: 0,
+        claimed: 1,
+    }
+}
+
+/// Notes an entry that comes next. It takes no memory.
+pub(super) fn note(tables: &mut Tables, entry: &Entry)
+    ensures { (past : List Entry) → AreTabled past tables.old → AreTabled (past ++ entry.now ∷ []) tables.new }
+{
+    tables.left = left_after(tables.left, &entry.what);
+}
+
+/// Raises the marks over the entries, where the last one settles a job or claims a task.
+pub(super) fn raise(tables: &mut Tables, entries: &[Entry], settles: bool, claims: bool)
+    requires { AreTabled entries.now tables.old }
+    ensures { AreTabled entries.now tables.new }
+{
+    if settles {
+        tables.settled = settled_from(entries, tables.settled);
+    }
+    if claims {
+        tables.claimed = claimed_from(entries, tables.claimed);
+    }
+}
