@@ -5,3 +5,4 @@ pub mod FirstItem
 pub mod Marking
 pub mod Weighing
 pub mod Tabling
+pub mod Living

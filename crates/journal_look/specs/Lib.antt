@@ -3,3 +3,4 @@ pub mod Shown
 pub mod Looks
 pub mod Marks
 pub mod Tables
+pub mod Lives

@@ -8,7 +8,7 @@ ghost use Rattle.journal_look.specs.Marks.{AreSettled};
 
 use journal_model::{Entry, Verdict, What, Why};
 
-fn starts(what: &What, c: u32) -> bool
+pub(super) fn starts(what: &What, c: u32) -> bool
     ensures { result ≡ starts c what.now }
 {
     match what {
@@ -17,7 +17,7 @@ fn starts(what: &What, c: u32) -> bool
     }
 }
 
-fn ends(what: &What, c: u32) -> bool
+pub(super) fn ends(what: &What, c: u32) -> bool
     ensures { result ≡ ends c what.now }
 {
     match what {
@@ -26,7 +26,7 @@ fn ends(what: &What, c: u32) -> bool
     }
 }
 
-fn mutes(what: &What, c: u32) -> bool
+pub(super) fn mutes(what: &What, c: u32) -> bool
     ensures { result ≡ mutes c what.now }
 {
     match what {
@@ -35,7 +35,7 @@ fn mutes(what: &What, c: u32) -> bool
     }
 }
 
-fn is_from(what: &What, c: u32) -> bool
+pub(super) fn is_from(what: &What, c: u32) -> bool
     ensures { result ≡ got_from c what.now }
 {
     match what {
@@ -53,7 +53,7 @@ fn settles(what: &What, c: u32, j: u64) -> bool
     }
 }
 
-fn offers(what: &What, c: u32) -> bool
+pub(super) fn offers(what: &What, c: u32) -> bool
     ensures { result ≡ offers c what.now }
 {
     match what {
@@ -62,7 +62,7 @@ fn offers(what: &What, c: u32) -> bool
     }
 }
 
-fn is_start(what: &What) -> bool
+pub(super) fn is_start(what: &What) -> bool
     ensures { result ≡ is_start what.now }
 {
     matches!(what, What::Start { .. })
@@ -78,7 +78,7 @@ pub(super) fn asks(what: &What, c: u32) -> Option<u64>
     }
 }
 
-fn verdict_in(what: &What, c: u32, j: u64) -> Option<Verdict>
+pub(super) fn verdict_in(what: &What, c: u32, j: u64) -> Option<Verdict>
     ensures { result ≡ verdict_in c j what.now }
 {
     match what {
@@ -91,7 +91,7 @@ fn verdict_in(what: &What, c: u32, j: u64) -> Option<Verdict>
     }
 }
 
-fn end_why(what: &What, c: u32) -> Option<Why>
+pub(super) fn end_why(what: &What, c: u32) -> Option<Why>
     ensures { result ≡ end_why c what.now }
 {
     match what {
@@ -100,7 +100,7 @@ fn end_why(what: &What, c: u32) -> Option<Why>
     }
 }
 
-fn is_no_start(what: &What) -> bool
+pub(super) fn is_no_start(what: &What) -> bool
     ensures { result ≡ is_no_start what.now }
 {
     matches!(what, What::NoStart { .. })

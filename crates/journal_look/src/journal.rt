@@ -1,8 +1,9 @@
 // The journal as a store: it lends its entries, and takes more within room that was taken before.
-ghost use Rattle.std.specs.Prelude.{◌≡◌, ◌+◌, ◌-◌, ◌<◌, ◌≤◌, ◌^◌, ◌++◌, ◌∷◌, [], slice_get, option_map, length, OnOk, OnErr, IsOk, vec_len};
+ghost use Rattle.std.specs.Prelude.{◌≡◌, ◌+◌, ◌-◌, ◌<◌, ◌≤◌, ◌^◌, ◌++◌, ◌∷◌, [], slice_get, option_map, length, OnOk, OnErr, IsOk, IfSome, vec_len};
 ghost use Rattle.journal_look.specs.Shown.{entry_shown};
 
 use crate::entry::{EntryRef, entry_of};
+use crate::life::{self, Life};
 use crate::tables::{self, Tables};
 use ann_key::NoMemory;
 use journal_model::{Entry, What};
@@ -31,7 +32,10 @@ impl Model for Journal {
 
 impl Journal {
     ghost use Rattle.journal_model.specs.Limits.{most_line_bytes};
-    ghost use Rattle.journal_model.specs.Journal.{bytes_in};
+    ghost use Rattle.journal_model.specs.Journal.{any, bytes_in};
+    ghost use Rattle.journal_model.specs.Legality.{count, is_start};
+    ghost use Rattle.journal_look.specs.Looks.{is_no_start};
+    ghost use Rattle.journal_look.specs.Lives.{life_of};
     ghost use Rattle.journal_look.specs.Marks.{AreClaimed, AreSettled};
 
     /// A journal without entries, and without room. It takes no memory.
@@ -41,7 +45,7 @@ impl Journal {
         Journal {
             entries: Vec::new(alloc),
             room: 0,
-            tables: tables::tables_of(&[]),
+            tables: tables::tables_of(alloc, &[]),
         }
     }
 
@@ -49,8 +53,9 @@ impl Journal {
     pub fn from_entries(entries: Vec<Entry>) -> Journal
         ensures { result ≡ record { entries = entries.items; room = vec_len entries } }
     {
+        let alloc = *entries.allocator();
         let room = entries.len();
-        let tables = tables::tables_of(entries.as_slice());
+        let tables = tables::tables_of(alloc, entries.as_slice());
         Journal {
             entries,
             room,
@@ -92,6 +97,7 @@ impl Journal {
         };
         let spare = room.saturating_sub(self.entries.len());
         self.entries.reserve(spare)?;
+        tables::take_room(&mut self.tables, spare)?;
         self.room = room;
         Ok(())
     }
@@ -124,6 +130,27 @@ impl Journal {
         ensures { result ≡ most_line_bytes - bytes_in self.now.entries }
     {
         self.tables.left
+    }
+
+    // The child's life, where it is known without the entries.
+    pub(crate) fn life(&self, child: u32) -> Option<Life>
+        ensures { IfSome result (λ life. life ≡ life_of self.now.entries child) }
+    {
+        life::look(&self.tables.lives, child)
+    }
+
+    // How many children were started, where it is known without the entries.
+    pub(crate) fn starts(&self) -> Option<u64>
+        ensures { IfSome result (λ n. n ≡ count is_start self.now.entries) }
+    {
+        life::starts(&self.tables.lives)
+    }
+
+    // Whether a child couldn't be started, where it is known without the entries.
+    pub(crate) fn no_start(&self) -> Option<bool>
+        ensures { IfSome result (λ b. b ≡ any is_no_start self.now.entries) }
+    {
+        life::no_start(&self.tables.lives)
     }
 
     // How many of the first entries ask only jobs that are settled.

@@ -5,6 +5,7 @@ mod children;
 mod dues;
 mod entry;
 mod journal;
+mod life;
 mod lines;
 mod looks;
 mod marks;

@@ -1,5 +1,5 @@
 // What the lines of the journal say: the greeting, tags, and what is still to be written.
-ghost use Rattle.std.specs.Prelude.{◌≡◌, ◌≤◌, ◌-◌, ◌==◌, slice_get, filter, length, find, option_copied, option_map, IfOk, bytes_eq, codes, drop};
+ghost use Rattle.std.specs.Prelude.{◌≡◌, ◌≤◌, ◌-◌, ◌==◌, not, nat_lt, slice_get, filter, length, find, option_copied, option_map, IfOk, bytes_eq, codes, drop};
 ghost use Rattle.std.specs.List.{list_any, slice_split};
 ghost use Rattle.annex_model.specs.Messages.{remote_reading, is_space};
 ghost use Rattle.annex_model.specs.Tags.{names_async, untag, without_tag};
@@ -10,12 +10,10 @@ ghost use Rattle.journal_model.specs.Legality.{said_version, asks_prepare, prepa
 ghost use Rattle.journal_look.specs.Marks.{AreSettled};
 ghost use Rattle.journal_look.specs.Looks.{written_to, got_line, is_written, hosts_line};
 
+use crate::children;
 use crate::talks::hosts_line;
-use crate::{children, tasks};
-use ann_key::{Bytes, NoMemory};
 use journal_model::{Entry, Verdict, What};
-use std::alloc::Global;
-use wire_msg::{HostMsg, RemoteMsg, read_host, read_remote, tag, untag};
+use wire_msg::{HostMsg, RemoteMsg, read_host, read_remote, untag};
 
 // A journal that has so many entries, or so many bytes in lines, is full.
 const MOST_ENTRIES: usize = 8_000_000;
@@ -112,7 +110,7 @@ pub fn line_at(entries: &[Entry], at: u64) -> &[u8]
     }
 }
 
-fn accepts_async(entries: &[Entry], verdict: Option<Verdict>) -> bool
+pub(super) fn accepts_async(entries: &[Entry], verdict: Option<Verdict>) -> bool
     ensures { result ≡ accepts_async entries.now verdict }
 {
     match verdict {
@@ -129,7 +127,7 @@ pub(super) fn is_tagged(entries: &[Entry], child: u32) -> bool
         && accepts_async(entries, children::verdict_of(entries, child, 0))
 }
 
-fn by_tag(line: &[u8]) -> (Option<u64>, &[u8])
+pub(super) fn by_tag(line: &[u8]) -> (Option<u64>, &[u8])
     ensures { (result.0, result.1.now) ≡ by_tag line.now (untag line.now) }
 {
     match untag(line) {
@@ -168,23 +166,6 @@ pub(super) fn text_of<'a>(entries: &[Entry], child: u32, line: &'a [u8]) -> &'a 
     }
 }
 
-/// The line as it stands on the wire.
-pub(super) fn on_wire(
-    alloc: Global,
-    entries: &[Entry],
-    child: u32,
-    job: u64,
-    line: Bytes,
-) -> Result<Bytes, NoMemory>
-    ensures { IfOk result (λ b. b ≡ on_wire entries.now child job line) }
-{
-    if is_tagged(entries, child) {
-        tag(alloc, job, line.view())
-    } else {
-        Ok(line)
-    }
-}
-
 fn is_got(what: &What, c: u32) -> bool
     ensures { result ≡ got_from c what.now }
 {
@@ -201,7 +182,7 @@ fn first_got(entries: &[Entry], child: u32) -> Option<&Entry>
 }
 
 /// Whether the child's first line was VERSION 1.
-fn said_version(entries: &[Entry], child: u32) -> bool
+pub(super) fn said_version(entries: &[Entry], child: u32) -> bool
     ensures { result ≡ said_version entries.now child }
 {
     match first_got(entries, child) {
@@ -210,7 +191,7 @@ fn said_version(entries: &[Entry], child: u32) -> bool
     }
 }
 
-fn is_done(verdict: Option<Verdict>) -> bool
+pub(super) fn is_done(verdict: Option<Verdict>) -> bool
     ensures { result ≡ is_done verdict }
 {
     matches!(verdict, Some(Verdict::Done { .. }))
@@ -232,7 +213,7 @@ fn without_tag(line: &[u8]) -> &[u8]
     }
 }
 
-fn prepares(what: &What, c: u32) -> bool
+pub(super) fn prepares(what: &What, c: u32) -> bool
     ensures { result ≡ prepares c what.now }
 {
     match what {
@@ -259,29 +240,7 @@ pub fn is_prepared(entries: &[Entry], child: u32) -> bool
     is_done(children::verdict_of(entries, child, 1)) && is_to_prepare(entries, child)
 }
 
-/// Whether some request may be asked as this job of the child.
-fn is_greeted(entries: &[Entry], child: u32, job: u64) -> bool
-    ensures { result ≡ is_greeted entries.now child job }
-{
-    match job {
-        0 => said_version(entries, child),
-        1 => children::is_settled(entries, child, 0),
-        _ => is_prepared(entries, child),
-    }
-}
-
-/// Whether some request may be asked as the child's next job, but for its end or mute.
-pub(super) fn may_ask(entries: &[Entry], settled: usize, by: u32, task: u32, child: u32) -> bool
-    requires bound { settled ≤ length entries.now }
-    requires settled { AreSettled entries.now settled }
-    ensures { result ≡ may_ask entries.now by task child }
-{
-    is_greeted(entries, child, children::next_job(entries, child) as u64)
-        && tasks::may_work(entries, settled, by, task, child)
-        && (is_tagged(entries, child) || children::has_no_open_job(entries, settled, child))
-}
-
-fn sends(what: &What, c: u32) -> bool
+pub(super) fn sends(what: &What, c: u32) -> bool
     ensures { result ≡ sends c what.now }
 {
     match what {
@@ -301,7 +260,7 @@ fn writes(what: &What, c: u32) -> Option<Option<u64>>
     }
 }
 
-fn is_written(what: &What, c: u32) -> bool
+pub(super) fn is_written(what: &What, c: u32) -> bool
     ensures { result ≡ is_written c what.now }
 {
     writes(what, c).is_some()
@@ -321,6 +280,14 @@ fn written(entries: &[Entry], child: u32) -> usize
         .iter()
         .filter_map(|e| writes(&e.what, child))
         .count()
+}
+
+/// Whether each line was written whole, where so many were written and so many whole.
+#[tactic(auto, using(crate::proofs::Written::at_most))]
+pub(super) fn are_all_sent(written: u64, sent: u64) -> bool
+    ensures { result ≡ not (nat_lt sent written) }
+{
+    written <= sent
 }
 
 /// Whether each line for the child was written whole.

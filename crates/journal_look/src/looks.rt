@@ -4,7 +4,7 @@ ghost use Rattle.std.specs.List.{list_any, list_all};
 ghost use Rattle.journal_model.specs.Limits.{most_tasks};
 ghost use Rattle.journal_model.specs.Journal.{offers, first_of, any, is_started, is_ended, is_mute, is_live, has_spoken, asked_jobs, open_jobs, is_open, verdict_of, why_of, line_at, is_tagged, addressed, on_wire, unsent, is_full};
 ghost use Rattle.journal_model.specs.Parts.{part, item_at};
-ghost use Rattle.journal_model.specs.Legality.{count, is_start, is_empty, is_claimed, numbers_of, least_free, is_prepared, may_ask, is_claimed_by, has_open_job, has_busy_task};
+ghost use Rattle.journal_model.specs.Legality.{count, is_start, is_empty, is_claimed, numbers_of, least_free, is_prepared, is_greeted, may_ask, is_claimed_by, has_open_job, has_busy_task};
 ghost use Rattle.journal_look.specs.Looks.{is_no_start, first_text, remote_text, job_at};
 
 use crate::journal::Journal;
@@ -12,6 +12,7 @@ use crate::{children, dues, lines, talks, tasks};
 use ann_key::{Bytes, NoMemory};
 use journal_model::{Opening, Verdict, Why};
 use std::alloc::Global;
+use wire_msg::tag;
 
 // ---- children
 
@@ -19,35 +20,50 @@ use std::alloc::Global;
 pub fn is_started(journal: &Journal, child: u32) -> bool
     ensures { result ≡ is_started journal.now.entries child }
 {
-    children::is_started(journal.entries(), child)
+    match journal.life(child) {
+        Some(life) => life.started,
+        None => children::is_started(journal.entries(), child),
+    }
 }
 
 /// Whether the child ended.
 pub fn is_ended(journal: &Journal, child: u32) -> bool
     ensures { result ≡ is_ended journal.now.entries child }
 {
-    children::is_ended(journal.entries(), child)
+    match journal.life(child) {
+        Some(life) => life.ended,
+        None => children::is_ended(journal.entries(), child),
+    }
 }
 
 /// Whether a write to the child failed.
 pub fn is_mute(journal: &Journal, child: u32) -> bool
     ensures { result ≡ is_mute journal.now.entries child }
 {
-    children::is_mute(journal.entries(), child)
+    match journal.life(child) {
+        Some(life) => life.mute,
+        None => children::is_mute(journal.entries(), child),
+    }
 }
 
 /// Whether the child was started and has not ended.
 pub fn is_live(journal: &Journal, child: u32) -> bool
     ensures { result ≡ is_live journal.now.entries child }
 {
-    children::is_live(journal.entries(), child)
+    match journal.life(child) {
+        Some(life) => life.started && !life.ended,
+        None => children::is_live(journal.entries(), child),
+    }
 }
 
 /// Why the child ended, if it did.
 pub fn why_of(journal: &Journal, child: u32) -> Option<Why>
     ensures { result ≡ why_of journal.now.entries child }
 {
-    children::why_of(journal.entries(), child)
+    match journal.life(child) {
+        Some(life) => life.why,
+        None => children::why_of(journal.entries(), child),
+    }
 }
 
 /// Why the child had ended before that place, if it had.
@@ -62,28 +78,40 @@ pub fn why_before(journal: &Journal, at: u64, child: u32) -> Option<Why>
 pub fn has_spoken(journal: &Journal, child: u32) -> bool
     ensures { result ≡ has_spoken journal.now.entries child }
 {
-    children::has_spoken(journal.entries(), child)
+    match journal.life(child) {
+        Some(life) => life.spoken,
+        None => children::has_spoken(journal.entries(), child),
+    }
 }
 
 /// Whether ASYNC is offered to the child.
 pub fn is_offered(journal: &Journal, child: u32) -> bool
     ensures { result ≡ any (offers child) journal.now.entries }
 {
-    children::is_offered(journal.entries(), child)
+    match journal.life(child) {
+        Some(life) => life.offered,
+        None => children::is_offered(journal.entries(), child),
+    }
 }
 
 /// How many children were started.
 pub fn starts_so_far(journal: &Journal) -> usize
     ensures { result ≡ count is_start journal.now.entries }
 {
-    children::starts_so_far(journal.entries())
+    match journal.starts() {
+        Some(starts) => starts as usize,
+        None => children::starts_so_far(journal.entries()),
+    }
 }
 
 /// Whether a child couldn't be started.
 pub fn has_no_start(journal: &Journal) -> bool
     ensures { result ≡ any is_no_start journal.now.entries }
 {
-    children::has_no_start(journal.entries())
+    match journal.no_start() {
+        Some(no_start) => no_start,
+        None => children::has_no_start(journal.entries()),
+    }
 }
 
 // ---- jobs
@@ -92,7 +120,10 @@ pub fn has_no_start(journal: &Journal) -> bool
 pub fn next_job(journal: &Journal, child: u32) -> u64
     ensures { result ≡ length (asked_jobs journal.now.entries child) }
 {
-    children::next_job(journal.entries(), child) as u64
+    match journal.life(child) {
+        Some(life) => life.asked,
+        None => children::next_job(journal.entries(), child) as u64,
+    }
 }
 
 /// Whether the job was asked.
@@ -127,14 +158,30 @@ pub fn verdict_of(journal: &Journal, child: u32, job: u64) -> Option<Verdict>
 pub fn is_prepared(journal: &Journal, child: u32) -> bool
     ensures { result ≡ is_prepared journal.now.entries child }
 {
-    lines::is_prepared(journal.entries(), child)
+    match journal.life(child) {
+        Some(life) => lines::is_done(life.second) && life.prepares,
+        None => lines::is_prepared(journal.entries(), child),
+    }
+}
+
+/// Whether some request may be asked as this job of the child.
+fn is_greeted(journal: &Journal, child: u32, job: u64) -> bool
+    ensures { result ≡ is_greeted journal.now.entries child job }
+{
+    match job {
+        0 => lines::said_version(journal.entries(), child),
+        1 => verdict_of(journal, child, 0).is_some(),
+        _ => is_prepared(journal, child),
+    }
 }
 
 /// Whether some request may be asked as the child's next job, but for its end or mute.
 pub fn may_ask(journal: &Journal, by: u32, task: u32, child: u32) -> bool
     ensures { result ≡ may_ask journal.now.entries by task child }
 {
-    lines::may_ask(journal.entries(), journal.settled(), by, task, child)
+    is_greeted(journal, child, next_job(journal, child))
+        && tasks::may_work(journal.entries(), journal.settled(), by, task, child)
+        && (is_tagged(journal, child) || has_no_open_job(journal, child))
 }
 
 /// The job asked at a place of the first n entries, where the child's end behind them settles it, or where its mute does.
@@ -179,14 +226,22 @@ pub fn line_at(journal: &Journal, at: u64) -> &[u8]
 pub fn is_tagged(journal: &Journal, child: u32) -> bool
     ensures { result ≡ is_tagged journal.now.entries child }
 {
-    lines::is_tagged(journal.entries(), child)
+    match journal.life(child) {
+        Some(life) => life.offered && lines::accepts_async(journal.entries(), life.first),
+        None => lines::is_tagged(journal.entries(), child),
+    }
 }
 
 /// The job that the child's line is for, and its text without the tag.
 pub fn addressed<'a>(journal: &Journal, child: u32, line: &'a [u8]) -> (Option<u64>, &'a [u8])
     ensures { (result.0, result.1.now) ≡ addressed journal.now.entries child line.entry.now }
 {
-    lines::addressed(journal.entries(), journal.settled(), child, line)
+    if is_tagged(journal, child) {
+        lines::by_tag(line)
+    } else {
+        let open = children::first_open(journal.entries(), journal.settled(), child);
+        (open, line)
+    }
 }
 
 /// The line as it stands on the wire.
@@ -199,14 +254,21 @@ pub fn on_wire(
 ) -> Result<Bytes, NoMemory>
     ensures { IfOk result (λ b. b ≡ on_wire journal.now.entries child job line) }
 {
-    lines::on_wire(alloc, journal.entries(), child, job, line)
+    if is_tagged(journal, child) {
+        tag(alloc, job, line.view())
+    } else {
+        Ok(line)
+    }
 }
 
 /// Whether each line for the child was written whole.
 pub fn is_all_sent(journal: &Journal, child: u32) -> bool
     ensures { result ≡ is_empty (unsent journal.now.entries child) }
 {
-    lines::is_all_sent(journal.entries(), child)
+    match journal.life(child) {
+        Some(life) => lines::are_all_sent(life.written, life.sent),
+        None => lines::is_all_sent(journal.entries(), child),
+    }
 }
 
 /// The first of the lines for the child that were not written whole.

@@ -3,26 +3,31 @@ ghost use Rattle.std.specs.Prelude.{◌≡◌, ◌++◌, ◌∷◌, [], List};
 ghost use Rattle.journal_model.specs.declared.entry.Entry.{Entry};
 ghost use Rattle.journal_look.specs.Tables.{AreTabled};
 
+use crate::life::{self, Lives};
 use crate::lines::{left_after, left_of};
 use crate::marks::{claimed_from, settled_from};
-use journal_model::{Entry, What};
+use ann_key::NoMemory;
+use journal_model::Entry;
+use std::alloc::Global;
 
-/// How many more bytes the lines may have, how many of the first entries ask only jobs that are settled, and below which number
-/// each task is claimed.
+/// How many more bytes the lines may have, what is known of the children, how many of the first entries ask only jobs that are
+/// settled, and below which number each task is claimed.
 #[derive(Drop)]
 pub(super) struct Tables {
     pub left: usize,
+    pub lives: Lives,
     pub settled: usize,
     pub claimed: u32,
 }
 
 /// The tables of these entries.
 #[tactic(auto, using(crate::proofs::Marking::none_settled, crate::proofs::Marking::none_claimed))]
-pub(super) fn tables_of(entries: &[Entry]) -> Tables
+pub(super) fn tables_of(alloc: Global, entries: &[Entry]) -> Tables
     ensures { AreTabled entries.now result }
 {
     Tables {
         left: left_of(entries),
+        lives: life::none(alloc, entries),
         settled: 0,
         claimed: 1,
     }
@@ -33,6 +38,15 @@ pub(super) fn note(tables: &mut Tables, entry: &Entry)
     ensures { (past : List Entry) → AreTabled past tables.old → AreTabled (past ++ entry.now ∷ []) tables.new }
 {
     tables.left = left_after(tables.left, &entry.what);
+    life::note(&mut tables.lives, entry);
+}
+
+/// Takes room for so many more entries.
+pub(super) fn take_room(tables: &mut Tables, more: usize) -> Result<(), NoMemory>
+    ensures { (past : List Entry) → AreTabled past tables.old → AreTabled past tables.new }
+{
+    life::take_room(&mut tables.lives, more)?;
+    Ok(())
 }
 
 /// Raises the marks over the entries, where the last one settles a job or claims a task.
