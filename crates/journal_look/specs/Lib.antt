@@ -4,3 +4,5 @@ pub mod Looks
 pub mod Marks
 pub mod Tables
 pub mod Lives
+pub mod Opens
+pub mod Cursors

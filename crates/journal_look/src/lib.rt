@@ -2,8 +2,10 @@
 #![tactic(auto)]
 
 mod children;
+mod cursors;
 mod dues;
 mod entry;
+mod jobs;
 mod journal;
 mod life;
 mod lines;

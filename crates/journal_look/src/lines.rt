@@ -297,7 +297,7 @@ pub(super) fn is_all_sent(entries: &[Entry], child: u32) -> bool
     written(entries, child) <= sents(entries, child)
 }
 
-fn nth_written(entries: &[Entry], child: u32, n: usize) -> Option<&Entry>
+pub(super) fn nth_written(entries: &[Entry], child: u32, n: usize) -> Option<&Entry>
     ensures { option_copied result ≡ slice_get (filter (λ e. is_written child e.what) entries.now) n }
 {
     entries.iter().filter(|e| is_written(&e.what, child)).nth(n)

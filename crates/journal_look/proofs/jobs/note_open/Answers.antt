@@ -1,0 +1,11 @@
+use Rattle.std.proofs.Common.{◌≡◌, ◌∙◌, sym, subst, List, ℕ, ◌++◌, ◌∷◌, [], length, true}
+use Rattle.journal_model.specs.declared.entry.Entry.{Entry}
+use Rattle.journal_model.specs.declared.entry.What.{What}
+use Rattle.journal_model.specs.Journal.{asked_jobs}
+use Rattle.journal_look.specs.declared.jobs.Open.{Open}
+use Rattle.journal_look.specs.Opens.{AreOpen, jobs_child, keeps_numbers, opened}
+use Rattle.journal_look.proofs.Opening.{open_after}
+use Rattle.journal_look.proofs.jobs.note_open.Goals as goal
+
+pub returns-then-keeps_numbers : goal.returns-then-keeps_numbers
+returns-then-keeps_numbers c done past e is at asked are = open_after past e c.args.what.now c.args.asked c.args.at c.args.jobs.now.items c.change.new.jobs.items is at asked (sym c.keeps_numbers.ensures ∙ c.if-keeps_numbers.true) (c.change.ensures done) are
