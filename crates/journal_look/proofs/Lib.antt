@@ -8,3 +8,4 @@ pub mod Tabling
 pub mod Living
 pub mod Opening
 pub mod Counting
+pub mod Ending

@@ -11,11 +11,12 @@ use Rattle.journal_model.specs.declared.entry.What.{What}
 use Rattle.journal_model.specs.declared.entry.What.TheVariants.{Claim, Start, NoStart, Ask, Put, Sent, Mute, Got, End, Verdict as Settled, Lost, Answer as Answered, Note as Noted}
 use Rattle.journal_model.specs.declared.entry.Entry.{Entry}
 use Rattle.journal_model.specs.Journal.{any, asks, asked_jobs, each_of, first_of, is_open, is_settled, open_jobs, settles, verdict_in, verdict_of}
+use Rattle.journal_model.specs.Legality.{has_open_job, job_for}
 use Rattle.journal_model.proofs.Looks.{any-append, each_of-append, verdict_of-append, settled_none, open_unsettled, same, same_number, differ, both, true_not_false}
 use Rattle.journal_look.specs.Looks.{is_hosts}
 use Rattle.journal_look.specs.declared.jobs.Open.{Open}
 use Rattle.journal_look.specs.declared.jobs.Told.{Told}
-use Rattle.journal_look.specs.Opens.{AreNumbered, AreOpen, AreTold, IsFirst, IsTold, closed, is_this, job_on, jobs_child, jobs_on, keeps_numbers, opened, touches}
+use Rattle.journal_look.specs.Opens.{AreNumbered, AreOpen, AreTold, IsAsked, IsTold, closed, is_this, job_on, jobs_child, jobs_on, keeps_numbers, opened, touches}
 
 -- ---- lists and tests
 
@@ -230,8 +231,33 @@ none_first c j (e ∷ past) h = go (is_hosts c j e.what) h (none_first c j past)
     go true h r = absurd cc
     go false h r = let rest = r h in omega arith
 
-first_more : (past : List Entry) (e : Entry) (x : Open) → IsFirst past x → IsFirst (past ++ e ∷ []) x
-first_more past e x is = record {
+-- the entry asks no job that was asked before
+other_job : (past : List Entry) (w : What) (x : Open) (t : ℕ) → Keeps past w → x.job < length (asked_jobs past x.child) → list_any (λ q. is_this q.0 q.1 x) (cons_option (job_for t w) []) ≡ false
+other_job past (Ask child job task line) x t keeps low = go (task == t)
+  where
+    apart : (b : Bool) → is_this child job x ≡ b → (is_this child job x || false) ≡ false
+    apart false h = rw h refl
+    apart true h =
+        let parts = both (x.child == child) (x.job == job) h in
+        let of_child : x.child ≡ child = same_number x.child child parts.0 in
+        let of_job : x.job ≡ job = same_number x.job job parts.1 in
+        let number : job ≡ length (asked_jobs past child) = same_number job (length (asked_jobs past child)) keeps in
+        let low_here : x.job < length (asked_jobs past child) = subst (λ (d : ℕ). x.job < length (asked_jobs past d)) of_child low in
+        absurd (omega arith)
+
+    go : (b : Bool) → list_any (λ (q : ℕ × ℕ). is_this q.0 q.1 x) (cons_option (cond b (Some (child, job)) None) []) ≡ false
+    go true = apart (is_this child job x) refl
+    go false = refl
+other_job past w x t keeps low = refl
+
+asked_for_more : (past : List Entry) (e : Entry) (x : Open) (t : ℕ)
+    → list_any (λ q. is_this q.0 q.1 x) (each_of (job_for t) (past ++ e ∷ [])) ≡ (list_any (λ q. is_this q.0 q.1 x) (each_of (job_for t) past) || list_any (λ q. is_this q.0 q.1 x) (cons_option (job_for t e.what) []))
+asked_for_more past e x t =
+    ap (list_any (λ (q : ℕ × ℕ). is_this q.0 q.1 x)) (each_of-append (job_for t) past (e ∷ []))
+    ∙ list_any-append (λ (q : ℕ × ℕ). is_this q.0 q.1 x) (each_of (job_for t) past) (cons_option (job_for t e.what) [])
+
+first_more : (past : List Entry) (e : Entry) → Keeps past e.what → (x : Open) → IsAsked past x → IsAsked (past ++ e ∷ []) x
+first_more past e keeps x is = record {
   place =
       let within = is.within in
       let place = is.place in
@@ -239,17 +265,94 @@ first_more past e x is = record {
       prefix_len-append (λ (d : Entry). not (is_hosts x.child x.job d.what)) past (e ∷ [])
       ∙ (rw apart is.place);
   within = let within = is.within in let long = length-append past (e ∷ []) in omega arith;
+  low = let low = is.low in let long = asked_longer past e x.child in omega arith;
+  task = λ t. asked_for_more past e x t ∙ ap (λ (b : Bool). list_any (λ (q : ℕ × ℕ). is_this q.0 q.1 x) (each_of (job_for t) past) || b) (other_job past e.what x t keeps is.low) ∙ plain (list_any (λ (q : ℕ × ℕ). is_this q.0 q.1 x) (each_of (job_for t) past)) ∙ is.task t;
 }
+  where
+    plain : (b : Bool) → (b || false) ≡ b
+    plain true = refl
+    plain false = refl
 
-first_now : (past : List Entry) (e : Entry) (x : Open) → any (is_hosts x.child x.job) past ≡ false → is_hosts x.child x.job e.what ≡ true → x.at ≡ length past → IsFirst (past ++ e ∷ []) x
-first_now past e x none here at = record {
+-- a job that no entry is about was asked for no task
+none_asked : (c j : ℕ) (x : Open) (t : ℕ) → x.child ≡ c → x.job ≡ j → (past : List Entry) → any (touches c j) past ≡ false → list_any (λ q. is_this q.0 q.1 x) (each_of (job_for t) past) ≡ false
+none_asked c j x t of_child of_job [] h = refl
+none_asked c j x t of_child of_job (e ∷ past) h = go e.what h (none_asked c j x t of_child of_job past)
+  where
+    go : (w : What) → (touches c j w || any (touches c j) past) ≡ false → (any (touches c j) past ≡ false → list_any (λ (q : ℕ × ℕ). is_this q.0 q.1 x) (each_of (job_for t) past) ≡ false)
+        → list_any (λ (q : ℕ × ℕ). is_this q.0 q.1 x) (cons_option (job_for t w) (each_of (job_for t) past)) ≡ false
+    go (Ask child job task line) h r = two (task == t)
+      where
+        rest : any (touches c j) past ≡ false
+        rest = right (child == c && job == j) h
+          where
+            right : (b : Bool) → ((b || false) || any (touches c j) past) ≡ false → any (touches c j) past ≡ false
+            right true h = absurd cc
+            right false h = h
+
+        apart : is_this child job x ≡ false
+        apart = three (is_this child job x) refl
+          where
+            three : (b : Bool) → is_this child job x ≡ b → is_this child job x ≡ false
+            three false k = k
+            three true k =
+                let parts = both (x.child == child) (x.job == job) k in
+                let a : child ≡ c = sym (same_number x.child child parts.0) ∙ of_child in
+                let b : job ≡ j = sym (same_number x.job job parts.1) ∙ of_job in
+                let yes : (child == c && job == j) ≡ true = subst (λ (d : ℕ). (d == c && job == j) ≡ true) (sym a) (subst (λ (i : ℕ). (c == c && i == j) ≡ true) (sym b) (let p = same c in let q = same j in rw (p, q) refl)) in
+                absurd (clash (child == c && job == j) yes h)
+              where
+                clash : (b : Bool) → b ≡ true → ((b || false) || any (touches c j) past) ≡ false → ⊥
+                clash true e h = absurd cc
+                clash false e h = absurd cc
+
+        two : (b : Bool) → list_any (λ (q : ℕ × ℕ). is_this q.0 q.1 x) (cons_option (cond b (Some (child, job)) None) (each_of (job_for t) past)) ≡ false
+        two true = rw apart (r rest)
+        two false = r rest
+    go w h r = r (right (touches c j w) h)
+      where
+        right : (b : Bool) → (b || any (touches c j) past) ≡ false → any (touches c j) past ≡ false
+        right true h = absurd cc
+        right false h = h
+
+first_now : (past : List Entry) (by child job task : ℕ) (line : List ℕ) → Keeps past (Ask child job task line) → AreNumbered past
+    → IsAsked (past ++ record { by = by; what = Ask child job task line } ∷ []) (record { child = child; job = job; task = task; at = length past })
+first_now past by child job task line keeps are = record {
   place =
-      let whole = none_first x.child x.job past none in
-      let equal : (prefix_len (λ (d : Entry). not (is_hosts x.child x.job d.what)) past == length past) ≡ true = subst (λ (n : ℕ). (n == length past) ≡ true) (sym whole) (same (length past)) in
-      prefix_len-append (λ (d : Entry). not (is_hosts x.child x.job d.what)) past (e ∷ [])
-      ∙ (rw (equal, here) (let zero_more : length past + 0 ≡ length past = omega arith in zero_more ∙ sym at));
+      let whole = none_first child job past (not_either child job past untold).0 in
+      let equal : (prefix_len (λ (d : Entry). not (is_hosts child job d.what)) past == length past) ≡ true = subst (λ (n : ℕ). (n == length past) ≡ true) (sym whole) (same (length past)) in
+      prefix_len-append (λ (d : Entry). not (is_hosts child job d.what)) past (e ∷ [])
+      ∙ (rw (equal, here) (let zero_more : length past + 0 ≡ length past = omega arith in zero_more));
   within = let long = length-append past (e ∷ []) in omega arith;
+  low =
+      let asked : (child == child) ≡ true = same child in
+      let long : length (asked_jobs past child ++ cons_option (cond (child == child) (Some job) None) []) ≡ length (asked_jobs past child) + 1 = rw asked (length-append (asked_jobs past child) (job ∷ [])) in
+      let whole : length (asked_jobs (past ++ e ∷ []) child) ≡ length (asked_jobs past child) + 1 = ap length (asked_more past e child) ∙ long in
+      let here = number in
+      omega arith;
+  task = λ t.
+      asked_for_more past e x t
+      ∙ ap (λ (b : Bool). b || list_any (λ (q : ℕ × ℕ). is_this q.0 q.1 x) (cons_option (job_for t (Ask child job task line)) [])) (none_asked child job x t refl refl past untold)
+      ∙ last t (task == t) refl;
 }
+  where
+    e : Entry
+    e = record { by = by; what = Ask child job task line }
+
+    x : Open
+    x = record { child = child; job = job; task = task; at = length past }
+
+    number : job ≡ length (asked_jobs past child)
+    number = same_number job (length (asked_jobs past child)) keeps
+
+    untold : any (touches child job) past ≡ false
+    untold = untouched past child job are number
+
+    here : is_hosts child job (Ask child job task line) ≡ true
+    here = let p = same child in let q = same job in rw (p, q) refl
+
+    last : (t : ℕ) (b : Bool) → (task == t) ≡ b → list_any (λ (q : ℕ × ℕ). is_this q.0 q.1 x) (cons_option (cond (task == t) (Some (child, job)) None) []) ≡ (task == t)
+    last t true h = let p = same child in let q = same job in rw h (rw (p, q) refl)
+    last t false h = rw h refl
 
 -- ---- the open jobs
 
@@ -309,7 +412,7 @@ jobs_closed c child job (x ∷ jobs) = go (x.child == c) refl (jobs_closed c chi
 opened_on : (past : List Entry) (w : What) (jobs : List Open) → Keeps past w → AreOpen past jobs → (c : ℕ)
     → jobs_on c (opened (length past) w jobs) ≡ filter (λ j. not (settles c j w)) (open_jobs past c) ++ filter (λ j. not (is_settled past c j || settles c j w)) (cons_option (asks c w) [])
 opened_on past (Ask child job task line) jobs keeps are c =
-    filter_map-append (job_on c) jobs (record { child = child; job = job; at = length past } ∷ [])
+    filter_map-append (job_on c) jobs (record { child = child; job = job; task = task; at = length past } ∷ [])
     ∙ ap (λ (l : List ℕ). l ++ cons_option (cond (child == c) (Some job) None) []) (are.each c ∙ sym (all_kept (open_jobs past c)))
     ∙ ap (λ (l : List ℕ). filter (λ (j : ℕ). true) (open_jobs past c) ++ l) (go (child == c) refl)
   where
@@ -327,18 +430,15 @@ opened_on past (Settled child job v) jobs keeps are c =
 opened_on past w jobs keeps are c =
     are.each c ∙ sym (all_kept (open_jobs past c)) ∙ sym (append-nil (filter (λ (j : ℕ). true) (open_jobs past c)))
 
-firsts : (past : List Entry) (e : Entry) (jobs : List Open) → Keeps past e.what → AreOpen past jobs → All (IsFirst (past ++ e ∷ [])) (opened (length past) e.what jobs)
-firsts past e jobs keeps are = go e.by e.what keeps (All-weaker (IsFirst past) (IsFirst (past ++ e ∷ [])) (first_more past e) jobs are.first)
+firsts : (past : List Entry) (e : Entry) (jobs : List Open) → Keeps past e.what → AreOpen past jobs → All (IsAsked (past ++ e ∷ [])) (opened (length past) e.what jobs)
+firsts past e jobs keeps are = go e.by e.what keeps (All-weaker (IsAsked past) (IsAsked (past ++ e ∷ [])) (first_more past e keeps) jobs are.first)
   where
-    go : (by : ℕ) (w : What) → Keeps past w → All (IsFirst (past ++ record { by = by; what = w } ∷ [])) jobs → All (IsFirst (past ++ record { by = by; what = w } ∷ [])) (opened (length past) w jobs)
+    go : (by : ℕ) (w : What) → Keeps past w → All (IsAsked (past ++ record { by = by; what = w } ∷ [])) jobs → All (IsAsked (past ++ record { by = by; what = w } ∷ [])) (opened (length past) w jobs)
     go by (Ask child job task line) keeps all =
-        All-push (IsFirst (past ++ record { by = by; what = Ask child job task line } ∷ [])) jobs (record { child = child; job = job; at = length past }) all
-        (first_now past (record { by = by; what = Ask child job task line }) (record { child = child; job = job; at = length past })
-        (not_either child job past (untouched past child job are.numbered (same_number job (length (asked_jobs past child)) keeps))).0
-        (let here = same child in let there = same job in rw (here, there) refl)
-        refl)
+        All-push (IsAsked (past ++ record { by = by; what = Ask child job task line } ∷ [])) jobs (record { child = child; job = job; task = task; at = length past }) all
+        (first_now past by child job task line keeps are.numbered)
     go by (Settled child job v) keeps all =
-        All-filter (λ (x : Open). not (is_this child job x)) (IsFirst (past ++ record { by = by; what = Settled child job v } ∷ [])) jobs all
+        All-filter (λ (x : Open). not (is_this child job x)) (IsAsked (past ++ record { by = by; what = Settled child job v } ∷ [])) jobs all
     go by w keeps all = all
 
 pub open_more : (past : List Entry) (e : Entry) (jobs : List Open) → Keeps past e.what → AreOpen past jobs → AreOpen (past ++ e ∷ []) (opened (length past) e.what jobs)
@@ -352,7 +452,7 @@ pub none_open : AreOpen [] []
 none_open = record {
   numbered = record { asked = λ c j low. absurd (omega (arith, low)); touched = λ c j h. absurd cc };
   each = λ c. refl;
-  first = All-nil (IsFirst []);
+  first = All-nil (IsAsked []);
 }
 
 -- ---- questions
@@ -456,3 +556,60 @@ open_after past e w n at old new is place count keeps made are =
 pub if_some : {X : Type 0} {P Q : X → Type 0} (o : Option X) → IfSome o P → ((x : X) → P x → Q x) → IfSome o Q
 if_some None h f = h
 if_some (Some x) h f = f x h
+
+-- ---- open jobs of a task, and the place of a job's first line
+
+any_any : {X Y : Type 0} (r : X → Y → Bool) (xs : List X) (ys : List Y) → list_any (λ x. list_any (r x) ys) xs ≡ list_any (λ y. list_any (λ x. r x y) xs) ys
+any_any {X = X} {Y = Y} r [] ys = sym (none ys)
+  where
+    none : (ys : List Y) → list_any (λ (y : Y). false) ys ≡ false
+    none [] = refl
+    none (y ∷ ys) = none ys
+any_any {X = X} {Y = Y} r (x ∷ xs) ys = ap (λ (b : Bool). list_any (r x) ys || b) (any_any r xs ys) ∙ joined ys
+  where
+    four : (a b c d : Bool) → ((a || b) || (c || d)) ≡ ((a || c) || (b || d))
+    four true b c d = refl
+    four false true true d = refl
+    four false true false d = refl
+    four false false true d = refl
+    four false false false d = refl
+
+    joined : (ys : List Y) → (list_any (r x) ys || list_any (λ (y : Y). list_any (λ (z : X). r z y) xs) ys) ≡ list_any (λ (y : Y). r x y || list_any (λ (z : X). r z y) xs) ys
+    joined [] = refl
+    joined (y ∷ ys) = four (r x y) (list_any (r x) ys) (list_any (λ (z : X). r z y) xs) (list_any (λ (w : Y). list_any (λ (z : X). r z w) xs) ys) ∙ ap (λ (b : Bool). (r x y || list_any (λ (z : X). r z y) xs) || b) (joined ys)
+
+any_same : {X : Type 0} (p q : X → Bool) → ((x : X) → p x ≡ q x) → (xs : List X) → list_any p xs ≡ list_any q xs
+any_same p q each [] = refl
+any_same p q each (x ∷ xs) = let here = each x in rw (here, any_same p q each xs) refl
+
+pub task_open_here : (past : List Entry) (jobs : List Open) (t : ℕ) → AreOpen past jobs → list_any (λ x. x.task == t) jobs ≡ has_open_job past t
+task_open_here past jobs t are =
+    sym (
+    any_same (λ (q : ℕ × ℕ). is_open past q.0 q.1) (λ (q : ℕ × ℕ). list_any (is_this q.0 q.1) jobs) (λ q. sym (is_open_here past jobs q.0 q.1 are)) (each_of (job_for t) past)
+    ∙ any_any (λ (q : ℕ × ℕ) (x : Open). is_this q.0 q.1 x) (each_of (job_for t) past) jobs
+    ∙ by_each jobs are.first)
+  where
+    by_each : (xs : List Open) → All (IsAsked past) xs → list_any (λ (x : Open). list_any (λ (q : ℕ × ℕ). is_this q.0 q.1 x) (each_of (job_for t) past)) xs ≡ list_any (λ (x : Open). x.task == t) xs
+    by_each [] all = refl
+    by_each (x ∷ xs) all = let here = (All-head (IsAsked past) x xs all).task t in rw (here, by_each xs (All-tail (IsAsked past) x xs all)) refl
+
+pub place_here : (past : List Entry) (jobs : List Open) (c j : ℕ) (x : Open) → AreOpen past jobs → find (is_this c j) jobs ≡ Some x → x.at ≡ prefix_len (λ e. not (is_hosts c j e.what)) past
+place_here past jobs c j x are h = go jobs are.first h
+  where
+    go : (xs : List Open) → All (IsAsked past) xs → find (is_this c j) xs ≡ Some x → x.at ≡ prefix_len (λ (e : Entry). not (is_hosts c j e.what)) past
+    go [] all h = absurd cc
+    go (y ∷ xs) all h = two (is_this c j y) refl h (go xs (All-tail (IsAsked past) y xs all))
+      where
+        two : (b : Bool) → is_this c j y ≡ b → cond b (Some y) (find (is_this c j) xs) ≡ Some x → (find (is_this c j) xs ≡ Some x → x.at ≡ prefix_len (λ (e : Entry). not (is_hosts c j e.what)) past)
+            → x.at ≡ prefix_len (λ (e : Entry). not (is_hosts c j e.what)) past
+        two false k h r = r h
+        two true k h r =
+            let parts = both (y.child == c) (y.job == j) k in
+            let is : y ≡ x = cc in
+            let place : prefix_len (λ (e : Entry). not (is_hosts y.child y.job e.what)) past ≡ y.at = (All-head (IsAsked past) y xs all).place in
+            let of_child : y.child ≡ c = same_number y.child c parts.0 in
+            let of_job : y.job ≡ j = same_number y.job j parts.1 in
+            sym (
+            subst (λ (i : ℕ). prefix_len (λ (e : Entry). not (is_hosts c i e.what)) past ≡ x.at) of_job
+            (subst (λ (d : ℕ). prefix_len (λ (e : Entry). not (is_hosts d y.job e.what)) past ≡ x.at) of_child
+            (subst (λ (z : Open). prefix_len (λ (e : Entry). not (is_hosts y.child y.job e.what)) past ≡ z.at) is place)))

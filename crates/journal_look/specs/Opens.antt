@@ -4,7 +4,8 @@ use Rattle.std.specs.List.{All, list_any, prefix_len}
 use Rattle.journal_model.specs.declared.entry.What.{What}
 use Rattle.journal_model.specs.declared.entry.What.TheVariants.{Ask, Put, Verdict as Settled}
 use Rattle.journal_model.specs.declared.entry.Entry.{Entry}
-use Rattle.journal_model.specs.Journal.{any, asked_jobs, open_jobs, settles, verdict_of}
+use Rattle.journal_model.specs.Journal.{any, asked_jobs, each_of, open_jobs, settles, verdict_of}
+use Rattle.journal_model.specs.Legality.{job_for}
 use Rattle.journal_look.specs.Looks.{is_hosts}
 use Rattle.journal_look.specs.declared.jobs.Open.{Open}
 use Rattle.journal_look.specs.declared.jobs.Told.{Told}
@@ -53,19 +54,21 @@ closed c j jobs = filter (λ x. not (is_this c j x)) jobs
 
 -- the table behind one more entry, which stands at that place
 abbrev pub opened : ℕ → What → List Open → List Open
-opened at (Ask child job task line) jobs = jobs ++ record { child = child; job = job; at = at } ∷ []
+opened at (Ask child job task line) jobs = jobs ++ record { child = child; job = job; task = task; at = at } ∷ []
 opened at (Settled child job verdict) jobs = closed child job jobs
 opened at w jobs = jobs
 
--- the job's first entry of the host's stands at its place
-pub record IsFirst (past : List Entry) (x : Open) : Type 0 where
+-- The job was asked for its task alone, and the host's first line of it stands at its place.
+pub record IsAsked (past : List Entry) (x : Open) : Type 0 where
   pub place : prefix_len (λ e. not (is_hosts x.child x.job e.what)) past ≡ x.at
   pub within : x.at < length past
+  pub low : x.job < length (asked_jobs past x.child)
+  pub task : (t : ℕ) → list_any (λ q. is_this q.0 q.1 x) (each_of (job_for t) past) ≡ (x.task == t)
 
 pub record AreOpen (past : List Entry) (jobs : List Open) : Type 0 where
   pub numbered : AreNumbered past
   pub each : (c : ℕ) → jobs_on c jobs ≡ open_jobs past c
-  pub first : All (IsFirst past) jobs
+  pub first : All (IsAsked past) jobs
 
 -- ---- settled jobs
 

@@ -1,8 +1,10 @@
 // Which jobs are open, and how the last ones were settled, entry by entry.
-ghost use Rattle.std.specs.Prelude.{◌≡◌, ◌==◌, ◌<◌, ◌++◌, ◌∷◌, [], List, ◌&&◌, Some, find, length, option_copied, IfSome, IsTrue, true};
-ghost use Rattle.std.specs.List.{list_any};
+ghost use Rattle.std.specs.Prelude.{not, nat_le, ◌≤◌, ℕ, Bool, None, ◌≡◌, ◌==◌, ◌<◌, ◌++◌, ◌∷◌, [], List, ◌&&◌, Some, find, length, option_copied, IfSome, IsTrue, true};
+ghost use Rattle.std.specs.List.{list_all, list_any, prefix_len};
 ghost use Rattle.journal_model.specs.declared.entry.Entry.{Entry};
 ghost use Rattle.journal_model.specs.Journal.{asked_jobs, first_of, is_open, open_jobs, verdict_of};
+ghost use Rattle.journal_model.specs.Legality.{has_open_job};
+ghost use Rattle.journal_look.specs.Looks.{is_hosts, job_at};
 ghost use Rattle.journal_look.specs.Lives.{AreKnown};
 ghost use Rattle.journal_look.specs.Opens.{AreJobsKnown, AreOpen, AreTold, IsTold, closed, is_this, jobs_child, keeps_numbers, opened};
 
@@ -10,11 +12,12 @@ use crate::life::{self, Lives};
 use journal_model::{Entry, Verdict, What};
 use std::alloc::{AllocError, Global};
 
-/// An open job, and the place of the entry that asks it.
+/// An open job, the task that it was asked for, and the place of the entry that asks it.
 #[derive(Clone, Copy)]
 pub(super) struct Open {
     pub child: u32,
     pub job: u64,
+    pub task: u32,
     pub at: usize,
 }
 
@@ -81,9 +84,22 @@ fn change(jobs: &mut Vec<Open>, at: usize, what: &What) -> bool
     ensures { IsTrue result → jobs.new.items ≡ opened at what.now jobs.old.items }
 {
     match what {
-        What::Ask { child, job, .. } => {
-            let (child, job) = (*child, *job);
-            put(jobs, Open { child, job, at })
+        What::Ask {
+            child,
+            job,
+            task,
+            ..
+        } => {
+            let (child, job, task) = (*child, *job, *task);
+            put(
+                jobs,
+                Open {
+                    child,
+                    job,
+                    task,
+                    at,
+                },
+            )
         }
         What::Verdict { child, job, .. } => {
             close(jobs, *child, *job);
@@ -124,6 +140,63 @@ pub(super) fn first_open(jobs: &[Open], child: u32) -> Option<u64>
     match first_on(jobs, child) {
         Some(one) => Some(one.job),
         None => None,
+    }
+}
+
+fn has_task(jobs: &[Open], t: u32) -> bool
+    ensures { result ≡ list_any (λ x. x.task == t) jobs.now }
+{
+    jobs.iter().any(|x| x.task == t)
+}
+
+/// Whether a job of the task is open, where the table is that of the entries.
+#[tactic(auto, using(crate::proofs::Opening::task_open_here))]
+pub(super) fn has_open_job(jobs: &[Open], task: u32) -> bool
+    ensures { (past : List Entry) → AreOpen past jobs.now → result ≡ has_open_job past task }
+{
+    has_task(jobs, task)
+}
+
+fn find_job(jobs: &[Open], child: u32, job: u64) -> Option<&Open>
+    ensures { option_copied result ≡ find (is_this child job) jobs.now }
+{
+    jobs.iter().find(|x| is_this(x, child, job))
+}
+
+/// The place of the host's first line of the job, where it is open and the table is that of the entries.
+pub(super) fn place_of(jobs: &[Open], child: u32, job: u64) -> Option<usize>
+    ensures { (past : List Entry) → AreOpen past jobs.now → IfSome result (λ at. at ≡ prefix_len (λ e. not (is_hosts child job e.what)) past) }
+{
+    match find_job(jobs, child, job) {
+        Some(x) => Some(x.at),
+        None => None,
+    }
+}
+
+fn are_from(jobs: &[Open], place: usize) -> bool
+    ensures { result ≡ list_all (λ x. nat_le place x.at) jobs.now }
+{
+    jobs.iter().all(|x| place <= x.at)
+}
+
+fn first_place(jobs: &[Open], len: usize) -> usize {
+    match jobs {
+        [first, ..] => first.at,
+        [] => len,
+    }
+}
+
+/// A place before which no open job was asked, where the table is that of so many entries.
+#[tactic(auto, using(crate::proofs::Ending::none_due))]
+pub(super) fn least_place(jobs: &[Open], len: usize) -> usize
+    ensures bound { result ≤ len }
+    ensures none { (past : List Entry) (at c : ℕ) (unsent : Bool) → AreOpen past jobs.now → at < result → job_at past (length past) at c unsent ≡ None }
+{
+    let place = first_place(jobs, len);
+    if place <= len && are_from(jobs, place) {
+        place
+    } else {
+        0
     }
 }
 
