@@ -6,3 +6,5 @@ pub mod Marking
 pub mod Weighing
 pub mod Tabling
 pub mod Living
+pub mod Holding
+pub mod InWay

@@ -1,6 +1,6 @@
 -- What the marks of a journal save.
 use Rattle.std.proofs.Common.{◌≡◌, ◌∙◌, ℕ, zero, suc, ◌+◌, ◌-◌, ◌<◌, ◌≤◌, List, [], ◌∷◌, ◌++◌, refl, sym, ap, subst, Bool, true, false, not, cond, Some, None, length, take, drop, get_or, arith, inl, inr}
-use Rattle.std.specs.Prelude.{◌==◌, ◌&&◌, ◌⊎◌, filter, find}
+use Rattle.std.specs.Prelude.{◌==◌, ◌&&◌, ◌||◌, ◌⊎◌, filter, find}
 use Rattle.std.specs.List.{list_all, cons_option, range_with_len}
 use Rattle.std.proofs.lemmas.List.{take-append-le, take-append-drop, take_more}
 use Rattle.std.proofs.lemmas.List.Elements.{filter-append}
@@ -113,6 +113,16 @@ one_more_claimed entries t claimed here = record { each = λ u some below. go u 
     go u some below (inl less) = claimed.each u some less
     go u some below (inr same) = subst (λ (k : ℕ). is_claimed entries k ≡ true) (sym same) here
 
+pub claimed_next : (past : List Entry) (e : Entry) (t : ℕ) → claims t e.what ≡ true → AreClaimed past t → AreClaimed (past ++ e ∷ []) (t + 1)
+claimed_next past e t here are =
+    one_more_claimed (past ++ e ∷ []) t (claimed_more past e t are)
+    (list_any-append (λ (d : Entry). claims t d.what) past (e ∷ []) ∙ last (is_claimed past t) (claims t e.what) here)
+  where
+    last : (a b : Bool) → b ≡ true → (a || (b || false)) ≡ true
+    last true b h = refl
+    last false true h = refl
+    last false false h = h
+
 pub claimed_not_free : (o : Opening) (entries : List Entry) (u : ℕ) → is_claimed entries u ≡ true → is_free o entries u ≡ false
 claimed_not_free o entries u h = rw h refl
 
@@ -176,6 +186,38 @@ all_from p n from some all = go (either_way from n)
     go (inr high) =
         let over : n + 1 - from ≡ 0 = omega arith in
         ap (λ (k : ℕ). list_all p (range_with_len from k)) over ∙ sym (all_in p n 1 (λ u low less. all u (omega arith) (omega arith)))
+
+filter_behind : (p : ℕ → Bool) (k a m : ℕ) → ((u : ℕ) → a ≤ u → u < a + k → p u ≡ false) → filter p (range_with_len a (k + m)) ≡ filter p (range_with_len (a + k) m)
+filter_behind p zero a m none = let here : a + 0 ≡ a = omega arith in let less : 0 + m ≡ m = omega arith in rw (here, less) refl
+filter_behind p (suc k) a m none =
+    let first : p a ≡ false = none a (omega arith) (omega arith) in
+    let more : suc k + m ≡ suc (k + m) = omega arith in
+    let start : (a + 1) + k ≡ a + suc k = omega arith in
+    rw more (rw first (filter_behind p k (a + 1) m (λ u low high. none u (omega arith) (omega arith)) ∙ ap (λ (b : ℕ). filter p (range_with_len b m)) start))
+
+none_of : (p : ℕ → Bool) (k a : ℕ) → ((u : ℕ) → a ≤ u → u < a + k → p u ≡ false) → filter p (range_with_len a k) ≡ []
+none_of p zero a none = refl
+none_of p (suc k) a none =
+    let first : p a ≡ false = none a (omega arith) (omega arith) in
+    rw first (none_of p k (a + 1) (λ u low high. none u (omega arith) (omega arith)))
+
+-- how many of the n numbers pass, where none below from does
+pub counted_from : (p : ℕ → Bool) (n from : ℕ) → 0 < from → ((u : ℕ) → 0 < u → u < from → p u ≡ false) → length (filter p (range_with_len from (n + 1 - from))) ≡ length (filter p (range_with_len 1 n))
+counted_from p n from some none = ap length (go (either_way from n))
+  where
+    go : (from ≤ n + 1) ⊎ (n + 1 < from) → filter p (range_with_len from (n + 1 - from)) ≡ filter p (range_with_len 1 n)
+    go (inl low) =
+        let all : (from - 1) + (n + 1 - from) ≡ n = omega arith in
+        let start : 1 + (from - 1) ≡ from = omega arith in
+        ap (λ (b : ℕ). filter p (range_with_len b (n + 1 - from))) (sym start)
+        ∙ sym (filter_behind p (from - 1) 1 (n + 1 - from) (λ u low high. none u (omega arith) (omega arith)))
+        ∙ ap (λ (k : ℕ). filter p (range_with_len 1 k)) all
+    go (inr high) =
+        let over : n + 1 - from ≡ 0 = omega arith in
+        ap (λ (k : ℕ). filter p (range_with_len from k)) over ∙ sym (none_of p n 1 (λ u low less. none u (omega arith) (omega arith)))
+
+pub not_unclaimed : (entries : List Entry) (u : ℕ) → is_claimed entries u ≡ true → not (is_claimed entries u) ≡ false
+not_unclaimed entries u h = ap not h
 
 pub either_order : (a b : Bool) → (a && b) ≡ (b && a)
 either_order true true = refl

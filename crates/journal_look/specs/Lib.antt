@@ -4,3 +4,4 @@ pub mod Looks
 pub mod Marks
 pub mod Tables
 pub mod Lives
+pub mod Holds

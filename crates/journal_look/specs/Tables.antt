@@ -3,6 +3,7 @@ use Rattle.std.specs.Prelude.{◌≡◌, ◌-◌, ◌<◌, ◌≤◌, List, leng
 use Rattle.journal_model.specs.declared.entry.Entry.{Entry}
 use Rattle.journal_model.specs.Limits.{most_line_bytes}
 use Rattle.journal_model.specs.Journal.{bytes_in}
+use Rattle.journal_look.specs.Holds.{AreHoldsKnown, AreUnclaimed}
 use Rattle.journal_look.specs.Lives.{AreKnown}
 use Rattle.journal_look.specs.Marks.{AreClaimed, AreSettled}
 use Rattle.journal_look.specs.declared.tables.Tables.{Tables}
@@ -10,6 +11,8 @@ use Rattle.journal_look.specs.declared.tables.Tables.{Tables}
 pub record AreTabled (entries : List Entry) (tables : Tables) : Type 0 where
   pub left : tables.left ≡ most_line_bytes - bytes_in entries
   pub lives : AreKnown entries tables.lives
+  pub holds : AreHoldsKnown entries tables.holds
+  pub top : AreUnclaimed entries tables.top
   pub bound : tables.settled ≤ length entries
   pub settled : AreSettled entries tables.settled
   pub some : 0 < tables.claimed

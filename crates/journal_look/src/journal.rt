@@ -3,6 +3,7 @@ ghost use Rattle.std.specs.Prelude.{◌≡◌, ◌+◌, ◌-◌, ◌<◌, ◌≤
 ghost use Rattle.journal_look.specs.Shown.{entry_shown};
 
 use crate::entry::{EntryRef, entry_of};
+use crate::held::{self, Held};
 use crate::life::{self, Life};
 use crate::tables::{self, Tables};
 use ann_key::NoMemory;
@@ -35,6 +36,7 @@ impl Journal {
     ghost use Rattle.journal_model.specs.Journal.{any, bytes_in};
     ghost use Rattle.journal_model.specs.Legality.{count, is_start};
     ghost use Rattle.journal_look.specs.Looks.{is_no_start};
+    ghost use Rattle.journal_look.specs.Holds.{AreHeld, AreUnclaimed};
     ghost use Rattle.journal_look.specs.Lives.{life_of};
     ghost use Rattle.journal_look.specs.Marks.{AreClaimed, AreSettled};
 
@@ -151,6 +153,20 @@ impl Journal {
         ensures { IfSome result (λ b. b ≡ any is_no_start self.now.entries) }
     {
         life::no_start(&self.tables.lives)
+    }
+
+    // The tasks that are held, where they are known without the entries.
+    pub(crate) fn held(&self) -> Option<&[Held]>
+        ensures { IfSome result (λ held. AreHeld self.now.entries held.now) }
+    {
+        held::look(&self.tables.holds)
+    }
+
+    // A number from which on no task is claimed.
+    pub(crate) fn top(&self) -> u64
+        ensures { AreUnclaimed self.now.entries result }
+    {
+        self.tables.top
     }
 
     // How many of the first entries ask only jobs that are settled.

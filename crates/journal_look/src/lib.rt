@@ -4,6 +4,7 @@
 mod children;
 mod dues;
 mod entry;
+mod held;
 mod journal;
 mod life;
 mod lines;

@@ -180,7 +180,7 @@ pub fn may_ask(journal: &Journal, by: u32, task: u32, child: u32) -> bool
     ensures { result ≡ may_ask journal.now.entries by task child }
 {
     is_greeted(journal, child, next_job(journal, child))
-        && tasks::may_work(journal.entries(), journal.settled(), by, task, child)
+        && tasks::may_work(journal, by, task, child)
         && (is_tagged(journal, child) || has_no_open_job(journal, child))
 }
 
@@ -285,7 +285,7 @@ pub fn least_free(opening: &Opening, journal: &Journal) -> Option<u32>
     requires { length opening.now.tasks ≤ most_tasks }
     ensures { result ≡ least_free opening.now journal.now.entries }
 {
-    tasks::least_free(opening, journal.entries(), journal.claimed())
+    tasks::least_free(opening, journal, journal.claimed())
 }
 
 /// Whether each task is claimed.
@@ -293,7 +293,7 @@ pub fn are_all_claimed(opening: &Opening, journal: &Journal) -> bool
     requires { length opening.now.tasks ≤ most_tasks }
     ensures { result ≡ list_all (is_claimed journal.now.entries) (numbers_of opening.now) }
 {
-    tasks::are_all_claimed(opening, journal.entries(), journal.claimed())
+    tasks::are_all_claimed(opening, journal, journal.claimed())
 }
 
 /// How many tasks are not claimed.
@@ -301,14 +301,14 @@ pub fn unclaimed(opening: &Opening, journal: &Journal) -> u32
     requires { length opening.now.tasks ≤ most_tasks }
     ensures { result ≡ length (filter (λ t. not (is_claimed journal.now.entries t)) (numbers_of opening.now)) }
 {
-    tasks::unclaimed(opening, journal.entries())
+    tasks::unclaimed(opening, journal, journal.claimed())
 }
 
 /// Whether the number holds the task.
 pub fn is_claimed_by(journal: &Journal, by: u32, task: u32) -> bool
     ensures { result ≡ is_claimed_by journal.now.entries by task }
 {
-    tasks::is_claimed_by(journal.entries(), by, task)
+    tasks::is_claimed_by(journal, by, task)
 }
 
 /// Whether a job of the task is open.
@@ -322,5 +322,5 @@ pub fn has_open_job(journal: &Journal, task: u32) -> bool
 pub fn has_busy_task(journal: &Journal, child: u32) -> bool
     ensures { result ≡ has_busy_task journal.now.entries child }
 {
-    tasks::has_busy_task(journal.entries(), child)
+    tasks::has_busy_task(journal, child)
 }

@@ -1,5 +1,6 @@
 // How far the marks of a journal go.
-ghost use Rattle.std.specs.Prelude.{◌≡◌, ◌+◌, ◌≤◌, ◌<◌, length, IsTrue};
+ghost use Rattle.std.specs.Prelude.{◌≡◌, ◌+◌, ◌≤◌, ◌<◌, ◌++◌, ◌∷◌, [], List, length, IsTrue};
+ghost use Rattle.journal_model.specs.declared.entry.Entry.{Entry};
 ghost use Rattle.journal_look.specs.Marks.{AreClaimed, AreSettled};
 
 use crate::{children, tasks};
@@ -32,16 +33,29 @@ pub(super) fn settled_from(entries: &[Entry], from: usize) -> usize
     at
 }
 
-/// The first task that isn't claimed, from that one on.
+/// The mark below which each task is claimed, after one more entry.
+#[tactic(auto, using(crate::proofs::Marking::claimed_next, crate::proofs::Marking::claimed_more))]
+pub(super) fn claimed_after(mark: u32, entry: &Entry) -> u32
+    ensures some { 0 < mark → 0 < result }
+    ensures claimed { (past : List Entry) → AreClaimed past mark → AreClaimed (past ++ entry.now ∷ []) result }
+{
+    if tasks::claims(&entry.what, mark) && mark < u32::MAX {
+        mark + 1
+    } else {
+        mark
+    }
+}
+
+/// A task below which each is claimed, from that one on. From top on none is.
 #[tactic(auto, using(crate::proofs::Marking::one_more_claimed))]
-pub(super) fn claimed_from(entries: &[Entry], from: u32) -> u32
+pub(super) fn claimed_from(entries: &[Entry], from: u32, top: u64) -> u32
     requires some { 0 < from }
     requires claimed { AreClaimed entries.now from }
     ensures some { 0 < result }
     ensures claimed { AreClaimed entries.now result }
 {
     let mut task = from;
-    while task < u32::MAX && tasks::is_claimed(entries, task) {
+    while task < u32::MAX && u64::from(task) < top && tasks::is_claimed(entries, task) {
         task += 1;
     }
     task

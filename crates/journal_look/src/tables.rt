@@ -3,19 +3,22 @@ ghost use Rattle.std.specs.Prelude.{◌≡◌, ◌++◌, ◌∷◌, [], List};
 ghost use Rattle.journal_model.specs.declared.entry.Entry.{Entry};
 ghost use Rattle.journal_look.specs.Tables.{AreTabled};
 
+use crate::held::{self, Holds};
 use crate::life::{self, Lives};
 use crate::lines::{left_after, left_of};
-use crate::marks::{claimed_from, settled_from};
+use crate::marks::{claimed_after, claimed_from, settled_from};
 use ann_key::NoMemory;
 use journal_model::Entry;
 use std::alloc::Global;
 
-/// How many more bytes the lines may have, what is known of the children, how many of the first entries ask only jobs that are
-/// settled, and below which number each task is claimed.
+/// How many more bytes the lines may have, what is known of the children and of the held tasks, a number from which on no task is
+/// claimed and one below which each is, and how many of the first entries ask only jobs that are settled.
 #[derive(Drop)]
 pub(super) struct Tables {
     pub left: usize,
     pub lives: Lives,
+    pub holds: Holds,
+    pub top: u64,
     pub settled: usize,
     pub claimed: u32,
 }
@@ -28,6 +31,8 @@ pub(super) fn tables_of(alloc: Global, entries: &[Entry]) -> Tables
     Tables {
         left: left_of(entries),
         lives: life::none(alloc, entries),
+        holds: held::none(alloc, entries),
+        top: held::top_of(entries),
         settled: 0,
         claimed: 1,
     }
@@ -39,6 +44,9 @@ pub(super) fn note(tables: &mut Tables, entry: &Entry)
 {
     tables.left = left_after(tables.left, &entry.what);
     life::note(&mut tables.lives, entry);
+    held::note(&mut tables.holds, entry);
+    tables.top = held::top_after(tables.top, &entry.what);
+    tables.claimed = claimed_after(tables.claimed, entry);
 }
 
 /// Takes room for so many more entries.
@@ -46,6 +54,7 @@ pub(super) fn take_room(tables: &mut Tables, more: usize) -> Result<(), NoMemory
     ensures { (past : List Entry) → AreTabled past tables.old → AreTabled past tables.new }
 {
     life::take_room(&mut tables.lives, more)?;
+    held::take_room(&mut tables.holds, more)?;
     Ok(())
 }
 
@@ -58,6 +67,6 @@ pub(super) fn raise(tables: &mut Tables, entries: &[Entry], settles: bool, claim
         tables.settled = settled_from(entries, tables.settled);
     }
     if claims {
-        tables.claimed = claimed_from(entries, tables.claimed);
+        tables.claimed = claimed_from(entries, tables.claimed, tables.top);
     }
 }
