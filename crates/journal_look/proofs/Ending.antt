@@ -7,9 +7,9 @@ use Rattle.std.proofs.lemmas.List.Elements.{All-head, All-tail}
 use Rattle.journal_model.specs.declared.entry.What.{What}
 use Rattle.journal_model.specs.declared.entry.What.TheVariants.{Claim, Start, NoStart, Ask, Put, Sent, Mute, Got, End, Verdict as Settled, Lost, Answer as Answered, Note as Noted}
 use Rattle.journal_model.specs.declared.entry.Entry.{Entry}
-use Rattle.journal_model.specs.Journal.{asks, asked_jobs, is_open, is_settled, open_jobs}
+use Rattle.journal_model.specs.Journal.{asks, asked_jobs, is_open, is_settled}
 use Rattle.journal_model.proofs.Looks.{same, same_number, both}
-use Rattle.journal_look.specs.Looks.{due_asked, due_job, is_due, is_hosts, job_at}
+use Rattle.journal_look.specs.Looks.{due_asked, due_job, is_hosts, job_at}
 use Rattle.journal_look.specs.declared.jobs.Open.{Open}
 use Rattle.journal_look.specs.Opens.{AreOpen, IsAsked, is_this}
 use Rattle.journal_look.proofs.Opening.{is_open_here}

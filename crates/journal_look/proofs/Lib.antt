@@ -9,3 +9,5 @@ pub mod Living
 pub mod Opening
 pub mod Counting
 pub mod Ending
+pub mod Holding
+pub mod InWay

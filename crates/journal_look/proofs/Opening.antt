@@ -1,6 +1,6 @@
 -- Which jobs are open after one more entry, and how jobs were settled.
-use Rattle.std.proofs.Common.{◌≡◌, ◌≢◌, ◌∙◌, ℕ, suc, ◌+◌, ◌<◌, ◌≤◌, List, [], ◌∷◌, ◌++◌, refl, sym, ap, subst, Bool, true, false, not, cond, Option, Some, None, length, length-append, append-nil, arith, inl, inr}
-use Rattle.std.specs.Prelude.{◌==◌, ◌&&◌, ◌||◌, ◌⊎◌, nat_lt, filter, find, option_map, slice_get, IfSome}
+use Rattle.std.proofs.Common.{◌≡◌, ◌∙◌, ℕ, suc, ◌+◌, ◌<◌, ◌≤◌, List, [], ◌∷◌, ◌++◌, refl, sym, ap, subst, Bool, true, false, not, cond, Option, Some, None, length, length-append, append-nil, arith, inl, inr}
+use Rattle.std.specs.Prelude.{◌==◌, ◌&&◌, ◌||◌, ◌⊎◌, nat_lt, filter, find, option_map, IfSome}
 use Rattle.std.specs.List.{All, list_any, prefix_len, cons_option}
 use Rattle.std.specs.Option.{option_or}
 use Rattle.std.proofs.lemmas.Bool.Decides.{nat_tests}
@@ -10,7 +10,7 @@ use Rattle.journal_model.specs.declared.verdict.Verdict.{Verdict}
 use Rattle.journal_model.specs.declared.entry.What.{What}
 use Rattle.journal_model.specs.declared.entry.What.TheVariants.{Claim, Start, NoStart, Ask, Put, Sent, Mute, Got, End, Verdict as Settled, Lost, Answer as Answered, Note as Noted}
 use Rattle.journal_model.specs.declared.entry.Entry.{Entry}
-use Rattle.journal_model.specs.Journal.{any, asks, asked_jobs, each_of, first_of, is_open, is_settled, open_jobs, settles, verdict_in, verdict_of}
+use Rattle.journal_model.specs.Journal.{any, asks, asked_jobs, each_of, first_of, is_open, is_settled, open_jobs, settles, verdict_of}
 use Rattle.journal_model.specs.Legality.{has_open_job, job_for}
 use Rattle.journal_model.proofs.Looks.{any-append, each_of-append, verdict_of-append, settled_none, open_unsettled, same, same_number, differ, both, true_not_false}
 use Rattle.journal_look.specs.Looks.{is_hosts}
@@ -161,8 +161,8 @@ numbers_more past e keeps are = record {
       subst (λ (ks : List ℕ). list_any (λ k. k == j) ks ≡ true) (sym (asked_more past e c))
       (any_asked j (asked_jobs past c) (asks c e.what)
       (λ k h.
-          let next = asks_next c (length (asked_jobs past (jobs_child e.what))) e.what keeps k h in
-          next.1 ∙ ap (λ (d : ℕ). length (asked_jobs past d)) next.0)
+      let next = asks_next c (length (asked_jobs past (jobs_child e.what))) e.what keeps k h in
+      next.1 ∙ ap (λ (d : ℕ). length (asked_jobs past d)) next.0)
       (are.asked c)
       (subst (λ (ks : List ℕ). j < length ks) (asked_more past e c) low));
   touched = λ c j h. here c j (either_one (any (touches c j) past) (touches c j e.what || false) (sym (any-append (touches c j) past (e ∷ [])) ∙ h));
@@ -364,8 +364,8 @@ open_by past e c =
     ∙ filter_same (λ (j : ℕ). not (is_settled (past ++ e ∷ []) c j)) (λ (j : ℕ). not (is_settled past c j || settles c j e.what)) (λ j. ap not (settled_now past e c j ∙ ap (λ (b : Bool). is_settled past c j || b) (right (settles c j e.what)))) (asked_jobs past c ++ cons_option (asks c e.what) [])
     ∙ filter-append (λ (j : ℕ). not (is_settled past c j || settles c j e.what)) (asked_jobs past c) (cons_option (asks c e.what) [])
     ∙ ap (λ (l : List ℕ). l ++ filter (λ (j : ℕ). not (is_settled past c j || settles c j e.what)) (cons_option (asks c e.what) []))
-        (filter_same (λ (j : ℕ). not (is_settled past c j || settles c j e.what)) (λ (j : ℕ). not (is_settled past c j) && not (settles c j e.what)) (λ j. neither (is_settled past c j) (settles c j e.what)) (asked_jobs past c)
-        ∙ sym (filter_twice (λ (j : ℕ). not (is_settled past c j)) (λ (j : ℕ). not (settles c j e.what)) (asked_jobs past c)))
+    (filter_same (λ (j : ℕ). not (is_settled past c j || settles c j e.what)) (λ (j : ℕ). not (is_settled past c j) && not (settles c j e.what)) (λ j. neither (is_settled past c j) (settles c j e.what)) (asked_jobs past c)
+    ∙ sym (filter_twice (λ (j : ℕ). not (is_settled past c j)) (λ (j : ℕ). not (settles c j e.what)) (asked_jobs past c)))
   where
     right : (b : Bool) → (b || false) ≡ b
     right true = refl
@@ -397,7 +397,7 @@ jobs_closed c child job (x ∷ jobs) = go (x.child == c) refl (jobs_closed c chi
     go true e r =
         let is : x.child ≡ c = same_number x.child c e in
         let swapped : (x.child == child && x.job == job) ≡ (child == c && job == x.job) = subst (λ (k : ℕ). (k == child && x.job == job) ≡ (child == c && job == x.job)) (sym is)
-            (pair (turned c child) (turned x.job job)) in
+        (pair (turned c child) (turned x.job job)) in
         rw e (rw swapped (two (child == c && job == x.job) refl))
       where
         pair : {a b c d : Bool} → a ≡ b → c ≡ d → (a && c) ≡ (b && d)
@@ -484,6 +484,9 @@ first_open_here past jobs c are = go jobs ∙ ap first_of (are.each c)
 -- an open job has no verdict
 pub open_told : (past : List Entry) (jobs : List Open) (c j : ℕ) → AreOpen past jobs → list_any (is_this c j) jobs ≡ true → verdict_of past c j ≡ None
 open_told past jobs c j are h = settled_none past c j (open_unsettled past c j (sym (is_open_here past jobs c j are) ∙ h))
+
+pub open_none : (past : List Entry) (c j : ℕ) → is_open past c j ≡ true → verdict_of past c j ≡ None
+open_none past c j h = settled_none past c j (open_unsettled past c j h)
 
 -- a job was asked where its number is small
 pub asked_here : (past : List Entry) (jobs : List Open) (c j : ℕ) → AreOpen past jobs → nat_lt j (length (asked_jobs past c)) ≡ list_any (λ k. k == j) (asked_jobs past c)
@@ -613,3 +616,7 @@ place_here past jobs c j x are h = go jobs are.first h
             subst (λ (i : ℕ). prefix_len (λ (e : Entry). not (is_hosts c i e.what)) past ≡ x.at) of_job
             (subst (λ (d : ℕ). prefix_len (λ (e : Entry). not (is_hosts d y.job e.what)) past ≡ x.at) of_child
             (subst (λ (z : Open). prefix_len (λ (e : Entry). not (is_hosts y.child y.job e.what)) past ≡ z.at) is place)))
+
+pub some_of : {X : Type 0} (P : X → Type 0) (o : Option X) (x : X) → IfSome o P → o ≡ Some x → P x
+some_of P None x h e = absurd cc
+some_of P (Some y) x h e = let is : y ≡ x = cc in subst P is h

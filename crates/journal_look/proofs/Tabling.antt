@@ -1,31 +1,29 @@
 -- The tables of a journal after one more entry.
-use Rattle.std.proofs.Common.{◌≡◌, ◌∙◌, ℕ, ◌-◌, List, [], ◌∷◌, ◌++◌, arith, length-append}
+use Rattle.std.proofs.Common.{sym, subst, ◌<◌, ◌≡◌, ◌∙◌, ◌-◌, List, [], ◌∷◌, ◌++◌}
 use Rattle.journal_model.specs.declared.entry.Entry.{Entry}
 use Rattle.journal_model.specs.Journal.{line_bytes}
+use Rattle.journal_look.specs.Holds.{AreHoldsKnown, AreUnclaimed, top_after}
 use Rattle.journal_look.specs.Lives.{AreKnown}
-use Rattle.journal_look.specs.declared.life.Lives.{Lives}
+use Rattle.journal_look.specs.Marks.{AreClaimed}
+use Rattle.journal_look.specs.declared.cursors.Cursor.{Cursor}
+use Rattle.journal_look.specs.Cursors.{AreAt}
+use Rattle.journal_look.specs.Opens.{AreJobsKnown}
+use Rattle.journal_look.proofs.Counting.{cursors_more}
 use Rattle.journal_look.specs.Tables.{AreTabled}
 use Rattle.journal_look.specs.declared.tables.Tables.{Tables}
 use Rattle.journal_look.proofs.Weighing.{left_more}
-use Rattle.journal_look.proofs.Marking.{settled_more, claimed_more}
+use Rattle.journal_look.proofs.Holding.{unclaimed_more}
 
-pub noted : (past : List Entry) (e : Entry) (old : Tables) (left : ℕ) (lives : Lives) → left ≡ old.left - line_bytes e.what → AreKnown (past ++ e ∷ []) lives
-    → AreTabled past old → AreTabled (past ++ e ∷ []) (record old { left = left; lives = lives })
-noted past e old left lives less known are = record {
+pub noted : (past : List Entry) (e : Entry) (old new : Tables) → AreTabled past old → new.left ≡ old.left - line_bytes e.what → AreKnown (past ++ e ∷ []) new.lives
+    → AreHoldsKnown (past ++ e ∷ []) new.holds → AreJobsKnown (past ++ e ∷ []) new.jobs → new.cursors.items ≡ old.cursors.items → new.top ≡ top_after e.what old.top → 0 < new.claimed → AreClaimed (past ++ e ∷ []) new.claimed
+    → AreTabled (past ++ e ∷ []) new
+noted past e old new are less lives holds jobs cursors top some claimed = record {
   left = less ∙ left_more past e old.left are.left;
-  lives = known;
-  bound = let b = are.bound in let n = length-append past (e ∷ []) in omega arith;
-  settled = settled_more past e old.settled are.bound are.settled;
-  some = are.some;
-  claimed = claimed_more past e old.claimed are.claimed;
-}
-
-pub roomy : (past : List Entry) (old : Tables) (lives : Lives) → AreKnown past lives → AreTabled past old → AreTabled past (record old { lives = lives })
-roomy past old lives known are = record {
-  left = are.left;
-  lives = known;
-  bound = are.bound;
-  settled = are.settled;
-  some = are.some;
-  claimed = are.claimed;
+  lives = lives;
+  holds = holds;
+  top = subst (AreUnclaimed (past ++ e ∷ [])) (sym top) (unclaimed_more past e old.top are.top);
+  jobs = jobs;
+  cursors = subst (λ (l : List Cursor). AreAt (past ++ e ∷ []) l) (sym cursors) (cursors_more past e old.cursors.items are.cursors);
+  some = some;
+  claimed = claimed;
 }

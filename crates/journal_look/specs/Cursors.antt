@@ -1,5 +1,5 @@
 -- How far the lines that were written to a child are counted, so that the next one needn't be looked for from the start.
-use Rattle.std.specs.Prelude.{ℕ, ◌≡◌, ◌≤◌, List, filter, length, take}
+use Rattle.std.specs.Prelude.{◌≡◌, ◌≤◌, List, filter, length, take}
 use Rattle.std.specs.List.{All}
 use Rattle.journal_model.specs.declared.entry.Entry.{Entry}
 use Rattle.journal_look.specs.Looks.{is_written}

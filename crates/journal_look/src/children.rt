@@ -4,7 +4,6 @@ ghost use Rattle.std.specs.List.{list_any};
 ghost use Rattle.journal_model.specs.Journal.{starts, ends, mutes, got_from, sends, settles, asks, offers, verdict_in, end_why, first_of, each_of, any, is_started, is_ended, is_mute, is_live, has_spoken, asked_jobs, is_settled, open_jobs, is_open, verdict_of, why_of};
 ghost use Rattle.journal_model.specs.Legality.{count, is_start, is_empty};
 ghost use Rattle.journal_look.specs.Looks.{is_no_start};
-ghost use Rattle.journal_look.specs.Marks.{AreSettled};
 
 use journal_model::{Entry, Verdict, What, Why};
 
@@ -182,55 +181,31 @@ pub(super) fn is_settled(entries: &[Entry], child: u32, job: u64) -> bool
     entries.iter().any(|e| settles(&e.what, child, job))
 }
 
-/// What stands behind the first entries, so many.
-fn behind(entries: &[Entry], settled: usize) -> &[Entry]
-    requires { settled ≤ length entries.now }
-    ensures { result.now ≡ drop settled entries.entry.now }
+fn find_open(entries: &[Entry], child: u32) -> Option<u64>
+    ensures { result ≡ find (λ j. not (is_settled entries.now child j)) (asked_jobs entries.now child) }
 {
-    &entries[settled..]
+    entries
+        .iter()
+        .filter_map(|e| asks(&e.what, child))
+        .find(|k| !is_settled(entries, child, *k))
 }
 
-fn any_open(entries: &[Entry], rest: &[Entry], child: u32, job: u64) -> bool
-    ensures { result ≡ list_any (λ k. k == job) (filter (λ j. not (is_settled entries.now child j)) (asked_jobs rest.now child)) }
+/// Whether the job was asked and is not settled.
+pub(super) fn is_open(entries: &[Entry], child: u32, job: u64) -> bool
+    ensures { result ≡ is_open entries.now child job }
 {
-    rest.iter()
+    entries
+        .iter()
         .filter_map(|e| asks(&e.what, child))
         .filter(|k| !is_settled(entries, child, *k))
         .any(|k| k == job)
 }
 
-fn find_open(entries: &[Entry], rest: &[Entry], child: u32) -> Option<u64>
-    ensures { result ≡ find (λ j. not (is_settled entries.now child j)) (asked_jobs rest.now child) }
-{
-    rest.iter()
-        .filter_map(|e| asks(&e.what, child))
-        .find(|k| !is_settled(entries, child, *k))
-}
-
-/// Whether the job was asked and is not settled. The first entries, so many, ask only jobs that are.
-pub(super) fn is_open(entries: &[Entry], settled: usize, child: u32, job: u64) -> bool
-    requires bound { settled ≤ length entries.now }
-    requires settled { AreSettled entries.now settled }
-    ensures { result ≡ is_open entries.now child job }
-{
-    any_open(entries, behind(entries, settled), child, job)
-}
-
 /// The first of the child's open jobs, in rising order.
-pub(super) fn first_open(entries: &[Entry], settled: usize, child: u32) -> Option<u64>
-    requires bound { settled ≤ length entries.now }
-    requires settled { AreSettled entries.now settled }
+pub(super) fn first_open(entries: &[Entry], child: u32) -> Option<u64>
     ensures { result ≡ first_of (open_jobs entries.now child) }
 {
-    find_open(entries, behind(entries, settled), child)
-}
-
-pub(super) fn has_no_open_job(entries: &[Entry], settled: usize, child: u32) -> bool
-    requires bound { settled ≤ length entries.now }
-    requires settled { AreSettled entries.now settled }
-    ensures { result ≡ is_empty (open_jobs entries.now child) }
-{
-    first_open(entries, settled, child).is_none()
+    find_open(entries, child)
 }
 
 fn find_verdict(entries: &[Entry], child: u32, job: u64) -> Option<&Entry>

@@ -74,13 +74,14 @@ fn advanced(entries: &[Entry], x: Cursor) -> Cursor
     }
 }
 
-/// The line for the cursor's child that comes after so many.
-pub(super) fn nth_from(entries: &[Entry], x: Cursor, n: u64) -> Option<&Entry>
+/// The line for the child that comes after so many, from its cursor on.
+pub(super) fn nth_from(entries: &[Entry], x: Cursor, child: u32, n: u64) -> Option<&Entry>
+    requires child { x.child ≡ child }
     requires at { IsAt entries.now x }
     requires few { x.passed ≤ n }
-    ensures { option_copied result ≡ slice_get (filter (λ e. is_written x.child e.what) entries.now) n }
+    ensures { option_copied result ≡ slice_get (filter (λ e. is_written child e.what) entries.now) n }
 {
-    nth_written(rest(entries, x.from), x.child, (n - x.passed) as usize)
+    nth_written(rest(entries, x.from), child, (n - x.passed) as usize)
 }
 
 /// Puts a cursor at the first entry, where there is room for it.

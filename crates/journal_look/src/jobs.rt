@@ -126,6 +126,14 @@ pub(super) fn is_open(jobs: &[Open], child: u32, job: u64) -> bool
     has(jobs, child, job)
 }
 
+/// Whether the job was asked, where the table is that of the entries, of whose child so many jobs were.
+#[tactic(auto, using(crate::proofs::Opening::asked_here))]
+pub(super) fn is_asked(jobs: &[Open], asked: u64, child: u32, job: u64) -> bool
+    ensures { (past : List Entry) → AreOpen past jobs.now → asked ≡ length (asked_jobs past child) → result ≡ list_any (λ k. k == job) (asked_jobs past child) }
+{
+    job < asked
+}
+
 fn first_on(jobs: &[Open], c: u32) -> Option<&Open>
     ensures { option_copied result ≡ find (λ x. x.child == c) jobs.now }
 {

@@ -2,11 +2,14 @@
 ghost use Rattle.std.specs.Prelude.{◌≡◌, ◌+◌, ◌-◌, ◌<◌, ◌≤◌, ◌^◌, ◌++◌, ◌∷◌, [], slice_get, option_map, length, OnOk, OnErr, IsOk, IfSome, vec_len};
 ghost use Rattle.journal_look.specs.Shown.{entry_shown};
 
+use crate::cursors::{self, Cursor};
 use crate::entry::{EntryRef, entry_of};
+use crate::held::{self, Held};
+use crate::jobs::{self, Open};
 use crate::life::{self, Life};
 use crate::tables::{self, Tables};
 use ann_key::NoMemory;
-use journal_model::{Entry, What};
+use journal_model::{Entry, Verdict, What};
 use std::alloc::Global;
 use std::marker::Model;
 
@@ -32,11 +35,14 @@ impl Model for Journal {
 
 impl Journal {
     ghost use Rattle.journal_model.specs.Limits.{most_line_bytes};
-    ghost use Rattle.journal_model.specs.Journal.{any, bytes_in};
+    ghost use Rattle.journal_model.specs.Journal.{any, bytes_in, verdict_of};
     ghost use Rattle.journal_model.specs.Legality.{count, is_start};
     ghost use Rattle.journal_look.specs.Looks.{is_no_start};
+    ghost use Rattle.journal_look.specs.Holds.{AreHeld, AreUnclaimed};
     ghost use Rattle.journal_look.specs.Lives.{life_of};
-    ghost use Rattle.journal_look.specs.Marks.{AreClaimed, AreSettled};
+    ghost use Rattle.journal_look.specs.Marks.{AreClaimed};
+    ghost use Rattle.journal_look.specs.Opens.{AreOpen};
+    ghost use Rattle.journal_look.specs.Cursors.{IsAt};
 
     /// A journal without entries, and without room. It takes no memory.
     pub fn new(alloc: Global) -> Journal
@@ -108,14 +114,14 @@ impl Journal {
         ensures entries { self.new.entries ≡ self.old.entries ++ entry ∷ [] }
         ensures room { self.new.room ≡ self.old.room }
     {
-        let settles = matches!(entry.what, What::Verdict { .. });
+        let turn = cursors::turn_of(&entry.what);
         let claims = matches!(entry.what, What::Claim { .. });
-        tables::note(&mut self.tables, &entry);
+        tables::note(&mut self.tables, self.entries.len(), &entry);
         match self.entries.push(entry) {
             Ok(()) => {}
             Err(_) => unreachable!(),
         }
-        tables::raise(&mut self.tables, self.entries.as_slice(), settles, claims);
+        tables::raise(&mut self.tables, self.entries.as_slice(), turn, claims);
     }
 
     // All entries, in order.
@@ -153,12 +159,40 @@ impl Journal {
         life::no_start(&self.tables.lives)
     }
 
-    // How many of the first entries ask only jobs that are settled.
-    pub(crate) fn settled(&self) -> usize
-        ensures bound { result ≤ length self.now.entries }
-        ensures settled { AreSettled self.now.entries result }
+    // The tasks that are held, where they are known without the entries.
+    pub(crate) fn held(&self) -> Option<&[Held]>
+        ensures { IfSome result (λ held. AreHeld self.now.entries held.now) }
     {
-        self.tables.settled
+        held::look(&self.tables.holds)
+    }
+
+    // A number from which on no task is claimed.
+    pub(crate) fn top(&self) -> u64
+        ensures { AreUnclaimed self.now.entries result }
+    {
+        self.tables.top
+    }
+
+    // The open jobs, where they are known without the entries.
+    pub(crate) fn jobs(&self) -> Option<&[Open]>
+        ensures { IfSome result (λ list. AreOpen self.now.entries list.now) }
+    {
+        jobs::look(&self.tables.jobs)
+    }
+
+    // How the job was settled, where that is known without the entries.
+    pub(crate) fn told(&self, child: u32, job: u64) -> Option<Verdict>
+        ensures { IfSome result (λ v. verdict_of self.now.entries child job ≡ Some v) }
+    {
+        jobs::told_of(&self.tables.jobs, child, job)
+    }
+
+    // How far the lines for the child are counted, where that is known.
+    pub(crate) fn cursor(&self, child: u32) -> Option<Cursor>
+        ensures child { IfSome result (λ x. x.child ≡ child) }
+        ensures at { IfSome result (λ x. IsAt self.now.entries x) }
+    {
+        cursors::cursor_of(self.tables.cursors.as_slice(), child)
     }
 
     // A task below which each is claimed.

@@ -219,11 +219,11 @@ pub(super) fn none(alloc: Global, entries: &[Entry]) -> Lives
     }
 }
 
-/// Takes room for so many more entries.
+/// Takes room for the children that so many more entries may start, a few at a time.
 pub(super) fn take_room(lives: &mut Lives, more: usize) -> Result<(), AllocError>
     ensures { (past : List Entry) → AreKnown past lives.old → AreKnown past lives.new }
 {
-    lives.each.reserve(more)
+    lives.each.reserve(more.min(64))
 }
 
 fn find(lives: &[Life], child: u32) -> Life

@@ -7,10 +7,11 @@ ghost use Rattle.journal_model.specs.Limits.{most_line_bytes};
 ghost use Rattle.journal_model.specs.Journal.{any, each_of, first_of, line_at, is_tagged, accepts_async, addressed, by_tag, on_wire, sends, unsent, is_unsent, is_job, got_from, line_bytes, bytes_in, is_full};
 ghost use Rattle.journal_model.specs.Due.{is_version_one};
 ghost use Rattle.journal_model.specs.Legality.{said_version, asks_prepare, prepares, is_prepared, is_greeted, is_empty, may_ask, is_done};
-ghost use Rattle.journal_look.specs.Marks.{AreSettled};
+ghost use Rattle.journal_look.specs.Cursors.{IsAt};
 ghost use Rattle.journal_look.specs.Looks.{written_to, got_line, is_written, hosts_line};
 
 use crate::children;
+use crate::cursors::{Cursor, nth_from};
 use crate::talks::hosts_line;
 use journal_model::{Entry, Verdict, What};
 use wire_msg::{HostMsg, RemoteMsg, read_host, read_remote, untag};
@@ -139,18 +140,15 @@ pub(super) fn by_tag(line: &[u8]) -> (Option<u64>, &[u8])
 /// The job that the line is for, and its text without the tag.
 pub(super) fn addressed<'a>(
     entries: &[Entry],
-    settled: usize,
     child: u32,
     line: &'a [u8],
 ) -> (Option<u64>, &'a [u8])
-    requires bound { settled ≤ length entries.now }
-    requires settled { AreSettled entries.now settled }
     ensures { (result.0, result.1.now) ≡ addressed entries.now child line.entry.now }
 {
     if is_tagged(entries, child) {
         by_tag(line)
     } else {
-        (children::first_open(entries, settled, child), line)
+        (children::first_open(entries, child), line)
     }
 }
 
@@ -308,6 +306,20 @@ pub(super) fn first_unsent(entries: &[Entry], child: u32) -> Option<&[u8]>
     ensures { option_copied result ≡ option_map (λ w. w.1) (first_of (unsent entries.now child)) }
 {
     match nth_written(entries, child, sents(entries, child)) {
+        Some(e) => Some(hosts_line(&e.what)),
+        None => None,
+    }
+}
+
+/// The same, where so many were written whole, from the cursor of the child on.
+pub(super) fn unsent_from(entries: &[Entry], x: Cursor, child: u32, sent: u64) -> Option<&[u8]>
+    requires child { x.child ≡ child }
+    requires at { IsAt entries.now x }
+    requires few { x.passed ≤ sent }
+    requires sent { sent ≡ length (filter (λ e. sends child e.what) entries.now) }
+    ensures { option_copied result ≡ option_map (λ w. w.1) (first_of (unsent entries.now child)) }
+{
+    match nth_from(entries, x, child, sent) {
         Some(e) => Some(hosts_line(&e.what)),
         None => None,
     }

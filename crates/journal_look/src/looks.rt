@@ -1,14 +1,14 @@
 // What is asked of a journal, each question by the definition of its name.
-ghost use Rattle.std.specs.Prelude.{◌≡◌, ◌≤◌, ◌==◌, not, length, take, filter, option_copied, option_map, IfOk};
-ghost use Rattle.std.specs.List.{list_any, list_all};
+ghost use Rattle.std.specs.Prelude.{IfSome, ℕ, Bool, None, ◌<◌, IsTrue, ◌≡◌, ◌≤◌, ◌==◌, not, length, take, filter, option_copied, option_map, IfOk};
+ghost use Rattle.std.specs.List.{list_any, list_all, prefix_len};
 ghost use Rattle.journal_model.specs.Limits.{most_tasks};
 ghost use Rattle.journal_model.specs.Journal.{offers, first_of, any, is_started, is_ended, is_mute, is_live, has_spoken, asked_jobs, open_jobs, is_open, verdict_of, why_of, line_at, is_tagged, addressed, on_wire, unsent, is_full};
 ghost use Rattle.journal_model.specs.Parts.{part, item_at};
 ghost use Rattle.journal_model.specs.Legality.{count, is_start, is_empty, is_claimed, numbers_of, least_free, is_prepared, is_greeted, may_ask, is_claimed_by, has_open_job, has_busy_task};
-ghost use Rattle.journal_look.specs.Looks.{is_no_start, first_text, remote_text, job_at};
+ghost use Rattle.journal_look.specs.Looks.{is_hosts, is_no_start, first_text, remote_text, job_at};
 
 use crate::journal::Journal;
-use crate::{children, dues, lines, talks, tasks};
+use crate::{children, dues, jobs, lines, talks, tasks};
 use ann_key::{Bytes, NoMemory};
 use journal_model::{Opening, Verdict, Why};
 use std::alloc::Global;
@@ -130,28 +130,61 @@ pub fn next_job(journal: &Journal, child: u32) -> u64
 pub fn is_asked(journal: &Journal, child: u32, job: u64) -> bool
     ensures { result ≡ list_any (λ k. k == job) (asked_jobs journal.now.entries child) }
 {
-    children::is_asked(journal.entries(), child, job)
+    match journal.jobs() {
+        Some(list) => jobs::is_asked(list, next_job(journal, child), child, job),
+        None => children::is_asked(journal.entries(), child, job),
+    }
 }
 
 /// Whether the job was asked and is not settled.
 pub fn is_open(journal: &Journal, child: u32, job: u64) -> bool
     ensures { result ≡ is_open journal.now.entries child job }
 {
-    children::is_open(journal.entries(), journal.settled(), child, job)
+    match journal.jobs() {
+        Some(list) => jobs::is_open(list, child, job),
+        None => children::is_open(journal.entries(), child, job),
+    }
+}
+
+/// The first of the child's open jobs.
+fn first_open(journal: &Journal, child: u32) -> Option<u64>
+    ensures { result ≡ first_of (open_jobs journal.now.entries child) }
+{
+    match journal.jobs() {
+        Some(list) => jobs::first_open(list, child),
+        None => children::first_open(journal.entries(), child),
+    }
 }
 
 /// Whether each job of the child is settled.
 pub fn has_no_open_job(journal: &Journal, child: u32) -> bool
     ensures { result ≡ is_empty (open_jobs journal.now.entries child) }
 {
-    children::has_no_open_job(journal.entries(), journal.settled(), child)
+    first_open(journal, child).is_none()
 }
 
 /// How the job was settled, if it was.
 pub fn verdict_of(journal: &Journal, child: u32, job: u64) -> Option<Verdict>
     ensures { result ≡ verdict_of journal.now.entries child job }
 {
-    children::verdict_of(journal.entries(), child, job)
+    if is_known_open(journal, child, job) {
+        return None;
+    }
+    match journal.told(child, job) {
+        Some(verdict) => Some(verdict),
+        None => children::verdict_of(journal.entries(), child, job),
+    }
+}
+
+/// Whether the job is known to have no verdict.
+#[tactic(auto, using(crate::proofs::Opening::open_none))]
+fn is_known_open(journal: &Journal, child: u32, job: u64) -> bool
+    ensures { IsTrue result → verdict_of journal.now.entries child job ≡ None }
+{
+    match journal.jobs() {
+        Some(list) => jobs::is_open(list, child, job),
+        None => false,
+    }
 }
 
 /// Whether the child's job 1 was to get ready, and is done.
@@ -180,7 +213,7 @@ pub fn may_ask(journal: &Journal, by: u32, task: u32, child: u32) -> bool
     ensures { result ≡ may_ask journal.now.entries by task child }
 {
     is_greeted(journal, child, next_job(journal, child))
-        && tasks::may_work(journal.entries(), journal.settled(), by, task, child)
+        && tasks::may_work(journal, by, task, child)
         && (is_tagged(journal, child) || has_no_open_job(journal, child))
 }
 
@@ -192,11 +225,39 @@ pub fn due_at(journal: &Journal, n: u64, at: u64, child: u32, unsent: bool) -> O
     dues::job_at(journal.entries(), n as usize, at as usize, child, unsent)
 }
 
+/// A place before which no end or mute of a child settles the job that an entry asks.
+pub fn first_due(journal: &Journal) -> u64
+    ensures bound { result ≤ length journal.now.entries }
+    ensures none { (at c : ℕ) (unsent : Bool) → at < result → job_at journal.now.entries (length journal.now.entries) at c unsent ≡ None }
+{
+    match journal.jobs() {
+        Some(list) => jobs::least_place(list, journal.entries().len()) as u64,
+        None => 0,
+    }
+}
+
 /// The text that the job's part begins with.
 pub fn first_text(journal: &Journal, child: u32, job: u64) -> Option<&[u8]>
     ensures { option_copied result ≡ first_text (part journal.now.entries child job) }
 {
-    talks::first_text(journal.entries(), child, job)
+    let place = place_of(journal, child, job);
+    talks::first_text(
+        journal.entries(),
+        place,
+        !is_offered(journal, child),
+        child,
+        job,
+    )
+}
+
+/// The place of the host's first line of the job, where it is known without the entries.
+fn place_of(journal: &Journal, child: u32, job: u64) -> Option<usize>
+    ensures { IfSome result (λ at. at ≡ prefix_len (λ e. not (is_hosts child job e.what)) journal.now.entries) }
+{
+    match journal.jobs() {
+        Some(list) => jobs::place_of(list, child, job),
+        None => None,
+    }
 }
 
 /// The text of the line at that place, its tag taken off, where the child said it in the job.
@@ -239,8 +300,7 @@ pub fn addressed<'a>(journal: &Journal, child: u32, line: &'a [u8]) -> (Option<u
     if is_tagged(journal, child) {
         lines::by_tag(line)
     } else {
-        let open = children::first_open(journal.entries(), journal.settled(), child);
-        (open, line)
+        (first_open(journal, child), line)
     }
 }
 
@@ -275,7 +335,15 @@ pub fn is_all_sent(journal: &Journal, child: u32) -> bool
 pub fn first_unsent(journal: &Journal, child: u32) -> Option<&[u8]>
     ensures { option_copied result ≡ option_map (λ w. w.1) (first_of (unsent journal.now.entries child)) }
 {
-    lines::first_unsent(journal.entries(), child)
+    let Some(life) = journal.life(child) else {
+        return lines::first_unsent(journal.entries(), child);
+    };
+    match journal.cursor(child) {
+        Some(cursor) if cursor.passed <= life.sent => {
+            lines::unsent_from(journal.entries(), cursor, child, life.sent)
+        }
+        _ => lines::first_unsent(journal.entries(), child),
+    }
 }
 
 // ---- tasks
@@ -285,7 +353,7 @@ pub fn least_free(opening: &Opening, journal: &Journal) -> Option<u32>
     requires { length opening.now.tasks ≤ most_tasks }
     ensures { result ≡ least_free opening.now journal.now.entries }
 {
-    tasks::least_free(opening, journal.entries(), journal.claimed())
+    tasks::least_free(opening, journal, journal.claimed())
 }
 
 /// Whether each task is claimed.
@@ -293,7 +361,7 @@ pub fn are_all_claimed(opening: &Opening, journal: &Journal) -> bool
     requires { length opening.now.tasks ≤ most_tasks }
     ensures { result ≡ list_all (is_claimed journal.now.entries) (numbers_of opening.now) }
 {
-    tasks::are_all_claimed(opening, journal.entries(), journal.claimed())
+    tasks::are_all_claimed(opening, journal, journal.claimed())
 }
 
 /// How many tasks are not claimed.
@@ -301,26 +369,26 @@ pub fn unclaimed(opening: &Opening, journal: &Journal) -> u32
     requires { length opening.now.tasks ≤ most_tasks }
     ensures { result ≡ length (filter (λ t. not (is_claimed journal.now.entries t)) (numbers_of opening.now)) }
 {
-    tasks::unclaimed(opening, journal.entries())
+    tasks::unclaimed(opening, journal, journal.claimed())
 }
 
 /// Whether the number holds the task.
 pub fn is_claimed_by(journal: &Journal, by: u32, task: u32) -> bool
     ensures { result ≡ is_claimed_by journal.now.entries by task }
 {
-    tasks::is_claimed_by(journal.entries(), by, task)
+    tasks::is_claimed_by(journal, by, task)
 }
 
 /// Whether a job of the task is open.
 pub fn has_open_job(journal: &Journal, task: u32) -> bool
     ensures { result ≡ has_open_job journal.now.entries task }
 {
-    tasks::has_open_job(journal.entries(), journal.settled(), task)
+    tasks::has_open_job(journal, task)
 }
 
 /// Whether a task is held for the child.
 pub fn has_busy_task(journal: &Journal, child: u32) -> bool
     ensures { result ≡ has_busy_task journal.now.entries child }
 {
-    tasks::has_busy_task(journal.entries(), child)
+    tasks::has_busy_task(journal, child)
 }

@@ -1,9 +1,8 @@
-use Rattle.std.proofs.Common.{refl, sym, ℕ, ◌≡◌, ◌∙◌, ap, subst, List, ◌++◌, ◌∷◌, [], length}
+use Rattle.std.proofs.Common.{refl, sym, ℕ, ◌∙◌, ap, subst, List, length}
 use Rattle.journal_model.specs.Journal.{asked_jobs}
-use Rattle.journal_look.specs.declared.jobs.Told.{Told}
 use Rattle.journal_look.specs.declared.life.Life.{Life}
 use Rattle.journal_look.specs.declared.jobs.Open.{Open}
-use Rattle.journal_look.specs.Opens.{AreOpen, jobs_child}
+use Rattle.journal_look.specs.Opens.{AreOpen}
 use Rattle.journal_look.proofs.jobs.note.Goals as goal
 
 pub returns : goal.returns

@@ -1,9 +1,4 @@
-use Rattle.std.proofs.Common.{◌≡◌, ◌∙◌, sym, subst, List, ℕ, ◌++◌, ◌∷◌, [], length, true}
-use Rattle.journal_model.specs.declared.entry.Entry.{Entry}
-use Rattle.journal_model.specs.declared.entry.What.{What}
-use Rattle.journal_model.specs.Journal.{asked_jobs}
-use Rattle.journal_look.specs.declared.jobs.Open.{Open}
-use Rattle.journal_look.specs.Opens.{AreOpen, jobs_child, keeps_numbers, opened}
+use Rattle.std.proofs.Common.{◌∙◌, sym}
 use Rattle.journal_look.proofs.Opening.{open_after}
 use Rattle.journal_look.proofs.jobs.note_open.Goals as goal
 

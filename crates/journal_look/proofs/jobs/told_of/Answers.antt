@@ -1,6 +1,4 @@
-use Rattle.std.proofs.Common.{◌≡◌, Some, List, subst, sym}
-use Rattle.journal_model.specs.declared.verdict.Verdict.{Verdict}
-use Rattle.journal_model.specs.Journal.{verdict_of}
+use Rattle.std.proofs.Common.{List, subst, sym}
 use Rattle.journal_look.specs.declared.jobs.Told.{Told}
 use Rattle.journal_look.specs.Opens.{AreTold}
 use Rattle.journal_look.proofs.Opening.{if_some}
