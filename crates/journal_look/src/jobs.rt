@@ -4,7 +4,7 @@ ghost use Rattle.std.specs.List.{list_all, list_any, prefix_len};
 ghost use Rattle.journal_model.specs.declared.entry.Entry.{Entry};
 ghost use Rattle.journal_model.specs.Journal.{asked_jobs, first_of, is_open, open_jobs, verdict_of};
 ghost use Rattle.journal_model.specs.Legality.{has_open_job};
-ghost use Rattle.journal_look.specs.Looks.{is_hosts, job_at};
+ghost use Rattle.journal_look.specs.Looks.{NoneDue, is_hosts};
 ghost use Rattle.journal_look.specs.Lives.{AreKnown};
 ghost use Rattle.journal_look.specs.Opens.{AreJobsKnown, AreOpen, AreTold, IsTold, closed, is_this, jobs_child, keeps_numbers, opened};
 
@@ -198,7 +198,7 @@ fn first_place(jobs: &[Open], len: usize) -> usize {
 #[tactic(auto, using(crate::proofs::Ending::none_due))]
 pub(super) fn least_place(jobs: &[Open], len: usize) -> usize
     ensures bound { result ≤ len }
-    ensures none { (past : List Entry) (at c : ℕ) (unsent : Bool) → AreOpen past jobs.now → at < result → job_at past (length past) at c unsent ≡ None }
+    ensures none { (past : List Entry) → AreOpen past jobs.now → NoneDue past result }
 {
     let place = first_place(jobs, len);
     if place <= len && are_from(jobs, place) {

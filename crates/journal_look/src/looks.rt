@@ -5,7 +5,7 @@ ghost use Rattle.journal_model.specs.Limits.{most_tasks};
 ghost use Rattle.journal_model.specs.Journal.{offers, first_of, any, is_started, is_ended, is_mute, is_live, has_spoken, asked_jobs, open_jobs, is_open, verdict_of, why_of, line_at, is_tagged, addressed, on_wire, unsent, is_full};
 ghost use Rattle.journal_model.specs.Parts.{part, item_at};
 ghost use Rattle.journal_model.specs.Legality.{count, is_start, is_empty, is_claimed, numbers_of, least_free, is_prepared, is_greeted, may_ask, is_claimed_by, has_open_job, has_busy_task};
-ghost use Rattle.journal_look.specs.Looks.{is_hosts, is_no_start, first_text, remote_text, job_at};
+ghost use Rattle.journal_look.specs.Looks.{NoneDue, is_hosts, is_no_start, first_text, remote_text, job_at};
 
 use crate::journal::Journal;
 use crate::{children, dues, jobs, lines, talks, tasks};
@@ -228,7 +228,7 @@ pub fn due_at(journal: &Journal, n: u64, at: u64, child: u32, unsent: bool) -> O
 /// A place before which no end or mute of a child settles the job that an entry asks.
 pub fn first_due(journal: &Journal) -> u64
     ensures bound { result ≤ length journal.now.entries }
-    ensures none { (at c : ℕ) (unsent : Bool) → at < result → job_at journal.now.entries (length journal.now.entries) at c unsent ≡ None }
+    ensures none { NoneDue journal.now.entries result }
 {
     match journal.jobs() {
         Some(list) => jobs::least_place(list, journal.entries().len()) as u64,
