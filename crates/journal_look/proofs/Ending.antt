@@ -2,6 +2,7 @@
 use Rattle.std.proofs.Common.{◌≡◌, ◌∙◌, ℕ, zero, suc, ◌+◌, ◌<◌, ◌≤◌, List, [], ◌∷◌, refl, sym, ap, subst, Bool, true, false, not, cond, Option, Some, None, length, take, arith, inl, inr}
 use Rattle.std.specs.Prelude.{◌==◌, ◌&&◌, ◌||◌, ◌⊎◌, nat_le, filter, slice_get, option_and_then}
 use Rattle.std.specs.List.{All, list_any, list_all, prefix_len, cons_option}
+use Rattle.std.proofs.Math.Seq.{take-length}
 use Rattle.std.proofs.lemmas.Bool.Decides.{nat_tests}
 use Rattle.std.proofs.lemmas.List.Elements.{All-head, All-tail}
 use Rattle.journal_model.specs.declared.entry.What.{What}
@@ -103,13 +104,9 @@ least_of past from c j (x ∷ jobs) all least h = go (is_this c j x) refl h (lea
         subst (λ (i : ℕ). from ≤ prefix_len (λ (d : Entry). not (is_hosts c i d.what)) past) (same_number x.job j two.1)
         (subst (λ (b : ℕ). from ≤ prefix_len (λ (d : Entry). not (is_hosts b x.job d.what)) past) (same_number x.child c two.0) (subst (λ (n : ℕ). from ≤ n) (sym place) low))
 
-whole : {X : Type 0} (xs : List X) → take (length xs) xs ≡ xs
-whole [] = refl
-whole (x ∷ xs) = ap (λ l. x ∷ l) (whole xs)
-
 pub none_due : (past : List Entry) (jobs : List Open) (from at c : ℕ) (unsent : Bool) → AreOpen past jobs → IsLeast from jobs → at < from → job_at past (length past) at c unsent ≡ None
 none_due past jobs from at c unsent are least low =
-    subst (λ (es : List Entry). option_and_then (λ (e : Entry). due_job es c unsent e.what) (slice_get past at) ≡ None) (sym (whole past)) (go (slice_get past at) refl)
+    subst (λ (es : List Entry). option_and_then (λ (e : Entry). due_job es c unsent e.what) (slice_get past at) ≡ None) (sym (take-length past)) (go (slice_get past at) refl)
   where
     all_from : IsLeast from jobs → list_all (λ (x : Open). nat_le from x.at) jobs ≡ true
     all_from (inl none) = absurd (omega arith)

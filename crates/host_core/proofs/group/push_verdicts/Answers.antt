@@ -1,10 +1,10 @@
-use Rattle.std.proofs.Common.{◌∙◌, ◌+◌, ◌≤◌, ◌++◌, [], List, length, map, sym, ap, subst, take, arith}
+use Rattle.std.proofs.Common.{◌∙◌, append-nil, refl, ◌+◌, ◌≤◌, ◌++◌, [], List, length, map, sym, ap, subst, take, arith}
 use Rattle.std.specs.List.{cons_option}
 use Rattle.journal_model.specs.declared.entry.Entry.{Entry}
 use Rattle.journal_model.specs.declared.entry.What.TheVariants.{Verdict as Settled}
 use Rattle.journal_model.specs.Due.{made_by}
 use Rattle.journal_look.specs.Looks.{job_at, due_jobs}
-use Rattle.host_core.proofs.Pushing.{room_next, pushed_next}
+use Rattle.host_core.proofs.Pushing.{none_pushed, room_next, pushed_next}
 use Rattle.host_core.proofs.group.push_verdicts.Goals as goal
 
 pub push_at-requires-clause-room : goal.push_at-requires-clause-room
@@ -22,4 +22,12 @@ loop-at-preserved c =
       c.push_at.ensures.entries ∙ ap step c.loop-at.invariant.0
           ∙ pushed_next c.args.journal.now.entries c.args.by c.args.child c.args.past.n c.args.verdict c.args.unsent c.loop-at.at c.requires.past.long c.loop-at-test.true,
       c.push_at.ensures.room ∙ c.loop-at.invariant.1,
+    )
+
+pub loop-at-init : goal.loop-at-init
+loop-at-init c = (
+      sym (
+      ap (λ (es : List Entry). c.args.journal.now.entries ++ es) (none_pushed (take c.args.past.n c.args.journal.now.entries) c.args.by c.args.child c.args.past.n c.args.verdict c.args.unsent c.args.past.from c.requires.past.none)
+          ∙ append-nil c.args.journal.now.entries),
+      refl,
     )
