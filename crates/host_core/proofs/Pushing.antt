@@ -259,8 +259,12 @@ none_among past c u from none (suc k) low =
     let one : suc k ≡ k + 1 = omega arith in
     let here : option_and_then (λ (e : Entry). due_job past c u e.what) (slice_get past k) ≡ None =
     subst (λ (es : List Entry). option_and_then (λ (e : Entry). due_job es c u e.what) (slice_get past k) ≡ None) (take-length past) (none k c u (omega arith)) in
-    rw one (each_of-next (due_job past c u) past k)
-    ∙ (rw here (append-nil (each_of (due_job past c u) (take k past)) ∙ none_among past c u from none k (omega arith)))
+    let next : each_of (due_job past c u) (take (k + 1) past) ≡ each_of (due_job past c u) (take k past) ++ [] =
+    each_of-next (due_job past c u) past k ∙ ap (λ (o : Option ℕ). each_of (due_job past c u) (take k past) ++ cons_option o []) here in
+    ap (λ (n : ℕ). each_of (due_job past c u) (take n past)) one
+    ∙ next
+    ∙ append-nil (each_of (due_job past c u) (take k past))
+    ∙ none_among past c u from none k (omega arith)
 
 pub none_pushed : (past : List Entry) (by c n : ℕ) (verdict : Verdict) (u : Bool) (from : ℕ) → NoneDue past from → pushed past by c n verdict u from ≡ []
 none_pushed past by c n verdict u from none = ap (λ (js : List ℕ). made_by by (map (λ j. Settled c j verdict) js)) (none_among past c u from none from (omega arith))
