@@ -1,10 +1,11 @@
 -- A group is pushed entry by entry, into room that is kept.
-use Rattle.std.proofs.Common.{◌≡◌, ◌∙◌, ℕ, zero, suc, ◌+◌, ◌*◌, ◌<◌, ◌≤◌, ◌^◌, List, [], ◌∷◌, ◌++◌, refl, sym, ap, Bool, true, false, not, cond, Option, Some, None, length, length-append, get_or, take, drop, map, append-nil, append_assoc, arith, inl, inr}
+use Rattle.std.proofs.Common.{◌≡◌, ◌∙◌, ℕ, subst, zero, suc, ◌+◌, ◌*◌, ◌<◌, ◌≤◌, ◌^◌, List, [], ◌∷◌, ◌++◌, refl, sym, ap, Bool, true, false, not, cond, Option, Some, None, length, length-append, get_or, take, drop, map, append-nil, append_assoc, arith, inl, inr}
 use Rattle.std.specs.Prelude.{◌&&◌, ◌||◌, ◌==◌, nat_lt, nat_le, filter, remove, slice_get, option_and_then}
 use Rattle.std.specs.List.{list_any}
 use Rattle.std.proofs.lemmas.Bool.Decides.{nat_tests}
 use Rattle.std.proofs.lemmas.List.Sums.{sum_by-cons}
 use Rattle.std.specs.List.{cons_option}
+use Rattle.std.proofs.Math.Seq.{take-length}
 use Rattle.std.proofs.lemmas.List.{take-append-drop, take-append-le}
 use Rattle.journal_model.specs.declared.verdict.Verdict.{Verdict}
 use Rattle.journal_model.specs.declared.verdict.Verdict.TheVariants.{Ended, Unsent}
@@ -22,7 +23,7 @@ use Rattle.host_core.specs.declared.due.Due.{Due}
 use Rattle.host_core.specs.declared.due.Due.TheVariants.{Nothing, Settle, Replies, EndOf, EndedJobs, UnsentJobs}
 use Rattle.host_core.specs.declared.event.Event.{Event}
 use Rattle.host_core.specs.Steps.{step_of, needs_room, needs_memory, is_free}
-use Rattle.journal_look.specs.Looks.{due_asked, due_job, due_jobs, job_at}
+use Rattle.journal_look.specs.Looks.{NoneDue, due_asked, due_job, due_jobs, job_at}
 use Rattle.host_core.specs.Moves.{dues, group_made, first_room, due_room, group_room}
 use Rattle.host_core.proofs.Stepping.{Legal-step}
 
@@ -249,3 +250,21 @@ free_room o past by event what due free e =
 pub free_first : (what : Option What) (due : Due) → group_room what due ≡ 0 → first_room what ≡ 0
 free_first None due h = refl
 free_first (Some w) due h = omega (arith, h)
+
+-- ---- from the first place where something is due
+
+none_among : (past : List Entry) (c : ℕ) (u : Bool) (from : ℕ) → NoneDue past from → (k : ℕ) → k ≤ from → each_of (due_job past c u) (take k past) ≡ []
+none_among past c u from none zero low = refl
+none_among past c u from none (suc k) low =
+    let one : suc k ≡ k + 1 = omega arith in
+    let here : option_and_then (λ (e : Entry). due_job past c u e.what) (slice_get past k) ≡ None =
+    subst (λ (es : List Entry). option_and_then (λ (e : Entry). due_job es c u e.what) (slice_get past k) ≡ None) (take-length past) (none k c u (omega arith)) in
+    let next : each_of (due_job past c u) (take (k + 1) past) ≡ each_of (due_job past c u) (take k past) ++ [] =
+    each_of-next (due_job past c u) past k ∙ ap (λ (o : Option ℕ). each_of (due_job past c u) (take k past) ++ cons_option o []) here in
+    ap (λ (n : ℕ). each_of (due_job past c u) (take n past)) one
+    ∙ next
+    ∙ append-nil (each_of (due_job past c u) (take k past))
+    ∙ none_among past c u from none k (omega arith)
+
+pub none_pushed : (past : List Entry) (by c n : ℕ) (verdict : Verdict) (u : Bool) (from : ℕ) → NoneDue past from → pushed past by c n verdict u from ≡ []
+none_pushed past by c n verdict u from none = ap (λ (js : List ℕ). made_by by (map (λ j. Settled c j verdict) js)) (none_among past c u from none from (omega arith))

@@ -7,11 +7,12 @@ ghost use Rattle.journal_model.specs.declared.entry.What.TheVariants.{Put, Verdi
 ghost use Rattle.journal_model.specs.Room.{room_for};
 ghost use Rattle.journal_model.specs.Due.{made_by, ended_jobs, ending};
 ghost use Rattle.journal_look.specs.Looks.{due_jobs, job_at};
+ghost use Rattle.host_core.specs.Pasts.{IsPast};
 ghost use Rattle.host_core.specs.Moves.{dues, group_made, due_room, group_room, verdicts_of, unsent_verdicts};
 
 use crate::due::Due;
 use ann_key::{Bytes, NoMemory};
-use journal_look::{Journal, due_at};
+use journal_look::{Journal, due_at, first_due};
 use journal_model::{Entry, Verdict, What, Why};
 
 /// How much room the entry needs, now and for what can come of it.
@@ -88,44 +89,58 @@ fn push_at(
     }
 }
 
-/// The verdicts of the open jobs that the first n entries asked on the child.
-fn push_verdicts(journal: &mut Journal, n: u64, by: u32, child: u32, verdict: Verdict, unsent: bool)
-    requires long { n ≤ length journal.old.entries }
-    requires room { length journal.old.entries + length (due_jobs (take n journal.old.entries) child unsent) ≤ journal.old.room }
-    ensures entries { journal.new.entries ≡ journal.old.entries ++ made_by by (verdicts_of (take n journal.old.entries) child verdict unsent) }
+/// The first entries of a journal, so many. None before a place of them asks a job that is due.
+#[derive(Clone, Copy)]
+struct Past {
+    from: u64,
+    n: u64,
+}
+
+/// The verdicts of the open jobs that the past asked on the child.
+fn push_verdicts(
+    journal: &mut Journal,
+    past: Past,
+    by: u32,
+    child: u32,
+    verdict: Verdict,
+    unsent: bool,
+)
+    requires past { IsPast journal.old.entries past }
+    requires room { length journal.old.entries + length (due_jobs (take past.n journal.old.entries) child unsent) ≤ journal.old.room }
+    ensures entries { journal.new.entries ≡ journal.old.entries ++ made_by by (verdicts_of (take past.n journal.old.entries) child verdict unsent) }
     ensures room { journal.new.room ≡ journal.old.room }
 {
-    for at in 0..n {
-        push_at(journal, n, at, by, child, verdict, unsent);
+    for at in past.from..past.n {
+        push_at(journal, past.n, at, by, child, verdict, unsent);
     }
 }
 
-fn push_ended(journal: &mut Journal, n: u64, by: u32, child: u32, why: Why)
-    requires long { n ≤ length journal.old.entries }
-    requires room { length journal.old.entries + length (ended_jobs (take n journal.old.entries) child why) ≤ journal.old.room }
-    ensures entries { journal.new.entries ≡ journal.old.entries ++ made_by by (ended_jobs (take n journal.old.entries) child why) }
+fn push_ended(journal: &mut Journal, past: Past, by: u32, child: u32, why: Why)
+    requires past { IsPast journal.old.entries past }
+    requires room { length journal.old.entries + length (ended_jobs (take past.n journal.old.entries) child why) ≤ journal.old.room }
+    ensures entries { journal.new.entries ≡ journal.old.entries ++ made_by by (ended_jobs (take past.n journal.old.entries) child why) }
     ensures room { journal.new.room ≡ journal.old.room }
 {
-    push_verdicts(journal, n, by, child, Verdict::Ended { why }, false);
+    push_verdicts(journal, past, by, child, Verdict::Ended { why }, false);
 }
 
-fn push_unsent(journal: &mut Journal, n: u64, by: u32, child: u32)
-    requires long { n ≤ length journal.old.entries }
-    requires room { length journal.old.entries + length (unsent_verdicts (take n journal.old.entries) child) ≤ journal.old.room }
-    ensures entries { journal.new.entries ≡ journal.old.entries ++ made_by by (unsent_verdicts (take n journal.old.entries) child) }
+fn push_unsent(journal: &mut Journal, past: Past, by: u32, child: u32)
+    requires past { IsPast journal.old.entries past }
+    requires room { length journal.old.entries + length (unsent_verdicts (take past.n journal.old.entries) child) ≤ journal.old.room }
+    ensures entries { journal.new.entries ≡ journal.old.entries ++ made_by by (unsent_verdicts (take past.n journal.old.entries) child) }
     ensures room { journal.new.room ≡ journal.old.room }
 {
-    push_verdicts(journal, n, by, child, Verdict::Unsent, true);
+    push_verdicts(journal, past, by, child, Verdict::Unsent, true);
 }
 
-fn push_ending(journal: &mut Journal, n: u64, by: u32, child: u32, why: Why)
-    requires long { n ≤ length journal.old.entries }
-    requires room { length journal.old.entries + length (ending (take n journal.old.entries) child why) ≤ journal.old.room }
-    ensures entries { journal.new.entries ≡ journal.old.entries ++ made_by by (ending (take n journal.old.entries) child why) }
+fn push_ending(journal: &mut Journal, past: Past, by: u32, child: u32, why: Why)
+    requires past { IsPast journal.old.entries past }
+    requires room { length journal.old.entries + length (ending (take past.n journal.old.entries) child why) ≤ journal.old.room }
+    ensures entries { journal.new.entries ≡ journal.old.entries ++ made_by by (ending (take past.n journal.old.entries) child why) }
     ensures room { journal.new.room ≡ journal.old.room }
 {
     push(journal, by, What::End { child, why });
-    push_ended(journal, n, by, child, why);
+    push_ended(journal, past, by, child, why);
 }
 
 fn push_replies(journal: &mut Journal, by: u32, child: u32, job: u64, lines: Vec<Bytes>)
@@ -140,11 +155,11 @@ fn push_replies(journal: &mut Journal, by: u32, child: u32, job: u64, lines: Vec
     }
 }
 
-/// What is due behind the first n entries and one more.
-fn push_dues(journal: &mut Journal, n: u64, by: u32, due: Due)
-    requires long { n ≤ length journal.old.entries }
-    requires room { length journal.old.entries + length (dues (take n journal.old.entries) due) ≤ journal.old.room }
-    ensures entries { journal.new.entries ≡ journal.old.entries ++ made_by by (dues (take n journal.old.entries) due) }
+/// What is due after the past and one more entry.
+fn push_dues(journal: &mut Journal, past: Past, by: u32, due: Due)
+    requires past { IsPast journal.old.entries past }
+    requires room { length journal.old.entries + length (dues (take past.n journal.old.entries) due) ≤ journal.old.room }
+    ensures entries { journal.new.entries ≡ journal.old.entries ++ made_by by (dues (take past.n journal.old.entries) due) }
     ensures room { journal.new.room ≡ journal.old.room }
 {
     match due {
@@ -163,9 +178,9 @@ fn push_dues(journal: &mut Journal, n: u64, by: u32, due: Due)
             },
         ),
         Due::Replies { child, job, lines } => push_replies(journal, by, child, job, lines),
-        Due::EndOf { child, why } => push_ending(journal, n, by, child, why),
-        Due::EndedJobs { child, why } => push_ended(journal, n, by, child, why),
-        Due::UnsentJobs { child } => push_unsent(journal, n, by, child),
+        Due::EndOf { child, why } => push_ending(journal, past, by, child, why),
+        Due::EndedJobs { child, why } => push_ended(journal, past, by, child, why),
+        Due::UnsentJobs { child } => push_unsent(journal, past, by, child),
     }
 }
 
@@ -177,9 +192,12 @@ pub(super) fn push_group(journal: &mut Journal, by: u32, what: Option<What>, due
 {
     match what {
         Some(what) => {
-            let n = journal.len();
+            let past = Past {
+                from: first_due(journal),
+                n: journal.len(),
+            };
             push(journal, by, what);
-            push_dues(journal, n, by, due);
+            push_dues(journal, past, by, due);
         }
         None => {}
     }

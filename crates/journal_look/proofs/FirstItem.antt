@@ -1,13 +1,13 @@
 -- What a job's part begins with.
-use Rattle.std.proofs.Common.{◌≡◌, ◌∙◌, ℕ, suc, ◌+◌, List, [], ◌∷◌, ◌++◌, refl, sym, ap, subst, Bool, true, false, not, cond, Option, Some, None, length, take, append-nil, append_assoc, arith}
-use Rattle.std.specs.Prelude.{◌==◌, ◌&&◌, slice_get}
+use Rattle.std.proofs.Common.{◌≡◌, ◌∙◌, ℕ, zero, suc, ◌+◌, List, [], ◌∷◌, ◌++◌, refl, sym, ap, subst, Bool, true, false, not, cond, Option, Some, None, length, take, append-nil, append_assoc, arith}
+use Rattle.std.specs.Prelude.{◌==◌, ◌&&◌, ◌||◌, slice_get}
 use Rattle.std.specs.List.{prefix_len, list_any, cons_option}
 use Rattle.std.proofs.lemmas.List.Folds.{list_any-append}
 use Rattle.annex_model.specs.Talks.{Item, Remote}
 use Rattle.journal_model.specs.declared.entry.What.{What}
 use Rattle.journal_model.specs.declared.entry.What.TheVariants.{Claim, Start, NoStart, Ask, Put, Sent, Mute, Got, End, Verdict as Settled, Lost, Answer as Answered, Note as Noted}
 use Rattle.journal_model.specs.declared.entry.Entry.{Entry}
-use Rattle.journal_model.specs.Journal.{asks, asked_jobs, is_open, addressed}
+use Rattle.journal_model.specs.Journal.{any, asks, asked_jobs, is_open, addressed, offers}
 use Rattle.journal_model.specs.Parts.{item_of, part_from, part, is_for, ends_at}
 use Rattle.journal_model.proofs.Looks.{unasked_closed, each_of-append, is_asked}
 use Rattle.journal_look.specs.Looks.{is_hosts, hosts_line, first_text}
@@ -106,3 +106,13 @@ pub first_none_at : (past : List Entry) (c j n : ℕ) → n ≡ len c j past →
 first_none_at past c j n h =
     let P : ℕ → Type 0 = λ k. None ≡ slice_get past k → None ≡ first_text (part past c j) in
     subst P (sym h) (first_none past c j)
+
+-- what no entry says, none of the first says
+pub none_before : (c n : ℕ) (past : List Entry) → any (offers c) past ≡ false → any (offers c) (take n past) ≡ false
+none_before c zero past h = refl
+none_before c (suc n) [] h = refl
+none_before c (suc n) (e ∷ past) h = go (offers c e.what) h (none_before c n past)
+  where
+    go : (b : Bool) → (b || any (offers c) past) ≡ false → (any (offers c) past ≡ false → any (offers c) (take n past) ≡ false) → (b || any (offers c) (take n past)) ≡ false
+    go true h r = absurd cc
+    go false h r = r h

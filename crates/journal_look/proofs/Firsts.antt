@@ -1,11 +1,12 @@
 -- The first of a list that is found without the list.
 use Rattle.std.proofs.Common.{sym, ◌≡◌, ℕ, List, [], ◌∷◌, refl, Bool, true, false, Option, Some, None, cond}
-use Rattle.std.specs.Prelude.{find, filter, option_and_then, is_some, ◌==◌, ◌&&◌}
+use Rattle.std.specs.Prelude.{find, filter, option_and_then, is_some, ◌==◌, ◌&&◌, ◌||◌}
 use Rattle.std.specs.List.{cons_option}
 use Rattle.journal_model.specs.declared.entry.What.{What}
 use Rattle.journal_model.specs.declared.entry.What.TheVariants.{Claim, Start, NoStart, Ask, Put, Sent, Mute, Got, End, Verdict as Settled, Lost, Answer as Answered, Note as Noted}
 use Rattle.journal_model.specs.declared.entry.Entry.{Entry}
-use Rattle.journal_model.specs.Journal.{first_of, each_of, settles, verdict_in, verdict_of}
+use Rattle.journal_model.specs.declared.verdict.Verdict.{Verdict}
+use Rattle.journal_model.specs.Journal.{first_of, each_of, is_settled, settles, verdict_in, verdict_of}
 
 pub first_filter : {X : Type 0} (p : X → Bool) (xs : List X) → first_of (filter p xs) ≡ find p xs
 first_filter p [] = refl
@@ -50,3 +51,15 @@ settles_gives c j (Noted task chunk count) = refl
 
 pub verdict_by_find : (past : List Entry) (c j : ℕ) → verdict_of past c j ≡ option_and_then (λ e. verdict_in c j e.what) (find (λ e. settles c j e.what) past)
 verdict_by_find past c j = first_given (verdict_in c j) (settles c j) (settles_gives c j) past
+
+-- a job is settled where it has a verdict
+pub some_verdict : (past : List Entry) (c j : ℕ) → is_some (verdict_of past c j) ≡ is_settled past c j
+some_verdict [] c j = refl
+some_verdict (e ∷ past) c j = go (verdict_in c j e.what) (settles c j e.what) (settles_gives c j e.what) (some_verdict past c j)
+  where
+    go : (o : Option Verdict) (b : Bool) → b ≡ is_some o → is_some (verdict_of past c j) ≡ is_settled past c j
+        → is_some (first_of (cons_option o (each_of (verdict_in c j) past))) ≡ (b || is_settled past c j)
+    go (Some v) true h r = refl
+    go (Some v) false h r = absurd cc
+    go None true h r = absurd cc
+    go None false h r = r

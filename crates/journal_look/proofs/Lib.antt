@@ -3,3 +3,11 @@ pub mod Parted
 pub mod Written
 pub mod FirstItem
 pub mod Marking
+pub mod Weighing
+pub mod Tabling
+pub mod Living
+pub mod Opening
+pub mod Counting
+pub mod Ending
+pub mod Holding
+pub mod InWay

@@ -1,5 +1,5 @@
 -- The lines that were written, counted and looked up without the lines.
-use Rattle.std.proofs.Common.{subst, ◌≡◌, ◌∙◌, ◌++◌, ℕ, List, [], ◌∷◌, refl, sym, ap, Bool, true, false, cond, Option, Some, None, length, drop, map, not, arith, zero, suc}
+use Rattle.std.proofs.Common.{subst, ◌≡◌, ◌∙◌, ℕ, List, [], ◌∷◌, refl, sym, ap, Bool, true, false, cond, Option, Some, None, length, drop, map, not, arith, zero, suc}
 use Rattle.std.specs.Prelude.{is_some, ◌||◌, ◌==◌, filter, option_map, nat_lt, option_and_then, find, slice_get}
 use Rattle.std.specs.List.{list_any, cons_option}
 use Rattle.std.proofs.lemmas.Bool.Decides.{nat_tests}

@@ -2,3 +2,8 @@ pub mod JournalValue
 pub mod Shown
 pub mod Looks
 pub mod Marks
+pub mod Tables
+pub mod Lives
+pub mod Opens
+pub mod Cursors
+pub mod Holds

@@ -1,5 +1,5 @@
 -- Words for what is asked of a journal.
-use Rattle.std.specs.Prelude.{ℕ, ◌==◌, ◌&&◌, ◌||◌, not, Bool, true, false, if◌then◌else◌, List, [], ◌∷◌, Option, Some, None, option_map, option_and_then, is_some, take, slice_get}
+use Rattle.std.specs.Prelude.{ℕ, ◌≡◌, ◌<◌, ◌==◌, ◌&&◌, ◌||◌, not, Bool, true, false, if◌then◌else◌, List, [], ◌∷◌, Option, Some, None, option_map, option_and_then, is_some, length, take, slice_get}
 use Rattle.annex_model.specs.Talks.{Item, is_remote}
 use Rattle.journal_model.specs.declared.entry.What.{What}
 use Rattle.journal_model.specs.declared.entry.What.TheVariants.{NoStart, Ask, Put, Got}
@@ -66,3 +66,7 @@ due_jobs past c unsent = each_of (due_job past c unsent) past
 -- that of the entry at a place, where the first n entries are the past
 abbrev pub job_at : List Entry → ℕ → ℕ → ℕ → Bool → Option ℕ
 job_at entries n at c unsent = option_and_then (λ e. due_job (take n entries) c unsent e.what) (slice_get entries at)
+
+-- no entry before the place asks a job that an end or a mute settles
+abbrev pub NoneDue : List Entry → ℕ → Type 0
+NoneDue past place = (at c : ℕ) (unsent : Bool) → at < place → job_at past (length past) at c unsent ≡ None

@@ -4,11 +4,10 @@ ghost use Rattle.std.specs.List.{list_any};
 ghost use Rattle.journal_model.specs.Journal.{starts, ends, mutes, got_from, sends, settles, asks, offers, verdict_in, end_why, first_of, each_of, any, is_started, is_ended, is_mute, is_live, has_spoken, asked_jobs, is_settled, open_jobs, is_open, verdict_of, why_of};
 ghost use Rattle.journal_model.specs.Legality.{count, is_start, is_empty};
 ghost use Rattle.journal_look.specs.Looks.{is_no_start};
-ghost use Rattle.journal_look.specs.Marks.{AreSettled};
 
 use journal_model::{Entry, Verdict, What, Why};
 
-fn starts(what: &What, c: u32) -> bool
+pub(super) fn starts(what: &What, c: u32) -> bool
     ensures { result ≡ starts c what.now }
 {
     match what {
@@ -17,7 +16,7 @@ fn starts(what: &What, c: u32) -> bool
     }
 }
 
-fn ends(what: &What, c: u32) -> bool
+pub(super) fn ends(what: &What, c: u32) -> bool
     ensures { result ≡ ends c what.now }
 {
     match what {
@@ -26,7 +25,7 @@ fn ends(what: &What, c: u32) -> bool
     }
 }
 
-fn mutes(what: &What, c: u32) -> bool
+pub(super) fn mutes(what: &What, c: u32) -> bool
     ensures { result ≡ mutes c what.now }
 {
     match what {
@@ -35,7 +34,7 @@ fn mutes(what: &What, c: u32) -> bool
     }
 }
 
-fn is_from(what: &What, c: u32) -> bool
+pub(super) fn is_from(what: &What, c: u32) -> bool
     ensures { result ≡ got_from c what.now }
 {
     match what {
@@ -53,7 +52,7 @@ fn settles(what: &What, c: u32, j: u64) -> bool
     }
 }
 
-fn offers(what: &What, c: u32) -> bool
+pub(super) fn offers(what: &What, c: u32) -> bool
     ensures { result ≡ offers c what.now }
 {
     match what {
@@ -62,7 +61,7 @@ fn offers(what: &What, c: u32) -> bool
     }
 }
 
-fn is_start(what: &What) -> bool
+pub(super) fn is_start(what: &What) -> bool
     ensures { result ≡ is_start what.now }
 {
     matches!(what, What::Start { .. })
@@ -78,7 +77,7 @@ pub(super) fn asks(what: &What, c: u32) -> Option<u64>
     }
 }
 
-fn verdict_in(what: &What, c: u32, j: u64) -> Option<Verdict>
+pub(super) fn verdict_in(what: &What, c: u32, j: u64) -> Option<Verdict>
     ensures { result ≡ verdict_in c j what.now }
 {
     match what {
@@ -91,7 +90,7 @@ fn verdict_in(what: &What, c: u32, j: u64) -> Option<Verdict>
     }
 }
 
-fn end_why(what: &What, c: u32) -> Option<Why>
+pub(super) fn end_why(what: &What, c: u32) -> Option<Why>
     ensures { result ≡ end_why c what.now }
 {
     match what {
@@ -100,7 +99,7 @@ fn end_why(what: &What, c: u32) -> Option<Why>
     }
 }
 
-fn is_no_start(what: &What) -> bool
+pub(super) fn is_no_start(what: &What) -> bool
     ensures { result ≡ is_no_start what.now }
 {
     matches!(what, What::NoStart { .. })
@@ -182,55 +181,31 @@ pub(super) fn is_settled(entries: &[Entry], child: u32, job: u64) -> bool
     entries.iter().any(|e| settles(&e.what, child, job))
 }
 
-/// What stands behind the first entries, so many.
-fn behind(entries: &[Entry], settled: usize) -> &[Entry]
-    requires { settled ≤ length entries.now }
-    ensures { result.now ≡ drop settled entries.entry.now }
+fn find_open(entries: &[Entry], child: u32) -> Option<u64>
+    ensures { result ≡ find (λ j. not (is_settled entries.now child j)) (asked_jobs entries.now child) }
 {
-    &entries[settled..]
+    entries
+        .iter()
+        .filter_map(|e| asks(&e.what, child))
+        .find(|k| !is_settled(entries, child, *k))
 }
 
-fn any_open(entries: &[Entry], rest: &[Entry], child: u32, job: u64) -> bool
-    ensures { result ≡ list_any (λ k. k == job) (filter (λ j. not (is_settled entries.now child j)) (asked_jobs rest.now child)) }
+/// Whether the job was asked and is not settled.
+pub(super) fn is_open(entries: &[Entry], child: u32, job: u64) -> bool
+    ensures { result ≡ is_open entries.now child job }
 {
-    rest.iter()
+    entries
+        .iter()
         .filter_map(|e| asks(&e.what, child))
         .filter(|k| !is_settled(entries, child, *k))
         .any(|k| k == job)
 }
 
-fn find_open(entries: &[Entry], rest: &[Entry], child: u32) -> Option<u64>
-    ensures { result ≡ find (λ j. not (is_settled entries.now child j)) (asked_jobs rest.now child) }
-{
-    rest.iter()
-        .filter_map(|e| asks(&e.what, child))
-        .find(|k| !is_settled(entries, child, *k))
-}
-
-/// Whether the job was asked and is not settled. The first entries, so many, ask only jobs that are.
-pub(super) fn is_open(entries: &[Entry], settled: usize, child: u32, job: u64) -> bool
-    requires bound { settled ≤ length entries.now }
-    requires settled { AreSettled entries.now settled }
-    ensures { result ≡ is_open entries.now child job }
-{
-    any_open(entries, behind(entries, settled), child, job)
-}
-
 /// The first of the child's open jobs, in rising order.
-pub(super) fn first_open(entries: &[Entry], settled: usize, child: u32) -> Option<u64>
-    requires bound { settled ≤ length entries.now }
-    requires settled { AreSettled entries.now settled }
+pub(super) fn first_open(entries: &[Entry], child: u32) -> Option<u64>
     ensures { result ≡ first_of (open_jobs entries.now child) }
 {
-    find_open(entries, behind(entries, settled), child)
-}
-
-pub(super) fn has_no_open_job(entries: &[Entry], settled: usize, child: u32) -> bool
-    requires bound { settled ≤ length entries.now }
-    requires settled { AreSettled entries.now settled }
-    ensures { result ≡ is_empty (open_jobs entries.now child) }
-{
-    first_open(entries, settled, child).is_none()
+    find_open(entries, child)
 }
 
 fn find_verdict(entries: &[Entry], child: u32, job: u64) -> Option<&Entry>

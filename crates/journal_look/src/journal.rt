@@ -1,38 +1,48 @@
 // The journal as a store: it lends its entries, and takes more within room that was taken before.
-ghost use Rattle.std.specs.Prelude.{◌≡◌, ◌+◌, ◌<◌, ◌≤◌, ◌^◌, ◌++◌, ◌∷◌, [], slice_get, option_map, length, OnOk, OnErr, IsOk, vec_len};
+ghost use Rattle.std.specs.Prelude.{◌≡◌, ◌+◌, ◌-◌, ◌<◌, ◌≤◌, ◌^◌, ◌++◌, ◌∷◌, [], slice_get, option_map, length, OnOk, OnErr, IsOk, IfSome, vec_len};
 ghost use Rattle.journal_look.specs.Shown.{entry_shown};
 
+use crate::cursors::{self, Cursor};
 use crate::entry::{EntryRef, entry_of};
-use crate::marks::{claimed_from, settled_from};
+use crate::held::{self, Held};
+use crate::jobs::{self, Open};
+use crate::life::{self, Life};
+use crate::tables::{self, Tables};
 use ann_key::NoMemory;
-use journal_model::{Entry, What};
+use journal_model::{Entry, Verdict, What};
 use std::alloc::Global;
 use std::marker::Model;
 
-/// A journal: contracts see its entries, and for how many in all it has room. It marks how many of its first entries ask only
-/// jobs that are settled, and below which number each task is claimed.
+/// A journal: contracts see its entries, and for how many in all it has room. It keeps tables beside them.
 #[derive(Drop)]
 pub struct Journal {
     entries: Vec<Entry>,
     room: usize,
-    settled: usize,
-    claimed: u32,
+    tables: Tables,
 }
 
 impl Model for Journal {
-    ghost use Rattle.std.specs.Prelude.{◌≤◌, ◌<◌, length, vec_capacity};
+    ghost use Rattle.std.specs.Prelude.{◌≤◌, vec_capacity};
     ghost use Rattle.journal_look.specs.JournalValue.{JournalValue};
-    ghost use Rattle.journal_look.specs.Marks.{AreClaimed, AreSettled};
+    ghost use Rattle.journal_look.specs.Tables.{AreTabled};
 
     ghost Value = { JournalValue };
 
     ghost view = { λ j. record { entries = j.entries.items; room = j.room } };
 
-    ghost invariant = { λ j. (j.room ≤ vec_capacity j.entries) × (j.settled ≤ length j.entries.items) × AreSettled j.entries.items j.settled × (0 < j.claimed) × AreClaimed j.entries.items j.claimed };
+    ghost invariant = { λ j. (j.room ≤ vec_capacity j.entries) × AreTabled j.entries.items j.tables };
 }
 
 impl Journal {
-    ghost use Rattle.journal_look.specs.Marks.{AreClaimed, AreSettled};
+    ghost use Rattle.journal_model.specs.Limits.{most_line_bytes};
+    ghost use Rattle.journal_model.specs.Journal.{any, bytes_in, verdict_of};
+    ghost use Rattle.journal_model.specs.Legality.{count, is_start};
+    ghost use Rattle.journal_look.specs.Looks.{is_no_start};
+    ghost use Rattle.journal_look.specs.Holds.{AreHeld, AreUnclaimed};
+    ghost use Rattle.journal_look.specs.Lives.{life_of};
+    ghost use Rattle.journal_look.specs.Marks.{AreClaimed};
+    ghost use Rattle.journal_look.specs.Opens.{AreOpen};
+    ghost use Rattle.journal_look.specs.Cursors.{IsAt};
 
     /// A journal without entries, and without room. It takes no memory.
     pub fn new(alloc: Global) -> Journal
@@ -41,8 +51,7 @@ impl Journal {
         Journal {
             entries: Vec::new(alloc),
             room: 0,
-            settled: 0,
-            claimed: 1,
+            tables: tables::tables_of(alloc, &[]),
         }
     }
 
@@ -50,12 +59,13 @@ impl Journal {
     pub fn from_entries(entries: Vec<Entry>) -> Journal
         ensures { result ≡ record { entries = entries.items; room = vec_len entries } }
     {
+        let alloc = *entries.allocator();
         let room = entries.len();
+        let tables = tables::tables_of(alloc, entries.as_slice());
         Journal {
             entries,
             room,
-            settled: 0,
-            claimed: 1,
+            tables,
         }
     }
 
@@ -93,29 +103,25 @@ impl Journal {
         };
         let spare = room.saturating_sub(self.entries.len());
         self.entries.reserve(spare)?;
+        tables::take_room(&mut self.tables, spare)?;
         self.room = room;
         Ok(())
     }
 
     /// Appends the entry, for which there is room. It takes no memory.
-    #[tactic(auto, using(crate::proofs::Marking::settled_more, crate::proofs::Marking::claimed_more))]
     pub fn push(&mut self, entry: Entry)
         requires { length self.old.entries < self.old.room }
         ensures entries { self.new.entries ≡ self.old.entries ++ entry ∷ [] }
         ensures room { self.new.room ≡ self.old.room }
     {
-        let settles = matches!(entry.what, What::Verdict { .. });
+        let turn = cursors::turn_of(&entry.what);
         let claims = matches!(entry.what, What::Claim { .. });
+        tables::note(&mut self.tables, self.entries.len(), &entry);
         match self.entries.push(entry) {
             Ok(()) => {}
             Err(_) => unreachable!(),
         }
-        if settles {
-            self.settled = settled_from(self.entries.as_slice(), self.settled);
-        }
-        if claims {
-            self.claimed = claimed_from(self.entries.as_slice(), self.claimed);
-        }
+        tables::raise(&mut self.tables, self.entries.as_slice(), turn, claims);
     }
 
     // All entries, in order.
@@ -125,12 +131,68 @@ impl Journal {
         self.entries.as_slice()
     }
 
-    // How many of the first entries ask only jobs that are settled.
-    pub(crate) fn settled(&self) -> usize
-        ensures bound { result ≤ length self.now.entries }
-        ensures settled { AreSettled self.now.entries result }
+    // How many more bytes the lines may have.
+    pub(crate) fn left(&self) -> usize
+        ensures { result ≡ most_line_bytes - bytes_in self.now.entries }
     {
-        self.settled
+        self.tables.left
+    }
+
+    // The child's life, where it is known without the entries.
+    pub(crate) fn life(&self, child: u32) -> Option<Life>
+        ensures { IfSome result (λ life. life ≡ life_of self.now.entries child) }
+    {
+        life::look(&self.tables.lives, child)
+    }
+
+    // How many children were started, where it is known without the entries.
+    pub(crate) fn starts(&self) -> Option<u64>
+        ensures { IfSome result (λ n. n ≡ count is_start self.now.entries) }
+    {
+        life::starts(&self.tables.lives)
+    }
+
+    // Whether a child couldn't be started, where it is known without the entries.
+    pub(crate) fn no_start(&self) -> Option<bool>
+        ensures { IfSome result (λ b. b ≡ any is_no_start self.now.entries) }
+    {
+        life::no_start(&self.tables.lives)
+    }
+
+    // The tasks that are held, where they are known without the entries.
+    pub(crate) fn held(&self) -> Option<&[Held]>
+        ensures { IfSome result (λ held. AreHeld self.now.entries held.now) }
+    {
+        held::look(&self.tables.holds)
+    }
+
+    // A number from which on no task is claimed.
+    pub(crate) fn top(&self) -> u64
+        ensures { AreUnclaimed self.now.entries result }
+    {
+        self.tables.top
+    }
+
+    // The open jobs, where they are known without the entries.
+    pub(crate) fn jobs(&self) -> Option<&[Open]>
+        ensures { IfSome result (λ list. AreOpen self.now.entries list.now) }
+    {
+        jobs::look(&self.tables.jobs)
+    }
+
+    // How the job was settled, where that is known without the entries.
+    pub(crate) fn told(&self, child: u32, job: u64) -> Option<Verdict>
+        ensures { IfSome result (λ v. verdict_of self.now.entries child job ≡ Some v) }
+    {
+        jobs::told_of(&self.tables.jobs, child, job)
+    }
+
+    // How far the lines for the child are counted, where that is known.
+    pub(crate) fn cursor(&self, child: u32) -> Option<Cursor>
+        ensures child { IfSome result (λ x. x.child ≡ child) }
+        ensures at { IfSome result (λ x. IsAt self.now.entries x) }
+    {
+        cursors::cursor_of(self.tables.cursors.as_slice(), child)
     }
 
     // A task below which each is claimed.
@@ -138,6 +200,6 @@ impl Journal {
         ensures some { 0 < result }
         ensures claimed { AreClaimed self.now.entries result }
     {
-        self.claimed
+        self.tables.claimed
     }
 }

@@ -2,12 +2,17 @@
 #![tactic(auto)]
 
 mod children;
+mod cursors;
 mod dues;
 mod entry;
+mod held;
+mod jobs;
 mod journal;
+mod life;
 mod lines;
 mod looks;
 mod marks;
+mod tables;
 mod talks;
 mod tasks;
 
@@ -15,10 +20,10 @@ pub use entry::{EntryRef, WhatRef};
 pub use journal::Journal;
 pub use lines::is_version_one;
 pub use looks::{
-    addressed, are_all_claimed, due_at, first_text, first_unsent, has_busy_task, has_no_open_job,
-    has_no_start, has_open_job, has_spoken, is_all_sent, is_asked, is_claimed_by, is_ended,
-    is_full, is_live, is_mute, is_offered, is_open, is_prepared, is_started, is_tagged, least_free,
-    line_at, may_ask, next_job, on_wire, said_at, starts_so_far, unclaimed, verdict_of, why_before,
-    why_of,
+    addressed, are_all_claimed, due_at, first_due, first_text, first_unsent, has_busy_task,
+    has_no_open_job, has_no_start, has_open_job, has_spoken, is_all_sent, is_asked, is_claimed_by,
+    is_ended, is_full, is_live, is_mute, is_offered, is_open, is_prepared, is_started, is_tagged,
+    least_free, line_at, may_ask, next_job, on_wire, said_at, starts_so_far, unclaimed, verdict_of,
+    why_before, why_of,
 };
 pub use tasks::{may_note, task_of};

@@ -1,5 +1,5 @@
 // What the lines of the journal say: the greeting, tags, and what is still to be written.
-ghost use Rattle.std.specs.Prelude.{◌≡◌, ◌≤◌, ◌==◌, slice_get, filter, length, find, option_copied, option_map, IfOk, bytes_eq, codes, drop, nat_le};
+ghost use Rattle.std.specs.Prelude.{◌≡◌, ◌≤◌, ◌-◌, ◌==◌, not, nat_lt, slice_get, filter, length, find, option_copied, option_map, IfOk, bytes_eq, codes, drop};
 ghost use Rattle.std.specs.List.{list_any, slice_split};
 ghost use Rattle.annex_model.specs.Messages.{remote_reading, is_space};
 ghost use Rattle.annex_model.specs.Tags.{names_async, untag, without_tag};
@@ -7,15 +7,14 @@ ghost use Rattle.journal_model.specs.Limits.{most_line_bytes};
 ghost use Rattle.journal_model.specs.Journal.{any, each_of, first_of, line_at, is_tagged, accepts_async, addressed, by_tag, on_wire, sends, unsent, is_unsent, is_job, got_from, line_bytes, bytes_in, is_full};
 ghost use Rattle.journal_model.specs.Due.{is_version_one};
 ghost use Rattle.journal_model.specs.Legality.{said_version, asks_prepare, prepares, is_prepared, is_greeted, is_empty, may_ask, is_done};
-ghost use Rattle.journal_look.specs.Marks.{AreSettled};
+ghost use Rattle.journal_look.specs.Cursors.{IsAt};
 ghost use Rattle.journal_look.specs.Looks.{written_to, got_line, is_written, hosts_line};
 
+use crate::children;
+use crate::cursors::{Cursor, nth_from};
 use crate::talks::hosts_line;
-use crate::{children, tasks};
-use ann_key::{Bytes, NoMemory};
 use journal_model::{Entry, Verdict, What};
-use std::alloc::Global;
-use wire_msg::{HostMsg, RemoteMsg, read_host, read_remote, tag, untag};
+use wire_msg::{HostMsg, RemoteMsg, read_host, read_remote, untag};
 
 // A journal that has so many entries, or so many bytes in lines, is full.
 const MOST_ENTRIES: usize = 8_000_000;
@@ -34,26 +33,31 @@ fn line_bytes(what: &What) -> usize
     }
 }
 
-/// Whether the lines of the entries have as many bytes as a journal may have.
-fn is_heavy(entries: &[Entry]) -> bool
-    ensures { result ≡ nat_le most_line_bytes (bytes_in entries.now) }
+/// How many more bytes the lines may have after the entry, where so many were left.
+pub(super) fn left_after(left: usize, what: &What) -> usize
+    ensures { result ≡ left - line_bytes what.now }
+{
+    left.saturating_sub(line_bytes(what))
+}
+
+/// How many more bytes the lines may have after the entries.
+pub(super) fn left_of(entries: &[Entry]) -> usize
+    ensures { result ≡ most_line_bytes - bytes_in entries.now }
 {
     let mut left = MOST_LINE_BYTES;
     for e in entries {
-        let bytes = line_bytes(&e.what);
-        if left <= bytes {
-            return true;
-        }
-        left -= bytes;
+        left = left_after(left, &e.what);
     }
-    false
+    left
 }
 
-/// Whether the journal takes no further line of a child.
-pub(super) fn is_full(entries: &[Entry]) -> bool
+/// Whether the journal takes no further line of a child, where its lines may have so many more bytes.
+#[tactic(auto, using(crate::proofs::Weighing::full_by_left))]
+pub(super) fn is_full(entries: &[Entry], left: usize) -> bool
+    requires { left ≡ most_line_bytes - bytes_in entries.now }
     ensures { result ≡ is_full entries.now }
 {
-    MOST_ENTRIES <= entries.len() || is_heavy(entries)
+    MOST_ENTRIES <= entries.len() || left == 0
 }
 
 /// Whether the line spells VERSION with number 1.
@@ -107,7 +111,7 @@ pub fn line_at(entries: &[Entry], at: u64) -> &[u8]
     }
 }
 
-fn accepts_async(entries: &[Entry], verdict: Option<Verdict>) -> bool
+pub(super) fn accepts_async(entries: &[Entry], verdict: Option<Verdict>) -> bool
     ensures { result ≡ accepts_async entries.now verdict }
 {
     match verdict {
@@ -124,7 +128,7 @@ pub(super) fn is_tagged(entries: &[Entry], child: u32) -> bool
         && accepts_async(entries, children::verdict_of(entries, child, 0))
 }
 
-fn by_tag(line: &[u8]) -> (Option<u64>, &[u8])
+pub(super) fn by_tag(line: &[u8]) -> (Option<u64>, &[u8])
     ensures { (result.0, result.1.now) ≡ by_tag line.now (untag line.now) }
 {
     match untag(line) {
@@ -136,18 +140,15 @@ fn by_tag(line: &[u8]) -> (Option<u64>, &[u8])
 /// The job that the line is for, and its text without the tag.
 pub(super) fn addressed<'a>(
     entries: &[Entry],
-    settled: usize,
     child: u32,
     line: &'a [u8],
 ) -> (Option<u64>, &'a [u8])
-    requires bound { settled ≤ length entries.now }
-    requires settled { AreSettled entries.now settled }
     ensures { (result.0, result.1.now) ≡ addressed entries.now child line.entry.now }
 {
     if is_tagged(entries, child) {
         by_tag(line)
     } else {
-        (children::first_open(entries, settled, child), line)
+        (children::first_open(entries, child), line)
     }
 }
 
@@ -160,23 +161,6 @@ pub(super) fn text_of<'a>(entries: &[Entry], child: u32, line: &'a [u8]) -> &'a 
         text
     } else {
         line
-    }
-}
-
-/// The line as it stands on the wire.
-pub(super) fn on_wire(
-    alloc: Global,
-    entries: &[Entry],
-    child: u32,
-    job: u64,
-    line: Bytes,
-) -> Result<Bytes, NoMemory>
-    ensures { IfOk result (λ b. b ≡ on_wire entries.now child job line) }
-{
-    if is_tagged(entries, child) {
-        tag(alloc, job, line.view())
-    } else {
-        Ok(line)
     }
 }
 
@@ -196,7 +180,7 @@ fn first_got(entries: &[Entry], child: u32) -> Option<&Entry>
 }
 
 /// Whether the child's first line was VERSION 1.
-fn said_version(entries: &[Entry], child: u32) -> bool
+pub(super) fn said_version(entries: &[Entry], child: u32) -> bool
     ensures { result ≡ said_version entries.now child }
 {
     match first_got(entries, child) {
@@ -205,7 +189,7 @@ fn said_version(entries: &[Entry], child: u32) -> bool
     }
 }
 
-fn is_done(verdict: Option<Verdict>) -> bool
+pub(super) fn is_done(verdict: Option<Verdict>) -> bool
     ensures { result ≡ is_done verdict }
 {
     matches!(verdict, Some(Verdict::Done { .. }))
@@ -227,7 +211,7 @@ fn without_tag(line: &[u8]) -> &[u8]
     }
 }
 
-fn prepares(what: &What, c: u32) -> bool
+pub(super) fn prepares(what: &What, c: u32) -> bool
     ensures { result ≡ prepares c what.now }
 {
     match what {
@@ -254,29 +238,7 @@ pub fn is_prepared(entries: &[Entry], child: u32) -> bool
     is_done(children::verdict_of(entries, child, 1)) && is_to_prepare(entries, child)
 }
 
-/// Whether some request may be asked as this job of the child.
-fn is_greeted(entries: &[Entry], child: u32, job: u64) -> bool
-    ensures { result ≡ is_greeted entries.now child job }
-{
-    match job {
-        0 => said_version(entries, child),
-        1 => children::is_settled(entries, child, 0),
-        _ => is_prepared(entries, child),
-    }
-}
-
-/// Whether some request may be asked as the child's next job, but for its end or mute.
-pub(super) fn may_ask(entries: &[Entry], settled: usize, by: u32, task: u32, child: u32) -> bool
-    requires bound { settled ≤ length entries.now }
-    requires settled { AreSettled entries.now settled }
-    ensures { result ≡ may_ask entries.now by task child }
-{
-    is_greeted(entries, child, children::next_job(entries, child) as u64)
-        && tasks::may_work(entries, settled, by, task, child)
-        && (is_tagged(entries, child) || children::has_no_open_job(entries, settled, child))
-}
-
-fn sends(what: &What, c: u32) -> bool
+pub(super) fn sends(what: &What, c: u32) -> bool
     ensures { result ≡ sends c what.now }
 {
     match what {
@@ -296,7 +258,7 @@ fn writes(what: &What, c: u32) -> Option<Option<u64>>
     }
 }
 
-fn is_written(what: &What, c: u32) -> bool
+pub(super) fn is_written(what: &What, c: u32) -> bool
     ensures { result ≡ is_written c what.now }
 {
     writes(what, c).is_some()
@@ -318,6 +280,14 @@ fn written(entries: &[Entry], child: u32) -> usize
         .count()
 }
 
+/// Whether each line was written whole, where so many were written and so many whole.
+#[tactic(auto, using(crate::proofs::Written::at_most))]
+pub(super) fn are_all_sent(written: u64, sent: u64) -> bool
+    ensures { result ≡ not (nat_lt sent written) }
+{
+    written <= sent
+}
+
 /// Whether each line for the child was written whole.
 pub(super) fn is_all_sent(entries: &[Entry], child: u32) -> bool
     ensures { result ≡ is_empty (unsent entries.now child) }
@@ -325,7 +295,7 @@ pub(super) fn is_all_sent(entries: &[Entry], child: u32) -> bool
     written(entries, child) <= sents(entries, child)
 }
 
-fn nth_written(entries: &[Entry], child: u32, n: usize) -> Option<&Entry>
+pub(super) fn nth_written(entries: &[Entry], child: u32, n: usize) -> Option<&Entry>
     ensures { option_copied result ≡ slice_get (filter (λ e. is_written child e.what) entries.now) n }
 {
     entries.iter().filter(|e| is_written(&e.what, child)).nth(n)
@@ -336,6 +306,20 @@ pub(super) fn first_unsent(entries: &[Entry], child: u32) -> Option<&[u8]>
     ensures { option_copied result ≡ option_map (λ w. w.1) (first_of (unsent entries.now child)) }
 {
     match nth_written(entries, child, sents(entries, child)) {
+        Some(e) => Some(hosts_line(&e.what)),
+        None => None,
+    }
+}
+
+/// The same, where so many were written whole, from the cursor of the child on.
+pub(super) fn unsent_from(entries: &[Entry], x: Cursor, child: u32, sent: u64) -> Option<&[u8]>
+    requires child { x.child ≡ child }
+    requires at { IsAt entries.now x }
+    requires few { x.passed ≤ sent }
+    requires sent { sent ≡ length (filter (λ e. sends child e.what) entries.now) }
+    ensures { option_copied result ≡ option_map (λ w. w.1) (first_of (unsent entries.now child)) }
+{
+    match nth_from(entries, x, child, sent) {
         Some(e) => Some(hosts_line(&e.what)),
         None => None,
     }

@@ -1,17 +1,18 @@
 // What is asked of a journal, each question by the definition of its name.
-ghost use Rattle.std.specs.Prelude.{◌≡◌, ◌≤◌, ◌==◌, not, length, take, filter, option_copied, option_map, IfOk};
-ghost use Rattle.std.specs.List.{list_any, list_all};
+ghost use Rattle.std.specs.Prelude.{IfSome, ℕ, Bool, None, ◌<◌, IsTrue, ◌≡◌, ◌≤◌, ◌==◌, not, length, take, filter, option_copied, option_map, IfOk};
+ghost use Rattle.std.specs.List.{list_any, list_all, prefix_len};
 ghost use Rattle.journal_model.specs.Limits.{most_tasks};
 ghost use Rattle.journal_model.specs.Journal.{offers, first_of, any, is_started, is_ended, is_mute, is_live, has_spoken, asked_jobs, open_jobs, is_open, verdict_of, why_of, line_at, is_tagged, addressed, on_wire, unsent, is_full};
 ghost use Rattle.journal_model.specs.Parts.{part, item_at};
-ghost use Rattle.journal_model.specs.Legality.{count, is_start, is_empty, is_claimed, numbers_of, least_free, is_prepared, may_ask, is_claimed_by, has_open_job, has_busy_task};
-ghost use Rattle.journal_look.specs.Looks.{is_no_start, first_text, remote_text, job_at};
+ghost use Rattle.journal_model.specs.Legality.{count, is_start, is_empty, is_claimed, numbers_of, least_free, is_prepared, is_greeted, may_ask, is_claimed_by, has_open_job, has_busy_task};
+ghost use Rattle.journal_look.specs.Looks.{NoneDue, is_hosts, is_no_start, first_text, remote_text, job_at};
 
 use crate::journal::Journal;
-use crate::{children, dues, lines, talks, tasks};
+use crate::{children, dues, jobs, lines, talks, tasks};
 use ann_key::{Bytes, NoMemory};
 use journal_model::{Opening, Verdict, Why};
 use std::alloc::Global;
+use wire_msg::tag;
 
 // ---- children
 
@@ -19,35 +20,50 @@ use std::alloc::Global;
 pub fn is_started(journal: &Journal, child: u32) -> bool
     ensures { result ≡ is_started journal.now.entries child }
 {
-    children::is_started(journal.entries(), child)
+    match journal.life(child) {
+        Some(life) => life.started,
+        None => children::is_started(journal.entries(), child),
+    }
 }
 
 /// Whether the child ended.
 pub fn is_ended(journal: &Journal, child: u32) -> bool
     ensures { result ≡ is_ended journal.now.entries child }
 {
-    children::is_ended(journal.entries(), child)
+    match journal.life(child) {
+        Some(life) => life.ended,
+        None => children::is_ended(journal.entries(), child),
+    }
 }
 
 /// Whether a write to the child failed.
 pub fn is_mute(journal: &Journal, child: u32) -> bool
     ensures { result ≡ is_mute journal.now.entries child }
 {
-    children::is_mute(journal.entries(), child)
+    match journal.life(child) {
+        Some(life) => life.mute,
+        None => children::is_mute(journal.entries(), child),
+    }
 }
 
 /// Whether the child was started and has not ended.
 pub fn is_live(journal: &Journal, child: u32) -> bool
     ensures { result ≡ is_live journal.now.entries child }
 {
-    children::is_live(journal.entries(), child)
+    match journal.life(child) {
+        Some(life) => life.started && !life.ended,
+        None => children::is_live(journal.entries(), child),
+    }
 }
 
 /// Why the child ended, if it did.
 pub fn why_of(journal: &Journal, child: u32) -> Option<Why>
     ensures { result ≡ why_of journal.now.entries child }
 {
-    children::why_of(journal.entries(), child)
+    match journal.life(child) {
+        Some(life) => life.why,
+        None => children::why_of(journal.entries(), child),
+    }
 }
 
 /// Why the child had ended before that place, if it had.
@@ -62,28 +78,40 @@ pub fn why_before(journal: &Journal, at: u64, child: u32) -> Option<Why>
 pub fn has_spoken(journal: &Journal, child: u32) -> bool
     ensures { result ≡ has_spoken journal.now.entries child }
 {
-    children::has_spoken(journal.entries(), child)
+    match journal.life(child) {
+        Some(life) => life.spoken,
+        None => children::has_spoken(journal.entries(), child),
+    }
 }
 
 /// Whether ASYNC is offered to the child.
 pub fn is_offered(journal: &Journal, child: u32) -> bool
     ensures { result ≡ any (offers child) journal.now.entries }
 {
-    children::is_offered(journal.entries(), child)
+    match journal.life(child) {
+        Some(life) => life.offered,
+        None => children::is_offered(journal.entries(), child),
+    }
 }
 
 /// How many children were started.
 pub fn starts_so_far(journal: &Journal) -> usize
     ensures { result ≡ count is_start journal.now.entries }
 {
-    children::starts_so_far(journal.entries())
+    match journal.starts() {
+        Some(starts) => starts as usize,
+        None => children::starts_so_far(journal.entries()),
+    }
 }
 
 /// Whether a child couldn't be started.
 pub fn has_no_start(journal: &Journal) -> bool
     ensures { result ≡ any is_no_start journal.now.entries }
 {
-    children::has_no_start(journal.entries())
+    match journal.no_start() {
+        Some(no_start) => no_start,
+        None => children::has_no_start(journal.entries()),
+    }
 }
 
 // ---- jobs
@@ -92,49 +120,101 @@ pub fn has_no_start(journal: &Journal) -> bool
 pub fn next_job(journal: &Journal, child: u32) -> u64
     ensures { result ≡ length (asked_jobs journal.now.entries child) }
 {
-    children::next_job(journal.entries(), child) as u64
+    match journal.life(child) {
+        Some(life) => life.asked,
+        None => children::next_job(journal.entries(), child) as u64,
+    }
 }
 
 /// Whether the job was asked.
 pub fn is_asked(journal: &Journal, child: u32, job: u64) -> bool
     ensures { result ≡ list_any (λ k. k == job) (asked_jobs journal.now.entries child) }
 {
-    children::is_asked(journal.entries(), child, job)
+    match journal.jobs() {
+        Some(list) => jobs::is_asked(list, next_job(journal, child), child, job),
+        None => children::is_asked(journal.entries(), child, job),
+    }
 }
 
 /// Whether the job was asked and is not settled.
 pub fn is_open(journal: &Journal, child: u32, job: u64) -> bool
     ensures { result ≡ is_open journal.now.entries child job }
 {
-    children::is_open(journal.entries(), journal.settled(), child, job)
+    match journal.jobs() {
+        Some(list) => jobs::is_open(list, child, job),
+        None => children::is_open(journal.entries(), child, job),
+    }
+}
+
+/// The first of the child's open jobs.
+fn first_open(journal: &Journal, child: u32) -> Option<u64>
+    ensures { result ≡ first_of (open_jobs journal.now.entries child) }
+{
+    match journal.jobs() {
+        Some(list) => jobs::first_open(list, child),
+        None => children::first_open(journal.entries(), child),
+    }
 }
 
 /// Whether each job of the child is settled.
 pub fn has_no_open_job(journal: &Journal, child: u32) -> bool
     ensures { result ≡ is_empty (open_jobs journal.now.entries child) }
 {
-    children::has_no_open_job(journal.entries(), journal.settled(), child)
+    first_open(journal, child).is_none()
 }
 
 /// How the job was settled, if it was.
 pub fn verdict_of(journal: &Journal, child: u32, job: u64) -> Option<Verdict>
     ensures { result ≡ verdict_of journal.now.entries child job }
 {
-    children::verdict_of(journal.entries(), child, job)
+    if is_known_open(journal, child, job) {
+        return None;
+    }
+    match journal.told(child, job) {
+        Some(verdict) => Some(verdict),
+        None => children::verdict_of(journal.entries(), child, job),
+    }
+}
+
+/// Whether the job is known to have no verdict.
+#[tactic(auto, using(crate::proofs::Opening::open_none))]
+fn is_known_open(journal: &Journal, child: u32, job: u64) -> bool
+    ensures { IsTrue result → verdict_of journal.now.entries child job ≡ None }
+{
+    match journal.jobs() {
+        Some(list) => jobs::is_open(list, child, job),
+        None => false,
+    }
 }
 
 /// Whether the child's job 1 was to get ready, and is done.
 pub fn is_prepared(journal: &Journal, child: u32) -> bool
     ensures { result ≡ is_prepared journal.now.entries child }
 {
-    lines::is_prepared(journal.entries(), child)
+    match journal.life(child) {
+        Some(life) => lines::is_done(life.second) && life.prepares,
+        None => lines::is_prepared(journal.entries(), child),
+    }
+}
+
+/// Whether some request may be asked as this job of the child.
+fn is_greeted(journal: &Journal, child: u32, job: u64) -> bool
+    ensures { result ≡ is_greeted journal.now.entries child job }
+{
+    match job {
+        0 => lines::said_version(journal.entries(), child),
+        1 => verdict_of(journal, child, 0).is_some(),
+        _ => is_prepared(journal, child),
+    }
 }
 
 /// Whether some request may be asked as the child's next job, but for its end or mute.
 pub fn may_ask(journal: &Journal, by: u32, task: u32, child: u32) -> bool
     ensures { result ≡ may_ask journal.now.entries by task child }
 {
-    lines::may_ask(journal.entries(), journal.settled(), by, task, child)
+    is_greeted(journal, child, next_job(journal, child))
+        && tasks::may_work(journal, by, task, child)
+        && (is_tagged(journal, child) || has_no_open_job(journal, child))
 }
 
 /// The job asked at a place of the first n entries, where the child's end behind them settles it, or where its mute does.
@@ -145,11 +225,39 @@ pub fn due_at(journal: &Journal, n: u64, at: u64, child: u32, unsent: bool) -> O
     dues::job_at(journal.entries(), n as usize, at as usize, child, unsent)
 }
 
+/// A place before which no end or mute of a child settles the job that an entry asks.
+pub fn first_due(journal: &Journal) -> u64
+    ensures bound { result ≤ length journal.now.entries }
+    ensures none { NoneDue journal.now.entries result }
+{
+    match journal.jobs() {
+        Some(list) => jobs::least_place(list, journal.entries().len()) as u64,
+        None => 0,
+    }
+}
+
 /// The text that the job's part begins with.
 pub fn first_text(journal: &Journal, child: u32, job: u64) -> Option<&[u8]>
     ensures { option_copied result ≡ first_text (part journal.now.entries child job) }
 {
-    talks::first_text(journal.entries(), child, job)
+    let place = place_of(journal, child, job);
+    talks::first_text(
+        journal.entries(),
+        place,
+        !is_offered(journal, child),
+        child,
+        job,
+    )
+}
+
+/// The place of the host's first line of the job, where it is known without the entries.
+fn place_of(journal: &Journal, child: u32, job: u64) -> Option<usize>
+    ensures { IfSome result (λ at. at ≡ prefix_len (λ e. not (is_hosts child job e.what)) journal.now.entries) }
+{
+    match journal.jobs() {
+        Some(list) => jobs::place_of(list, child, job),
+        None => None,
+    }
 }
 
 /// The text of the line at that place, its tag taken off, where the child said it in the job.
@@ -165,7 +273,7 @@ pub fn said_at(journal: &Journal, child: u32, job: u64, at: u64) -> Option<&[u8]
 pub fn is_full(journal: &Journal) -> bool
     ensures { result ≡ is_full journal.now.entries }
 {
-    lines::is_full(journal.entries())
+    lines::is_full(journal.entries(), journal.left())
 }
 
 /// The line got at a place, if one was.
@@ -179,14 +287,21 @@ pub fn line_at(journal: &Journal, at: u64) -> &[u8]
 pub fn is_tagged(journal: &Journal, child: u32) -> bool
     ensures { result ≡ is_tagged journal.now.entries child }
 {
-    lines::is_tagged(journal.entries(), child)
+    match journal.life(child) {
+        Some(life) => life.offered && lines::accepts_async(journal.entries(), life.first),
+        None => lines::is_tagged(journal.entries(), child),
+    }
 }
 
 /// The job that the child's line is for, and its text without the tag.
 pub fn addressed<'a>(journal: &Journal, child: u32, line: &'a [u8]) -> (Option<u64>, &'a [u8])
     ensures { (result.0, result.1.now) ≡ addressed journal.now.entries child line.entry.now }
 {
-    lines::addressed(journal.entries(), journal.settled(), child, line)
+    if is_tagged(journal, child) {
+        lines::by_tag(line)
+    } else {
+        (first_open(journal, child), line)
+    }
 }
 
 /// The line as it stands on the wire.
@@ -199,21 +314,36 @@ pub fn on_wire(
 ) -> Result<Bytes, NoMemory>
     ensures { IfOk result (λ b. b ≡ on_wire journal.now.entries child job line) }
 {
-    lines::on_wire(alloc, journal.entries(), child, job, line)
+    if is_tagged(journal, child) {
+        tag(alloc, job, line.view())
+    } else {
+        Ok(line)
+    }
 }
 
 /// Whether each line for the child was written whole.
 pub fn is_all_sent(journal: &Journal, child: u32) -> bool
     ensures { result ≡ is_empty (unsent journal.now.entries child) }
 {
-    lines::is_all_sent(journal.entries(), child)
+    match journal.life(child) {
+        Some(life) => lines::are_all_sent(life.written, life.sent),
+        None => lines::is_all_sent(journal.entries(), child),
+    }
 }
 
 /// The first of the lines for the child that were not written whole.
 pub fn first_unsent(journal: &Journal, child: u32) -> Option<&[u8]>
     ensures { option_copied result ≡ option_map (λ w. w.1) (first_of (unsent journal.now.entries child)) }
 {
-    lines::first_unsent(journal.entries(), child)
+    let Some(life) = journal.life(child) else {
+        return lines::first_unsent(journal.entries(), child);
+    };
+    match journal.cursor(child) {
+        Some(cursor) if cursor.passed <= life.sent => {
+            lines::unsent_from(journal.entries(), cursor, child, life.sent)
+        }
+        _ => lines::first_unsent(journal.entries(), child),
+    }
 }
 
 // ---- tasks
@@ -223,7 +353,7 @@ pub fn least_free(opening: &Opening, journal: &Journal) -> Option<u32>
     requires { length opening.now.tasks ≤ most_tasks }
     ensures { result ≡ least_free opening.now journal.now.entries }
 {
-    tasks::least_free(opening, journal.entries(), journal.claimed())
+    tasks::least_free(opening, journal, journal.claimed())
 }
 
 /// Whether each task is claimed.
@@ -231,7 +361,7 @@ pub fn are_all_claimed(opening: &Opening, journal: &Journal) -> bool
     requires { length opening.now.tasks ≤ most_tasks }
     ensures { result ≡ list_all (is_claimed journal.now.entries) (numbers_of opening.now) }
 {
-    tasks::are_all_claimed(opening, journal.entries(), journal.claimed())
+    tasks::are_all_claimed(opening, journal, journal.claimed())
 }
 
 /// How many tasks are not claimed.
@@ -239,26 +369,26 @@ pub fn unclaimed(opening: &Opening, journal: &Journal) -> u32
     requires { length opening.now.tasks ≤ most_tasks }
     ensures { result ≡ length (filter (λ t. not (is_claimed journal.now.entries t)) (numbers_of opening.now)) }
 {
-    tasks::unclaimed(opening, journal.entries())
+    tasks::unclaimed(opening, journal, journal.claimed())
 }
 
 /// Whether the number holds the task.
 pub fn is_claimed_by(journal: &Journal, by: u32, task: u32) -> bool
     ensures { result ≡ is_claimed_by journal.now.entries by task }
 {
-    tasks::is_claimed_by(journal.entries(), by, task)
+    tasks::is_claimed_by(journal, by, task)
 }
 
 /// Whether a job of the task is open.
 pub fn has_open_job(journal: &Journal, task: u32) -> bool
     ensures { result ≡ has_open_job journal.now.entries task }
 {
-    tasks::has_open_job(journal.entries(), journal.settled(), task)
+    tasks::has_open_job(journal, task)
 }
 
 /// Whether a task is held for the child.
 pub fn has_busy_task(journal: &Journal, child: u32) -> bool
     ensures { result ≡ has_busy_task journal.now.entries child }
 {
-    tasks::has_busy_task(journal.entries(), child)
+    tasks::has_busy_task(journal, child)
 }

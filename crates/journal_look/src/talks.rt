@@ -1,6 +1,7 @@
 // What the journal says of a job's part.
-ghost use Rattle.std.specs.Prelude.{◌≡◌, ◌≤◌, not, length, option_copied, slice_get};
+ghost use Rattle.std.specs.Prelude.{◌≡◌, ◌≤◌, true, false, not, length, IfSome, option_copied, slice_get};
 ghost use Rattle.std.specs.List.{prefix_len};
+ghost use Rattle.journal_model.specs.Journal.{addressed, any, offers};
 ghost use Rattle.journal_model.specs.Parts.{part, item_of, item_at, ends_at, is_place};
 ghost use Rattle.journal_look.specs.Looks.{is_hosts, hosts_line, first_text, remote_text};
 
@@ -46,13 +47,45 @@ pub(super) fn entry_at(entries: &[Entry], at: usize) -> Option<&Entry>
     entries.get(at)
 }
 
-/// The text that the job's part begins with.
-pub(super) fn first_text(entries: &[Entry], child: u32, job: u64) -> Option<&[u8]>
+/// The same, where it may be known already.
+fn place(entries: &[Entry], known: Option<usize>, child: u32, job: u64) -> usize
+    requires { IfSome known (λ at. at ≡ prefix_len (λ e. not (is_hosts child job e.what)) entries.now) }
+    ensures value { result ≡ prefix_len (λ e. not (is_hosts child job e.what)) entries.now }
+    ensures bound { result ≤ length entries.now }
+{
+    match known {
+        Some(at) => at,
+        None => before_job(entries, child, job),
+    }
+}
+
+/// The line's text without the tag, for a child that takes none or among those entries.
+fn text_of<'a>(past: &[Entry], plain: bool, child: u32, line: &'a [u8]) -> &'a [u8]
+    requires { plain ≡ true → any (offers child) past.now ≡ false }
+    ensures { result.now ≡ (addressed past.now child line.entry.now).1 }
+{
+    if plain {
+        line
+    } else {
+        lines::text_of(past, child, line)
+    }
+}
+
+/// The text that the job's part begins with. The place of its first entry may be known, and that the child was offered no tags.
+pub(super) fn first_text(
+    entries: &[Entry],
+    known: Option<usize>,
+    plain: bool,
+    child: u32,
+    job: u64,
+) -> Option<&[u8]>
+    requires known { IfSome known (λ at. at ≡ prefix_len (λ e. not (is_hosts child job e.what)) entries.now) }
+    requires plain { plain ≡ true → any (offers child) entries.now ≡ false }
     ensures { option_copied result ≡ first_text (part entries.now child job) }
 {
-    let at = before_job(entries, child, job);
+    let at = place(entries, known, child, job);
     match entry_at(entries, at) {
-        Some(e) => Some(lines::text_of(&entries[..at], child, hosts_line(&e.what))),
+        Some(e) => Some(text_of(&entries[..at], plain, child, hosts_line(&e.what))),
         None => None,
     }
 }
@@ -90,9 +123,9 @@ fn said_line<'a>(
 ) -> Option<&'a [u8]>
     ensures { option_copied result ≡ remote_text (item_of child job past.now (What.Got child line.entry.now) rest.now) }
 {
-    let (to, text) = lines::addressed(past, 0, child, line);
+    let (to, text) = lines::addressed(past, child, line);
     if to == Some(job)
-        && children::is_open(past, 0, child, job)
+        && children::is_open(past, child, job)
         && !ends_at(rest, child, past.len() as u64)
     {
         Some(text)

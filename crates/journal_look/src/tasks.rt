@@ -3,14 +3,17 @@ ghost use Rattle.std.specs.Prelude.{◌≡◌, ◌≤◌, ◌<◌, ◌-◌, ◌^
 ghost use Rattle.std.specs.List.{list_any, list_all, range_with_len};
 ghost use Rattle.journal_model.specs.Limits.{most_tasks};
 ghost use Rattle.journal_model.specs.Journal.{each_of};
-ghost use Rattle.journal_model.specs.Legality.{claims, is_claimed, turned, holder, is_busy, clashes, conflicts, task_of, both_conflict, numbers_of, is_free, least_free, is_claimed_by, is_busy_with, job_for, has_open_job, changes_content, may_note, may_work, claimed_for, has_busy_task};
-ghost use Rattle.journal_look.specs.Marks.{AreClaimed, AreSettled};
+ghost use Rattle.journal_model.specs.Legality.{claims, is_claimed, turned, holder, is_busy, clashes, conflicts, task_of, both_conflict, numbers_of, is_free, least_free, is_claimed_by, is_held_by, is_held_for, is_busy_with, job_for, has_open_job, changes_content, may_note, may_work, claimed_for, has_busy_task};
+ghost use Rattle.journal_look.specs.Holds.{held_of};
+ghost use Rattle.journal_look.specs.Marks.{AreClaimed};
 
-use crate::children;
+use crate::held::{self, Held};
+use crate::journal::Journal;
+use crate::{children, jobs};
 use journal_model::{Entry, Holder, Opening, What};
 use task_text::{Task, Work};
 
-fn claims(what: &What, t: u32) -> bool
+pub(super) fn claims(what: &What, t: u32) -> bool
     ensures { result ≡ claims t what.now }
 {
     match what {
@@ -135,64 +138,113 @@ fn is_in_way(opening: &Opening, entries: &[Entry], task: u32) -> bool
     (1..task_count(opening) + 1).any(|other| is_busy_in_way(opening, entries, task, other))
 }
 
-fn is_free(opening: &Opening, entries: &[Entry], task: u32) -> bool
-    requires { length opening.now.tasks ≤ most_tasks }
-    ensures { result ≡ is_free opening.now entries.now task }
+/// Whether a held task is in the task's way.
+fn is_held_in_way(opening: &Opening, held: &[Held], task: u32) -> bool
+    ensures { result ≡ list_any (λ h. both_conflict (task_of opening.now h.task) (task_of opening.now task)) held.now }
 {
-    !is_claimed(entries, task) && !is_in_way(opening, entries, task)
+    held.iter().any(|h| both_conflict(opening, h.task, task))
 }
 
-fn first_free(opening: &Opening, entries: &[Entry], from: u32, end: u32) -> Option<u32>
+/// The same of any journal.
+fn has_in_way(opening: &Opening, journal: &Journal, task: u32) -> bool
     requires { length opening.now.tasks ≤ most_tasks }
-    ensures { result ≡ find (is_free opening.now entries.now) (range_with_len from (end - from)) }
+    ensures { result ≡ list_any (λ u. is_busy journal.now.entries u && both_conflict (task_of opening.now u) (task_of opening.now task)) (numbers_of opening.now) }
 {
-    (from..end).find(|task| is_free(opening, entries, *task))
+    match journal.held() {
+        Some(held) => is_held_in_way(opening, held, task),
+        None => is_in_way(opening, journal.entries(), task),
+    }
 }
 
-fn all_claimed(entries: &[Entry], from: u32, end: u32) -> bool
-    ensures { result ≡ list_all (is_claimed entries.now) (range_with_len from (end - from)) }
+/// Whether the task is claimed.
+fn is_taken(journal: &Journal, task: u32) -> bool
+    ensures { result ≡ is_claimed journal.now.entries task }
 {
-    (from..end).all(|task| is_claimed(entries, task))
+    if journal.top() <= u64::from(task) {
+        return false;
+    }
+    is_claimed(journal.entries(), task)
+}
+
+fn is_free(opening: &Opening, journal: &Journal, task: u32) -> bool
+    requires { length opening.now.tasks ≤ most_tasks }
+    ensures { result ≡ is_free opening.now journal.now.entries task }
+{
+    !is_taken(journal, task) && !has_in_way(opening, journal, task)
+}
+
+fn first_free(opening: &Opening, journal: &Journal, from: u32, end: u32) -> Option<u32>
+    requires { length opening.now.tasks ≤ most_tasks }
+    ensures { result ≡ find (is_free opening.now journal.now.entries) (range_with_len from (end - from)) }
+{
+    (from..end).find(|task| is_free(opening, journal, *task))
+}
+
+fn all_claimed(journal: &Journal, from: u32, end: u32) -> bool
+    ensures { result ≡ list_all (is_claimed journal.now.entries) (range_with_len from (end - from)) }
+{
+    (from..end).all(|task| is_taken(journal, task))
 }
 
 /// The first task that is free to be claimed. Each below from is claimed.
-pub(super) fn least_free(opening: &Opening, entries: &[Entry], from: u32) -> Option<u32>
+pub(super) fn least_free(opening: &Opening, journal: &Journal, from: u32) -> Option<u32>
     requires few { length opening.now.tasks ≤ most_tasks }
     requires some { 0 < from }
-    requires claimed { AreClaimed entries.now from }
-    ensures { result ≡ least_free opening.now entries.now }
+    requires claimed { AreClaimed journal.now.entries from }
+    ensures { result ≡ least_free opening.now journal.now.entries }
 {
-    first_free(opening, entries, from, task_count(opening) + 1)
+    first_free(opening, journal, from, task_count(opening) + 1)
 }
 
 /// Whether each task is claimed, where each below from is.
-pub(super) fn are_all_claimed(opening: &Opening, entries: &[Entry], from: u32) -> bool
+pub(super) fn are_all_claimed(opening: &Opening, journal: &Journal, from: u32) -> bool
     requires few { length opening.now.tasks ≤ most_tasks }
     requires some { 0 < from }
-    requires claimed { AreClaimed entries.now from }
-    ensures { result ≡ list_all (is_claimed entries.now) (numbers_of opening.now) }
+    requires claimed { AreClaimed journal.now.entries from }
+    ensures { result ≡ list_all (is_claimed journal.now.entries) (numbers_of opening.now) }
 {
-    all_claimed(entries, from, task_count(opening) + 1)
+    all_claimed(journal, from, task_count(opening) + 1)
 }
 
-/// Whether the number holds the task.
-pub(super) fn is_claimed_by(entries: &[Entry], by: u32, task: u32) -> bool
-    ensures { result ≡ is_claimed_by entries.now by task }
+fn is_held_by(holder: Option<Holder>, by: u32) -> bool
+    ensures { result ≡ is_held_by by holder }
 {
-    match holder(entries, task) {
+    match holder {
         Some(holder) => holder.by == by,
         None => false,
     }
+}
+
+fn is_held_for(holder: Option<Holder>, child: u32) -> bool
+    ensures { result ≡ is_held_for child holder }
+{
+    match holder {
+        Some(holder) => holder.child == child,
+        None => false,
+    }
+}
+
+fn holder_of(journal: &Journal, task: u32) -> Option<Holder>
+    ensures { result ≡ holder journal.now.entries task }
+{
+    match journal.held() {
+        Some(held) => held::holder(held, task),
+        None => holder(journal.entries(), task),
+    }
+}
+
+/// Whether the number holds the task.
+pub(super) fn is_claimed_by(journal: &Journal, by: u32, task: u32) -> bool
+    ensures { result ≡ is_claimed_by journal.now.entries by task }
+{
+    is_held_by(holder_of(journal, task), by)
 }
 
 /// Whether the task is held for the child.
 fn is_busy_with(entries: &[Entry], child: u32, task: u32) -> bool
     ensures { result ≡ is_busy_with entries.now child task }
 {
-    match holder(entries, task) {
-        Some(holder) => holder.child == child,
-        None => false,
-    }
+    is_held_for(holder(entries, task), child)
 }
 
 /// The job that the entry asks for the task, and its child.
@@ -226,27 +278,32 @@ fn changes_content(work: Work) -> bool
     matches!(work, Work::Store | Work::Drop)
 }
 
-pub(super) fn has_open_job(entries: &[Entry], settled: usize, task: u32) -> bool
-    requires bound { settled ≤ length entries.now }
-    requires settled { AreSettled entries.now settled }
+fn has_open(entries: &[Entry], task: u32) -> bool
     ensures { result ≡ has_open_job entries.now task }
 {
     entries
         .iter()
         .filter_map(|e| job_for(&e.what, task))
-        .any(|q| children::is_open(entries, settled, q.0, q.1))
+        .any(|q| children::is_open(entries, q.0, q.1))
+}
+
+pub(super) fn has_open_job(journal: &Journal, task: u32) -> bool
+    ensures { result ≡ has_open_job journal.now.entries task }
+{
+    match journal.jobs() {
+        Some(list) => jobs::has_open_job(list, task),
+        None => has_open(journal.entries(), task),
+    }
 }
 
 /// Whether a request for the task may be made by this number over the child.
-pub(super) fn may_work(entries: &[Entry], settled: usize, by: u32, task: u32, child: u32) -> bool
-    requires bound { settled ≤ length entries.now }
-    requires settled { AreSettled entries.now settled }
-    ensures { result ≡ may_work entries.now by task child }
+pub(super) fn may_work(journal: &Journal, by: u32, task: u32, child: u32) -> bool
+    ensures { result ≡ may_work journal.now.entries by task child }
 {
     task == 0 && by == 0
-        || is_claimed_by(entries, by, task)
-            && is_busy_with(entries, child, task)
-            && !has_open_job(entries, settled, task)
+        || is_claimed_by(journal, by, task)
+            && is_held_for(holder_of(journal, task), child)
+            && !has_open_job(journal, task)
 }
 
 /// The task that the entry claims for the child.
@@ -259,7 +316,23 @@ fn claimed_for(what: &What, c: u32) -> Option<u32>
     }
 }
 
-pub(super) fn has_busy_task(entries: &[Entry], child: u32) -> bool
+fn has_held_task(held: &[Held], child: u32) -> bool
+    ensures { result ≡ list_any (λ h. is_held_for child (held_of held.now h.task)) held.now }
+{
+    held.iter()
+        .any(|h| is_held_for(held::holder(held, h.task), child))
+}
+
+pub(super) fn has_busy_task(journal: &Journal, child: u32) -> bool
+    ensures { result ≡ has_busy_task journal.now.entries child }
+{
+    match journal.held() {
+        Some(held) => has_held_task(held, child),
+        None => has_busy(journal.entries(), child),
+    }
+}
+
+fn has_busy(entries: &[Entry], child: u32) -> bool
     ensures { result ≡ has_busy_task entries.now child }
 {
     entries
@@ -268,12 +341,18 @@ pub(super) fn has_busy_task(entries: &[Entry], child: u32) -> bool
         .any(|task| is_busy_with(entries, child, task))
 }
 
-/// How many tasks are not claimed.
-pub(super) fn unclaimed(opening: &Opening, entries: &[Entry]) -> u32
-    requires { length opening.now.tasks ≤ most_tasks }
-    ensures { result ≡ length (filter (λ t. not (is_claimed entries.now t)) (numbers_of opening.now)) }
+fn count_unclaimed(journal: &Journal, from: u32, end: u32) -> u32
+    ensures { result ≡ length (filter (λ t. not (is_claimed journal.now.entries t)) (range_with_len from (end - from))) }
 {
-    (1..task_count(opening) + 1)
-        .filter(|task| !is_claimed(entries, *task))
-        .count() as u32
+    (from..end).filter(|task| !is_taken(journal, *task)).count() as u32
+}
+
+/// How many tasks are not claimed, where each below from is.
+pub(super) fn unclaimed(opening: &Opening, journal: &Journal, from: u32) -> u32
+    requires few { length opening.now.tasks ≤ most_tasks }
+    requires some { 0 < from }
+    requires claimed { AreClaimed journal.now.entries from }
+    ensures { result ≡ length (filter (λ t. not (is_claimed journal.now.entries t)) (numbers_of opening.now)) }
+{
+    count_unclaimed(journal, from, task_count(opening) + 1)
 }

@@ -11,12 +11,12 @@ use Rattle.host_core.proofs.group.push_unsent.Goals as goal
 
 pub push_verdicts-requires-clause-room : goal.push_verdicts-requires-clause-room
 push_verdicts-requires-clause-room c =
-    let past = take c.args.n c.args.journal.now.entries in
+    let past = take c.args.past.n c.args.journal.now.entries in
     let same : length (due_jobs past c.args.child true) ≡ length (unsent_verdicts past c.args.child) = ap length (due_unsent past c.args.child) ∙ sym (length-what (λ j. Settled c.args.child j Unsent) (filter (is_unsent past c.args.child) (open_jobs past c.args.child))) in
     omega (arith, same, c.requires.room)
 
 pub returns-clause-entries : goal.returns-clause-entries
 returns-clause-entries c =
-    let past = take c.args.n c.args.journal.now.entries in
+    let past = take c.args.past.n c.args.journal.now.entries in
     c.push_verdicts.ensures.entries
     ∙ ap (λ (js : List ℕ). c.args.journal.now.entries ++ made_by c.args.by (map (λ j. Settled c.args.child j Unsent) js)) (due_unsent past c.args.child)

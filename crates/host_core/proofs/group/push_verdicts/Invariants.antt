@@ -4,5 +4,5 @@ use Rattle.host_core.proofs.group.push_verdicts.Given as goal
 
 abbrev pub invariant-loop-at : goal.invariant-loop-at
 invariant-loop-at l =
-    (l.journal.entries ≡ l.initial.journal.entries ++ pushed (take l.n l.initial.journal.entries) l.by l.child l.n l.verdict l.unsent l.at)
+    (l.journal.entries ≡ l.initial.journal.entries ++ pushed (take l.past.n l.initial.journal.entries) l.by l.child l.past.n l.verdict l.unsent l.at)
     × (l.journal.room ≡ l.initial.journal.room)

@@ -1,0 +1,269 @@
+// What a journal keeps of each child, entry by entry.
+ghost use Rattle.std.specs.Prelude.{◌≡◌, ◌+◌, ◌-◌, ◌<◌, ◌^◌, ◌++◌, ◌∷◌, ◌||◌, [], List, Some, IfSome, IsTrue, is_some};
+ghost use Rattle.journal_model.specs.Journal.{any};
+ghost use Rattle.journal_model.specs.Legality.{count, is_start};
+ghost use Rattle.journal_look.specs.Looks.{is_no_start};
+ghost use Rattle.journal_model.specs.declared.entry.Entry.{Entry};
+ghost use Rattle.journal_look.specs.Lives.{AreKnown, AreLived, AreLives, about, counted, kept, life_of, lived, unlived};
+
+use crate::{children, lines};
+use journal_model::{Entry, Verdict, What, Why};
+use std::alloc::{AllocError, Global};
+
+/// What the entries so far say of a child: the verdicts are those of its jobs 0 and 1, the numbers how many jobs it was asked, how
+/// many lines were written to it, and how many of them whole.
+#[derive(Clone, Copy)]
+pub(super) struct Life {
+    pub started: bool,
+    pub offered: bool,
+    pub spoken: bool,
+    pub mute: bool,
+    pub ended: bool,
+    pub why: Option<Why>,
+    pub first: Option<Verdict>,
+    pub second: Option<Verdict>,
+    pub prepares: bool,
+    pub asked: u64,
+    pub written: u64,
+    pub sent: u64,
+}
+
+/// The lives of the children 1, 2, 3 and so on; how many children were started, and whether one couldn't be. Where they are not
+/// known, nothing of it counts.
+#[derive(Drop)]
+pub(super) struct Lives {
+    pub known: bool,
+    pub each: Vec<Life>,
+    pub starts: u64,
+    pub no_start: bool,
+}
+
+/// The life of a child of which nothing is said.
+fn unlived() -> Life
+    ensures { result ≡ unlived }
+{
+    Life {
+        started: false,
+        offered: false,
+        spoken: false,
+        mute: false,
+        ended: false,
+        why: None,
+        first: None,
+        second: None,
+        prepares: false,
+        asked: 0,
+        written: 0,
+        sent: 0,
+    }
+}
+
+fn either(new: bool, before: bool) -> bool
+    ensures { result ≡ (new || before) }
+{
+    new || before
+}
+
+fn counted(more: bool, count: u64) -> u64
+    requires { count < 2 ^ 64 - 1 }
+    ensures { result ≡ counted more count }
+{
+    if more { count + 1 } else { count }
+}
+
+fn kept_why(new: Option<Why>, why: Option<Why>) -> Option<Why>
+    ensures { result ≡ kept new why }
+{
+    match new {
+        Some(_) => match why {
+            Some(_) => why,
+            None => new,
+        },
+        None => why,
+    }
+}
+
+fn kept_verdict(new: Option<Verdict>, verdict: Option<Verdict>) -> Option<Verdict>
+    ensures { result ≡ kept new verdict }
+{
+    match new {
+        Some(_) => match verdict {
+            Some(_) => verdict,
+            None => new,
+        },
+        None => verdict,
+    }
+}
+
+/// The child's life after one more entry.
+fn lived(child: u32, what: &What, life: Life) -> Life
+    requires asked { life.asked < 2 ^ 64 - 1 }
+    requires written { life.written < 2 ^ 64 - 1 }
+    requires sent { life.sent < 2 ^ 64 - 1 }
+    ensures { result ≡ lived child what.now life }
+{
+    Life {
+        started: either(children::starts(what, child), life.started),
+        offered: either(children::offers(what, child), life.offered),
+        spoken: either(children::is_from(what, child), life.spoken),
+        mute: either(children::mutes(what, child), life.mute),
+        ended: either(children::ends(what, child), life.ended),
+        why: kept_why(children::end_why(what, child), life.why),
+        first: kept_verdict(children::verdict_in(what, child, 0), life.first),
+        second: kept_verdict(children::verdict_in(what, child, 1), life.second),
+        prepares: either(lines::prepares(what, child), life.prepares),
+        asked: counted(children::asks(what, child).is_some(), life.asked),
+        written: counted(lines::is_written(what, child), life.written),
+        sent: counted(lines::sends(what, child), life.sent),
+    }
+}
+
+/// The child of which the entry says something.
+fn about(what: &What) -> Option<u32>
+    ensures { result ≡ about what.now }
+{
+    match what {
+        What::Start { child, .. }
+        | What::Ask { child, .. }
+        | What::Put { child, .. }
+        | What::Sent { child }
+        | What::Mute { child }
+        | What::Got { child, .. }
+        | What::End { child, .. }
+        | What::Verdict { child, .. } => Some(*child),
+        _ => None,
+    }
+}
+
+/// Whether one more can be counted.
+fn has_counts(life: Life) -> bool
+    ensures asked { IsTrue result → life.asked < 2 ^ 64 - 1 }
+    ensures written { IsTrue result → life.written < 2 ^ 64 - 1 }
+    ensures sent { IsTrue result → life.sent < 2 ^ 64 - 1 }
+{
+    life.asked < u64::MAX && life.written < u64::MAX && life.sent < u64::MAX
+}
+
+/// Puts the life after the last, where there is room.
+fn put(lives: &mut Vec<Life>, life: Life) -> bool
+    ensures { IsTrue result → lives.new.items ≡ lives.old.items ++ life ∷ [] }
+{
+    if lives.len() == lives.capacity() {
+        return false;
+    }
+    lives.push(life).is_ok()
+}
+
+/// Notes the entry, which is about that child. False where the table can't be right after it.
+fn note_child(lives: &mut Vec<Life>, child: u32, what: &What) -> bool
+    requires { about what.now ≡ Some child }
+    ensures { IsTrue result → (past : List Entry) → (e : Entry) → e.what ≡ what.now → AreLives past lives.old.items → AreLives (past ++ e ∷ []) lives.new.items }
+{
+    if child == 0 {
+        return false;
+    }
+    let at = child as usize - 1;
+    if at < lives.len() {
+        let life = lives[at];
+        if !has_counts(life) {
+            return false;
+        }
+        lives[at] = lived(child, what, life);
+        return true;
+    }
+    at == lives.len() && put(lives, lived(child, what, unlived()))
+}
+
+/// The same of any entry.
+fn note_each(lives: &mut Vec<Life>, what: &What) -> bool
+    ensures { IsTrue result → (past : List Entry) → (e : Entry) → e.what ≡ what.now → AreLives past lives.old.items → AreLives (past ++ e ∷ []) lives.new.items }
+{
+    match about(what) {
+        Some(child) => note_child(lives, child, what),
+        None => true,
+    }
+}
+
+/// Notes the entry. False where the lives can't be right after it.
+fn note_known(lives: &mut Lives, what: &What) -> bool
+    ensures { IsTrue result → (past : List Entry) → (e : Entry) → e.what ≡ what.now → AreLived past lives.old → AreLived (past ++ e ∷ []) lives.new }
+{
+    if lives.starts == u64::MAX {
+        return false;
+    }
+    lives.starts = counted(children::is_start(what), lives.starts);
+    lives.no_start = children::is_no_start(what) || lives.no_start;
+    note_each(&mut lives.each, what)
+}
+
+/// Notes an entry that comes next. It takes no memory.
+pub(super) fn note(lives: &mut Lives, entry: &Entry)
+    ensures { (past : List Entry) → AreKnown past lives.old → AreKnown (past ++ entry.now ∷ []) lives.new }
+{
+    if !lives.known {
+        return;
+    }
+    let known = note_known(lives, &entry.what);
+    lives.known = known;
+}
+
+/// No lives, known if there are no entries. It takes no memory.
+pub(super) fn none(alloc: Global, entries: &[Entry]) -> Lives
+    ensures { AreKnown entries.now result }
+{
+    Lives {
+        known: entries.is_empty(),
+        each: Vec::new(alloc),
+        starts: 0,
+        no_start: false,
+    }
+}
+
+/// Takes room for the children that so many more entries may start, a few at a time.
+pub(super) fn take_room(lives: &mut Lives, more: usize) -> Result<(), AllocError>
+    ensures { (past : List Entry) → AreKnown past lives.old → AreKnown past lives.new }
+{
+    lives.each.reserve(more.min(64))
+}
+
+fn find(lives: &[Life], child: u32) -> Life
+    ensures { (past : List Entry) → AreLives past lives.now → result ≡ life_of past child }
+{
+    if child == 0 {
+        return unlived();
+    }
+    match lives.get(child as usize - 1) {
+        Some(life) => *life,
+        None => unlived(),
+    }
+}
+
+/// The child's life, where it is known.
+pub(super) fn look(lives: &Lives, child: u32) -> Option<Life>
+    ensures { (past : List Entry) → AreKnown past lives.now → IfSome result (λ life. life ≡ life_of past child) }
+{
+    if !lives.known {
+        return None;
+    }
+    Some(find(lives.each.as_slice(), child))
+}
+
+/// How many children were started, where it is known.
+pub(super) fn starts(lives: &Lives) -> Option<u64>
+    ensures { (past : List Entry) → AreKnown past lives.now → IfSome result (λ n. n ≡ count is_start past) }
+{
+    if !lives.known {
+        return None;
+    }
+    Some(lives.starts)
+}
+
+/// Whether a child couldn't be started, where it is known.
+pub(super) fn no_start(lives: &Lives) -> Option<bool>
+    ensures { (past : List Entry) → AreKnown past lives.now → IfSome result (λ b. b ≡ any is_no_start past) }
+{
+    if !lives.known {
+        return None;
+    }
+    Some(lives.no_start)
+}

@@ -1,0 +1,77 @@
+// What a journal keeps beside its entries, so that a question needn't go through them.
+ghost use Rattle.std.specs.Prelude.{◌≡◌, ◌++◌, ◌∷◌, [], List, length};
+ghost use Rattle.journal_model.specs.declared.entry.Entry.{Entry};
+ghost use Rattle.journal_look.specs.Tables.{AreTabled};
+
+use crate::cursors::{self, Cursor, Turn};
+use crate::held::{self, Holds};
+use crate::jobs::{self, Jobs};
+use crate::life::{self, Lives};
+use crate::lines::{left_after, left_of};
+use crate::marks::{claimed_after, claimed_from};
+use ann_key::NoMemory;
+use journal_model::Entry;
+use std::alloc::Global;
+
+/// How many more bytes the lines may have, what is known of the children, of the held tasks and of the jobs, how far the lines to each
+/// child are counted, a number from which on no task is claimed and one below which each is.
+#[derive(Drop)]
+pub(super) struct Tables {
+    pub left: usize,
+    pub lives: Lives,
+    pub holds: Holds,
+    pub jobs: Jobs,
+    pub cursors: Vec<Cursor>,
+    pub top: u64,
+    pub claimed: u32,
+}
+
+/// The tables of these entries.
+#[tactic(auto, using(crate::proofs::Marking::none_claimed))]
+pub(super) fn tables_of(alloc: Global, entries: &[Entry]) -> Tables
+    ensures { AreTabled entries.now result }
+{
+    Tables {
+        left: left_of(entries),
+        lives: life::none(alloc, entries),
+        holds: held::none(alloc, entries),
+        jobs: jobs::none(alloc, entries),
+        cursors: Vec::new(alloc),
+        top: held::top_of(entries),
+        claimed: 1,
+    }
+}
+
+/// Notes an entry that comes next, at that place. It takes no memory.
+pub(super) fn note(tables: &mut Tables, at: usize, entry: &Entry)
+    ensures { (past : List Entry) → length past ≡ at → AreTabled past tables.old → AreTabled (past ++ entry.now ∷ []) tables.new }
+{
+    tables.left = left_after(tables.left, &entry.what);
+    jobs::note(&mut tables.jobs, &tables.lives, at, entry);
+    life::note(&mut tables.lives, entry);
+    held::note(&mut tables.holds, entry);
+    tables.top = held::top_after(tables.top, &entry.what);
+    tables.claimed = claimed_after(tables.claimed, entry);
+}
+
+/// Takes room for so many more entries.
+pub(super) fn take_room(tables: &mut Tables, more: usize) -> Result<(), NoMemory>
+    ensures { (past : List Entry) → AreTabled past tables.old → AreTabled past tables.new }
+{
+    life::take_room(&mut tables.lives, more)?;
+    held::take_room(&mut tables.holds, more)?;
+    jobs::take_room(&mut tables.jobs, more)?;
+    tables.cursors.reserve(more.min(64))?;
+    Ok(())
+}
+
+/// Raises the mark over the entries and moves the cursors, by the last one.
+pub(super) fn raise(tables: &mut Tables, entries: &[Entry], turn: Turn, claims: bool)
+    requires { AreTabled entries.now tables.old }
+    ensures { AreTabled entries.now tables.new }
+{
+    cursors::note(&mut tables.cursors, entries, turn);
+    if claims {
+        tables.claimed = claimed_from(entries, tables.claimed, tables.top);
+    }
+}
