@@ -1,12 +1,8 @@
-//! Plays scripts: events of a core, talks, audits of journals, and printed answers. Each row of input is printed with
-//! what came of it.
+//! Plays scripts: events of a core, and talks. Each row of input is printed with what came of it.
 #![tactic(auto)]
 
-mod answers;
-mod audits;
 mod cores;
 mod ends;
-mod entries;
 mod openings;
 mod requests;
 mod talks;
@@ -23,20 +19,15 @@ use talks::Talking;
 struct Scene {
     stage: Stage,
     talking: Talking,
-    head: Vec<String>,
 }
 
-// What is printed behind a row; nothing behind one that is no script's.
+// What is printed after a row; nothing after one that is no script's.
 fn said(alloc: Global, scene: &mut Scene, word: &str, rest: &str) -> Result<String, NoMemory> {
     match word {
         "core" => scene.stage.play(alloc, rest),
         "talk" => scene.talking.begin(alloc, rest),
         "hear" => scene.talking.hear(alloc, rest),
         "heard" => talks::heard(alloc, rest),
-        "head" => audits::add_head(alloc, &mut scene.head, rest),
-        "audit" => audits::audited(alloc, scene.head.as_slice(), rest),
-        "print" => answers::printed(alloc, rest),
-        "answer" => answers::answered(alloc, rest),
         _ => Ok(String::new(alloc)),
     }
 }
@@ -53,7 +44,6 @@ fn print_rows(rt: &(impl Input + Print + AllocGlobal)) -> io::Result<()> {
     let mut scene = Scene {
         stage: Stage::new(rt.alloc()),
         talking: Talking::new(),
-        head: Vec::new(rt.alloc()),
     };
     for row in rt.lines(rt.alloc()) {
         print_row(rt, &mut scene, row?.as_str())?;
