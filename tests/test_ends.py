@@ -12,6 +12,8 @@ LAST = f"greet('ASYNC')\nserve({check_answers(c='SUCCESS')!r})\n"
      "foul J 99 CHECKPRESENT-SUCCESS WORM--a"),
     ("no tag", 'say("CHECKPRESENT-SUCCESS WORM--a")\nhear()\n',
      "foul CHECKPRESENT-SUCCESS WORM--a"),
+    ("an answer about another key", 'say("J 2 CHECKPRESENT-SUCCESS WORM--c")\nhear()\n',
+     "foul J 2 CHECKPRESENT-SUCCESS WORM--c"),
     ("ERROR with the tag of one job", 'say(b + "ERROR no disk")\nhear()\n',
      "ended error no disk"),
     ("nothing more", "",
