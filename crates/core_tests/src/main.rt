@@ -21,21 +21,28 @@ struct Scene {
     talking: Talking,
 }
 
-// What is printed after a row; nothing after one that is no script's.
-fn said(alloc: Global, scene: &mut Scene, word: &str, rest: &str) -> Result<String, NoMemory> {
+// Adds what comes of a row; nothing of one that is no script's.
+fn play(
+    alloc: Global,
+    out: &mut String,
+    scene: &mut Scene,
+    word: &str,
+    rest: &str,
+) -> Result<(), NoMemory> {
     match word {
-        "core" => scene.stage.play(alloc, rest),
-        "talk" => scene.talking.begin(alloc, rest),
-        "hear" => scene.talking.hear(alloc, rest),
-        "heard" => talks::heard(alloc, rest),
-        _ => Ok(String::new(alloc)),
+        "core" => scene.stage.play(alloc, out, rest),
+        "talk" => scene.talking.begin(alloc, out, rest),
+        "hear" => scene.talking.hear(out, rest),
+        "heard" => talks::heard(alloc, out, rest),
+        _ => Ok(()),
     }
 }
 
 fn print_row(rt: &(impl Print + AllocGlobal), scene: &mut Scene, row: &str) -> io::Result<()> {
     let (word, rest) = words::cut(row);
-    match said(rt.alloc(), scene, word, rest) {
-        Ok(said) => println!(rt; "{row}{said}"),
+    let mut out = String::new(rt.alloc());
+    match play(rt.alloc(), &mut out, scene, word, rest) {
+        Ok(()) => println!(rt; "{row}{out}"),
         Err(_) => println!(rt; "{row} takes memory that is not there"),
     }
 }
