@@ -42,6 +42,15 @@ def say(*lines):
         rest = rest[os.write(1, rest):]
 
 
+def say_in_pieces(size, *lines):
+    """Says the lines in writes of so many bytes."""
+    for line in lines:
+        note(b"> ", line.encode())
+    data = "".join(line + "\n" for line in lines).encode()
+    for at in range(0, len(data), size):
+        os.write(1, data[at:at + size])
+
+
 def say_cut(text):
     """Says a text without the end of its line."""
     os.write(1, text.encode("utf-8", "surrogateescape"))

@@ -1,6 +1,6 @@
 """Children that take tags and end with jobs open, and the starts after them."""
 
-from harness import expect, table
+from harness import expect, limits, table
 from runs import check_answers, checks, expect_run
 
 BOTH = 'greet("ASYNC")\na, b = hear_all("CHECKPRESENT WORM--a", "CHECKPRESENT WORM--b")\n'
@@ -12,6 +12,8 @@ LAST = f"greet('ASYNC')\nserve({check_answers(c='SUCCESS')!r})\n"
      "foul J 99 CHECKPRESENT-SUCCESS WORM--a"),
     ("no tag", 'say("CHECKPRESENT-SUCCESS WORM--a")\nhear()\n',
      "foul CHECKPRESENT-SUCCESS WORM--a"),
+    ("an answer about another key", 'say("J 2 CHECKPRESENT-SUCCESS WORM--c")\nhear()\n',
+     "foul J 2 CHECKPRESENT-SUCCESS WORM--c"),
     ("ERROR with the tag of one job", 'say(b + "ERROR no disk")\nhear()\n',
      "ended error no disk"),
     ("nothing more", "",
@@ -35,6 +37,34 @@ say(a + "CHECKPRESENT-SUCCESS WORM--a")
 say_cut(b + "CHECKPRESENT-SUC")
 """)
     expect_run(room, "./remote", checks("a", "b"), "1 present\n2 ended eof\n", jobs=2, busy=2)
+
+
+# What a child says of three keys once it was asked for all of them, without the tags; and the tasks' answers by how many lines it said.
+ANSWERS = [(1, "CHECKPRESENT-SUCCESS WORM--b"), (2, "CHECKPRESENT-FAILURE WORM--c"), (0, "CHECKPRESENT-UNKNOWN WORM--a why")]
+ANSWERED = [
+    ["ended eof", "ended eof", "ended eof"],
+    ["ended eof", "present", "ended eof"],
+    ["ended eof", "present", "absent"],
+    ["unknown why", "present", "absent"],
+]
+ENDS = [len("".join(f"J 2 {answer}\n" for _, answer in ANSWERS[:count])) for count in range(4)]
+
+
+@limits(60)
+@table([(f"after {count} bytes", count) for count in sorted(
+    {0, *range(1, ENDS[3], 9), *[end + by for end in ENDS[1:] for by in (-1, 0, 1)]})])
+def a_child_dies_within_its_answers(room, count):
+    room.children("remote", f"""
+greet("ASYNC")
+tags = hear_all("CHECKPRESENT WORM--a", "CHECKPRESENT WORM--b", "CHECKPRESENT WORM--c")
+text = "".join(tags[at] + answer + "\\n" for at, answer in {ANSWERS!r}) + "DEBUG"
+for line in text[:{count}].split("\\n")[:-1]:
+    note(b"> ", line.encode())
+say_cut(text[:{count}])
+""")
+    answers = ANSWERED[sum(end <= count for end in ENDS[1:])]
+    out = "".join(f"{task} {answer}\n" for task, answer in enumerate(answers, 1))
+    expect_run(room, "./remote", checks("a", "b", "c"), out, jobs=3, busy=3)
 
 
 EIGHT = "abcdefgh"

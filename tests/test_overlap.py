@@ -91,6 +91,28 @@ hear()
     expect_run(room, "./remote", lines, out, jobs=jobs, busy=jobs)
 
 
+@limits(60)
+def case_answers_come_in_pieces_of_each_size(room):
+    # all three are asked before the last is answered first; the answers of one size are 102 bytes or more
+    most = 120
+    tasks = [f"{size}{letter}" for size in range(1, most) for letter in "abc"]
+    room.children("remote", TAGGED + f"""
+for size in range(1, {most}):
+    keys = [f"WORM--{{size}}{{letter}}" for letter in "abc"]
+    tags = hear_all(*[f"CHECKPRESENT {{key}}" for key in keys])
+    say_in_pieces(
+        size,
+        tags[2] + f"CHECKPRESENT-SUCCESS {{keys[2]}}",
+        tags[0] + f"CHECKPRESENT-FAILURE {{keys[0]}}",
+        tags[1] + f"CHECKPRESENT-UNKNOWN {{keys[1]}} why",
+    )
+hear()
+""")
+    answers = ["absent", "unknown why", "present"] * most
+    out = "".join(f"{task} {answer}\n" for task, answer in zip(range(1, len(tasks) + 1), answers))
+    expect_run(room, "./remote", checks(*tasks), out, jobs=3, busy=3)
+
+
 def case_a_check_and_a_drop_of_one_key_wait_and_a_check_of_another_goes_before(room):
     room.children("remote", TAGGED + """
 tags = hear_all("CHECKPRESENT WORM--a", "CHECKPRESENT WORM--b")

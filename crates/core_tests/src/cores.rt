@@ -1,24 +1,11 @@
 // A core that is told events by a number, of a child, or of a task.
-ghost use Rattle.std.specs.Prelude.{IfOk};
-ghost use Rattle.journal_model.specs.Beginnings.{MayBegin};
-
 use crate::openings::{CHECK, opening};
 use crate::{ends, requests, words};
 use ann_key::{Bytes, NoMemory};
 use chunk_log::Layouts;
 use entry_text::{said, text_of};
 use host_core::{Core, Event, Reply};
-use journal_model::Opening;
-use std::alloc::Global;
-
-/// What one check begins with.
-pub(crate) fn one_check(alloc: Global) -> Result<Opening, NoMemory>
-    ensures { IfOk result MayBegin }
-{
-    let line = String::from_str(alloc, CHECK)?;
-    let lines = vec![in alloc; line]?;
-    opening(alloc, lines.as_slice())
-}
+use std::alloc::{AllocError, Global};
 
 /// Who tells the events that come, and of what.
 #[derive(Clone, Copy)]
@@ -54,88 +41,99 @@ impl Stage {
     }
 
     /// A new core, the entries of the journal, what else is known of it, or an event and the reply to it.
-    pub(crate) fn play(&mut self, alloc: Global, text: &str) -> Result<String, NoMemory> {
+    pub(crate) fn play(
+        &mut self,
+        alloc: Global,
+        out: &mut String,
+        text: &str,
+    ) -> Result<(), NoMemory> {
         let (word, rest) = words::cut(text);
         match word {
             "task" => self.add_task(alloc, rest),
             "new" => self.renew(alloc),
-            "close" => self.close(alloc),
-            "by" | "child" | "of" => self.turn_to(alloc, word, words::task(rest)),
+            "close" => self.close(out),
+            "by" | "child" | "of" => {
+                self.turn_to(word, words::task(rest));
+                Ok(())
+            }
             _ => match &mut self.core {
-                Some(core) => told(alloc, core, self.turn, text),
-                None => words::told(alloc, "no core"),
+                Some(core) => tell(alloc, out, core, self.turn, text),
+                None => Ok(words::tell(out, "no core")?),
             },
         }
     }
 
-    // The next new core has this task too.
-    fn add_task(&mut self, alloc: Global, line: &str) -> Result<String, NoMemory> {
-        self.tasks.push(String::from_str(alloc, line)?)?;
-        Ok(String::new(alloc))
-    }
-
     // The events from here on are told by this number, or are of this child or this task.
-    fn turn_to(&mut self, alloc: Global, word: &str, number: u32) -> Result<String, NoMemory> {
+    fn turn_to(&mut self, word: &str, number: u32) {
         match word {
             "by" => self.turn.by = number,
             "child" => self.turn.child = number,
             _ => self.turn.task = number,
         }
-        Ok(String::new(alloc))
+    }
+
+    // The next new core has this task too.
+    fn add_task(&mut self, alloc: Global, line: &str) -> Result<(), NoMemory> {
+        self.tasks.push(String::from_str(alloc, line)?)?;
+        Ok(())
     }
 
     // A core with the tasks that were added since the last one, or with one check.
-    fn renew(&mut self, alloc: Global) -> Result<String, NoMemory> {
+    fn renew(&mut self, alloc: Global) -> Result<(), NoMemory> {
         self.turn = Turn::FIRST;
-        let opening = if self.tasks.is_empty() {
-            one_check(alloc)?
-        } else {
-            opening(alloc, self.tasks.as_slice())?
-        };
+        if self.tasks.is_empty() {
+            self.add_task(alloc, CHECK)?;
+        }
+        let opening = opening(alloc, self.tasks.as_slice())?;
         self.tasks.clear();
         self.core = Some(Core::new(alloc, opening)?);
-        Ok(String::new(alloc))
+        Ok(())
     }
 
-    // How many entries the journal has at the end, and what is set and noted.
-    fn close(&mut self, alloc: Global) -> Result<String, NoMemory> {
+    // How many entries the journal has at the end.
+    fn close(&mut self, out: &mut String) -> Result<(), NoMemory> {
         match self.core.take() {
             Some(core) => {
                 let (journal, _, _) = core.close();
-                words::numbered(alloc, "entries", journal.len())
+                Ok(words::tell_number(out, "entries", journal.len())?)
             }
-            None => words::told(alloc, "no core"),
+            None => Ok(words::tell(out, "no core")?),
         }
     }
 }
 
-fn told(alloc: Global, core: &mut Core, turn: Turn, text: &str) -> Result<String, NoMemory> {
+fn tell(
+    alloc: Global,
+    out: &mut String,
+    core: &mut Core,
+    turn: Turn,
+    text: &str,
+) -> Result<(), NoMemory> {
     match text {
         "journal" => {
             let entries = text_of(alloc, core.journal())?;
-            let mut said = String::from_str(alloc, "\n")?;
-            said.push_str(entries.trim_end())?;
-            Ok(said)
+            Ok(write!(out, "\n{}", entries.trim_end())?)
         }
-        "state" => state(alloc, core, turn.child),
+        "state" => Ok(tell_state(out, core, turn.child)?),
         _ => match event(alloc, turn, text)? {
-            Some(event) => reply_text(alloc, core.step(turn.by, event)?),
-            None => words::told(alloc, "no event"),
+            Some(event) => {
+                let reply = core.step(turn.by, event)?;
+                Ok(tell_reply(out, &reply)?)
+            }
+            None => Ok(words::tell(out, "no event")?),
         },
     }
 }
 
-fn state(alloc: Global, core: &Core, child: u32) -> Result<String, NoMemory> {
+fn tell_state(out: &mut String, core: &Core, child: u32) -> Result<(), AllocError> {
     let tags = if core.tagged(child) {
-        "tagged,"
+        "tagged"
     } else {
-        "plain,"
+        "plain"
     };
-    let mut said = words::numbered(alloc, tags, u64::from(core.unclaimed()))?;
-    said.push_str(" unclaimed of")?;
-    let tasks = format!(in alloc; " {}", core.opening().tasks.view().len())?;
-    said.push_str(tasks.as_str())?;
-    Ok(said)
+    let unclaimed = core.unclaimed();
+    let tasks = core.opening().tasks.view().len();
+    write!(out, " => {tags}, {unclaimed} unclaimed of {tasks}")
 }
 
 fn event(alloc: Global, turn: Turn, text: &str) -> Result<Option<Event>, NoMemory> {
@@ -206,31 +204,30 @@ fn of_child(child: u32, word: &str, rest: &str) -> Option<Event> {
     }
 }
 
-fn reply_text(alloc: Global, reply: Reply) -> Result<String, NoMemory> {
+fn tell_reply(out: &mut String, reply: &Reply) -> Result<(), AllocError> {
     match reply {
-        Reply::Task(task) => words::numbered(alloc, "task", u64::from(task)),
-        Reply::Child(child) => words::numbered(alloc, "child", u64::from(child)),
-        Reply::Job(job) => words::numbered(alloc, "job", job),
-        Reply::Verdict(verdict) => words::named(alloc, "", &verdict),
-        Reply::Layouts(layouts) => layouts_text(alloc, &layouts),
-        Reply::Line(line) => words::quoted(alloc, "line ", said(line.view())),
-        Reply::Gone { why: Some(why) } => words::named(alloc, "gone ", &why),
-        Reply::Gone { why: None } => words::told(alloc, "gone mute"),
-        Reply::Wait => words::told(alloc, "wait"),
-        Reply::NoTask => words::told(alloc, "no task"),
-        Reply::Read => words::told(alloc, "read"),
-        Reply::Over => words::told(alloc, "over"),
-        Reply::Done => words::told(alloc, "done"),
-        Reply::Odd => words::told(alloc, "odd"),
+        Reply::Task(task) => words::tell_number(out, "task", u64::from(*task)),
+        Reply::Child(child) => words::tell_number(out, "child", u64::from(*child)),
+        Reply::Job(job) => words::tell_number(out, "job", *job),
+        Reply::Verdict(verdict) => write!(out, " => {verdict:?}"),
+        Reply::Layouts(layouts) => tell_layouts(out, layouts),
+        Reply::Line(line) => write!(out, " => line {:?}", said(line.view())),
+        Reply::Gone { why: Some(why) } => write!(out, " => gone {why:?}"),
+        Reply::Gone { why: None } => words::tell(out, "gone mute"),
+        Reply::Wait => words::tell(out, "wait"),
+        Reply::NoTask => words::tell(out, "no task"),
+        Reply::Read => words::tell(out, "read"),
+        Reply::Over => words::tell(out, "over"),
+        Reply::Done => words::tell(out, "done"),
+        Reply::Odd => words::tell(out, "odd"),
     }
 }
 
 // Each layout as its chunk size and how many chunks there are.
-fn layouts_text(alloc: Global, layouts: &Layouts) -> Result<String, NoMemory> {
-    let mut text = words::told(alloc, "layouts")?;
+fn tell_layouts(out: &mut String, layouts: &Layouts) -> Result<(), AllocError> {
+    words::tell(out, "layouts")?;
     for (chunk, count) in layouts.view() {
-        let layout = format!(in alloc; " {chunk}x{count}")?;
-        text.push_str(layout.as_str())?;
+        write!(out, " {chunk}x{count}")?;
     }
-    Ok(text)
+    Ok(())
 }

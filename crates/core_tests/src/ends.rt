@@ -1,6 +1,6 @@
-// Ends, verdicts and answers, each from a word and a number behind it.
+// Ends and answers, each from a word and a number after it.
 use crate::words;
-use journal_model::{Answer, Verdict, Why};
+use journal_model::{Answer, Why};
 
 const PLAIN: &[(&str, Why)] = &[
     ("eof", Why::Eof),
@@ -30,22 +30,6 @@ fn plain_why(word: &str) -> Option<Why> {
         }
     }
     None
-}
-
-/// How a request was settled.
-pub(crate) fn verdict(text: &str) -> Option<Verdict> {
-    let (word, rest) = words::cut(text);
-    let at = words::number(rest);
-    match word {
-        "done" => Some(Verdict::Done { at }),
-        "failed" => Some(Verdict::Failed { at }),
-        "absent" => Some(Verdict::Absent { at }),
-        "unknown" => Some(Verdict::Unknown { at }),
-        "unsupported" => Some(Verdict::Unsupported { at }),
-        "unsent" => Some(Verdict::Unsent),
-        "ended" => why(rest).map(|why| Verdict::Ended { why }),
-        _ => None,
-    }
 }
 
 /// The answer of a task.

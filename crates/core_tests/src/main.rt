@@ -1,12 +1,8 @@
-//! Plays scripts: events of a core, talks, audits of journals, and printed answers. Each row of input is printed with
-//! what came of it.
+//! Plays scripts: events of a core, and talks. Each row of input is printed with what came of it.
 #![tactic(auto)]
 
-mod answers;
-mod audits;
 mod cores;
 mod ends;
-mod entries;
 mod openings;
 mod requests;
 mod talks;
@@ -23,28 +19,30 @@ use talks::Talking;
 struct Scene {
     stage: Stage,
     talking: Talking,
-    head: Vec<String>,
 }
 
-// What is printed behind a row; nothing behind one that is no script's.
-fn said(alloc: Global, scene: &mut Scene, word: &str, rest: &str) -> Result<String, NoMemory> {
+// Adds what comes of a row; nothing of one that is no script's.
+fn play(
+    alloc: Global,
+    out: &mut String,
+    scene: &mut Scene,
+    word: &str,
+    rest: &str,
+) -> Result<(), NoMemory> {
     match word {
-        "core" => scene.stage.play(alloc, rest),
-        "talk" => scene.talking.begin(alloc, rest),
-        "hear" => scene.talking.hear(alloc, rest),
-        "heard" => talks::heard(alloc, rest),
-        "head" => audits::add_head(alloc, &mut scene.head, rest),
-        "audit" => audits::audited(alloc, scene.head.as_slice(), rest),
-        "print" => answers::printed(alloc, rest),
-        "answer" => answers::answered(alloc, rest),
-        _ => Ok(String::new(alloc)),
+        "core" => scene.stage.play(alloc, out, rest),
+        "talk" => scene.talking.begin(alloc, out, rest),
+        "hear" => scene.talking.hear(out, rest),
+        "heard" => talks::heard(alloc, out, rest),
+        _ => Ok(()),
     }
 }
 
 fn print_row(rt: &(impl Print + AllocGlobal), scene: &mut Scene, row: &str) -> io::Result<()> {
     let (word, rest) = words::cut(row);
-    match said(rt.alloc(), scene, word, rest) {
-        Ok(said) => println!(rt; "{row}{said}"),
+    let mut out = String::new(rt.alloc());
+    match play(rt.alloc(), &mut out, scene, word, rest) {
+        Ok(()) => println!(rt; "{row}{out}"),
         Err(_) => println!(rt; "{row} takes memory that is not there"),
     }
 }
@@ -53,7 +51,6 @@ fn print_rows(rt: &(impl Input + Print + AllocGlobal)) -> io::Result<()> {
     let mut scene = Scene {
         stage: Stage::new(rt.alloc()),
         talking: Talking::new(),
-        head: Vec::new(rt.alloc()),
     };
     for row in rt.lines(rt.alloc()) {
         print_row(rt, &mut scene, row?.as_str())?;

@@ -2,7 +2,7 @@
 use crate::{requests, words};
 use ann_key::NoMemory;
 use std::alloc::Global;
-use talk_serial::{Request, Talk};
+use talk_serial::Talk;
 use wire_msg::read_remote;
 
 /// A talk that goes on from row to row.
@@ -17,52 +17,50 @@ impl Talking {
     }
 
     /// Begins a talk about the request.
-    pub(crate) fn begin(&mut self, alloc: Global, text: &str) -> Result<String, NoMemory> {
-        match requests::request(alloc, text)? {
-            Some(request) => {
-                self.talk = Some(copied(alloc, &request)?);
-                Ok(String::new(alloc))
-            }
-            None => words::told(alloc, "no request"),
+    pub(crate) fn begin(
+        &mut self,
+        alloc: Global,
+        out: &mut String,
+        text: &str,
+    ) -> Result<(), NoMemory> {
+        self.talk = talk_about(alloc, text)?;
+        if self.talk.is_none() {
+            words::tell(out, "no request")?;
         }
+        Ok(())
     }
 
-    /// What the line is to it.
-    pub(crate) fn hear(&mut self, alloc: Global, line: &str) -> Result<String, NoMemory> {
+    /// Adds what the line is to it.
+    pub(crate) fn hear(&mut self, out: &mut String, line: &str) -> Result<(), NoMemory> {
         match &mut self.talk {
-            Some(talk) => hear(alloc, talk, line),
-            None => words::told(alloc, "no talk"),
+            Some(talk) => hear(out, talk, line),
+            None => Ok(words::tell(out, "no talk")?),
         }
     }
 }
 
-// A talk about a copy of the request.
-fn copied(alloc: Global, request: &Request) -> Result<Talk, NoMemory> {
-    let talk = Talk::ask(request.copy(alloc)?);
-    let request = talk.request().copy(alloc)?;
-    Ok(Talk::ask(request))
+// A talk about a copy of the request that the text spells.
+fn talk_about(alloc: Global, text: &str) -> Result<Option<Talk>, NoMemory> {
+    match requests::request(alloc, text)? {
+        Some(request) => Ok(Some(Talk::ask(Talk::ask(request).request().copy(alloc)?))),
+        None => Ok(None),
+    }
 }
 
-fn hear(alloc: Global, talk: &mut Talk, line: &str) -> Result<String, NoMemory> {
+fn hear(out: &mut String, talk: &mut Talk, line: &str) -> Result<(), NoMemory> {
     match read_remote(line.as_bytes()) {
-        Some(message) => {
-            let heard = talk.hear(&message);
-            words::named(alloc, "", &heard)
-        }
-        None => words::told(alloc, "no message"),
+        Some(message) => Ok(write!(out, " => {:?}", talk.hear(&message))?),
+        None => Ok(words::tell(out, "no message")?),
     }
 }
 
-/// What the line, behind a bar, is to a new talk about the request.
-pub(crate) fn heard(alloc: Global, text: &str) -> Result<String, NoMemory> {
+/// Adds what the line, after a bar, is to a new talk about the request.
+pub(crate) fn heard(alloc: Global, out: &mut String, text: &str) -> Result<(), NoMemory> {
     let Some((request, line)) = text.split_once(" | ") else {
-        return words::told(alloc, "no line");
+        return Ok(words::tell(out, "no line")?);
     };
-    match requests::request(alloc, request)? {
-        Some(request) => {
-            let mut talk = copied(alloc, &request)?;
-            hear(alloc, &mut talk, line)
-        }
-        None => words::told(alloc, "no request"),
+    match talk_about(alloc, request)? {
+        Some(mut talk) => hear(out, &mut talk, line),
+        None => Ok(words::tell(out, "no request")?),
     }
 }

@@ -1,8 +1,7 @@
-//! A role that counts its run, and tests of rounds of such roles.
+//! Tests of rounds of roles that count their runs.
 #![tactic(auto)]
 
+#[cfg(test)]
 mod counting;
 #[cfg(test)]
 mod tests;
-
-pub use counting::Counting;

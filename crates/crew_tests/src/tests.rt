@@ -1,110 +1,135 @@
 ghost use Rattle.std.specs.Prelude.{◌≡◌, ◌<◌, IfOk, vec_len};
 
-use crate::Counting;
+use crate::counting::Counting;
+use ann_key::NoMemory;
 use crew_round::{Back, Crew, run_pool, run_pool_some, run_round, run_some};
 use std::alloc::{AllocError, Global};
-use std::process::Abort;
+use std::sync::Wait;
 use std::sync::atomic::{AtomicU64, Ordering};
 use std::test::Fail;
+use std::thread::Threads;
 
-fn counting(runs: &AtomicU64, name: u64) -> Counting<'_> {
-    Counting {
-        runs,
-        name,
-        has_run: false,
-    }
-}
+type Role<'a> = Counting<'a>;
 
-fn workers(alloc: Global, runs: &AtomicU64, count: u64) -> Result<Vec<Counting<'_>>, AllocError>
+type Roles<'a> = Crew<Role<'a>, Role<'a>, Role<'a>>;
+
+fn workers(alloc: Global, runs: &AtomicU64, count: u64) -> Result<Vec<Role<'_>>, AllocError>
     requires { count < 100 }
     ensures { IfOk result (λ v. vec_len v ≡ count) }
 {
     let mut all = Vec::new(alloc);
-    for i in 0..count {
-        all.push(counting(runs, i))?;
+    for _i in 0..count {
+        all.push(Counting { runs })?;
     }
     Ok(all)
 }
 
-// how many ran, where each has the name of its place, and knows whether it ran
-fn ran_in_order(rt: &impl Abort, backs: &[Back<Counting<'_>>]) -> u64 {
+fn crew(alloc: Global, runs: &AtomicU64, count: u64) -> Result<Roles<'_>, AllocError>
+    requires { count < 100 }
+    ensures { IfOk result (λ crew. vec_len crew.workers ≡ count) }
+{
+    Ok(Crew {
+        ear: Counting { runs },
+        mouth: Counting { runs },
+        workers: workers(alloc, runs, count)?,
+    })
+}
+
+fn ran_of(backs: &[Back<Role<'_>>]) -> u64 {
     let mut ran = 0u64;
-    let mut at = 0u64;
     for back in backs {
-        let (role, says) = match back {
-            Back::Ran(role) => (role, true),
-            Back::Stayed(role) => (role, false),
-        };
-        assert_eq!(rt; role.name, at);
-        assert_eq!(rt; role.has_run, says);
-        at = at.wrapping_add(1);
-        if says {
+        if back.has_run() {
             ran = ran.wrapping_add(1);
         }
     }
     ran
 }
 
+// Whether the ear and the mouth ran, how many workers did, and how many runs were counted.
+type Ran = (bool, bool, u64, u64);
+
+// What came of a round with so many workers, in so many threads at most.
+fn round<R: Threads + Wait + Sync>(
+    rt: &R,
+    alloc: Global,
+    count: u64,
+    most: usize,
+) -> Result<Ran, NoMemory>
+    requires { count < 100 }
+{
+    let runs = AtomicU64::new(0);
+    let Ok(back) = run_some(rt, alloc, most, crew(alloc, &runs, count)?) else {
+        return Err(NoMemory);
+    };
+    let worked = ran_of(&back.workers);
+    let counted = runs.load(Ordering::SeqCst);
+    Ok((back.ear.has_run(), back.mouth.has_run(), worked, counted))
+}
+
+// How many workers came back from a pool of so many, in so many threads at most, how many ran, and how many runs were counted.
+fn pool<R: Threads + Wait + Sync>(
+    rt: &R,
+    alloc: Global,
+    count: u64,
+    most: usize,
+) -> Result<(u64, u64, u64), NoMemory>
+    requires { count < 100 }
+{
+    let runs = AtomicU64::new(0);
+    let Ok(back) = run_pool_some(rt, alloc, most, workers(alloc, &runs, count)?) else {
+        return Err(NoMemory);
+    };
+    let ran = ran_of(&back);
+    Ok((back.len() as u64, ran, runs.load(Ordering::SeqCst)))
+}
+
+// The workers of a round, its threads at most, whether it runs, and how many workers do.
+static ROUNDS: [(u64, usize, bool, u64); 10] = [
+    (1, 0, false, 0),
+    (1, 1, false, 0),
+    (1, 2, false, 0),
+    (1, 3, true, 1),
+    (0, 2, false, 0),
+    (64, 2, false, 0),
+    (64, 3, true, 1),
+    (64, 40, true, 38),
+    (64, 66, true, 64),
+    (64, 1000, true, 64),
+];
+
 // With threads for the ear, the mouth and some worker, those that have one run. Without one of these nobody took a step, though
 // the threads that were started had all the time until it was known.
 #[test]
 fn rounds_of_few_threads(rt: HostRuntime) -> Result<(), Fail> {
-    for (count, most, ran) in [
-        (1, 0, 0),
-        (1, 1, 0),
-        (1, 2, 0),
-        (1, 3, 3),
-        (0, 2, 0),
-        (64, 2, 0),
-        (64, 3, 3),
-        (64, 40, 40),
-        (64, 66, 66),
-        (64, 1000, 66),
-    ] {
+    for (count, most, runs, worked) in &ROUNDS {
+        let ran = if *runs { worked.wrapping_add(2) } else { 0 };
         for _ in 0..10 {
-            assert!(rt; count < 100);
-            let runs = AtomicU64::new(0);
-            let crew = Crew {
-                ear: counting(&runs, 100),
-                mouth: counting(&runs, 200),
-                workers: workers(rt.alloc(), &runs, count)?,
-            };
-            let Ok(back) = run_some(&rt, rt.alloc(), most, crew) else {
-                panic!(rt; "no memory")
-            };
-            let ear = matches!(back.ear, Back::Ran(_));
-            let mouth = matches!(back.mouth, Back::Ran(_));
-            assert_eq!(rt; ear, ran > 0, "{count} {most}");
-            assert_eq!(rt; mouth, ran > 0, "{count} {most}");
-            let worked = ran_in_order(&rt, &back.workers);
-            assert_eq!(rt; worked, if ran > 2 { ran - 2 } else { 0 }, "{count} {most}");
-            assert_eq!(rt; runs.load(Ordering::SeqCst), ran, "{count} {most}");
+            assert!(rt; *count < 100);
+            let came = round(&rt, rt.alloc(), *count, *most)?;
+            assert_eq!(rt; came, (*runs, *runs, *worked, ran), "{count} {most}");
         }
     }
     Ok(())
 }
 
+// The workers of a pool, its threads at most, and how many run.
+static POOLS: [(u64, usize, u64); 6] = [
+    (0, 0, 0),
+    (1, 0, 0),
+    (1, 1, 1),
+    (64, 0, 0),
+    (64, 1, 1),
+    (64, 64, 64),
+];
+
 // A pool goes on with the workers that have a thread.
 #[test]
 fn pools_of_few_threads(rt: HostRuntime) -> Result<(), Fail> {
-    for (count, most, ran) in [
-        (0, 0, 0),
-        (1, 0, 0),
-        (1, 1, 1),
-        (64, 0, 0),
-        (64, 1, 1),
-        (64, 64, 64),
-    ] {
+    for (count, most, ran) in &POOLS {
         for _ in 0..10 {
-            assert!(rt; count < 100);
-            let runs = AtomicU64::new(0);
-            let pool = workers(rt.alloc(), &runs, count)?;
-            let Ok(back) = run_pool_some(&rt, rt.alloc(), most, pool) else {
-                panic!(rt; "no memory")
-            };
-            assert_eq!(rt; back.len() as u64, count);
-            assert_eq!(rt; ran_in_order(&rt, &back), ran, "{count} {most}");
-            assert_eq!(rt; runs.load(Ordering::SeqCst), ran, "{count} {most}");
+            assert!(rt; *count < 100);
+            let came = pool(&rt, rt.alloc(), *count, *most)?;
+            assert_eq!(rt; came, (*count, *ran, *ran), "{count} {most}");
         }
     }
     Ok(())
@@ -114,21 +139,12 @@ fn pools_of_few_threads(rt: HostRuntime) -> Result<(), Fail> {
 #[test]
 fn whole_rounds(rt: HostRuntime) -> Result<(), Fail> {
     let runs = AtomicU64::new(0);
-    let crew = Crew {
-        ear: counting(&runs, 100),
-        mouth: counting(&runs, 200),
-        workers: workers(rt.alloc(), &runs, 64)?,
-    };
-    let Ok(back) = run_round(&rt, rt.alloc(), crew) else {
+    let Ok(_back) = run_round(&rt, rt.alloc(), crew(rt.alloc(), &runs, 64)?) else {
         panic!(rt; "no memory")
     };
-    assert_eq!(rt; back.ear.role().name, 100);
-    assert_eq!(rt; back.mouth.role().name, 200);
-    assert_eq!(rt; ran_in_order(&rt, &back.workers), 64);
-    let Ok(back) = run_pool(&rt, rt.alloc(), workers(rt.alloc(), &runs, 64)?) else {
+    let Ok(_back) = run_pool(&rt, rt.alloc(), workers(rt.alloc(), &runs, 64)?) else {
         panic!(rt; "no memory")
     };
-    assert_eq!(rt; ran_in_order(&rt, &back), 64);
     assert_eq!(rt; runs.load(Ordering::SeqCst), 130);
     Ok(())
 }

@@ -4,7 +4,6 @@ use ann_outside::{MemChild, MemClock, MemDesk, MemDesks, MemPrograms, MemSink, M
 use special_cli::special;
 use std::alloc::Global;
 use std::marker::Sync;
-use std::str;
 use std::sync::Wait;
 use std::test::Fail;
 use std::thread::Threads;
@@ -17,19 +16,25 @@ static SAYS: [&str; 4] = [
     "CHECKPRESENT-SUCCESS WORM--a\n",
 ];
 
-// A child of whose reads that of this number fails.
-fn child(alloc: Global, read: u64) -> Result<MemChild, NoMemory> {
+// Programs whose only child is one of whose reads that of this number fails.
+fn programs(alloc: Global, read: u64) -> Result<MemPrograms, NoMemory> {
     let mut says = Vec::new(alloc);
     for line in &SAYS {
         says.push(Bytes::copy(alloc, line.as_bytes())?)?;
     }
-    let mut read_fails = Vec::new(alloc);
-    read_fails.push(read)?;
-    Ok(MemChild {
+    let mut children = Vec::new(alloc);
+    children.push(MemChild {
         says,
-        read_fails,
+        read_fails: Vec::from_slice(alloc, &[read])?,
         write_fails: Vec::new(alloc),
-    })
+    })?;
+    Ok(MemPrograms::new(alloc, children, Vec::new(alloc)))
+}
+
+fn desks(alloc: Global) -> Result<MemDesks, NoMemory> {
+    let mut desks = Vec::new(alloc);
+    desks.push(MemDesk::new(alloc, Vec::new(alloc), Vec::new(alloc))?)?;
+    Ok(MemDesks::new(alloc, desks))
 }
 
 fn words(alloc: Global) -> Result<Vec<String>, NoMemory> {
@@ -40,17 +45,15 @@ fn words(alloc: Global) -> Result<Vec<String>, NoMemory> {
     Ok(list)
 }
 
-// What a check over that child prints, and its status.
+// Whether a check over that child prints this, and its status.
 fn checked<R: Threads + Wait + Sync>(
     rt: &R,
     alloc: Global,
     read: u64,
-) -> Result<(String, u8), NoMemory> {
-    let mut children = Vec::new(alloc);
-    children.push(child(alloc, read)?)?;
-    let programs = MemPrograms::new(alloc, children, Vec::new(alloc));
-    let mut desks = Vec::new(alloc);
-    desks.push(MemDesk::new(alloc, Vec::new(alloc), Vec::new(alloc))?)?;
+    line: &[u8],
+) -> Result<(bool, u8), NoMemory> {
+    let programs = programs(alloc, read)?;
+    let desks = desks(alloc)?;
     let words = words(alloc)?;
     let mut input = MemSource::new(Vec::new(alloc), Vec::new(alloc));
     let mut out = MemSink::new(alloc, 7, Vec::new(alloc));
@@ -61,32 +64,21 @@ fn checked<R: Threads + Wait + Sync>(
         alloc,
         words.as_slice(),
         programs,
-        MemDesks::new(alloc, desks),
+        desks,
         &mut input,
         &mut out,
         &mut err,
         &mut clock,
     );
-    let said = String::from_str(alloc, shown(out.taken()))?;
-    Ok((said, closing.status))
-}
-
-fn shown(bytes: &[u8]) -> &str {
-    match str::from_utf8(bytes) {
-        Ok(text) => text,
-        Err(_) => "(no text)",
-    }
+    Ok((out.taken() == line, closing.status))
 }
 
 #[test]
 fn a_read_that_fails_ends_the_child(rt: HostRuntime) -> Result<(), Fail> {
     for read in 1..5 {
-        let (said, status) = checked(&rt, rt.alloc(), read)?;
-        assert_eq!(rt; said.as_str(), "1 ended readfault\n", "read {read}");
-        assert_eq!(rt; status, 1, "read {read}");
+        let came = checked(&rt, rt.alloc(), read, b"1 ended readfault\n")?;
+        assert_eq!(rt; came, (true, 1), "read {read}");
     }
-    let (said, status) = checked(&rt, rt.alloc(), 5)?;
-    assert_eq!(rt; said.as_str(), "1 present\n");
-    assert_eq!(rt; status, 0);
+    assert_eq!(rt; checked(&rt, rt.alloc(), 5, b"1 present\n")?, (true, 0));
     Ok(())
 }

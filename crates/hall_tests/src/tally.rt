@@ -6,15 +6,7 @@ use hall::Held;
 use std::alloc::Global;
 use std::marker::Model;
 
-/// What a tally is asked for.
-pub enum Ask {
-    /// To add the number, and then for the total.
-    Add(u64),
-    /// For the total alone.
-    Total,
-}
-
-/// Adds numbers to a total, and keeps who added which. It keeps no more additions than its limit: beyond it answers as if there were no memory.
+/// Adds numbers to a total, and keeps who added which. It is asked to add a number and then for the total, or for the total alone. It keeps no more additions than its limit: beyond it answers as if there were no memory.
 #[derive(Drop)]
 pub struct Tally {
     total: u64,
@@ -78,7 +70,7 @@ impl Held for Tally {
     ghost use Rattle.hall_tests.specs.Tally.{Answers, IsTotal};
     ghost use Rattle.std.specs.Prelude.{◌≡◌};
 
-    type Op = Ask;
+    type Op = Option<u64>;
 
     type Reply = u64;
 
@@ -96,13 +88,13 @@ impl Held for Tally {
 
     ghost is_free = { IsTotal };
 
-    fn act(&mut self, by: u32, op: Ask) -> Result<u64, NoMemory> {
+    fn act(&mut self, by: u32, op: Option<u64>) -> Result<u64, NoMemory> {
         match op {
-            Ask::Add(number) => {
+            Some(number) => {
                 self.add(by, number)?;
                 Ok(self.total())
             }
-            Ask::Total => Ok(self.total()),
+            None => Ok(self.total()),
         }
     }
 

@@ -1,6 +1,6 @@
-// Calls of a desk as rows of a table, and what each says.
+// Calls of a desk as rows of a table, and what each answers.
 use ann_outside::{Desk, DeskError};
-use std::alloc::{AllocError, Global};
+use std::process::Abort;
 
 #[derive(Clone, Copy)]
 pub enum Step<'a> {
@@ -15,39 +15,58 @@ pub enum Step<'a> {
     Remove(&'a str),
 }
 
-// What the desk answers: the length, the bytes as text, or how the call went.
-pub fn said<D: Desk>(alloc: Global, desk: &mut D, step: &Step<'_>) -> Result<String, AllocError> {
-    let mut buf = [0; 256];
-    let answer = match *step {
+// A length, the bytes that were read, or how the call went.
+#[derive(Clone, Copy, Debug, Drop, PartialEq)]
+pub enum Came<'a> {
+    Length(u64),
+    Bytes(&'a str),
+    Other,
+    Done,
+    Failed,
+    Missing,
+    NoMemory,
+}
+
+pub type Row<'a> = (Step<'a>, Came<'a>);
+
+// What the desk answers; of bytes whether they are those that are wanted.
+fn answer_of<'a, D: Desk>(desk: &mut D, step: &Step<'_>, want: &Came<'a>) -> Came<'a> {
+    match *step {
         Step::Size(name) => match desk.size(name) {
-            Ok(size) => return format!(in alloc; "{size}"),
-            Err(e) => Err(e),
+            Ok(size) => Came::Length(size),
+            Err(error) => went(Err(error)),
         },
-        // a read asks for room
-        Step::Read(name, from, room) => {
-            let room = (room as usize).max(1);
-            match desk.read_at(name, from, &mut buf[..room]) {
-                Ok(count) => return String::from_utf8_lossy(alloc, &buf[..count]),
-                Err(e) => Err(e),
-            }
-        }
-        Step::Create(name) => desk.create(name),
-        Step::CreateNew(name) => desk.create_new(name),
-        Step::Sync(name) => desk.sync(name),
-        Step::Append(name, text) => desk.append(name, text.as_bytes()),
-        Step::Cut(name, size) => cut(desk, name, size),
-        Step::Rename(from, to) => desk.rename(from, to),
-        Step::Remove(name) => desk.remove(name),
-    };
-    String::from_str(
-        alloc,
-        match answer {
-            Ok(()) => "done",
-            Err(DeskError::Failed) => "failed",
-            Err(DeskError::Missing) => "missing",
-            Err(DeskError::NoMemory) => "no memory",
+        Step::Read(name, from, room) => read(desk, name, from, room, want),
+        Step::Create(name) => went(desk.create(name)),
+        Step::CreateNew(name) => went(desk.create_new(name)),
+        Step::Sync(name) => went(desk.sync(name)),
+        Step::Append(name, text) => went(desk.append(name, text.as_bytes())),
+        Step::Cut(name, size) => went(cut(desk, name, size)),
+        Step::Rename(from, to) => went(desk.rename(from, to)),
+        Step::Remove(name) => went(desk.remove(name)),
+    }
+}
+
+fn went(answer: Result<(), DeskError>) -> Came<'static> {
+    match answer {
+        Ok(()) => Came::Done,
+        Err(DeskError::Failed) => Came::Failed,
+        Err(DeskError::Missing) => Came::Missing,
+        Err(DeskError::NoMemory) => Came::NoMemory,
+    }
+}
+
+// A read asks for room.
+fn read<'a, D: Desk>(desk: &mut D, name: &str, from: u64, room: u8, want: &Came<'a>) -> Came<'a> {
+    let mut buf = [0; 256];
+    let room = (room as usize).max(1);
+    match desk.read_at(name, from, &mut buf[..room]) {
+        Ok(count) => match want {
+            Came::Bytes(text) if text.as_bytes() == &buf[..count] => *want,
+            _ => Came::Other,
         },
-    )
+        Err(error) => went(Err(error)),
+    }
 }
 
 // A file is cut where it is long enough.
@@ -56,4 +75,8 @@ fn cut<D: Desk>(desk: &mut D, name: &str, size: u64) -> Result<(), DeskError> {
         return Err(DeskError::Failed);
     }
     desk.cut(name, size)
+}
+
+pub fn expect_row<D: Desk>(rt: &impl Abort, at: usize, desk: &mut D, row: &Row<'_>) {
+    assert_eq!(rt; answer_of(desk, &row.0, &row.1), row.1, "at row {at}");
 }

@@ -1,4 +1,4 @@
-// Desks, call by call: in memory, shared, and over the files of this machine.
+// Desks, call by call: in memory, shared, and over the files of this machine; streams that fail.
 #![tactic(auto)]
 
 #[cfg(test)]
@@ -8,4 +8,4 @@ mod desks;
 #[cfg(test)]
 mod disk;
 #[cfg(test)]
-mod shared;
+mod streams;

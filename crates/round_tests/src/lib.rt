@@ -1,15 +1,5 @@
-//! Tests of rounds in threads, over children in memory that answer when they are asked.
+//! A test of rounds in threads that are refused. All else of a round is shown by `special run`.
 #![tactic(auto)]
 
 #[cfg(test)]
-mod answers;
-#[cfg(test)]
-mod children;
-#[cfg(test)]
-mod many;
-#[cfg(test)]
-mod openings;
-#[cfg(test)]
 mod rounds;
-#[cfg(test)]
-mod tagged;

@@ -1,45 +1,56 @@
-// A round over a child that answers by its cues, and what it left.
-ghost use Rattle.std.specs.Prelude.{◌≡◌, ◌≤◌, ◌<◌, [], IfOk, vec_len, false};
+// A round with few threads, over a child that takes tags and ends once it is ready.
+ghost use Rattle.std.specs.Prelude.{◌≡◌, [], IfOk, vec_len, false};
 ghost use Rattle.annex_model.specs.Lines.{has_newline};
+ghost use Rattle.chunk_log.specs.ChunkLines.{IsWrittenUuid};
+ghost use Rattle.journal_model.specs.Beginnings.{MayBegin};
 ghost use Rattle.journal_model.specs.Legality.{Legal};
+ghost use Rattle.journal_model.specs.Replies.{IsLineIdentity};
 ghost use Rattle.crew_rounds.specs.Tagged.{TaggedCan, link_of};
 
-use crate::children::{TAGGED, add_cues};
-use crate::openings::opening;
-use ann_key::{NoMemory, Text};
-use ann_outside::{MemDesk, Programs};
+use ann_key::{Bytes, NoMemory, Text};
+use ann_outside::{MemChild, MemDesk, MemPrograms, MemSink, MemSource};
 use child_start::{Greeting, Mode, greet};
-use crew_rounds::{TaggedRound, round_tagged_some};
-use cue_programs::{Cue, CueInlet, CueOutlet, CuePrograms, CutOutlet, CutPrograms};
+use chunk_log::NoteBook;
+use crew_rounds::{Outcome, TaggedRound, round_tagged_some};
 use door_asker::know_book;
 use host_core::Core;
+use journal_model::{Identity, Opening};
 use link_roles::Lone;
+use reg_file::Registers;
 use std::alloc::Global;
 use std::process::Abort;
 use std::sync::Wait;
+use std::test::Fail;
 use std::thread::Threads;
 use task_run::Setup;
+use task_text::Tasks;
 
-/// What a round over such a child left.
-pub(crate) type Left<'a, R> = TaggedRound<CueInlet<'a, R>, CutOutlet<CueOutlet<'a, R>>, MemDesk>;
+type Link = Lone<MemSink, MemSource>;
 
-/// How a round is run: how many workers it has and how many threads at most, and behind how many bytes the child's output ends.
-#[derive(Clone, Copy)]
-pub(crate) struct Way {
-    pub workers: usize,
-    pub threads: usize,
-    pub bytes: usize,
+// What a run without tasks begins with.
+fn opening(alloc: Global) -> Result<Opening, NoMemory>
+    ensures { IfOk result MayBegin }
+{
+    let identity = identity(alloc)?;
+    Ok(Opening {
+        tasks: Tasks::new(Vec::new(alloc)),
+        registers: Registers::new(alloc),
+        notes: NoteBook::new(alloc),
+        identity,
+        stamp: 1_700_000_000_000_000,
+    })
 }
 
-// Desks in memory, without files.
-fn desks(alloc: Global, count: usize) -> Result<Vec<MemDesk>, NoMemory>
-    ensures { IfOk result (λ v. vec_len v ≡ count) }
+#[tactic(auto, using(chunk_log::proofs::Uuids::nil_written))]
+fn identity(alloc: Global) -> Result<Identity, NoMemory>
+    ensures lines { IfOk result IsLineIdentity }
+    ensures uuid { IfOk result (λ i. IsWrittenUuid i.uuid) }
 {
-    let mut all = Vec::new(alloc);
-    for _i in 0..count {
-        all.push(MemDesk::new(alloc, Vec::new(alloc), Vec::new(alloc))?)?;
-    }
-    Ok(all)
+    Ok(Identity {
+        uuid: Text::copy(alloc, "00000000-0000-0000-0000-000000000000")?,
+        name: Text::copy(alloc, "remote")?,
+        gitdir: Text::copy(alloc, ".git")?,
+    })
 }
 
 fn setup(alloc: Global) -> Result<Setup, NoMemory>
@@ -52,17 +63,34 @@ fn setup(alloc: Global) -> Result<Setup, NoMemory>
     })
 }
 
-// The link of a child that was got ready, and takes tags.
-fn ready<P: Programs>(
-    rt: &impl Abort,
-    alloc: Global,
-    programs: &mut P,
-    core: &mut Core,
-) -> Lone<P::Inlet, P::Outlet>
-where
-    P::Inlet: Drop,
-    P::Outlet: Drop,
-    P::Stub: Drop,
+// Two desks in memory, without files.
+fn two_desks(alloc: Global) -> Result<Vec<MemDesk>, NoMemory>
+    ensures { IfOk result (λ v. vec_len v ≡ 2) }
+{
+    let mut desks = Vec::with_capacity(alloc, 2)?;
+    let desk = MemDesk::new(alloc, Vec::new(alloc), Vec::new(alloc))?;
+    desks.push_reserved(desk);
+    let desk = MemDesk::new(alloc, Vec::new(alloc), Vec::new(alloc))?;
+    desks.push_reserved(desk);
+    Ok(desks)
+}
+
+// A child that says what makes it ready, and no more.
+fn programs(alloc: Global) -> Result<MemPrograms, NoMemory> {
+    let greeting = b"VERSION 1\nEXTENSIONS ASYNC\nJ 1 PREPARE-SUCCESS\n";
+    let mut says = Vec::new(alloc);
+    says.push(Bytes::copy(alloc, greeting)?)?;
+    let mut children = Vec::new(alloc);
+    children.push(MemChild {
+        says,
+        read_fails: Vec::new(alloc),
+        write_fails: Vec::new(alloc),
+    })?;
+    Ok(MemPrograms::new(alloc, children, Vec::new(alloc)))
+}
+
+// The link of the child, which was got ready, and takes tags.
+fn ready(rt: &impl Abort, alloc: Global, programs: &mut MemPrograms, core: &mut Core) -> Link
     requires first { core.old.journal ≡ [] }
     requires legal { Legal core.old.opening core.old.journal }
     ensures can { TaggedCan core.new.opening core.new.journal (link_of result.ear result.mouth) }
@@ -73,71 +101,40 @@ where
         Greeting::Ready {
             link,
             stub: _,
-            tagged,
-        } => {
-            if tagged {
-                link
-            } else {
-                panic!(rt; "the child takes no tags")
-            }
-        }
-        Greeting::Refused { .. }
-        | Greeting::Ended { .. }
-        | Greeting::Unsent { .. }
-        | Greeting::StartFault
-        | Greeting::NoMemory => panic!(rt; "the child isn't ready"),
+            tagged: true,
+        } => link,
+        _ => panic!(rt; "the child isn't ready"),
     }
 }
 
-// The cues of the only child: these, and those by which it gets ready.
-fn only_child(alloc: Global, cues: Vec<Cue>) -> Result<Vec<Vec<Cue>>, NoMemory> {
-    let mut all = cues;
-    add_cues(alloc, &mut all, TAGGED.as_slice())?;
-    let mut children = Vec::new(alloc);
-    children.push(all)?;
-    Ok(children)
-}
-
-// Programs whose only child takes tags, and answers by these cues.
-fn programs_of<'a, R: Wait>(
-    rt: &'a R,
+// What a round of two workers in so many threads at most leaves.
+fn round<R: Threads + Wait + Abort + Sync>(
+    rt: &R,
     alloc: Global,
-    cues: Vec<Cue>,
-    bytes: usize,
-) -> Result<CutPrograms<CuePrograms<'a, R>>, NoMemory> {
-    let children = only_child(alloc, cues)?;
-    Ok(CutPrograms {
-        programs: CuePrograms::new(rt, alloc, children),
-        most: usize::MAX,
-        bytes,
-    })
-}
-
-/// The tasks of these lines, done over a child that takes tags and answers by these cues.
-pub(crate) fn round<'a, R: Threads + Wait + Abort + Sync>(
-    rt: &'a R,
-    alloc: Global,
-    way: Way,
-    lines: &[String],
-    cues: Vec<Cue>,
-) -> Result<Left<'a, R>, NoMemory>
-    requires { (0 < way.workers) × (way.workers ≤ 64) }
-{
-    let mut programs = programs_of(rt, alloc, cues, way.bytes)?;
-    let opening = opening(alloc, lines)?;
+    threads: usize,
+) -> Result<TaggedRound<MemSink, MemSource, MemDesk>, NoMemory> {
+    let mut programs = programs(alloc)?;
+    let opening = opening(alloc)?;
     let tasks = opening.tasks.copy(alloc)?;
     let mut core = Core::new(alloc, opening)?;
     let setup = setup(alloc)?;
-    let desks = desks(alloc, way.workers)?;
+    let desks = two_desks(alloc)?;
     let link = ready(rt, alloc, &mut programs, &mut core);
-    Ok(round_tagged_some(
-        rt,
-        alloc,
-        way.threads,
-        core,
-        tasks.view(),
-        &setup,
-        link,
-        desks,
-    ))
+    Ok(round_tagged_some(rt, alloc, threads, core, tasks.view(), &setup, link, desks))
+}
+
+// Without threads for an ear, a mouth and some worker nothing is done. One worker's is enough.
+#[test]
+fn few_threads(rt: HostRuntime) -> Result<(), Fail> {
+    for threads in 0..6 {
+        let left = round(&rt, rt.alloc(), threads)?;
+        let wanted = if threads < 3 {
+            Outcome::NoThreads
+        } else {
+            Outcome::Done
+        };
+        assert_eq!(rt; left.outcome, wanted, "{threads} threads");
+        assert_eq!(rt; left.desks.len(), 2);
+    }
+    Ok(())
 }

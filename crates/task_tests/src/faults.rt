@@ -1,41 +1,194 @@
-// A call of the desk failing, in works other than gets.
-use crate::expect::expect;
-use journal_model::Verdict;
+// Each call of the desk failing in turn.
+use crate::trial::{Case, Files, tried};
+use std::alloc::Global;
+use std::process::Abort;
 use std::test::Fail;
-use task_trials::trial::{Case, run};
 
-const DONE: [Verdict; 1] = [Verdict::Done { at: 13 }];
+const FETCH_1: &str = "w/5-1-1.fetch";
 
-#[test]
-fn the_call_of_a_store(rt: HostRuntime) -> Result<(), Fail> {
-    let case = Case {
-        line: "store WORM--a f",
-        files: &[("f", "hi")],
-        fails: &[1],
-        verdicts: &DONE,
-    };
-    let came = run(rt.alloc(), &case)?;
-    expect(&rt, "answer", 0, came.answer.as_str(), "filefault");
-    expect(&rt, "asked", 0, came.asked.as_str(), "");
-    expect(&rt, "calls", 0, came.calls.as_str(), "size f failed");
+const FETCH_2: &str = "w/5-1-2.fetch";
+
+const CHUNK: &str = "w/5-1-2.chunk";
+
+// The calls of a task, in order: each one's word, the name of its file, and what files hold where it fails, a dash for no file. A call that
+// fails does nothing on a desk in memory. Then what the answer is where none fails.
+struct Row {
+    case: Case,
+    calls: &'static [(&'static str, &'static str, Files)],
+    answer: &'static str,
+}
+
+static GETS: [Row; 3] = [
+    Row {
+        case: Case {
+            line: "get WORM-s3--a o",
+            layouts: &[],
+            chunk: 0,
+            files: &[("o", "old"), (FETCH_1, "abc")],
+        },
+        calls: &[
+            ("size", FETCH_1, &[("o", "old"), ("o.part", "-")]),
+            ("create", "o.part", &[("o", "old"), ("o.part", "-")]),
+            ("read", FETCH_1, &[("o", "old"), ("o.part", "")]),
+            ("append", "o.part", &[("o.part", ""), (FETCH_1, "abc")]),
+            ("remove", FETCH_1, &[("o.part", "abc"), (FETCH_1, "abc")]),
+            (
+                "rename",
+                "o.part",
+                &[("o", "old"), ("o.part", "abc"), (FETCH_1, "-")],
+            ),
+        ],
+        answer: "got",
+    },
+    // part is removed where the content doesn't fit
+    Row {
+        case: Case {
+            line: "get WORM-s3--a o",
+            layouts: &[],
+            chunk: 0,
+            files: &[("o.part", "old"), (FETCH_1, "ab")],
+        },
+        calls: &[
+            ("size", FETCH_1, &[("o.part", "old"), (FETCH_1, "ab")]),
+            ("remove", "o.part", &[("o.part", "old"), (FETCH_1, "ab")]),
+        ],
+        answer: "size",
+    },
+    Row {
+        case: Case {
+            line: "get MD5-s3--900150983cd24fb0d6963f7d28e17f72 o",
+            layouts: &[],
+            chunk: 0,
+            files: &[(FETCH_1, "foo")],
+        },
+        calls: &[
+            ("size", FETCH_1, &[("o.part", "-")]),
+            ("create", "o.part", &[("o.part", "-")]),
+            ("read", FETCH_1, &[("o.part", "")]),
+            ("append", "o.part", &[("o.part", "")]),
+            ("remove", FETCH_1, &[("o.part", "foo")]),
+            ("remove", "o.part", &[("o", "-"), ("o.part", "foo")]),
+        ],
+        answer: "hash",
+    },
+];
+
+const LEFT: Files = &[("o", "old"), ("o.part", "abcd"), (FETCH_1, "efgh")];
+
+const HALF: Files = &[("o", "old"), ("o.part", "abcdefgh"), (FETCH_2, "ij")];
+
+// Gets in chunks, without part and with one that is longer than a chunk.
+static CHUNKS_GOT: [Row; 2] = [
+    Row {
+        case: Case {
+            line: "get WORM-s3--a o",
+            layouts: &[(4, 1)],
+            chunk: 0,
+            files: &[(FETCH_1, "abc")],
+        },
+        calls: &[
+            ("size", "o.part", &[("o.part", "-")]),
+            ("create", "o.part", &[("o.part", "-")]),
+            ("size", FETCH_1, &[("o.part", "")]),
+            ("read", FETCH_1, &[("o.part", "")]),
+            ("append", "o.part", &[("o.part", "")]),
+            ("remove", FETCH_1, &[("o.part", "abc"), (FETCH_1, "abc")]),
+            (
+                "rename",
+                "o.part",
+                &[("o", "-"), ("o.part", "abc"), (FETCH_1, "-")],
+            ),
+        ],
+        answer: "got",
+    },
+    Row {
+        case: Case {
+            line: "get WORM-s10--ten o",
+            layouts: &[(4, 3)],
+            chunk: 0,
+            files: &[
+                ("o", "old"),
+                ("o.part", "abcdef"),
+                (FETCH_1, "efgh"),
+                (FETCH_2, "ij"),
+            ],
+        },
+        calls: &[
+            ("size", "o.part", &[("o", "old"), ("o.part", "abcdef")]),
+            ("cut", "o.part", &[("o", "old"), ("o.part", "abcdef")]),
+            ("read", "o.part", LEFT),
+            ("size", FETCH_1, LEFT),
+            ("read", FETCH_1, LEFT),
+            ("append", "o.part", LEFT),
+            ("remove", FETCH_1, HALF),
+            ("size", FETCH_2, HALF),
+            ("read", FETCH_2, HALF),
+            ("append", "o.part", HALF),
+            ("remove", FETCH_2, &[("o", "old"), ("o.part", "abcdefghij")]),
+            (
+                "rename",
+                "o.part",
+                &[("o", "old"), ("o.part", "abcdefghij"), (FETCH_2, "-")],
+            ),
+        ],
+        answer: "got",
+    },
+];
+
+static STORES: [Row; 2] = [
+    Row {
+        case: Case {
+            line: "store WORM--a f",
+            layouts: &[],
+            chunk: 0,
+            files: &[("f", "hi")],
+        },
+        calls: &[("size", "f", &[("f", "hi")])],
+        answer: "stored",
+    },
+    Row {
+        case: Case {
+            line: "store WORM-s2--a f",
+            layouts: &[],
+            chunk: 4,
+            files: &[("f", "hi")],
+        },
+        calls: &[
+            ("size", "f", &[(CHUNK, "-")]),
+            ("create", CHUNK, &[(CHUNK, "-")]),
+            ("read", "f", &[(CHUNK, "")]),
+            ("append", CHUNK, &[(CHUNK, "")]),
+            ("remove", CHUNK, &[(CHUNK, "hi")]),
+        ],
+        answer: "stored",
+    },
+];
+
+fn expect_row(rt: &impl Abort, alloc: Global, row: &Row) -> Result<(), Fail> {
+    let line = row.case.line;
+    for (at, (word, name, left)) in row.calls.iter().enumerate() {
+        let number = at as u64 + 1;
+        let came = tried(alloc, &row.case, number)?;
+        assert_eq!(rt; came.answer, "filefault", "{line}: call {number}");
+        assert!(rt; came.ends_with(number, word, name), "{line}: call {number}");
+        assert_eq!(rt; came.other(left), "", "{line}: call {number}");
+    }
+    // no more calls are made
+    let came = tried(alloc, &row.case, row.calls.len() as u64 + 1)?;
+    assert_eq!(rt; came.answer, row.answer, "{line}");
     Ok(())
 }
 
-static CALM: [(&str, &str); 2] = [("check WORM--a", "present"), ("drop WORM--a", "dropped")];
-
-// A check and a drop make no call that could fail.
-#[test]
-fn no_call_of_a_check_or_a_drop(rt: HostRuntime) -> Result<(), Fail> {
-    for (at, (line, want)) in CALM.iter().enumerate() {
-        let case = Case {
-            line,
-            files: &[],
-            fails: &[1],
-            verdicts: &DONE,
-        };
-        let came = run(rt.alloc(), &case)?;
-        expect(&rt, "answer", at, came.answer.as_str(), want);
-        expect(&rt, "calls", at, came.calls.as_str(), "");
+fn expect_rows(rt: &impl Abort, alloc: Global, rows: &[Row]) -> Result<(), Fail> {
+    for row in rows {
+        expect_row(rt, alloc, row)?;
     }
     Ok(())
+}
+
+#[test]
+fn each_call_of_a_task_fails(rt: HostRuntime) -> Result<(), Fail> {
+    expect_rows(&rt, rt.alloc(), &GETS)?;
+    expect_rows(&rt, rt.alloc(), &CHUNKS_GOT)?;
+    expect_rows(&rt, rt.alloc(), &STORES)
 }

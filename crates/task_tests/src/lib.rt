@@ -1,13 +1,9 @@
-// Tests of stores, checks and drops: one task over a desk in memory and a script of verdicts.
+//! Tests of tasks over a desk in memory of whose calls each fails in turn.
 #![tactic(auto)]
 
 #[cfg(test)]
-mod chunk_rows;
-#[cfg(test)]
-mod expect;
-#[cfg(test)]
 mod faults;
 #[cfg(test)]
-mod layout_rows;
+mod script;
 #[cfg(test)]
-mod rows;
+mod trial;

@@ -1,6 +1,6 @@
 use Rattle.std.proofs.Common.{◌≡◌, true}
 use Rattle.task_run.specs.Askers.{are_layouts}
-use Rattle.task_trials.proofs.trial.layouts_of.Given as goal
+use Rattle.task_tests.proofs.trial.layouts_of.Given as goal
 
 abbrev pub invariant-loop-layout : goal.invariant-loop-layout
 invariant-loop-layout l = are_layouts l.list.items ≡ true

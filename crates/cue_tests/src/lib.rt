@@ -1,5 +1,0 @@
-//! Tests of children that wait for their cues.
-#![tactic(auto)]
-
-#[cfg(test)]
-mod tests;

@@ -1,6 +1,0 @@
-// A text that came, compared with the one that its row wants.
-use std::process::Abort;
-
-pub fn expect(rt: &impl Abort, what: &str, at: usize, came: &str, want: &str) {
-    assert_eq!(rt; came, want, "{what} at row {at}");
-}

@@ -1,0 +1,100 @@
+// An asker to which all is done.
+ghost use Rattle.std.specs.Prelude.{◌≡◌, ◌<◌, ℕ, List, [], ◌∷◌, ◌++◌, map, length, Bool, true, IfOk, OnErr, Ok, Err};
+ghost use Rattle.annex_model.specs.Messages.{is_askable};
+ghost use Rattle.annex_model.specs.Turns.{turn_of};
+ghost use Rattle.journal_model.specs.Projection.{IsNamed};
+ghost use Rattle.talk_serial.specs.Requests.{message_of};
+ghost use Rattle.task_run.specs.Askers.{Asking, Noting, AskAdds, NoteAdds, IsSameTask, names_in_line, are_layouts};
+ghost use Rattle.task_tests.specs.Scripts.{pair_of, note_of};
+
+use ann_key::NoMemory;
+use chunk_log::Layouts;
+use journal_model::Verdict;
+use std::alloc::Global;
+use talk_serial::Request;
+use task_run::Asker;
+
+/// An asker to which all is done that it asks, and that is told that nothing is there. It keeps what it was asked.
+#[derive(Drop)]
+pub struct DoneAsker {
+    alloc: Global,
+    task: u32,
+    may_note: bool,
+    layouts: Vec<(u64, u64)>,
+    asked: Vec<(Request, Verdict)>,
+    notes: Vec<(u64, u64, u64)>,
+    ghost not_empty: { are_layouts layouts.items ≡ true },
+}
+
+#[tactic(auto, using(crate::proofs::Scripting::transferred, crate::proofs::Scripting::removed, crate::proofs::Scripting::not_there))]
+fn verdict_of(request: &Request) -> Verdict
+    ensures { IsNamed (message_of request.now) result }
+{
+    match request {
+        Request::Transfer { .. } | Request::Remove { .. } => Verdict::Done { at: 1 },
+        Request::CheckPresent { .. } => Verdict::Absent { at: 1 },
+        _ => Verdict::Unsent,
+    }
+}
+
+impl DoneAsker {
+    /// An asker of that task, for a key with these layouts, which wasn't asked anything.
+    pub fn new(alloc: Global, task: u32, may_note: bool, layouts: Vec<(u64, u64)>) -> DoneAsker
+        requires { are_layouts layouts.items ≡ true }
+        ensures task { ⟦<DoneAsker as Asker>⟧.task result ≡ task }
+        ensures may_note { ⟦<DoneAsker as Asker>⟧.may_note result ≡ may_note }
+        ensures pairs { ⟦<DoneAsker as Asker>⟧.pairs result ≡ [] }
+        ensures current { ⟦<DoneAsker as Asker>⟧.current result ≡ layouts.items }
+    {
+        DoneAsker {
+            alloc,
+            task,
+            may_note,
+            layouts,
+            asked: Vec::new(alloc),
+            notes: Vec::new(alloc),
+        }
+    }
+}
+
+impl Asker for DoneAsker {
+    ghost pairs = { λ a. map pair_of a.asked.items };
+
+    ghost notes = { λ a. map note_of a.notes.items };
+
+    ghost task = { λ a. a.task };
+
+    ghost may_note = { λ a. a.may_note };
+
+    ghost current = { λ a. a.layouts.items };
+
+    ghost loans = { λ a. [] };
+
+    ghost ready = { λ a. Unit {0} };
+
+    ghost goes_on = { λ a b. Unit {0} };
+
+    ghost stays = { λ a h. tt };
+
+    ghost is_ready = { λ a b s. tt };
+
+    ghost goes_both = { λ a b d s r. tt };
+
+    fn ask(&mut self, alloc: Global, number: u32, request: &Request) -> Result<Verdict, NoMemory> {
+        let request = request.copy(alloc)?;
+        self.asked.reserve(1)?;
+        let verdict = verdict_of(&request);
+        self.asked.push_reserved((request, verdict));
+        Ok(verdict)
+    }
+
+    fn layouts(&mut self, alloc: Global, number: u32) -> Result<Layouts, NoMemory> {
+        let list = self.layouts.as_slice().to_vec(alloc)?;
+        Ok(Layouts::from_vec(list))
+    }
+
+    fn note(&mut self, number: u32, chunk: u64, count: u64) -> Result<(), NoMemory> {
+        self.notes.push((chunk, count, self.asked.len() as u64))?;
+        Ok(())
+    }
+}

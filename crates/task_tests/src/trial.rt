@@ -1,0 +1,142 @@
+// One task over a desk in memory, with a call that fails, and what came of it.
+ghost use Rattle.std.specs.Prelude.{◌≡◌, true, false, IfOk};
+ghost use Rattle.annex_model.specs.Lines.{has_newline};
+ghost use Rattle.task_run.specs.Askers.{are_layouts};
+ghost use Rattle.task_run.specs.Ran.{may_note};
+ghost use Rattle.task_text.specs.TaskLines.{IsTask};
+
+use crate::script::DoneAsker;
+use ann_key::{Bytes, NoMemory, Text};
+use ann_outside::{Call, MemDesk};
+use journal_model::Answer;
+use std::alloc::Global;
+use task_run::Setup;
+use task_text::{Task, TaskError, Work, read_task};
+use task_works::run_task;
+
+/// Names of files, and what they hold.
+pub type Files = &'static [(&'static str, &'static str)];
+
+/// A task's line, the layouts of its key, how large chunks are stored, and the files that stand on its desk.
+#[derive(Clone, Copy)]
+pub struct Case {
+    pub line: &'static str,
+    pub layouts: &'static [(u64, u64)],
+    pub chunk: u64,
+    pub files: Files,
+}
+
+/// The word of the answer, and the desk.
+#[derive(Drop)]
+pub struct Outcome {
+    pub answer: &'static str,
+    pub desk: MemDesk,
+}
+
+// A desk with these files, on which the call of that number fails.
+fn desk_of(alloc: Global, files: Files, fails: u64) -> Result<MemDesk, NoMemory> {
+    let mut kept = Vec::new(alloc);
+    for (name, text) in files {
+        let name = Text::copy(alloc, name)?;
+        kept.push((name, Bytes::copy(alloc, text.as_bytes())?))?;
+    }
+    MemDesk::new(alloc, kept, Vec::from_slice(alloc, &[fails])?)
+}
+
+fn may_note(work: Work) -> bool
+    ensures { result ≡ may_note work }
+{
+    matches!(work, Work::Store | Work::Drop)
+}
+
+// Those layouts whose chunks hold something.
+fn layouts_of(alloc: Global, layouts: &[(u64, u64)]) -> Result<Vec<(u64, u64)>, NoMemory>
+    ensures { IfOk result (λ list. are_layouts list.items ≡ true) }
+{
+    let mut list = Vec::new(alloc);
+    for layout in layouts {
+        if layout.0 != 0 {
+            list.push(*layout)?;
+        }
+    }
+    Ok(list)
+}
+
+fn setup_of(alloc: Global, chunk: u64) -> Result<Setup, NoMemory>
+    ensures { IfOk result (λ setup. has_newline setup.work ≡ false) }
+{
+    Ok(Setup {
+        work: Text::copy(alloc, "w")?,
+        stamp: 5,
+        chunk,
+    })
+}
+
+fn run(alloc: Global, task: &Task, case: &Case, mut desk: MemDesk) -> Result<Outcome, NoMemory>
+    requires { IsTask task.now }
+{
+    let layouts = layouts_of(alloc, case.layouts)?;
+    let setup = setup_of(alloc, case.chunk)?;
+    let mut asker = DoneAsker::new(alloc, 1, may_note(task.work), layouts);
+    let answer = run_task(alloc, task, 1, &setup, &mut asker, &mut desk)?;
+    Ok(Outcome {
+        answer: word_of(&answer),
+        desk,
+    })
+}
+
+/// The case as task 1, where the desk's call of that number fails.
+pub fn tried(alloc: Global, case: &Case, fails: u64) -> Result<Outcome, TaskError> {
+    let task = read_task(alloc, case.line.as_bytes())?;
+    let desk = desk_of(alloc, case.files, fails)?;
+    Ok(run(alloc, &task, case, desk)?)
+}
+
+fn word_of(answer: &Answer) -> &'static str {
+    match answer {
+        Answer::Stored => "stored",
+        Answer::Got => "got",
+        Answer::FileFault => "filefault",
+        Answer::Size { .. } => "size",
+        Answer::Hash { .. } => "hash",
+        _ => "another answer",
+    }
+}
+
+// A call's word, and the name of its file.
+fn call_of(call: &Call) -> (&'static str, &str) {
+    match call {
+        Call::Size { name, .. } => ("size", name.view()),
+        Call::ReadAt { name, .. } => ("read", name.view()),
+        Call::Create { name, .. } => ("create", name.view()),
+        Call::Append { name, .. } => ("append", name.view()),
+        Call::Cut { name, .. } => ("cut", name.view()),
+        Call::Rename { from, .. } => ("rename", from.view()),
+        Call::Remove { name, .. } => ("remove", name.view()),
+    }
+}
+
+impl Outcome {
+    /// Whether so many calls were made, the last of them this one.
+    pub fn ends_with(&self, count: u64, word: &str, name: &str) -> bool {
+        let calls = self.desk.log();
+        match calls.last() {
+            Some(call) => calls.len() as u64 == count && call_of(call) == (word, name),
+            None => count == 0,
+        }
+    }
+
+    /// The first of these files that holds something else in the end, where a dash stands for no file; no name where there is none.
+    pub fn other(&self, left: Files) -> &'static str {
+        for (name, want) in left {
+            let holds = match self.desk.content(name) {
+                Some(bytes) => bytes.view() == want.as_bytes(),
+                None => *want == "-",
+            };
+            if !holds {
+                return name;
+            }
+        }
+        ""
+    }
+}
