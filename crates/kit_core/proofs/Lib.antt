@@ -2,3 +2,4 @@ pub mod Answering
 pub mod Behind
 pub mod Endless
 pub mod Following
+pub mod FirstLines
