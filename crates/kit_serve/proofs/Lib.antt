@@ -1,3 +1,4 @@
 pub mod Fields
+pub mod KitVoices
+pub mod Talks
 pub mod Texts
-pub mod Turning

@@ -2,3 +2,4 @@ pub mod Ends
 pub mod Limits
 pub mod Sessions
 pub mod Turns
+pub mod Voices
