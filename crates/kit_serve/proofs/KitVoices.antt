@@ -16,16 +16,16 @@ use Rattle.kit_serve.specs.Voices.{Utters, Bytes, Talked, IsWritten, IsEndless, 
 
 -- ---- calls
 
-made_more : (told : Option (List Call)) (made : List Call) (call : Option Call)
+pub made_more : (told : Option (List Call)) (made : List Call) (call : Option Call)
     → with_call (option_map (λ calls. calls ++ made) told) call ≡ option_map (λ calls. calls ++ (made ++ as_list call)) told
 made_more told made None = ap (λ m. option_map (λ (calls : List Call). calls ++ m) told) (sym (append-nil made))
 made_more None made (Some call) = refl
 made_more (Some calls) made (Some call) = ap Some (append_assoc calls made (call ∷ []))
 
-calls_one : (e : Heard) → calls_of (e ∷ []) ≡ as_list e.call
+pub calls_one : (e : Heard) → calls_of (e ∷ []) ≡ as_list e.call
 calls_one e = elim e.call as (λ c. calls_of (record { message = e.message; call = c } ∷ []) ≡ as_list c) [ None ↦ refl | Some c ↦ refl ]
 
-calls_nothing : (told : Option (List Call)) → told ≡ option_map (λ calls. calls ++ []) told
+pub calls_nothing : (told : Option (List Call)) → told ≡ option_map (λ calls. calls ++ []) told
 calls_nothing None = refl
 calls_nothing (Some calls) = ap Some (sym (append-nil calls))
 

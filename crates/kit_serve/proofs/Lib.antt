@@ -1,3 +1,4 @@
+pub mod DescribedVoices
 pub mod Fields
 pub mod KitVoices
 pub mod Talks

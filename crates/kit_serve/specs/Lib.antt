@@ -1,3 +1,4 @@
+pub mod Describing
 pub mod Ends
 pub mod Limits
 pub mod Sessions

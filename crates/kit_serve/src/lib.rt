@@ -2,6 +2,7 @@
 #![tactic(auto)]
 
 mod child;
+mod described;
 mod end;
 mod programs;
 mod serving;
@@ -9,6 +10,7 @@ mod streams;
 mod voice;
 mod writing;
 
+pub use described::serve_described;
 pub use end::End;
 pub use programs::{KitInlet, KitOutlet, KitPrograms, KitStub, Maker};
 pub use serving::{LONGEST_LINE, READ_SIZE, Served, serve, talk, turn};
