@@ -7,6 +7,8 @@ from harness import ANNEX_REMOTE_DIR, Done, as_bytes, as_text, expect, finish, r
 
 READY = "PREPARE\nVALUE d\n"
 IS_READY = "GETCONFIG directory\nPREPARE-SUCCESS\n"
+CONFIGS = "CONFIG directory the folder in which the contents of keys are kept\nCONFIGEND\n"
+UNSUPPORTED = "UNSUPPORTED-REQUEST\n"
 # A line of the host may be so long, without its end.
 LINE = 131_072
 
@@ -68,8 +70,22 @@ ANSWERS = [
      "CHECKPRESENT WORM-s3-S2-C2--a\nCHECKPRESENT WORM-s3--a\n",
      IS_READY + "TRANSFER-SUCCESS STORE WORM-s3-S2-C1--a\nCHECKPRESENT-SUCCESS WORM-s3-S2-C1--a\n"
      "CHECKPRESENT-FAILURE WORM-s3-S2-C2--a\nCHECKPRESENT-FAILURE WORM-s3--a\n", 0),
-    ("questions that it doesn't know", "LISTCONFIGS\nGETCOST\nGETAVAILABILITY\nGETINFO\nWHEREIS WORM--a\n",
-     "UNSUPPORTED-REQUEST\n" * 5, 0),
+    ("what it is, before it is ready", "LISTCONFIGS\nGETCOST\nGETAVAILABILITY\nGETINFO\nWHEREIS WORM--a\n",
+     CONFIGS + "COST 100\nAVAILABILITY LOCAL\n" + UNSUPPORTED * 2, 0),
+    ("what it is, once it is ready", READY + "LISTCONFIGS\nGETCOST\nGETAVAILABILITY\nGETINFO\nWHEREIS WORM--a\n",
+     IS_READY + CONFIGS + "COST 100\nAVAILABILITY LOCAL\nINFOFIELD directory\nINFOVALUE d\nINFOEND\n" + UNSUPPORTED, 0),
+    ("its directory, which may hold a space", "PREPARE\nVALUE d e\nGETINFO\nPREPARE\nVALUE\nGETINFO\n",
+     IS_READY + "INFOFIELD directory\nINFOVALUE d e\nINFOEND\n"
+     "GETCONFIG directory\nPREPARE-FAILURE no directory\n" + UNSUPPORTED, 0),
+    ("a key with a space", "GETCOST\nCHECKPRESENT WORM--a b\nGETCOST\n", "COST 100\n" + UNSUPPORTED + "COST 100\n", 0),
+    ("an empty line", "GETCOST\n\nGETCOST\n", "COST 100\n" + UNSUPPORTED + "COST 100\n", 0),
+    ("a word too many", "GETCOST\nPREPARE now\n", "COST 100\n" + UNSUPPORTED, 0),
+    ("a space too many", "GETCOST\nPREPARE \n", "COST 100\n" + UNSUPPORTED, 0),
+    ("a transfer without a key", "TRANSFER STORE\n", UNSUPPORTED, 0),
+    ("a word that is no message", "BOO\n" + READY + "BOO\nCHECKPRESENT WORM--a\n",
+     UNSUPPORTED + IS_READY + UNSUPPORTED + "CHECKPRESENT-FAILURE WORM--a\n", 0),
+    ("a question about exports, and one about a URL", "EXPORTSUPPORTED\nCLAIMURL http://x/\nGETCOST\n",
+     UNSUPPORTED * 2 + "COST 100\n", 0),
 ]
 
 UNEXPECTED = "ERROR unexpected message\n"
@@ -82,20 +98,14 @@ OUT_OF_PLACE = [
     ("credentials in place of a value", "PREPARE\nCREDS user word\n", "GETCONFIG directory\n" + UNEXPECTED, 1),
     ("an error in place of a value", "PREPARE\nERROR no such setting\n", "GETCONFIG directory\n", 1),
     ("an error", "ERROR\nGETCOST\n", "", 1),
-    ("a key with a space", "GETCOST\nCHECKPRESENT WORM--a b\nGETCOST\n", "UNSUPPORTED-REQUEST\n", 1),
-    ("an empty line", "GETCOST\n\nGETCOST\n", "UNSUPPORTED-REQUEST\n", 1),
-    ("a word too many", "GETCOST\nPREPARE now\n", "UNSUPPORTED-REQUEST\n", 1),
-    ("a space too many", "GETCOST\nPREPARE \n", "UNSUPPORTED-REQUEST\n", 1),
-    ("a transfer without a key", "TRANSFER STORE\n", "", 1),
     ("credentials without a name", "PREPARE\nCREDS\n", "GETCONFIG directory\n", 1),
-    ("a word that is no message", "BOO\nPREPARE\n", "", 1),
-    ("a question about exports", "EXPORTSUPPORTED\nGETCOST\n", "", 1),
+    ("a word that is no message in place of a value", "PREPARE\nBOO\n", "GETCONFIG directory\n", 1),
 ]
 
 NO_END = [
     ("nothing", "", "", 0),
-    ("half a word", "GETCOST\nGETCO", "UNSUPPORTED-REQUEST\n", 0),
-    ("a line without its end", "GETCOST\nGETCOST", "UNSUPPORTED-REQUEST\n", 0),
+    ("half a word", "GETCOST\nGETCO", "COST 100\n", 0),
+    ("a line without its end", "GETCOST\nGETCOST", "COST 100\n", 0),
 ]
 
 
@@ -110,7 +120,9 @@ def case_each_line_is_answered_before_the_next_one_comes(room):
     process = room.start([ANNEX_REMOTE_DIR])
     expect(process.stdout.readline(), b"VERSION 1\n", "the first line")
     for says, answer in ((b"EXTENSIONS INFO\n", b"EXTENSIONS \n"), (b"PREPARE\n", b"GETCONFIG directory\n"),
-                         (b"VALUE d\n", b"PREPARE-SUCCESS\n"), (b"CHECKPRESENT WORM--a\n", b"CHECKPRESENT-FAILURE WORM--a\n")):
+                         (b"VALUE d\n", b"PREPARE-SUCCESS\n"), (b"GETCOST\n", b"COST 100\n"),
+                         (b"BOO\n", b"UNSUPPORTED-REQUEST\n"),
+                         (b"CHECKPRESENT WORM--a\n", b"CHECKPRESENT-FAILURE WORM--a\n")):
         process.stdin.write(says[:-1])
         process.stdin.flush()
         time.sleep(0.02)

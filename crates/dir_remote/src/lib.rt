@@ -2,6 +2,7 @@
 #![tactic(auto)]
 
 mod copying;
+mod describing;
 pub mod laws;
 mod outcome;
 mod places;

@@ -3,7 +3,7 @@ ghost use Rattle.std.specs.Prelude.{◌≡◌, IsTrue, IfOk};
 ghost use Rattle.kit_core.specs.Calls.{is_line_said};
 ghost use Rattle.dir_remote.specs.Outcomes.{Says, refusal_of};
 
-use ann_key::{Bytes, NoMemory};
+use ann_key::NoMemory;
 use ann_outside::DeskError;
 use kit_core::Said;
 use std::alloc::Global;
@@ -21,13 +21,6 @@ pub enum Outcome {
     NoMemory,
 }
 
-fn failure(alloc: Global, text: &[u8]) -> Result<Said, NoMemory>
-    ensures { IfOk result (λ said. said ≡ Said.Failure text.now) }
-{
-    let text = Bytes::copy(alloc, text)?;
-    Ok(Said::Failure(text))
-}
-
 // Says the word.
 pub fn say(alloc: Global, outcome: Outcome) -> Result<Said, NoMemory>
     ensures says { Says outcome result }
@@ -36,11 +29,11 @@ pub fn say(alloc: Global, outcome: Outcome) -> Result<Said, NoMemory>
     match outcome {
         Outcome::Done => Ok(Said::Yes),
         Outcome::NotThere => Ok(Said::No),
-        Outcome::NotPrepared => failure(alloc, b"not prepared"),
-        Outcome::NoDirectory => failure(alloc, b"no directory"),
-        Outcome::NotText => failure(alloc, b"not text"),
-        Outcome::DiskFailed => failure(alloc, b"disk failed"),
-        Outcome::NoSuchFile => failure(alloc, b"no such file"),
+        Outcome::NotPrepared => Said::failure(alloc, b"not prepared"),
+        Outcome::NoDirectory => Said::failure(alloc, b"no directory"),
+        Outcome::NotText => Said::failure(alloc, b"not text"),
+        Outcome::DiskFailed => Said::failure(alloc, b"disk failed"),
+        Outcome::NoSuchFile => Said::failure(alloc, b"no such file"),
         Outcome::NoMemory => Err(NoMemory),
     }
 }

@@ -1,5 +1,6 @@
 // The directory remote.
-ghost use Rattle.std.specs.Prelude.{◌≡◌, ◌∷◌, [], not, codes, false, is_some, IsTrue, IfOk, None, Some};
+ghost use Rattle.std.specs.Prelude.{◌≡◌, ◌∷◌, [], not, codes, false, is_some, IsTrue, IfOk, IfSome, None, Some};
+ghost use Rattle.std.specs.Option.{option_copied};
 ghost use Rattle.ann_key.specs.KeyRefs.{text_of};
 ghost use Rattle.annex_model.specs.Lines.{has_newline};
 ghost use Rattle.annex_model.specs.Messages.{is_sent_key};
@@ -30,7 +31,8 @@ pub struct DirRemote<D: Desk> {
 }
 
 impl<D: Desk> Model for DirRemote<D> {
-    ghost use Rattle.std.specs.Prelude.{IfSome};
+    ghost use Rattle.std.specs.Prelude.{◌≡◌, false, IfSome};
+    ghost use Rattle.annex_model.specs.Lines.{has_newline};
     ghost use Rattle.dir_remote.specs.Answers.{DirValue};
     ghost use Rattle.dir_remote.specs.Contents.{IsMark};
 
@@ -38,7 +40,7 @@ impl<D: Desk> Model for DirRemote<D> {
 
     ghost view = { λ r. record { mark = r.mark; directory = r.directory; desk = r.desk } };
 
-    ghost invariant = { λ r. IfSome r.mark IsMark };
+    ghost invariant = { λ r. IfSome r.mark IsMark × IfSome r.directory (λ directory. has_newline directory ≡ false) };
 }
 
 impl<D: Desk> DirRemote<D> {
@@ -71,6 +73,17 @@ impl<D: Desk> DirRemote<D> {
             mark: Some(mark),
             directory: None,
             desk,
+        }
+    }
+
+    /// The directory that it was given, if it was.
+    pub(super) fn directory(&self) -> Option<&str>
+        ensures directory { option_copied result ≡ self.now.directory }
+        ensures line { IfSome self.now.directory (λ directory. has_newline directory ≡ false) }
+    {
+        match &self.directory {
+            Some(directory) => Some(directory.view()),
+            None => None,
         }
     }
 
@@ -107,8 +120,8 @@ impl<D: Desk> DirRemote<D> {
 fn first(values: &Values) -> &[u8]
     ensures { result.now ≡ first_of values.now }
 {
-    match values.view().first() {
-        Some(value) => value.view(),
+    match values.first() {
+        Some(value) => value,
         None => &[],
     }
 }

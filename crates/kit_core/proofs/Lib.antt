@@ -1,4 +1,7 @@
 pub mod Answering
 pub mod Behind
+pub mod Describing
 pub mod Endless
+pub mod FirstLines
 pub mod Following
+pub mod Waiting

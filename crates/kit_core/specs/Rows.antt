@@ -1,10 +1,15 @@
 -- Worked sessions of a kit.
 use Rattle.std.specs.Prelude.{ℕ, List, [], ◌∷◌, Some, None, codes, true}
-use Rattle.annex_model.specs.Messages.{HostMessage, AskExtensions, Prepare, Initremote, Transfer, Checkpresent, Getcost, Value, HostError}
+use Rattle.annex_model.specs.Messages.{HostMessage, AskExtensions, Prepare, Initremote, Transfer, Checkpresent, Listconfigs, Getcost, Getavailability, Getinfo, Whereis, Value, HostError}
 use Rattle.kit_core.specs.declared.call.Said.{Said}
 use Rattle.kit_core.specs.declared.call.Said.TheVariants.{Yes, No, Failure}
 use Rattle.kit_core.specs.declared.call.Asked.{Asked}
 use Rattle.kit_core.specs.declared.call.Asked.TheVariants.{Prepare as AskPrepare, Check as AskCheck}
+use Rattle.kit_core.specs.declared.describe.Pair.{Pair}
+use Rattle.kit_core.specs.declared.describe.Availability.TheVariants.{Local}
+use Rattle.kit_core.specs.declared.describe.Where.TheVariants.{Untold, Nowhere}
+use Rattle.kit_core.specs.Described.{Answered, ByKit, Aside}
+use Rattle.kit_core.specs.Descriptions.{Description}
 use Rattle.kit_core.specs.Kits.{Heard}
 
 -- a message for which no call was made
@@ -74,3 +79,53 @@ error_session = heard Prepare ∷ heard (HostError (codes "no such setting")) �
 -- a remote without settings gets ready at once
 abbrev pub bare_session : List Heard
 bare_session = heard_with Prepare (AskPrepare []) Yes ∷ heard_with (Checkpresent key) (AskCheck key) (Failure (codes "no disk")) ∷ []
+
+-- ---- where the remote says what it is
+
+abbrev pub directory_pair : Pair
+directory_pair = record { name = codes "directory"; text = codes "a folder" }
+
+-- a cheap remote of this machine, with one setting and one fact, that doesn't say where contents are
+abbrev pub description : Description
+description = record {
+  configs = directory_pair ∷ [];
+  cost = Some 100;
+  availability = Some Local;
+  info = record { name = codes "folder"; text = codes "d" } ∷ [];
+  whereis = λ key. Untold;
+}
+
+-- and one that says nothing
+abbrev pub untold : Description
+untold = record {
+  configs = [];
+  cost = None;
+  availability = None;
+  info = [];
+  whereis = λ key. Nowhere;
+}
+
+-- requests before and after it gets ready, and one that nobody knows
+abbrev pub described_session : List Answered
+described_session =
+    Aside (Some Listconfigs) description ∷ Aside (Some Getcost) description ∷ ByKit (heard Prepare)
+    ∷ ByKit (heard_with (Value (codes "d")) (AskPrepare values) Yes)
+    ∷ Aside (Some Getavailability) description ∷ Aside (Some Getinfo) description ∷ Aside (Some (Whereis key)) description
+    ∷ Aside None description ∷ ByKit (heard_with (Checkpresent key) (AskCheck key) No) ∷ []
+
+-- each of them of a remote that says nothing
+abbrev pub untold_session : List Answered
+untold_session =
+    Aside (Some Listconfigs) untold ∷ Aside (Some Getcost) untold ∷ Aside (Some Getavailability) untold ∷ Aside (Some Getinfo) untold
+    ∷ Aside (Some (Whereis key)) untold ∷ []
+
+-- a request about the remote while a value is awaited, which goes to the kit, and one that doesn't
+abbrev pub awaiting_session : List Answered
+awaiting_session = ByKit (heard Prepare) ∷ ByKit (heard Getcost) ∷ []
+
+abbrev pub intruding_session : List Answered
+intruding_session = ByKit (heard Prepare) ∷ Aside (Some Getcost) description ∷ []
+
+-- a request for a key that is answered aside
+abbrev pub astray_session : List Answered
+astray_session = Aside (Some (Checkpresent key)) description ∷ []

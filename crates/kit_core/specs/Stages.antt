@@ -17,6 +17,11 @@ abbrev pub is_last : Stage → Bool
 is_last Over = true
 is_last stage = false
 
+-- any request may come
+abbrev pub is_free : Stage → Bool
+is_free Waiting = true
+is_free stage = false
+
 -- the values may be handed to the remote, and one more may be counted
 abbrev pub IsSound : Stage → Type 0
 IsSound (Readying by_prepare values) = (length values + 1 < 2 ^ 32) × IsTrue (are_lines values)

@@ -1,5 +1,7 @@
 // What is asked of a remote, and what it says.
-ghost use Rattle.std.specs.Prelude.{◌≡◌, IfOk};
+ghost use Rattle.std.specs.Prelude.{◌≡◌, ◌==◌, position, IfOk, IsTrue};
+ghost use Rattle.std.specs.List.{before_first};
+ghost use Rattle.kit_core.specs.Calls.{is_line_said};
 
 use crate::lists::Values;
 use ann_key::{Bytes, Key, NoMemory, Text};
@@ -16,7 +18,33 @@ pub enum Said {
     Failure(Bytes),
 }
 
+// Where the first line ends.
+fn line_end(text: &[u8]) -> Option<usize>
+    ensures { result ≡ position (λ b. b == 10) text.now }
+{
+    text.iter().position(|b| *b == b'\n')
+}
+
+// The text before its first line end, or all of it.
+fn first_line(text: &[u8]) -> &[u8]
+    ensures { result.now ≡ before_first (λ b. b == 10) text.now }
+{
+    match line_end(text) {
+        Some(end) => &text[..end],
+        None => text,
+    }
+}
+
 impl Said {
+    /// A failure for this reason, which is cut before its first line end: so any text will do, also one of another program.
+    pub fn failure(alloc: Global, text: &[u8]) -> Result<Said, NoMemory>
+        ensures text { IfOk result (λ said. said ≡ Said.Failure (before_first (λ b. b == 10) text.now)) }
+        ensures line { IfOk result (λ said. IsTrue (is_line_said said)) }
+    {
+        let text = Bytes::copy(alloc, first_line(text))?;
+        Ok(Said::Failure(text))
+    }
+
     /// The same word.
     pub fn copy(&self, alloc: Global) -> Result<Said, NoMemory>
         ensures { IfOk result (λ s. s ≡ self.now) }

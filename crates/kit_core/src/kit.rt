@@ -8,7 +8,7 @@ ghost use Rattle.kit_core.specs.declared.call.Asked.TheVariants.{Prepare as AskP
 ghost use Rattle.kit_core.specs.declared.kit.Stage.TheVariants.{Readying};
 ghost use Rattle.kit_core.specs.Calls.{are_lines, is_line_said};
 ghost use Rattle.kit_core.specs.Kits.{has_line_fields, readying, work_due, final_line, is_prepare, is_yes, Asks};
-ghost use Rattle.kit_core.specs.Stages.{Answers, Tries, prepare_of, ready_stage, stage_due, stage_after, stage_after_request, stage_after_value, request_after, is_last, Follows, Steps, Stops};
+ghost use Rattle.kit_core.specs.Stages.{Answers, Tries, prepare_of, ready_stage, stage_due, stage_after, stage_after_request, stage_after_value, request_after, is_free, is_last, Follows, Steps, Stops};
 
 use crate::call::Said;
 use crate::finals;
@@ -318,6 +318,20 @@ impl<R: Remote> Kit<R> {
         ensures { result ≡ is_last self.now.stage }
     {
         matches!(self.stage, Stage::Over)
+    }
+
+    /// Whether any request may come: it awaits no value, and isn't over.
+    pub fn is_free(&self) -> bool
+        ensures { result ≡ is_free self.now.stage }
+    {
+        matches!(self.stage, Stage::Waiting)
+    }
+
+    /// The remote, lent. It takes no memory.
+    pub fn remote(&self) -> &R
+        ensures { result.now ≡ self.now.remote }
+    {
+        &self.remote
     }
 
     /// What is said to the next message. No line ends in a field of it, and each is of its class. After `NoMemory` the kit is

@@ -1,7 +1,8 @@
 // Laws over the definitions, each the contract of a function with nothing to do.
-ghost use Rattle.std.specs.Prelude.{◌≡◌, [], ◌∷◌, codes, true, false};
+ghost use Rattle.std.specs.Prelude.{◌≡◌, [], ◌∷◌, ◌++◌, codes, decimal, true, false};
 ghost use Rattle.kit_core.specs.Kits.{IsServed, lines_said, is_over, messages};
-ghost use Rattle.kit_core.specs.Rows.{settings, check_session, invented_session, early_session, hasty_session, init_session, again_session, transfer_session, value_session, request_session, error_session, bare_session};
+ghost use Rattle.kit_core.specs.Described.{described_lines, AreAnswered};
+ghost use Rattle.kit_core.specs.Rows.{description, described_session, untold_session, awaiting_session, intruding_session, astray_session, settings, check_session, invented_session, early_session, hasty_session, init_session, again_session, transfer_session, value_session, request_session, error_session, bare_session};
 
 /// What a kit with the one setting `directory` says in worked sessions.
 pub fn worked_lines()
@@ -35,4 +36,21 @@ pub fn worked_ends()
     ensures value { is_over settings (messages value_session) ≡ true }
     ensures request { is_over settings (messages request_session) ≡ true }
     ensures error { is_over settings (messages error_session) ≡ true }
+{}
+
+/// What is said where the remote also answers requests about itself.
+pub fn worked_descriptions()
+    ensures said { described_lines settings described_session ≡ codes "CONFIG directory a folder" ∷ codes "CONFIGEND" ∷ (codes "COST " ++ decimal 100) ∷ codes "GETCONFIG directory" ∷ codes "PREPARE-SUCCESS"
+        ∷ codes "AVAILABILITY LOCAL" ∷ codes "INFOFIELD folder" ∷ codes "INFOVALUE d" ∷ codes "INFOEND" ∷ codes "UNSUPPORTED-REQUEST" ∷ codes "UNSUPPORTED-REQUEST" ∷ codes "CHECKPRESENT-FAILURE WORM--a" ∷ [] }
+    ensures untold { described_lines settings untold_session ≡ codes "UNSUPPORTED-REQUEST" ∷ codes "UNSUPPORTED-REQUEST" ∷ codes "UNSUPPORTED-REQUEST" ∷ codes "UNSUPPORTED-REQUEST" ∷ codes "WHEREIS-FAILURE" ∷ [] }
+    ensures awaiting { described_lines settings awaiting_session ≡ codes "GETCONFIG directory" ∷ codes "ERROR unexpected message" ∷ [] }
+{}
+
+/// Which lines a kit may answer aside, and which it has to.
+pub fn worked_answers()
+    ensures described { AreAnswered (λ about. about ≡ description) settings described_session }
+    ensures awaiting { AreAnswered (λ about. about ≡ description) settings awaiting_session }
+    ensures untold { AreAnswered (λ about. about ≡ description) settings untold_session → ⊥ }
+    ensures intruding { AreAnswered (λ about. about ≡ description) settings intruding_session → ⊥ }
+    ensures astray { AreAnswered (λ about. about ≡ description) settings astray_session → ⊥ }
 {}

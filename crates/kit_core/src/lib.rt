@@ -2,7 +2,9 @@
 // https://git-annex.branchable.com/design/external_special_remote_protocol/
 #![tactic(auto)]
 
+mod asides;
 mod call;
+mod describe;
 mod finals;
 mod kit;
 pub mod laws;
@@ -10,7 +12,9 @@ mod lists;
 mod noted;
 mod remote;
 
+pub use asides::aside;
 pub use call::{Asked, Call, Said};
+pub use describe::{Availability, Describe, Pair, Where};
 pub use kit::{Kit, Step};
 pub use lists::{Lines, Values};
 pub use noted::Noted;

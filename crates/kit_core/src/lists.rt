@@ -1,5 +1,6 @@
 // Lists of byte lists, each seen as one value.
-ghost use Rattle.std.specs.Prelude.{◌≡◌, ◌↔◌, ◌++◌, ◌∷◌, [], length, IsTrue, IfOk, OnOk};
+ghost use Rattle.std.specs.Prelude.{◌≡◌, ◌↔◌, ◌++◌, ◌∷◌, [], length, slice_get, IsTrue, IfOk, OnOk};
+ghost use Rattle.std.specs.Option.{option_copied};
 
 use ann_key::{Bytes, NoMemory};
 use std::alloc::Global;
@@ -32,6 +33,16 @@ impl Values {
         ensures { result.now ≡ self.now }
     {
         self.items.as_slice()
+    }
+
+    /// The first of them, if there is one. It takes no memory.
+    pub fn first(&self) -> Option<&[u8]>
+        ensures { option_copied result ≡ slice_get self.now 0 }
+    {
+        match self.items.first() {
+            Some(value) => Some(value.view()),
+            None => None,
+        }
     }
 
     /// How many there are.

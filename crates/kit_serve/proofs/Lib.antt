@@ -1,3 +1,5 @@
+pub mod DescribedVoices
 pub mod Fields
+pub mod KitVoices
+pub mod Talks
 pub mod Texts
-pub mod Turning

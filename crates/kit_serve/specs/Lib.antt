@@ -1,4 +1,6 @@
+pub mod Describing
 pub mod Ends
 pub mod Limits
 pub mod Sessions
 pub mod Turns
+pub mod Voices

@@ -1,22 +1,20 @@
 -- What a host that was served said, what it was told, and how it ended.
-use Rattle.std.specs.Prelude.{ℕ, ◌≡◌, ◌<◌, ◌==◌, ◌⊎◌, nat_le, Bool, true, false, List, [], ◌∷◌, ◌++◌, map, take, length, Option, Some, None, option_map, IsTrue, codes}
-use Rattle.std.specs.List.{list_all, before_first}
+use Rattle.std.specs.Prelude.{ℕ, ◌≡◌, ◌<◌, ◌⊎◌, true, false, List, [], ◌∷◌, ◌++◌, map, length, Option, Some, None, option_map, IsTrue, codes}
+use Rattle.std.specs.List.{list_all}
 use Rattle.std.specs.Io.KnownBytes.{Appends}
 use Rattle.ann_outside.specs.Causes.{StaysUntold}
 use Rattle.annex_model.specs.Lines.{text, has_newline, Cut}
 use Rattle.annex_model.specs.Messages.{HostMessage, host_reading}
 use Rattle.kit_core.specs.declared.call.Call.{Call}
 use Rattle.kit_core.specs.Kits.{Heard, messages, calls_of, lines_said, is_over, due_of, IsServed, IsAskedBy}
-use Rattle.kit_core.specs.Stages.{KitValue, Follows}
-use Rattle.kit_serve.specs.Limits.{longest_line}
+use Rattle.kit_core.specs.Stages.{KitValue, Follows, Stops}
+use Rattle.kit_serve.specs.Limits.{longest_line, is_short, next_line}
+use Rattle.kit_serve.specs.Voices.{IsWritten, IsEndless}
 use Rattle.kit_serve.specs.Ends.{status_of}
 use Rattle.kit_serve.specs.declared.end.End.{End}
 use Rattle.kit_serve.specs.declared.end.End.TheVariants.{Eof, Bad, ReadFault, WriteFault, Memory}
 
 -- ---- what was heard and said
-
-abbrev pub is_short : List ℕ → Bool
-is_short line = nat_le (length line) longest_line
 
 -- The bytes are cut into these lines and a rest. Each line is short and spells its message, and for each message exactly the call
 -- was made that is due.
@@ -31,10 +29,6 @@ abbrev pub said_to : List (List ℕ) → List Heard → List ℕ
 said_to settings h = text (codes "VERSION 1" ∷ lines_said settings h)
 
 -- ---- the end
-
--- the bytes before the first byte 10, or all where there is none
-abbrev pub next_line : List ℕ → List ℕ
-next_line rest = before_first (λ b. b == 10) rest
 
 -- a line that is too long, or a whole line that spells no message
 abbrev pub IsBadNext : List ℕ → Type 0
@@ -59,11 +53,6 @@ IsEnd Bad settings h rest = EndsKit settings h ⊎ (IsLive settings h × IsBadNe
 IsEnd WriteFault settings h rest = IsLive settings h ⊎ EndsKit settings h
 IsEnd Memory settings h rest = IsLive settings h
 
--- all of it was written; where writing failed, its first bytes
-abbrev pub IsWritten : End → List ℕ → List ℕ → Type 0
-IsWritten WriteFault out said = (n : ℕ) × (out ≡ take n said)
-IsWritten end out said = out ≡ said
-
 abbrev pub as_list : Option Call → List Call
 as_list None = []
 as_list (Some call) = call ∷ []
@@ -72,6 +61,10 @@ as_list (Some call) = call ∷ []
 pub record IsNextMessage (rest : List ℕ) (m : HostMessage) : Type 0 where
   pub whole : has_newline rest ≡ true
   pub reads : host_reading (next_line rest) ≡ Some m
+
+-- memory ran out for a read, with no whole line left, or for the next message; or there were more turns than a counter counts
+abbrev pub IsMemoryCause : List (List ℕ) → List ℕ → List ℕ → Type 0
+IsMemoryCause lines bytes rest = (has_newline rest ≡ false) ⊎ (IsEndless lines bytes ⊎ ((m : HostMessage) × IsNextMessage rest m))
 
 -- where memory ran out, the call that the next message makes due may have been made, and its line wasn't said
 pub record IsLastCall (settings : List (List ℕ)) (h : List Heard) (rest : List ℕ) (call : Call) : Type 0 where
@@ -103,17 +96,6 @@ pub record Gains (old new : Told) (bytes out : List ℕ) (made : List Call) : Ty
   pub took_silent : StaysUntold old.taken new.taken
   pub called : new.calls ≡ option_map (λ calls. calls ++ made) old.calls
 
--- From one place to a later one a host was served so far: the kit follows what was heard, and holds the rest.
-pub record Going {R : Type 0} (settings_of : R → List (List ℕ)) (calls : R → Option (List Call)) (settings : List (List ℕ)) (old : Told)
-    (given taken : Option (List ℕ)) (kit : KitValue R) (held : List ℕ) : Type 0 where
-  pub bytes : List ℕ
-  pub lines : List (List ℕ)
-  pub h : List Heard
-  pub gains : Gains old (record { given = given; taken = taken; calls = calls kit.remote }) bytes (said_to settings h) (calls_of h)
-  pub heard : IsHeard settings bytes lines held h
-  pub follows : Follows settings kit h
-  pub same : settings_of kit.remote ≡ settings
-
 -- From one place to a later one a host was served to this end.
 pub record Ended (settings : List (List ℕ)) (old new : Told) (end : End) : Type 0 where
   pub bytes : List ℕ
@@ -127,9 +109,30 @@ pub record Ended (settings : List (List ℕ)) (old new : Told) (end : End) : Typ
   pub written : IsWritten end out (said_to settings h)
   pub calls : AreMade end made settings h rest
   pub ends : IsEnd end settings h rest
+  pub memory : end ≡ Memory → IsMemoryCause lines bytes rest
 
 -- and the status is that of the end
 pub record Serves (settings : List (List ℕ)) (old new : Told) (status : ℕ) : Type 0 where
   pub end : End
   pub is : status ≡ status_of end
   pub ended : Ended settings old new end
+
+-- ---- a kit as a voice
+
+-- from the first kit to the second it heard the messages of these lines, and said these to them
+pub record Spoke {R : Type 0} (settings_of : R → List (List ℕ)) (calls : R → Option (List Call)) (old new : KitValue R) (lines said : List (List ℕ)) : Type 0 where
+  pub h : List Heard
+  pub read : map host_reading lines ≡ map (λ e. Some e.message) h
+  pub says : said ≡ lines_said (settings_of old.remote) h
+  pub served : IsServed (settings_of old.remote) h
+  pub follows : Follows (settings_of old.remote) new h
+  pub called : calls new.remote ≡ option_map (λ told. told ++ calls_of h) (calls old.remote)
+  pub same : settings_of new.remote ≡ settings_of old.remote
+  pub live : IsLive (settings_of old.remote) h ⊎ EndsKit (settings_of old.remote) h
+
+-- the kit found no memory for the message of the line
+pub record Lacks {R : Type 0} (settings_of : R → List (List ℕ)) (calls : R → Option (List Call)) (old new : KitValue R) (line : List ℕ) : Type 0 where
+  pub m : HostMessage
+  pub reads : host_reading line ≡ Some m
+  pub stops : Stops calls (settings_of old.remote) old new m
+  pub same : settings_of new.remote ≡ settings_of old.remote

@@ -1,59 +1,57 @@
--- What one line and one read do.
-use Rattle.std.specs.Prelude.{ℕ, ◌≡◌, ◌⊎◌, Bool, true, false, List, take, Option, Some, None, Result, Ok, Err}
+-- What one turn does: it answers a line, or reads once.
+use Rattle.std.specs.Prelude.{ℕ, ◌≡◌, ◌<◌, ◌≤◌, ◌⊎◌, length, OnOk, Bool, true, false, List, [], ◌∷◌, ◌++◌, Option, Some, None, option_map, Result, Ok, Err, IfSome}
 use Rattle.std.specs.Io.KnownBytes.{Appends}
-use Rattle.ann_outside.specs.Causes.{StaysUntold}
-use Rattle.annex_model.specs.Lines.{text}
-use Rattle.annex_model.specs.Messages.{HostMessage, host_reading}
-use Rattle.wire_line.specs.HeldBytes.{TakesPiece}
-use Rattle.kit_core.specs.declared.call.Call.{Call}
-use Rattle.kit_core.specs.Stages.{KitValue, Steps, Stops}
+use Rattle.ann_outside.specs.Causes.{Rose, StaysUntold}
+use Rattle.wire_line.specs.HeldBytes.{has_line, TakesPiece}
+use Rattle.kit_serve.specs.Limits.{longest_line, read_size}
 use Rattle.kit_serve.specs.declared.end.End.{End}
-use Rattle.kit_serve.specs.declared.end.End.TheVariants.{Eof, Bad, ReadFault, WriteFault, Memory}
+use Rattle.kit_serve.specs.declared.end.End.TheVariants.{Eof}
 
--- the piece that was read, which may be empty, is told and is held
-pub record ReadsOn (given given' : Option (List ℕ)) (held held' : List ℕ) : Type 0 where
+-- the piece that was read is told and is held. It is empty only where the reading ended
+pub record ReadsOn {T : Type 0} (given given' : Option (List ℕ)) (held held' : List ℕ) (result : Result T End) : Type 0 where
   pub piece : List ℕ
   pub told : Appends given given' piece
   pub silent : StaysUntold given given'
   pub cut : TakesPiece held piece held'
+  pub some : OnOk result (0 < length piece)
 
--- the line's message had the kit step, and what it says was written
-pub record Speaks {R : Type 0} (calls : R → Option (List Call)) (settings : List (List ℕ)) (old new : KitValue R) (taken taken' : Option (List ℕ)) (line : List ℕ) (over : Bool) : Type 0 where
-  pub m : HostMessage
-  pub say : List (List ℕ)
-  pub reads : host_reading line ≡ Some m
-  pub steps : Steps calls settings old new m say over
-  pub took : Appends taken taken' (text say)
-  pub silent : StaysUntold taken taken'
+-- one read more of that size, or none
+abbrev pub ReadsOnce : Option (List ℕ) → Option (List ℕ) → Type 0
+ReadsOnce rooms rooms' = (rooms' ≡ rooms) ⊎ (rooms' ≡ option_map (λ told. told ++ read_size ∷ []) rooms)
 
--- and only its first bytes were
-pub record Falters {R : Type 0} (calls : R → Option (List Call)) (settings : List (List ℕ)) (old new : KitValue R) (taken taken' : Option (List ℕ)) (line : List ℕ) : Type 0 where
-  pub m : HostMessage
-  pub say : List (List ℕ)
-  pub over : Bool
-  pub n : ℕ
-  pub reads : host_reading line ≡ Some m
-  pub steps : Steps calls settings old new m say over
-  pub took : Appends taken taken' (take n (text say))
-  pub silent : StaysUntold taken taken'
+-- what a turn sees of a source and a sink
+pub record Streams : Type 0 where
+  pub rooms : Option (List ℕ)
+  pub given : Option (List ℕ)
+  pub taken : Option (List ℕ)
+  pub flushed : Bool
 
--- the kit found no memory
-pub record Lacks {R : Type 0} (calls : R → Option (List Call)) (settings : List (List ℕ)) (old new : KitValue R) (taken taken' : Option (List ℕ)) (line : List ℕ) : Type 0 where
-  pub m : HostMessage
-  pub reads : host_reading line ≡ Some m
-  pub stops : Stops calls settings old new m
-  pub took : taken' ≡ taken
+-- Where a whole line is held nothing is read. Where none is, nothing is written, and at most one read is made.
+pub record Turned (old new : Streams) (held : List ℕ) : Type 0 where
+  pub at_line : has_line longest_line held ≡ true → (new.rooms ≡ old.rooms) × (new.given ≡ old.given)
+  pub at_read : has_line longest_line held ≡ false → (new.taken ≡ old.taken) × (new.flushed ≡ old.flushed) × ReadsOnce old.rooms new.rooms
 
--- the line spells nothing, and nothing was done
-pub record Passes {R : Type 0} (old new : KitValue R) (taken taken' : Option (List ℕ)) (line : List ℕ) : Type 0 where
-  pub reads : host_reading line ≡ None
-  pub kit : new ≡ old
-  pub took : taken' ≡ taken
+-- ---- ends, and their causes
 
-abbrev pub Hears : {R T : Type 0} → (R → Option (List Call)) → List (List ℕ) → KitValue R → KitValue R → Option (List ℕ) → Option (List ℕ) → List ℕ → Result T End → Type 0
-Hears calls settings old new taken taken' line (Ok x) = Speaks calls settings old new taken taken' line false
-Hears calls settings old new taken taken' line (Err Bad) = Speaks calls settings old new taken taken' line true ⊎ Passes old new taken taken' line
-Hears calls settings old new taken taken' line (Err WriteFault) = Falters calls settings old new taken taken' line
-Hears calls settings old new taken taken' line (Err Memory) = Lacks calls settings old new taken taken' line
-Hears calls settings old new taken taken' line (Err Eof) = ⊥
-Hears calls settings old new taken taken' line (Err ReadFault) = ⊥
+-- why a call ended, if it did
+abbrev pub end_of : {T : Type 0} → Result T End → Option End
+end_of (Ok x) = None
+end_of (Err end) = Some end
+
+-- what is seen of a source or a sink at its end
+pub record Half : Type 0 where
+  pub faults : ℕ
+  pub is_open : Bool
+  pub number : Option ℕ
+
+-- still open, with its number; its count rose if this end came, and else stays
+pub record Leaves (old new : Half) (fault : Type 0) : Type 0 where
+  pub later : old.faults ≤ new.faults
+  pub cause : fault → Rose old.faults new.faults
+  pub quiet : (fault → ⊥) → new.faults ≡ old.faults
+  pub opened : new.is_open ≡ true
+  pub number : new.number ≡ old.number
+
+-- the end of the host's lines comes only where the source has nothing left
+abbrev pub IsSpent : Option End → Option (List ℕ) → Type 0
+IsSpent end left = end ≡ Some Eof → IfSome left (λ bytes. bytes ≡ [])

@@ -3,7 +3,7 @@ ghost use Rattle.kit_serve.specs.Ends.{status_of};
 
 /// Why no more of the host is heard.
 #[derive(Clone, Copy)]
-pub(super) enum End {
+pub enum End {
     /// The host's lines came to an end.
     Eof,
     /// A line spells no message, is too long, or was the last that the kit heard.
@@ -18,7 +18,7 @@ pub(super) enum End {
 
 impl End {
     /// The exit status of a program that ends so.
-    pub(super) fn status(self) -> u8
+    pub fn status(self) -> u8
         ensures { result ≡ status_of self }
     {
         match self {

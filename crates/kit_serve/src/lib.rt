@@ -2,10 +2,17 @@
 #![tactic(auto)]
 
 mod child;
+mod described;
 mod end;
 mod programs;
 mod serving;
+mod streams;
+mod voice;
 mod writing;
 
+pub use described::serve_described;
+pub use end::End;
 pub use programs::{KitInlet, KitOutlet, KitPrograms, KitStub, Maker};
-pub use serving::{LONGEST_LINE, READ_SIZE, Served, serve};
+pub use serving::{LONGEST_LINE, READ_SIZE, Served, serve, talk, turn};
+pub use streams::{Ear, Mouth};
+pub use voice::Voice;

@@ -1,21 +1,23 @@
-ghost use Rattle.std.specs.Prelude.{◌≡◌, ◌≤◌, [], ℕ, List, not, true, false, IsTrue, Err, OnOk, IfErr, IfSome};
+ghost use Rattle.std.specs.Prelude.{◌≡◌, ◌≤◌, ◌⊎◌, ◌<◌, ◌+◌, [], ℕ, List, not, true, false, IsTrue, None, Some, Err, OnOk, OnErr, IfErr, IfSome};
 ghost use Rattle.std.specs.Io.KnownBytes.{Appends};
 ghost use Rattle.annex_model.specs.Lines.{has_newline};
 ghost use Rattle.ann_outside.specs.Causes.{Rose};
 ghost use Rattle.kit_core.specs.Stages.{is_last, Follows};
-ghost use Rattle.kit_serve.specs.Limits.{longest_line};
-ghost use Rattle.kit_serve.specs.declared.end.End.TheVariants.{Eof, Bad, ReadFault, WriteFault};
-ghost use Rattle.kit_serve.specs.Sessions.{Told, Going, Ended, Serves};
-ghost use Rattle.kit_serve.specs.Turns.{Hears, ReadsOn};
+ghost use Rattle.kit_serve.specs.Limits.{longest_line, read_size};
+ghost use Rattle.kit_serve.specs.declared.end.End.TheVariants.{Eof, Bad, ReadFault, WriteFault, Memory};
+ghost use Rattle.kit_serve.specs.Sessions.{Told, Ended, Serves};
+ghost use Rattle.kit_serve.specs.Turns.{end_of, Half, IsSpent, Leaves, ReadsOn, ReadsOnce, Streams, Turned};
+ghost use Rattle.kit_serve.specs.Voices.{Bytes, Hears, Talking, Talked};
 
 use crate::end::End;
+use crate::streams::{Ear, Mouth};
+use crate::voice::Voice;
 use crate::writing::{write_lines, write_version};
 use ann_key::NoMemory;
 use ann_outside::{Failed, Sink, Source};
 use kit_core::{Kit, Remote};
 use std::alloc::Global;
 use wire_line::{Next, Splitter};
-use wire_msg::read_host;
 
 /// The longest line that a host may say, in bytes.
 pub const LONGEST_LINE: usize = 131_072;
@@ -33,24 +35,19 @@ pub struct Served<R> {
     pub remote: R,
 }
 
-// What the kit says to one line is written.
-fn hear<R: Remote, W: Sink>(kit: &mut Kit<R>, sink: &mut W, line: &[u8]) -> Result<(), End>
+// What the voice says to one line is written and handed on.
+fn hear<V: Voice, W: Mouth>(voice: &mut V, sink: &mut W, line: &[u8]) -> Result<(), End>
     requires open { W.is_open sink.old ≡ true }
     requires line { has_newline line.now ≡ false }
-    ensures heard { Hears R.calls (R.settings kit.old.remote) kit.old kit.new (W.taken sink.old) (W.taken sink.new) line.now result }
-    ensures live { OnOk result (is_last kit.new.stage ≡ false) }
-    ensures settings { R.settings kit.new.remote ≡ R.settings kit.old.remote }
-    ensures later { W.faults sink.old ≤ W.faults sink.new }
-    ensures fault { result ≡ Err WriteFault → Rose (W.faults sink.old) (W.faults sink.new) }
-    ensures quiet { (result ≡ Err WriteFault → ⊥) → W.faults sink.new ≡ W.faults sink.old }
-    ensures open { W.is_open sink.new ≡ true }
-    ensures number { W.number sink.new ≡ W.number sink.old }
+    requires live { V.is_over voice.old ≡ false }
+    requires flushed { W.is_flushed sink.old ≡ true }
+    ensures heard { Hears V.spoke V.is_over V.is_foul V.lacks voice.old voice.new (W.taken sink.old) (W.taken sink.new) line.now result }
+    ensures flushed { (end_of result ≡ Some WriteFault → ⊥) → W.is_flushed sink.new ≡ true }
+    ensures sink { Leaves (record { faults = W.faults sink.old; is_open = W.is_open sink.old; number = W.number sink.old })
+        (record { faults = W.faults sink.new; is_open = W.is_open sink.new; number = W.number sink.new }) (end_of result ≡ Some WriteFault) }
 {
-    let Some(message) = read_host(line) else {
-        return Err(End::Bad);
-    };
-    match kit.step(&message) {
-        Ok(step) => {
+    match voice.answer(line) {
+        Ok(Some(step)) => {
             if write_lines(sink, &step.say).is_err() {
                 Err(End::WriteFault)
             } else if step.over {
@@ -59,29 +56,28 @@ fn hear<R: Remote, W: Sink>(kit: &mut Kit<R>, sink: &mut W, line: &[u8]) -> Resu
                 Ok(())
             }
         }
+        Ok(None) => Err(End::Bad),
         Err(NoMemory) => Err(End::Memory),
     }
 }
 
-// Room is taken before the read for all that it may give, so that no byte is lost.
-fn fill<S: Source>(splitter: &mut Splitter, source: &mut S) -> Result<(), End>
+// One read. Room is taken before it for all that it may give, so that no byte is lost.
+fn fill<S: Ear>(splitter: &mut Splitter, source: &mut S) -> Result<(), End>
     requires { S.is_open source.old ≡ true }
-    ensures reads { ReadsOn (S.given source.old) (S.given source.new) splitter.old.bytes splitter.new.bytes }
+    ensures reads { ReadsOn (S.given source.old) (S.given source.new) splitter.old.bytes splitter.new.bytes result }
+    ensures once { ReadsOnce (S.rooms source.old) (S.rooms source.new) }
     ensures kept { IfErr result (λ _. splitter.new.bytes ≡ splitter.old.bytes) }
-    ensures end { result ≡ Err Eof → IfSome (S.left source.new) (λ bytes. bytes ≡ []) }
-    ensures fault { result ≡ Err ReadFault → Rose (S.faults source.old) (S.faults source.new) }
-    ensures quiet { (result ≡ Err ReadFault → ⊥) → S.faults source.new ≡ S.faults source.old }
+    ensures spent { IsSpent (end_of result) (S.left source.new) }
     ensures others { (result ≡ Err Bad → ⊥) × (result ≡ Err WriteFault → ⊥) }
-    ensures later { S.faults source.old ≤ S.faults source.new }
+    ensures source { Leaves (record { faults = S.faults source.old; is_open = S.is_open source.old; number = S.number source.old })
+        (record { faults = S.faults source.new; is_open = S.is_open source.new; number = S.number source.new }) (end_of result ≡ Some ReadFault) }
     ensures limit { splitter.new.limit ≡ splitter.old.limit }
-    ensures open { S.is_open source.new ≡ true }
-    ensures number { S.number source.new ≡ S.number source.old }
 {
     if splitter.reserve(READ_SIZE).is_err() {
         return Err(End::Memory);
     }
     let mut buf = [0u8; READ_SIZE];
-    match source.read(&mut buf) {
+    match source.listen(&mut buf) {
         Ok(0) => Err(End::Eof),
         Ok(n) => match splitter.push(&buf[..n]) {
             Ok(()) => Ok(()),
@@ -91,34 +87,34 @@ fn fill<S: Source>(splitter: &mut Splitter, source: &mut S) -> Result<(), End>
     }
 }
 
-// One line, or one read.
-fn turn<R: Remote, S: Source, W: Sink>(
-    kit: &mut Kit<R>,
+/// Answers the line that the splitter holds first, and hands the answer on; where it holds no whole line, reads once, at most
+/// 4,096 bytes. So all that a host is owed for its lines so far was written and handed on before the next read.
+pub fn turn<V: Voice, S: Ear, W: Mouth>(
+    voice: &mut V,
     splitter: &mut Splitter,
     source: &mut S,
     sink: &mut W,
 ) -> Result<(), End>
-    requires source { S.is_open source.old ≡ true }
-    requires sink { W.is_open sink.old ≡ true }
+    requires open { (S.is_open source.old ≡ true) × (W.is_open sink.old ≡ true) }
     requires limit { splitter.old.limit ≡ longest_line }
-    requires live { is_last kit.old.stage ≡ false }
-    ensures goes { OnOk result ((settings : List (List ℕ)) (begun : Told) → Going R.settings R.calls settings begun (S.given source.old) (W.taken sink.old) kit.old splitter.old.bytes → Going R.settings R.calls settings begun (S.given source.new) (W.taken sink.new) kit.new splitter.new.bytes) }
-    ensures live { OnOk result (is_last kit.new.stage ≡ false) }
-    ensures ended { IfErr result (λ end. (settings : List (List ℕ)) (begun : Told) → Going R.settings R.calls settings begun (S.given source.old) (W.taken sink.old) kit.old splitter.old.bytes → Ended settings begun (record { given = S.given source.new; taken = W.taken sink.new; calls = R.calls kit.new.remote }) end) }
-    ensures end { result ≡ Err Eof → IfSome (S.left source.new) (λ bytes. bytes ≡ []) }
-    ensures read_fault { result ≡ Err ReadFault → Rose (S.faults source.old) (S.faults source.new) }
-    ensures write_fault { result ≡ Err WriteFault → Rose (W.faults sink.old) (W.faults sink.new) }
-    ensures read_quiet { (result ≡ Err ReadFault → ⊥) → S.faults source.new ≡ S.faults source.old }
-    ensures write_quiet { (result ≡ Err WriteFault → ⊥) → W.faults sink.new ≡ W.faults sink.old }
-    ensures later { (S.faults source.old ≤ S.faults source.new) × (W.faults sink.old ≤ W.faults sink.new) }
-    ensures limit { splitter.new.limit ≡ longest_line }
-    ensures open { (S.is_open source.new ≡ true) × (W.is_open sink.new ≡ true) }
-    ensures numbers { (S.number source.new ≡ S.number source.old) × (W.number sink.new ≡ W.number sink.old) }
-    ensures settings { R.settings kit.new.remote ≡ R.settings kit.old.remote }
+    requires live { V.is_over voice.old ≡ false }
+    requires flushed { W.is_flushed sink.old ≡ true }
+    ensures goes { OnOk result ((begun : V) (old : Bytes) (turns : ℕ) → Talking V.spoke begun old (record { given = S.given source.old; taken = W.taken sink.old }) voice.old splitter.old.bytes turns
+        → Talking V.spoke begun old (record { given = S.given source.new; taken = W.taken sink.new }) voice.new splitter.new.bytes (turns + 1)) }
+    ensures ended { IfErr result (λ end. (begun : V) (old : Bytes) (turns : ℕ) → Talking V.spoke begun old (record { given = S.given source.old; taken = W.taken sink.old }) voice.old splitter.old.bytes turns
+        → Talked V.spoke V.is_over V.is_foul V.lacks begun old (record { given = S.given source.new; taken = W.taken sink.new }) voice.new end) }
+    ensures turned { Turned (record { rooms = S.rooms source.old; given = S.given source.old; taken = W.taken sink.old; flushed = W.is_flushed sink.old })
+        (record { rooms = S.rooms source.new; given = S.given source.new; taken = W.taken sink.new; flushed = W.is_flushed sink.new }) splitter.old.bytes }
+    ensures next { ((end_of result ≡ Some WriteFault → ⊥) → W.is_flushed sink.new ≡ true) × OnOk result (V.is_over voice.new ≡ false) × (splitter.new.limit ≡ longest_line) }
+    ensures spent { IsSpent (end_of result) (S.left source.new) }
+    ensures source { Leaves (record { faults = S.faults source.old; is_open = S.is_open source.old; number = S.number source.old })
+        (record { faults = S.faults source.new; is_open = S.is_open source.new; number = S.number source.new }) (end_of result ≡ Some ReadFault) }
+    ensures sink { Leaves (record { faults = W.faults sink.old; is_open = W.is_open sink.old; number = W.number sink.old })
+        (record { faults = W.faults sink.new; is_open = W.is_open sink.new; number = W.number sink.new }) (end_of result ≡ Some WriteFault) }
 {
     match splitter.first() {
         Next::Line(line) => {
-            let heard = hear(kit, sink, line);
+            let heard = hear(voice, sink, line);
             splitter.drop_line();
             heard
         }
@@ -128,29 +124,27 @@ fn turn<R: Remote, S: Source, W: Sink>(
 }
 
 // Takes turns until the end.
-fn converse<R: Remote, S: Source, W: Sink>(
-    kit: &mut Kit<R>,
+fn converse<V: Voice, S: Ear, W: Mouth>(
+    voice: &mut V,
     splitter: &mut Splitter,
     source: &mut S,
     sink: &mut W,
 ) -> End
-    requires source { S.is_open source.old ≡ true }
-    requires sink { W.is_open sink.old ≡ true }
+    requires open { (S.is_open source.old ≡ true) × (W.is_open sink.old ≡ true) }
     requires limit { splitter.old.limit ≡ longest_line }
-    requires live { is_last kit.old.stage ≡ false }
-    ensures ended { (settings : List (List ℕ)) (begun : Told) → Going R.settings R.calls settings begun (S.given source.old) (W.taken sink.old) kit.old splitter.old.bytes → Ended settings begun (record { given = S.given source.new; taken = W.taken sink.new; calls = R.calls kit.new.remote }) result }
-    ensures end { result ≡ Eof → IfSome (S.left source.new) (λ bytes. bytes ≡ []) }
-    ensures read_fault { result ≡ ReadFault → Rose (S.faults source.old) (S.faults source.new) }
-    ensures write_fault { result ≡ WriteFault → Rose (W.faults sink.old) (W.faults sink.new) }
-    ensures read_quiet { (result ≡ ReadFault → ⊥) → S.faults source.new ≡ S.faults source.old }
-    ensures write_quiet { (result ≡ WriteFault → ⊥) → W.faults sink.new ≡ W.faults sink.old }
-    ensures later { (S.faults source.old ≤ S.faults source.new) × (W.faults sink.old ≤ W.faults sink.new) }
-    ensures open { (S.is_open source.new ≡ true) × (W.is_open sink.new ≡ true) }
-    ensures numbers { (S.number source.new ≡ S.number source.old) × (W.number sink.new ≡ W.number sink.old) }
-    ensures settings { R.settings kit.new.remote ≡ R.settings kit.old.remote }
+    requires live { V.is_over voice.old ≡ false }
+    requires flushed { W.is_flushed sink.old ≡ true }
+    ensures ended { (begun : V) (old : Bytes) → Talking V.spoke begun old (record { given = S.given source.old; taken = W.taken sink.old }) voice.old splitter.old.bytes 0
+        → Talked V.spoke V.is_over V.is_foul V.lacks begun old (record { given = S.given source.new; taken = W.taken sink.new }) voice.new result }
+    ensures flushed { (result ≡ WriteFault → ⊥) → W.is_flushed sink.new ≡ true }
+    ensures spent { IsSpent (Some result) (S.left source.new) }
+    ensures source { Leaves (record { faults = S.faults source.old; is_open = S.is_open source.old; number = S.number source.old })
+        (record { faults = S.faults source.new; is_open = S.is_open source.new; number = S.number source.new }) (result ≡ ReadFault) }
+    ensures sink { Leaves (record { faults = W.faults sink.old; is_open = W.is_open sink.old; number = W.number sink.old })
+        (record { faults = W.faults sink.new; is_open = W.is_open sink.new; number = W.number sink.new }) (result ≡ WriteFault) }
 {
     for _ in 0..u64::MAX {
-        match turn(kit, splitter, source, sink) {
+        match turn(voice, splitter, source, sink) {
             Ok(()) => {}
             Err(end) => return end,
         }
@@ -158,31 +152,28 @@ fn converse<R: Remote, S: Source, W: Sink>(
     End::Memory
 }
 
-// Says the version, and then what the kit says.
-fn talk<R: Remote, S: Source, W: Sink>(
+/// Says the version, and then takes turns until the end.
+pub fn talk<V: Voice, S: Ear, W: Mouth>(
     alloc: Global,
-    kit: &mut Kit<R>,
+    voice: &mut V,
     source: &mut S,
     sink: &mut W,
 ) -> End
-    requires source { S.is_open source.old ≡ true }
-    requires sink { W.is_open sink.old ≡ true }
-    requires begins { (settings : List (List ℕ)) → Follows settings kit.old [] }
-    ensures ended { Ended (R.settings kit.old.remote) (record { given = S.given source.old; taken = W.taken sink.old; calls = R.calls kit.old.remote }) (record { given = S.given source.new; taken = W.taken sink.new; calls = R.calls kit.new.remote }) result }
-    ensures end { result ≡ Eof → IfSome (S.left source.new) (λ bytes. bytes ≡ []) }
-    ensures read_fault { result ≡ ReadFault → Rose (S.faults source.old) (S.faults source.new) }
-    ensures write_fault { result ≡ WriteFault → Rose (W.faults sink.old) (W.faults sink.new) }
-    ensures read_quiet { (result ≡ ReadFault → ⊥) → S.faults source.new ≡ S.faults source.old }
-    ensures write_quiet { (result ≡ WriteFault → ⊥) → W.faults sink.new ≡ W.faults sink.old }
-    ensures later { (S.faults source.old ≤ S.faults source.new) × (W.faults sink.old ≤ W.faults sink.new) }
-    ensures open { (S.is_open source.new ≡ true) × (W.is_open sink.new ≡ true) }
-    ensures numbers { (S.number source.new ≡ S.number source.old) × (W.number sink.new ≡ W.number sink.old) }
-    ensures settings { R.settings kit.new.remote ≡ R.settings kit.old.remote }
+    requires open { (S.is_open source.old ≡ true) × (W.is_open sink.old ≡ true) }
+    requires live { V.is_over voice.old ≡ false }
+    requires begins { V.spoke voice.old voice.old [] [] }
+    ensures ended { Talked V.spoke V.is_over V.is_foul V.lacks voice.old (record { given = S.given source.old; taken = W.taken sink.old }) (record { given = S.given source.new; taken = W.taken sink.new }) voice.new result }
+    ensures flushed { (result ≡ WriteFault → ⊥) → W.is_flushed sink.new ≡ true }
+    ensures spent { IsSpent (Some result) (S.left source.new) }
+    ensures source { Leaves (record { faults = S.faults source.old; is_open = S.is_open source.old; number = S.number source.old })
+        (record { faults = S.faults source.new; is_open = S.is_open source.new; number = S.number source.new }) (result ≡ ReadFault) }
+    ensures sink { Leaves (record { faults = W.faults sink.old; is_open = W.is_open sink.old; number = W.number sink.old })
+        (record { faults = W.faults sink.new; is_open = W.is_open sink.new; number = W.number sink.new }) (result ≡ WriteFault) }
 {
     match write_version(sink) {
         Ok(()) => {
             let mut splitter = Splitter::new(alloc, LONGEST_LINE);
-            converse(kit, &mut splitter, source, sink)
+            converse(voice, &mut splitter, source, sink)
         }
         Err(Failed) => End::WriteFault,
     }

@@ -12,7 +12,7 @@ use ann_key::Text;
 use ann_os::{OsClock, OsDesks, OsErrors, OsInput, OsOutput};
 use ann_outside::{Clock, Desks, Sink, write_all};
 use dir_remote::{DirRemote, is_mark};
-use kit_serve::serve;
+use kit_serve::serve_described;
 use std::alloc::Global;
 use std::io::Stdout;
 use std::process::ExitCode;
@@ -122,7 +122,7 @@ fn serve_directory(rt: &HostRuntime, out: &mut OsOutput<Stdout>) -> u8
         return 7;
     };
     let remote = Swept::new(rt, DirRemote::apart(rt.alloc(), desk, mark));
-    serve(rt.alloc(), remote, &mut input, out).status
+    serve_described(rt.alloc(), remote, &mut input, out).status
 }
 
 fn main(rt: HostRuntime) -> ExitCode {

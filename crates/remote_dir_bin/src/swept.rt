@@ -5,8 +5,8 @@ use crate::sweeping::sweep;
 use ann_key::{KeyRef, NoMemory};
 use ann_outside::Desk;
 use dir_remote::DirRemote;
-use kit_core::{Remote, Said, Values};
-use std::alloc::AllocGlobal;
+use kit_core::{Availability, Describe, Pair, Remote, Said, Values, Where};
+use std::alloc::{AllocGlobal, Global};
 use std::rt::{Clock, Files};
 use std::str;
 
@@ -24,8 +24,8 @@ impl<R: Files + AllocGlobal + Clock + Clone + Drop, D: Desk> Swept<R, D> {
 
     // Old files of the directory that the values name.
     fn sweep(&self, values: &Values) {
-        if let Some(value) = values.view().first() {
-            if let Ok(directory) = str::from_utf8(value.view()) {
+        if let Some(value) = values.first() {
+            if let Ok(directory) = str::from_utf8(value) {
                 sweep(&self.rt, directory);
             }
         }
@@ -63,5 +63,29 @@ impl<R: Files + AllocGlobal + Clock + Clone + Drop, D: Desk> Remote for Swept<R,
 
     fn remove(&mut self, key: KeyRef<'_>) -> Result<Said, NoMemory> {
         self.remote.remove(key)
+    }
+}
+
+impl<R: Files + AllocGlobal + Clock + Clone + Drop, D: Desk> Describe for Swept<R, D> {
+    ghost description = { λ r. ⟦<DirRemote<D> as Describe>⟧.description r.remote };
+
+    fn configs(&self, alloc: Global) -> Result<Vec<Pair>, NoMemory> {
+        self.remote.configs(alloc)
+    }
+
+    fn cost(&self) -> Option<u64> {
+        self.remote.cost()
+    }
+
+    fn availability(&self) -> Option<Availability> {
+        self.remote.availability()
+    }
+
+    fn info(&self, alloc: Global) -> Result<Vec<Pair>, NoMemory> {
+        self.remote.info(alloc)
+    }
+
+    fn whereis(&self, alloc: Global, key: KeyRef<'_>) -> Result<Where, NoMemory> {
+        self.remote.whereis(alloc, key)
     }
 }

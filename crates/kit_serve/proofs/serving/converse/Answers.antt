@@ -1,7 +1,12 @@
-use Rattle.kit_serve.proofs.Turning.{going_stops}
+use Rattle.std.proofs.Common.{◌≤◌, ◌-◌, ◌^◌, arith}
+use Rattle.kit_serve.proofs.Talks.{turns_end}
 use Rattle.kit_serve.proofs.serving.converse.Goals as goal
 
+pub returns-in-Err-clause-ended : goal.returns-in-Err-clause-ended
+returns-in-Err-clause-ended g c = λ begun old t. c.in-Err.ensures.ended begun old c.loop.counter (c.loop.invariant.goes begun old t)
+
 pub returns-clause-ended : goal.returns-clause-ended
-returns-clause-ended g c = λ settings begun going.
-    going_stops g.R.Remote.settings g.R.Remote.calls (g.S.Source.given c.loop.source) (g.W.Sink.taken c.loop.sink) c.loop.kit c.loop.splitter.bytes c.loop.invariant.live
-    settings begun (c.loop.invariant.goes settings begun going)
+returns-clause-ended g c =
+    let v = g.V.Voice in
+    let all : 2 ^ 64 - 1 ≤ c.loop.counter = omega arith in λ begun old t.
+    turns_end v.spoke v.is_over v.is_foul v.lacks begun old _ c.loop.voice c.loop.splitter.bytes c.loop.counter c.loop.invariant.live all (c.loop.invariant.goes begun old t)

@@ -39,6 +39,6 @@ returns-clause-prefix g c =
     let ls : List (List ℕ) = c.view-line-items.result.now in
     let i : ℕ = c.loop-line.line-index in
     let past : length ls ≤ i = omega arith in
-    prefix_whole (g.W.Sink.taken c.args.sink.now) (g.W.Sink.taken c.flush.new.self) (text c.args.lines.now)
-    (subst (λ t. Appends (g.W.Sink.taken c.args.sink.now) t (text c.args.lines.now)) (sym c.flush.ensures.bytes)
+    prefix_whole (g.W.Sink.taken c.args.sink.now) (g.W.Sink.taken c.hand_on.new.self) (text c.args.lines.now)
+    (subst (λ t. Appends (g.W.Sink.taken c.args.sink.now) t (text c.args.lines.now)) (sym c.hand_on.ensures.bytes)
     (subst (λ (l : List ℕ). Appends (g.W.Sink.taken c.args.sink.now) (g.W.Sink.taken c.loop-line.sink) l) (text_all ls i past ∙ ap text c.view-line-items.ensures) c.loop-line.invariant.took))
