@@ -1,5 +1,5 @@
 // One round of an ear, a mouth and workers.
-ghost use Rattle.std.specs.Prelude.{◌≡◌, All, ◌<◌, ◌≤◌, IfOk, IfErr, vec_len};
+ghost use Rattle.std.specs.Prelude.{◌≡◌, All, ◌<◌, ◌≤◌, vec_len};
 ghost use Rattle.crew_round.specs.Back.{CameBack};
 ghost use Rattle.crew_round.specs.Slots.{AllCameBack};
 
@@ -8,7 +8,6 @@ use super::gate::Gate;
 use super::role::Role;
 use super::room::Room;
 use super::slot::{begin, begin_all, end, end_all};
-use std::alloc::Global;
 use std::marker::{Send, Sync};
 use std::sync::Wait;
 use std::thread;
@@ -89,50 +88,4 @@ pub fn run_crew<
             ensures { CameBack A.ran crew.ear result.ear × CameBack B.ran crew.mouth result.mouth × AllCameBack C.ran crew.workers.items result.workers.items }
         { within(scope, rt, gate, most, crew, room) },
     )
-}
-
-/// The same, where memory may keep the round from beginning: then all is handed back.
-pub fn run_some<
-    A: Role + Send + Drop,
-    B: Role + Send + Drop,
-    C: Role + Send + Drop,
-    R: Threads + Wait + Sync,
->(
-    rt: &R,
-    alloc: Global,
-    most: usize,
-    crew: Crew<A, B, C>,
-) -> Result<Crew<Back<A>, Back<B>, Back<C>>, Crew<A, B, C>>
-    requires few { vec_len crew.workers < 1000 }
-    requires can { A.can_run crew.ear × B.can_run crew.mouth × All C.can_run crew.workers.items }
-    ensures ear { IfOk result (λ r. CameBack A.ran crew.ear r.ear) }
-    ensures mouth { IfOk result (λ r. CameBack B.ran crew.mouth r.mouth) }
-    ensures workers { IfOk result (λ r. AllCameBack C.ran crew.workers.items r.workers.items) }
-    ensures short { IfErr result (λ r. r ≡ crew) }
-{
-    let Some(room) = Room::new(alloc, crew.workers.len()) else {
-        return Err(crew);
-    };
-    Ok(run_crew(rt, room, most, crew))
-}
-
-/// The same with as many threads as there are roles.
-pub fn run_round<
-    A: Role + Send + Drop,
-    B: Role + Send + Drop,
-    C: Role + Send + Drop,
-    R: Threads + Wait + Sync,
->(
-    rt: &R,
-    alloc: Global,
-    crew: Crew<A, B, C>,
-) -> Result<Crew<Back<A>, Back<B>, Back<C>>, Crew<A, B, C>>
-    requires few { vec_len crew.workers < 1000 }
-    requires can { A.can_run crew.ear × B.can_run crew.mouth × All C.can_run crew.workers.items }
-    ensures ear { IfOk result (λ r. CameBack A.ran crew.ear r.ear) }
-    ensures mouth { IfOk result (λ r. CameBack B.ran crew.mouth r.mouth) }
-    ensures workers { IfOk result (λ r. AllCameBack C.ran crew.workers.items r.workers.items) }
-    ensures short { IfErr result (λ r. r ≡ crew) }
-{
-    run_some(rt, alloc, usize::MAX, crew)
 }

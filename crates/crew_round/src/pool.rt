@@ -1,5 +1,5 @@
 // One round of workers that have a child each.
-ghost use Rattle.std.specs.Prelude.{◌≡◌, All, ◌<◌, ◌≤◌, IfOk, IfErr, vec_len};
+ghost use Rattle.std.specs.Prelude.{◌≡◌, All, ◌<◌, ◌≤◌, vec_len};
 ghost use Rattle.crew_round.specs.Slots.{AllCameBack};
 
 use super::back::Back;
@@ -7,7 +7,6 @@ use super::gate::Gate;
 use super::role::Role;
 use super::room::Room;
 use super::slot::{begin_all, end_all};
-use std::alloc::Global;
 use std::marker::{Send, Sync};
 use std::sync::Wait;
 use std::thread;
@@ -56,36 +55,4 @@ pub fn run_workers<C: Role + Send + Drop, R: Threads + Wait + Sync>(
             ensures { AllCameBack C.ran workers.items result.items }
         { within(scope, rt, gate, most, workers, room) },
     )
-}
-
-/// The same, where memory may keep the round from beginning: then all is handed back.
-pub fn run_pool_some<C: Role + Send + Drop, R: Threads + Wait + Sync>(
-    rt: &R,
-    alloc: Global,
-    most: usize,
-    workers: Vec<C>,
-) -> Result<Vec<Back<C>>, Vec<C>>
-    requires few { vec_len workers < 1000 }
-    requires can { All C.can_run workers.items }
-    ensures workers { IfOk result (λ r. AllCameBack C.ran workers.items r.items) }
-    ensures short { IfErr result (λ r. r ≡ workers) }
-{
-    let Some(room) = Room::new(alloc, workers.len()) else {
-        return Err(workers);
-    };
-    Ok(run_workers(rt, room, most, workers))
-}
-
-/// The same with as many threads as there are workers.
-pub fn run_pool<C: Role + Send + Drop, R: Threads + Wait + Sync>(
-    rt: &R,
-    alloc: Global,
-    workers: Vec<C>,
-) -> Result<Vec<Back<C>>, Vec<C>>
-    requires few { vec_len workers < 1000 }
-    requires can { All C.can_run workers.items }
-    ensures workers { IfOk result (λ r. AllCameBack C.ran workers.items r.items) }
-    ensures short { IfErr result (λ r. r ≡ workers) }
-{
-    run_pool_some(rt, alloc, usize::MAX, workers)
 }

@@ -2,7 +2,7 @@ ghost use Rattle.std.specs.Prelude.{◌≡◌, ◌<◌, IfOk, vec_len};
 
 use crate::counting::Counting;
 use ann_key::NoMemory;
-use crew_round::{Back, Crew, run_pool, run_pool_some, run_round, run_some};
+use crew_round::{Back, Crew, Room, run_crew, run_workers};
 use std::alloc::{AllocError, Global};
 use std::sync::Wait;
 use std::sync::atomic::{AtomicU64, Ordering};
@@ -58,9 +58,11 @@ fn round<R: Threads + Wait + Sync>(
     requires { count < 100 }
 {
     let runs = AtomicU64::new(0);
-    let Ok(back) = run_some(rt, alloc, most, crew(alloc, &runs, count)?) else {
+    let crew = crew(alloc, &runs, count)?;
+    let Some(room) = Room::new(alloc, crew.workers.len()) else {
         return Err(NoMemory);
     };
+    let back = run_crew(rt, room, most, crew);
     let worked = ran_of(&back.workers);
     let counted = runs.load(Ordering::SeqCst);
     Ok((back.ear.has_run(), back.mouth.has_run(), worked, counted))
@@ -76,9 +78,11 @@ fn pool<R: Threads + Wait + Sync>(
     requires { count < 100 }
 {
     let runs = AtomicU64::new(0);
-    let Ok(back) = run_pool_some(rt, alloc, most, workers(alloc, &runs, count)?) else {
+    let workers = workers(alloc, &runs, count)?;
+    let Some(room) = Room::new(alloc, workers.len()) else {
         return Err(NoMemory);
     };
+    let back = run_workers(rt, room, most, workers);
     let ran = ran_of(&back);
     Ok((back.len() as u64, ran, runs.load(Ordering::SeqCst)))
 }
@@ -132,19 +136,5 @@ fn pools_of_few_threads(rt: HostRuntime) -> Result<(), Fail> {
             assert_eq!(rt; came, (*count, *ran, *ran), "{count} {most}");
         }
     }
-    Ok(())
-}
-
-// As many threads as there are roles.
-#[test]
-fn whole_rounds(rt: HostRuntime) -> Result<(), Fail> {
-    let runs = AtomicU64::new(0);
-    let Ok(_back) = run_round(&rt, rt.alloc(), crew(rt.alloc(), &runs, 64)?) else {
-        panic!(rt; "no memory")
-    };
-    let Ok(_back) = run_pool(&rt, rt.alloc(), workers(rt.alloc(), &runs, 64)?) else {
-        panic!(rt; "no memory")
-    };
-    assert_eq!(rt; runs.load(Ordering::SeqCst), 130);
     Ok(())
 }

@@ -56,11 +56,6 @@ Begins words told (Ok TooLarge) = (kept : List ℕ) × IsTextOf words told kept 
 Begins words told (Ok Fault) = Unit {0}
 Begins words told (Err e) = Unit {0}
 
--- ---- what its child is asked, as jobs 0 and 1
-
-abbrev pub init_requests : List (List ℕ)
-init_requests = codes "EXTENSIONS INFO GETGITREMOTENAME" ∷ codes "INITREMOTE" ∷ []
-
 -- ---- what it comes to
 
 abbrev pub setup_for : Verdict → Setup

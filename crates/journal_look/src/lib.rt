@@ -24,6 +24,6 @@ pub use looks::{
     has_no_open_job, has_no_start, has_open_job, has_spoken, is_all_sent, is_asked, is_claimed_by,
     is_ended, is_full, is_live, is_mute, is_offered, is_open, is_prepared, is_started, is_tagged,
     least_free, line_at, may_ask, next_job, on_wire, said_at, starts_so_far, unclaimed, verdict_of,
-    why_before, why_of,
+    why_of,
 };
 pub use tasks::{may_note, task_of};

@@ -66,14 +66,6 @@ pub fn why_of(journal: &Journal, child: u32) -> Option<Why>
     }
 }
 
-/// Why the child had ended before that place, if it had.
-pub fn why_before(journal: &Journal, at: u64, child: u32) -> Option<Why>
-    requires { at ≤ length journal.now.entries }
-    ensures { result ≡ why_of (take at journal.now.entries) child }
-{
-    children::why_of(&journal.entries()[..at as usize], child)
-}
-
 /// Whether the child has said a line.
 pub fn has_spoken(journal: &Journal, child: u32) -> bool
     ensures { result ≡ has_spoken journal.now.entries child }

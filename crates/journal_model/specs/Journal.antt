@@ -59,10 +59,6 @@ writes c (Ask child job task line) = if child == c then Some (Some job, line) el
 writes c (Put child job line) = if child == c then Some (None, line) else None
 writes c _ = None
 
-abbrev pub line_of_ask : ℕ → ℕ → What → Option (List ℕ)
-line_of_ask c j (Ask child job task line) = if child == c && job == j then Some line else None
-line_of_ask c j _ = None
-
 abbrev pub verdict_in : ℕ → ℕ → What → Option Verdict
 verdict_in c j (Settled child job verdict) = if child == c && job == j then Some verdict else None
 verdict_in c j _ = None

@@ -7,4 +7,4 @@ mod passes;
 
 pub use hall_door::HallDoor;
 pub use job::ask_job;
-pub use passes::{ask_by_pass, run_ear, run_mouth};
+pub use passes::{run_ear, run_mouth};

@@ -88,6 +88,3 @@ run_notings {journal} {t} run = notings_from journal t (past_claim run) 0 run.wi
 -- numbers 1 to 3 are the main thread's, the ear's and the mouth's, and in a pool number 1 is the main thread's.
 abbrev pub desk_of : List Entry → ℕ → ℕ → ℕ
 desk_of journal by child = if nat_le by 1 then 1 else if is_tagged journal child then by - 3 else by - 1
-
-abbrev pub run_desk : {journal : List Entry} → {t : ℕ} → TaskStretch journal t → ℕ
-run_desk {journal} run = desk_of journal run.by run.child
