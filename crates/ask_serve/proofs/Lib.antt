@@ -2,4 +2,3 @@ pub mod Fields
 pub mod KeyDirectories
 pub mod Owed
 pub mod Settable
-pub mod UrlLines

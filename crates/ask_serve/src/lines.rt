@@ -38,7 +38,7 @@ pub(crate) fn urls(
     ensures kept { IsKept registers.now }
 {
     let mut lines = Vec::new(alloc);
-    while let Some(url) = registers.url(key, prefix, lines.len()) {
+    for url in registers.urls(key, prefix)? {
         lines.push(value_line(alloc, url)?)?;
     }
     lines.push(value_line(alloc, b"")?)?;

@@ -1,7 +1,7 @@
 // The URLs of keys.
-ghost use Rattle.std.specs.Prelude.{◌≡◌, [], IfOk, OnOk, OnErr, ◌&&◌, nat_eq, bytes_eq, filter, map, option_map, option_copied, slice_get};
+ghost use Rattle.std.specs.Prelude.{◌≡◌, [], ◌∷◌, ◌++◌, IfOk, OnOk, OnErr, ◌&&◌, nat_eq, bytes_eq, filter, map, option_map, option_copied, slice_get};
 ghost use Rattle.std.specs.List.{starts_with};
-ghost use Rattle.reg_file.specs.Links.{with_link, without_link, urls_at};
+ghost use Rattle.reg_file.specs.Links.{link_of, with_link, without_link, urls_at};
 
 use ann_key::NoMemory;
 use std::alloc::Global;
@@ -63,6 +63,22 @@ impl Links {
         Some(link.1.as_slice())
     }
 
+    /// The URLs of the key that begin with the prefix, lent, in their order.
+    pub(crate) fn urls<'a>(
+        &'a self,
+        alloc: Global,
+        key: &[u8],
+        prefix: &[u8],
+    ) -> Result<Vec<&'a [u8]>, NoMemory>
+        ensures { IfOk result (λ urls. map (λ url. url.now) urls.items ≡ urls_at self.now key.now prefix.now) }
+    {
+        let mut urls = Vec::new(alloc);
+        for link in self.links.iter() {
+            push_match(&mut urls, link, key, prefix)?;
+        }
+        Ok(urls)
+    }
+
     pub(crate) fn entry(&self, n: usize) -> Option<(&[u8], &[u8])>
         ensures { option_map (λ e. (e.0.now, e.1.now)) result ≡ slice_get self.now n }
     {
@@ -96,6 +112,21 @@ fn matching<'a>(links: &'a BTreeSet<Link>, key: &[u8], prefix: &[u8], n: usize) 
         .iter()
         .filter(|link| is_match(link, key, prefix))
         .nth(n)
+}
+
+// Adds the link's URL, where it is one of the key that begins with the prefix.
+fn push_match<'a>(
+    urls: &mut Vec<&'a [u8]>,
+    link: &'a Link,
+    key: &[u8],
+    prefix: &[u8],
+) -> Result<(), NoMemory>
+    ensures { OnOk result (map (λ url. url.now) urls.new.items ≡ map (λ url. url.now) urls.old.items ++ urls_at (link_of link.now ∷ []) key.now prefix.now) }
+{
+    if is_match(link, key, prefix) {
+        urls.push(link.1.as_slice())?;
+    }
+    Ok(())
 }
 
 fn is_match(link: &Link, key: &[u8], prefix: &[u8]) -> bool

@@ -163,6 +163,14 @@ impl Registers {
         self.urls.url(key, prefix, n)
     }
 
+    /// The URLs of the key that begin with the prefix, in the order of `url`, in one pass. The list takes memory; the texts in it are lent.
+    pub fn urls<'a>(&'a self, key: &[u8], prefix: &[u8]) -> Result<Vec<&'a [u8]>, NoMemory>
+        ensures value { IfOk result (λ urls. map (λ url. url.now) urls.items ≡ urls_of self.now key.now prefix.now) }
+        ensures kept { IsKept self.now }
+    {
+        self.urls.urls(self.alloc, key, prefix)
+    }
+
     /// Gives the key the URL, or takes it away.
     pub fn set_url(&mut self, key: &[u8], url: &[u8], present: bool) -> Result<(), NoMemory>
         requires key { IsTrue (is_key key.now) }

@@ -1,16 +1,12 @@
-use Rattle.std.proofs.Common.{vec_len}
+use Rattle.std.proofs.Common.{◌++◌, List, ℕ, Bor, map, ap, ◌∙◌}
 use Rattle.reg_file.specs.Registers.{urls_of}
-use Rattle.ask_serve.proofs.UrlLines.{one_more, last_more}
+use Rattle.reg_file.proofs.Listing.{all_left}
+use Rattle.journal_model.specs.Replies.{value_line}
 use Rattle.ask_serve.proofs.lines.urls.Goals as goal
 
-pub loop-url-preserved : goal.loop-url-preserved
-loop-url-preserved c =
-    one_more (urls_of c.args.registers.now c.args.key.now c.args.prefix.now) c.loop-url.lines.items c.push.new.self.items
-    (vec_len c.loop-url.lines) c.len.result c.len.ensures c.loop-url.invariant c.in_ok-value_line.field-0 c.in_ok-push.ensures.items
-    (vec_len c.push.new.self) c.in-Some.url.now c.in_ok-push.ensures.len c.in-Some.ensures.value c.in_ok-value_line.ensures
-
-pub returns-clause-lines : goal.returns-clause-lines
-returns-clause-lines c =
-    last_more (urls_of c.args.registers.now c.args.key.now c.args.prefix.now) c.loop-url.lines.items c.push-2.new.self.items
-    (vec_len c.loop-url.lines) c.len.result c.len.ensures c.loop-url.invariant c.in_ok-value_line-2.field-0 c.in_ok-push-2.ensures.items
-    c.in_default.ensures.value c.in_ok-value_line-2.ensures
+pub loop-url-init : goal.loop-url-init
+loop-url-init c =
+    let urls : List (List ℕ) = urls_of c.args.registers.now c.args.key.now c.args.prefix.now in
+    all_left (λ (url : Bor (List ℕ)). url.now) value_line c.new-lines.result.items _ c.in_ok-url-items.url-items.items urls
+    c.into_iter-url-iterator.ensures.into_iter_gives.0 c.in_ok-url-items.ensures.value
+    ∙ ap (λ (before : List (List ℕ)). before ++ map value_line urls) c.new-lines.ensures.items
