@@ -47,17 +47,17 @@ fn print_row(rt: &(impl Print + AllocGlobal), scene: &mut Scene, row: &str) -> i
     }
 }
 
-fn print_rows(rt: &(impl Input + Print + AllocGlobal)) -> io::Result<()> {
-    let mut scene = Scene {
-        stage: Stage::new(rt.alloc()),
-        talking: Talking::new(),
-    };
+fn print_rows(rt: &(impl Input + Print + AllocGlobal), scene: &mut Scene) -> io::Result<()> {
     for row in rt.lines(rt.alloc()) {
-        print_row(rt, &mut scene, row?.as_str())?;
+        print_row(rt, scene, row?.as_str())?;
     }
     Ok(())
 }
 
 fn main(rt: HostRuntime) -> io::Result<()> {
-    print_rows(&rt)
+    let mut scene = Scene {
+        stage: Stage::new(rt.alloc()),
+        talking: Talking::new(),
+    };
+    print_rows(&rt, &mut scene)
 }

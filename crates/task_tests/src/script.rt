@@ -5,7 +5,7 @@ ghost use Rattle.annex_model.specs.Turns.{turn_of};
 ghost use Rattle.journal_model.specs.Projection.{IsNamed};
 ghost use Rattle.talk_serial.specs.Requests.{message_of};
 ghost use Rattle.task_run.specs.Askers.{Asking, Noting, AskAdds, NoteAdds, IsSameTask, names_in_line, are_layouts};
-ghost use Rattle.task_tests.specs.Scripts.{pair_of, note_of};
+ghost use Rattle.task_tests.specs.Scripts.{can_have, pair_of, note_of};
 
 use ann_key::NoMemory;
 use chunk_log::Layouts;
@@ -26,15 +26,21 @@ pub struct DoneAsker {
     ghost not_empty: { are_layouts layouts.items ≡ true },
 }
 
-#[tactic(auto, using(crate::proofs::Scripting::transferred, crate::proofs::Scripting::removed, crate::proofs::Scripting::not_there))]
-fn verdict_of(request: &Request) -> Verdict
-    ensures { IsNamed (message_of request.now) result }
+fn chosen(request: &Request) -> Verdict
+    ensures { can_have (message_of request.now) result ≡ true }
 {
     match request {
         Request::Transfer { .. } | Request::Remove { .. } => Verdict::Done { at: 1 },
         Request::CheckPresent { .. } => Verdict::Absent { at: 1 },
         _ => Verdict::Unsent,
     }
+}
+
+#[tactic(auto, using(crate::proofs::Scripting::is_named))]
+fn verdict_of(request: &Request) -> Verdict
+    ensures { IsNamed (message_of request.now) result }
+{
+    chosen(request)
 }
 
 impl DoneAsker {

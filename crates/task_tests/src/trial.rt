@@ -33,14 +33,26 @@ pub struct Outcome {
     pub desk: MemDesk,
 }
 
+fn file_of(alloc: Global, name: &str, text: &str) -> Result<(Text, Bytes), NoMemory> {
+    let name = Text::copy(alloc, name)?;
+    Ok((name, Bytes::copy(alloc, text.as_bytes())?))
+}
+
+fn files_of(alloc: Global, files: Files) -> Result<Vec<(Text, Bytes)>, NoMemory> {
+    let mut list = Vec::new(alloc);
+    for (name, text) in files {
+        list.push(file_of(alloc, name, text)?)?;
+    }
+    Ok(list)
+}
+
 // A desk with these files, on which the call of that number fails.
 fn desk_of(alloc: Global, files: Files, fails: u64) -> Result<MemDesk, NoMemory> {
-    let mut kept = Vec::new(alloc);
-    for (name, text) in files {
-        let name = Text::copy(alloc, name)?;
-        kept.push((name, Bytes::copy(alloc, text.as_bytes())?))?;
-    }
-    MemDesk::new(alloc, kept, Vec::from_slice(alloc, &[fails])?)
+    MemDesk::new(
+        alloc,
+        files_of(alloc, files)?,
+        Vec::from_slice(alloc, &[fails])?,
+    )
 }
 
 fn may_note(work: Work) -> bool
