@@ -1,10 +1,11 @@
 -- A host that is served a remote which also says what it is.
-use Rattle.std.specs.Prelude.{ℕ, ◌≡◌, ◌⊎◌, true, false, List, [], ◌++◌, map, Option, None, option_map}
+use Rattle.std.specs.Prelude.{ℕ, ◌≡◌, ◌&&◌, ◌⊎◌, true, false, List, [], ◌++◌, map, Option, Some, None, option_map}
 use Rattle.annex_model.specs.Messages.{host_reading}
 use Rattle.kit_core.specs.declared.call.Call.{Call}
 use Rattle.kit_core.specs.Kits.{calls_of}
 use Rattle.kit_core.specs.Stages.{KitValue, Follows, is_free, is_last}
-use Rattle.kit_core.specs.Descriptions.{Description}
+use Rattle.kit_core.specs.declared.kit.Step.{Step}
+use Rattle.kit_core.specs.Descriptions.{Description, aside_lines}
 use Rattle.kit_core.specs.Described.{Answered, read_as, kit_heard, is_about, described_lines, AreAnswered}
 use Rattle.kit_serve.specs.Ends.{status_of}
 use Rattle.kit_serve.specs.Sessions.{Lacks}
@@ -29,6 +30,11 @@ pub record Describes {R : Type 0} (settings_of : R → List (List ℕ)) (calls :
 pub record IsFoul {R : Type 0} (kit : KitValue R) (line : List ℕ) : Type 0 where
   pub busy : is_free kit.stage ≡ false
   pub reads : host_reading line ≡ None
+
+-- a line that goes aside is answered by what the remote says of itself now
+abbrev pub SaysAside : {R : Type 0} → (R → Description) → KitValue R → List ℕ → Option Step → Type 0
+SaysAside describes kit line None = (is_free kit.stage && is_about (host_reading line)) ≡ false
+SaysAside describes kit line (Some step) = (is_free kit.stage && is_about (host_reading line)) ≡ true → step.say ≡ aside_lines (describes kit.remote) (host_reading line)
 
 -- no memory was found for the kit's answer, or for one about its remote, which changes nothing
 abbrev pub DescribedLacks : {R : Type 0} → (R → List (List ℕ)) → (R → Option (List Call)) → KitValue R → KitValue R → List ℕ → Type 0

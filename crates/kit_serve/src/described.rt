@@ -1,12 +1,13 @@
 // A kit whose remote also says what it is.
-ghost use Rattle.std.specs.Prelude.{◌≡◌, ◌&&◌, ℕ, List, [], option_map, true, IfOk, IfSome, OnErr};
+ghost use Rattle.std.specs.Prelude.{◌≡◌, ◌&&◌, ℕ, List, [], option_map, true, false, IfOk, IfSome, OnErr};
+ghost use Rattle.annex_model.specs.Lines.{has_newline};
 ghost use Rattle.annex_model.specs.Messages.{host_reading};
 ghost use Rattle.wire_msg.specs.Shown.{host_shown};
 ghost use Rattle.kit_core.specs.Described.{is_about};
 ghost use Rattle.kit_core.specs.Stages.{Follows, is_free, is_last};
-ghost use Rattle.kit_serve.specs.Describing.{DescribedLacks, Describes, IsFoul, ServesDescribed};
+ghost use Rattle.kit_serve.specs.Describing.{DescribedLacks, Describes, IsFoul, SaysAside, ServesDescribed};
 ghost use Rattle.kit_serve.specs.Turns.{Half, Leaves};
-ghost use Rattle.kit_serve.specs.Voices.{Bytes};
+ghost use Rattle.kit_serve.specs.Voices.{Bytes, Replies};
 
 use crate::serving::{Served, talk};
 use crate::voice::Voice;
@@ -84,7 +85,13 @@ impl<R: Remote + Describe> Voice for Described<R> {
 
     ghost lacks = { DescribedLacks R.settings R.calls };
 
-    fn answer(&mut self, line: &[u8]) -> Result<Option<Step>, NoMemory> {
+    fn answer(&mut self, line: &[u8]) -> Result<Option<Step>, NoMemory>
+        requires live { is_last self.old.stage ≡ false }
+        requires line { has_newline line.now ≡ false }
+        ensures replies { IfOk result (Replies (Describes R.settings R.calls R.description) (λ kit. is_last kit.stage) IsFoul self.old self.new line.now) }
+        ensures lacks { OnErr result (DescribedLacks R.settings R.calls self.old self.new line.now) }
+        ensures aside { IfOk result (SaysAside R.description self.old line.now) }
+    {
         let message = read_host(line);
         if self.goes_aside(message) {
             let say = aside(self.alloc, self.kit.remote(), message)?;

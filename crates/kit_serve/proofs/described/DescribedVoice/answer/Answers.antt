@@ -50,3 +50,11 @@ returns-in_ok-step-in-Some-clause-replies g c =
           stays (c.step.ensures.settings ∙ ap (λ (k : KitValue _). settings k.remote) same),
       c.in_ok-step-in-Some.ensures.over,
     )
+
+pub returns-then-goes_aside-clause-aside : goal.returns-then-goes_aside-clause-aside
+returns-then-goes_aside-clause-aside g c =
+    let same : c.self.inside.kit ≡ c.args.self.now = cc in
+    let request : Option HostMessage = option_map host_shown c.read_host-message.result in λ goes.
+    c.in_ok-say.ensures.line ∙ ap (λ r. aside_lines (g.R.Describe.description r) request) c.remote.ensures
+    ∙ ap (λ (k : KitValue _). aside_lines (g.R.Describe.description k.remote) request) same
+    ∙ ap (aside_lines (g.R.Describe.description c.args.self.now.remote)) c.read_host-message.ensures.reading
