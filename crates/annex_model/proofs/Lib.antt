@@ -10,3 +10,4 @@ pub mod Shapes
 pub mod Strange
 pub mod TagReadings
 pub mod TalksGrow
+pub mod Words

@@ -5,7 +5,6 @@ mod answers;
 mod digits;
 mod fields;
 pub mod laws;
-mod lent;
 mod lines;
 mod printing;
 mod reading;

@@ -6,7 +6,6 @@ ghost use Rattle.entry_lines.specs.Fields.{followed};
 
 use crate::answers::push_answer;
 use crate::fields::{push_field, push_number, push_one, push_three, push_two};
-use crate::lent::lent;
 use crate::verdicts::push_verdict;
 use crate::whys::push_why;
 use ann_key::{Bytes, NoMemory};
@@ -18,7 +17,7 @@ use std::alloc::Global;
 pub fn print_entry(alloc: Global, entry: &Entry) -> Result<Bytes, NoMemory>
     ensures { IfOk result (λ line. line ≡ entry_line entry.now) }
 {
-    print_lent(alloc, lent(entry))
+    print_lent(alloc, EntryRef::of(entry))
 }
 
 /// The same of an entry that is lent.

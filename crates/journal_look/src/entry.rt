@@ -136,12 +136,14 @@ fn what_of(what: &What) -> WhatRef<'_>
     }
 }
 
-/// The entry, lent.
-pub(super) fn entry_of(entry: &Entry) -> EntryRef<'_>
-    ensures { entry_shown result ≡ entry.entry.now }
-{
-    EntryRef {
-        by: entry.by,
-        what: what_of(&entry.what),
+impl<'a> EntryRef<'a> {
+    /// The entry, lent. It takes no memory.
+    pub fn of(entry: &'a Entry) -> EntryRef<'a>
+        ensures { entry_shown result ≡ entry.entry.now }
+    {
+        EntryRef {
+            by: entry.by,
+            what: what_of(&entry.what),
+        }
     }
 }

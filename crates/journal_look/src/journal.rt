@@ -3,7 +3,7 @@ ghost use Rattle.std.specs.Prelude.{◌≡◌, ◌+◌, ◌-◌, ◌<◌, ◌≤
 ghost use Rattle.journal_look.specs.Shown.{entry_shown};
 
 use crate::cursors::{self, Cursor};
-use crate::entry::{EntryRef, entry_of};
+use crate::entry::EntryRef;
 use crate::held::{self, Held};
 use crate::jobs::{self, Open};
 use crate::life::{self, Life};
@@ -81,7 +81,7 @@ impl Journal {
         ensures { option_map entry_shown result ≡ slice_get self.now.entries at }
     {
         match self.entries.get(at as usize) {
-            Some(entry) => Some(entry_of(entry)),
+            Some(entry) => Some(EntryRef::of(entry)),
             None => None,
         }
     }

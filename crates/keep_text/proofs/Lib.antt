@@ -1,5 +1,4 @@
 pub mod Spelled
-pub mod Words
 pub mod Chunked
 pub mod Cutting
 pub mod Taking

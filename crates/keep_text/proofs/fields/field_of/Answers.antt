@@ -2,7 +2,7 @@ use Rattle.std.proofs.Common.{◌≡◌, ◌∙◌, sym, ap, ℕ, Option, None, 
 use Rattle.std.proofs.Math.Seq.{take_all}
 use Rattle.std.specs.Prelude.{position}
 use Rattle.annex_model.specs.Messages.{is_space}
-use Rattle.keep_text.proofs.Words.{field_from, field_by_position}
+use Rattle.annex_model.proofs.Words.{field_from, field_by_position}
 use Rattle.keep_text.proofs.fields.field_of.Goals as goal
 
 pub returns-in-None : goal.returns-in-None

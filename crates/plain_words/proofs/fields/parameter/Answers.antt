@@ -2,7 +2,7 @@ use Rattle.std.proofs.Common.{◌≡◌, ◌∙◌, sym, ap, ℕ, Option, None, 
 use Rattle.std.proofs.Math.Seq.{take_all}
 use Rattle.std.specs.Prelude.{position}
 use Rattle.annex_model.specs.Messages.{is_space, rest_field}
-use Rattle.wire_msg.proofs.Words.{field_from, field_by_position}
+use Rattle.annex_model.proofs.Words.{field_from, field_by_position}
 use Rattle.plain_words.proofs.fields.parameter.Goals as goal
 
 pub returns-in-None : goal.returns-in-None

@@ -1,7 +1,7 @@
 use Rattle.std.proofs.Common.{◌≡◌, ◌∙◌, sym, ap, ℕ, Option, None, Some}
 use Rattle.std.specs.Prelude.{position}
 use Rattle.annex_model.specs.Messages.{is_space}
-use Rattle.wire_msg.proofs.Words.{word_to, word_by_position}
+use Rattle.annex_model.proofs.Words.{word_to, word_by_position}
 use Rattle.wire_msg.proofs.fields.word_of.Goals as goal
 
 pub returns-in-None : goal.returns-in-None
