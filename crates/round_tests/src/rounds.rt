@@ -101,8 +101,14 @@ fn ready(rt: &impl Abort, alloc: Global, programs: &mut MemPrograms, core: &mut 
         Greeting::Ready {
             link,
             stub: _,
-            tagged: true,
-        } => link,
+            tagged,
+        } => {
+            if tagged {
+                link
+            } else {
+                panic!(rt; "the child takes no tags")
+            }
+        }
         _ => panic!(rt; "the child isn't ready"),
     }
 }

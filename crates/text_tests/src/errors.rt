@@ -1,14 +1,22 @@
 // Each error as text, with the place that it names.
 use ann_key::KeyRef;
 use chunk_log::read_line;
-use journal_reader::Reader;
-use keep_text::read_keep;
+use journal_reader::{JournalError, Reader};
+use keep_text::{KeepError, read_keep};
 use std::alloc::Global;
 use std::fmt::Display;
 use std::process::Abort;
 use std::test::Fail;
 
-fn expect(rt: &impl Abort, alloc: Global, error: &impl Display, want: &str) -> Result<(), Fail> {
+fn expect(
+    rt: &impl Abort,
+    alloc: Global,
+    error: &Option<impl Display>,
+    want: &str,
+) -> Result<(), Fail> {
+    let Some(error) = error else {
+        panic!(rt; "no error")
+    };
     let said = format!(in alloc; "{error}")?;
     assert_eq!(rt; said.as_str(), want);
     Ok(())
@@ -26,10 +34,7 @@ static KEYS: [Row; 4] = [
 #[test]
 fn an_error_of_a_key_names_its_place(rt: HostRuntime) -> Result<(), Fail> {
     for (key, want) in &KEYS {
-        let Err(error) = KeyRef::read(key) else {
-            panic!(rt; "no error")
-        };
-        expect(&rt, rt.alloc(), &error, want)?;
+        expect(&rt, rt.alloc(), &KeyRef::read(key).err(), want)?;
     }
     Ok(())
 }
@@ -43,26 +48,27 @@ static NOTES: [Row; 3] = [
 #[test]
 fn an_error_of_a_chunk_line_names_what_it_lacks(rt: HostRuntime) -> Result<(), Fail> {
     for (line, want) in &NOTES {
-        let Err(error) = read_line(rt.alloc(), line) else {
-            panic!(rt; "no error")
-        };
-        expect(&rt, rt.alloc(), &error, want)?;
+        expect(&rt, rt.alloc(), &read_line(rt.alloc(), line).err(), want)?;
     }
     Ok(())
 }
 
+fn kept(alloc: Global) -> Option<KeepError> {
+    read_keep(alloc, b"annex-keep 1\nconfig a 1\nstates WORM--a x\n").err()
+}
+
+fn pushed(alloc: Global) -> Option<JournalError> {
+    Reader::new(alloc).push(b"uuid x").err()
+}
+
+fn finished(alloc: Global) -> Option<JournalError> {
+    Reader::new(alloc).finish().err()
+}
+
 #[test]
 fn an_error_of_a_text_names_its_line(rt: HostRuntime) -> Result<(), Fail> {
-    let Err(error) = read_keep(rt.alloc(), b"annex-keep 1\nconfig a 1\nstates WORM--a x\n") else {
-        panic!(rt; "no error")
-    };
-    expect(&rt, rt.alloc(), &error, "line 3 is none of a kept file")?;
-    let Err(error) = Reader::new(rt.alloc()).push(b"uuid x") else {
-        panic!(rt; "no error")
-    };
-    expect(&rt, rt.alloc(), &error, "line 1 can't follow")?;
-    let Err(error) = Reader::new(rt.alloc()).finish() else {
-        panic!(rt; "no error")
-    };
-    expect(&rt, rt.alloc(), &error, "no end behind line 0")
+    let alloc = rt.alloc();
+    expect(&rt, alloc, &kept(alloc), "line 3 is none of a kept file")?;
+    expect(&rt, alloc, &pushed(alloc), "line 1 can't follow")?;
+    expect(&rt, alloc, &finished(alloc), "no end behind line 0")
 }
