@@ -40,9 +40,11 @@ pub fn worked_ends()
 
 /// What is said where the remote also answers requests about itself.
 pub fn worked_descriptions()
-    ensures said { described_lines settings described_session ≡ codes "CONFIG directory a folder" ∷ codes "CONFIGEND" ∷ (codes "COST " ++ decimal 100) ∷ codes "GETCONFIG directory" ∷ codes "PREPARE-SUCCESS"
-        ∷ codes "AVAILABILITY LOCAL" ∷ codes "INFOFIELD folder" ∷ codes "INFOVALUE d" ∷ codes "INFOEND" ∷ codes "UNSUPPORTED-REQUEST" ∷ codes "UNSUPPORTED-REQUEST" ∷ codes "CHECKPRESENT-FAILURE WORM--a" ∷ [] }
-    ensures untold { described_lines settings untold_session ≡ codes "UNSUPPORTED-REQUEST" ∷ codes "UNSUPPORTED-REQUEST" ∷ codes "UNSUPPORTED-REQUEST" ∷ codes "UNSUPPORTED-REQUEST" ∷ codes "WHEREIS-FAILURE" ∷ [] }
+    ensures said { described_lines settings described_session ≡ codes "CONFIG directory a folder" ∷ codes "CONFIGEND" ∷ (codes "COST " ++ decimal 100)
+        ∷ codes "GETCONFIG directory" ∷ codes "PREPARE-SUCCESS" ∷ codes "AVAILABILITY LOCAL" ∷ codes "INFOFIELD folder" ∷ codes "INFOVALUE d"
+        ∷ codes "INFOEND" ∷ codes "UNSUPPORTED-REQUEST" ∷ codes "UNSUPPORTED-REQUEST" ∷ codes "CHECKPRESENT-FAILURE WORM--a" ∷ [] }
+    ensures untold { described_lines settings untold_session ≡ codes "UNSUPPORTED-REQUEST" ∷ codes "UNSUPPORTED-REQUEST"
+        ∷ codes "UNSUPPORTED-REQUEST" ∷ codes "UNSUPPORTED-REQUEST" ∷ codes "WHEREIS-FAILURE" ∷ [] }
     ensures awaiting { described_lines settings awaiting_session ≡ codes "GETCONFIG directory" ∷ codes "ERROR unexpected message" ∷ [] }
 {}
 

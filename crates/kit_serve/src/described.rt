@@ -119,7 +119,8 @@ pub fn serve_described<R: Remote + Describe, S: Source, W: Sink>(
 ) -> Served<R>
     requires source { S.is_open source.old ≡ true }
     requires sink { W.is_open sink.old ≡ true }
-    ensures serves { ServesDescribed R.settings R.calls R.description remote result.remote (record { given = S.given source.old; taken = W.taken sink.old }) (record { given = S.given source.new; taken = W.taken sink.new }) result.status }
+    ensures serves { ServesDescribed R.settings R.calls R.description remote result.remote (record { given = S.given source.old; taken = W.taken sink.old })
+        (record { given = S.given source.new; taken = W.taken sink.new }) result.status }
     ensures end { result.status ≡ 0 → IfSome (S.left source.new) (λ bytes. bytes ≡ []) }
     ensures source { Leaves (record { faults = S.faults source.old; is_open = S.is_open source.old; number = S.number source.old })
         (record { faults = S.faults source.new; is_open = S.is_open source.new; number = S.number source.new }) (result.status ≡ 4) }

@@ -101,7 +101,8 @@ pub fn turn<V: Voice, S: Ear, W: Mouth>(
     requires flushed { W.is_flushed sink.old ≡ true }
     ensures goes { OnOk result ((begun : V) (old : Bytes) (turns : ℕ) → Talking V.spoke begun old (record { given = S.given source.old; taken = W.taken sink.old }) voice.old splitter.old.bytes turns
         → Talking V.spoke begun old (record { given = S.given source.new; taken = W.taken sink.new }) voice.new splitter.new.bytes (turns + 1)) }
-    ensures ended { IfErr result (λ end. (begun : V) (old : Bytes) (turns : ℕ) → Talking V.spoke begun old (record { given = S.given source.old; taken = W.taken sink.old }) voice.old splitter.old.bytes turns
+    ensures ended { IfErr result (λ end. (begun : V) (old : Bytes) (turns : ℕ)
+        → Talking V.spoke begun old (record { given = S.given source.old; taken = W.taken sink.old }) voice.old splitter.old.bytes turns
         → Talked V.spoke V.is_over V.is_foul V.lacks begun old (record { given = S.given source.new; taken = W.taken sink.new }) voice.new end) }
     ensures turned { Turned (record { rooms = S.rooms source.old; given = S.given source.old; taken = W.taken sink.old; flushed = W.is_flushed sink.old })
         (record { rooms = S.rooms source.new; given = S.given source.new; taken = W.taken sink.new; flushed = W.is_flushed sink.new }) splitter.old.bytes }
@@ -162,7 +163,8 @@ pub fn talk<V: Voice, S: Ear, W: Mouth>(
     requires open { (S.is_open source.old ≡ true) × (W.is_open sink.old ≡ true) }
     requires live { V.is_over voice.old ≡ false }
     requires begins { V.spoke voice.old voice.old [] [] }
-    ensures ended { Talked V.spoke V.is_over V.is_foul V.lacks voice.old (record { given = S.given source.old; taken = W.taken sink.old }) (record { given = S.given source.new; taken = W.taken sink.new }) voice.new result }
+    ensures ended { Talked V.spoke V.is_over V.is_foul V.lacks voice.old (record { given = S.given source.old; taken = W.taken sink.old })
+        (record { given = S.given source.new; taken = W.taken sink.new }) voice.new result }
     ensures flushed { (result ≡ WriteFault → ⊥) → W.is_flushed sink.new ≡ true }
     ensures spent { IsSpent (Some result) (S.left source.new) }
     ensures source { Leaves (record { faults = S.faults source.old; is_open = S.is_open source.old; number = S.number source.old })
