@@ -26,8 +26,8 @@ loop-at-preserved c =
 
 pub loop-at-init : goal.loop-at-init
 loop-at-init c = (
-      sym (
+  sym (
       ap (λ (es : List Entry). c.args.journal.now.entries ++ es) (none_pushed (take c.args.past.n c.args.journal.now.entries) c.args.by c.args.child c.args.past.n c.args.verdict c.args.unsent c.args.past.from c.requires.past.none)
-          ∙ append-nil c.args.journal.now.entries),
-      refl,
-    )
+      ∙ append-nil c.args.journal.now.entries),
+  refl,
+)
