@@ -1,5 +1,7 @@
 // Reads an input and audits it.
-ghost use Rattle.std.specs.Prelude.{◌≡◌, ℕ, List, IfSome, true};
+ghost use Rattle.std.specs.Prelude.{◌≡◌, ℕ, List, IfOk, IfSome, true};
+ghost use Rattle.journal_audit.specs.Audits.{IsAudit};
+ghost use Rattle.journal_model.specs.Beginnings.{MayBegin};
 ghost use Rattle.ann_outside.specs.Causes.{StaysUntold};
 ghost use Rattle.task_input.specs.Reads.{HasGiven};
 ghost use Rattle.audit_run.specs.Inputs.{ComesTo};
@@ -9,8 +11,11 @@ ghost use Rattle.audit_run.specs.Steps.{Holds, IsStep};
 use crate::error::AuditError;
 use crate::intake::Intake;
 use crate::limits::Limits;
+use ann_key::NoMemory;
 use ann_outside::{Failed, Source};
 use journal_audit::{Audit, audit};
+use journal_look::Journal;
+use journal_model::Opening;
 use std::alloc::Global;
 
 const STEP: usize = 4096;
@@ -32,8 +37,16 @@ pub fn audit_input<S: Source>(
 {
     let intake = take_all(alloc, source, limits)?;
     let (opening, journal) = intake.finish()?;
-    let found = audit(alloc, &opening, &journal)?;
+    let found = audit_all(alloc, opening, journal)?;
     Ok(found)
+}
+
+// What is found of the journal, which goes with its opening when that is done.
+fn audit_all(alloc: Global, opening: Opening, journal: Journal) -> Result<Audit, NoMemory>
+    requires { MayBegin opening }
+    ensures audit { IfOk result (IsAudit opening journal.entries) }
+{
+    audit(alloc, &opening, &journal)
 }
 
 // Takes what the source gives up to its end, or until a limit is passed.

@@ -190,10 +190,10 @@ where
     ensures leaves { Leaves (result.end ≡ Memory) words.now.program result.journal.entries (programs_value (P.starts programs.old) (P.faults programs.old)) (programs_value (P.starts programs.new) (P.faults programs.new)) (map (wire_value P.Inlet.taken P.Inlet.faults P.Inlet.number P.Inlet.is_open P.Outlet.given P.Outlet.left P.Outlet.faults P.Outlet.number P.Outlet.is_open) wires.new.items) }
 {
     let mut crew = crew;
-    let Ok(ready) = prepare(alloc, words, opening) else {
+    let Ok(()) = ask_desks(desks, words.jobs, &mut crew) else {
         return Worked::nothing(alloc, crew, RunEnd::Memory);
     };
-    let Ok(()) = ask_desks(desks, words.jobs, &mut crew) else {
+    let Ok(ready) = prepare(alloc, words, opening) else {
         return Worked::nothing(alloc, crew, RunEnd::Memory);
     };
     do_all(rt, alloc, words, ready, programs, desk, crew, wires)

@@ -2,22 +2,17 @@ use Rattle.std.proofs.Common.{◌∙◌, map, sym, ap}
 use Rattle.std.proofs.lemmas.List.{length-map}
 use Rattle.child_end.specs.Outsides.{table_value}
 use Rattle.child_end.specs.Programs.{programs_value}
-use Rattle.run_tasks.proofs.Leaving.{leaves_nothing, adds_no_worker, adds_as_many}
+use Rattle.run_tasks.proofs.Leaving.{leaves_nothing, adds_as_many}
 use Rattle.run_tasks.proofs.rounds.work.Goals as goal
-
-pub returns-in_default-clause-desks : goal.returns-in_default-clause-desks
-returns-in_default-clause-desks g c =
-    let value = table_value g.K.Desk.Desk.counts g.K.Desk.Desk.files g.K.Desk.Desk.log in
-    adds_no_worker c.args.words.now.jobs (g.K.Desks.made c.args.desks.now) (map value c.nothing.result.crew.items) (ap (λ v. map value v.items) c.nothing.ensures.crew ∙ ap (map value) c.requires.crew.0)
 
 pub returns-in_default-clause-leaves : goal.returns-in_default-clause-leaves
 returns-in_default-clause-leaves g c =
     leaves_nothing _ (programs_value (g.P.Programs.starts c.args.programs.now) (g.P.Programs.faults c.args.programs.now)) c.args.words.now.program c.nothing.result.journal.entries _ c.nothing.ensures.journal (ap (map _) c.requires.none)
 
-pub returns-in_default-ask_desks-clause-leaves : goal.returns-in_default-ask_desks-clause-leaves
-returns-in_default-ask_desks-clause-leaves g c =
-    leaves_nothing _ (programs_value (g.P.Programs.starts c.args.programs.now) (g.P.Programs.faults c.args.programs.now)) c.args.words.now.program c.nothing-in_default-ask_desks.result.journal.entries _
-    c.nothing-in_default-ask_desks.ensures.journal (ap (map _) c.requires.none)
+pub returns-in_default-prepare-clause-leaves : goal.returns-in_default-prepare-clause-leaves
+returns-in_default-prepare-clause-leaves g c =
+    leaves_nothing _ (programs_value (g.P.Programs.starts c.args.programs.now) (g.P.Programs.faults c.args.programs.now)) c.args.words.now.program c.nothing-in_default-prepare.result.journal.entries _
+    c.nothing-in_default-prepare.ensures.journal (ap (map _) c.requires.none)
 
 pub returns-clause-desks : goal.returns-clause-desks
 returns-clause-desks g c =
@@ -25,4 +20,4 @@ returns-clause-desks g c =
     let asked = c.ask_desks.new.crew in
     let back = c.do_all.result.crew in
     adds_as_many c.args.words.now.jobs (g.K.Desks.made c.args.desks.now) (g.K.Desks.made c.ask_desks.new.desks) (map value asked.items) (map value back.items)
-    (length-map back.items value ∙ sym back.ok.0 ∙ c.do_all.ensures.crew ∙ sym c.in-Ok-ask_desks.ensures.all ∙ asked.ok.0 ∙ sym (length-map asked.items value)) c.ask_desks.ensures.desks
+    (length-map back.items value ∙ sym back.ok.0 ∙ c.do_all.ensures.crew ∙ sym c.in-Ok.ensures.all ∙ asked.ok.0 ∙ sym (length-map asked.items value)) c.ask_desks.ensures.desks
