@@ -9,7 +9,7 @@ ghost use Rattle.special_cli.specs.Endings.{is_well};
 ghost use Rattle.special_cli.specs.Informs.{info_status};
 ghost use Rattle.special_cli.specs.Sayings.{Says, SaysEnd};
 ghost use Rattle.special_cli.specs.declared.end.End.TheVariants.{Informed};
-ghost use Rattle.special_cli.specs.Tells.{flow, IsDoneTold, IsSetUpTold, IsToldOf, answer_lines, answers_status};
+ghost use Rattle.special_cli.specs.Tells.{flow, IsDoneTold, IsEndTold, IsSetUpTold, IsToldOf, answer_lines, answers_status};
 
 use crate::closing::Closing;
 use crate::end::End;
@@ -38,9 +38,25 @@ pub(crate) fn tell<P: Programs, K: Desks, O: Sink, E: Sink>(
     ensures left { result.left ≡ ran.left }
     ensures told { IsToldOf ran.left result.status (flow (O.faults out.old) (O.faults out.new) (O.taken out.old) (O.taken out.new)) (flow (E.faults err.old) (E.faults err.new) (E.taken err.old) (E.taken err.new)) ran.end }
 {
-    let saying = saying_of(alloc, &ran.end, &ran.journal, &ran.answers);
-    let status = saying.say(out, err);
+    let status = say_end(alloc, &ran.end, &ran.journal, &ran.answers, out, err);
     ran.close(status)
+}
+
+// Says the end, and gives the status.
+fn say_end<O: Sink, E: Sink>(
+    alloc: Global,
+    end: &End,
+    journal: &Journal,
+    answers: &[Answer],
+    out: &mut O,
+    err: &mut E,
+) -> u8
+    requires open { (O.is_open out.old ≡ true) × (E.is_open err.old ≡ true) }
+    requires few { length answers.now ≤ 65536 }
+    ensures { IsEndTold journal.now.entries answers.now result (flow (O.faults out.old) (O.faults out.new) (O.taken out.old) (O.taken out.new)) (flow (E.faults err.old) (E.faults err.new) (E.taken err.old) (E.taken err.new)) end.now }
+{
+    let saying = saying_of(alloc, end, journal, answers);
+    saying.say(out, err)
 }
 
 // What is said of an end.
