@@ -1,0 +1,11 @@
+pub mod Settings
+pub mod Plans
+pub mod Openings
+pub mod Children
+pub mod Rule
+pub mod Asking
+pub mod Mirrors
+pub mod Beginnings
+pub mod Describing
+pub mod Sessions
+pub mod Rows
