@@ -4,4 +4,6 @@ mod Reading
 mod Serving
 mod Stopping
 mod Greeting
+mod Begun
+mod Preparing
 mod Everywhere

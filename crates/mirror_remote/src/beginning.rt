@@ -54,7 +54,8 @@ fn begin<P: Programs>(
 where
     P::Inlet: Drop,
     P::Outlet: Drop,
-    ensures { BeginsAs plan.now (programs_value (P.starts programs.old) (P.faults programs.old)) (programs_value (P.starts programs.new) (P.faults programs.new)) result }
+    ensures begins { BeginsAs plan.now (programs_value (P.starts programs.old) (P.faults programs.old)) (programs_value (P.starts programs.new) (P.faults programs.new)) result }
+    ensures later { P.faults programs.old ≤ P.faults programs.new }
 {
     let number = plan.number;
     let Ok(mut core) = new_core(alloc, &plan.registers) else {
@@ -120,6 +121,7 @@ where
     requires none { children.old.items ≡ [] }
     requires room { vec_len children.old + length plans.now ≤ vec_capacity children.old }
     ensures begins { BeginsAllAs plans.now (programs_value (P.starts programs.old) (P.faults programs.old)) (programs_value (P.starts programs.new) (P.faults programs.new)) children.new.items result }
+    ensures later { P.faults programs.old ≤ P.faults programs.new }
 {
     for plan in plans {
         match begin(alloc, programs, plan) {

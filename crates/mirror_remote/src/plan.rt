@@ -87,13 +87,13 @@ fn registers_of(alloc: Global, words: &[&str]) -> Result<Option<Registers>, NoMe
 fn plan_of(alloc: Global, number: u32, words: &[&str]) -> Result<Option<Plan>, NoMemory>
     ensures { IfOk result (λ p. p ≡ (if are_plan (map (λ w. w.now) words.now) then Some (plan_of number (map (λ w. w.now) words.now)) else None)) }
 {
-    let [program, pairs @ ..] = words else {
+    let Some(program) = words.first() else {
         return Ok(None);
     };
     if program.is_empty() {
         return Ok(None);
     }
-    let Some(registers) = registers_of(alloc, pairs)? else {
+    let Some(registers) = registers_of(alloc, &words[1..])? else {
         return Ok(None);
     };
     Ok(Some(Plan {
