@@ -1,17 +1,19 @@
 -- From one child that was asked to the next, and what is said of the last.
-use Rattle.std.proofs.Common.{◌≡◌, ◌∙◌, ℕ, zero, suc, ◌+◌, ◌≤◌, ◌<◌, List, [], ◌∷◌, ◌++◌, refl, sym, ap, subst, Bool, true, false, not, ◌==◌, length, set, get_or, arith}
-use Rattle.std.specs.Prelude.{◌&&◌, ◌||◌}
+use Rattle.std.proofs.Common.{◌≡◌, ◌⊎◌, inl, inr, ◌∙◌, ℕ, zero, suc, ◌+◌, ◌≤◌, ◌<◌, List, [], ◌∷◌, ◌++◌, refl, sym, ap, subst, Bool, true, false, not, ◌==◌, length, length-append, slice_set, slice_index_or, arith}
+use Rattle.std.specs.Prelude.{◌&&◌, ◌||◌, if◌then◌else◌, codes}
 use Rattle.std.specs.List.{list_all, list_any}
 use Rattle.annex_model.specs.Messages.{HostMessage}
 use Rattle.journal_model.specs.declared.verdict.Verdict.{Verdict}
 use Rattle.journal_model.specs.declared.verdict.Verdict.TheVariants.{Done, Failed, Absent, Unknown, Unsupported, Ended, Unsent}
 use Rattle.journal_model.specs.declared.opening.Opening.{Opening}
 use Rattle.journal_model.specs.declared.entry.Entry.{Entry}
-use Rattle.journal_model.proofs.Looks.{both}
+use Rattle.journal_model.proofs.Looks.{both, same}
 use Rattle.link_roles.specs.Alone.{AskedAlone}
 use Rattle.kit_core.specs.declared.call.Said.{Said}
+use Rattle.kit_core.specs.declared.call.Said.TheVariants.{Yes, No}
 use Rattle.mirror_remote.specs.Children.{ChildValue, AreServing, IsServing}
-use Rattle.mirror_remote.specs.Rule.{AreAsBefore, AsksFront, GoesOn, IsAsBefore, IsAsked, is_absent, is_done, last_refusal, refusal}
+use Rattle.mirror_remote.specs.Asking.{AskedTo, AsksAt, LeavesAt}
+use Rattle.mirror_remote.specs.Rule.{all_said, check_said, failure, is_absent, is_done, is_enough, is_starved, last_refusal, refusal, retrieve_said, Answers, AreAsBefore, AsksFront, GoesOn, IsAsBefore, IsAsked}
 
 -- ---- children as before
 
@@ -45,7 +47,7 @@ goes_again goes w More cs now vs e h = subst (λ (b : Bool). GoesOn b More cs no
 
 -- The children before this place were asked and went on, and this one was asked: then it is among those that were asked.
 pub front_next : (goes : Verdict → Bool) (q : HostMessage) (old now : List ChildValue) (vs : List Verdict) (i : ℕ) (c c' : ChildValue) (v : Verdict)
-    → AsksFront goes q old now vs → list_all goes vs ≡ true → length vs ≡ i → i < length now → get_or now i c ≡ c → IsAsked q c c' v → AsksFront goes q old (set now i c') (vs ++ v ∷ [])
+    → AsksFront goes q old now vs → list_all goes vs ≡ true → length vs ≡ i → i < length now → slice_index_or now i c ≡ c → IsAsked q c c' v → AsksFront goes q old (slice_set now i c') (vs ++ v ∷ [])
 front_next goes q [] [] [] i c c' v front went place within here asked = absurd (omega arith)
 front_next goes q [] (e ∷ now) [] i c c' v front went place within here asked = absurd front
 front_next goes q (d ∷ old) [] [] i c c' v front went place within here asked = absurd front
@@ -60,11 +62,11 @@ front_next goes q (d ∷ old) (e ∷ now) (w ∷ vs) (suc i) c c' v front went p
     let next : length vs ≡ i = omega (arith, place) in
     let inside : i < length now = omega (arith, within) in
     let rest = front_next goes q old now vs i c c' v (went_on goes w (AsksFront goes q old now vs) old now vs t.0 front.1) t.1 next inside here asked in
-    (front.0, goes_again goes w (AsksFront goes q old (set now i c') (vs ++ v ∷ [])) old (set now i c') (vs ++ v ∷ []) t.0 rest)
+    (front.0, goes_again goes w (AsksFront goes q old (slice_set now i c') (vs ++ v ∷ [])) old (slice_set now i c') (vs ++ v ∷ []) t.0 rest)
 
 -- nothing came of asking this one: then those before it were asked
 pub front_same : (goes : Verdict → Bool) (q : HostMessage) (old now : List ChildValue) (vs : List Verdict) (i : ℕ) (c c' : ChildValue)
-    → AsksFront goes q old now vs → list_all goes vs ≡ true → length vs ≡ i → i < length now → get_or now i c ≡ c → IsAsBefore c c' → AsksFront goes q old (set now i c') vs
+    → AsksFront goes q old now vs → list_all goes vs ≡ true → length vs ≡ i → i < length now → slice_index_or now i c ≡ c → IsAsBefore c c' → AsksFront goes q old (slice_set now i c') vs
 front_same goes q [] [] [] i c c' front went place within here same = absurd (omega arith)
 front_same goes q [] (e ∷ now) [] i c c' front went place within here same = absurd front
 front_same goes q (d ∷ old) [] [] i c c' front went place within here same = absurd front
@@ -79,7 +81,7 @@ front_same goes q (d ∷ old) (e ∷ now) (w ∷ vs) (suc i) c c' front went pla
     let next : length vs ≡ i = omega (arith, place) in
     let inside : i < length now = omega (arith, within) in
     let rest = front_same goes q old now vs i c c' (went_on goes w (AsksFront goes q old now vs) old now vs t.0 front.1) t.1 next inside here same in
-    (front.0, goes_again goes w (AsksFront goes q old (set now i c') vs) old (set now i c') vs t.0 rest)
+    (front.0, goes_again goes w (AsksFront goes q old (slice_set now i c') vs) old (slice_set now i c') vs t.0 rest)
 
 before_length : (old new : List ChildValue) → AreAsBefore old new → length new ≡ length old
 before_length [] [] h = refl
@@ -98,14 +100,25 @@ front_length goes q (c ∷ old) (d ∷ new) (v ∷ vs) h = ap (λ (n : ℕ). suc
     go true k = front_length goes q old new vs k
     go false k = before_length old new k.0
 
+-- no more verdicts than children
+pub front_fits : (goes : Verdict → Bool) (q : HostMessage) (old new : List ChildValue) (vs : List Verdict) → AsksFront goes q old new vs → length vs ≤ length new
+front_fits goes q old new [] h = omega arith
+front_fits goes q [] new (v ∷ vs) h = absurd h
+front_fits goes q (c ∷ old) [] (v ∷ vs) h = absurd h
+front_fits goes q (c ∷ old) (d ∷ new) (v ∷ vs) h = go (goes v) h.1
+  where
+    go : (b : Bool) → GoesOn b (AsksFront goes q old new vs) old new vs → length (v ∷ vs) ≤ length (d ∷ new)
+    go true k = let fits = front_fits goes q old new vs k in omega (arith, fits)
+    go false k = let none : length vs ≡ 0 = ap (λ (xs : List Verdict). length xs) k.1 in omega (arith, none)
+
 -- ---- they serve on
 
-pub serving_set : (cs : List ChildValue) (i : ℕ) (c : ChildValue) → AreServing cs → IsServing c → AreServing (set cs i c)
+pub serving_set : (cs : List ChildValue) (i : ℕ) (c : ChildValue) → AreServing cs → IsServing c → AreServing (slice_set cs i c)
 serving_set [] i c h s = tt
 serving_set (x ∷ cs) zero c h s = (s, h.1)
 serving_set (x ∷ cs) (suc i) c h s = (h.0, serving_set cs i c h.1 s)
 
-pub serving_at : (cs : List ChildValue) (i : ℕ) (c : ChildValue) → AreServing cs → i < length cs → get_or cs i c ≡ c → IsServing c
+pub serving_at : (cs : List ChildValue) (i : ℕ) (c : ChildValue) → AreServing cs → i < length cs → slice_index_or cs i c ≡ c → IsServing c
 serving_at [] i c h within here = absurd (omega arith)
 serving_at (x ∷ cs) zero c h within here = subst IsServing here h.0
 serving_at (x ∷ cs) (suc i) c h within here = serving_at cs i c h.1 (omega (arith, within)) here
@@ -157,8 +170,120 @@ none_done (v ∷ vs) h =
     flip false k = refl
 
 -- the refusal of the child at this place
-pub last_is : (cs : List ChildValue) (before : List Verdict) (v : Verdict) (c : ChildValue) → length before < length cs → get_or cs (length before) c ≡ c → last_refusal cs (before ++ v ∷ []) ≡ refusal c v
+pub last_is : (cs : List ChildValue) (before : List Verdict) (v : Verdict) (c : ChildValue) → length before < length cs → slice_index_or cs (length before) c ≡ c → last_refusal cs (before ++ v ∷ []) ≡ refusal c v
 last_is [] before v c within here = absurd (omega arith)
 last_is (x ∷ cs) [] v c within here = ap (λ (y : ChildValue). refusal y v) here
 last_is (x ∷ cs) (w ∷ []) v c within here = last_is cs [] v c (omega (arith, within)) here
 last_is (x ∷ cs) (w ∷ u ∷ before) v c within here = last_is cs (u ∷ before) v c (omega (arith, within)) here
+
+-- ---- one turn of the loop
+
+-- what the loop knows: the children before this place were asked and went on, and none of them wanted memory
+pub record IsAt (goes : Verdict → Bool) (q : HostMessage) (old now : List ChildValue) (at : ℕ) : Type 0 where
+  pub verdicts : List Verdict
+  pub place : length verdicts ≡ at
+  pub front : AsksFront goes q old now verdicts
+  pub went : list_all goes verdicts ≡ true
+  pub fed : list_any is_starved verdicts ≡ false
+  pub serving : AreServing now
+  pub many : length now ≡ length old
+
+pub at_first : (goes : Verdict → Bool) (q : HostMessage) (cs : List ChildValue) → AreServing cs → IsAt goes q cs cs 0
+at_first goes q cs s = record { verdicts = []; place = refl; front = before_refl cs; went = refl; fed = refl; serving = s; many = refl }
+
+module _ (goes : Verdict → Bool) (q : HostMessage) (old now new : List ChildValue) (at : ℕ) (a : IsAt goes q old now at) (within : at < length old) where
+  inside : at < length now
+  inside = let m = a.many in omega (arith, within, m)
+
+  -- it was asked
+  pub asked_front : (v : Verdict) → AsksAt q at now new v → AsksFront goes q old new (a.verdicts ++ v ∷ [])
+  asked_front v (c, c', here, asked, is) =
+      subst (λ (cs : List ChildValue). AsksFront goes q old cs (a.verdicts ++ v ∷ [])) (sym is) (front_next goes q old now a.verdicts at c c' v a.front a.went a.place inside here asked)
+
+  -- nothing was asked of it
+  pub left_front : LeavesAt at now new → AsksFront goes q old new a.verdicts
+  left_front (c, c', here, same, is) =
+      subst (λ (cs : List ChildValue). AsksFront goes q old cs a.verdicts) (sym is) (front_same goes q old now a.verdicts at c c' a.front a.went a.place inside here same)
+
+  -- it went on
+  pub at_next : (v : Verdict) → AsksAt q at now new v → goes v ≡ true → is_starved v ≡ false → AreServing new → IsAt goes q old new (at + 1)
+  at_next v asked on fed serving = record {
+    verdicts = a.verdicts ++ v ∷ [];
+    place = let one : length (a.verdicts ++ v ∷ []) ≡ length a.verdicts + 1 = length-append a.verdicts (v ∷ []) in one ∙ ap (λ (n : ℕ). n + 1) a.place;
+    front = asked_front v asked;
+    went = all_last goes a.verdicts v a.went ∙ on;
+    fed = any_last is_starved a.verdicts v a.fed ∙ fed;
+    serving = serving;
+    many = front_length goes q old new (a.verdicts ++ v ∷ []) (asked_front v asked);
+  }
+
+  -- it is the last
+  pub asked_to : (v : Verdict) → AsksAt q at now new v → (goes v ≡ false) ⊎ (at + 1 ≡ length old) → is_starved v ≡ false → AskedTo goes q old new at v
+  asked_to v asked last fed = record {
+    before = a.verdicts;
+    place = a.place;
+    asked = asked_front v asked;
+    went = a.went;
+    enough = enough last;
+    fed = any_last is_starved a.verdicts v a.fed ∙ fed;
+  }
+    where
+      counted : length (a.verdicts ++ v ∷ []) ≡ at + 1
+      counted = length-append a.verdicts (v ∷ []) ∙ ap (λ (n : ℕ). n + 1) a.place
+
+      enough : (goes v ≡ false) ⊎ (at + 1 ≡ length old) → is_enough goes old (a.verdicts ++ v ∷ []) ≡ true
+      enough (inl over) = ap (λ (b : Bool). not b || length (a.verdicts ++ v ∷ []) == length old) (all_last goes a.verdicts v a.went ∙ over)
+      enough (inr whole) = ap (λ (n : ℕ). not (list_all goes (a.verdicts ++ v ∷ [])) || n == length old) (counted ∙ whole) ∙ or_same (not (list_all goes (a.verdicts ++ v ∷ []))) (length old)
+        where
+          or_same : (b : Bool) (n : ℕ) → (b || n == n) ≡ true
+          or_same true n = refl
+          or_same false n = same n
+
+-- ---- what is said of it
+
+module _ (q : HostMessage) (old new : List ChildValue) (at : ℕ) (v : Verdict) where
+  module _ (a : AskedTo is_done q old new at v) where
+    pub said_done : is_done v ≡ true → list_all is_done (a.before ++ v ∷ []) ≡ true
+    said_done h = all_last is_done a.before v a.went ∙ h
+
+    within : at < length new
+    within =
+        let many : length new ≡ length old = front_length is_done q old new (a.before ++ v ∷ []) a.asked in
+        let fits : length (a.before ++ v ∷ []) ≤ length new = front_fits is_done q old new (a.before ++ v ∷ []) a.asked in
+        let one : length (a.before ++ v ∷ []) ≡ length a.before + 1 = length-append a.before (v ∷ []) in
+        let place = a.place in
+        omega (arith, many, fits, one, place)
+
+    refused_by : (c : ChildValue) → slice_index_or new at c ≡ c → last_refusal new (a.before ++ v ∷ []) ≡ refusal c v
+    refused_by c here =
+        let inside : length a.before < length new = subst (λ (n : ℕ). n < length new) (sym a.place) within in
+        last_is new a.before v c inside (subst (λ (n : ℕ). slice_index_or new n c ≡ c) (sym a.place) here)
+
+    pub answers_all : (said : Said) → said ≡ (if is_done v then Yes else last_refusal new (a.before ++ v ∷ [])) → Answers is_done q all_said old new said
+    answers_all said is = record {
+      verdicts = a.before ++ v ∷ [];
+      asked = a.asked;
+      enough = a.enough;
+      fed = a.fed;
+      is = is ∙ ap (λ (b : Bool). if b then Yes else last_refusal new (a.before ++ v ∷ [])) (sym (all_last is_done a.before v a.went));
+    }
+
+    pub answers_check : (said : Said) → said ≡ (if is_done v then Yes else if is_absent v then No else last_refusal new (a.before ++ v ∷ [])) → Answers is_done q check_said old new said
+    answers_check said is = record {
+      verdicts = a.before ++ v ∷ [];
+      asked = a.asked;
+      enough = a.enough;
+      fed = a.fed;
+      is =
+          is ∙ ap (λ (b : Bool). if b then Yes else if is_absent v then No else last_refusal new (a.before ++ v ∷ [])) (sym (all_last is_done a.before v a.went))
+          ∙ ap (λ (b : Bool). if list_all is_done (a.before ++ v ∷ []) then Yes else if b then No else last_refusal new (a.before ++ v ∷ [])) (sym (any_last is_absent a.before v (none_absent a.before a.went)));
+    }
+
+  pub answers_any : AskedTo (λ v. not (is_done v)) q old new at v → (said : Said) → said ≡ (if is_done v then Yes else failure (codes "no mirror gave it")) → Answers (λ v. not (is_done v)) q retrieve_said old new said
+  answers_any a said is = record {
+    verdicts = a.before ++ v ∷ [];
+    asked = a.asked;
+    enough = a.enough;
+    fed = a.fed;
+    is = is ∙ ap (λ (b : Bool). if b then Yes else failure (codes "no mirror gave it")) (sym (any_last is_done a.before v (none_done a.before a.went)));
+  }

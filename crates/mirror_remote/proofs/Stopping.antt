@@ -18,7 +18,7 @@ use Rattle.journal_model.proofs.Projecting.{parts_fit}
 use Rattle.link_roles.specs.Alone.{Closes}
 use Rattle.link_roles.specs.Writings.{LoneWired, is_written_first}
 use Rattle.child_end.specs.Wires.{WireValue, AreWires, IsLeft, IsOfStart, IsWire, came, came_in, is_served_alone}
-use Rattle.mirror_remote.specs.Children.{ChildValue, LogValue, StoppedValue, AreLinked, AreServing, AreSoundLogs, AreWired, IsLinked, IsSound, IsUnwired, Stops, StopsAll}
+use Rattle.mirror_remote.specs.Children.{ChildValue, LogValue, StoppedValue, AreLinked, AreServing, AreSoundChildren, AreSoundLogs, AreWired, IsLinked, IsSound, IsUnwired, Stops, StopsAll}
 
 -- ---- what a list of entries of one child doesn't say
 
@@ -58,6 +58,9 @@ came_closed past journal h = go (is_ended past 1) h
 
 -- ---- it was stopped
 
+pub sound : (o : Opening) (journal : List Entry) → Legal o journal → IsSound o journal
+sound o journal legal = record { legal = legal; parts = parts_fit o journal legal }
+
 one_wire : (journal : List Entry) (ear : EarValue) (mouth : MouthValue) (wire : WireValue) → mouth.child ≡ ear.child → LoneWired journal ear mouth → IsLeft ear mouth wire → IsWire None journal 1 wire
 one_wire journal ear mouth wire same linked is =
     let halves : Wired journal ear.child ear.given mouth.taken ear.held × Caused journal ear.child ear.left ear.faults mouth.faults = halves_wire journal ear mouth same linked.link.ear linked.link.mouth in
@@ -71,13 +74,14 @@ one_wire journal ear mouth wire same linked is =
     of_none None = tt
     of_none (Some n) = tt
 
-pub stops_so : (c : ChildValue) (old new : StoppedValue) (log : LogValue) (wire : WireValue) → IsLinked c → log.opening ≡ c.opening → Closes 0 1 c.journal log.journal
+pub stops_so : (c : ChildValue) (old new : StoppedValue) (log : LogValue) (wire : WireValue) → IsLinked c → log.opening ≡ c.opening → Closes 0 1 c.journal log.journal → Legal log.opening log.journal
     → LoneWired log.journal c.ear c.mouth → IsLeft c.ear c.mouth wire → new.logs ≡ old.logs ++ log ∷ [] → new.wires ≡ old.wires ++ wire ∷ [] → old.spare ≡ new.spare + 1 → Stops c old new
-stops_so c old new log wire l opening closes wired is logs wires spare = record {
+stops_so c old new log wire l opening closes legal wired is logs wires spare = record {
   log = log;
   wire = wire;
   opening = opening;
   closes = closes;
+  sound = sound log.opening log.journal legal;
   logs = logs;
   wires = wires;
   came = came_closed c.journal log.journal closes ∙ came_one c l;
@@ -97,9 +101,6 @@ pub sound_next : (logs : List LogValue) (l : LogValue) → AreSoundLogs logs →
 sound_next [] l h s = (s, tt)
 sound_next (x ∷ logs) l h s = (h.0, sound_next logs l h.1 s)
 
-pub sound : (o : Opening) (journal : List Entry) → Legal o journal → IsSound o journal
-sound o journal legal = record { legal = legal; parts = parts_fit o journal legal }
-
 -- the wires so far are those of the logs, and these are of one more
 pub wired_next : (logs : List LogValue) (l : LogValue) (wires own : List WireValue) → AreWired logs wires → AreWires None l.journal 0 (came l.journal) own → AreWired (logs ++ l ∷ []) (wires ++ own)
 wired_next [] l wires own none is = (own, [], ap (λ (ws : List WireValue). ws ++ own) none ∙ sym (append-nil own), is, refl)
@@ -117,3 +118,11 @@ no_child l u = subst (λ (cs : List (Option ℕ)). AreWires None l.journal 0 cs 
 pub linked_serving : (cs : List ChildValue) → AreServing cs → AreLinked cs
 linked_serving [] h = tt
 linked_serving (c ∷ cs) h = (h.0.linked, linked_serving cs h.1)
+
+pub sound_children : (cs : List ChildValue) → AreServing cs → AreSoundChildren cs
+sound_children [] h = tt
+sound_children (c ∷ cs) h = (sound c.opening c.journal h.0.linked.legal, sound_children cs h.1)
+
+pub stops_sound : (cs : List ChildValue) (old new : StoppedValue) → StopsAll cs old new → AreSoundLogs old.logs → AreSoundLogs new.logs
+stops_sound [] old new same h = subst (λ (x : StoppedValue). AreSoundLogs x.logs) (sym same) h
+stops_sound (c ∷ cs) old new (mid, one, rest) h = stops_sound cs mid new rest (subst AreSoundLogs (sym one.logs) (sound_next old.logs one.log h one.sound))

@@ -1,16 +1,24 @@
 -- What asking one child after the other comes to.
-use Rattle.std.specs.Prelude.{ℕ, ◌≡◌, not, Bool, true, false, List, ◌++◌, ◌∷◌, [], length, Result, Ok, Err}
+use Rattle.std.specs.Prelude.{ℕ, ◌≡◌, not, Bool, true, false, List, ◌++◌, ◌∷◌, [], length, slice_index_or, slice_set, Result, Ok, Err}
 use Rattle.std.specs.List.{list_all, list_any}
 use Rattle.ann_key.specs.declared.bytes.NoMemory.{NoMemory}
 use Rattle.annex_model.specs.Messages.{HostMessage}
 use Rattle.journal_model.specs.declared.verdict.Verdict.{Verdict}
 use Rattle.mirror_remote.specs.Children.{ChildValue}
-use Rattle.mirror_remote.specs.Rule.{AsksFront, is_done, is_enough, is_starved}
+use Rattle.mirror_remote.specs.Rule.{AsksFront, IsAsBefore, IsAsked, is_done, is_enough, is_starved}
 
 -- as long as it is done, or as long as it isn't
 abbrev pub goes_while : Bool → (Verdict → Bool)
 goes_while true = is_done
 goes_while false = λ v. not (is_done v)
+
+-- the child at this place was asked, and came to this verdict
+abbrev pub AsksAt : HostMessage → ℕ → List ChildValue → List ChildValue → Verdict → Type 0
+AsksAt q at old new v = (c : ChildValue) × (c' : ChildValue) × (slice_index_or old at c ≡ c) × IsAsked q c c' v × (new ≡ slice_set old at c')
+
+-- nothing was asked of it
+abbrev pub LeavesAt : ℕ → List ChildValue → List ChildValue → Type 0
+LeavesAt at old new = (c : ChildValue) × (c' : ChildValue) × (slice_index_or old at c ≡ c) × IsAsBefore c c' × (new ≡ slice_set old at c')
 
 -- those before the last one went on so, and the last verdict was that of the child at this place
 pub record AskedTo (goes : Verdict → Bool) (q : HostMessage) (old new : List ChildValue) (at : ℕ) (last : Verdict) : Type 0 where

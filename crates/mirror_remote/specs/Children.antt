@@ -103,6 +103,7 @@ pub record Stops (c : ChildValue) (old new : StoppedValue) : Type 0 where
   pub wire : WireValue
   pub opening : log.opening ≡ c.opening
   pub closes : Closes 0 1 c.journal log.journal
+  pub sound : IsSound log.opening log.journal
   pub logs : new.logs ≡ old.logs ++ log ∷ []
   pub wires : new.wires ≡ old.wires ++ wire ∷ []
   pub came : came log.journal ≡ Some 1 ∷ []

@@ -1,8 +1,8 @@
 // Asking the children of a mirror, one after the other.
-ghost use Rattle.std.specs.Prelude.{◌≡◌, ◌<◌, true, codes, IfOk, IsTrue, length};
+ghost use Rattle.std.specs.Prelude.{◌≡◌, ◌<◌, true, codes, IfOk, IsTrue, OnErr, length};
 ghost use Rattle.talk_serial.specs.Requests.{message_of};
 ghost use Rattle.kit_core.specs.Calls.{is_line_said};
-ghost use Rattle.mirror_remote.specs.Asking.{AsksEach, goes_while};
+ghost use Rattle.mirror_remote.specs.Asking.{goes_while, AsksAt, AsksEach, LeavesAt};
 ghost use Rattle.mirror_remote.specs.Children.{AreServing};
 ghost use Rattle.mirror_remote.specs.Rule.{failure, is_mirrored, RulesAll, RulesCheck, RulesRetrieve};
 
@@ -15,8 +15,24 @@ use kit_core::Said;
 use std::alloc::Global;
 use talk_serial::Request;
 
-// Puts the request to one child after the other, as long as each does it, or as long as none does. The child that was asked last, and its
-// verdict.
+// Puts the request to the child at this place.
+fn ask_at<I: Sink, O: Source, S>(
+    children: &mut Vec<Child<I, O, S>>,
+    at: usize,
+    request: &Request,
+) -> Result<Verdict, NoMemory>
+    requires within { at < length children.old.items }
+    requires serving { AreServing children.old.items }
+    requires mirrored { is_mirrored (message_of request.now) ≡ true }
+    ensures asked { IfOk result (AsksAt (message_of request.now) at children.old.items children.new.items) }
+    ensures none { OnErr result (LeavesAt at children.old.items children.new.items) }
+    ensures serving { AreServing children.new.items }
+{
+    children[at].ask(request)
+}
+
+// Puts the request to one child after the other, as long as each does it, or as long as none does. The place of the child that was asked
+// last, and its verdict.
 fn ask_each<I: Sink, O: Source, S>(
     children: &mut Vec<Child<I, O, S>>,
     request: &Request,
@@ -29,8 +45,8 @@ fn ask_each<I: Sink, O: Source, S>(
     ensures serving { AreServing children.new.items }
 {
     let count = children.len();
-    for (at, child) in children.iter_mut().enumerate() {
-        let verdict = child.ask(request)?;
+    'children: for at in 0..count {
+        let verdict = ask_at(children, at, request)?;
         if is_starved(verdict) {
             return Err(NoMemory);
         }

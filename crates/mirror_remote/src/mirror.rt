@@ -40,14 +40,14 @@ pub struct MirrorRemote<P: Programs> {
 impl<P: Programs> Model for MirrorRemote<P> {
     ghost use Rattle.std.specs.Prelude.{◌≡◌, ◌⊎◌, ◌≤◌, [], length};
     ghost use Rattle.child_end.specs.Programs.{programs_value};
-    ghost use Rattle.mirror_remote.specs.Children.{AreServing};
+    ghost use Rattle.mirror_remote.specs.Children.{AreServing, AreSoundLogs};
     ghost use Rattle.mirror_remote.specs.Mirrors.{MirrorValue};
 
     ghost Value = { MirrorValue };
 
     ghost view = { λ m. record { programs = programs_value (P.starts m.programs) (P.faults m.programs); children = m.children.items; logs = m.stopped.logs } };
 
-    ghost invariant = { λ m. AreServing m.children.items × (length m.children.items ≤ m.stopped.spare) × ((m.children.items ≡ []) ⊎ (m.stopped.logs ≡ [])) };
+    ghost invariant = { λ m. AreServing m.children.items × (length m.children.items ≤ m.stopped.spare) × ((m.children.items ≡ []) ⊎ (m.stopped.logs ≡ [])) × AreSoundLogs m.stopped.logs };
 }
 
 /// What is left of a mirror: its programs; the journals of the children of the last `prepare`, in order; and a wire for each of them whose
