@@ -6,4 +6,5 @@ mod Stopping
 mod Greeting
 mod Begun
 mod Preparing
+mod Passing
 mod Everywhere
