@@ -1,4 +1,4 @@
-mod Beginning
+mod MayBegin
 mod Fronts
 mod Reading
 mod Serving

@@ -1,7 +1,5 @@
 -- What starting the children comes to, before any of them is stopped.
 use Rattle.std.specs.Prelude.{ℕ, ◌≡◌, ◌⊎◌, Bool, true, false, List, [], ◌∷◌, ◌++◌}
-use Rattle.ann_outside.specs.declared.Sink.{Ghosts as SinkGhosts}
-use Rattle.ann_outside.specs.declared.Source.{Ghosts as SourceGhosts}
 use Rattle.ann_outside.specs.Causes.{AddsOne, Rose, Stays}
 use Rattle.journal_model.specs.declared.entry.What.TheVariants.{NoStart}
 use Rattle.host_core.specs.CoreValue.{CoreValue}
@@ -38,7 +36,7 @@ pub record HasNotStarted (p : Plan) (core : CoreValue) : Type 0 where
 abbrev pub MayHaveStarted : ProgramsValue → ProgramsValue → List ℕ → Type 0
 MayHaveStarted before after program = Stays before.starts after.starts ⊎ ((b : Bool) × AddsOne before.starts after.starts (program, b))
 
-abbrev pub BeginsAs : {I O S : Type 0} {sinks : SinkGhosts I} {sources : SourceGhosts O} → Plan → ProgramsValue → ProgramsValue → Begun I O S sinks sources → Type 0
+abbrev pub BeginsAs : {I O S : Type 0} → Plan → ProgramsValue → ProgramsValue → Begun I O S → Type 0
 BeginsAs p before after (Ready child) = IsGreetedAs p child × IsReadyAs p child × IsServing child × AddsOne before.starts after.starts (p.program, true)
 BeginsAs p before after (Unready child) = IsGreetedAs p child × IsUnready child.journal × AddsOne before.starts after.starts (p.program, true)
 BeginsAs p before after (Starved child) = IsGreetedAs p child × AddsOne before.starts after.starts (p.program, true)

@@ -118,50 +118,58 @@ where
             wires,
         }
     }
+}
 
-    // Stops the children of an earlier prepare, and drops what is left of them.
-    fn give_up(&mut self)
-        ensures { Empties self.old self.new }
-    {
-        let children = mem::replace(&mut self.children, Vec::new(self.alloc));
-        let mut stopped = mem::replace(&mut self.stopped, Stopped::none(self.alloc));
-        stop_all(&mut self.programs, children, &mut stopped);
-        let (_journals, _wires) = stopped.finish();
+// Stops the children of an earlier prepare, and drops what is left of them.
+fn give_up<P: Programs>(mirror: &mut MirrorRemote<P>)
+where
+    P::Inlet: Drop,
+    P::Outlet: Drop,
+    P::Stub: Drop,
+    ensures { Empties mirror.old mirror.new }
+{
+    let children = mem::replace(&mut mirror.children, Vec::new(mirror.alloc));
+    let mut stopped = mem::replace(&mut mirror.stopped, Stopped::none(mirror.alloc));
+    stop_all(&mut mirror.programs, children, &mut stopped);
+    let (_journals, _wires) = stopped.finish();
+}
+
+// Starts the children of these plans. Where one isn't ready, all are stopped.
+fn begin<P: Programs>(mirror: &mut MirrorRemote<P>, plans: &[Plan]) -> Result<Said, NoMemory>
+where
+    P::Inlet: Drop,
+    P::Outlet: Drop,
+    P::Stub: Drop,
+    requires empty { (mirror.old.children ≡ []) × (mirror.old.logs ≡ []) }
+    ensures begins { Begins plans.now mirror.old mirror.new result }
+    ensures line { IfOk result (λ said. IsTrue (is_line_said said)) }
+{
+    if plans.is_empty() {
+        return Said::failure(mirror.alloc, b"no mirrors");
     }
-
-    // Starts the children of these plans. Where one isn't ready, all are stopped.
-    fn begin(&mut self, plans: &[Plan]) -> Result<Said, NoMemory>
-        requires empty { (self.old.children ≡ []) × (self.old.logs ≡ []) }
-        ensures begins { Begins plans.now self.old self.new result }
-        ensures line { IfOk result (λ said. IsTrue (is_line_said said)) }
-    {
-        if plans.is_empty() {
-            return Said::failure(self.alloc, b"no mirrors");
+    let mut children = Vec::with_capacity(mirror.alloc, plans.len())?;
+    let mut stopped = Stopped::with_room(mirror.alloc, plans.len())?;
+    match begin_all(mirror.alloc, &mut mirror.programs, plans, &mut children) {
+        Outcome::Ready => {
+            mirror.children = children;
+            mirror.stopped = stopped;
+            Ok(Said::Yes)
         }
-        let mut children = Vec::with_capacity(self.alloc, plans.len())?;
-        let mut stopped = Stopped::with_room(self.alloc, plans.len())?;
-        match begin_all(self.alloc, &mut self.programs, plans, &mut children) {
-            Outcome::Ready => {
-                self.children = children;
-                self.stopped = stopped;
-                Ok(Said::Yes)
-            }
-            Outcome::Unready(number) => {
-                stop_all(&mut self.programs, children, &mut stopped);
-                self.stopped = stopped;
-                mirror_failure(self.alloc, number, b"not ready")
-            }
-            Outcome::Unstarted(number, core) => {
-                stop_all(&mut self.programs, children, &mut stopped);
-                stopped.add_unstarted(core);
-                self.stopped = stopped;
-                mirror_failure(self.alloc, number, b"not ready")
-            }
-            Outcome::NoMemory => {
-                stop_all(&mut self.programs, children, &mut stopped);
-                self.stopped = stopped;
-                Err(NoMemory)
-            }
+        Outcome::Unready(number) => {
+            stop_all(&mut mirror.programs, children, &mut stopped);
+            mirror.stopped = stopped;
+            mirror_failure(mirror.alloc, number, b"not ready")
+        }
+        Outcome::Unstarted(number, core) => {
+            stop_all(&mut mirror.programs, children, &mut stopped);
+            stopped.add_unstarted(core);
+            mirror.stopped = stopped;
+            mirror_failure(mirror.alloc, number, b"not ready")
+        }
+        Outcome::NoMemory => {
+            stop_all(&mut mirror.programs, children, &mut stopped);
+            mirror.stopped = stopped;
+            Err(NoMemory)
         }
     }
 }
@@ -200,10 +208,10 @@ where
         ensures prepares { Prepares values.now self.old self.new result }
         ensures sound { IsSoundMirror self.new }
     {
-        self.give_up();
+        give_up(self);
         match read_plans(self.alloc, values.view())? {
             Plans::Bad(number) => mirror_failure(self.alloc, number, b"bad setting"),
-            Plans::Asked(plans) => self.begin(&plans),
+            Plans::Asked(plans) => begin(self, &plans),
         }
     }
 

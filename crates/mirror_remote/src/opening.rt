@@ -33,7 +33,7 @@ fn opening(alloc: Global, registers: &Registers) -> Result<Opening, NoMemory>
 }
 
 /// The core of a child, of which these registers are set. Its journal is empty.
-#[tactic(auto, using(crate::proofs::Beginning::may_begin, crate::proofs::Beginning::no_tasks))]
+#[tactic(auto, using(crate::proofs::MayBegin::may_begin, crate::proofs::MayBegin::no_tasks))]
 pub(crate) fn new_core(alloc: Global, registers: &Registers) -> Result<Core, NoMemory>
     ensures opening { IfOk result (λ c. c.opening ≡ mirror_opening registers.now) }
     ensures empty { IfOk result (λ c. c.journal ≡ []) }
