@@ -94,22 +94,22 @@ pub front_length : (goes : Verdict → Bool) (q : HostMessage) (old new : List C
 front_length goes q old new [] h = before_length old new h
 front_length goes q [] new (v ∷ vs) h = absurd h
 front_length goes q (c ∷ old) [] (v ∷ vs) h = absurd h
-front_length goes q (c ∷ old) (d ∷ new) (v ∷ vs) h = ap (λ (n : ℕ). suc n) (go (goes v) h.1)
+front_length goes q (c ∷ old) (d ∷ new) (v ∷ vs) h = ap (λ (n : ℕ). suc n) (go (goes v) (front_length goes q old new vs) h.1)
   where
-    go : (b : Bool) → GoesOn b (AsksFront goes q old new vs) old new vs → length new ≡ length old
-    go true k = front_length goes q old new vs k
-    go false k = before_length old new k.0
+    go : (b : Bool) → (AsksFront goes q old new vs → length new ≡ length old) → GoesOn b (AsksFront goes q old new vs) old new vs → length new ≡ length old
+    go true more k = more k
+    go false more k = before_length old new k.0
 
 -- no more verdicts than children
 pub front_fits : (goes : Verdict → Bool) (q : HostMessage) (old new : List ChildValue) (vs : List Verdict) → AsksFront goes q old new vs → length vs ≤ length new
 front_fits goes q old new [] h = omega arith
 front_fits goes q [] new (v ∷ vs) h = absurd h
 front_fits goes q (c ∷ old) [] (v ∷ vs) h = absurd h
-front_fits goes q (c ∷ old) (d ∷ new) (v ∷ vs) h = go (goes v) h.1
+front_fits goes q (c ∷ old) (d ∷ new) (v ∷ vs) h = go (goes v) (front_fits goes q old new vs) h.1
   where
-    go : (b : Bool) → GoesOn b (AsksFront goes q old new vs) old new vs → length (v ∷ vs) ≤ length (d ∷ new)
-    go true k = let fits = front_fits goes q old new vs k in omega (arith, fits)
-    go false k = let none : length vs ≡ 0 = ap (λ (xs : List Verdict). length xs) k.1 in omega (arith, none)
+    go : (b : Bool) → (AsksFront goes q old new vs → length vs ≤ length new) → GoesOn b (AsksFront goes q old new vs) old new vs → length (v ∷ vs) ≤ length (d ∷ new)
+    go true more k = let fits = more k in omega (arith, fits)
+    go false more k = let none : length vs ≡ 0 = ap (λ (xs : List Verdict). length xs) k.1 in omega (arith, none)
 
 -- ---- they serve on
 
@@ -141,11 +141,11 @@ any_last p [] v h = or_false (p v)
     or_false : (b : Bool) → (b || false) ≡ b
     or_false true = refl
     or_false false = refl
-any_last p (w ∷ before) v h = go (p w) refl h
+any_last p (w ∷ before) v h = go (p w) refl h (any_last p before v)
   where
-    go : (b : Bool) → p w ≡ b → (b || list_any p before) ≡ false → list_any p (w ∷ before ++ v ∷ []) ≡ p v
-    go true e k = absurd cc
-    go false e k = ap (λ (b : Bool). b || list_any p (before ++ v ∷ [])) e ∙ any_last p before v k
+    go : (b : Bool) → p w ≡ b → (b || list_any p before) ≡ false → (list_any p before ≡ false → list_any p (before ++ v ∷ []) ≡ p v) → list_any p (w ∷ before ++ v ∷ []) ≡ p v
+    go true e k more = absurd cc
+    go false e k more = ap (λ (b : Bool). b || list_any p (before ++ v ∷ [])) e ∙ more k
 
 done_is_there : (v : Verdict) → is_done v ≡ true → is_absent v ≡ false
 done_is_there (Absent at) h = absurd cc
@@ -187,9 +187,10 @@ pub record IsAt (goes : Verdict → Bool) (q : HostMessage) (old now : List Chil
   pub fed : list_any is_starved verdicts ≡ false
   pub serving : AreServing now
   pub many : length now ≡ length old
+  pub more : at < length old
 
-pub at_first : (goes : Verdict → Bool) (q : HostMessage) (cs : List ChildValue) → AreServing cs → IsAt goes q cs cs 0
-at_first goes q cs s = record { verdicts = []; place = refl; front = before_refl cs; went = refl; fed = refl; serving = s; many = refl }
+pub at_first : (goes : Verdict → Bool) (q : HostMessage) (cs : List ChildValue) → 0 < length cs → AreServing cs → IsAt goes q cs cs 0
+at_first goes q cs some s = record { verdicts = []; place = refl; front = before_refl cs; went = refl; fed = refl; serving = s; many = refl; more = some }
 
 module _ (goes : Verdict → Bool) (q : HostMessage) (old now new : List ChildValue) (at : ℕ) (a : IsAt goes q old now at) (within : at < length old) where
   inside : at < length now
@@ -206,8 +207,8 @@ module _ (goes : Verdict → Bool) (q : HostMessage) (old now new : List ChildVa
       subst (λ (cs : List ChildValue). AsksFront goes q old cs a.verdicts) (sym is) (front_same goes q old now a.verdicts at c c' a.front a.went a.place inside here same)
 
   -- it went on
-  pub at_next : (v : Verdict) → AsksAt q at now new v → goes v ≡ true → is_starved v ≡ false → AreServing new → IsAt goes q old new (at + 1)
-  at_next v asked on fed serving = record {
+  pub at_next : (v : Verdict) → AsksAt q at now new v → goes v ≡ true → is_starved v ≡ false → AreServing new → at + 1 < length old → IsAt goes q old new (at + 1)
+  at_next v asked on fed serving more = record {
     verdicts = a.verdicts ++ v ∷ [];
     place = let one : length (a.verdicts ++ v ∷ []) ≡ length a.verdicts + 1 = length-append a.verdicts (v ∷ []) in one ∙ ap (λ (n : ℕ). n + 1) a.place;
     front = asked_front v asked;
@@ -215,6 +216,7 @@ module _ (goes : Verdict → Bool) (q : HostMessage) (old now new : List ChildVa
     fed = any_last is_starved a.verdicts v a.fed ∙ fed;
     serving = serving;
     many = front_length goes q old new (a.verdicts ++ v ∷ []) (asked_front v asked);
+    more = more;
   }
 
   -- it is the last

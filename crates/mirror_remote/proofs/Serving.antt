@@ -1,6 +1,8 @@
 -- A child that is asked stays one that may be asked.
 use Rattle.std.proofs.Common.{◌≡◌, ◌⊎◌, inl, inr, ◌∙◌, ℕ, ◌≤◌, ◌<◌, ◌+◌, List, [], ◌∷◌, ◌++◌, refl, sym, ap, subst, Bool, true, false, ◌==◌, Option, Some, None, append_assoc, append-nil, length, length-append, arith}
-use Rattle.std.specs.Prelude.{◌&&◌, ◌||◌, nat_lt}
+use Rattle.std.specs.Prelude.{◌&&◌, ◌||◌, nat_lt, Result, Ok, Err, IfOk, OnErr}
+use Rattle.ann_key.specs.declared.bytes.NoMemory.{NoMemory}
+use Rattle.journal_model.specs.Projection.{IsNamed}
 use Rattle.std.specs.List.{list_all}
 use Rattle.std.specs.Option.{option_or}
 use Rattle.std.proofs.lemmas.List.Folds.{list_all-append}
@@ -19,7 +21,7 @@ use Rattle.link_roles.specs.Alone.{AskedAlone, IsSettled, IsLost, KeepsLink}
 use Rattle.child_start.proofs.Jobs.{idle_asked, or_true}
 use Rattle.child_start.proofs.Requests.{main_both}
 use Rattle.mirror_remote.specs.Children.{ChildValue, IsLinked, IsServing}
-use Rattle.mirror_remote.specs.Rule.{is_mirrored}
+use Rattle.mirror_remote.specs.Rule.{is_mirrored, IsAsked}
 
 -- ---- it may be asked
 
@@ -134,3 +136,23 @@ serves_asked c c' q v s a legal k =
 pub serves_same : (c c' : ChildValue) → IsServing c → c'.journal ≡ c.journal → Legal c'.opening c'.journal → KeepsLink c.journal c'.journal c.ear c'.ear c.mouth c'.mouth → IsServing c'
 serves_same c c' s same legal k =
     serves_grown c c' s (record { more = []; is = same ∙ sym (append-nil c.journal); own = refl; main = refl }) legal (ap (λ (x : List Entry). open_jobs x 1) same ∙ s.linked.idle) k
+
+-- ---- whatever came of asking
+
+module _ (r : Result Verdict NoMemory) (q : HostMessage) (c c' : ChildValue) (k : ℕ) (first : k ≡ 1) (asked : IfOk r (AskedAlone c.opening c.journal c'.journal 0 k 0 q)) where
+  asked_one : IfOk r (AskedAlone c.opening c.journal c'.journal 0 1 0 q)
+  asked_one = subst (λ (n : ℕ). IfOk r (AskedAlone c.opening c.journal c'.journal 0 n 0 q)) first asked
+
+  pub asked_if : IfOk r (IsNamed q) → c'.opening ≡ c.opening → c'.number ≡ c.number → IfOk r (IsAsked q c c')
+  asked_if named opening number = go r asked_one named
+    where
+      go : (x : Result Verdict NoMemory) → IfOk x (AskedAlone c.opening c.journal c'.journal 0 1 0 q) → IfOk x (IsNamed q) → IfOk x (IsAsked q c c')
+      go (Ok v) a n = record { asked = a; named = n; opening = opening; number = number }
+      go (Err e) a n = tt
+
+  pub serving_if : IsServing c → OnErr r (c'.journal ≡ c.journal) → Legal c'.opening c'.journal → KeepsLink c.journal c'.journal c.ear c'.ear c.mouth c'.mouth → IsServing c'
+  serving_if s same legal link = go r asked_one same
+    where
+      go : (x : Result Verdict NoMemory) → IfOk x (AskedAlone c.opening c.journal c'.journal 0 1 0 q) → OnErr x (c'.journal ≡ c.journal) → IsServing c'
+      go (Ok v) a e = serves_asked c c' q v s a legal link
+      go (Err x) a e = serves_same c c' s e legal link
