@@ -1,16 +1,11 @@
 use Rattle.std.proofs.Common.{◌++◌, ◌∷◌, [], arith}
 use Rattle.talk_serial.specs.Requests.{message_of}
 use Rattle.mirror_remote.specs.Asking.{goes_while}
-use Rattle.mirror_remote.proofs.Fronts.{asked_front, at_first, left_front}
+use Rattle.mirror_remote.proofs.Fronts.{asked_front, at_first}
 use Rattle.mirror_remote.proofs.asking.ask_each.Goals as goal
 
 pub children-init : goal.children-init
 children-init g c = at_first (goes_while c.args.while_done) (message_of c.args.request.now) c.args.children.now.items c.requires.some c.requires.serving
-
-pub returns-in_err-verdict-clause-asks : goal.returns-in_err-verdict-clause-asks
-returns-in_err-verdict-clause-asks g c =
-    let a = c.children.invariant in
-    (a.verdicts, left_front (goes_while c.args.while_done) (message_of c.args.request.now) c.args.children.now.items c.children.children.items c.ask_at.new.children.items c.children.at a a.more c.in_err-verdict.ensures.none)
 
 pub returns-then-is_starved-clause-asks : goal.returns-then-is_starved-clause-asks
 returns-then-is_starved-clause-asks g c =
