@@ -59,9 +59,10 @@ impl Values {
         self.items.is_empty()
     }
 
-    // Adds one more.
-    pub(super) fn push(&mut self, value: Bytes) -> Result<(), NoMemory>
-        ensures { OnOk result (self.new ≡ self.old ++ value ∷ []) }
+    /// Adds one more. At `NoMemory` they are as before.
+    pub fn push(&mut self, value: Bytes) -> Result<(), NoMemory>
+        ensures ok { OnOk result (self.new ≡ self.old ++ value ∷ []) }
+        ensures err { OnErr result (self.new ≡ self.old) }
     {
         self.items.push(value)?;
         Ok(())

@@ -13,6 +13,7 @@ mod writing;
 pub use described::serve_described;
 pub use end::End;
 pub use programs::{KitInlet, KitOutlet, KitPrograms, KitStub, Maker};
-pub use serving::{LONGEST_LINE, READ_SIZE, Served, serve, talk, turn};
+pub use serving::{LONGEST_LINE, READ_SIZE, Served, fill, serve, talk, turn};
 pub use streams::{Ear, Mouth};
 pub use voice::Voice;
+pub use writing::write_line;

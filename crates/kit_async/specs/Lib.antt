@@ -1,0 +1,11 @@
+pub mod Events
+pub mod Hearings
+pub mod Jobs
+pub mod Legality
+pub mod Logs
+pub mod Meanings
+pub mod Roles
+pub mod Rows
+pub mod Served
+pub mod Standings
+pub mod Views

@@ -1,0 +1,111 @@
+// What a line of the host is to the kit.
+ghost use Rattle.std.specs.Prelude.{◌≡◌, ◌×◌, option_map, option_copied, Some};
+ghost use Rattle.wire_msg.specs.Shown.{host_shown};
+ghost use Rattle.kit_async.specs.Hearings.{parted, text_in, is_export, message_heard, text_heard, hearing_of, is_open, awaits_in, has_some};
+
+use crate::job::Job;
+use crate::jobs::job_of;
+use crate::setup::Setup;
+use wire_msg::{HostMsg, read_host, untag};
+
+/// What a line is, by the jobs that are open.
+#[derive(Clone, Copy)]
+pub enum Hearing {
+    /// Nothing can be said to it, and it ends the kit.
+    Foul,
+    /// It can't stand here. The kit says so and is over.
+    Unexpected,
+    /// It asks for nothing.
+    Aside,
+    /// A request with that number.
+    Asks(u64),
+    /// A value for that job.
+    Replies(u64),
+}
+
+// The number and the message of the line, where it has what it must.
+pub(crate) fn part(tagged: bool, line: &[u8]) -> Option<(u64, &[u8])>
+    ensures { option_map (λ t. (t.0, t.1.now)) result ≡ parted tagged line.now }
+{
+    if !tagged {
+        return Some((0, line));
+    }
+    match untag(line) {
+        Some((0, _)) => None,
+        Some((number, text)) => Some((number, text)),
+        None => None,
+    }
+}
+
+/// The message without its tag.
+pub(crate) fn text_in(tagged: bool, line: &[u8]) -> &[u8]
+    ensures { result.now ≡ text_in tagged line.now }
+{
+    match part(tagged, line) {
+        Some((_, text)) => text,
+        None => b"",
+    }
+}
+
+// EXPORT alone, or with a name.
+fn is_export(text: &[u8]) -> bool
+    ensures { result ≡ is_export text.now }
+{
+    match text {
+        [b'E', b'X', b'P', b'O', b'R', b'T'] => true,
+        [b'E', b'X', b'P', b'O', b'R', b'T', b, ..] => *b == b' ',
+        _ => false,
+    }
+}
+
+// A message for a job that awaits a value or doesn't, that is open or isn't, where some job is open or none is.
+fn message_heard(
+    awaiting: bool,
+    open: bool,
+    some: bool,
+    number: u64,
+    message: HostMsg<'_>,
+) -> Hearing
+    ensures { result ≡ message_heard awaiting open some number (host_shown message.entry) }
+{
+    match message {
+        HostMsg::Error(_) => Hearing::Foul,
+        HostMsg::Value(_) if awaiting => Hearing::Replies(number),
+        _ if awaiting => Hearing::Unexpected,
+        HostMsg::Value(_) | HostMsg::Creds(_, _) => Hearing::Unexpected,
+        HostMsg::Prepare | HostMsg::Initremote if open || some => Hearing::Unexpected,
+        _ if open => Hearing::Unexpected,
+        _ => Hearing::Asks(number),
+    }
+}
+
+fn text_heard(awaiting: bool, open: bool, some: bool, number: u64, text: &[u8]) -> Hearing
+    ensures { result ≡ text_heard awaiting open some number text.now }
+{
+    if is_export(text) {
+        return if awaiting {
+            Hearing::Unexpected
+        } else {
+            Hearing::Aside
+        };
+    }
+    match read_host(text) {
+        Some(message) => message_heard(awaiting, open, some, number, message),
+        None => Hearing::Foul,
+    }
+}
+
+/// What the line is, by the open jobs and whether lines are tagged.
+pub(crate) fn hearing_of(setup: &Setup, jobs: &[Job], tagged: bool, line: &[u8]) -> Hearing
+    ensures { result ≡ hearing_of setup.now jobs.now tagged line.now }
+{
+    let Some((number, text)) = part(tagged, line) else {
+        return Hearing::Foul;
+    };
+    let job = job_of(jobs, number);
+    let awaiting = match job {
+        Some(job) => job.is_awaiting(setup),
+        None => false,
+    };
+    text_heard(awaiting, job.is_some(), !jobs.is_empty(), number, text)
+}

@@ -1,0 +1,29 @@
+//! Serves remotes to a host that tags its lines (ASYNC): several jobs at once, each remote in a thread of its own.
+//! <https://git-annex.branchable.com/design/external_special_remote_protocol/async_appendix/>
+#![tactic(auto)]
+
+mod alone;
+mod core;
+mod due;
+mod entry;
+mod event;
+mod hearing;
+mod job;
+mod jobs;
+mod journal;
+pub mod laws;
+mod log;
+mod reader;
+mod serving;
+mod setup;
+mod shared;
+mod turn;
+mod why;
+mod worker;
+mod writer;
+
+pub use entry::Entry;
+pub use journal::{KitEntry, KitJournal};
+pub use serving::{AsyncEnd, serve_async, serve_async_some};
+pub use setup::Setup;
+pub use why::Why;
