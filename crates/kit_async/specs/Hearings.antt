@@ -49,21 +49,21 @@ is_export text = bytes_eq (take 6 text) (codes "EXPORT") && ends_word (drop 6 te
 -- A message for a job that awaits a value, or doesn't; that is open, or not; while some job is open, or none is. A request with an open
 -- number can't stand there, nor one to get ready while another request is open.
 abbrev pub message_heard : Bool → Bool → Bool → ℕ → HostMessage → Hearing
-message_heard awaiting open some number m =
+message_heard awaiting opened busy number m =
     if is_error m then Foul
     else if is_unexpected awaiting m then Unexpected
     else if awaiting then Replies number
-    else if open || (is_readying (Some m) && some) then Unexpected
+    else if opened || (is_readying (Some m) && busy) then Unexpected
     else Asks number
 
 abbrev pub reading_heard : Bool → Bool → Bool → ℕ → Option HostMessage → Hearing
-reading_heard awaiting open some number None = Foul
-reading_heard awaiting open some number (Some m) = message_heard awaiting open some number m
+reading_heard awaiting opened busy number None = Foul
+reading_heard awaiting opened busy number (Some m) = message_heard awaiting opened busy number m
 
 abbrev pub text_heard : Bool → Bool → Bool → ℕ → List ℕ → Hearing
-text_heard awaiting open some number text =
+text_heard awaiting opened busy number text =
     if is_export text then (if awaiting then Unexpected else Aside)
-    else reading_heard awaiting open some number (host_reading text)
+    else reading_heard awaiting opened busy number (host_reading text)
 
 abbrev pub awaits_in : Setup → Option Job → Bool
 awaits_in setup None = false

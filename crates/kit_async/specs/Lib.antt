@@ -1,8 +1,8 @@
+pub mod Entries
 pub mod Events
 pub mod Hearings
 pub mod Jobs
 pub mod Legality
-pub mod Logs
 pub mod Meanings
 pub mod Roles
 pub mod Rows

@@ -8,8 +8,8 @@ use Rattle.kit_async.specs.declared.why.Why.{Why}
 use Rattle.kit_async.specs.declared.why.Why.TheVariants.{Eof, ReadFault, WriteFault, Bad, Memory}
 use Rattle.kit_async.specs.declared.entry.Entry.{Entry}
 use Rattle.kit_async.specs.declared.entry.Entry.TheVariants.{Heard, Take, Call, Say, Wrote, Close, Lack}
-use Rattle.kit_async.specs.declared.journal.KitEntry.{KitEntry}
-use Rattle.kit_async.specs.declared.journal.KitEntry.TheVariants.{Heard as HeardShown, Take as TakeShown, Call as CallShown, Say as SayShown, Wrote as WroteShown, Close as CloseShown, Lack as LackShown, Stop as StopShown}
+use Rattle.kit_async.specs.declared.lent.KitEntry.{KitEntry}
+use Rattle.kit_async.specs.declared.lent.KitEntry.TheVariants.{Heard as HeardShown, Take as TakeShown, Call as CallShown, Say as SayShown, Wrote as WroteShown, Close as CloseShown, Lack as LackShown, Stop as StopShown}
 use Rattle.kit_async.specs.Standings.{standing}
 use Rattle.kit_async.specs.Legality.{Legal, IsEnd}
 use Rattle.kit_async.specs.Roles.{heard_lines, Written, calls_of}
@@ -81,4 +81,4 @@ pub record Serves (setup : Setup) (old new : Tells) (journal : JournalValue) : T
   pub took : Appends old.taken new.taken taken
   pub written : Written journal.entries (Some journal.why) taken
   pub gained : Gained setup journal.entries 0 old.calls new.calls
-  pub end : IsEnd journal.why setup (standing setup journal.entries)
+  pub ended : IsEnd journal.why setup (standing setup journal.entries)

@@ -1,6 +1,6 @@
 // A kit whose threads couldn't be started: the calling thread reads, works and writes, one request after the other.
-ghost use Rattle.std.specs.Prelude.{◌≡◌};
-ghost use Rattle.kit_async.specs.Roles.{AreHeld, IsHeldBy};
+ghost use Rattle.std.specs.Prelude.{All};
+ghost use Rattle.hall.specs.Passes.{IsPassOf};
 
 use crate::reader::Reader;
 use crate::turn::Turn;
@@ -11,12 +11,13 @@ use kit_core::Remote;
 use std::sync::Wait;
 
 // One turn of each worker, and whether one of them did something.
-fn work_once<'a, K: Remote, R: Wait>(workers: &mut [Worker<'a, K, R>]) -> bool {
+fn work_once<'a, K: Remote, R: Wait>(workers: &mut [Worker<'a, K, R>]) -> bool
+    requires { All (λ w. IsPassOf w.hall.now w.pass) workers.old }
+    ensures { All (λ w. IsPassOf w.hall.now w.pass) workers.new }
+{
     let mut went = false;
     for at in 0..workers.len() {
-        let worker = &mut workers[at];
-        let (rt, hall) = (worker.rt, worker.hall);
-        if worker.hand.turn(rt, hall, &mut worker.pass) == Turn::Went {
+        if workers[at].turn() == Turn::Went {
             went = true;
         }
     }
@@ -27,11 +28,14 @@ fn work_once<'a, K: Remote, R: Wait>(workers: &mut [Worker<'a, K, R>]) -> bool {
 fn settle<'a, W: Sink, K: Remote, R: Wait>(
     writer: &mut Writer<'a, W, R>,
     workers: &mut [Worker<'a, K, R>],
-) {
-    let (rt, hall) = (writer.rt, writer.hall);
+)
+    requires { IsPassOf writer.old.hall.now writer.old.pass × All (λ w. IsPassOf w.hall.now w.pass) workers.old }
+    ensures { IsPassOf writer.old.hall.now writer.new.pass × All (λ w. IsPassOf w.hall.now w.pass) workers.new }
+{
+    let rt = writer.rt;
     for _ in rt.forever() {
         let worked = work_once(workers);
-        let wrote = writer.mouth.turn(rt, hall, &mut writer.pass) == Turn::Went;
+        let wrote = writer.turn() == Turn::Went;
         if !worked && !wrote {
             return;
         }
@@ -44,11 +48,14 @@ pub(crate) fn serve_alone<'a, S: Source, W: Sink, K: Remote, R: Wait>(
     reader: &mut Reader<'a, S, R>,
     writer: &mut Writer<'a, W, R>,
     workers: &mut [Worker<'a, K, R>],
-) {
-    let (rt, hall) = (reader.rt, reader.hall);
+)
+    requires { IsPassOf reader.old.hall.now reader.old.pass × IsPassOf writer.old.hall.now writer.old.pass × All (λ w. IsPassOf w.hall.now w.pass) workers.old }
+    ensures { IsPassOf reader.old.hall.now reader.new.pass × IsPassOf writer.old.hall.now writer.new.pass × All (λ w. IsPassOf w.hall.now w.pass) workers.new }
+{
+    let rt = reader.rt;
     for _ in rt.forever() {
         settle(writer, workers);
-        if reader.ear.turn(rt, hall, &mut reader.pass) != Turn::Went {
+        if reader.turn() != Turn::Went {
             settle(writer, workers);
             return;
         }

@@ -1,7 +1,7 @@
 // What a line of the host is to the kit.
-ghost use Rattle.std.specs.Prelude.{◌≡◌, ◌×◌, option_map, option_copied, Some};
+ghost use Rattle.std.specs.Prelude.{◌≡◌, option_map};
 ghost use Rattle.wire_msg.specs.Shown.{host_shown};
-ghost use Rattle.kit_async.specs.Hearings.{parted, text_in, is_export, message_heard, text_heard, hearing_of, is_open, awaits_in, has_some};
+ghost use Rattle.kit_async.specs.Hearings.{parted, text_in, is_export, message_heard, text_heard, hearing_of};
 
 use crate::job::Job;
 use crate::jobs::job_of;
@@ -61,26 +61,26 @@ fn is_export(text: &[u8]) -> bool
 // A message for a job that awaits a value or doesn't, that is open or isn't, where some job is open or none is.
 fn message_heard(
     awaiting: bool,
-    open: bool,
-    some: bool,
+    opened: bool,
+    busy: bool,
     number: u64,
     message: HostMsg<'_>,
 ) -> Hearing
-    ensures { result ≡ message_heard awaiting open some number (host_shown message.entry) }
+    ensures { result ≡ message_heard awaiting opened busy number (host_shown message.entry) }
 {
     match message {
         HostMsg::Error(_) => Hearing::Foul,
         HostMsg::Value(_) if awaiting => Hearing::Replies(number),
         _ if awaiting => Hearing::Unexpected,
         HostMsg::Value(_) | HostMsg::Creds(_, _) => Hearing::Unexpected,
-        HostMsg::Prepare | HostMsg::Initremote if open || some => Hearing::Unexpected,
-        _ if open => Hearing::Unexpected,
+        HostMsg::Prepare | HostMsg::Initremote if opened || busy => Hearing::Unexpected,
+        _ if opened => Hearing::Unexpected,
         _ => Hearing::Asks(number),
     }
 }
 
-fn text_heard(awaiting: bool, open: bool, some: bool, number: u64, text: &[u8]) -> Hearing
-    ensures { result ≡ text_heard awaiting open some number text.now }
+fn text_heard(awaiting: bool, opened: bool, busy: bool, number: u64, text: &[u8]) -> Hearing
+    ensures { result ≡ text_heard awaiting opened busy number text.now }
 {
     if is_export(text) {
         return if awaiting {
@@ -90,7 +90,7 @@ fn text_heard(awaiting: bool, open: bool, some: bool, number: u64, text: &[u8]) 
         };
     }
     match read_host(text) {
-        Some(message) => message_heard(awaiting, open, some, number, message),
+        Some(message) => message_heard(awaiting, opened, busy, number, message),
         None => Hearing::Foul,
     }
 }

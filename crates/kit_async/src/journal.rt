@@ -1,46 +1,17 @@
 // The journal of a kit that has stopped.
-ghost use Rattle.std.specs.Prelude.{◌≡◌, ◌+◌, [], Some, length};
-ghost use Rattle.kit_async.specs.Served.{entry_shown, IsEntryAt};
+ghost use Rattle.std.specs.Prelude.{◌≡◌, ◌+◌, [], length};
+ghost use Rattle.kit_async.specs.Served.{IsEntryAt};
 
-use crate::entry::Entry;
-use crate::log::Log;
+use crate::entries::Entries;
+use crate::lent::{KitEntry, shown};
 use crate::why::Why;
-use kit_core::Said;
 use std::alloc::Global;
 use std::marker::Model;
-
-/// An entry of a kit's journal, lent. [`Entry`] has what each means.
-#[derive(Clone, Copy)]
-pub enum KitEntry<'a> {
-    Heard {
-        line: &'a [u8],
-    },
-    Take {
-        job: u64,
-        remote: u32,
-    },
-    Call {
-        job: u64,
-        remote: u32,
-        said: &'a Said,
-    },
-    Say {
-        job: u64,
-        line: &'a [u8],
-    },
-    Wrote,
-    Close,
-    Lack,
-    /// The kit stopped. It is the last entry.
-    Stop {
-        why: Why,
-    },
-}
 
 /// What happened in a kit, and why it stopped.
 #[derive(Drop)]
 pub struct KitJournal {
-    log: Log,
+    log: Entries,
     why: Why,
 }
 
@@ -52,32 +23,8 @@ impl Model for KitJournal {
     ghost view = { λ j. record { entries = j.log.entries; why = j.why } };
 }
 
-fn shown(entry: &Entry) -> KitEntry<'_>
-    ensures { entry_shown result ≡ Some entry.now }
-{
-    match entry {
-        Entry::Heard { line } => KitEntry::Heard { line: line.view() },
-        Entry::Take { job, remote } => KitEntry::Take {
-            job: *job,
-            remote: *remote,
-        },
-        Entry::Call { job, remote, said } => KitEntry::Call {
-            job: *job,
-            remote: *remote,
-            said,
-        },
-        Entry::Say { job, line } => KitEntry::Say {
-            job: *job,
-            line: line.view(),
-        },
-        Entry::Wrote => KitEntry::Wrote,
-        Entry::Close => KitEntry::Close,
-        Entry::Lack => KitEntry::Lack,
-    }
-}
-
 impl KitJournal {
-    pub(crate) fn new(log: Log, why: Why) -> KitJournal
+    pub(crate) fn new(log: Entries, why: Why) -> KitJournal
         ensures { (result.entries ≡ log.entries) × (result.why ≡ why) }
     {
         KitJournal { log, why }
@@ -88,7 +35,7 @@ impl KitJournal {
         ensures { (result.entries ≡ []) × (result.why ≡ why) }
     {
         KitJournal {
-            log: Log::new(alloc),
+            log: Entries::new(alloc),
             why,
         }
     }

@@ -3,8 +3,8 @@
 #![tactic(auto)]
 
 mod alone;
-mod core;
 mod due;
+mod entries;
 mod entry;
 mod event;
 mod hearing;
@@ -12,7 +12,8 @@ mod job;
 mod jobs;
 mod journal;
 pub mod laws;
-mod log;
+mod lent;
+mod machine;
 mod reader;
 mod serving;
 mod setup;
@@ -23,7 +24,8 @@ mod worker;
 mod writer;
 
 pub use entry::Entry;
-pub use journal::{KitEntry, KitJournal};
+pub use journal::KitJournal;
+pub use lent::KitEntry;
 pub use serving::{AsyncEnd, serve_async, serve_async_some};
 pub use setup::Setup;
 pub use why::Why;

@@ -4,7 +4,7 @@ ghost use Rattle.hall.specs.Passes.{IsPassOf, seen_of};
 ghost use Rattle.kit_async.specs.declared.turn.Turn.TheVariants.{Over};
 ghost use Rattle.kit_async.specs.Roles.{Reads, ReaderRan};
 
-use crate::core::KitCore;
+use crate::machine::KitCore;
 use crate::event::{Event, Reply};
 use crate::turn::{Turn, enter, stop_for};
 use crate::why::Why;
@@ -192,6 +192,17 @@ fn listen<S: Source, R: Wait>(
         }
     }
     unreachable!()
+}
+
+impl<'a, S: Source, R: Wait> Reader<'a, S, R> {
+    /// One turn, by the thread that calls it.
+    pub(crate) fn turn(&mut self) -> Turn
+        requires { IsPassOf self.old.hall.now self.old.pass }
+        ensures { IsPassOf self.old.hall.now self.new.pass }
+    {
+        let (rt, hall) = (self.rt, self.hall);
+        self.ear.turn(rt, hall, &mut self.pass)
+    }
 }
 
 impl<'a, S: Source, R: Wait> Role for Reader<'a, S, R> {

@@ -3,7 +3,7 @@ ghost use Rattle.std.specs.Prelude.{◌≡◌, ◌<◌, ◌≤◌, true, vec_len
 ghost use Rattle.kit_async.specs.Served.{Serves};
 
 use crate::alone::serve_alone;
-use crate::core::KitCore;
+use crate::machine::KitCore;
 use crate::journal::KitJournal;
 use crate::reader::{Ear, Reader};
 use crate::setup::Setup;
@@ -168,14 +168,19 @@ fn play<
         },
         workers,
     };
-    let crew = run_whole_crew(rt, room, most, crew);
-    let ran = crew.ear.has_run();
-    let (mut reader, mut writer) = (crew.ear.role(), crew.mouth.role());
-    for back in crew.workers {
+    let Crew {
+        ear,
+        mouth,
+        workers,
+    } = run_whole_crew(rt, room, most, crew);
+    let ran = ear.has_run();
+    let mut reader = ear.role();
+    let mut writer = mouth.role();
+    for back in workers {
         backs.push_reserved(back.role());
     }
     if !ran {
-        serve_alone(&mut reader, &mut writer, &mut backs);
+        serve_alone(&mut reader, &mut writer, backs.as_mut_slice());
     }
     let Reader { pass: first, ear, .. } = reader;
     let Writer {

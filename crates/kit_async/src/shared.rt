@@ -1,7 +1,7 @@
 // The core as the value of a hall, which many threads enter.
 ghost use Rattle.std.specs.Prelude.{◌≡◌};
 
-use crate::core::KitCore;
+use crate::machine::KitCore;
 use crate::entry::Entry;
 use crate::event::{Event, Reply};
 use crate::setup::Setup;

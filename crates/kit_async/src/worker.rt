@@ -4,7 +4,7 @@ ghost use Rattle.hall.specs.Passes.{IsPassOf, seen_of};
 ghost use Rattle.kit_core.specs.Calls.{called, is_line_said};
 ghost use Rattle.kit_async.specs.Roles.{CanBeAsked, Works};
 
-use crate::core::KitCore;
+use crate::machine::KitCore;
 use crate::event::{Event, Reply};
 use crate::turn::{Turn, enter, stop_for};
 use crate::why::Why;
@@ -130,6 +130,17 @@ fn toil<K: Remote, R: Wait>(
         }
     }
     unreachable!()
+}
+
+impl<'a, K: Remote, R: Wait> Worker<'a, K, R> {
+    /// One turn, by the thread that calls it.
+    pub(crate) fn turn(&mut self) -> Turn
+        requires { IsPassOf self.old.hall.now self.old.pass }
+        ensures { IsPassOf self.old.hall.now self.new.pass }
+    {
+        let (rt, hall) = (self.rt, self.hall);
+        self.hand.turn(rt, hall, &mut self.pass)
+    }
 }
 
 impl<'a, K: Remote, R: Wait> Role for Worker<'a, K, R> {

@@ -3,7 +3,7 @@ ghost use Rattle.std.specs.Prelude.{◌≡◌, true, None};
 ghost use Rattle.hall.specs.Passes.{IsPassOf, seen_of};
 ghost use Rattle.kit_async.specs.Roles.{Writes};
 
-use crate::core::KitCore;
+use crate::machine::KitCore;
 use crate::event::{Event, Reply};
 use crate::turn::{Turn, enter, stop_for};
 use crate::why::Why;
@@ -118,6 +118,17 @@ fn speak<W: Sink, R: Wait>(
         }
     }
     unreachable!()
+}
+
+impl<'a, W: Sink, R: Wait> Writer<'a, W, R> {
+    /// One turn, by the thread that calls it.
+    pub(crate) fn turn(&mut self) -> Turn
+        requires { IsPassOf self.old.hall.now self.old.pass }
+        ensures { IsPassOf self.old.hall.now self.new.pass }
+    {
+        let (rt, hall) = (self.rt, self.hall);
+        self.mouth.turn(rt, hall, &mut self.pass)
+    }
 }
 
 impl<'a, W: Sink, R: Wait> Role for Writer<'a, W, R> {

@@ -18,7 +18,7 @@ use crate::event::{Event, Reply};
 use crate::hearing::{Hearing, hearing_of, text_in};
 use crate::job::Job;
 use crate::jobs::{all_await, called, first_free, hold_back, is_idle, place_of, turn_of};
-use crate::log::Log;
+use crate::entries::Entries;
 use crate::setup::Setup;
 use ann_key::{Bytes, NoMemory};
 use kit_core::Said;
@@ -30,10 +30,10 @@ use wire_msg::{HostMsg, RemoteMsg, read_host, write_remote};
 ///
 /// Contracts see of it what doesn't change, the journal, and whether it is broken off.
 #[derive(Drop)]
-pub struct KitCore {
+pub(crate) struct KitCore {
     alloc: Global,
     setup: Setup,
-    journal: Log,
+    journal: Entries,
     jobs: Vec<Job>,
     tagged: bool,
     prepared: bool,
@@ -161,13 +161,13 @@ fn owed(setup: &Setup, jobs: &[Job], journal: &[Entry], written: usize) -> Resul
 
 impl KitCore {
     /// A core that says its version.
-    pub fn new(alloc: Global, setup: Setup) -> Result<KitCore, NoMemory>
+    pub(crate) fn new(alloc: Global, setup: Setup) -> Result<KitCore, NoMemory>
         ensures setup { IfOk result (λ c. c.setup ≡ setup) }
         ensures journal { IfOk result (λ c. c.journal ≡ Say 0 (codes "VERSION 1") ∷ []) }
         ensures whole { IfOk result (λ c. c.broken ≡ false) }
     {
         let line = Bytes::copy(alloc, b"VERSION 1")?;
-        let mut journal = Log::new(alloc);
+        let mut journal = Entries::new(alloc);
         journal.take_room(2)?;
         journal.push(Entry::Say { job: 0, line });
         Ok(KitCore {
@@ -185,14 +185,14 @@ impl KitCore {
     }
 
     /// How many entries the journal has.
-    pub fn len(&self) -> u64
+    pub(crate) fn len(&self) -> u64
         ensures { result ≡ length self.now.journal }
     {
         self.journal.view().len() as u64
     }
 
     /// Its journal, and what didn't change. It takes no memory.
-    pub fn close(self) -> (Setup, Log)
+    pub(crate) fn close(self) -> (Setup, Entries)
         ensures { (result.0 ≡ self.setup) × (result.1.entries ≡ self.journal) }
     {
         let KitCore { setup, journal, .. } = self;
@@ -540,7 +540,7 @@ impl KitCore {
     }
 
     /// What comes of an event of that number. At `NoMemory` all is as before.
-    pub fn step(&mut self, by: u32, event: Event) -> Result<Reply, NoMemory>
+    pub(crate) fn step(&mut self, by: u32, event: Event) -> Result<Reply, NoMemory>
         ensures setup { self.new.setup ≡ self.old.setup }
         ensures ok { IfOk result (λ reply. (group : List Entry) × (self.new.journal ≡ self.old.journal ++ group) × All (IsMadeBy by) group × MayStep self.old.setup self.old.journal by event group reply) }
         ensures err { OnErr result (self.new.journal ≡ self.old.journal) }

@@ -3,6 +3,6 @@ use Rattle.std.specs.Prelude.{ℕ, List}
 use Rattle.kit_async.specs.declared.entry.Entry.{Entry}
 
 -- its entries, and how many more have room
-pub record LogValue : Type 0 where
+pub record EntriesValue : Type 0 where
   pub entries : List Entry
   pub room : ℕ

@@ -8,25 +8,25 @@ use std::marker::Model;
 
 /// Entries, and room for more. Contracts see both.
 #[derive(Drop)]
-pub(crate) struct Log {
+pub(crate) struct Entries {
     entries: Vec<Entry>,
 }
 
-impl Model for Log {
+impl Model for Entries {
     ghost use Rattle.std.specs.Prelude.{◌-◌, vec_capacity, vec_len};
-    ghost use Rattle.kit_async.specs.Logs.{LogValue};
+    ghost use Rattle.kit_async.specs.Entries.{EntriesValue};
 
-    ghost Value = { LogValue };
+    ghost Value = { EntriesValue };
 
     ghost view = { λ l. record { entries = l.entries.items; room = vec_capacity l.entries - vec_len l.entries } };
 }
 
-impl Log {
+impl Entries {
     /// No entries, and no room. It takes no memory.
-    pub(crate) fn new(alloc: Global) -> Log
+    pub(crate) fn new(alloc: Global) -> Entries
         ensures { result.entries ≡ [] }
     {
-        Log {
+        Entries {
             entries: Vec::new(alloc),
         }
     }
