@@ -47,7 +47,7 @@ impl<'a> Remote for Meeting<'a> {
     }
 
     fn check(&mut self, key: KeyRef<'_>) -> Result<Said, NoMemory> {
-        if key.name() == b"a" {
+        if key.name() == b"a".as_slice() {
             Ok(self.wait())
         } else {
             self.begun.store(1, Ordering::SeqCst);

@@ -78,7 +78,7 @@ line_in setup job = line_by (due_in setup job)
 
 -- The remote's word settles the job. Where all are to get ready, it is the first that isn't Yes, or else the last one's.
 abbrev pub settles : Setup → Job → Said → Bool
-settles setup job said = not (is_making_ready job) || not (is_yes said) || job.calls + 1 == setup.remotes
+settles setup job said = not (is_making_ready job) || not (is_yes said) || (job.calls + 1 == setup.remotes)
 
 -- the line for it
 abbrev pub final_in : Job → Said → List ℕ

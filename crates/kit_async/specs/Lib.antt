@@ -2,6 +2,7 @@ pub mod Entries
 pub mod Events
 pub mod Hearings
 pub mod Jobs
+pub mod Laws
 pub mod Legality
 pub mod Meanings
 pub mod Roles

@@ -11,7 +11,7 @@ use Rattle.kit_async.specs.declared.entry.Entry.TheVariants.{Heard, Take, Call, 
 use Rattle.kit_async.specs.declared.lent.KitEntry.{KitEntry}
 use Rattle.kit_async.specs.declared.lent.KitEntry.TheVariants.{Heard as HeardShown, Take as TakeShown, Call as CallShown, Say as SayShown, Wrote as WroteShown, Close as CloseShown, Lack as LackShown, Stop as StopShown}
 use Rattle.kit_async.specs.Standings.{standing}
-use Rattle.kit_async.specs.Legality.{Legal, IsEnd}
+use Rattle.kit_async.specs.Legality.{is_legal, IsEnd}
 use Rattle.kit_async.specs.Roles.{heard_lines, Written, calls_of}
 
 -- ---- the exit status
@@ -67,14 +67,15 @@ Gained setup journal n (old ∷ olds) [] = ⊥
 Gained setup journal n (old ∷ olds) (new ∷ news) =
     IfSome old (λ before. IfSome new (λ now. now ≡ before ++ calls_of setup n journal)) × Gained setup journal (n + 1) olds news
 
--- The journal is legal. The source gave the lines that were heard, and a rest; at the end of the host's lines nothing is left of it.
--- The sink took the text of the lines that are written, and where writing failed the first bytes of the next. Each remote had the
--- calls that the journal has of it. And it stands as the end says.
+-- The journal is legal, and but for want of memory nothing is left due. The source gave the lines that were heard, and a rest; at the
+-- end of the host's lines nothing is left of it. The sink took the text of the lines that are written, and where writing failed the
+-- first bytes of the next. Each remote had the calls that the journal has of it. And it stands as the end says.
 pub record Serves (setup : Setup) (old new : Tells) (journal : JournalValue) : Type 0 where
   pub given : List ℕ
   pub taken : List ℕ
   pub rest : List ℕ
-  pub legal : Legal setup journal.entries
+  pub legal : is_legal setup journal.entries ≡ true
+  pub told : (journal.why ≡ Memory → ⊥) → (standing setup journal.entries).due ≡ None
   pub gave : Appends old.given new.given given
   pub cut : Cut given (heard_lines journal.entries) rest
   pub spent : journal.why ≡ Eof → IfSome new.left (λ bytes. bytes ≡ [])
@@ -82,3 +83,8 @@ pub record Serves (setup : Setup) (old new : Tells) (journal : JournalValue) : T
   pub written : Written journal.entries (Some journal.why) taken
   pub gained : Gained setup journal.entries 0 old.calls new.calls
   pub ended : IsEnd journal.why setup (standing setup journal.entries)
+
+-- the settings of the first remote, and how many there are
+abbrev pub setup_of : {K : Type 0} → (K → List (List ℕ)) → List K → Setup
+setup_of settings [] = record { settings = []; remotes = 0 }
+setup_of settings (k ∷ ks) = record { settings = settings k; remotes = length ks + 1 }

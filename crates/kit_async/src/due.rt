@@ -1,5 +1,7 @@
 // What is due in a job.
-ghost use Rattle.std.specs.Prelude.{◌≡◌, [], IfOk, Some, None, is_some, true};
+ghost use Rattle.std.specs.Prelude.{◌≡◌, [], IfOk, Some, None, is_some, true, bytes_eq, codes};
+ghost use Rattle.annex_model.specs.Messages.{Extensions};
+ghost use Rattle.annex_model.specs.Tags.{names_async};
 ghost use Rattle.wire_msg.specs.Shown.{host_shown};
 ghost use Rattle.kit_core.specs.Kits.{asked_by, work_due};
 ghost use Rattle.kit_async.specs.Jobs.{due_in, line_in, final_in, job_line, is_for_any, key_in, request_of, spoken};
@@ -21,11 +23,24 @@ pub(crate) enum Due<'a> {
     Call,
 }
 
-// ASYNC, where it stands among the host's names.
+fn is_async(word: &[u8]) -> bool
+    ensures { result ≡ bytes_eq word.now (codes "ASYNC") }
+{
+    word == b"ASYNC".as_slice()
+}
+
+/// Whether ASYNC stands among the names of extensions.
+pub(crate) fn has_async(names: &[u8]) -> bool
+    ensures { result ≡ names_async (Some (Extensions names.now)) }
+{
+    names.split(|b| *b == 32).any(|word| is_async(word))
+}
+
+// The extensions that the kit speaks with a host that names these.
 fn spoken(names: &[u8]) -> &'static [u8]
     ensures { result.now ≡ spoken names.now }
 {
-    if names.split(|b| *b == b' ').any(|word| word == b"ASYNC") {
+    if has_async(names) {
         b"ASYNC"
     } else {
         b""

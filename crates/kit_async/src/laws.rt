@@ -2,6 +2,7 @@
 ghost use Rattle.std.specs.Prelude.{◌≡◌, [], ◌∷◌, ◌++◌, codes, true, false, Some, None};
 ghost use Rattle.kit_core.specs.declared.call.Said.TheVariants.{Yes, No, Failure};
 ghost use Rattle.kit_async.specs.declared.entry.Entry.TheVariants.{Heard, Take, Call, Say, Wrote, Close, Lack};
+ghost use Rattle.kit_async.specs.Laws.{FrontsAreLegal, OverIsLast, FinishedStays, HallsStayLegal};
 ghost use Rattle.kit_async.specs.Legality.{is_legal, is_done};
 ghost use Rattle.kit_async.specs.Rows.{two, bare, version, error, tagging, asking, readying, ready, check_a, check_b, absent_a, present_b, crossed, whole, plain, plain_check};
 ghost use Rattle.kit_async.specs.Standings.{standing};
@@ -102,4 +103,24 @@ pub fn worked_writing()
     ensures no_memory_for_nothing { is_legal two (ready ++ Lack ∷ []) ≡ false }
     ensures said_without_memory { is_legal two (ready ++ check_a ∷ Take 2 0 ∷ Call 2 0 No ∷ Lack ∷ absent_a ∷ []) ≡ false }
     ensures left { (standing two (version ∷ Wrote ∷ Heard (codes "EXTENSIONS") ∷ Say 0 (codes "EXTENSIONS ") ∷ [])).unwritten ≡ codes "EXTENSIONS " ∷ [] }
+{}
+
+/// The front of a legal journal is legal.
+pub fn fronts_are_legal()
+    ensures { FrontsAreLegal }
+{}
+
+/// Once a kit is over, and what is due is said, nothing more is heard or said.
+pub fn over_is_last()
+    ensures { OverIsLast }
+{}
+
+/// Once nothing more can come and all is written, it stays so.
+pub fn finished_stays()
+    ensures { FinishedStays }
+{}
+
+/// However many passes step a core in whatever turns, its journal is legal when the hall is closed.
+pub fn halls_stay_legal()
+    ensures { HallsStayLegal }
 {}

@@ -12,7 +12,7 @@ ghost use Rattle.kit_async.specs.Legality.{may_hear, is_done};
 ghost use Rattle.kit_async.specs.Standings.{standing, starts_tags};
 ghost use Rattle.kit_async.specs.Views.{CoreSteps, CoreLacks, IsNextPlace, first_line, lines_from, all_calls_owed, room_owed};
 
-use crate::due::job_line;
+use crate::due::{has_async, job_line};
 use crate::entry::Entry;
 use crate::event::{Event, Reply};
 use crate::hearing::{Hearing, hearing_of, text_in};
@@ -65,9 +65,7 @@ fn starts_tags(request: Option<HostMsg<'_>>) -> bool
     ensures { result ≡ starts_tags (option_map host_shown request.entry) }
 {
     match request {
-        Some(HostMsg::Extensions(names)) => {
-            names.split(|b| *b == b' ').any(|word| word == b"ASYNC")
-        }
+        Some(HostMsg::Extensions(names)) => has_async(names),
         _ => false,
     }
 }

@@ -1,6 +1,7 @@
 // Serves remotes to a host, several jobs at once.
-ghost use Rattle.std.specs.Prelude.{◌≡◌, ◌<◌, ◌≤◌, true, vec_len, slice_get, Some, IfSome};
-ghost use Rattle.kit_async.specs.Served.{Serves};
+ghost use Rattle.std.specs.Prelude.{◌≡◌, ◌<◌, ◌≤◌, true, map, vec_len};
+ghost use Rattle.ann_outside.specs.Causes.{Rose};
+ghost use Rattle.kit_async.specs.Served.{Serves, setup_of, status_of};
 
 use crate::alone::serve_alone;
 use crate::machine::KitCore;
@@ -221,6 +222,14 @@ pub fn serve_async_some<
 ) -> AsyncEnd<K, S, W>
     requires remotes { (0 < vec_len remotes) × (vec_len remotes ≤ 64) }
     requires open { (S.is_open source ≡ true) × (W.is_open sink ≡ true) }
+    ensures serves { Serves (setup_of K.settings remotes.items)
+        (record { given = S.given source; left = S.left source; taken = W.taken sink; calls = map K.calls remotes.items })
+        (record { given = S.given result.source; left = S.left result.source; taken = W.taken result.sink; calls = map K.calls result.remotes.items }) result.journal }
+    ensures status { result.status ≡ status_of result.journal.why }
+    ensures read_fault { result.status ≡ 4 → Rose (S.faults source) (S.faults result.source) }
+    ensures write_fault { result.status ≡ 5 → Rose (W.faults sink) (W.faults result.sink) }
+    ensures open { (S.is_open result.source ≡ true) × (W.is_open result.sink ≡ true) }
+    ensures settings { map K.settings result.remotes.items ≡ map K.settings remotes.items }
 {
     let seats = remotes.len() as u32;
     let parts = Parts {
@@ -265,6 +274,14 @@ pub fn serve_async<
 >(rt: &R, alloc: Global, remotes: Vec<K>, source: S, sink: W) -> AsyncEnd<K, S, W>
     requires remotes { (0 < vec_len remotes) × (vec_len remotes ≤ 64) }
     requires open { (S.is_open source ≡ true) × (W.is_open sink ≡ true) }
+    ensures serves { Serves (setup_of K.settings remotes.items)
+        (record { given = S.given source; left = S.left source; taken = W.taken sink; calls = map K.calls remotes.items })
+        (record { given = S.given result.source; left = S.left result.source; taken = W.taken result.sink; calls = map K.calls result.remotes.items }) result.journal }
+    ensures status { result.status ≡ status_of result.journal.why }
+    ensures read_fault { result.status ≡ 4 → Rose (S.faults source) (S.faults result.source) }
+    ensures write_fault { result.status ≡ 5 → Rose (W.faults sink) (W.faults result.sink) }
+    ensures open { (S.is_open result.source ≡ true) × (W.is_open result.sink ≡ true) }
+    ensures settings { map K.settings result.remotes.items ≡ map K.settings remotes.items }
 {
     serve_async_some(rt, alloc, usize::MAX, remotes, source, sink)
 }

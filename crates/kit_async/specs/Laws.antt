@@ -1,0 +1,40 @@
+-- What holds of every legal journal, and of every hall of a kit's core.
+use Rattle.std.specs.Prelude.{ℕ, ◌≡◌, Bool, true, false, List, [], ◌∷◌, ◌++◌, Option, None}
+use Rattle.std.specs.List.{list_any}
+use Rattle.hall.specs.Passes.{HasClosed}
+use Rattle.kit_async.specs.declared.setup.Setup.{Setup}
+use Rattle.kit_async.specs.declared.entry.Entry.{Entry}
+use Rattle.kit_async.specs.declared.entry.Entry.TheVariants.{Heard, Take, Call, Say, Wrote, Close, Lack}
+use Rattle.kit_async.specs.Events.{IsMadeBy, MayStep}
+use Rattle.kit_async.specs.Legality.{is_legal, Legal, IsFinished}
+use Rattle.kit_async.specs.Roles.{KitHall, KitPass}
+use Rattle.kit_async.specs.Standings.{standing}
+
+-- a line of the host or of the kit
+abbrev pub is_spoken : Entry → Bool
+is_spoken (Heard line) = true
+is_spoken (Say job line) = true
+is_spoken entry = false
+
+-- the front of a legal journal is legal
+abbrev pub FrontsAreLegal : Type 0
+FrontsAreLegal = (setup : Setup) (past rest : List Entry) → is_legal setup (past ++ rest) ≡ true → is_legal setup past ≡ true
+
+-- once a kit is over, and what is due is said, nothing more is heard or said
+abbrev pub OverIsLast : Type 0
+OverIsLast =
+    (setup : Setup) (past rest : List Entry) → is_legal setup (past ++ rest) ≡ true
+    → (standing setup past).over ≡ true → (standing setup past).due ≡ None → list_any is_spoken rest ≡ false
+
+-- once nothing more can come and all is written, it stays so, and nothing more is heard or said
+abbrev pub FinishedStays : Type 0
+FinishedStays =
+    (setup : Setup) (past rest : List Entry) → is_legal setup (past ++ rest) ≡ true
+    → IsFinished setup (standing setup past) → (standing setup past).due ≡ None
+    → IsFinished setup (standing setup (past ++ rest)) × (list_any is_spoken rest ≡ false)
+
+-- however many passes step a core in whatever turns, its journal is legal when the hall is closed
+abbrev pub HallsStayLegal : Type 0
+HallsStayLegal =
+    (h : KitHall) (passes : List KitPass) (final : List Entry) (fixed : Setup) → HasClosed IsMadeBy MayStep h passes final fixed
+    → Legal h.fixed h.start → Legal h.fixed final × (fixed ≡ h.fixed)
