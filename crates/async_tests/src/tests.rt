@@ -19,25 +19,27 @@ struct Came {
     journal: KitJournal,
 }
 
-// Which reads and which writes fail, and how many threads are tried at most.
+// How many threads are tried at most, and which read and which write fail, if any does.
 #[derive(Clone, Copy)]
-struct Way<'a> {
+struct Way {
     most: usize,
-    read_fails: &'a [u64],
-    write_fails: &'a [u64],
+    read: Option<u64>,
+    write: Option<u64>,
 }
 
-const IN_THREADS: Way<'static> = Way {
+const IN_THREADS: Way = Way {
     most: usize::MAX,
-    read_fails: &[],
-    write_fails: &[],
+    read: None,
+    write: None,
 };
 
-const ALONE: Way<'static> = Way {
-    most: 0,
-    read_fails: &[],
-    write_fails: &[],
-};
+fn fails(alloc: Global, call: Option<u64>) -> Result<Vec<u64>, AllocError> {
+    let mut all = Vec::new(alloc);
+    if let Some(call) = call {
+        all.push(call)?;
+    }
+    Ok(all)
+}
 
 fn meetings(alloc: Global, begun: &AtomicU64, count: u64) -> Result<Vec<Meeting<'_>>, AllocError>
     requires { count ≤ 64 }
@@ -56,15 +58,15 @@ fn served<R: Threads + Wait + Sync>(
     alloc: Global,
     count: u64,
     says: &[u8],
-    way: Way<'_>,
+    way: Way,
 ) -> Result<Came, NoMemory>
     requires { (0 < count) × (count ≤ 64) }
 {
     let begun = AtomicU64::new(0);
     let mut lines = Vec::new(alloc);
     lines.push(Bytes::copy(alloc, says)?)?;
-    let source = MemSource::new(lines, Vec::from_slice(alloc, way.read_fails)?);
-    let sink = MemSink::new(alloc, 5, Vec::from_slice(alloc, way.write_fails)?);
+    let source = MemSource::new(lines, fails(alloc, way.read)?);
+    let sink = MemSink::new(alloc, 5, fails(alloc, way.write)?);
     let remotes = meetings(alloc, &begun, count)?;
     let AsyncEnd {
         status,
@@ -100,7 +102,7 @@ fn two_checks_overlap(rt: HostRuntime) -> Result<(), Fail> {
 #[test]
 fn without_threads_nothing_overlaps(rt: HostRuntime) -> Result<(), Fail> {
     for most in 0..4 {
-        let way = Way { most, ..ALONE };
+        let way = Way { most, ..IN_THREADS };
         let came = served(&rt, rt.alloc(), 2, READY, way)?;
         assert_eq!(rt; came.status, 0, "{most}");
         assert_eq!(rt; came.out.as_slice(), ALONE_OUT, "{most}");
@@ -142,18 +144,18 @@ fn check_end(rt: &impl Abort, came: &Came, status: u8) {
 #[test]
 fn each_status_has_its_cause(rt: HostRuntime) -> Result<(), Fail> {
     for most in [0usize, usize::MAX] {
-        let way = Way { most, ..ALONE };
+        let way = Way { most, ..IN_THREADS };
         let alloc = rt.alloc();
         check_end(&rt, &served(&rt, alloc, 3, READY, way)?, 0);
         check_end(&rt, &served(&rt, alloc, 3, b"BOO\n", way)?, 1);
         check_end(&rt, &served(&rt, alloc, 3, b"EXTENSIONS ASYNC\nJ 5 VALUE x\n", way)?, 1);
         let reads = Way {
-            read_fails: &[2],
+            read: Some(2),
             ..way
         };
         check_end(&rt, &served(&rt, alloc, 3, READY, reads)?, 4);
         let writes = Way {
-            write_fails: &[3],
+            write: Some(3),
             ..way
         };
         check_end(&rt, &served(&rt, alloc, 3, READY, writes)?, 5);

@@ -3,7 +3,9 @@ ghost use Rattle.std.specs.Prelude.{◌≡◌, ◌⊎◌, ◌<◌, ◌≤◌, �
 ghost use Rattle.annex_model.specs.Messages.{Getconfig, host_reading, remote_line};
 ghost use Rattle.wire_msg.specs.Shown.{host_shown};
 ghost use Rattle.kit_core.specs.Calls.{is_line_said};
+ghost use Rattle.kit_async.specs.declared.entry.Entry.{Entry};
 ghost use Rattle.kit_async.specs.declared.entry.Entry.TheVariants.{Say};
+ghost use Rattle.kit_async.specs.declared.event.Event.TheVariants.{Hear};
 ghost use Rattle.kit_async.specs.declared.hearing.Hearing.TheVariants.{Foul, Unexpected, Aside, Asks, Replies};
 ghost use Rattle.kit_async.specs.Events.{MayStep, IsMadeBy, step_of, hear_step, take_step, call_step, close_step, wrote_step, next_reply, waiting, work_in, is_call, can_break, takes_no_memory, is_of_remote, remote_of};
 ghost use Rattle.kit_async.specs.Hearings.{hearing_of, value_told};
@@ -358,6 +360,18 @@ impl KitCore {
         }
     }
 
+    // The reader's line, or nobody's.
+    fn hear_from(&mut self, by: u32, line: Bytes) -> Result<Reply, NoMemory>
+        ensures ok { IfOk result (CoreSteps self.old self.new (step_of self.old.setup self.old.journal by (Hear line))) }
+        ensures err { OnErr result ((self.new.setup ≡ self.old.setup) × (self.new.journal ≡ self.old.journal)) }
+    {
+        if by == READER {
+            self.hear(line)
+        } else {
+            Ok(Reply::Odd)
+        }
+    }
+
     fn close_ears(&mut self) -> Result<Reply, NoMemory>
         ensures ok { IfOk result (CoreSteps self.old self.new (close_step (standing self.old.setup self.old.journal))) }
         ensures err { OnErr result ((self.new.setup ≡ self.old.setup) × (self.new.journal ≡ self.old.journal)) }
@@ -517,10 +531,28 @@ impl KitCore {
         ensures free { takes_no_memory event ≡ true → IsOk result }
     {
         match event {
-            Event::Hear(line) if by == READER => self.hear(line),
-            Event::Close if by == READER => self.close_ears(),
-            Event::Next if by == WRITER => self.next(),
-            Event::Wrote if by == WRITER => Ok(self.wrote()),
+            Event::Hear(line) => self.hear_from(by, line),
+            Event::Close => {
+                if by == READER {
+                    self.close_ears()
+                } else {
+                    Ok(Reply::Odd)
+                }
+            }
+            Event::Next => {
+                if by == WRITER {
+                    self.next()
+                } else {
+                    Ok(Reply::Odd)
+                }
+            }
+            Event::Wrote => {
+                if by == WRITER {
+                    Ok(self.wrote())
+                } else {
+                    Ok(Reply::Odd)
+                }
+            }
             Event::Take => match self.remote(by) {
                 Some(remote) => self.take(remote),
                 None => Ok(Reply::Odd),
@@ -533,7 +565,6 @@ impl KitCore {
                 self.broken = true;
                 Ok(Reply::Done)
             }
-            _ => Ok(Reply::Odd),
         }
     }
 

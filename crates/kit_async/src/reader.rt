@@ -1,8 +1,7 @@
 // What reads the host's lines, and feeds them to the core.
-ghost use Rattle.std.specs.Prelude.{◌≡◌, true, Some, IfSome};
+ghost use Rattle.std.specs.Prelude.{◌≡◌, [], true, None};
 ghost use Rattle.hall.specs.Passes.{IsPassOf, seen_of};
-ghost use Rattle.kit_async.specs.declared.turn.Turn.TheVariants.{Over};
-ghost use Rattle.kit_async.specs.Roles.{Reads, ReaderRan};
+ghost use Rattle.kit_async.specs.Roles.{Reads};
 
 use crate::machine::KitCore;
 use crate::event::{Event, Reply};
@@ -40,6 +39,7 @@ impl<S: Source> Model for Ear<S> {
 }
 
 // What stands first in what is held.
+#[derive(Drop)]
 enum First {
     Line(Bytes),
     Long,

@@ -1,5 +1,5 @@
 // Serves remotes to a host, several jobs at once.
-ghost use Rattle.std.specs.Prelude.{◌≡◌, ◌<◌, ◌≤◌, true, map, vec_len};
+ghost use Rattle.std.specs.Prelude.{◌≡◌, ◌<◌, ◌≤◌, [], true, map, IfSome, vec_len, vec_capacity};
 ghost use Rattle.ann_outside.specs.Causes.{Rose};
 ghost use Rattle.kit_async.specs.Served.{Serves, setup_of, status_of};
 
@@ -68,6 +68,18 @@ fn why_of(read: Option<Why>, wrote: Option<Why>, lacked: bool) -> Why {
 
 type Workers<'a, K, R> = Vec<Worker<'a, K, R>>;
 
+type Rooms<'a, K, R> = (Room<Worker<'a, K, R>>, Workers<'a, K, R>, Workers<'a, K, R>);
+
+// Room for so many workers, and for what comes back of them.
+fn rooms<'a, K: Remote + Drop, R: Wait>(alloc: Global, seats: usize) -> Option<Rooms<'a, K, R>>
+    ensures { IfSome result (λ r. (r.0 ≡ seats) × (r.1.items ≡ []) × (seats ≤ vec_capacity r.1) × (r.2.items ≡ []) × (seats ≤ vec_capacity r.2)) }
+{
+    let room = Room::new(alloc, seats)?;
+    let workers = Vec::with_capacity(alloc, seats).ok()?;
+    let backs = Vec::with_capacity(alloc, seats).ok()?;
+    Some((room, workers, backs))
+}
+
 // A worker for each remote, with the last passes, from the last remote on.
 fn deal<'a, K: Remote + Drop, R: Wait>(
     rt: &'a R,
@@ -134,11 +146,7 @@ fn play<
     parts: Parts<K, S, W>,
 ) -> Backs<K, S, W> {
     let seats = parts.remotes.len();
-    let (Some(room), Ok(workers), Ok(mut backs)) = (
-        Room::new(alloc, seats),
-        Vec::with_capacity(alloc, seats),
-        Vec::with_capacity(alloc, seats),
-    ) else {
+    let Some((room, workers, mut backs)) = rooms(alloc, seats) else {
         return Backs {
             passes,
             parts,
