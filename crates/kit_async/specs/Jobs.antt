@@ -1,5 +1,6 @@
 -- One job of a kit that serves several at once: what its request makes due, by what was told and called in it so far.
-use Rattle.std.specs.Prelude.{ℕ, ◌+◌, ◌==◌, ◌&&◌, ◌||◌, not, Bool, true, false, if◌then◌else◌, List, [], ◌∷◌, length, slice_get, Option, Some, None, is_some, is_none, codes, drop, bytes_eq}
+use Rattle.std.specs.Prelude.{ℕ, ◌+◌, ◌==◌, ◌&&◌, ◌||◌, not, Bool, true, false, if◌then◌else◌, List, [], ◌∷◌, map, filter, find, take_while, length, slice_get, Option, Some, None, is_some, codes, drop, bytes_eq}
+use Rattle.std.specs.List.{list_any}
 use Rattle.ann_key.specs.Numbers.{is_numeral}
 use Rattle.annex_model.specs.Messages.{Extensions, HostMessage, AskExtensions, Transfer, Checkpresent, Remove, host_reading, remote_line, word_of}
 use Rattle.annex_model.specs.Tags.{names_async, untag, tagged_line}
@@ -115,27 +116,19 @@ is_worked_by remote job = is_number remote job.taken && job.calls == 0
 
 -- ---- several jobs
 
+abbrev pub has_number : ℕ → Job → Bool
+has_number number job = job.number == number
+
 abbrev pub job_of : List Job → ℕ → Option Job
-job_of [] number = None
-job_of (job ∷ jobs) number = if job.number == number then Some job else job_of jobs number
+job_of jobs number = find (has_number number) jobs
 
 -- what is done to the job of that number
 abbrev pub with_job : ℕ → (Job → Job) → List Job → List Job
-with_job number change [] = []
-with_job number change (job ∷ jobs) = (if job.number == number then change job else job) ∷ with_job number change jobs
+with_job number change jobs = map (λ job. if has_number number job then change job else job) jobs
 
 abbrev pub without_job : ℕ → List Job → List Job
-without_job number [] = []
-without_job number (job ∷ jobs) = if job.number == number then without_job number jobs else job ∷ without_job number jobs
+without_job number jobs = filter (λ job. not (has_number number job)) jobs
 
 -- no job that was heard before this one names its key
-abbrev pub is_first_of : List ℕ → ℕ → List Job → Bool
-is_first_of key number [] = false
-is_first_of key number (job ∷ jobs) = if job.number == number then true else not (names_key key job) && is_first_of key number jobs
-
-abbrev pub is_first_by : Option (List ℕ) → ℕ → List Job → Bool
-is_first_by None number jobs = true
-is_first_by (Some key) number jobs = is_first_of key number jobs
-
 abbrev pub is_first_of_key : List Job → Job → Bool
-is_first_of_key jobs job = is_first_by (key_in (request_of job)) job.number jobs
+is_first_of_key jobs job = not (list_any (λ other. share_key other job) (take_while (λ other. not (has_number job.number other)) jobs))

@@ -1,22 +1,23 @@
 // The open jobs of a kit, in the order in which they were heard.
-ghost use Rattle.std.specs.Prelude.{◌≡◌, ◌<◌, IfSome, find, option_copied, option_and_then, slice_get, length};
+ghost use Rattle.std.specs.Prelude.{◌≡◌, option_copied, position};
 ghost use Rattle.std.specs.List.{list_any, list_all};
-ghost use Rattle.kit_async.specs.Jobs.{job_of, is_first_of_key, share_key, is_awaiting};
+ghost use Rattle.kit_async.specs.Jobs.{has_number, job_of, is_first_of_key, share_key, is_awaiting};
 ghost use Rattle.kit_async.specs.Legality.{holds_back, is_idle, is_free, is_turn_of, is_called};
 
 use crate::job::Job;
 use crate::setup::Setup;
 
+fn has_number(job: &Job, number: u64) -> bool
+    ensures { result ≡ has_number number job.now }
+{
+    job.number == number
+}
+
 /// The open job of that number.
 pub(crate) fn job_of(jobs: &[Job], number: u64) -> Option<&Job>
     ensures { option_copied result ≡ job_of jobs.now number }
 {
-    for job in jobs {
-        if job.number == number {
-            return Some(job);
-        }
-    }
-    None
+    jobs.iter().find(|job| has_number(job, number))
 }
 
 fn holds_back(setup: &Setup, tagged: bool, job: &Job) -> bool
@@ -31,10 +32,9 @@ fn holds_back(setup: &Setup, tagged: bool, job: &Job) -> bool
 
 /// The place of that job.
 pub(crate) fn place_of(jobs: &[Job], number: u64) -> Option<usize>
-    ensures place { IfSome result (λ at. at < length jobs.now) }
-    ensures job { job_of jobs.now number ≡ option_and_then (λ at. slice_get jobs.now at) result }
+    ensures { result ≡ position (has_number number) jobs.now }
 {
-    jobs.iter().position(|job| job.number == number)
+    jobs.iter().position(|job| has_number(job, number))
 }
 
 /// Whether no line may be heard while one of these is open.
@@ -72,15 +72,11 @@ fn share_key(one: &Job, other: &Job) -> bool
 fn is_first_of_key(jobs: &[Job], job: &Job) -> bool
     ensures { result ≡ is_first_of_key jobs.now job.now }
 {
-    for other in jobs {
-        if other.number == job.number {
-            return true;
-        }
-        if share_key(other, job) {
-            return false;
-        }
-    }
-    job.key().is_none()
+    let number = job.number;
+    !jobs
+        .iter()
+        .take_while(|other| !has_number(other, number))
+        .any(|other| share_key(other, job))
 }
 
 fn is_free(setup: &Setup, jobs: &[Job], job: &Job) -> bool
@@ -103,16 +99,14 @@ fn is_turn_of(setup: &Setup, jobs: &[Job], remote: u32, job: &Job) -> bool
 
 /// The place of the job for which it is this remote's turn to get ready.
 pub(crate) fn turn_of(setup: &Setup, jobs: &[Job], remote: u32) -> Option<usize>
-    ensures place { IfSome result (λ at. at < length jobs.now) }
-    ensures job { find (is_turn_of setup.now jobs.now remote) jobs.now ≡ option_and_then (λ at. slice_get jobs.now at) result }
+    ensures { result ≡ position (is_turn_of setup.now jobs.now remote) jobs.now }
 {
     jobs.iter().position(|job| is_turn_of(setup, jobs, remote, job))
 }
 
 /// The place of the first job that any remote may take up.
 pub(crate) fn first_free(setup: &Setup, jobs: &[Job]) -> Option<usize>
-    ensures place { IfSome result (λ at. at < length jobs.now) }
-    ensures job { find (is_free setup.now jobs.now) jobs.now ≡ option_and_then (λ at. slice_get jobs.now at) result }
+    ensures { result ≡ position (is_free setup.now jobs.now) jobs.now }
 {
     jobs.iter().position(|job| is_free(setup, jobs, job))
 }
@@ -129,8 +123,7 @@ fn is_called(setup: &Setup, jobs: &[Job], remote: u32, job: &Job) -> bool
 
 /// The place of the job that a call of this remote is for.
 pub(crate) fn called(setup: &Setup, jobs: &[Job], remote: u32) -> Option<usize>
-    ensures place { IfSome result (λ at. at < length jobs.now) }
-    ensures job { find (is_called setup.now jobs.now remote) jobs.now ≡ option_and_then (λ at. slice_get jobs.now at) result }
+    ensures { result ≡ position (is_called setup.now jobs.now remote) jobs.now }
 {
     jobs.iter().position(|job| is_called(setup, jobs, remote, job))
 }
