@@ -1,17 +1,16 @@
 -- What may come once a kit is over, or once nothing more can come.
 use Rattle.std.proofs.Common.{◌≡◌, ◌⊎◌, inl, inr, ℕ, List, [], ◌∷◌, ◌++◌, refl, sym, subst, ◌∙◌, Bool, true, false, not, ◌==◌, Some, None, Option}
-use Rattle.std.specs.Prelude.{◌&&◌, ◌||◌, fold, nat_lt, is_none, is_some}
+use Rattle.std.specs.Prelude.{◌&&◌, ◌||◌, fold, nat_lt, is_some}
 use Rattle.std.specs.List.{list_any, list_all}
 use Rattle.kit_core.specs.declared.call.Said.{Said}
 use Rattle.kit_core.specs.Calls.{is_line_said}
-use Rattle.kit_core.specs.Kits.{asked_by}
 use Rattle.kit_async.specs.declared.setup.Setup.{Setup}
 use Rattle.kit_async.specs.declared.job.Job.{Job}
 use Rattle.kit_async.specs.declared.entry.Entry.{Entry}
 use Rattle.kit_async.specs.declared.entry.Entry.TheVariants.{Heard, Take, Call, Say, Wrote, Close, Lack}
-use Rattle.kit_async.specs.Jobs.{is_making_ready, is_awaiting, next_name, is_for_any, due_in, job_of, is_first_of_key}
+use Rattle.kit_async.specs.Jobs.{is_making_ready, is_awaiting, next_name, has_number, job_of}
 use Rattle.kit_async.specs.Laws.{is_spoken}
-use Rattle.kit_async.specs.Legality.{holds_back, may_hear, is_idle, is_free_job, may_take, is_turn_of, is_called, is_called_job, may_call, is_some_line, may_come, comes_where, follows, legal_from, is_legal, is_done, IsFinished}
+use Rattle.kit_async.specs.Legality.{holds_back, may_hear, is_idle, is_free, some_job, may_take, is_called, is_some_line, may_come, comes_where, follows, legal_from, is_legal, is_done, IsFinished}
 use Rattle.kit_async.specs.Standings.{Standing, after, called_in, standing}
 use Rattle.kit_async.proofs.Fronts.{both, parts, standing_append}
 
@@ -65,35 +64,26 @@ over_is_last setup past rest h o d = over_from setup (standing setup past) rest 
 
 -- ---- all open jobs await a value
 
-AwaitsIn : Setup → Option Job → Type 0
-AwaitsIn setup None = Unit {0}
-AwaitsIn setup (Some job) = is_awaiting setup job ≡ true
-
-job_awaits : (setup : Setup) (jobs : List Job) (n : ℕ) → list_all (is_awaiting setup) jobs ≡ true → AwaitsIn setup (job_of jobs n)
-job_awaits setup [] n h = tt
-job_awaits setup (job ∷ jobs) n h = go (job.number == n) refl
-  where
-    b : (is_awaiting setup job ≡ true) × (list_all (is_awaiting setup) jobs ≡ true)
-    b = both (is_awaiting setup job) (list_all (is_awaiting setup) jobs) h
-
-    more : AwaitsIn setup (job_of jobs n)
-    more = job_awaits setup jobs n b.1
-
-    go : (t : Bool) → (job.number == n) ≡ t → AwaitsIn setup (job_of (job ∷ jobs) n)
-    go true e = subst (AwaitsIn setup) (sym (rw e refl)) b.0
-    go false e = subst (AwaitsIn setup) (sym (rw e refl)) more
-
 -- such a job is nothing for a remote
 making : (setup : Setup) (job : Job) → is_awaiting setup job ≡ true → is_making_ready job ≡ true
 making setup job h = (both (is_making_ready job) (is_some (next_name setup job)) h).0
 
-not_free : (setup : Setup) (jobs : List Job) (o : Option Job) → AwaitsIn setup o → is_free_job setup jobs o ≡ false
-not_free setup jobs None a = refl
-not_free setup jobs (Some job) a = rw (making setup job a) refl
+not_free : (setup : Setup) (jobs : List Job) (job : Job) → is_awaiting setup job ≡ true → is_free setup jobs job ≡ false
+not_free setup jobs job a = rw (making setup job a) refl
 
-not_called : (setup : Setup) (jobs : List Job) (remote : ℕ) (o : Option Job) → AwaitsIn setup o → is_called_job setup jobs remote o ≡ false
-not_called setup jobs remote None a = refl
-not_called setup jobs remote (Some job) a = rw (making setup job a, a) refl
+not_called : (setup : Setup) (jobs : List Job) (remote : ℕ) (job : Job) → is_awaiting setup job ≡ true → is_called setup jobs remote job ≡ false
+not_called setup jobs remote job a = rw (making setup job a, a) refl
+
+and_false : (b c : Bool) → c ≡ false → (b && c) ≡ false
+and_false true c h = h
+and_false false c h = refl
+
+no_job : (setup : Setup) (test : Job → Bool) → ((job : Job) → is_awaiting setup job ≡ true → test job ≡ false) → (n : ℕ) (jobs : List Job)
+    → list_all (is_awaiting setup) jobs ≡ true → some_job test n jobs ≡ false
+no_job setup test f n [] h = refl
+no_job setup test f n (job ∷ jobs) h =
+    let b = both (is_awaiting setup job) (list_all (is_awaiting setup) jobs) h in
+    rw (and_false (has_number n job) (test job) (f job b.0), no_job setup test f n jobs b.1) refl
 
 -- ---- one entry once all is done and written
 
@@ -109,13 +99,13 @@ nothing setup s (Heard line) c a w m =
     let b = both (not s.over && not s.closed) (not (list_any (holds_back setup s.tagged) s.jobs)) m in
     untrue s.closed c (both (not s.over) (not s.closed) b.0).1
 nothing setup s (Take job remote) c a w m =
-    let b = both (not s.over && nat_lt remote setup.remotes && is_idle s.jobs remote) (is_free_job setup s.jobs (job_of s.jobs job)) m in
-    let no : is_free_job setup s.jobs (job_of s.jobs job) ≡ false = not_free setup s.jobs (job_of s.jobs job) (job_awaits setup s.jobs job a) in
+    let b = both (not s.over && nat_lt remote setup.remotes && is_idle s.jobs remote) (some_job (is_free setup s.jobs) job s.jobs) m in
+    let no : some_job (is_free setup s.jobs) job s.jobs ≡ false = no_job setup (is_free setup s.jobs) (not_free setup s.jobs) job s.jobs a in
     let yes = b.1 in
     absurd cc
 nothing setup s (Call job remote said) c a w m =
-    let b = both (is_line_said said) (is_called_job setup s.jobs remote (job_of s.jobs job)) m in
-    let no : is_called_job setup s.jobs remote (job_of s.jobs job) ≡ false = not_called setup s.jobs remote (job_of s.jobs job) (job_awaits setup s.jobs job a) in
+    let b = both (is_line_said said) (some_job (is_called setup s.jobs remote) job s.jobs) m in
+    let no : some_job (is_called setup s.jobs remote) job s.jobs ≡ false = no_job setup (is_called setup s.jobs remote) (not_called setup s.jobs remote) job s.jobs a in
     let yes = b.1 in
     absurd cc
 nothing setup s (Say job line) c a w m = absurd cc

@@ -1,8 +1,7 @@
 -- One job of a kit that serves several at once: what its request makes due, by what was told and called in it so far.
-use Rattle.std.specs.Prelude.{ℕ, ◌+◌, ◌==◌, ◌&&◌, ◌||◌, not, Bool, true, false, if◌then◌else◌, List, [], ◌∷◌, map, filter, find, take_while, length, slice_get, Option, Some, None, is_some, codes, drop, bytes_eq}
+use Rattle.std.specs.Prelude.{ℕ, ◌+◌, ◌==◌, ◌&&◌, ◌||◌, not, Bool, true, false, if◌then◌else◌, List, [], ◌∷◌, map, filter, find, take_while, length, slice_get, slice_index, Option, Some, None, is_some, codes, bytes_eq}
 use Rattle.std.specs.List.{list_any}
-use Rattle.ann_key.specs.Numbers.{is_numeral}
-use Rattle.annex_model.specs.Messages.{Extensions, HostMessage, AskExtensions, Transfer, Checkpresent, Remove, host_reading, remote_line, word_of}
+use Rattle.annex_model.specs.Messages.{Extensions, HostMessage, AskExtensions, Transfer, Checkpresent, Remove, host_reading, remote_line}
 use Rattle.annex_model.specs.Tags.{names_async, untag, tagged_line}
 use Rattle.kit_core.specs.declared.call.Said.{Said}
 use Rattle.kit_core.specs.Kits.{Due, Silence, Line, Asks, is_readying, is_prepare, is_yes, work_due, final_line, asked_by}
@@ -102,7 +101,7 @@ is_tagged_as number text (Some t) = t.0 == number && bytes_eq t.1 text
 -- the same as a test, which computes: the tag has no leading zeros
 abbrev pub is_job_line : ℕ → List ℕ → List ℕ → Bool
 is_job_line number text line =
-    if number == 0 then bytes_eq line text else is_tagged_as number text (untag line) && is_numeral (word_of (drop 2 line))
+    if number == 0 then bytes_eq line text else is_tagged_as number text (untag line) && not (slice_index line 2 == 48)
 
 -- ---- its remote
 

@@ -5,7 +5,8 @@ use Rattle.hall.specs.Passes.{HasClosed}
 use Rattle.kit_async.specs.declared.setup.Setup.{Setup}
 use Rattle.kit_async.specs.declared.entry.Entry.{Entry}
 use Rattle.kit_async.specs.declared.entry.Entry.TheVariants.{Heard, Take, Call, Say, Wrote, Close, Lack}
-use Rattle.kit_async.specs.Events.{IsMadeBy, MayStep}
+use Rattle.kit_async.specs.declared.event.Event.{Event}
+use Rattle.kit_async.specs.Events.{IsMadeBy, MayStep, step_of}
 use Rattle.kit_async.specs.Legality.{is_legal, Legal, IsFinished}
 use Rattle.kit_async.specs.Roles.{KitHall, KitPass}
 use Rattle.kit_async.specs.Standings.{standing}
@@ -32,6 +33,11 @@ FinishedStays =
     (setup : Setup) (past rest : List Entry) → is_legal setup (past ++ rest) ≡ true
     → IsFinished setup (standing setup past) → (standing setup past).due ≡ None
     → IsFinished setup (standing setup (past ++ rest)) × (list_any is_spoken rest ≡ false)
+
+-- each step of a core leaves its journal legal
+abbrev pub StepsAreLegal : Type 0
+StepsAreLegal =
+    (setup : Setup) (past : List Entry) (by : ℕ) (event : Event) → Legal setup past → Legal setup (past ++ (step_of setup past by event).group)
 
 -- however many passes step a core in whatever turns, its journal is legal when the hall is closed
 abbrev pub HallsStayLegal : Type 0

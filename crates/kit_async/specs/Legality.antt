@@ -9,7 +9,7 @@ use Rattle.kit_async.specs.declared.why.Why.TheVariants.{Eof, ReadFault, WriteFa
 use Rattle.kit_async.specs.declared.job.Job.{Job}
 use Rattle.kit_async.specs.declared.entry.Entry.{Entry}
 use Rattle.kit_async.specs.declared.entry.Entry.TheVariants.{Heard, Take, Call, Say, Wrote, Close, Lack}
-use Rattle.kit_async.specs.Jobs.{is_making_ready, is_awaiting, is_for_any, is_worked_by, is_job_line, job_of, is_first_of_key}
+use Rattle.kit_async.specs.Jobs.{is_making_ready, is_awaiting, is_for_any, is_worked_by, is_job_line, has_number, is_first_of_key}
 use Rattle.kit_async.specs.Standings.{Standing, opening, after, standing}
 
 -- ---- hearing
@@ -31,13 +31,13 @@ is_idle jobs remote = not (list_any (is_worked_by remote) jobs)
 abbrev pub is_free : Setup → List Job → Job → Bool
 is_free setup jobs job = is_for_any setup job && is_none job.taken && is_first_of_key jobs job
 
-abbrev pub is_free_job : Setup → List Job → Option Job → Bool
-is_free_job setup jobs None = false
-is_free_job setup jobs (Some job) = is_free setup jobs job
+-- an open job of that number is so
+abbrev pub some_job : (Job → Bool) → ℕ → List Job → Bool
+some_job test number jobs = list_any (λ job. has_number number job && test job) jobs
 
 abbrev pub may_take : Setup → Standing → ℕ → ℕ → Bool
 may_take setup s job remote =
-    not s.over && nat_lt remote setup.remotes && is_idle s.jobs remote && is_free_job setup s.jobs (job_of s.jobs job)
+    not s.over && nat_lt remote setup.remotes && is_idle s.jobs remote && some_job (is_free setup s.jobs) job s.jobs
 
 -- ---- a call
 
@@ -51,12 +51,8 @@ is_turn_of setup jobs remote job =
 abbrev pub is_called : Setup → List Job → ℕ → Job → Bool
 is_called setup jobs remote job = if is_making_ready job then is_turn_of setup jobs remote job else is_worked_by remote job
 
-abbrev pub is_called_job : Setup → List Job → ℕ → Option Job → Bool
-is_called_job setup jobs remote None = false
-is_called_job setup jobs remote (Some job) = is_called setup jobs remote job
-
 abbrev pub may_call : Setup → Standing → ℕ → ℕ → Said → Bool
-may_call setup s job remote said = is_line_said said && is_called_job setup s.jobs remote (job_of s.jobs job)
+may_call setup s job remote said = is_line_said said && some_job (is_called setup s.jobs remote) job s.jobs
 
 -- ---- what may follow
 
