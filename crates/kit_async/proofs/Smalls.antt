@@ -111,14 +111,13 @@ changed_small n change same (job ∷ jobs) h =
 
 kept_small : (test : Job → Bool) (jobs : List Job) → AllSmall jobs → AllSmall (filter test jobs)
 kept_small test [] h = refl
-kept_small test (job ∷ jobs) h = go (test job) refl
+kept_small test (job ∷ jobs) h =
+    let b = both (has_small job) (list_all has_small jobs) h in
+    go (test job) refl b.0 (kept_small test jobs b.1)
   where
-    b : (has_small job ≡ true) × (list_all has_small jobs ≡ true)
-    b = both (has_small job) (list_all has_small jobs) h
-
-    go : (t : Bool) → test job ≡ t → AllSmall (filter test (job ∷ jobs))
-    go true e = rw (e, b.0, kept_small test jobs b.1) refl
-    go false e = rw e (kept_small test jobs b.1)
+    go : (t : Bool) → test job ≡ t → has_small job ≡ true → AllSmall (filter test jobs) → AllSmall (filter test (job ∷ jobs))
+    go true e k more = rw (e, k, more) refl
+    go false e k more = rw e more
 
 added_small : (jobs : List Job) (job : Job) → AllSmall jobs → has_small job ≡ true → AllSmall (jobs ++ job ∷ [])
 added_small [] job h k = rw k refl
@@ -175,11 +174,11 @@ mapped_small n h (Some line) = h
 -- the job of a small number
 found_small : (setup : Setup) (jobs : List Job) (n : ℕ) → n < 2 ^ 64 → SmallDue (due_of setup (job_of jobs n))
 found_small setup [] n h = tt
-found_small setup (job ∷ jobs) n h = go (has_number n job) refl
+found_small setup (job ∷ jobs) n h = go (has_number n job) refl (found_small setup jobs n h)
   where
-    go : (b : Bool) → has_number n job ≡ b → SmallDue (due_of setup (job_of (job ∷ jobs) n))
-    go true e = rw e (mapped_small job.number (subst (λ (m : ℕ). m < 2 ^ 64) (sym (equal_number job.number n e)) h) (line_in setup job))
-    go false e = rw e (found_small setup jobs n h)
+    go : (b : Bool) → has_number n job ≡ b → SmallDue (due_of setup (job_of jobs n)) → SmallDue (due_of setup (job_of (job ∷ jobs) n))
+    go true e more = rw e (mapped_small job.number (subst (λ (m : ℕ). m < 2 ^ 64) (sym (equal_number job.number n e)) h) (line_in setup job))
+    go false e more = rw e more
 
 pub heard_due : (setup : Setup) (s : Standing) (text : List ℕ) (h : Hearing) → SmallHearing h → s.due ≡ None → SmallDue (heard_as setup s text h).due
 heard_due setup s text Foul n d = rw d tt
@@ -198,14 +197,14 @@ answer_small setup job said over h = go (not over && settles setup job said) ref
 -- the job of any number, among small ones
 called_due_from : (setup : Setup) (s : Standing) (said : Said) (jobs : List Job) (n : ℕ) → AllSmall jobs → s.due ≡ None → SmallDue (called_in setup s said (job_of jobs n)).due
 called_due_from setup s said [] n a d = rw d tt
-called_due_from setup s said (job ∷ jobs) n a d = go (has_number n job) refl
+called_due_from setup s said (job ∷ jobs) n a d =
+    let b = both (has_small job) (list_all has_small jobs) a in
+    go (has_number n job) refl (small_of job.number b.0) (called_due_from setup s said jobs n b.1 d)
   where
-    b : (has_small job ≡ true) × (list_all has_small jobs ≡ true)
-    b = both (has_small job) (list_all has_small jobs) a
-
-    go : (t : Bool) → has_number n job ≡ t → SmallDue (called_in setup s said (job_of (job ∷ jobs) n)).due
-    go true e = rw e (answer_small setup job said s.over (small_of job.number b.0))
-    go false e = rw e (called_due_from setup s said jobs n b.1 d)
+    go : (t : Bool) → has_number n job ≡ t → job.number < 2 ^ 64 → SmallDue (called_in setup s said (job_of jobs n)).due
+        → SmallDue (called_in setup s said (job_of (job ∷ jobs) n)).due
+    go true e k more = rw e (answer_small setup job said s.over k)
+    go false e k more = rw e more
 
 pub called_due : (setup : Setup) (s : Standing) (said : Said) (n : ℕ) → AllSmall s.jobs → s.due ≡ None → SmallDue (called_in setup s said (job_of s.jobs n)).due
 called_due setup s said n a d = called_due_from setup s said s.jobs n a d

@@ -1,10 +1,10 @@
--- Each step of a core leaves its journal legal, and makes what its number may make.
+-- Each step of a core leaves its journal legal.
 use Rattle.std.proofs.Common.{◌≡◌, ◌⊎◌, inl, inr, ℕ, ◌+◌, ◌-◌, ◌≤◌, ◌<◌, ◌^◌, List, [], ◌∷◌, ◌++◌, refl, sym, ap, subst, ◌∙◌, Bool, true, false, not, ◌==◌, cond, Some, None, Option, arith}
-use Rattle.std.specs.Prelude.{◌&&◌, ◌||◌, All, fold, find, nat_lt, nat_le, slice_index, bytes_eq, decimal, length, get_or}
+use Rattle.std.specs.Prelude.{◌&&◌, ◌||◌, fold, find, nat_lt, nat_le, slice_index, bytes_eq, decimal, length, get_or}
 use Rattle.std.specs.List.{list_any}
 use Rattle.std.proofs.lemmas.Bool.Decides.{nat_tests}
 use Rattle.std.proofs.lemmas.Fmt.{first_decimal, decimal_nonempty}
-use Rattle.std.proofs.lemmas.List.Elements.{All-nil, All-cons}
+use Rattle.std.proofs.lemmas.Slice.Eq.{bytes_eq-Decides}
 use Rattle.annex_model.specs.Tags.{untag, tagged_line}
 use Rattle.annex_model.proofs.TagReadings.{untag_of_tagged}
 use Rattle.kit_core.specs.declared.call.Said.{Said}
@@ -29,8 +29,7 @@ same : (n : ℕ) → (n == n) ≡ true
 same n = grind (arith, nat_tests)
 
 same_bytes : (xs : List ℕ) → bytes_eq xs xs ≡ true
-same_bytes [] = refl
-same_bytes (x ∷ xs) = rw (same x, same_bytes xs) refl
+same_bytes xs = (bytes_eq-Decides xs xs).1 refl
 
 or_right : (a b : Bool) → b ≡ true → (a || b) ≡ true
 or_right true b h = refl
@@ -41,9 +40,9 @@ neither true b h = absurd cc
 neither false true h = absurd cc
 neither false false h = (refl, refl)
 
-not_not : (b : Bool) → not b ≡ false → b ≡ true
-not_not true h = refl
-not_not false h = absurd cc
+twice_not : (b : Bool) → not (not b) ≡ true → b ≡ true
+twice_not true h = refl
+twice_not false h = absurd cc
 
 -- ---- the line of a job
 
@@ -115,13 +114,14 @@ hear_fits setup s line d = go (may_hear setup s) refl
 -- what is found is one of that number
 found_some : (test : Job → Bool) (jobs : List Job) (job : Job) → find test jobs ≡ Some job → some_job test job.number jobs ≡ true
 found_some test [] job h = absurd cc
-found_some test (x ∷ xs) job h = go (test x) refl h
+found_some test (x ∷ xs) job h = go (test x) refl h (found_some test xs job)
   where
-    go : (b : Bool) → test x ≡ b → cond {A = Option Job} b (Some x) (find test xs) ≡ Some job → some_job test job.number (x ∷ xs) ≡ true
-    go true e f =
+    go : (b : Bool) → test x ≡ b → cond {A = Option Job} b (Some x) (find test xs) ≡ Some job
+        → (find test xs ≡ Some job → some_job test job.number xs ≡ true) → some_job test job.number (x ∷ xs) ≡ true
+    go true e f more =
         let is : x ≡ job = cc in
         subst (λ (j : Job). some_job test j.number (x ∷ xs) ≡ true) is (rw (same x.number, e) refl)
-    go false e f = or_right (has_number job.number x && test x) (some_job test job.number xs) (found_some test xs job f)
+    go false e f more = or_right (has_number job.number x && test x) (some_job test job.number xs) (more f)
 
 free_fits : (setup : Setup) (s : Standing) (remote : ℕ) → s.due ≡ None → nat_lt remote setup.remotes ≡ true
     → (o : Option Job) → first_free setup s remote ≡ o → Fits setup s (free_step setup s remote o).group
@@ -133,13 +133,9 @@ free_fits setup s remote d few (Some job) e = go (s.over || not (is_idle s.jobs 
     go true f g = absurd cc
     go false f g =
         let n = neither s.over (not (is_idle s.jobs remote)) f in
-        let idle : is_idle s.jobs remote ≡ true = free_of (is_idle s.jobs remote) n.1 in
+        let idle : is_idle s.jobs remote ≡ true = twice_not (is_idle s.jobs remote) n.1 in
         let m : may_take setup s job.number remote ≡ true = rw (n.0, few, idle, found_some (is_free setup s.jobs) s.jobs job g) refl in
         cons_fits setup s (Take job.number remote) [] (follows_of setup s (Take job.number remote) d m) (none_fits setup (after setup s (Take job.number remote)) d)
-      where
-        free_of : (b : Bool) → not (not b) ≡ true → b ≡ true
-        free_of true h = refl
-        free_of false h = absurd cc
 
 turn_fits : (setup : Setup) (s : Standing) (remote : ℕ) → s.due ≡ None → nat_lt remote setup.remotes ≡ true → (o : Option Job) → Fits setup s (turn_step setup s remote o).group
 turn_fits setup s remote d few None = free_fits setup s remote d few (first_free setup s remote) refl
@@ -151,7 +147,6 @@ call_fits setup s remote said d a = go (is_line_said said) refl
     found : is_line_said said ≡ true → (o : Option Job) → find (is_called setup s.jobs remote) s.jobs ≡ o → Fits setup s (called_step setup s remote said o).group
     found l None e = none_fits setup s d
     found l (Some job) e =
-        let call = Call job.number remote said in
         let m : may_come setup s (Call job.number remote said) ≡ true = rw (l, found_some (is_called setup s.jobs remote) s.jobs job e) refl in
         cons_fits setup s (Call job.number remote said) (due_said (after setup s (Call job.number remote said)).due) (follows_of setup s (Call job.number remote said) d m)
         (due_fits setup (after setup s (Call job.number remote said)) (after setup s (Call job.number remote said)).due refl (called_due setup s said job.number a d))

@@ -1,5 +1,5 @@
 -- What holds of every legal journal, and of every hall of a kit's core.
-use Rattle.std.specs.Prelude.{ℕ, ◌≡◌, Bool, true, false, List, [], ◌∷◌, ◌++◌, Option, None}
+use Rattle.std.specs.Prelude.{ℕ, ◌≡◌, All, Bool, true, false, List, [], ◌∷◌, ◌++◌, Option, None}
 use Rattle.std.specs.List.{list_any}
 use Rattle.hall.specs.Passes.{HasClosed}
 use Rattle.kit_async.specs.declared.setup.Setup.{Setup}
@@ -38,6 +38,10 @@ FinishedStays =
 abbrev pub StepsAreLegal : Type 0
 StepsAreLegal =
     (setup : Setup) (past : List Entry) (by : ℕ) (event : Event) → Legal setup past → Legal setup (past ++ (step_of setup past by event).group)
+
+-- and makes what its number may make
+abbrev pub StepsAreMade : Type 0
+StepsAreMade = (setup : Setup) (past : List Entry) (by : ℕ) (event : Event) → All (IsMadeBy by) (step_of setup past by event).group
 
 -- however many passes step a core in whatever turns, its journal is legal when the hall is closed
 abbrev pub HallsStayLegal : Type 0

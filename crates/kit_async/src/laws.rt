@@ -2,7 +2,7 @@
 ghost use Rattle.std.specs.Prelude.{◌≡◌, [], ◌∷◌, ◌++◌, codes, true, false, Some, None};
 ghost use Rattle.kit_core.specs.declared.call.Said.TheVariants.{Yes, No, Failure};
 ghost use Rattle.kit_async.specs.declared.entry.Entry.TheVariants.{Heard, Take, Call, Say, Wrote, Close, Lack};
-ghost use Rattle.kit_async.specs.Laws.{FrontsAreLegal, OverIsLast, FinishedStays, StepsAreLegal, HallsStayLegal};
+ghost use Rattle.kit_async.specs.Laws.{FrontsAreLegal, OverIsLast, FinishedStays, StepsAreLegal, StepsAreMade, HallsStayLegal};
 ghost use Rattle.kit_async.specs.Legality.{is_legal, is_done};
 ghost use Rattle.kit_async.specs.Rows.{two, bare, version, error, tagging, asking, readying, ready, check_a, check_b, absent_a, present_b, crossed, whole, plain, plain_check};
 ghost use Rattle.kit_async.specs.Standings.{standing};
@@ -120,9 +120,10 @@ pub fn finished_stays()
     ensures { FinishedStays }
 {}
 
-/// Each step of a core leaves its journal legal.
+/// Each step of a core leaves its journal legal, and makes what its number may make.
 pub fn steps_are_legal()
-    ensures { StepsAreLegal }
+    ensures legal { StepsAreLegal }
+    ensures made { StepsAreMade }
 {}
 
 /// However many passes step a core in whatever turns, its journal is legal when the hall is closed.
