@@ -1,5 +1,6 @@
 pub mod Fronts
 pub mod KitHalls
+pub mod Listening
 pub mod Making
 pub mod Overs
 pub mod Smalls

@@ -1,14 +1,15 @@
 -- What holds of every legal journal, and of every hall of a kit's core.
 use Rattle.std.specs.Prelude.{ℕ, ◌≡◌, All, Bool, true, false, List, [], ◌∷◌, ◌++◌, Option, None}
 use Rattle.std.specs.List.{list_any}
-use Rattle.hall.specs.Passes.{HasClosed}
+use Rattle.hall.specs.Passes.{HasClosed, HasEntered, seen_of}
 use Rattle.kit_async.specs.declared.setup.Setup.{Setup}
 use Rattle.kit_async.specs.declared.entry.Entry.{Entry}
 use Rattle.kit_async.specs.declared.entry.Entry.TheVariants.{Heard, Take, Call, Say, Wrote, Close, Lack}
 use Rattle.kit_async.specs.declared.event.Event.{Event}
 use Rattle.kit_async.specs.Events.{IsMadeBy, MayStep, step_of}
 use Rattle.kit_async.specs.Legality.{is_legal, Legal, IsFinished}
-use Rattle.kit_async.specs.Roles.{KitHall, KitPass}
+use Rattle.kit_async.specs.declared.event.Reply.{Reply}
+use Rattle.kit_async.specs.Roles.{KitHall, KitPass, heard_lines, hears}
 use Rattle.kit_async.specs.Standings.{standing}
 
 -- a line of the host or of the kit
@@ -48,3 +49,9 @@ abbrev pub HallsStayLegal : Type 0
 HallsStayLegal =
     (h : KitHall) (passes : List KitPass) (final : List Entry) (fixed : Setup) → HasClosed IsMadeBy MayStep h passes final fixed
     → Legal h.fixed h.start → Legal h.fixed final × (fixed ≡ h.fixed)
+
+-- what a reader sees as heard is what it told and the core took: nobody else hears
+abbrev pub ReadersHear : Type 0
+ReadersHear =
+    (h : KitHall) (before after : KitPass) (event : Event) (reply : Reply) → before.number ≡ 1 → HasEntered IsMadeBy MayStep h before after event reply
+    → heard_lines (seen_of after) ≡ heard_lines (seen_of before) ++ hears event reply

@@ -15,6 +15,10 @@ use Rattle.kit_async.specs.declared.why.Why.TheVariants.{Eof, ReadFault, WriteFa
 use Rattle.kit_async.specs.declared.job.Job.{Job}
 use Rattle.kit_async.specs.declared.entry.Entry.{Entry}
 use Rattle.kit_async.specs.declared.entry.Entry.TheVariants.{Heard, Take, Call, Say, Wrote, Close, Lack}
+use Rattle.kit_async.specs.declared.event.Event.{Event}
+use Rattle.kit_async.specs.declared.event.Event.TheVariants.{Hear}
+use Rattle.kit_async.specs.declared.event.Reply.{Reply}
+use Rattle.kit_async.specs.declared.event.Reply.TheVariants.{Done, Last}
 use Rattle.kit_async.specs.Jobs.{due_in, job_of}
 use Rattle.kit_async.specs.Standings.{Standing, opening, after, standing}
 use Rattle.kit_async.specs.Legality.{is_done, is_some_line}
@@ -39,6 +43,12 @@ heard_line entry = None
 -- the lines that were heard
 abbrev pub heard_lines : List Entry → List (List ℕ)
 heard_lines journal = filter_map heard_line journal
+
+-- the line that an event tells and the core took, if it did
+abbrev pub hears : Event → Reply → List (List ℕ)
+hears (Hear line) Done = line ∷ []
+hears (Hear line) Last = line ∷ []
+hears event reply = []
 
 -- what is seen of what was read, and what of it is held
 pub record EarValue : Type 0 where

@@ -2,7 +2,7 @@
 ghost use Rattle.std.specs.Prelude.{◌≡◌, [], ◌∷◌, ◌++◌, codes, true, false, Some, None};
 ghost use Rattle.kit_core.specs.declared.call.Said.TheVariants.{Yes, No, Failure};
 ghost use Rattle.kit_async.specs.declared.entry.Entry.TheVariants.{Heard, Take, Call, Say, Wrote, Close, Lack};
-ghost use Rattle.kit_async.specs.Laws.{FrontsAreLegal, OverIsLast, FinishedStays, StepsAreLegal, StepsAreMade, HallsStayLegal};
+ghost use Rattle.kit_async.specs.Laws.{FrontsAreLegal, OverIsLast, FinishedStays, StepsAreLegal, StepsAreMade, HallsStayLegal, ReadersHear};
 ghost use Rattle.kit_async.specs.Legality.{is_legal, is_done};
 ghost use Rattle.kit_async.specs.Rows.{two, bare, version, error, tagging, asking, readying, ready, check_a, check_b, absent_a, present_b, crossed, whole, plain, plain_check};
 ghost use Rattle.kit_async.specs.Standings.{standing};
@@ -129,4 +129,9 @@ pub fn steps_are_legal()
 /// However many passes step a core in whatever turns, its journal is legal when the hall is closed.
 pub fn halls_stay_legal()
     ensures { HallsStayLegal }
+{}
+
+/// What a reader sees as heard is what it told and the core took: nobody else hears.
+pub fn readers_hear()
+    ensures { ReadersHear }
 {}
