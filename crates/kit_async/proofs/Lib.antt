@@ -1,3 +1,4 @@
+pub mod Closings
 pub mod Fronts
 pub mod KitHalls
 pub mod Listening

@@ -33,7 +33,7 @@ none_group by other [] made = refl
 none_group by other (e ∷ group) made =
     rw (unheard by other e (All-head (IsMadeBy by) e group made)) (none_group by other group (All-tail (IsMadeBy by) e group made))
 
-none_log : (setup : Setup) (past : List Entry) (ks : List (Link Entry)) → LegalLog (Allowed IsMadeBy MayStep) setup past ks → NotBy 1 ks → heard_lines (flat ks) ≡ []
+pub none_log : (setup : Setup) (past : List Entry) (ks : List (Link Entry)) → LegalLog (Allowed IsMadeBy MayStep) setup past ks → NotBy 1 ks → heard_lines (flat ks) ≡ []
 none_log setup past [] h n = refl
 none_log setup past (k ∷ ks) h n =
     filter_map-append heard_line k.group (flat ks)

@@ -1,7 +1,7 @@
 -- What holds of every legal journal, and of every hall of a kit's core.
-use Rattle.std.specs.Prelude.{ℕ, ◌≡◌, All, Bool, true, false, List, [], ◌∷◌, ◌++◌, Option, None}
+use Rattle.std.specs.Prelude.{ℕ, ◌≡◌, All, Bool, true, false, List, [], ◌∷◌, ◌++◌, slice_get, Option, Some, None}
 use Rattle.std.specs.List.{list_any}
-use Rattle.hall.specs.Passes.{HasClosed, HasEntered, seen_of}
+use Rattle.hall.specs.Passes.{HasClosed, HasEntered, IsPassOf, seen_of}
 use Rattle.kit_async.specs.declared.setup.Setup.{Setup}
 use Rattle.kit_async.specs.declared.entry.Entry.{Entry}
 use Rattle.kit_async.specs.declared.entry.Entry.TheVariants.{Heard, Take, Call, Say, Wrote, Close, Lack}
@@ -55,3 +55,9 @@ abbrev pub ReadersHear : Type 0
 ReadersHear =
     (h : KitHall) (before after : KitPass) (event : Event) (reply : Reply) → before.number ≡ 1 → HasEntered IsMadeBy MayStep h before after event reply
     → heard_lines (seen_of after) ≡ heard_lines (seen_of before) ++ hears event reply
+
+-- and when the hall is closed, the journal's lines are those that the reader has seen
+abbrev pub FinalIsHeard : Type 0
+FinalIsHeard =
+    (h : KitHall) (passes : List KitPass) (final : List Entry) (fixed : Setup) (i : ℕ) (p : KitPass) → HasClosed IsMadeBy MayStep h passes final fixed
+    → slice_get passes i ≡ Some p → IsPassOf h p → p.number ≡ 1 → heard_lines final ≡ heard_lines (seen_of p)

@@ -2,7 +2,7 @@
 ghost use Rattle.std.specs.Prelude.{◌≡◌, [], ◌∷◌, ◌++◌, codes, true, false, Some, None};
 ghost use Rattle.kit_core.specs.declared.call.Said.TheVariants.{Yes, No, Failure};
 ghost use Rattle.kit_async.specs.declared.entry.Entry.TheVariants.{Heard, Take, Call, Say, Wrote, Close, Lack};
-ghost use Rattle.kit_async.specs.Laws.{FrontsAreLegal, OverIsLast, FinishedStays, StepsAreLegal, StepsAreMade, HallsStayLegal, ReadersHear};
+ghost use Rattle.kit_async.specs.Laws.{FrontsAreLegal, OverIsLast, FinishedStays, StepsAreLegal, StepsAreMade, HallsStayLegal, ReadersHear, FinalIsHeard};
 ghost use Rattle.kit_async.specs.Legality.{is_legal, is_done};
 ghost use Rattle.kit_async.specs.Rows.{two, bare, version, error, tagging, asking, readying, ready, check_a, check_b, absent_a, present_b, crossed, whole, plain, plain_check};
 ghost use Rattle.kit_async.specs.Standings.{standing};
@@ -133,5 +133,6 @@ pub fn halls_stay_legal()
 
 /// What a reader sees as heard is what it told and the core took: nobody else hears.
 pub fn readers_hear()
-    ensures { ReadersHear }
+    ensures entered { ReadersHear }
+    ensures closed { FinalIsHeard }
 {}
