@@ -6,12 +6,16 @@ use Rattle.std.proofs.lemmas.List.Elements.{filter_map-append}
 use Rattle.hall.specs.declared.view.Link.{Link}
 use Rattle.hall.specs.Log.{flat, NotBy, groups_by, Allowed, Legal as LegalLog}
 use Rattle.hall.specs.Passes.{HasAllOf, HasClosed, IsPassOf, seen_of}
-use Rattle.hall.proofs.Logs.{seen-more, legal-after, groups_by-append, get-from_all}
+use Rattle.hall.proofs.Logs.{seen-more, legal-after, legal-before, groups_by-append, get-from_all}
 use Rattle.kit_async.specs.declared.setup.Setup.{Setup}
 use Rattle.kit_async.specs.declared.entry.Entry.{Entry}
 use Rattle.kit_async.specs.Events.{IsMadeBy, MayStep}
 use Rattle.kit_async.specs.Roles.{KitHall, KitPass, heard_line, heard_lines}
+use Rattle.kit_async.specs.Standings.{standing}
+use Rattle.kit_async.specs.Legality.{is_legal, Legal, IsFinished}
+use Rattle.kit_async.proofs.KitHalls.{legal_log, halls_stay_legal}
 use Rattle.kit_async.proofs.Listening.{none_log}
+use Rattle.kit_async.proofs.Overs.{finished_stays}
 
 -- no group of a number
 not_by : (n : ℕ) (ks : List (Link Entry)) → groups_by n ks ≡ [] → NotBy n ks
@@ -35,15 +39,32 @@ behind log p all = record { more = all.seen.0; whole = all.seen.1; others = not_
     none = append_cancel_left (groups_by p.number p.links) (groups_by p.number all.seen.0) []
         (sym (groups_by-append p.number p.links all.seen.0) ∙ ap (groups_by p.number) all.seen.1 ∙ all.own ∙ sym (append-nil (groups_by p.number p.links)))
 
+final_is : (h : KitHall) (passes : List KitPass) (final : List Entry) (fixed : Setup) (p : KitPass) (closed : HasClosed IsMadeBy MayStep h passes final fixed)
+    → (b : Behind closed.log p) → p.start ≡ h.start → final ≡ seen_of p ++ flat b.more
+final_is h passes final fixed p closed b begins =
+    closed.is ∙ ap (λ (l : List (Link Entry)). h.start ++ flat l) (sym b.whole) ∙ seen-more h.start p.links b.more
+    ∙ ap (λ (s : List Entry). (s ++ flat p.links) ++ flat b.more) (sym begins)
+
 pub final_heard : (h : KitHall) (passes : List KitPass) (final : List Entry) (fixed : Setup) (i : ℕ) (p : KitPass) → HasClosed IsMadeBy MayStep h passes final fixed
     → slice_get passes i ≡ Some p → IsPassOf h p → p.number ≡ 1 → heard_lines final ≡ heard_lines (seen_of p)
-final_heard h passes final fixed i p closed there of one =
+final_heard h passes final fixed i p closed there ours one =
     let b = behind closed.log p (get-from_all (HasAllOf closed.log) passes closed.each i p there) in
     let grown = legal-after (Allowed IsMadeBy MayStep) h.fixed h.start p.links b.more
         (subst (λ (l : List (Link Entry)). LegalLog (Allowed IsMadeBy MayStep) h.fixed h.start l) (sym b.whole) closed.legal) in
     let none : heard_lines (flat b.more) ≡ [] = none_log h.fixed (h.start ++ flat p.links) b.more grown (subst (λ (n : ℕ). NotBy n b.more) one b.others) in
-    let whole : final ≡ seen_of p ++ flat b.more =
-        closed.is ∙ ap (λ (l : List (Link Entry)). h.start ++ flat l) (sym b.whole) ∙ seen-more h.start p.links b.more
-        ∙ ap (λ (s : List Entry). (s ++ flat p.links) ++ flat b.more) (sym of.1.1.0) in
-    ap heard_lines whole ∙ filter_map-append heard_line (seen_of p) (flat b.more)
+    ap heard_lines (final_is h passes final fixed p closed b ours.1.1.0) ∙ filter_map-append heard_line (seen_of p) (flat b.more)
     ∙ ap (λ (xs : List (List ℕ)). heard_lines (seen_of p) ++ xs) none ∙ append-nil (heard_lines (seen_of p))
+
+-- what a pass has seen to be finished is finished in the end
+pub final_finished : (h : KitHall) (passes : List KitPass) (final : List Entry) (fixed : Setup) (i : ℕ) (p : KitPass) → HasClosed IsMadeBy MayStep h passes final fixed
+    → slice_get passes i ≡ Some p → IsPassOf h p → Legal h.fixed h.start → IsFinished h.fixed (standing h.fixed (seen_of p)) → IsFinished h.fixed (standing h.fixed final)
+final_finished h passes final fixed i p closed there ours legal f =
+    let b = behind closed.log p (get-from_all (HasAllOf closed.log) passes closed.each i p there) in
+    let before = legal-before (Allowed IsMadeBy MayStep) h.fixed h.start p.links b.more
+        (subst (λ (l : List (Link Entry)). LegalLog (Allowed IsMadeBy MayStep) h.fixed h.start l) (sym b.whole) closed.legal) in
+    let seen : Legal h.fixed (seen_of p) =
+        subst (λ (s : List Entry). Legal h.fixed (s ++ flat p.links)) (sym ours.1.1.0) (legal_log h.fixed h.start p.links before legal) in
+    let whole = final_is h passes final fixed p closed b ours.1.1.0 in
+    let all : Legal h.fixed final = (halls_stay_legal h passes final fixed closed legal).0 in
+    let k : is_legal h.fixed (seen_of p ++ flat b.more) ≡ true = subst (λ (x : List Entry). is_legal h.fixed x ≡ true) whole all.follow in
+    subst (λ (x : List Entry). IsFinished h.fixed (standing h.fixed x)) (sym whole) (finished_stays h.fixed (seen_of p) (flat b.more) k f seen.told).0

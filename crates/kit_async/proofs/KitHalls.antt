@@ -9,7 +9,7 @@ use Rattle.kit_async.specs.Events.{IsMadeBy, MayStep}
 use Rattle.kit_async.specs.Legality.{Legal}
 use Rattle.kit_async.specs.Roles.{KitHall, KitPass}
 
-legal_log : (setup : Setup) (past : List Entry) (ks : List (Link Entry)) → LegalLog (Allowed IsMadeBy MayStep) setup past ks → Legal setup past → Legal setup (past ++ flat ks)
+pub legal_log : (setup : Setup) (past : List Entry) (ks : List (Link Entry)) → LegalLog (Allowed IsMadeBy MayStep) setup past ks → Legal setup past → Legal setup (past ++ flat ks)
 legal_log setup past [] h l = subst (Legal setup) (sym (append-nil past)) l
 legal_log setup past (k ∷ ks) h l =
     subst (Legal setup) (append_assoc past k.group (flat ks)) (legal_log setup (past ++ k.group) ks h.1 h.0.2.1.legal)

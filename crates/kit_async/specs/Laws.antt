@@ -50,6 +50,14 @@ HallsStayLegal =
     (h : KitHall) (passes : List KitPass) (final : List Entry) (fixed : Setup) → HasClosed IsMadeBy MayStep h passes final fixed
     → Legal h.fixed h.start → Legal h.fixed final × (fixed ≡ h.fixed)
 
+-- What a pass has seen to be finished is so when the hall is closed: so once the writer has nothing more to write, nothing is left to
+-- be written, nor to be said.
+abbrev pub FinalIsFinished : Type 0
+FinalIsFinished =
+    (h : KitHall) (passes : List KitPass) (final : List Entry) (fixed : Setup) (i : ℕ) (p : KitPass) → HasClosed IsMadeBy MayStep h passes final fixed
+    → slice_get passes i ≡ Some p → IsPassOf h p → Legal h.fixed h.start
+    → IsFinished h.fixed (standing h.fixed (seen_of p)) → IsFinished h.fixed (standing h.fixed final)
+
 -- what a reader sees as heard is what it told and the core took: nobody else hears
 abbrev pub ReadersHear : Type 0
 ReadersHear =

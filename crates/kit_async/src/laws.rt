@@ -2,7 +2,7 @@
 ghost use Rattle.std.specs.Prelude.{◌≡◌, [], ◌∷◌, ◌++◌, codes, true, false, Some, None};
 ghost use Rattle.kit_core.specs.declared.call.Said.TheVariants.{Yes, No, Failure};
 ghost use Rattle.kit_async.specs.declared.entry.Entry.TheVariants.{Heard, Take, Call, Say, Wrote, Close, Lack};
-ghost use Rattle.kit_async.specs.Laws.{FrontsAreLegal, OverIsLast, FinishedStays, StepsAreLegal, StepsAreMade, HallsStayLegal, ReadersHear, FinalIsHeard};
+ghost use Rattle.kit_async.specs.Laws.{FrontsAreLegal, OverIsLast, FinishedStays, FinalIsFinished, StepsAreLegal, StepsAreMade, HallsStayLegal, ReadersHear, FinalIsHeard};
 ghost use Rattle.kit_async.specs.Legality.{is_legal, is_done};
 ghost use Rattle.kit_async.specs.Rows.{two, bare, version, error, tagging, asking, readying, ready, check_a, check_b, absent_a, present_b, crossed, whole, plain, plain_check};
 ghost use Rattle.kit_async.specs.Standings.{standing};
@@ -115,9 +115,10 @@ pub fn over_is_last()
     ensures { OverIsLast }
 {}
 
-/// Once nothing more can come and all is written, it stays so.
+/// Once nothing more can come and all is written, it stays so, whoever has seen it.
 pub fn finished_stays()
-    ensures { FinishedStays }
+    ensures journal { FinishedStays }
+    ensures closed { FinalIsFinished }
 {}
 
 /// Each step of a core leaves its journal legal, and makes what its number may make.

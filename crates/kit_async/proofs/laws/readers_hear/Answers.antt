@@ -6,4 +6,4 @@ pub returns-clause-entered : goal.returns-clause-entered
 returns-clause-entered c = λ h before after event reply one entered. reader_hears h before after event reply one entered
 
 pub returns-clause-closed : goal.returns-clause-closed
-returns-clause-closed c = λ h passes final fixed i p closed there of one. final_heard h passes final fixed i p closed there of one
+returns-clause-closed c = λ h passes final fixed i p closed there ours one. final_heard h passes final fixed i p closed there ours one
