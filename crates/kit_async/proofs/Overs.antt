@@ -100,16 +100,16 @@ nothing setup s (Heard line) c a w m =
     untrue s.closed c (both (not s.over) (not s.closed) b.0).1
 nothing setup s (Take job remote) c a w m =
     let b = both (not s.over && nat_lt remote setup.remotes && is_idle s.jobs remote) (some_job (is_free setup s.jobs) job s.jobs) m in
-    let no : some_job (is_free setup s.jobs) job s.jobs ≡ false = no_job setup (is_free setup s.jobs) (not_free setup s.jobs) job s.jobs a in
-    let yes = b.1 in
+    let never : some_job (is_free setup s.jobs) job s.jobs ≡ false = no_job setup (is_free setup s.jobs) (not_free setup s.jobs) job s.jobs a in
+    let now = b.1 in
     absurd cc
 nothing setup s (Call job remote said) c a w m =
     let b = both (is_line_said said) (some_job (is_called setup s.jobs remote) job s.jobs) m in
-    let no : some_job (is_called setup s.jobs remote) job s.jobs ≡ false = no_job setup (is_called setup s.jobs remote) (not_called setup s.jobs remote) job s.jobs a in
-    let yes = b.1 in
+    let never : some_job (is_called setup s.jobs remote) job s.jobs ≡ false = no_job setup (is_called setup s.jobs remote) (not_called setup s.jobs remote) job s.jobs a in
+    let now = b.1 in
     absurd cc
 nothing setup s (Say job line) c a w m = absurd cc
-nothing setup s Wrote c a w m = let no : is_some_line s.unwritten ≡ false = rw w refl in absurd cc
+nothing setup s Wrote c a w m = let never : is_some_line s.unwritten ≡ false = rw w refl in absurd cc
 nothing setup s Close c a w m = untrue s.closed c (both (not s.over) (not s.closed) m).1
 nothing setup s Lack c a w m = absurd cc
 

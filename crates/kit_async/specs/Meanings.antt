@@ -83,12 +83,12 @@ calls_from remote (said ∷ more) = Calls remote said ∷ calls_from (remote + 1
 -- PREPARE and INITREMOTE: with all values, the remotes are called in order, until one doesn't say Yes.
 pub record IsReadied (setup : Setup) (request : HostMessage) (items : List Item) : Type 0 where
   pub values : List (List ℕ)
-  pub yes : List Said
+  pub firsts : List Said
   pub last : Said
   pub all : length values ≡ length setup.settings
-  pub yeses : IsTrue (list_all is_yes yes)
-  pub ends : (is_yes last ≡ false) ⊎ (length yes + 1 ≡ setup.remotes)
-  pub are : items ≡ Told (Some request) ∷ asked_values setup.settings values ++ calls_from 0 (yes ++ last ∷ []) ++ Says (remote_line (final_line (Some request) last)) ∷ []
+  pub agree : IsTrue (list_all is_yes firsts)
+  pub ends : (is_yes last ≡ false) ⊎ (length firsts + 1 ≡ setup.remotes)
+  pub are : items ≡ Told (Some request) ∷ asked_values setup.settings values ++ calls_from 0 (firsts ++ last ∷ []) ++ Says (remote_line (final_line (Some request) last)) ∷ []
 
 -- a request for a key: one call of one remote, and the line for what it said
 pub record IsWorked (request : HostMessage) (items : List Item) : Type 0 where
