@@ -6,3 +6,4 @@ pub mod Making
 pub mod Overs
 pub mod Smalls
 pub mod Stepping
+pub mod Unwritten

@@ -1,5 +1,5 @@
 -- What holds of every legal journal, and of every hall of a kit's core.
-use Rattle.std.specs.Prelude.{ℕ, ◌≡◌, All, Bool, true, false, List, [], ◌∷◌, ◌++◌, slice_get, Option, Some, None}
+use Rattle.std.specs.Prelude.{ℕ, ◌≡◌, ◌≤◌, All, drop, length, Bool, true, false, List, [], ◌∷◌, ◌++◌, slice_get, Option, Some, None}
 use Rattle.std.specs.List.{list_any}
 use Rattle.hall.specs.Passes.{HasClosed, HasEntered, IsPassOf, seen_of}
 use Rattle.kit_async.specs.declared.setup.Setup.{Setup}
@@ -9,7 +9,7 @@ use Rattle.kit_async.specs.declared.event.Event.{Event}
 use Rattle.kit_async.specs.Events.{IsMadeBy, MayStep, step_of}
 use Rattle.kit_async.specs.Legality.{is_legal, Legal, IsFinished}
 use Rattle.kit_async.specs.declared.event.Reply.{Reply}
-use Rattle.kit_async.specs.Roles.{KitHall, KitPass, heard_lines, hears}
+use Rattle.kit_async.specs.Roles.{KitHall, KitPass, heard_lines, hears, count_wrotes, said_lines}
 use Rattle.kit_async.specs.Standings.{standing}
 
 -- a line of the host or of the kit
@@ -49,6 +49,12 @@ abbrev pub HallsStayLegal : Type 0
 HallsStayLegal =
     (h : KitHall) (passes : List KitPass) (final : List Entry) (fixed : Setup) → HasClosed IsMadeBy MayStep h passes final fixed
     → Legal h.fixed h.start → Legal h.fixed final × (fixed ≡ h.fixed)
+
+-- what is not written yet is what was said behind the lines that are, and no more are written than were said
+abbrev pub UnwrittenAre : Type 0
+UnwrittenAre =
+    (setup : Setup) (journal : List Entry) → is_legal setup journal ≡ true
+    → ((standing setup journal).unwritten ≡ drop (count_wrotes journal) (said_lines journal)) × (count_wrotes journal ≤ length (said_lines journal))
 
 -- What a pass has seen to be finished is so when the hall is closed: so once the writer has nothing more to write, nothing is left to
 -- be written, nor to be said.

@@ -95,7 +95,7 @@ is_wrote entry = false
 
 abbrev pub count_wrotes : List Entry → ℕ
 count_wrotes [] = 0
-count_wrotes (entry ∷ rest) = (if is_wrote entry then 1 else 0) + count_wrotes rest
+count_wrotes (entry ∷ rest) = if is_wrote entry then count_wrotes rest + 1 else count_wrotes rest
 
 -- the lines that were said, of which the first so many are written
 abbrev pub said_lines : List Entry → List (List ℕ)

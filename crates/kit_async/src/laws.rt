@@ -2,7 +2,7 @@
 ghost use Rattle.std.specs.Prelude.{◌≡◌, [], ◌∷◌, ◌++◌, codes, true, false, Some, None};
 ghost use Rattle.kit_core.specs.declared.call.Said.TheVariants.{Yes, No, Failure};
 ghost use Rattle.kit_async.specs.declared.entry.Entry.TheVariants.{Heard, Take, Call, Say, Wrote, Close, Lack};
-ghost use Rattle.kit_async.specs.Laws.{FrontsAreLegal, OverIsLast, FinishedStays, FinalIsFinished, StepsAreLegal, StepsAreMade, HallsStayLegal, ReadersHear, FinalIsHeard};
+ghost use Rattle.kit_async.specs.Laws.{FrontsAreLegal, OverIsLast, FinishedStays, FinalIsFinished, UnwrittenAre, StepsAreLegal, StepsAreMade, HallsStayLegal, ReadersHear, FinalIsHeard};
 ghost use Rattle.kit_async.specs.Legality.{is_legal, is_done};
 ghost use Rattle.kit_async.specs.Rows.{two, bare, version, error, tagging, asking, readying, ready, check_a, check_b, absent_a, present_b, crossed, whole, plain, plain_check};
 ghost use Rattle.kit_async.specs.Standings.{standing};
@@ -119,6 +119,11 @@ pub fn over_is_last()
 pub fn finished_stays()
     ensures journal { FinishedStays }
     ensures closed { FinalIsFinished }
+{}
+
+/// What is not written yet is what was said behind the lines that are.
+pub fn unwritten_are()
+    ensures { UnwrittenAre }
 {}
 
 /// Each step of a core leaves its journal legal, and makes what its number may make.
