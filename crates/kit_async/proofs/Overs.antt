@@ -72,7 +72,7 @@ not_free : (setup : Setup) (jobs : List Job) (job : Job) → is_awaiting setup j
 not_free setup jobs job a = rw (making setup job a) refl
 
 not_called : (setup : Setup) (jobs : List Job) (remote : ℕ) (job : Job) → is_awaiting setup job ≡ true → is_called setup jobs remote job ≡ false
-not_called setup jobs remote job a = rw (making setup job a, a) refl
+not_called setup jobs remote job a = rw (making setup job a, (both (is_making_ready job) (is_some (next_name setup job)) a).1) refl
 
 and_false : (b c : Bool) → c ≡ false → (b && c) ≡ false
 and_false true c h = h

@@ -34,7 +34,7 @@ equal_number m n h = grind (arith, nat_tests)
 
 -- ---- of a line
 
-SmallPart : Option (ℕ × List ℕ) → Type 0
+abbrev SmallPart : Option (ℕ × List ℕ) → Type 0
 SmallPart None = Unit {0}
 SmallPart (Some t) = t.0 < 2 ^ 64
 
@@ -58,7 +58,7 @@ parted_small true line = go (untag line) refl
 
 -- ---- of what it is
 
-pub SmallHearing : Hearing → Type 0
+abbrev pub SmallHearing : Hearing → Type 0
 SmallHearing Foul = Unit {0}
 SmallHearing Unexpected = Unit {0}
 SmallHearing Aside = Unit {0}
@@ -93,10 +93,10 @@ hearing_small setup jobs tagged line = part_small setup jobs (parted tagged line
 
 -- ---- of jobs
 
-pub has_small : Job → Bool
+abbrev pub has_small : Job → Bool
 has_small job = nat_lt job.number (2 ^ 64)
 
-pub AllSmall : List Job → Type 0
+abbrev pub AllSmall : List Job → Type 0
 AllSmall jobs = list_all has_small jobs ≡ true
 
 changed_small : (n : ℕ) (change : Job → Job) → ((job : Job) → (change job).number ≡ job.number) → (jobs : List Job) → AllSmall jobs → AllSmall (with_job n change jobs)
@@ -163,7 +163,7 @@ standing_small setup journal = small_from setup opening journal refl
 
 -- ---- of what is due
 
-pub SmallDue : Option (ℕ × List ℕ) → Type 0
+abbrev pub SmallDue : Option (ℕ × List ℕ) → Type 0
 SmallDue None = Unit {0}
 SmallDue (Some due) = due.0 < 2 ^ 64
 

@@ -51,7 +51,9 @@ Left unwritten k xs = (unwritten ≡ drop k xs) × (k ≤ length xs)
 
 left_from : (setup : Setup) (s : Standing) (es : List Entry) (k : ℕ) (xs : List (List ℕ)) → Left s.unwritten k xs → legal_from setup s es ≡ true
     → Left (fold (after setup) s es).unwritten (k + count_wrotes es) (xs ++ said_lines es)
-left_from setup s [] k xs l h = subst (Left s.unwritten k) (sym (append-nil xs)) l
+left_from setup s [] k xs l h =
+    let none : k + 0 ≡ k = omega arith in
+    subst (λ (n : ℕ). Left s.unwritten n (xs ++ [])) (sym none) (subst (Left s.unwritten k) (sym (append-nil xs)) l)
 left_from setup s (Heard line ∷ es) k xs l h =
     left_from setup (after setup s (Heard line)) es k xs
     (heard_unwritten setup s (text_in s.tagged line) (hearing_of setup s.jobs s.tagged line) ∙ l.0, l.1)
