@@ -81,13 +81,17 @@ fn served<R: Threads + Wait + Sync>(
     })
 }
 
-const READY: &[u8] = b"EXTENSIONS ASYNC\nJ 1 PREPARE\nJ 2 CHECKPRESENT WORM--a\nJ 3 CHECKPRESENT WORM--b\n";
+const READY: &[u8] =
+    b"EXTENSIONS ASYNC\nJ 1 PREPARE\nJ 2 CHECKPRESENT WORM--a\nJ 3 CHECKPRESENT WORM--b\n";
 
-const A_THEN_B: &[u8] = b"VERSION 1\nEXTENSIONS ASYNC\nJ 1 PREPARE-SUCCESS\nJ 2 CHECKPRESENT-SUCCESS WORM--a\nJ 3 CHECKPRESENT-FAILURE WORM--b\n";
+const A_THEN_B: &[u8] =
+    b"VERSION 1\nEXTENSIONS ASYNC\nJ 1 PREPARE-SUCCESS\nJ 2 CHECKPRESENT-SUCCESS WORM--a\nJ 3 CHECKPRESENT-FAILURE WORM--b\n";
 
-const B_THEN_A: &[u8] = b"VERSION 1\nEXTENSIONS ASYNC\nJ 1 PREPARE-SUCCESS\nJ 3 CHECKPRESENT-FAILURE WORM--b\nJ 2 CHECKPRESENT-SUCCESS WORM--a\n";
+const B_THEN_A: &[u8] =
+    b"VERSION 1\nEXTENSIONS ASYNC\nJ 1 PREPARE-SUCCESS\nJ 3 CHECKPRESENT-FAILURE WORM--b\nJ 2 CHECKPRESENT-SUCCESS WORM--a\n";
 
-const ALONE_OUT: &[u8] = b"VERSION 1\nEXTENSIONS ASYNC\nJ 1 PREPARE-SUCCESS\nJ 2 CHECKPRESENT-FAILURE WORM--a\nJ 3 CHECKPRESENT-FAILURE WORM--b\n";
+const ALONE_OUT: &[u8] =
+    b"VERSION 1\nEXTENSIONS ASYNC\nJ 1 PREPARE-SUCCESS\nJ 2 CHECKPRESENT-FAILURE WORM--a\nJ 3 CHECKPRESENT-FAILURE WORM--b\n";
 
 // One check says Yes only while another is worked on.
 #[test]
@@ -148,7 +152,11 @@ fn each_status_has_its_cause(rt: HostRuntime) -> Result<(), Fail> {
         let alloc = rt.alloc();
         check_end(&rt, &served(&rt, alloc, 3, READY, way)?, 0);
         check_end(&rt, &served(&rt, alloc, 3, b"BOO\n", way)?, 1);
-        check_end(&rt, &served(&rt, alloc, 3, b"EXTENSIONS ASYNC\nJ 5 VALUE x\n", way)?, 1);
+        check_end(
+            &rt,
+            &served(&rt, alloc, 3, b"EXTENSIONS ASYNC\nJ 5 VALUE x\n", way)?,
+            1,
+        );
         let reads = Way {
             read: Some(2),
             ..way
@@ -174,6 +182,9 @@ fn an_error_is_the_last_word(rt: HostRuntime) -> Result<(), Fail> {
         IN_THREADS,
     )?;
     assert_eq!(rt; came.status, 1);
-    assert_eq!(rt; came.out.as_slice(), b"VERSION 1\nEXTENSIONS ASYNC\nERROR unexpected message\n".as_slice());
+    assert_eq!(rt;
+        came.out.as_slice(),
+        b"VERSION 1\nEXTENSIONS ASYNC\nERROR unexpected message\n".as_slice()
+    );
     Ok(())
 }

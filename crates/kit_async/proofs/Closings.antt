@@ -50,7 +50,7 @@ pub final_heard : (h : KitHall) (passes : List KitPass) (final : List Entry) (fi
 final_heard h passes final fixed i p closed there ours one =
     let b = behind closed.log p (get-from_all (HasAllOf closed.log) passes closed.each i p there) in
     let grown = legal-after (Allowed IsMadeBy MayStep) h.fixed h.start p.links b.more
-        (subst (λ (l : List (Link Entry)). LegalLog (Allowed IsMadeBy MayStep) h.fixed h.start l) (sym b.whole) closed.legal) in
+    (subst (λ (l : List (Link Entry)). LegalLog (Allowed IsMadeBy MayStep) h.fixed h.start l) (sym b.whole) closed.legal) in
     let none : heard_lines (flat b.more) ≡ [] = none_log h.fixed (h.start ++ flat p.links) b.more grown (subst (λ (n : ℕ). NotBy n b.more) one b.others) in
     ap heard_lines (final_is h passes final fixed p closed b ours.2) ∙ filter_map-append heard_line (seen_of p) (flat b.more)
     ∙ ap (λ (xs : List (List ℕ)). heard_lines (seen_of p) ++ xs) none ∙ append-nil (heard_lines (seen_of p))
@@ -61,9 +61,9 @@ pub final_finished : (h : KitHall) (passes : List KitPass) (final : List Entry) 
 final_finished h passes final fixed i p closed there ours legal f =
     let b = behind closed.log p (get-from_all (HasAllOf closed.log) passes closed.each i p there) in
     let before = legal-before (Allowed IsMadeBy MayStep) h.fixed h.start p.links b.more
-        (subst (λ (l : List (Link Entry)). LegalLog (Allowed IsMadeBy MayStep) h.fixed h.start l) (sym b.whole) closed.legal) in
+    (subst (λ (l : List (Link Entry)). LegalLog (Allowed IsMadeBy MayStep) h.fixed h.start l) (sym b.whole) closed.legal) in
     let seen : Legal h.fixed (seen_of p) =
-        subst (λ (s : List Entry). Legal h.fixed (s ++ flat p.links)) (sym ours.2) (legal_log h.fixed h.start p.links before legal) in
+    subst (λ (s : List Entry). Legal h.fixed (s ++ flat p.links)) (sym ours.2) (legal_log h.fixed h.start p.links before legal) in
     let whole = final_is h passes final fixed p closed b ours.2 in
     let all : Legal h.fixed final = (halls_stay_legal h passes final fixed closed legal).0 in
     let k : is_legal h.fixed (seen_of p ++ flat b.more) ≡ true = subst (λ (x : List Entry). is_legal h.fixed x ≡ true) whole all.follow in

@@ -117,5 +117,5 @@ reader_hears h before after event reply one e =
     ap heard_lines e.seen
     ∙ filter_map-append heard_line (seen_of before ++ flat e.between) e.group
     ∙ ap (λ (xs : List (List ℕ)). xs ++ heard_lines e.group)
-      (filter_map-append heard_line (seen_of before) (flat e.between) ∙ ap (λ (xs : List (List ℕ)). heard_lines (seen_of before) ++ xs) between ∙ append-nil (heard_lines (seen_of before)))
+    (filter_map-append heard_line (seen_of before) (flat e.between) ∙ ap (λ (xs : List (List ℕ)). heard_lines (seen_of before) ++ xs) between ∙ append-nil (heard_lines (seen_of before)))
     ∙ ap (λ (xs : List (List ℕ)). heard_lines (seen_of before) ++ xs) mine

@@ -66,7 +66,7 @@ left_from setup s (Call job remote said ∷ es) k xs l h =
 left_from setup s (Say job line ∷ es) k xs l h =
     let b = both (follows setup s (Say job line)) (legal_from setup (after setup s (Say job line)) es) h in
     let more : (after setup s (Say job line)).unwritten ≡ drop k (xs ++ line ∷ []) =
-        said_unwritten setup (said_line s line) (job_of s.jobs job) ∙ ap (λ (ys : List (List ℕ)). ys ++ line ∷ []) l.0 ∙ sym (drop-append-le k xs (line ∷ []) l.1) in
+    said_unwritten setup (said_line s line) (job_of s.jobs job) ∙ ap (λ (ys : List (List ℕ)). ys ++ line ∷ []) l.0 ∙ sym (drop-append-le k xs (line ∷ []) l.1) in
     let few : k ≤ length (xs ++ line ∷ []) = let n = length-append xs (line ∷ []) in let f = l.1 in omega (arith, n, f) in
     subst (Left (fold (after setup) (after setup s (Say job line)) es).unwritten (k + count_wrotes es)) (append_assoc xs (line ∷ []) (said_lines es))
     (left_from setup (after setup s (Say job line)) es k (xs ++ line ∷ []) (more, few) b.1)

@@ -40,11 +40,7 @@ pub(crate) fn has_async(names: &[u8]) -> bool
 fn spoken(names: &[u8]) -> &'static [u8]
     ensures { result.now ≡ spoken names.now }
 {
-    if has_async(names) {
-        b"ASYNC"
-    } else {
-        b""
-    }
+    if has_async(names) { b"ASYNC" } else { b"" }
 }
 
 // A request for a key is due to a remote, unless the kit isn't prepared or the file's name is no text.
@@ -70,18 +66,21 @@ impl Job {
         match self.request() {
             None => Due::Silence,
             Some(HostMsg::Extensions(names)) => Due::Line(RemoteMsg::Extensions(spoken(names))),
-            Some(HostMsg::Prepare | HostMsg::Initremote | HostMsg::Value(_)) => match self.next_name(
-                setup,
-            ) {
-                Some(name) => Due::Line(RemoteMsg::Getconfig(name)),
-                None => Due::Call,
-            },
+            Some(HostMsg::Prepare | HostMsg::Initremote | HostMsg::Value(_)) =>
+                match self.next_name(setup) {
+                    Some(name) => Due::Line(RemoteMsg::Getconfig(name)),
+                    None => Due::Call,
+                },
             Some(HostMsg::Transfer(store, key, file)) => for_key(
                 HostMsg::Transfer(store, key, file),
                 self.prepared,
                 file,
             ),
-            Some(HostMsg::Checkpresent(key)) => for_key(HostMsg::Checkpresent(key), self.prepared, b""),
+            Some(HostMsg::Checkpresent(key)) => for_key(
+                HostMsg::Checkpresent(key),
+                self.prepared,
+                b"",
+            ),
             Some(HostMsg::Remove(key)) => for_key(HostMsg::Remove(key), self.prepared, b""),
             Some(HostMsg::Creds(_, _) | HostMsg::Error(_)) => Due::Silence,
             Some(_) => Due::Line(RemoteMsg::UnsupportedRequest),

@@ -6,25 +6,13 @@ use kit_core::Said;
 #[derive(Drop)]
 pub enum Entry {
     /// The host said a line.
-    Heard {
-        line: Bytes,
-    },
+    Heard { line: Bytes },
     /// The remote takes up the job's request. Nobody else will.
-    Take {
-        job: u64,
-        remote: u32,
-    },
+    Take { job: u64, remote: u32 },
     /// The remote was called for the job, and said this.
-    Call {
-        job: u64,
-        remote: u32,
-        said: Said,
-    },
+    Call { job: u64, remote: u32, said: Said },
     /// A line is said to the host.
-    Say {
-        job: u64,
-        line: Bytes,
-    },
+    Say { job: u64, line: Bytes },
     /// The next of the lines that were said was written whole.
     Wrote,
     /// No more is heard.

@@ -101,7 +101,8 @@ fn is_turn_of(setup: &Setup, jobs: &[Job], remote: u32, job: &Job) -> bool
 pub(crate) fn turn_of(setup: &Setup, jobs: &[Job], remote: u32) -> Option<usize>
     ensures { result ≡ position (is_turn_of setup.now jobs.now remote) jobs.now }
 {
-    jobs.iter().position(|job| is_turn_of(setup, jobs, remote, job))
+    jobs.iter()
+        .position(|job| is_turn_of(setup, jobs, remote, job))
 }
 
 /// The place of the first job that any remote may take up.
@@ -125,5 +126,6 @@ fn is_called(setup: &Setup, jobs: &[Job], remote: u32, job: &Job) -> bool
 pub(crate) fn called(setup: &Setup, jobs: &[Job], remote: u32) -> Option<usize>
     ensures { result ≡ position (is_called setup.now jobs.now remote) jobs.now }
 {
-    jobs.iter().position(|job| is_called(setup, jobs, remote, job))
+    jobs.iter()
+        .position(|job| is_called(setup, jobs, remote, job))
 }

@@ -15,12 +15,12 @@ ghost use Rattle.kit_async.specs.Standings.{standing, starts_tags};
 ghost use Rattle.kit_async.specs.Views.{CoreSteps, CoreLacks, IsNextPlace, first_line, lines_from, all_calls_owed, room_owed};
 
 use crate::due::{has_async, job_line};
+use crate::entries::Entries;
 use crate::entry::Entry;
 use crate::event::{Event, Reply};
 use crate::hearing::{Hearing, hearing_of, text_in};
 use crate::job::Job;
 use crate::jobs::{all_await, called, first_free, hold_back, is_idle, place_of, turn_of};
-use crate::entries::Entries;
 use crate::setup::Setup;
 use ann_key::{Bytes, NoMemory};
 use kit_core::Said;
@@ -84,6 +84,7 @@ fn is_line_said(said: &Said) -> bool
 
 /// The number of the pass that reads, and of the one that writes. Those of the remotes come after.
 pub(crate) const READER: u32 = 1;
+
 pub(crate) const WRITER: u32 = 2;
 
 // The line that asks for the setting of that number; none where there is no such setting.
@@ -314,10 +315,7 @@ impl KitCore {
         ensures ok { IfOk result (CoreSteps self.old self.new (hear_step self.old.setup (standing self.old.setup self.old.journal) line)) }
         ensures err { OnErr result ((self.new.setup ≡ self.old.setup) × (self.new.journal ≡ self.old.journal)) }
     {
-        let value = Bytes::copy(
-            self.alloc,
-            value_told(text_in(self.tagged, line.view())),
-        )?;
+        let value = Bytes::copy(self.alloc, value_told(text_in(self.tagged, line.view())))?;
         let Some(at) = place_of(self.jobs.as_slice(), number) else {
             unreachable!()
         };
@@ -346,12 +344,7 @@ impl KitCore {
         if hold_back(&self.setup, self.tagged, self.jobs.as_slice()) {
             return Ok(Reply::Wait);
         }
-        match hearing_of(
-            &self.setup,
-            self.jobs.as_slice(),
-            self.tagged,
-            line.view(),
-        ) {
+        match hearing_of(&self.setup, self.jobs.as_slice(), self.tagged, line.view()) {
             Hearing::Foul => self.hear_foul(line),
             Hearing::Unexpected => self.hear_unexpected(line),
             Hearing::Aside => self.hear_aside(line),
@@ -451,11 +444,7 @@ impl KitCore {
         let settles = self.jobs[at].settles(&self.setup, &said);
         let prepares = self.jobs[at].prepares(&self.setup, &said);
         let owes = settles && !self.over;
-        let answer = if owes {
-            self.answer(at, &said)
-        } else {
-            None
-        };
+        let answer = if owes { self.answer(at, &said) } else { None };
         self.journal.push(Entry::Call {
             job: number,
             remote,

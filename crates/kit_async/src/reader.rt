@@ -3,8 +3,8 @@ ghost use Rattle.std.specs.Prelude.{◌≡◌, [], true, None};
 ghost use Rattle.hall.specs.Passes.{IsPassOf, seen_of};
 ghost use Rattle.kit_async.specs.Roles.{Reads};
 
-use crate::machine::KitCore;
 use crate::event::{Event, Reply};
+use crate::machine::KitCore;
 use crate::turn::{Turn, enter, stop_for};
 use crate::why::Why;
 use ann_key::{Bytes, NoMemory};
@@ -127,12 +127,7 @@ impl<S: Source> Ear<S> {
     }
 
     // One read.
-    fn read<R: Wait>(
-        &mut self,
-        rt: &R,
-        hall: &Hall<KitCore>,
-        pass: &mut Pass<KitCore>,
-    ) -> Turn
+    fn read<R: Wait>(&mut self, rt: &R, hall: &Hall<KitCore>, pass: &mut Pass<KitCore>) -> Turn
         requires { IsPassOf hall.now pass.old }
         ensures pass { IsPassOf hall.now pass.new × (pass.new.number ≡ pass.old.number) }
     {

@@ -4,8 +4,8 @@ ghost use Rattle.ann_outside.specs.Causes.{Rose};
 ghost use Rattle.kit_async.specs.Served.{Serves, setup_of, status_of};
 
 use crate::alone::serve_alone;
-use crate::machine::KitCore;
 use crate::journal::KitJournal;
+use crate::machine::KitCore;
 use crate::reader::{Ear, Reader};
 use crate::setup::Setup;
 use crate::why::Why;
@@ -191,7 +191,11 @@ fn play<
     if !ran {
         serve_alone(&mut reader, &mut writer, backs.as_mut_slice());
     }
-    let Reader { pass: first, ear, .. } = reader;
+    let Reader {
+        pass: first,
+        ear,
+        ..
+    } = reader;
     let Writer {
         pass: second,
         mouth,
@@ -220,14 +224,7 @@ pub fn serve_async_some<
     S: Source + Send + Drop,
     W: Sink + Send + Drop,
     R: Threads + Wait + Sync,
->(
-    rt: &R,
-    alloc: Global,
-    most: usize,
-    remotes: Vec<K>,
-    source: S,
-    sink: W,
-) -> AsyncEnd<K, S, W>
+>(rt: &R, alloc: Global, most: usize, remotes: Vec<K>, source: S, sink: W) -> AsyncEnd<K, S, W>
     requires remotes { (0 < vec_len remotes) × (vec_len remotes ≤ 64) }
     requires open { (S.is_open source ≡ true) × (W.is_open sink ≡ true) }
     ensures serves { Serves (setup_of K.settings remotes.items)

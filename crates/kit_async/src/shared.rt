@@ -1,9 +1,9 @@
 // The core as the value of a hall, which many threads enter.
 ghost use Rattle.std.specs.Prelude.{◌≡◌};
 
-use crate::machine::KitCore;
 use crate::entry::Entry;
 use crate::event::{Event, Reply};
+use crate::machine::KitCore;
 use crate::setup::Setup;
 use ann_key::NoMemory;
 use hall::Held;

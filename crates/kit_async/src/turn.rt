@@ -4,8 +4,8 @@ ghost use Rattle.hall.specs.Passes.{IsPassOf, HasEntered};
 ghost use Rattle.kit_async.specs.Events.{IsMadeBy, MayStep};
 ghost use Rattle.kit_async.specs.declared.turn.Turn.TheVariants.{Over};
 
-use crate::machine::KitCore;
 use crate::event::{Event, Reply};
+use crate::machine::KitCore;
 use crate::why::Why;
 use hall::{Hall, Pass};
 use std::sync::Wait;

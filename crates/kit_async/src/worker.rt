@@ -4,8 +4,8 @@ ghost use Rattle.hall.specs.Passes.{IsPassOf, seen_of};
 ghost use Rattle.kit_core.specs.Calls.{called, is_line_said};
 ghost use Rattle.kit_async.specs.Roles.{CanBeAsked, Works};
 
-use crate::machine::KitCore;
 use crate::event::{Event, Reply};
+use crate::machine::KitCore;
 use crate::turn::{Turn, enter, stop_for};
 use crate::why::Why;
 use ann_key::NoMemory;

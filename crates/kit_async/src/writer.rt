@@ -3,8 +3,8 @@ ghost use Rattle.std.specs.Prelude.{◌≡◌, true, None};
 ghost use Rattle.hall.specs.Passes.{IsPassOf, seen_of};
 ghost use Rattle.kit_async.specs.Roles.{Writes};
 
-use crate::machine::KitCore;
 use crate::event::{Event, Reply};
+use crate::machine::KitCore;
 use crate::turn::{Turn, enter, stop_for};
 use crate::why::Why;
 use ann_key::Bytes;

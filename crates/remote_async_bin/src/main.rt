@@ -45,9 +45,7 @@ fn directories(rt: &HostRuntime) -> Option<Vec<Directory<'_>>>
     for number in 0..REMOTES {
         let mark = mark_of(rt.alloc(), process::id(rt.process()), micros, number + 1)?;
         let desk = desks.desk(number + 1).ok()?;
-        remotes
-            .push(DirRemote::apart(rt.alloc(), desk, mark))
-            .ok()?;
+        remotes.push(DirRemote::apart(rt.alloc(), desk, mark)).ok()?;
     }
     Some(remotes)
 }
