@@ -1,7 +1,7 @@
 // The open jobs of a kit, in the order in which they were heard.
 ghost use Rattle.std.specs.Prelude.{◌≡◌, option_copied, position};
 ghost use Rattle.std.specs.List.{list_any, list_all};
-ghost use Rattle.kit_async.specs.Jobs.{has_number, job_of, is_first_of_key, share_key, is_awaiting};
+ghost use Rattle.kit_async.specs.Jobs.{has_number, job_of, is_first_of_key, is_worked_by, share_key, is_awaiting};
 ghost use Rattle.kit_async.specs.Legality.{holds_back, is_idle, is_free, is_turn_of, is_called};
 
 use crate::job::Job;
@@ -44,11 +44,17 @@ pub(crate) fn hold_back(setup: &Setup, tagged: bool, jobs: &[Job]) -> bool
     jobs.iter().any(|job| holds_back(setup, tagged, job))
 }
 
+fn is_any_worked(jobs: &[Job], remote: u32) -> bool
+    ensures { result ≡ list_any (is_worked_by remote) jobs.now }
+{
+    jobs.iter().any(|job| job.is_worked_by(remote))
+}
+
 /// Whether the remote has taken up nothing that it hasn't answered.
 pub(crate) fn is_idle(jobs: &[Job], remote: u32) -> bool
     ensures { result ≡ is_idle jobs.now remote }
 {
-    !jobs.iter().any(|job| job.is_worked_by(remote))
+    !is_any_worked(jobs, remote)
 }
 
 /// Whether each of them awaits a value.
