@@ -101,4 +101,8 @@ impl Held for Tally {
     fn len(&self) -> u64 {
         self.entries.len() as u64
     }
+
+    fn bells(&self) -> u64 {
+        u64::MAX
+    }
 }

@@ -13,6 +13,7 @@ mod requests;
 mod serving;
 mod shared;
 mod talks;
+mod waits;
 
 pub use event::{Event, Reply};
 pub use journal_look::{EntryRef, Journal, WhatRef};

@@ -10,6 +10,7 @@ ghost use Rattle.host_core.specs.Settings.{registers_after};
 
 use crate::event::{Event, Reply};
 use crate::serving::Past;
+use crate::waits::{Turn, Waits};
 use crate::{group, keeping, moves};
 use ann_key::NoMemory;
 use chunk_log::NoteBook;
@@ -29,6 +30,8 @@ pub struct Core {
     registers: Registers,
     notes: NoteBook,
     shut: bool,
+    // whom the last event concerns
+    waits: Waits,
 }
 
 impl Model for Core {
@@ -69,6 +72,7 @@ impl Core {
             registers,
             notes,
             shut: false,
+            waits: Waits::none(),
         })
     }
 
@@ -112,6 +116,20 @@ impl Core {
         let reply = moves::told(waits, self.shut, step.reply);
         self.shut = shut;
         Ok(reply)
+    }
+
+    /// Notes whom the event of that turn concerned, and whether its number waits. It takes no memory.
+    pub(super) fn heed(&mut self, turn: Turn, answer: &Result<Reply, NoMemory>)
+        ensures { self.new ≡ self.old }
+    {
+        if let Ok(reply) = answer {
+            self.waits.heed(&self.opening, &self.journal, turn, reply);
+        }
+    }
+
+    /// The bells that the event rings which was heeded last.
+    pub(super) fn bells(&self) -> u64 {
+        self.waits.bells()
     }
 
     /// The journal so far. It takes no memory.

@@ -3,6 +3,7 @@ ghost use Rattle.std.specs.Prelude.{◌≡◌};
 
 use crate::event::{Event, Reply};
 use crate::machine::Core;
+use crate::waits::Turn;
 use ann_key::NoMemory;
 use hall::Held;
 use journal_model::{Entry, Opening};
@@ -29,10 +30,17 @@ impl Held for Core {
     ghost is_free = { IsFree };
 
     fn act(&mut self, by: u32, op: Event) -> Result<Reply, NoMemory> {
-        self.step(by, op)
+        let turn = Turn::of(self.journal(), by, &op);
+        let answer = self.step(by, op);
+        self.heed(turn, &answer);
+        answer
     }
 
     fn len(&self) -> u64 {
         self.journal().len()
+    }
+
+    fn bells(&self) -> u64 {
+        Core::bells(self)
     }
 }

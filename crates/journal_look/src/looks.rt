@@ -327,6 +327,9 @@ pub fn is_all_sent(journal: &Journal, child: u32) -> bool
 pub fn first_unsent(journal: &Journal, child: u32) -> Option<&[u8]>
     ensures { option_copied result ≡ option_map (λ w. w.1) (first_of (unsent journal.now.entries child)) }
 {
+    if is_all_sent(journal, child) {
+        return None;
+    }
     let Some(life) = journal.life(child) else {
         return lines::first_unsent(journal.entries(), child);
     };

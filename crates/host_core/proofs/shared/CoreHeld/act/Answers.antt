@@ -1,4 +1,4 @@
-use Rattle.std.proofs.Common.{◌≡◌, ◌++◌, ℕ, List, refl, subst}
+use Rattle.std.proofs.Common.{◌≡◌, ◌++◌, ℕ, List, refl, subst, sym}
 use Rattle.std.specs.Prelude.{All, IfOk, OnOk, Ok, Err, Result}
 use Rattle.ann_key.specs.declared.bytes.NoMemory.{NoMemory}
 use Rattle.journal_model.specs.declared.entry.Entry.{Entry}
@@ -23,5 +23,8 @@ acted (Err n) old new by event e j m l = tt
 
 pub returns-clause-ok : goal.returns-clause-ok
 returns-clause-ok c =
-    acted c.step.result c.args.self.now c.step.new.self.journal c.args.by c.args.op c.step.ensures.reply c.step.ensures.journal c.step.ensures.made
-    (subst (λ (o : Opening). Legal o c.step.new.self.journal) c.step.ensures.opening c.step.ensures.legal)
+    subst
+    (λ (v : CoreValue). IfOk c.step-answer.result (λ reply. (g : List Entry) × (v.journal ≡ c.args.self.now.journal ++ g) × (All (IsMadeBy c.args.by) g × MayStep c.args.self.now.opening c.args.self.now.journal c.args.by c.args.op g reply)))
+    (sym c.heed.ensures)
+    (acted c.step-answer.result c.args.self.now c.step-answer.new.self.journal c.args.by c.args.op c.step-answer.ensures.reply c.step-answer.ensures.journal c.step-answer.ensures.made
+    (subst (λ (o : Opening). Legal o c.step-answer.new.self.journal) c.step-answer.ensures.opening c.step-answer.ensures.legal))

@@ -1,0 +1,169 @@
+// Whom an event concerns. No contract rests on it: a wait may always end sooner or later than it has to.
+ghost use Rattle.std.specs.Prelude.{◌≤◌, length};
+ghost use Rattle.journal_model.specs.Limits.{most_tasks};
+
+use crate::event::{Event, Reply};
+use journal_look::{Journal, WhatRef, are_all_claimed};
+use journal_model::Opening;
+
+/// How many numbers are looked after: those of a hall's passes, and 0.
+const NUMBERS: usize = 71;
+
+/// What a number was told to wait for.
+#[derive(Clone, Copy)]
+enum Wish {
+    Nothing,
+    Task,
+    Verdict { child: u32, job: u64 },
+    Read { child: u32 },
+    Line { child: u32 },
+}
+
+/// One event: how long the journal was, whose it is, and what it waits for if it is answered by Wait.
+#[derive(Clone, Copy)]
+pub(super) struct Turn {
+    from: u64,
+    by: u32,
+    wish: Wish,
+    shuts: bool,
+}
+
+/// What each number waits for, and a bit for each bell that the last event rings: number n hears bell n % 64.
+#[derive(Clone, Copy)]
+pub(super) struct Waits {
+    each: [Wish; NUMBERS],
+    bells: u64,
+}
+
+fn wish_of(event: &Event) -> Wish {
+    match event {
+        Event::Claim { .. } => Wish::Task,
+        Event::Lookup { child, job } => Wish::Verdict {
+            child: *child,
+            job: *job,
+        },
+        Event::Listen { child } => Wish::Read { child: *child },
+        Event::Fetch { child } => Wish::Line { child: *child },
+        _ => Wish::Nothing,
+    }
+}
+
+/// Whether it is to read of the child, or to write to it.
+fn is_about(wish: Wish, of: u32) -> bool {
+    match wish {
+        Wish::Read { child } | Wish::Line { child } => child == of,
+        _ => false,
+    }
+}
+
+/// Whether what is waited for may come of the entry.
+fn may_come(wish: Wish, what: WhatRef<'_>) -> bool {
+    match what {
+        WhatRef::Claim { .. }
+        | WhatRef::Answer { .. }
+        | WhatRef::Got { .. }
+        | WhatRef::Sent { .. }
+        | WhatRef::Note { .. } => false,
+        WhatRef::Ask { child, .. } => is_about(wish, child),
+        WhatRef::Put { child, .. } => match wish {
+            Wish::Line { child: of } => of == child,
+            _ => false,
+        },
+        WhatRef::Verdict { child, job, .. } => match wish {
+            Wish::Verdict { child: of, job: n } => of == child && n == job,
+            _ => false,
+        },
+        _ => true,
+    }
+}
+
+/// Whether the entry may leave nothing to do, once each task is claimed.
+fn may_be_last(what: WhatRef<'_>) -> bool {
+    matches!(
+        what,
+        WhatRef::Claim { .. } | WhatRef::Answer { .. } | WhatRef::Verdict { .. }
+    )
+}
+
+impl Turn {
+    pub(super) fn of(journal: &Journal, by: u32, event: &Event) -> Turn {
+        Turn {
+            from: journal.len(),
+            by,
+            wish: wish_of(event),
+            shuts: matches!(event, Event::Shut { .. }),
+        }
+    }
+}
+
+impl Waits {
+    /// Nobody waits.
+    pub(super) fn none() -> Waits {
+        Waits {
+            each: [Wish::Nothing; NUMBERS],
+            bells: 0,
+        }
+    }
+
+    pub(super) fn bells(&self) -> u64 {
+        self.bells
+    }
+
+    fn wake(&mut self, number: usize) {
+        if number < NUMBERS {
+            self.each[number] = Wish::Nothing;
+            self.bells |= 1 << (number % 64);
+        }
+    }
+
+    fn wake_for(&mut self, what: WhatRef<'_>) {
+        for number in 0..NUMBERS {
+            let wish = self.each[number];
+            if !matches!(wish, Wish::Nothing) && may_come(wish, what) {
+                self.wake(number);
+            }
+        }
+    }
+
+    fn wake_all(&mut self) {
+        for number in 0..NUMBERS {
+            if !matches!(self.each[number], Wish::Nothing) {
+                self.wake(number);
+            }
+        }
+    }
+
+    // Who claims a task, or can claim no more, wakes one that waits for a task, and that one the next: where many wait for a key,
+    // not all need look at each answer.
+    fn wake_claimer(&mut self) {
+        for number in 0..NUMBERS {
+            if matches!(self.each[number], Wish::Task) {
+                self.wake(number);
+                return;
+            }
+        }
+    }
+
+    /// Notes whom the event of that turn concerns, after it, and whether its number waits.
+    pub(super) fn heed(&mut self, opening: &Opening, journal: &Journal, turn: Turn, reply: &Reply)
+        requires { length opening.now.tasks ≤ most_tasks }
+    {
+        self.bells = 0;
+        let waits = matches!(reply, Reply::Wait);
+        let mut is_last = turn.shuts;
+        for at in turn.from..journal.len() {
+            if let Some(entry) = journal.entry(at) {
+                self.wake_for(entry.what);
+                is_last = is_last || may_be_last(entry.what) && are_all_claimed(opening, journal);
+            }
+        }
+        if is_last {
+            self.wake_all();
+        } else if !waits && matches!(turn.wish, Wish::Task) {
+            self.wake_claimer();
+        }
+        if (turn.by as usize) < NUMBERS {
+            self.each[turn.by as usize] = if waits { turn.wish } else { Wish::Nothing };
+        }
+    }
+}
