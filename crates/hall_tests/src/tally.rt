@@ -12,6 +12,8 @@ pub struct Tally {
     total: u64,
     limit: u64,
     entries: Vec<(u32, u64)>,
+    // whether the last act added something
+    grew: bool,
 }
 
 impl Model for Tally {
@@ -34,6 +36,7 @@ impl Tally {
             total: 0,
             limit,
             entries: Vec::new(alloc),
+            grew: false,
         }
     }
 
@@ -62,6 +65,7 @@ impl Tally {
         self.entries.reserve(1)?;
         self.entries.push_reserved((by, number));
         self.total = self.total.wrapping_add(number);
+        self.grew = true;
         Ok(())
     }
 }
@@ -89,6 +93,7 @@ impl Held for Tally {
     ghost is_free = { IsTotal };
 
     fn act(&mut self, by: u32, op: Option<u64>) -> Result<u64, NoMemory> {
+        self.grew = false;
         match op {
             Some(number) => {
                 self.add(by, number)?;
@@ -102,7 +107,8 @@ impl Held for Tally {
         self.entries.len() as u64
     }
 
+    // Passes that look and then rest would wake one another without end, if those that add nothing rang.
     fn bells(&self) -> u64 {
-        u64::MAX
+        if self.grew { u64::MAX } else { 0 }
     }
 }

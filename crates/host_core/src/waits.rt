@@ -144,12 +144,18 @@ impl Waits {
         }
     }
 
+    fn set(&mut self, by: u32, wish: Wish) {
+        if (by as usize) < NUMBERS {
+            self.each[by as usize] = wish;
+        }
+    }
+
     /// Notes whom the event of that turn concerns, after it, and whether its number waits.
     pub(super) fn heed(&mut self, opening: &Opening, journal: &Journal, turn: Turn, reply: &Reply)
         requires { length opening.now.tasks ≤ most_tasks }
     {
         self.bells = 0;
-        let waits = matches!(reply, Reply::Wait);
+        self.set(turn.by, Wish::Nothing);
         let mut is_last = turn.shuts;
         for at in turn.from..journal.len() {
             if let Some(entry) = journal.entry(at) {
@@ -157,13 +163,14 @@ impl Waits {
                 is_last = is_last || may_be_last(entry.what) && are_all_claimed(opening, journal);
             }
         }
+        let waits = matches!(reply, Reply::Wait);
         if is_last {
             self.wake_all();
         } else if !waits && matches!(turn.wish, Wish::Task) {
             self.wake_claimer();
         }
-        if (turn.by as usize) < NUMBERS {
-            self.each[turn.by as usize] = if waits { turn.wish } else { Wish::Nothing };
+        if waits {
+            self.set(turn.by, turn.wish);
         }
     }
 }

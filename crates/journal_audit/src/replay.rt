@@ -67,8 +67,8 @@ fn found_at_end(opening: &Opening, core: &Core, journal: &Journal) -> Audit
     }
 }
 
-/// What is found of the journal of a run that began so. It is plain and slow: for each entry it goes through all that stand
-/// before it, more than once. It takes memory for a copy of the opening and of the journal.
+/// What is found of the journal of a run that began so. It does the run again: a core is told each entry, and has to append the
+/// same. It takes memory for a copy of the opening and of the journal.
 pub fn audit(alloc: Global, opening: &Opening, journal: &Journal) -> Result<Audit, NoMemory>
     requires { MayBegin opening.now }
     ensures audit { IfOk result (IsAudit opening.now journal.now.entries) }

@@ -70,7 +70,8 @@ impl<I: Sink, O: Source> Lone<I, O> {
         }
     }
 
-    /// Closes both halves, and hands them out with what was read and not fed. It takes no memory.
+    /// Closes both halves, the inlet first, so that a child which still writes finds its input at an end before its output breaks.
+    /// Hands them out with what was read and not fed. It takes no memory.
     pub fn finish(self) -> Wire<I, O>
         ensures child { result.child ≡ self.ear.child }
         ensures taken { I.taken result.inlet ≡ self.mouth.taken }
@@ -83,8 +84,8 @@ impl<I: Sink, O: Source> Lone<I, O> {
     {
         let child = self.child();
         let Lone { ear, mouth } = self;
-        let (outlet, rest) = ear.finish();
         let inlet = mouth.finish();
+        let (outlet, rest) = ear.finish();
         Wire {
             child,
             inlet,
