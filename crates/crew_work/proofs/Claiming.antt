@@ -91,20 +91,20 @@ module _ {o : Opening} {n : ℕ} {a : Bool} (c : ℕ) {old new : List Entry} {re
           subst (λ (x : Reply). HasClaimed o n a c old new (claimed_of x)) (sym (said (only r) is))
           (subst (λ (x : List Entry). HasClaimed o n a c old x (claimed_of r)) (sym (grown (only r) is ∙ append-nil p)) h)
 
-      by_least : (f : Option ℕ) → least_free o p ≡ f → step_of o p n (ClaimEvent c) ≡ claim o p n c f → HasClaimed o n a c old new (claimed_of reply)
-      by_least (Some t) least is =
+      by_least : is_gone p c ≡ false → (f : Option ℕ) → least_free o p ≡ f → step_of o p n (ClaimEvent c) ≡ claim o p n c f → HasClaimed o n a c old new (claimed_of reply)
+      by_least there_still (Some t) least is =
           let is_new : new ≡ p ++ entry n (Claim t c) ∷ [] = grown (claim o p n c (Some t)) is in
           subst (λ (x : Reply). HasClaimed o n a c old new (claimed_of x)) (sym (said (claim o p n c (Some t)) is))
           (subst (λ (x : List Entry). (b : Begun o n c t x) × Passed n a old b.past) (sym is_new) (begins o n c p there t least (subst (Legal o) is_new legal), m.passed))
-      by_least None least is = by_all (are_all_claimed o p) refl
+      by_least there_still None least is = by_all (are_all_claimed o p) refl
         where
           by_all : (b : Bool) → are_all_claimed o p ≡ b → HasClaimed o n a c old new (claimed_of reply)
           by_all true all = quiet NoTask (is ∙ (rw all refl)) (m.passed, inl all)
-          by_all false all = quiet Wait (is ∙ (rw all refl)) m.passed
+          by_all false all = quiet Wait (is ∙ (rw all refl)) (m.passed, (all, there_still))
 
       by_gone : (b : Bool) → is_gone p c ≡ b → HasClaimed o n a c old new (claimed_of reply)
       by_gone true g = quiet (gone p c) (step ∙ (rw g refl)) (m.passed, inr g)
-      by_gone false g = by_least (least_free o p) refl (step ∙ (rw g refl))
+      by_gone false g = by_least g (least_free o p) refl (step ∙ (rw g refl))
 
 -- ---- an answer
 

@@ -1,5 +1,5 @@
 -- What a worker did, task by task.
-use Rattle.std.proofs.Common.{◌≡◌, ℕ, List, [], ◌∷◌, ◌++◌, refl, sym, ap, subst, ◌∙◌, Bool, true, false, not, ◌==◌, append_assoc, append-nil, length}
+use Rattle.std.proofs.Common.{◌≡◌, ℕ, List, [], ◌∷◌, ◌++◌, refl, sym, ap, subst, ◌∙◌, Bool, true, false, not, ◌==◌, append_assoc, append-nil, length, ◌<◌, ◌≤◌, arith}
 use Rattle.std.specs.Prelude.{◌||◌, map, Result, Ok, Err, Some}
 use Rattle.ann_key.specs.declared.bytes.NoMemory.{NoMemory}
 use Rattle.task_text.specs.declared.task.Task.{Task}
@@ -12,11 +12,12 @@ use Rattle.journal_model.specs.declared.entry.What.TheVariants.{Claim, Answer as
 use Rattle.journal_model.specs.declared.entry.Entry.{Entry}
 use Rattle.journal_model.specs.declared.opening.Opening.{Opening}
 use Rattle.journal_model.specs.Journal.{any}
-use Rattle.journal_model.specs.Legality.{Legal, has_open_job, is_claimed_by, task_of}
+use Rattle.journal_model.specs.Legality.{Legal, claims, has_open_job, is_claimed, is_claimed_by, numbers_of, task_of}
 use Rattle.journal_model.specs.Notes.{AreCurrentAt}
 use Rattle.journal_model.specs.Shares.{Moved, is_of_child, makes_only}
-use Rattle.journal_model.proofs.Looks.{entry, same}
+use Rattle.journal_model.proofs.Looks.{any-append, entry, same}
 use Rattle.journal_model.proofs.Testing.{all-join}
+use Rattle.host_core.specs.Steps.{unclaimed}
 use Rattle.link_roles.specs.Doors.{Appended, Passed}
 use Rattle.link_roles.proofs.Roles.{others_make}
 use Rattle.door_asker.specs.AtTasks.{AtTask, SameTask, notings}
@@ -28,8 +29,9 @@ use Rattle.task_run.specs.Askings.{askings, bounds_run}
 use Rattle.task_run.specs.Runs.{TaskRun}
 use Rattle.task_run.specs.Ran.{Ran, HasTaskCauses, answered, behind_more}
 use Rattle.lone_work.specs.Works.{CausedInTurn, DeskTells, TaskDone, all_calls}
+use Rattle.lone_work.proofs.Working.{fewer_left, filter_fewer}
 use Rattle.gathering.specs.Tasks.{IsThrough}
-use Rattle.crew_work.specs.Crews.{AllRan, Begun, CanServe, Did, Does, RanSo, Worked, answers_of, by_task, tasks_of}
+use Rattle.crew_work.specs.Crews.{AllRan, Begun, CanServe, Did, Does, MayHaveMore, RanSo, Worked, answers_of, by_task, tasks_of}
 use Rattle.crew_work.proofs.Claiming.{can_on}
 use Rattle.crew_work.proofs.Doing.{did_both, did_make, did_pass, did_run, task_serves}
 use Rattle.crew_work.proofs.Running.{none_bounds, ran_so, ran_stays, server_bounds}
@@ -188,6 +190,9 @@ module _ {o p : Opening} {n k : ℕ} {a b : Bool} {c d : ℕ} {w v : Bool} (eo :
 pub through_as : {o p : Opening} {c d : ℕ} (z : List Entry) → p ≡ o → d ≡ c → IsThrough p z d → IsThrough o z c
 through_as {o} {p} {c} {d} z eo ec t = subst (λ (q : Opening). IsThrough q z c) eo (subst (λ (e : ℕ). IsThrough p z e) ec t)
 
+pub more_as : (o : Opening) {c d : ℕ} (z : List Entry) → d ≡ c → MayHaveMore o z d → MayHaveMore o z c
+more_as o z ec h = subst (λ (e : ℕ). MayHaveMore o z e) ec h
+
 pub can_as : {o p : Opening} {c d : ℕ} {z : List Entry} → p ≡ o → d ≡ c → CanServe o c z → CanServe p d z
 can_as {o} {p} {c} {d} {z} eo ec t = subst (λ (q : Opening). CanServe q d z) (sym eo) (subst (λ (e : ℕ). CanServe o e z) (sym ec) t)
 
@@ -218,3 +223,23 @@ worked_seen o setup owns n a c x y z P X d e is s = subst (λ (j : List Entry). 
 
 pub can_seen : {o p : Opening} {c : ℕ} {y z : List Entry} → p ≡ o → z ≡ y → CanServe o c y → CanServe p c z
 can_seen {o} {p} {c} {y} {z} eo is t = subst (λ (q : Opening). CanServe q c z) (sym eo) (subst (λ (j : List Entry). CanServe o c j) (sym is) t)
+
+-- ---- fewer tasks are left
+
+-- a task that is claimed after entries of others
+pub fewer_behind : (o : Opening) {n c t : ℕ} {a : Bool} (old mid new more : List Entry) (b : Begun o n c t mid) → Passed n a old b.past → new ≡ mid ++ more
+    → length (unclaimed o new) < length (unclaimed o old)
+fewer_behind o {n} {c} {t} old mid new more b p is =
+    let less : length (unclaimed o new) < length (unclaimed o b.past) = fewer_left o b.past new more n c t b.least (is ∙ ap (λ (x : List Entry). x ++ more) b.is) in
+    let same : length (unclaimed o b.past) ≡ length (unclaimed o (old ++ p.others)) = ap (λ (x : List Entry). length (unclaimed o x)) p.is in
+    omega (arith, less, same, no_more)
+  where
+    claimed_still : (u : ℕ) → not (is_claimed (old ++ p.others) u) ≡ true → not (is_claimed old u) ≡ true
+    claimed_still u h = go (is_claimed old u) (is_claimed p.others u) (sym (ap not (any-append (claims u) old p.others)) ∙ h)
+      where
+        go : (x y : Bool) → not (x || y) ≡ true → not x ≡ true
+        go true y k = absurd cc
+        go false y k = refl
+
+    no_more : length (unclaimed o (old ++ p.others)) ≤ length (unclaimed o old)
+    no_more = filter_fewer (λ (u : ℕ). not (is_claimed old u)) (λ (u : ℕ). not (is_claimed (old ++ p.others) u)) claimed_still (numbers_of o)

@@ -1,5 +1,5 @@
 -- How a worker stands over a core that others step too, and what it leaves.
-use Rattle.std.specs.Prelude.{ℕ, ◌≡◌, ◌<◌, ◌==◌, Bool, true, false, if◌then◌else◌, List, [], ◌∷◌, ◌++◌, map, Some, Ok}
+use Rattle.std.specs.Prelude.{ℕ, ◌≡◌, ◌<◌, ◌==◌, Bool, true, false, if◌then◌else◌, List, [], ◌∷◌, ◌++◌, length, map, Some, Ok}
 use Rattle.ann_outside.specs.Calls.{Gained}
 use Rattle.ann_outside.specs.declared.file_desk.Call.{Call}
 use Rattle.journal_model.specs.declared.answer.Answer.{Answer}
@@ -14,7 +14,10 @@ use Rattle.journal_model.specs.Output.{answers_in}
 use Rattle.journal_model.specs.Shares.{Moved, is_of_child}
 use Rattle.host_core.specs.declared.event.Reply.{Reply}
 use Rattle.host_core.specs.declared.event.Reply.TheVariants.{Task as TaskReply, Wait as WaitReply}
+use Rattle.host_core.specs.Steps.{are_all_claimed, is_gone, unclaimed}
 use Rattle.link_roles.specs.Doors.{Passed}
+use Rattle.link_roles.specs.declared.ear.Turn.{Turn}
+use Rattle.link_roles.specs.declared.ear.Turn.TheVariants.{Again, Rest, Over as Ended}
 use Rattle.door_asker.specs.AtTasks.{AtTask}
 use Rattle.door_asker.specs.KnownLayouts.{IsBook}
 use Rattle.door_asker.specs.Servings.{by_server}
@@ -55,11 +58,21 @@ pub record Begun (o : Opening) (number c t : ℕ) (seen : List Entry) : Type 0 w
   pub at : AtTask o number t seen
   pub can : CanServe o c seen
 
+-- a worker of c may find more to do: not all tasks are claimed, and c is there
+abbrev pub MayHaveMore : Opening → List Entry → ℕ → Type 0
+MayHaveMore o past c = (are_all_claimed o past ≡ false) × (is_gone past c ≡ false)
+
 -- Behind entries of others a task was claimed; or nothing was done, and there is nothing to do for now, or nothing more.
 abbrev pub HasClaimed : Opening → ℕ → Bool → ℕ → List Entry → List Entry → Claimed → Type 0
 HasClaimed o number alone c old new (Task t) = (b : Begun o number c t new) × Passed number alone old b.past
-HasClaimed o number alone c old new Wait = Passed number alone old new
+HasClaimed o number alone c old new Wait = Passed number alone old new × MayHaveMore o new c
 HasClaimed o number alone c old new Over = Passed number alone old new × IsThrough o new c
+
+-- What a turn came to: a task was claimed, so that fewer are left; or there may be more once others go on; or there is nothing more.
+abbrev pub GoesOn : Opening → List Entry → List Entry → ℕ → Turn → Type 0
+GoesOn o old new c Again = length (unclaimed o new) < length (unclaimed o old)
+GoesOn o old new c Rest = MayHaveMore o new c
+GoesOn o old new c Ended = IsThrough o new c
 
 -- ---- what a worker makes
 

@@ -3,9 +3,8 @@ ghost use Rattle.std.specs.Prelude.{◌≡◌, false};
 ghost use Rattle.annex_model.specs.Lines.{has_newline};
 ghost use Rattle.gathering.specs.Tasks.{IsThrough};
 ghost use Rattle.link_roles.specs.Doors.{IsSameDoor};
-ghost use Rattle.link_roles.specs.declared.ear.Turn.TheVariants.{Over};
 ghost use Rattle.lone_work.specs.Works.{AreTasks, desk_tells};
-ghost use Rattle.crew_work.specs.Crews.{CanServe, Worked};
+ghost use Rattle.crew_work.specs.Crews.{CanServe, GoesOn, Worked};
 
 use crate::claims::{Claimed, claim};
 use crate::task::do_task;
@@ -32,7 +31,7 @@ fn turn<W: Way, D: Door, K: Desk>(
     requires can { CanServe (D.opening door.old) (W.serves way.old) (D.seen door.old) }
     ensures worked { Worked (D.opening door.old) setup.now (W.owns way.old) (D.number door.old) (D.alone door.old) (W.serves way.old) (D.seen door.old) (D.seen door.new) (W.wired way.old (D.seen door.old)) (W.wired way.new (D.seen door.new)) (desk_tells (K.log desk.old) (K.counts desk.old)) (desk_tells (K.log desk.new) (K.counts desk.new)) }
     ensures can { CanServe (D.opening door.new) (W.serves way.new) (D.seen door.new) }
-    ensures through { result ≡ Over → IsThrough (D.opening door.old) (D.seen door.new) (W.serves way.old) }
+    ensures on { GoesOn (D.opening door.old) (D.seen door.old) (D.seen door.new) (W.serves way.old) result }
     ensures way { (W.serves way.new ≡ W.serves way.old) × (W.owns way.new ≡ W.owns way.old) × W.same way.old way.new }
     ensures door { IsSameDoor D.opening D.number D.seen D.alone D.loans D.home door.old door.new }
 {

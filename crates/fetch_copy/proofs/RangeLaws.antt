@@ -5,6 +5,7 @@ use Rattle.std.specs.List.{concat, list_all}
 use Rattle.std.proofs.lemmas.List.Folds.{list_all-append}
 use Rattle.std.proofs.lemmas.Bool.Decides.{nat_tests}
 use Rattle.ann_key.specs.declared.bytes.NoMemory.{NoMemory}
+use Rattle.ann_outside.specs.Files.{Files, WhereTold}
 use Rattle.ann_outside.specs.Calls.{Gained, logged, bytes_read}
 use Rattle.ann_outside.specs.declared.file_desk.DeskError.{DeskError}
 use Rattle.ann_outside.specs.declared.file_desk.DeskError.TheVariants as E
@@ -13,6 +14,8 @@ use Rattle.ann_outside.specs.declared.file_desk.Call.TheVariants.{ReadAt, Append
 use Rattle.fetch_copy.specs.declared.copied.Copied.{Copied}
 use Rattle.fetch_copy.specs.declared.copied.Copied.TheVariants.{Done}
 use Rattle.fetch_copy.specs.Copies.{copy_calls, CarryDoes, refusal_of, CountIs, EndsRefused, EndsEarly, RefusedBy}
+use Rattle.fetch_copy.specs.FilesAfter.{HoldsRange, IsUnmade}
+use Rattle.fetch_copy.proofs.Telling.{told_still}
 use Rattle.fetch_copy.specs.CopiesOut.{CopiesRange, CopiesOut, CopiesNothing, reads_before}
 use Rattle.fetch_copy.proofs.CopyLaws.{gained_nothing, gained_more, gained_call, concat-snoc, copy_calls-snoc, ends_refused, not_begun, carries_refused_read}
 
@@ -116,24 +119,28 @@ range_refused a b c file name from to at e r low s high = record {
 
 -- ---- behind the call that makes the file
 
-pub out_made : (a b c : Option (List Call)) (file name : List ℕ) (from to : ℕ) (result : Result Copied NoMemory)
-    → b ≡ logged a (Create name (Ok tt)) → CopiesRange [] b c file from to name result → CopiesOut a c file from to name result
-out_made a b c file name from to result e r = inl record {
-  pieces = r.pieces;
-  ending = r.ending;
-  calls = gained_more a b c (Create name (Ok tt) ∷ []) (copy_calls file name from r.pieces ++ r.ending) (e ∙ gained_call a (Create name (Ok tt)) refl) r.calls;
-  ends = r.ends;
-  count = r.count;
-  most = r.most;
-  within = r.within;
-}
+pub out_made : (a b c : Option (List Call)) (f g : Option Files) (file name : List ℕ) (from to : ℕ) (result : Result Copied NoMemory)
+    → b ≡ logged a (Create name (Ok tt)) → CopiesRange [] b c file from to name result → WhereTold f g (HoldsRange file name from to result)
+    → CopiesOut a c f g file from to name result
+out_made a b c f g file name from to result e r held = inl (
+  record {
+    pieces = r.pieces;
+    ending = r.ending;
+    calls = gained_more a b c (Create name (Ok tt) ∷ []) (copy_calls file name from r.pieces ++ r.ending) (e ∙ gained_call a (Create name (Ok tt)) refl) r.calls;
+    ends = r.ends;
+    count = r.count;
+    most = r.most;
+    within = r.within;
+  },
+  held,
+)
 
-pub out_refused : (a b : Option (List Call)) (file name : List ℕ) (from to : ℕ) (e : DeskError)
-    → b ≡ logged a (Create name (Err e)) → CopiesOut a b file from to name (refusal_of e)
-out_refused a b file name from to e is = inr (not_begun (λ answer. Create name answer) a b e (λ e. refl) is)
+pub out_refused : (a b : Option (List Call)) (f g : Option Files) (file name : List ℕ) (from to : ℕ) (e : DeskError)
+    → b ≡ logged a (Create name (Err e)) → WhereTold f g (IsUnmade name (refusal_of e)) → CopiesOut a b f g file from to name (refusal_of e)
+out_refused a b f g file name from to e is left = inr (not_begun (λ answer. Create name answer) a b e (λ e. refl) is, left)
 
-pub out_without : (log : Option (List Call)) (file name : List ℕ) (from to : ℕ) (e : NoMemory) → CopiesOut log log file from to name (Err e)
-out_without log file name from to e = inr (gained_nothing log)
+pub out_without : (log : Option (List Call)) (f : Option Files) (file name : List ℕ) (from to : ℕ) (e : NoMemory) → CopiesOut log log f f file from to name (Err e)
+out_without log f file name from to e = inr (gained_nothing log, told_still (IsUnmade name (Err e)) f f refl (λ x other. refl))
 
 -- ---- nothing is copied
 

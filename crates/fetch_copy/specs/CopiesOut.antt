@@ -3,11 +3,13 @@ use Rattle.std.specs.Prelude.{nat_lt, Bool, true, ◌≡◌, ℕ, ◌≤◌, ◌
 use Rattle.std.specs.List.{concat, list_all}
 use Rattle.ann_key.specs.declared.bytes.NoMemory.{NoMemory}
 use Rattle.ann_outside.specs.Calls.{Gained}
+use Rattle.ann_outside.specs.Files.{Files, WhereTold}
 use Rattle.ann_outside.specs.declared.file_desk.Call.{Call}
 use Rattle.ann_outside.specs.declared.file_desk.Call.TheVariants.{Create, ReadAt}
 use Rattle.fetch_copy.specs.declared.copied.Copied.{Copied}
 use Rattle.fetch_copy.specs.declared.copied.Copied.TheVariants.{Done, Fault, Missing}
 use Rattle.fetch_copy.specs.Copies.{copy_calls, CountIs, EndsCopy}
+use Rattle.fetch_copy.specs.FilesAfter.{HoldsRange, IsUnmade}
 use Rattle.fetch_copy.specs.Resumes.{IsNotBegun}
 
 -- the call reads from no place at `to` or behind it
@@ -26,11 +28,11 @@ pub record CopiesRange (before_them : List Call) (old new : Option (List Call)) 
   pub most : length (concat pieces) ≤ to - from
   pub within : list_all (reads_before to) (copy_calls file name from pieces ++ ending) ≡ true
 
--- The named file was made, and got the range. Where it wasn't made, nothing was read.
-abbrev pub CopiesOut : Option (List Call) → Option (List Call) → List ℕ → ℕ → ℕ → List ℕ → Result Copied NoMemory → Type 0
-CopiesOut old new file from to name result =
-    CopiesRange (Create name (Ok tt) ∷ []) old new file from to name result
-    ⊎ IsNotBegun (λ answer. Create name answer) old new result
+-- The named file was made, got the range, and holds what it got. Where it wasn't made, nothing was read.
+abbrev pub CopiesOut : Option (List Call) → Option (List Call) → Option Files → Option Files → List ℕ → ℕ → ℕ → List ℕ → Result Copied NoMemory → Type 0
+CopiesOut old new before after file from to name result =
+    (CopiesRange (Create name (Ok tt) ∷ []) old new file from to name result × WhereTold before after (HoldsRange file name from to result))
+    ⊎ (IsNotBegun (λ answer. Create name answer) old new result × WhereTold before after (IsUnmade name result))
 
 -- no byte was copied
 abbrev pub CopiesNothing : Result Copied NoMemory → Type 0

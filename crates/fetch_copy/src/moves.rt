@@ -1,7 +1,9 @@
 ghost use Rattle.std.specs.Prelude.{◌≡◌, ◌≢◌, ℕ, ◌+◌, ◌-◌, ◌^◌, ◌<◌, ◌≤◌, List, ◌++◌, length, Ok, Err, IfOk, take};
 ghost use Rattle.ann_digest.specs.Checkers.{taken_of};
 ghost use Rattle.ann_outside.specs.DeskCauses.{HasCauses};
+ghost use Rattle.ann_outside.specs.Files.{WhereTold};
 ghost use Rattle.fetch_copy.specs.Copies.{Copies, CopyCauses, CarryDoes, StepDoes, refusal_of};
+ghost use Rattle.fetch_copy.specs.FilesAfter.{PieceGrows, LeavesFront};
 
 use crate::copied::Copied;
 use ann_digest::Checker;
@@ -22,6 +24,7 @@ pub fn carry_piece<D: Desk>(
     requires { 0 < length buffer.old }
     ensures carried { CarryDoes (D.log desk.old) (D.log desk.new) from.now to.now at buffer.new result }
     ensures most { IfOk result (λ n. n ≤ length buffer.new) }
+    ensures filled { WhereTold (D.files desk.old) (D.files desk.new) (PieceGrows from.now to.now at (length buffer.old) result) }
     ensures causes { HasCauses (D.counts desk.old) (D.counts desk.new) result }
 {
     match desk.read_at(from, at, buffer) {
@@ -47,6 +50,7 @@ fn move_piece<D: Desk>(
     requires room { taken_of checker.old + length buffer.old < 2 ^ 64 }
     ensures moved { StepDoes (D.log desk.old) (D.log desk.new) from.now part.now at checker.old checker.new result }
     ensures most { IfOk result (λ n. n ≤ length buffer.old) }
+    ensures filled { WhereTold (D.files desk.old) (D.files desk.new) (PieceGrows from.now part.now at (length buffer.old) result) }
     ensures causes { HasCauses (D.counts desk.old) (D.counts desk.new) result }
 {
     match carry_piece(desk, from, part, at, buffer) {
@@ -81,6 +85,7 @@ pub fn copy_in<D: Desk>(
     requires names { from.now ≢ part.now }
     requires room { taken_of checker.old + n < 2 ^ 64 }
     ensures moved { Copies (D.log desk.old) (D.log desk.new) from.now part.now n checker.old checker.new result }
+    ensures filled { WhereTold (D.files desk.old) (D.files desk.new) (LeavesFront from.now part.now 0 n result) }
     ensures causes { CopyCauses (D.counts desk.old) (D.counts desk.new) result }
 {
     let Ok(mut buffer) = vec![in alloc; 0; STEP] else {

@@ -1,6 +1,8 @@
-ghost use Rattle.std.specs.Prelude.{◌≡◌, ◌<◌, ◌+◌, ◌-◌, [], ◌∷◌, Ok, length};
+ghost use Rattle.std.specs.Prelude.{◌≡◌, ◌≢◌, ◌<◌, ◌+◌, ◌-◌, [], ◌∷◌, Ok, length};
+ghost use Rattle.ann_outside.specs.Files.{WhereTold};
 ghost use Rattle.fetch_copy.specs.Copies.{CopyCauses};
 ghost use Rattle.fetch_copy.specs.CopiesOut.{CopiesOut, CopiesRange, CopiesNothing};
+ghost use Rattle.fetch_copy.specs.FilesAfter.{LeavesFront, LeavesMade};
 
 use crate::copied::Copied;
 use crate::moves::{STEP, carry_piece, refused};
@@ -17,8 +19,10 @@ fn copy_range<D: Desk>(
     name: &str,
     buffer: &mut [u8],
 ) -> Result<Copied, NoMemory>
-    requires { 0 < length buffer.old }
+    requires some { 0 < length buffer.old }
+    requires apart { file.now ≢ name.now }
     ensures moved { CopiesRange [] (D.log desk.old) (D.log desk.new) file.now from to name.now result }
+    ensures filled { WhereTold (D.files desk.old) (D.files desk.new) (LeavesFront file.now name.now from (to - from) result) }
     ensures causes { CopyCauses (D.counts desk.old) (D.counts desk.new) result }
 {
     let mut at = from;
@@ -47,6 +51,7 @@ fn copy_nothing<D: Desk>(
     requires same { file.now ≡ name.now }
     ensures moved { CopiesRange [] (D.log desk.old) (D.log desk.new) file.now from to name.now result }
     ensures nothing { CopiesNothing result }
+    ensures files { D.files desk.new ≡ D.files desk.old }
     ensures causes { CopyCauses (D.counts desk.old) (D.counts desk.new) result }
 {
     if to <= from {
@@ -70,6 +75,7 @@ fn copy_made<D: Desk>(
 ) -> Result<Copied, NoMemory>
     requires { 0 < length buffer.old }
     ensures moved { CopiesRange [] (D.log desk.old) (D.log desk.new) file.now from to name.now result }
+    ensures filled { WhereTold (D.files desk.old) (D.files desk.new) (LeavesMade file.now name.now from to result) }
     ensures itself { file.now ≡ name.now → CopiesNothing result }
     ensures causes { CopyCauses (D.counts desk.old) (D.counts desk.new) result }
 {
@@ -90,7 +96,7 @@ pub fn copy_out<D: Desk>(
     to: u64,
     name: &str,
 ) -> Result<Copied, NoMemory>
-    ensures copied { CopiesOut (D.log desk.old) (D.log desk.new) file.now from to name.now result }
+    ensures copied { CopiesOut (D.log desk.old) (D.log desk.new) (D.files desk.old) (D.files desk.new) file.now from to name.now result }
     ensures itself { file.now ≡ name.now → CopiesNothing result }
     ensures causes { CopyCauses (D.counts desk.old) (D.counts desk.new) result }
 {

@@ -197,7 +197,7 @@ module _ (o : Opening) (setup : Setup) (n c t : ℕ) (past old new : List Entry)
 
 -- ---- fewer tasks are left
 
-filter_fewer : (p q : ℕ → Bool) → ((x : ℕ) → q x ≡ true → p x ≡ true) → (xs : List ℕ) → length (filter q xs) ≤ length (filter p xs)
+pub filter_fewer : (p q : ℕ → Bool) → ((x : ℕ) → q x ≡ true → p x ≡ true) → (xs : List ℕ) → length (filter q xs) ≤ length (filter p xs)
 filter_fewer p q sub [] = omega arith
 filter_fewer p q sub (x ∷ xs) = go (p x) (q x) refl refl (filter_fewer p q sub xs)
   where

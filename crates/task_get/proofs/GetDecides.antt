@@ -12,7 +12,7 @@ use Rattle.journal_model.specs.declared.answer.Answer.TheVariants as A
 use Rattle.task_run.specs.Askers.{Asking}
 use Rattle.task_run.specs.Stops.{is_done, last_failed}
 use Rattle.task_run.specs.Names.{part_of}
-use Rattle.task_run.specs.Reads.{is_reading, is_removed, is_last_call_of, is_renaming, appended, bytes_of, holds, are_found_so}
+use Rattle.task_run.specs.Reads.{is_reading, is_removed, is_last, is_renaming, appended, bytes_of, holds, are_found_so}
 use Rattle.task_run.specs.Gets.{lengths_at_begin, wanted, is_failed, failures, asked_last, first_asked, item, parts_last, is_plain_last, end_held, since_begin, held_reads, bytes_fetched, checked, are_read_whole, wrong_lengths, fit_in, is_got, IsSaid, IsChecked, IsKept, DecidesBy, Decides, GetAnswers}
 use Rattle.task_get.specs.Fronts.{Turn, first_in, Tried, begin_of}
 use Rattle.task_get.proofs.AskLaws.{item_behind}
@@ -88,7 +88,7 @@ pub record Becomes (u : Turn) (next : List Asking) (calls : List Call) : Type 0 
   pub moved : appended (part_of u.place.file) (since_begin u.place.file calls) ≡ bytes_fetched u.place.setup u.place.task calls (first_in u) next
   pub content : (before : List ℕ) → are_found_so (part_of u.place.file) (Some before) calls ≡ true
       → holds (part_of u.place.file) (Some before) calls ≡ Some ((if u.chunk == 0 then [] else bytes_of (held_reads u.place.file calls)) ++ bytes_fetched u.place.setup u.place.task calls (first_in u) next)
-  pub renamed : is_last_call_of (part_of u.place.file) (is_renaming (part_of u.place.file) u.place.file) calls ≡ true
+  pub renamed : is_last (is_renaming (part_of u.place.file) u.place.file) calls ≡ true
 
 -- all that was wanted is there, and this is said of it
 pub answers_said : (u : Turn) (next : List Asking) (parts : List Part) (calls : List Call) (answer : Answer) → Last u next parts calls

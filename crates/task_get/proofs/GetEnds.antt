@@ -183,7 +183,7 @@ whole_reading fetch n pieces (call ∷ []) e m r = rw (reads call e) (either (is
     reads call e = rw e (rw (same_name fetch) refl)
 whole_reading fetch n pieces (call ∷ next ∷ more) e m r = absurd e
 
-is_last-snoc : (test : Call → Bool) (zs : List Call) (x : Call) → is_last test (zs ++ x ∷ []) ≡ test x
+pub is_last-snoc : (test : Call → Bool) (zs : List Call) (x : Call) → is_last test (zs ++ x ∷ []) ≡ test x
 is_last-snoc test [] x = refl
 is_last-snoc test (z ∷ []) x = refl
 is_last-snoc test (z ∷ y ∷ zs) x = is_last-snoc test (y ∷ zs) x

@@ -19,7 +19,7 @@ use Rattle.task_run.specs.Askers.{Asking}
 use Rattle.task_run.specs.Stops.{is_done, call_stop, AnsweredBy, all_but_last}
 use Rattle.task_run.specs.Names.{part_of, fetch_files}
 use Rattle.task_run.specs.Requests.{rounds, RoundsAsk}
-use Rattle.task_run.specs.Reads.{length_or_none, reads_of, read_of, bytes_of, is_run, is_reading, is_known, appended, holds, takes_away, is_renaming, is_last_call_of, is_removed, piece_of}
+use Rattle.task_run.specs.Reads.{length_or_none, reads_of, read_of, bytes_of, is_run, is_reading, is_known, appended, holds, takes_away, is_renaming, is_last, is_removed, piece_of}
 use Rattle.task_run.specs.Discipline.{are_found, name_only, changes_as_result, size_of_only}
 use Rattle.task_run.specs.Gets.{fetch_request, begins, lengths_at_begin, wanted, wrong_lengths, held_reads, since_begin, bytes_fetched, fit_in, is_got, IsSaid, GetAsks, GetAnswers}
 use Rattle.task_run.specs.Runs.{fetched_files}
@@ -31,7 +31,7 @@ use Rattle.task_run.proofs.HeldLaws.{is_lasting, is_growing, told, holds_more, s
 use Rattle.task_get.proofs.LastCalls.{list_all-append}
 use Rattle.task_get.proofs.AskLaws.{count_all}
 use Rattle.task_run.proofs.GetCallsLaws.{Apart, found_more}
-use Rattle.task_get.proofs.GetEnds.{last_call}
+use Rattle.task_get.proofs.GetEnds.{is_last-snoc, last_call}
 use Rattle.task_run.proofs.Lists.{all_taken}
 use Rattle.task_get.proofs.GetTasks.{names_apart}
 use Rattle.task_get.proofs.ReadLaws.{Sub, sub_cons, names_sub, changes_sub, sizes_sub, begin_lengths, held_run, held_more, appended_more, same_read, same_wrong, same_bytes, same_whole, wrong_taken, right_or}
@@ -208,7 +208,7 @@ settle_end u cur parts calls held bytes fit r w k c said = by_fit fit said r
 
     answers : (y : Call) (answer : Answer) → OfPart p calls (y ∷ []) → length_or_none (part_of p.file) y ≡ None → read_of (part_of p.file) y ≡ None → begins (part_of p.file) y ≡ false → piece_of (part_of p.file) y ≡ None → is_growing (part_of p.file) y ≡ true
         → IsSaid p.key (bytes_of held ++ bytes) (fit_in answer)
-        → MatchBool (is_got answer) (is_last_call_of (part_of p.file) (is_renaming (part_of p.file) p.file) (calls ++ y ∷ []) ≡ true) (is_removed (part_of p.file) (calls ++ y ∷ []) ≡ true)
+        → MatchBool (is_got answer) (is_last (is_renaming (part_of p.file) p.file) (calls ++ y ∷ []) ≡ true) (is_removed (part_of p.file) (calls ++ y ∷ []) ≡ true)
         → GetAnswers p.setup p.task p.key p.sizes p.file (u.past ++ cur) (calls ++ y ∷ []) answer
     answers y answer o no_length no_read no_begin no_piece grows s last =
         let lengths : lengths_at_begin p.file (calls ++ y ∷ []) ≡ lengths_at_begin p.file calls = begin_lengths p.file calls (y ∷ []) (rw no_length refl) in
@@ -283,7 +283,7 @@ settle_end u cur parts calls held bytes fit r w k c said = by_fit fit said r
     by_fit F.Fits s (Ok tt') =
         finished (Rename (part_of p.file) p.file (Ok tt')) A.Got (of_rename p calls (Ok tt') k.known) refl refl refl
         (answers (Rename (part_of p.file) p.file (Ok tt')) A.Got (of_rename p calls (Ok tt') k.known) refl refl refl refl (rw (part_apart p 0).file_part refl) s
-        (last_call (part_of p.file) (is_renaming (part_of p.file) p.file) calls (Rename (part_of p.file) p.file (Ok tt')) (rw (same_name (part_of p.file)) refl) ∙ rw (same_name (part_of p.file), same_name p.file) refl))
+        (is_last-snoc (is_renaming (part_of p.file) p.file) calls (Rename (part_of p.file) p.file (Ok tt')) ∙ rw (same_name (part_of p.file), same_name p.file) refl))
     by_fit F.Fits s (Err E.Missing) = stopped (Rename (part_of p.file) p.file (Err E.Missing)) A.NoFile (of_rename p calls (Err E.Missing) k.known) refl refl refl
     by_fit F.Fits s (Err E.Failed) = stopped (Rename (part_of p.file) p.file (Err E.Failed)) A.FileFault (of_rename p calls (Err E.Failed) k.known) refl refl refl
     by_fit F.Fits s (Err E.NoMemory) = memory

@@ -25,7 +25,7 @@ use Rattle.task_run.specs.declared.setup.Setup.{Setup}
 use Rattle.task_run.specs.Names.{part_of, fetch_file}
 use Rattle.task_run.specs.Stores.{is_size}
 use Rattle.task_run.specs.Requests.{AsksFor, AskInOrder}
-use Rattle.task_run.specs.Reads.{lengths_found, reads_of, read_of, bytes_of, is_known, is_reading, takes_away, is_last_call_of, is_removed, is_renaming, appended, holds, piece_of}
+use Rattle.task_run.specs.Reads.{lengths_found, reads_of, read_of, bytes_of, is_known, is_reading, takes_away, is_last, is_removed, is_renaming, appended, holds, piece_of}
 use Rattle.task_run.specs.Discipline.{are_found}
 use Rattle.task_run.specs.Gets.{fetch_request, begins, since_begin, lengths_at_begin, wanted, is_wrong, is_read_whole, bytes_fetched, IsSaid, fit_in, is_got, is_failed, failures, GetAsks, Decides, GetAnswers}
 use Rattle.task_run.specs.Ran.{answered, is_verdict_of, undone_answer}
@@ -38,7 +38,7 @@ use Rattle.task_run.proofs.HeldLaws.{is_growing, holds_more, holds_grown}
 use Rattle.task_get.proofs.LastCalls.{after_last-at}
 use Rattle.task_get.proofs.AskLaws.{count_all}
 use Rattle.task_run.proofs.GetCallsLaws.{Fair, fair_size, fair_create, fair_remove_part, fair_rename, known_add, known_skip}
-use Rattle.task_get.proofs.GetEnds.{Facts, moved_facts, whole_reading, moved_calls, regrouped, last_call}
+use Rattle.task_get.proofs.GetEnds.{Facts, moved_facts, whole_reading, moved_calls, regrouped, is_last-snoc, last_call}
 use Rattle.task_get.proofs.ReadLaws.{begin_lengths, reads_behind, lengths_behind}
 use Rattle.task_get.proofs.GetFronts.{Fore, asks_of, ended_finished}
 use Rattle.task_get.proofs.GetDecides.{Last, answers_misfit, answers_said, Becomes}
@@ -128,7 +128,7 @@ plain_wrong p past done tried x calls seg m f s l g removed =
 record IsMoved (p : Place) (calls : List Call) (bytes : List ℕ) : Type 0 where
   pub moved : appended (part_of p.file) (since_begin p.file calls) ≡ bytes
   pub content : (before : List ℕ) → holds (part_of p.file) (Some before) calls ≡ Some bytes
-  pub renamed : is_last_call_of (part_of p.file) (is_renaming (part_of p.file) p.file) calls ≡ true
+  pub renamed : is_last (is_renaming (part_of p.file) p.file) calls ≡ true
 
 plain_said : (p : Place) (past : List Asking) (done : List (List Part)) (tried : List ℕ) (x : Asking) (calls seg : List Call) (m : ℕ) (bytes : List ℕ) (answer : Answer) → FetchingAt (plain_here p past done tried x calls)
     → Moving (plain_here p past done tried x calls) seg → is_size p.key.size m ≡ true → lengths_found (fetch_at p (length past + 1)) seg ≡ m ∷ [] → bytes_of (reads_of (fetch_at p (length past + 1)) seg) ≡ bytes
@@ -201,7 +201,7 @@ plain_settled : (p : Place) (past : List Asking) (done : List (List Part)) (trie
     → are_found (part_of p.file) (calls ++ (plain_pre (plain_here p past done tried x calls) n ++ moved_calls p.file (fetch_at p (length past + 1)) pieces ending)) (y ∷ []) ≡ true
     → call_stop (part_of p.file) y ≡ None → Others (plain_here p past done tried x calls) (y ∷ []) → read_of (fetch_at p (length past + 1)) y ≡ None
     → is_size p.key.size n ≡ true → IsSaid p.key (concat pieces) (fit_in answer) → ((X : Type 0) → X → AnsweredBy [] answer X)
-    → MatchBool (is_got answer) (is_last_call_of (part_of p.file) (is_renaming (part_of p.file) p.file) ((calls ++ (plain_pre (plain_here p past done tried x calls) n ++ moved_calls p.file (fetch_at p (length past + 1)) pieces ending)) ++ y ∷ []) ≡ true)
+    → MatchBool (is_got answer) (is_last (is_renaming (part_of p.file) p.file) ((calls ++ (plain_pre (plain_here p past done tried x calls) n ++ moved_calls p.file (fetch_at p (length past + 1)) pieces ending)) ++ y ∷ []) ≡ true)
     (is_removed (part_of p.file) ((calls ++ (plain_pre (plain_here p past done tried x calls) n ++ moved_calls p.file (fetch_at p (length past + 1)) pieces ending)) ++ y ∷ []) ≡ true)
     → EndedAt (plain_here p past done tried x calls) (plain_pre (plain_here p past done tried x calls) n ++ (moved_calls p.file (fetch_at p (length past + 1)) pieces ending ++ y ∷ [])) answer
 plain_settled p past done tried x calls n pieces ending y answer f w most o fair found free others unread s said by last =
@@ -250,12 +250,12 @@ plain_settled p past done tried x calls n pieces ending y answer f w most o fair
     at_end : calls ++ seg ≡ (calls ++ front) ++ y ∷ []
     at_end = sym (append_assoc calls front (y ∷ []))
 
-    by_test : (t : Bool) → MatchBool t (is_last_call_of (part_of p.file) (is_renaming (part_of p.file) p.file) ((calls ++ front) ++ y ∷ []) ≡ true) (is_removed (part_of p.file) ((calls ++ front) ++ y ∷ []) ≡ true)
+    by_test : (t : Bool) → MatchBool t (is_last (is_renaming (part_of p.file) p.file) ((calls ++ front) ++ y ∷ []) ≡ true) (is_removed (part_of p.file) ((calls ++ front) ++ y ∷ []) ≡ true)
         → MatchBool t (IsMoved p (calls ++ seg) (concat pieces)) (is_removed (part_of p.file) (calls ++ seg) ≡ true)
     by_test true k = record {
       moved = ap (appended (part_of p.file)) since ∙ c.facts.written;
       content = content;
-      renamed = ap (is_last_call_of (part_of p.file) (is_renaming (part_of p.file) p.file)) at_end ∙ k;
+      renamed = ap (is_last (is_renaming (part_of p.file) p.file)) at_end ∙ k;
     }
     by_test false k = ap (is_removed (part_of p.file)) at_end ∙ k
 
@@ -304,7 +304,7 @@ plain_kept p past done tried x calls n pieces ending (Ok tt') f w most s said =
     let known = (copied_of h n pieces ending y f w (record { no_length = refl; no_read = refl; no_piece = refl; no_begin = refl; grows = rw (apart_in h).file_part refl })).known in
     plain_settled p past done tried x calls n pieces ending y A.Got f w most (record { no_length = refl; no_read = refl; no_piece = refl; no_begin = refl; grows = rw (apart_in h).file_part refl }) (fair_rename p.file (fetch_in h) (apart_in h) (Ok tt'))
     (rw known refl) refl (λ m b d. refl) refl s said (λ X z. z)
-    (last_call (part_of p.file) (is_renaming (part_of p.file) p.file) (calls ++ (plain_pre h n ++ moved_calls p.file (fetch_in h) pieces ending)) y (rw (same_name (part_of p.file)) refl) ∙ rw (same_name (part_of p.file), same_name p.file) refl)
+    (is_last-snoc (is_renaming (part_of p.file) p.file) (calls ++ (plain_pre h n ++ moved_calls p.file (fetch_in h) pieces ending)) y ∙ rw (same_name (part_of p.file), same_name p.file) refl)
 plain_kept p past done tried x calls n pieces ending (Err E.Missing) f w most s said =
     let h = plain_here p past done tried x calls in
     let y : Call = Rename (part_of p.file) p.file (Err E.Missing) in

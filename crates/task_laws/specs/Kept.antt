@@ -11,7 +11,7 @@ use Rattle.task_run.specs.declared.setup.Setup.{Setup}
 use Rattle.task_run.specs.Names.{part_of}
 use Rattle.task_run.specs.Layouts.{sizes_tried, keys_of_layout}
 use Rattle.task_run.specs.Requests.{AskInOrder}
-use Rattle.task_run.specs.Reads.{appended, holds, are_found_so, is_renaming, is_last_call_of}
+use Rattle.task_run.specs.Reads.{appended, holds, are_found_so, is_renaming, is_last}
 use Rattle.task_run.specs.Gets.{fetch_request, lengths_at_begin, failures, item, asked_last, first_asked, since_begin, is_plain_last, checked}
 use Rattle.task_run.specs.Runs.{TaskRun}
 use Rattle.task_laws.specs.Contents.{AreFetched}
@@ -34,7 +34,7 @@ pub record Keeps (setup : Setup) (t : ℕ) (key : Parts) (sizes : List ℕ) (fil
   pub checked_are : checked setup t file sizes asked calls ≡ concat contents
   pub holds_all : (before : List ℕ) → are_found_so (part_of file) (Some before) calls ≡ true → holds (part_of file) (Some before) calls ≡ Some (concat contents)
   pub fits : FitsKey key (concat contents)
-  pub renamed : is_last_call_of (part_of file) (is_renaming (part_of file) file) calls ≡ true
+  pub renamed : is_last (is_renaming (part_of file) file) calls ≡ true
 
 -- A get that began afresh and is answered Got keeps what the files of its last layout hold.
 abbrev pub GotKeeps : Type 0

@@ -11,7 +11,7 @@ use Rattle.task_run.specs.declared.setup.Setup.{Setup}
 use Rattle.task_run.specs.Askings.{run_askings}
 use Rattle.task_run.specs.Layouts.{sizes_tried}
 use Rattle.task_run.specs.Names.{part_of}
-use Rattle.task_run.specs.Reads.{appended, holds, are_found_so, is_renaming, is_last_call_of}
+use Rattle.task_run.specs.Reads.{appended, holds, are_found_so, is_renaming, is_last}
 use Rattle.task_run.specs.Gets.{asked_last, since_begin, checked}
 use Rattle.task_run.specs.Runs.{is_chunked}
 use Rattle.task_rounds.specs.JournalRuns.{JournalRun}
@@ -50,13 +50,13 @@ pub record StoredInChunks (o : Opening) (setup : Setup) (told : Told) (journal :
   pub shows : Shows run.task.file content (told.calls u)
 
 -- That content was appended to part since it was begun, is all that was checked, and fits the key. Where all that was found of part is so,
--- whatever it held before the task, it is all that part holds in the end. Then part was renamed to the file.
+-- whatever it held before the task, it is all that part holds in the end. The task's last call renamed part to the file.
 pub record KeepsContent (o : Opening) (setup : Setup) (told : Told) (journal : List Entry) (number t : ℕ) (key : Parts) (run : JournalRun o setup (told.calls t) number t journal) (content : List ℕ) : Type 0 where
   pub appended_are : appended (part_of run.task.file) (since_begin run.task.file (told.calls t)) ≡ content
   pub checked_are : checked setup t run.task.file (sizes_tried key run.layouts) (run_askings run.run) (told.calls t) ≡ content
   pub holds_all : (before : List ℕ) → are_found_so (part_of run.task.file) (Some before) (told.calls t) ≡ true → holds (part_of run.task.file) (Some before) (told.calls t) ≡ Some content
   pub fits : FitsKey key content
-  pub renamed : is_last_call_of (part_of run.task.file) (is_renaming (part_of run.task.file) run.task.file) (told.calls t) ≡ true
+  pub renamed : is_last (is_renaming (part_of run.task.file) run.task.file) (told.calls t) ≡ true
 
 -- With a faithful remote, where one task stored all chunks of the last layout, the get keeps the content of that task's file.
 abbrev pub KeepsStoredContent : Type 0

@@ -20,7 +20,7 @@ use Rattle.task_run.specs.Stops.{is_done, all_but_last, last_failed}
 use Rattle.task_run.specs.Names.{fetch_file, part_of}
 use Rattle.task_run.specs.Requests.{rounds, RoundsAsk}
 use Rattle.task_run.specs.Layouts.{parts_of_layout}
-use Rattle.task_run.specs.Reads.{length_or_none, lengths_found, reads_of, bytes_of, is_run, is_reading, appended, holds, are_found_so, is_removed, is_renaming, is_last_call_of}
+use Rattle.task_run.specs.Reads.{length_or_none, lengths_found, reads_of, bytes_of, is_run, is_reading, appended, holds, are_found_so, is_removed, is_renaming, is_last}
 
 abbrev pub fetch_request : Setup → ℕ → ℕ → List ℕ → HostMessage
 fetch_request setup t n key = Transfer false key (fetch_file setup t n)
@@ -169,11 +169,11 @@ DecidesBy [] AllDone Said answer = AllDone × Said
 DecidesBy (n ∷ more) AllDone Said answer = answer ≡ SizeAnswer n
 
 -- The fetched bytes were appended to part. Where all that was found of part is so, whatever it held before, it holds the checked bytes
--- and no others now. Then it was renamed to the file.
+-- and no others now. The last call of all renamed it to the file, which so holds them.
 pub record IsKept (setup : Setup) (t : ℕ) (sizes : List ℕ) (file : List ℕ) (asked : List Asking) (calls : List Call) : Type 0 where
   pub moved : appended (part_of file) (since_begin file calls) ≡ bytes_fetched setup t calls (first_asked asked) (asked_last asked)
   pub held : (before : List ℕ) → are_found_so (part_of file) (Some before) calls ≡ true → holds (part_of file) (Some before) calls ≡ Some (checked setup t file sizes asked calls)
-  pub renamed : is_last_call_of (part_of file) (is_renaming (part_of file) file) calls ≡ true
+  pub renamed : is_last (is_renaming (part_of file) file) calls ≡ true
 
 -- Where a file that was fetched hasn't its part's length, the answer is Size with that length. Else all that was wanted is done, and the
 -- answer is what is to be said of the checked bytes. Got keeps them as the task's file, and otherwise part is removed.

@@ -1,5 +1,5 @@
 -- Runs of tasks, as examples.
-use Rattle.std.specs.Prelude.{ℕ, true, false, List, [], ◌∷◌, ◌++◌, codes, Some, None, Ok, Err}
+use Rattle.std.specs.Prelude.{ℕ, true, false, List, [], ◌∷◌, ◌++◌, take, drop, codes, Some, None, Ok, Err}
 use Rattle.journal_model.specs.declared.verdict.Verdict.{Verdict}
 use Rattle.journal_model.specs.declared.verdict.Verdict.TheVariants.{Done, Absent, Ended}
 use Rattle.journal_model.specs.declared.verdict.Why.TheVariants.{Eof}
@@ -63,6 +63,23 @@ renamed = Rename (codes "o.part") (codes "o") (Ok tt) ∷ []
 
 abbrev pub part_gone : List Call
 part_gone = Remove (codes "o.part") (Ok tt) ∷ []
+
+-- The task's file has the name of what it fetches. Part is renamed to it, and it isn't removed after that.
+abbrev pub get_own : Task
+get_own = task_of Get (codes "WORM-s3--a") fetched_1
+
+abbrev pub own_part : List ℕ
+own_part = codes "w/1700000000000000-1-1.fetch.part"
+
+abbrev pub renamed_own : List Call
+renamed_own = Rename own_part fetched_1 (Ok tt) ∷ []
+
+abbrev pub got_own : List Call
+got_own = sized fetched_1 3 ++ Create own_part (Ok tt) ∷ moved fetched_1 own_part (codes "abc") ++ renamed_own
+
+abbrev pub got_away : List Call
+got_away =
+    sized fetched_1 3 ++ Create own_part (Ok tt) ∷ take 2 (moved fetched_1 own_part (codes "abc")) ++ renamed_own ++ drop 2 (moved fetched_1 own_part (codes "abc"))
 
 -- ---- in chunks
 

@@ -5,7 +5,7 @@ ghost use Rattle.journal_model.specs.declared.verdict.Verdict.TheVariants.{Done,
 ghost use Rattle.ann_outside.specs.declared.file_desk.DeskError.TheVariants.{Missing, Failed as CallFailed};
 ghost use Rattle.ann_outside.specs.declared.file_desk.Call.TheVariants.{Size, Create};
 ghost use Rattle.journal_model.specs.declared.answer.Answer.TheVariants.{Stored, Got, Present, Dropped, Absent as AbsentAnswer, FileFault, NoFile, Memory, Failed as FailedAnswer, Ended as EndedAnswer, Size as SizeAnswer, Hash as HashAnswer};
-ghost use Rattle.task_run.specs.Rows.{task_of, setup_of, asks, notes, store_a, stores_a, sized, get_abc, fetched_1, gets_abc, got_abc, cut_abc, renamed, part_gone, store_ten, stores_ten, stored_ten, finds_ten, lost_ten, stored_short, cut_behind_filling, made_twice, stores_empty, stored_empty, never_made, empty_key, get_ten, gets_ten, resumed_ten, unread_ten, grown_on_nine, cut_behind_ten, half_read_ten, get_none, goes_on_ten, short_then_more, drop_ten, drops_ten, check_ten, checks_ten, abc, get_md5, gets_md5, resumed_foo, gets_whole_md5, fetched_foo, gets_hi, got_hi};
+ghost use Rattle.task_run.specs.Rows.{task_of, setup_of, asks, notes, store_a, stores_a, sized, get_abc, fetched_1, gets_abc, got_abc, cut_abc, renamed, part_gone, get_own, got_own, got_away, store_ten, stores_ten, stored_ten, finds_ten, lost_ten, stored_short, cut_behind_filling, made_twice, stores_empty, stored_empty, never_made, empty_key, get_ten, gets_ten, resumed_ten, unread_ten, grown_on_nine, cut_behind_ten, half_read_ten, get_none, goes_on_ten, short_then_more, drop_ten, drops_ten, check_ten, checks_ten, abc, get_md5, gets_md5, resumed_foo, gets_whole_md5, fetched_foo, gets_hi, got_hi};
 ghost use Rattle.ann_key.specs.Keys.{Parts, key_reading};
 ghost use Rattle.ann_digest.specs.Fits.{IsDigestFor, FitsKey};
 ghost use Rattle.task_run.specs.Runs.{TaskRun};
@@ -107,6 +107,8 @@ pub fn plain_get_runs()
 /// What was checked decides a get: here of a key of a size alone.
 pub fn fitting_runs()
     ensures got { TaskRun get_abc 1 (setup_of 0) [] (gets_abc (Done 13)) (got_abc (codes "abc") ++ renamed) [] Got }
+    ensures got_own { TaskRun get_own 1 (setup_of 0) [] (gets_abc (Done 13)) got_own [] Got }
+    ensures got_away { TaskRun get_own 1 (setup_of 0) [] (gets_abc (Done 13)) got_away [] Got → ⊥ }
     ensures other_size { TaskRun get_abc 1 (setup_of 0) [] (gets_abc (Done 13)) (got_abc (codes "ab") ++ renamed) [] Got → ⊥ }
     ensures half_fetched { TaskRun get_abc 1 (setup_of 0) [] (gets_abc (Done 13)) (got_abc (codes "ab") ++ part_gone) [] (SizeAnswer 2) → ⊥ }
     ensures resumed { TaskRun get_ten 1 (setup_of 0) ((4, 3) ∷ []) gets_ten resumed_ten [] Got }

@@ -15,6 +15,7 @@ use Rattle.journal_model.specs.declared.verdict.Verdict.TheVariants.{Done as Don
 use Rattle.journal_model.specs.declared.answer.Answer.{Answer}
 use Rattle.journal_model.specs.declared.answer.Answer.TheVariants as A
 use Rattle.ann_outside.specs.Calls.{Gained, logged}
+use Rattle.ann_outside.specs.Files.{Files}
 use Rattle.ann_outside.specs.declared.file_desk.DeskError.TheVariants as E
 use Rattle.ann_outside.specs.declared.file_desk.Call.{Call}
 use Rattle.ann_outside.specs.declared.file_desk.Call.TheVariants.{Remove}
@@ -52,28 +53,28 @@ chunk_from text name key before after (Ok v) k a = record { request = a.request;
 
 -- ---- copies
 
-pub copied_short : (file name : List ℕ) (from to n : ℕ) (old new : Option (List Call)) → CopiesOut old new file from to name (Ok (Done n)) → (file ≡ name → n ≡ 0) → n < to - from
+pub copied_short : (file name : List ℕ) (from to n : ℕ) (old new : Option (List Call)) (before after : Option Files) → CopiesOut old new before after file from to name (Ok (Done n)) → (file ≡ name → n ≡ 0) → n < to - from
     → NotWhole file name from to old new (Ok (Some (A.Size n)))
-copied_short file name from to n old new (inr h) own low = absurd h
-copied_short file name from to n old new (inl h) own low = record {
-  how = CutShort h.pieces h.ending;
-  calls = h.calls;
-  result_is = ap (λ k. Ok (Some (A.Size k))) h.count;
-  so = λ key. (record { ends = h.ends; within = h.within; itself = λ e. sym h.count ∙ own e }, omega (arith, h.count, low));
+copied_short file name from to n old new before after (inr h) own low = absurd h.0
+copied_short file name from to n old new before after (inl h) own low = record {
+  how = CutShort h.0.pieces h.0.ending;
+  calls = h.0.calls;
+  result_is = ap (λ k. Ok (Some (A.Size k))) h.0.count;
+  so = λ key. (record { ends = h.0.ends; within = h.0.within; itself = λ e. sym h.0.count ∙ own e }, omega (arith, h.0.count, low));
   unasked = refl;
 }
 
-pub copied_fault : (file name : List ℕ) (from to : ℕ) (old new : Option (List Call)) → CopiesOut old new file from to name (Ok Fault) → NotWhole file name from to old new (Ok (Some A.FileFault))
-copied_fault file name from to old new (inr h) = record { how = NotMade E.Failed; calls = h; result_is = refl; so = λ key. tt; unasked = refl }
-copied_fault file name from to old new (inl h) = record { how = NotCopied h.pieces h.ending E.Failed; calls = h.calls; result_is = refl; so = λ key. (h.ends, h.within); unasked = refl }
+pub copied_fault : (file name : List ℕ) (from to : ℕ) (old new : Option (List Call)) (before after : Option Files) → CopiesOut old new before after file from to name (Ok Fault) → NotWhole file name from to old new (Ok (Some A.FileFault))
+copied_fault file name from to old new before after (inr h) = record { how = NotMade E.Failed; calls = h.0; result_is = refl; so = λ key. tt; unasked = refl }
+copied_fault file name from to old new before after (inl h) = record { how = NotCopied h.0.pieces h.0.ending E.Failed; calls = h.0.calls; result_is = refl; so = λ key. (h.0.ends, h.0.within); unasked = refl }
 
-pub copied_missing : (file name : List ℕ) (from to : ℕ) (old new : Option (List Call)) → CopiesOut old new file from to name (Ok Missing) → NotWhole file name from to old new (Ok (Some A.NoFile))
-copied_missing file name from to old new (inr h) = record { how = NotMade E.Missing; calls = h; result_is = refl; so = λ key. tt; unasked = refl }
-copied_missing file name from to old new (inl h) = record { how = NotCopied h.pieces h.ending E.Missing; calls = h.calls; result_is = refl; so = λ key. (h.ends, h.within); unasked = refl }
+pub copied_missing : (file name : List ℕ) (from to : ℕ) (old new : Option (List Call)) (before after : Option Files) → CopiesOut old new before after file from to name (Ok Missing) → NotWhole file name from to old new (Ok (Some A.NoFile))
+copied_missing file name from to old new before after (inr h) = record { how = NotMade E.Missing; calls = h.0; result_is = refl; so = λ key. tt; unasked = refl }
+copied_missing file name from to old new before after (inl h) = record { how = NotCopied h.0.pieces h.0.ending E.Missing; calls = h.0.calls; result_is = refl; so = λ key. (h.0.ends, h.0.within); unasked = refl }
 
-pub copied_without : (file name : List ℕ) (from to : ℕ) (old new : Option (List Call)) (e : NoMemory) → CopiesOut old new file from to name (Err e) → NotWhole file name from to old new (Err e)
-copied_without file name from to old new e (inr h) = record { how = NotMade E.NoMemory; calls = h; result_is = refl; so = λ key. tt; unasked = refl }
-copied_without file name from to old new e (inl h) = record { how = NotCopied h.pieces h.ending E.NoMemory; calls = h.calls; result_is = refl; so = λ key. (h.ends, h.within); unasked = refl }
+pub copied_without : (file name : List ℕ) (from to : ℕ) (old new : Option (List Call)) (before after : Option Files) (e : NoMemory) → CopiesOut old new before after file from to name (Err e) → NotWhole file name from to old new (Err e)
+copied_without file name from to old new before after e (inr h) = record { how = NotMade E.NoMemory; calls = h.0; result_is = refl; so = λ key. tt; unasked = refl }
+copied_without file name from to old new before after e (inl h) = record { how = NotCopied h.0.pieces h.0.ending E.NoMemory; calls = h.0.calls; result_is = refl; so = λ key. (h.0.ends, h.0.within); unasked = refl }
 
 -- ---- one chunk
 

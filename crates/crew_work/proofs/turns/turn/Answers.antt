@@ -4,7 +4,7 @@ use Rattle.link_roles.proofs.Roles.{same_both}
 use Rattle.lone_work.specs.Works.{desk_tells}
 use Rattle.crew_work.specs.Crews.{Does}
 use Rattle.crew_work.proofs.Claiming.{can_on}
-use Rattle.crew_work.proofs.Working.{claims_as, can_as, legal_as, named, through_as, worked_one, worked_still}
+use Rattle.crew_work.proofs.Working.{claims_as, can_as, fewer_behind, legal_as, more_as, named, through_as, worked_one, worked_still}
 use Rattle.crew_work.proofs.turns.turn.Goals as goal
 
 pub claim-requires : goal.claim-requires
@@ -32,6 +32,12 @@ returns-in-Task-clause-worked g c =
     (named (λ (q : Opening) (m : ℕ) (l : Bool) (e : ℕ) (u : Bool). Does q c.args.setup.now u m l e c.in-Task.number mid new before after tells tells')
     c.in-Task.ensures.door.opening c.in-Task.ensures.door.number c.in-Task.ensures.door.alone refl refl c.do_task.ensures.does)
 
+pub returns-in-Task-clause-on : goal.returns-in-Task-clause-on
+returns-in-Task-clause-on g c =
+    let o = g.D.Door.opening c.args.door.now in
+    let claims = claims_as {o = o} {n = g.D.Door.number c.args.door.now} {a = g.D.Door.alone c.args.door.now} c.child-child.ensures c.in-Task.ensures.claims in
+    fewer_behind o (g.D.Door.seen c.args.door.now) (g.D.Door.seen c.claim.new.door) (g.D.Door.seen c.do_task.new.door) c.do_task.ensures.does.did.moved.more claims.0 claims.1 c.do_task.ensures.does.did.moved.is
+
 pub returns-in-Task-clause-door : goal.returns-in-Task-clause-door
 returns-in-Task-clause-door g c = same_both c.in-Task.ensures.door c.do_task.ensures.door
 
@@ -39,13 +45,16 @@ pub returns-in-Wait-clause-worked : goal.returns-in-Wait-clause-worked
 returns-in-Wait-clause-worked g c =
     worked_still (g.D.Door.opening c.args.door.now) c.args.setup.now (g.W.Way.owns c.args.way.now) (g.D.Door.number c.args.door.now) (g.D.Door.alone c.args.door.now) (g.W.Way.serves c.args.way.now)
     (g.W.Way.wired c.args.way.now) (g.met.W.Way.apart c.args.way.now) (g.D.Door.seen c.args.door.now) (g.D.Door.seen c.claim.new.door)
-    (desk_tells (g.K.Desk.log c.args.desk.now) (g.K.Desk.counts c.args.desk.now)) c.in-Wait.ensures.claims
+    (desk_tells (g.K.Desk.log c.args.desk.now) (g.K.Desk.counts c.args.desk.now)) c.in-Wait.ensures.claims.0
 
 pub returns-in-Wait-clause-can : goal.returns-in-Wait-clause-can
 returns-in-Wait-clause-can g c =
-    let s = c.in-Wait.ensures.claims in
+    let s = c.in-Wait.ensures.claims.0 in
     let d = c.in-Wait.ensures.door in
     can_as d.opening refl (can_on (g.D.Door.seen c.args.door.now) s.others s.is (legal_as d.opening (d.legal c.requires.can.legal)) c.requires.can)
+
+pub returns-in-Wait-clause-on : goal.returns-in-Wait-clause-on
+returns-in-Wait-clause-on g c = more_as (g.D.Door.opening c.args.door.now) (g.D.Door.seen c.claim.new.door) c.child-child.ensures c.in-Wait.ensures.claims.1
 
 pub returns-in-Over-clause-worked : goal.returns-in-Over-clause-worked
 returns-in-Over-clause-worked g c =
@@ -59,5 +68,5 @@ returns-in-Over-clause-can g c =
     let d = c.in-Over.ensures.door in
     can_as d.opening refl (can_on (g.D.Door.seen c.args.door.now) s.others s.is (legal_as d.opening (d.legal c.requires.can.legal)) c.requires.can)
 
-pub returns-in-Over-clause-through : goal.returns-in-Over-clause-through
-returns-in-Over-clause-through g c = λ over. through_as {o = g.D.Door.opening c.args.door.now} (g.D.Door.seen c.claim.new.door) refl c.child-child.ensures c.in-Over.ensures.claims.1
+pub returns-in-Over-clause-on : goal.returns-in-Over-clause-on
+returns-in-Over-clause-on g c = through_as {o = g.D.Door.opening c.args.door.now} (g.D.Door.seen c.claim.new.door) refl c.child-child.ensures c.in-Over.ensures.claims.1

@@ -62,7 +62,7 @@ returns-in-Over-clause-worked g c =
     (desk_tells (g.K.Desk.log c.turn.new.desk) (g.K.Desk.counts c.turn.new.desk)) i.serves i.worked c.in-Over.ensures.worked
 
 pub returns-in-Over-clause-through : goal.returns-in-Over-clause-through
-returns-in-Over-clause-through g c = through_as (g.D.Door.seen c.turn.new.door) c.loop.invariant.door.opening c.loop.invariant.way.0 (c.in-Over.ensures.through refl)
+returns-in-Over-clause-through g c = through_as (g.D.Door.seen c.turn.new.door) c.loop.invariant.door.opening c.loop.invariant.way.0 c.in-Over.ensures.on
 
 pub returns-in-Over-clause-way : goal.returns-in-Over-clause-way
 returns-in-Over-clause-way g c =

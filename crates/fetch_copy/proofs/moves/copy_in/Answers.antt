@@ -1,9 +1,10 @@
 use Rattle.std.proofs.Common.{◌∙◌, ℕ, refl, arith, length-take}
 use Rattle.fetch_copy.proofs.CopyLaws.{moving_nothing, moving_more, step_moves, step_ends, copies_whole, copies_short, copies_refused, copies_nothing, causes_nothing, causes_refused, causes_from}
+use Rattle.fetch_copy.proofs.FillLaws.{filling_begins, filling_goes_on, fills_whole, fills_short, fills_refused, fills_nothing}
 use Rattle.fetch_copy.proofs.moves.copy_in.Goals as goal
 
 pub loop-at-init : goal.loop-at-init
-loop-at-init g c = record { moving = moving_nothing _ _ _ _; most = omega arith; buffer = c.in-Ok.ensures.len; quiet = refl }
+loop-at-init g c = record { moving = moving_nothing _ _ _ _; filled = filling_begins _ _ _ _; most = omega arith; buffer = c.in-Ok.ensures.len; quiet = refl }
 
 pub loop-at-preserved : goal.loop-at-preserved
 loop-at-preserved g c =
@@ -11,6 +12,7 @@ loop-at-preserved g c =
     let h = c.in-Ok-move_piece.ensures in
     record {
       moving = moving_more _ _ _ _ _ _ _ _ _ _ i.moving (step_moves _ _ _ _ _ _ _ _ c.in-Ok-move_piece.moved-test.1 h.moved);
+      filled = filling_goes_on _ _ 0 c.loop-at.at _ 0 _ _ _ _ c.requires.names (omega arith) i.filled h.filled;
       most = omega (arith, h.most, length-take {A = ℕ}, c.min-room.ensures);
       buffer = i.buffer;
       quiet = h.causes.done ∙ i.quiet;
@@ -41,3 +43,20 @@ returns-clause-causes g c = causes_from _ _ _ _ c.loop-at.invariant.quiet (cause
 
 pub returns-in_default-clause-moved : goal.returns-in_default-clause-moved
 returns-in_default-clause-moved g c = copies_nothing _ _ _ _ _ _
+
+pub returns-in-Ok-eq0-clause-filled : goal.returns-in-Ok-eq0-clause-filled
+returns-in-Ok-eq0-clause-filled g c =
+    let i = c.loop-at.invariant in
+    fills_short _ _ 0 c.loop-at.at _ 0 _ _ _ _ _ c.requires.names (omega arith) i.most c.in-Ok-eq0.field-0-test i.filled c.in-Ok-eq0.ensures.filled
+
+pub returns-in-Err-clause-filled : goal.returns-in-Err-clause-filled
+returns-in-Err-clause-filled g c =
+    let i = c.loop-at.invariant in
+    rw c.refused.ensures
+    (fills_refused _ _ 0 c.loop-at.at _ _ _ _ _ _ _ c.requires.names (omega arith) (omega (arith, i.most, length-take {A = ℕ}, c.min-room.ensures)) i.filled c.in-Err.ensures.filled)
+
+pub returns-clause-filled : goal.returns-clause-filled
+returns-clause-filled g c = let i = c.loop-at.invariant in fills_whole _ _ _ _ _ _ _ (omega (arith, i.most, c.loop-at-test.false)) i.filled
+
+pub returns-in_default-clause-filled : goal.returns-in_default-clause-filled
+returns-in_default-clause-filled g c = fills_nothing _ _ _ _ _ _

@@ -1,10 +1,13 @@
 use Rattle.std.proofs.Common.{length, ◌-◌, ◌≡◌, ◌≤◌}
+use Rattle.ann_outside.specs.Files.{WhereTold}
+use Rattle.fetch_copy.specs.FilesAfter.{GrownSoFar}
 use Rattle.fetch_copy.proofs.RangeLaws.{Ranging}
 use Rattle.fetch_copy.proofs.range.copy_range.Given as goal
 
 abbrev pub invariant-loop-at : goal.invariant-loop-at
 invariant-loop-at g l = record {
   ranging : Ranging (g.D.Desk.log l.fn.desk) (g.D.Desk.log l.desk) l.file l.name l.from l.to l.at;
+  filled : WhereTold (g.D.Desk.files l.fn.desk) (g.D.Desk.files l.desk) (GrownSoFar l.file l.name l.from (l.at - l.from));
   as_long : length l.buffer ≡ length l.fn.buffer;
   least : l.from ≤ l.at;
   most : l.at - l.from ≤ l.to - l.from;

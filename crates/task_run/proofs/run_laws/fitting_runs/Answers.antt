@@ -46,6 +46,25 @@ returns-clause-got c = record {
   answered = record { answered = record { begun = refl; by_length = (refl, record { said = record { size = refl; name = λ naming e. absurd (no_digest naming.kind naming.extended e) }; held_whole = refl; fetched_whole = refl }); part = record { moved = refl; held = λ before found. refl; renamed = refl } } };
 }
 
+pub returns-clause-got_own : goal.returns-clause-got_own
+unfolding digits
+returns-clause-got_own c = record {
+  asked_till_stop = refl;
+  calls_till_stop = refl;
+  found = refl;
+  work = (
+    record { names = refl; changes = refl; lengths = refl },
+    record { in_order = search rules; each_failed = refl; each_begun = refl; each_right = refl; held_read = refl; fetched_read = refl },
+    refl,
+  );
+  answered = record { answered = record { begun = refl; by_length = (refl, record { said = record { size = refl; name = λ naming e. absurd (no_digest naming.kind naming.extended e) }; held_whole = refl; fetched_whole = refl }); part = record { moved = refl; held = λ before found. refl; renamed = refl } } };
+}
+
+-- what is removed after the renaming isn't got
+pub returns-clause-got_away : goal.returns-clause-got_away
+unfolding digits
+returns-clause-got_away c = λ r. let h : false ≡ true = r.answered.answered.part.renamed in cc
+
 -- what part held, cut to eight bytes, is what was read of it
 resumed_holds : (before : List ℕ) → are_found_so (codes "o.part") (Some before) resumed_ten ≡ true → holds (codes "o.part") (Some before) resumed_ten ≡ Some ten_bytes
 resumed_holds before found =
