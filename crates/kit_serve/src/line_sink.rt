@@ -1,5 +1,5 @@
 // A sink to which whole lines alone go.
-ghost use Rattle.std.specs.Prelude.{◌≡◌, ◌==◌, ◌⊎◌, ℕ, not, take, true, false, IfOk, IsErr, IsTrue, OnOk};
+ghost use Rattle.std.specs.Prelude.{◌≡◌, ◌==◌, ℕ, not, take, true, false, IfOk, IsTrue, OnOk};
 ghost use Rattle.std.specs.List.{before_first};
 ghost use Rattle.std.specs.Io.KnownBytes.{Appends};
 ghost use Rattle.ann_key.specs.KeyRefs.{text_of};
@@ -83,10 +83,8 @@ impl<W: Mouth> LineSink<W> {
     /// Writes whole lines and hands them on. After `Failed` the sink took the first bytes of them, and takes nothing more.
     pub fn say(&mut self, lines: &[u8]) -> Result<(), Failed>
         requires { IsTrue (ends_line lines.now) }
-        ensures says { Says W.taken self.old self.new lines.now result }
+        ensures says { Says W.taken W.faults self.old self.new lines.now result }
         ensures flushed { OnOk result (W.is_flushed self.new.sink ≡ true) }
-        ensures over { self.old.is_over ≡ true → IsErr result × (self.new ≡ self.old) }
-        ensures cause { (self.old.is_over ≡ true) ⊎ HasCause (W.faults self.old.sink) (W.faults self.new.sink) result }
         ensures begun { self.new.begun ≡ self.old.begun }
     {
         if self.is_over {
@@ -101,7 +99,7 @@ impl<W: Mouth> LineSink<W> {
     fn tell(&mut self, alloc: Global, message: &RemoteMsg<'_>) -> Result<(), NotTold>
         requires sayable { IsSayable (remote_shown message.now) }
         requires line { has_newline (remote_line (remote_shown message.now)) ≡ false }
-        ensures tells { Tells W.taken self.old self.new (remote_shown message.now) result }
+        ensures tells { Tells W.taken W.faults self.old self.new (remote_shown message.now) result }
         ensures begun { self.new.begun ≡ self.old.begun }
     {
         let Ok(line) = told_line(alloc, message) else {
@@ -115,7 +113,7 @@ impl<W: Mouth> LineSink<W> {
 
     /// Says PROGRESS: so many bytes of the content are transferred.
     pub fn progress(&mut self, alloc: Global, bytes: u64) -> Result<(), NotTold>
-        ensures tells { Tells W.taken self.old self.new (Progress bytes) result }
+        ensures tells { Tells W.taken W.faults self.old self.new (Progress bytes) result }
         ensures begun { self.new.begun ≡ self.old.begun }
     {
         self.tell(alloc, &RemoteMsg::Progress(bytes))
@@ -123,7 +121,7 @@ impl<W: Mouth> LineSink<W> {
 
     /// Says DEBUG, with the text's first line.
     pub fn debug(&mut self, alloc: Global, text: &[u8]) -> Result<(), NotTold>
-        ensures tells { Tells W.taken self.old self.new (Debug (before_first (λ b. b == 10) text.now)) result }
+        ensures tells { Tells W.taken W.faults self.old self.new (Debug (before_first (λ b. b == 10) text.now)) result }
         ensures begun { self.new.begun ≡ self.old.begun }
     {
         self.tell(alloc, &RemoteMsg::Debug(first_line(text)))
@@ -131,7 +129,7 @@ impl<W: Mouth> LineSink<W> {
 
     /// Says INFO, with the text's first line.
     pub fn info(&mut self, alloc: Global, text: &[u8]) -> Result<(), NotTold>
-        ensures tells { Tells W.taken self.old self.new (Info (before_first (λ b. b == 10) text.now)) result }
+        ensures tells { Tells W.taken W.faults self.old self.new (Info (before_first (λ b. b == 10) text.now)) result }
         ensures begun { self.new.begun ≡ self.old.begun }
     {
         self.tell(alloc, &RemoteMsg::Info(first_line(text)))
@@ -140,7 +138,7 @@ impl<W: Mouth> LineSink<W> {
     /// Says SETSTATE: the key's state is the value's first line.
     pub fn set_state(&mut self, alloc: Global, key: KeyRef<'_>, value: &[u8]) -> Result<(), NotTold>
         requires { IsTrue (is_sent_key (text_of key)) }
-        ensures tells { Tells W.taken self.old self.new (Setstate (text_of key.entry) (before_first (λ b. b == 10) value.now)) result }
+        ensures tells { Tells W.taken W.faults self.old self.new (Setstate (text_of key.entry) (before_first (λ b. b == 10) value.now)) result }
         ensures begun { self.new.begun ≡ self.old.begun }
     {
         self.tell(alloc, &RemoteMsg::Setstate(key, first_line(value)))
@@ -154,7 +152,7 @@ impl<W: Mouth> LineSink<W> {
         url: &[u8],
     ) -> Result<(), NotTold>
         requires { IsTrue (is_sent_key (text_of key)) }
-        ensures tells { Tells W.taken self.old self.new (Seturlpresent (text_of key.entry) (before_first (λ b. b == 10) url.now)) result }
+        ensures tells { Tells W.taken W.faults self.old self.new (Seturlpresent (text_of key.entry) (before_first (λ b. b == 10) url.now)) result }
         ensures begun { self.new.begun ≡ self.old.begun }
     {
         self.tell(alloc, &RemoteMsg::Seturlpresent(key, first_line(url)))
@@ -164,7 +162,7 @@ impl<W: Mouth> LineSink<W> {
     pub fn set_config(&mut self, alloc: Global, name: &[u8], value: &[u8]) -> Result<(), NotTold>
         requires word { IsTrue (is_word name.now) }
         requires line { IsTrue (not (has_newline name.now)) }
-        ensures tells { Tells W.taken self.old self.new (Setconfig name.now (before_first (λ b. b == 10) value.now)) result }
+        ensures tells { Tells W.taken W.faults self.old self.new (Setconfig name.now (before_first (λ b. b == 10) value.now)) result }
         ensures begun { self.new.begun ≡ self.old.begun }
     {
         self.tell(alloc, &RemoteMsg::Setconfig(name, first_line(value)))

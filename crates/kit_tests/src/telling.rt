@@ -124,7 +124,12 @@ impl<'a, T: Wait, W: Mouth> Remote for Talker<'a, T, W> {
 }
 
 // How a host's lines are answered: the status, and what was noted.
-fn served(rt: &impl Wait, alloc: Global, says: &[u8], fails: u64) -> Result<(u8, Vec<u8>), Fail> {
+fn served<R: Wait + 'static>(
+    rt: &R,
+    alloc: Global,
+    says: &[u8],
+    fails: u64,
+) -> Result<(u8, Vec<u8>), Fail> {
     let log = Arc::new(alloc, Mutex::new(Vec::new(alloc)))?;
     let sink = LogSink {
         rt,
@@ -150,7 +155,7 @@ fn served(rt: &impl Wait, alloc: Global, says: &[u8], fails: u64) -> Result<(u8,
 
 const SAYS: &[u8] = b"PREPARE\nTRANSFER STORE WORM--a f\n";
 
-fn compare<R: Wait + Abort>(
+fn compare<R: Wait + Abort + 'static>(
     rt: &R,
     alloc: Global,
     fails: u64,
