@@ -1,13 +1,13 @@
 // A remote that says how far it is while it is called, over a sink that writes down what it is asked for and when.
-ghost use Rattle.std.specs.Prelude.{◌≡◌, [], None, true, IsTrue};
+ghost use Rattle.std.specs.Prelude.{◌≡◌, [], None, true, IfOk, IsTrue};
 ghost use Rattle.ann_key.specs.KeyRefs.{text_of};
 ghost use Rattle.annex_model.specs.Messages.{is_sent_key};
 ghost use Rattle.kit_core.specs.Calls.{is_line_said};
 
 use ann_key::{Bytes, KeyRef, NoMemory};
-use ann_outside::{Failed, MemSource, Sink};
+use ann_outside::{Failed, MemSource, Sink, Source};
 use kit_core::{Remote, Said, Values};
-use kit_serve::{Mouth, NotTold, Served, Teller, serve, share};
+use kit_serve::{Mouth, NotTold, Teller, serve, share};
 use std::alloc::Global;
 use std::process::Abort;
 use std::sync::{Arc, Mutex, Wait};
@@ -24,6 +24,21 @@ struct LogSink<'a, T> {
     fails: u64,
     faults: u64,
     is_open: bool,
+}
+
+impl<'a, T> LogSink<'a, T> {
+    fn new(rt: &'a T, log: Log, fails: u64) -> LogSink<'a, T>
+        ensures { result.is_open ≡ true }
+    {
+        LogSink {
+            rt,
+            log,
+            writes: 0,
+            fails,
+            faults: 0,
+            is_open: true,
+        }
+    }
 }
 
 fn noted(rt: &impl Wait, log: &Log, piece: &[u8]) -> bool {
@@ -123,66 +138,47 @@ impl<'a, T: Wait, W: Mouth> Remote for Talker<'a, T, W> {
     }
 }
 
-// How a host's lines are answered: the status, and what was noted.
-fn served<R: Wait + 'static>(
-    rt: &R,
-    alloc: Global,
-    says: &[u8],
-    fails: u64,
-) -> Result<(u8, Vec<u8>), Fail> {
-    let log = Arc::new(alloc, Mutex::new(Vec::new(alloc)))?;
-    let sink = LogSink {
-        rt,
-        log: Arc::try_clone(&log)?,
-        writes: 0,
-        fails,
-        faults: 0,
-        is_open: true,
-    };
-    let (mut half, teller) = share(rt, alloc, sink)?;
-    let talker = Talker {
-        rt,
-        log: Arc::try_clone(&log)?,
-        teller,
-    };
+// One request for a remote with no settings.
+fn asked(alloc: Global) -> Result<MemSource, NoMemory>
+    ensures { IfOk result (λ s. ⟦<MemSource as Source>⟧.is_open s ≡ true) }
+{
     let mut lines = Vec::new(alloc);
-    lines.push(Bytes::copy(alloc, says)?)?;
-    let mut source = MemSource::new(lines, Vec::new(alloc));
-    let Served { status, remote: _ } = serve(alloc, talker, &mut source, &mut half);
-    let noted = Vec::from_slice(alloc, log.lock(rt).as_slice())?;
-    Ok((status, noted))
+    lines.push(Bytes::copy(alloc, b"PREPARE\nTRANSFER STORE WORM--a f\n")?)?;
+    Ok(MemSource::new(lines, Vec::new(alloc)))
 }
 
-const SAYS: &[u8] = b"PREPARE\nTRANSFER STORE WORM--a f\n";
+// The write that fails, the status, and what is noted. 0: no write fails.
+type Row = (u64, u8, &'static [u8]);
 
-fn compare<R: Wait + Abort + 'static>(
-    rt: &R,
-    alloc: Global,
-    fails: u64,
-    status: u8,
-    noted: &[u8],
+static ROWS: [Row; 2] = [
+    (
+        0,
+        0,
+        b"VERSION 1\n|PREPARE-SUCCESS\n|<PROGRESS 1\n|DEBUG half\n|INFO \n|SETSTATE WORM--a s t\n|\
+          SETURLPRESENT WORM--a http://x\n|SETCONFIG name a value\n|PROGRESS 18446744073709551615\n|\
+          >TRANSFER-SUCCESS STORE WORM--a\n|",
+    ),
+    (4, 5, b"VERSION 1\n|PREPARE-SUCCESS\n|<PROGRESS 1\n|>"),
+];
+
+#[test]
+fn what_is_told_goes_out_in_the_call_and_nothing_follows_a_failed_write(
+    rt: HostRuntime,
 ) -> Result<(), Fail> {
-    let left = served(rt, alloc, SAYS, fails)?;
-    assert_eq!(rt; left.0, status);
-    assert_eq!(rt; left.1.as_slice(), noted);
+    let alloc = rt.alloc();
+    for (fails, status, noted) in &ROWS {
+        let log = Arc::new(alloc, Mutex::new(Vec::new(alloc)))?;
+        let sink = LogSink::new(&rt, Arc::try_clone(&log)?, *fails);
+        let (mut half, teller) = share(&rt, alloc, sink)?;
+        let talker = Talker {
+            rt: &rt,
+            log: Arc::try_clone(&log)?,
+            teller,
+        };
+        let mut source = asked(alloc)?;
+        let served = serve(alloc, talker, &mut source, &mut half);
+        assert_eq!(rt; served.status, *status);
+        assert_eq!(rt; log.lock(&rt).as_slice(), *noted);
+    }
     Ok(())
-}
-
-#[test]
-fn what_is_told_in_a_call_goes_out_before_the_call_ends(rt: HostRuntime) -> Result<(), Fail> {
-    let noted = b"VERSION 1\n|PREPARE-SUCCESS\n|<PROGRESS 1\n|DEBUG half\n|INFO \n|\
-        SETSTATE WORM--a s t\n|SETURLPRESENT WORM--a http://x\n|SETCONFIG name a value\n|\
-        PROGRESS 18446744073709551615\n|>TRANSFER-SUCCESS STORE WORM--a\n|";
-    compare(&rt, rt.alloc(), 0, 0, noted)
-}
-
-#[test]
-fn nothing_follows_what_could_not_be_told(rt: HostRuntime) -> Result<(), Fail> {
-    compare(
-        &rt,
-        rt.alloc(),
-        4,
-        5,
-        b"VERSION 1\n|PREPARE-SUCCESS\n|<PROGRESS 1\n|>",
-    )
 }
