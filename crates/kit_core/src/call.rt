@@ -25,8 +25,8 @@ fn line_end(text: &[u8]) -> Option<usize>
     text.iter().position(|b| *b == b'\n')
 }
 
-// The text before its first line end, or all of it.
-fn first_line(text: &[u8]) -> &[u8]
+/// The text before its first line end, or all of it. It takes no memory.
+pub fn first_line(text: &[u8]) -> &[u8]
     ensures { result.now ≡ before_first (λ b. b == 10) text.now }
 {
     match line_end(text) {

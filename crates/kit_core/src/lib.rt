@@ -13,7 +13,7 @@ mod noted;
 mod remote;
 
 pub use asides::aside;
-pub use call::{Asked, Call, Said};
+pub use call::{Asked, Call, Said, first_line};
 pub use describe::{Availability, Describe, Pair, Where};
 pub use kit::{Kit, Step};
 pub use lists::{Lines, Values};

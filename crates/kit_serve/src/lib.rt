@@ -4,15 +4,19 @@
 mod child;
 mod described;
 mod end;
+mod line_sink;
 mod programs;
 mod serving;
 mod streams;
+mod telling;
 mod voice;
 mod writing;
 
 pub use described::serve_described;
 pub use end::End;
+pub use line_sink::LineSink;
 pub use programs::{KitInlet, KitOutlet, KitPrograms, KitStub, Maker};
 pub use serving::{LONGEST_LINE, READ_SIZE, Served, serve, talk, turn};
 pub use streams::{Ear, Mouth};
+pub use telling::{NotTold, SharedSink, Teller, share};
 pub use voice::Voice;

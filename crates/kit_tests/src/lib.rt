@@ -6,5 +6,7 @@ mod disk;
 mod empty;
 #[cfg(test)]
 mod programs;
+#[cfg(test)]
+mod telling;
 
 pub use empty::Empty;
