@@ -141,10 +141,10 @@ class Remote:
         self.say("VERSION 1")
         while True:
             tag, text = untagged(self.hear())
-            if text.split(" ")[0] in ("VALUE", "CREDS"):
-                continue
-            self.late.append((tag, text))
-            if not (self.wants_tags and self.random.random() < 0.3 and self.is_waiting()):
+            if text.split(" ")[0] not in ("VALUE", "CREDS"):
+                self.late.append((tag, text))
+            # Not put off until a line that never comes: a value may be the last that the host had to say.
+            if self.late and not (self.wants_tags and self.random.random() < 0.3 and self.is_waiting()):
                 self.random.shuffle(self.late)
                 while self.late:
                     self.answer(*self.late.pop())

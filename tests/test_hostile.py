@@ -250,8 +250,7 @@ class Trial:
         command = self.random.choice(["check", "info", "init", "run", "run", "run", "run", "run"])
         began = time.monotonic()
         getattr(self, f"try_{command}")()
-        # A child that waits for what never comes ends after 168 s.
-        require(time.monotonic() - began < 200, f"{self}: it took too long")
+        require(time.monotonic() - began < 100, f"{self}: it took too long")
         wait_until_gone([pid for pid, _, _ in self.logs()])
 
     def __str__(self):
