@@ -1,6 +1,6 @@
 """What a remote asks its host for and sets, in each request and in two jobs at once."""
 
-from harness import UUID, expect
+from harness import UUID, expect, limits
 from runs import checks, expect_run
 
 E = "SHA256E-s0--e3b0c44298fc1c149afbf4c8996fb92427ae41e4649b934ca495991b7852b855"
@@ -79,6 +79,19 @@ def case_each_aside_is_served_in_an_init(room):
     room.child("asking", ASKING)
     expect(room.special("init", "./asking", UUID, "keep", "directory=/x y"), (1, "failed said []\n", ""))
     expect(room.read("keep"), None, "the kept file")
+
+
+@limits(60)
+def case_a_hundred_thousand_asides_before_an_answer_take_no_minute(room):
+    room.child("talking", """
+greet()
+hear("CHECKPRESENT WORM--a")
+for _ in range(100):
+    say(*["PROGRESS 1"] * 1000)
+say("CHECKPRESENT-SUCCESS WORM--a")
+hear()
+""")
+    expect(room.special("check", "./talking", "WORM--a"), (0, "1 present\n", ""))
 
 
 BOTH = 'greet("ASYNC")\na, b = hear_all("CHECKPRESENT WORM--a", "CHECKPRESENT WORM--b")\n'
