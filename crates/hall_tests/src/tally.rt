@@ -93,13 +93,15 @@ impl Held for Tally {
     ghost is_free = { IsTotal };
 
     fn act(&mut self, by: u32, op: Option<u64>) -> Result<u64, NoMemory> {
-        self.grew = false;
         match op {
             Some(number) => {
                 self.add(by, number)?;
                 Ok(self.total())
             }
-            None => Ok(self.total()),
+            None => {
+                self.grew = false;
+                Ok(self.total())
+            }
         }
     }
 
