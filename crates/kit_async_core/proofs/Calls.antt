@@ -1,8 +1,10 @@
 -- What the steps of a remote come to.
-use Rattle.std.proofs.Common.{zero, suc, ◌≡◌, ◌⊎◌, inl, inr, ℕ, ◌+◌, ◌-◌, ◌*◌, ◌≤◌, ◌<◌, List, [], ◌∷◌, ◌++◌, refl, sym, ap, subst, ◌∙◌, Bool, true, false, not, ◌==◌, cond, Some, None, Option, length, length-append, arith}
-use Rattle.std.specs.Prelude.{◌&&◌, ◌||◌, find, fold, set, remove, slice_get, nat_lt, option_map, IfSome}
+use Rattle.std.proofs.Common.{zero, suc, ◌≡◌, ◌⊎◌, inl, inr, ℕ, ◌+◌, ◌-◌, ◌*◌, ◌≤◌, ◌<◌, List, [], ◌∷◌, ◌++◌, refl, sym, ap, subst, ◌∙◌, Bool, true, false, not, ◌==◌, cond, Some, None, Option, length, get_or, length-append, append_assoc, arith}
+use Rattle.std.specs.Prelude.{Result, Ok, Err, IfOk, ◌&&◌, ◌||◌, find, position, fold, set, remove, slice_get, nat_lt, option_map, IfSome}
 use Rattle.std.proofs.lemmas.Bool.Decides.{nat_tests}
-use Rattle.std.proofs.lemmas.List.{append-nil}
+use Rattle.std.proofs.lemmas.List.{append-nil, length-set}
+use Rattle.std.proofs.lemmas.Option.{slice_get_within}
+use Rattle.ann_key.specs.declared.bytes.NoMemory.{NoMemory}
 use Rattle.kit_core.specs.declared.call.Said.{Said}
 use Rattle.kit_core.specs.Calls.{is_line_said}
 use Rattle.kit_async_core.specs.declared.setup.Setup.{Setup}
@@ -10,18 +12,18 @@ use Rattle.kit_async_core.specs.declared.job.Job.{Job}
 use Rattle.kit_async_core.specs.declared.entry.Entry.{Entry}
 use Rattle.kit_async_core.specs.declared.entry.Entry.TheVariants.{Take, Call, Say, Lack}
 use Rattle.kit_async_core.specs.declared.event.Reply.{Reply}
-use Rattle.kit_async_core.specs.declared.event.Reply.TheVariants.{Done, Unsaid}
+use Rattle.kit_async_core.specs.declared.event.Reply.TheVariants.{Done, Odd, Unsaid}
 use Rattle.kit_async_core.specs.Jobs.{is_making_ready, is_awaiting, is_worked_by, settles, prepares, final_in, job_line, job_of, with_job, without_job}
 use Rattle.kit_async_core.specs.Standings.{Standing, with_taken, with_call, answer_due, called_in, said_line, said_in, after}
-use Rattle.kit_async_core.specs.Legality.{is_idle, is_free, is_turn_of, is_called}
-use Rattle.kit_async_core.specs.Events.{Stepped, due_said, work_in, first_free, free_step, turn_step, take_step, called_then, called_step, call_step, IsUnsaid}
-use Rattle.kit_async_core.specs.Books.{BookValue, AreApart, most_calls, calls_owed, room_owed, Took, Lacked, IsCalledAt, CallNoted}
+use Rattle.kit_async_core.specs.Legality.{is_idle, is_free, is_turn_of, is_called, is_done}
+use Rattle.kit_async_core.specs.Events.{Stepped, waiting, due_said, work_in, first_free, free_step, turn_step, take_step, called_then, called_step, call_step, IsUnsaid}
+use Rattle.kit_async_core.specs.Books.{IsAsBefore, AnswerKept, AnswerBegun, BookValue, AreApart, most_calls, calls_owed, room_owed, Took, Lacked, IsCalledAt, CallNoted}
 use Rattle.kit_async_core.proofs.Fronts.{both}
-use Rattle.kit_async_core.proofs.Places.{Found, job_there, job_changed, change_there, removal_there, removal_changed, calls_set, calls_remove, passes_of}
+use Rattle.kit_async_core.proofs.Places.{Found, found_place, found_none, read_is, job_there, job_changed, change_there, removal_there, removal_changed, calls_set, calls_remove, passes_of}
 
 -- ---- who may be called
 
-not_false : (b : Bool) → not b ≡ true → b ≡ false
+pub not_false : (b : Bool) → not b ≡ true → b ≡ false
 not_false true h = absurd cc
 not_false false h = refl
 
@@ -190,7 +192,7 @@ settled_took setup old new remote said place line a k o h l j s r =
       omega (arith, e, m, r, removed, k.few, length-append old.stands.unwritten (line ∷ [])))
 
 -- no memory was found for the answer
-pub settled_lacked : (setup : Setup) (old new : BookValue) (remote : ℕ) (said : Said) (place : ℕ) → old.stands.due ≡ None → AreApart old.stands.jobs
+pub settled_lacked : (setup : Setup) (old new : BookValue) (remote : ℕ) (said : Said) (place : ℕ) → AreApart old.stands.jobs
     → (k : IsCalledAt setup old.stands remote said place) → old.stands.over ≡ false → settles setup k.job said ≡ true
     → new.journal ≡ old.journal ++ Call k.job.number remote said ∷ Lack ∷ []
     → new.stands ≡ record old.stands {
@@ -201,7 +203,7 @@ pub settled_lacked : (setup : Setup) (old new : BookValue) (remote : ℕ) (said 
         }
     → old.room ≤ new.room + 2
     → Lacked setup old new (call_step setup old.stands remote said) Unsaid
-settled_lacked setup old new remote said place d a k o h j s r =
+settled_lacked setup old new remote said place a k o h j s r =
     let job : Job = k.job in
     let call : Entry = Call job.number remote said in
     let w = knows setup old.stands remote said place a k in
@@ -257,3 +259,122 @@ take_took setup old new remote place a none o idle f j s r =
           let e : room_owed setup new.stands ≡ 3 * calls_owed setup (set old.stands.jobs place (with_taken remote job)) + length old.stands.unwritten = ap (room_owed setup) s in
           omega (arith, e, m, r, owed);
     }
+
+-- ---- a call that settles its job, in its parts
+
+-- what is known once its answer was begun, whether or not memory was found for it
+pub record Begun (old mid : BookValue) : Type 0 where
+  pub room : old.room ≤ mid.room
+  pub jobs : mid.stands.jobs ≡ old.stands.jobs
+
+pub begun_is : (old mid : BookValue) (place : ℕ) (said : Said) (o : Option (List ℕ)) → AnswerBegun old mid place said o → Begun old mid
+begun_is old mid place said None b = record { room = b.room; jobs = ap (λ (t : Standing). t.jobs) b.stands }
+begun_is old mid place said (Some line) b = record { room = omega (arith, b.room); jobs = ap (λ (t : Standing). t.jobs) b.stands }
+
+-- there is room for the call, its answer, and that it is written
+pub some_room : (setup : Setup) (old : BookValue) (remote : ℕ) (said : Said) (place : ℕ) → IsCalledAt setup old.stands remote said place → room_owed setup old.stands ≤ old.room → 3 ≤ old.room
+some_room setup old remote said place k r =
+    let removed = calls_remove setup old.stands.jobs place k.job k.there in
+    omega (arith, removed, k.few, r)
+
+-- the job stands there still
+pub still_within : (setup : Setup) (old mid noted : BookValue) (remote : ℕ) (said : Said) (place : ℕ) → IsCalledAt setup old.stands remote said place → Begun old mid
+    → CallNoted setup mid noted remote said place → place < length noted.stands.jobs
+still_within setup old mid noted remote said place k b n =
+    let within : place < length old.stands.jobs = slice_get_within old.stands.jobs place k.job k.there in
+    let one = ap (λ (t : Standing). length t.jobs) n.stands in
+    let two = length-set mid.stands.jobs place (with_call (settles setup n.job said) n.job) in
+    let three = ap (λ (js : List Job). length js) b.jobs in
+    omega (arith, within, one, two, three)
+
+-- the job that the mid book has there
+mid_job : (setup : Setup) (old mid noted : BookValue) (remote : ℕ) (said : Said) (place : ℕ) → (k : IsCalledAt setup old.stands remote said place) → mid.stands.jobs ≡ old.stands.jobs
+    → (n : CallNoted setup mid noted remote said place) → n.job ≡ k.job
+mid_job setup old mid noted remote said place k j n =
+    let both_are : Some n.job ≡ Some k.job = sym n.there ∙ ap (λ (js : List Job). slice_get js place) j ∙ k.there in cc
+
+pub answered_settles : (setup : Setup) (old mid noted new : BookValue) (remote : ℕ) (said : Said) (place number : ℕ) (line : List ℕ) → AreApart old.stands.jobs
+    → (k : IsCalledAt setup old.stands remote said place) → old.stands.over ≡ false → settles setup k.job said ≡ true → number ≡ k.job.number
+    → AnswerKept old mid place said line → CallNoted setup mid noted remote said place
+    → new.journal ≡ noted.journal ++ Say number line ∷ []
+    → new.stands ≡ record noted.stands { due = None; jobs = remove noted.stands.jobs place }
+    → new.room + 1 ≡ noted.room
+    → Took setup old new (call_step setup old.stands remote said) Done
+answered_settles setup old mid noted new remote said place number line a k o h num b n j s r =
+    let is : n.job ≡ k.job = mid_job setup old mid noted remote said place k (ap (λ (t : Standing). t.jobs) b.stands) n in
+    let answer : line ≡ job_line k.job.number (final_in k.job said) = subst (λ (x : Option Job). IfSome x (λ job. line ≡ job_line job.number (final_in job said))) k.there b.answer in
+    settled_took setup old new remote said place line a k o h answer
+    (j ∙ ap (λ (es : List Entry). es ++ Say number line ∷ []) (n.journal ∙ ap (λ (es : List Entry). es ++ Call n.job.number remote said ∷ []) b.journal)
+    ∙ append_assoc old.journal (Call n.job.number remote said ∷ []) (Say number line ∷ [])
+    ∙ ap (λ (x : Job). old.journal ++ Call x.number remote said ∷ Say number line ∷ []) is
+    ∙ ap (λ (m : ℕ). old.journal ++ Call k.job.number remote said ∷ Say m line ∷ []) num)
+    (s
+    ∙ ap (λ (t : Standing). record t { due = None; jobs = remove t.jobs place }) n.stands
+    ∙ ap (λ (t : Standing). record t { due = None; prepared = t.prepared || prepares setup n.job said; jobs = remove (set t.jobs place (with_call (settles setup n.job said) n.job)) place }) b.stands
+    ∙ ap (λ (js : List Job). record old.stands { due = None; prepared = old.stands.prepared || prepares setup n.job said; jobs = js; unwritten = old.stands.unwritten ++ line ∷ [] })
+      (remove_set old.stands.jobs place (with_call (settles setup n.job said) n.job))
+    ∙ ap (λ (x : Job). record old.stands { due = None; prepared = old.stands.prepared || prepares setup x said; jobs = remove old.stands.jobs place; unwritten = old.stands.unwritten ++ line ∷ [] }) is)
+    (omega (arith, r, n.room, b.room))
+
+pub lacking_settles : (setup : Setup) (old mid noted new : BookValue) (remote : ℕ) (said : Said) (place : ℕ) → AreApart old.stands.jobs
+    → (k : IsCalledAt setup old.stands remote said place) → old.stands.over ≡ false → settles setup k.job said ≡ true
+    → IsAsBefore old mid → CallNoted setup mid noted remote said place
+    → new.journal ≡ noted.journal ++ Lack ∷ []
+    → new.stands ≡ record noted.stands { due = None; over = true }
+    → new.room + 1 ≡ noted.room
+    → Lacked setup old new (call_step setup old.stands remote said) Unsaid
+lacking_settles setup old mid noted new remote said place a k o h b n j s r =
+    let is : n.job ≡ k.job = mid_job setup old mid noted remote said place k (ap (λ (t : Standing). t.jobs) b.stands) n in
+    settled_lacked setup old new remote said place a k o h
+    (j ∙ ap (λ (es : List Entry). es ++ Lack ∷ []) (n.journal ∙ ap (λ (es : List Entry). es ++ Call n.job.number remote said ∷ []) b.journal)
+    ∙ append_assoc old.journal (Call n.job.number remote said ∷ []) (Lack ∷ [])
+    ∙ ap (λ (x : Job). old.journal ++ Call x.number remote said ∷ Lack ∷ []) is)
+    (s
+    ∙ ap (λ (t : Standing). record t { due = None; over = true }) n.stands
+    ∙ ap (λ (t : Standing). record t { due = None; prepared = t.prepared || prepares setup n.job said; jobs = set t.jobs place (with_call (settles setup n.job said) n.job); over = true }) b.stands
+    ∙ ap (λ (x : Job). record old.stands { due = None; prepared = old.stands.prepared || prepares setup x said; jobs = set old.stands.jobs place (with_call (settles setup x said) x); over = true }) is)
+    (omega (arith, r, n.room, b.room))
+
+-- ---- what is asked for
+
+pub turn_took : (setup : Setup) (old : BookValue) (remote place : ℕ) (job : Job) (r : Result Reply NoMemory)
+    → position (is_turn_of setup old.stands.jobs remote) old.stands.jobs ≡ Some place → job ≡ get_or old.stands.jobs place job
+    → IfOk r (λ reply. reply ≡ work_in setup job) → IfOk r (Took setup old old (take_step setup old.stands remote))
+turn_took setup old remote place job (Err e) p g w = tt
+turn_took setup old remote place job (Ok reply) p g w =
+    let f = found_place (is_turn_of setup old.stands.jobs remote) old.stands.jobs place p in
+    let is : job ≡ f.job = read_is old.stands.jobs place f.job job f.there g in
+    same_took setup old (take_step setup old.stands remote) reply
+    (ap (turn_step setup old.stands remote) f.find_is ∙ ap (λ (x : Reply). record { group = []; reply = x }) (ap (work_in setup) (sym is) ∙ sym w))
+
+pub waiting_took : (setup : Setup) (old : BookValue) (remote : ℕ) (reply : Reply) → position (is_turn_of setup old.stands.jobs remote) old.stands.jobs ≡ None
+    → first_free setup old.stands remote ≡ None → reply ≡ waiting (is_done setup old.stands) → Took setup old old (take_step setup old.stands remote) reply
+waiting_took setup old remote reply p n w =
+    same_took setup old (take_step setup old.stands remote) reply
+    (ap (turn_step setup old.stands remote) (found_none (is_turn_of setup old.stands.jobs remote) old.stands.jobs p)
+    ∙ ap (free_step setup old.stands remote) n ∙ ap (λ (x : Reply). record { group = []; reply = x }) (sym w))
+
+pub none_begun : (setup : Setup) (s : Standing) (remote : ℕ) → (not s.over && is_idle s.jobs remote) ≡ false → first_free setup s remote ≡ None
+none_begun setup s remote h = rw (turned s.over (is_idle s.jobs remote) h) refl
+  where
+    turned : (a b : Bool) → (not a && b) ≡ false → (a || not b) ≡ true
+    turned true b k = refl
+    turned false true k = absurd cc
+    turned false false k = refl
+
+pub none_free : (setup : Setup) (s : Standing) (remote : ℕ) → position (is_free setup s.jobs) s.jobs ≡ None → first_free setup s remote ≡ None
+none_free setup s remote p = go (s.over || not (is_idle s.jobs remote))
+  where
+    go : (b : Bool) → cond {A = Option Job} b None (find (is_free setup s.jobs) s.jobs) ≡ None
+    go true = refl
+    go false = found_none (is_free setup s.jobs) s.jobs p
+
+-- where nothing is to be noted
+pub odd_line : (setup : Setup) (old : BookValue) (remote : ℕ) (said : Said) → is_line_said said ≡ false → Took setup old old (call_step setup old.stands remote said) Odd
+odd_line setup old remote said l = same_took setup old (call_step setup old.stands remote said) Odd (rw l refl)
+
+pub odd_call : (setup : Setup) (old : BookValue) (remote : ℕ) (said : Said) → is_line_said said ≡ true → position (is_called setup old.stands.jobs remote) old.stands.jobs ≡ None
+    → Took setup old old (call_step setup old.stands remote said) Odd
+odd_call setup old remote said l p =
+    same_took setup old (call_step setup old.stands remote said) Odd
+    (rw l (ap (called_step setup old.stands remote said) (found_none (is_called setup old.stands.jobs remote) old.stands.jobs p)))

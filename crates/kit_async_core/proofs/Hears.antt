@@ -1,6 +1,6 @@
 -- What the steps of a line of the host come to.
-use Rattle.std.proofs.Common.{◌≡◌, ℕ, ◌+◌, ◌*◌, ◌≤◌, List, [], ◌∷◌, ◌++◌, refl, sym, ap, subst, ◌∙◌, Bool, true, false, not, cond, Some, None, Option, length, length-append, arith}
-use Rattle.std.specs.Prelude.{◌&&◌, ◌||◌, find, fold, set, slice_get, option_map}
+use Rattle.std.proofs.Common.{◌≡◌, ℕ, ◌+◌, ◌*◌, ◌≤◌, List, [], ◌∷◌, ◌++◌, refl, sym, ap, subst, ◌∙◌, Bool, true, false, not, cond, Some, None, Option, length, get_or, length-append, arith}
+use Rattle.std.specs.Prelude.{◌&&◌, ◌||◌, find, position, fold, set, slice_get, option_map, IfSome}
 use Rattle.std.specs.List.{list_any}
 use Rattle.annex_model.specs.Messages.{Getconfig, host_reading, remote_line}
 use Rattle.annex_model.specs.Messages.{HostMessage, AskExtensions, Prepare, Initremote, Transfer, Checkpresent, Remove, Listconfigs, Getcost, Getavailability, Getinfo, Whereis, Value, Creds, HostError}
@@ -20,7 +20,7 @@ use Rattle.kit_async_core.specs.Legality.{may_hear, holds_back}
 use Rattle.kit_async_core.specs.Events.{Stepped, due_said, heard_reply, heard_step, hear_step}
 use Rattle.kit_async_core.specs.Books.{BookValue, AreApart, most_calls, calls_owed, room_owed, Took, IsRequest, IsValue}
 use Rattle.kit_async_core.proofs.Fronts.{both}
-use Rattle.kit_async_core.proofs.Places.{job_last, removal_last, job_there, job_changed, change_there, calls_append, calls_set}
+use Rattle.kit_async_core.proofs.Places.{found_none, found_place, read_is, equal, job_last, removal_last, job_there, job_changed, change_there, calls_append, calls_set}
 use Rattle.kit_async_core.proofs.Apart.{asks_new, replies_awaited}
 
 not_true : (b : Bool) → not b ≡ true → b ≡ false
@@ -328,3 +328,39 @@ told_more_took setup old new line place values said m a v e j s r =
     (λ h.
       let f : room_owed setup new.stands ≡ 3 * calls_owed setup (set old.stands.jobs place job) + length (old.stands.unwritten ++ said ∷ []) = ap (room_owed setup) s in
       omega (arith, f, h, r, k.calls, length-append old.stands.unwritten (said ∷ [])))
+
+-- ---- the job that a value is told to
+
+pub never_none : (setup : Setup) (s : Standing) (line : List ℕ) (n : ℕ) → hearing_of setup s.jobs s.tagged line ≡ Replies n → position (has_number n) s.jobs ≡ None → ⊥
+never_none setup s line n h p =
+    let w = replies_awaited setup s.jobs s.tagged line n h in
+    let none : job_of s.jobs n ≡ None = found_none (has_number n) s.jobs p in
+    let both_are : Some w.job ≡ None = sym w.found ∙ none in
+    absurd cc
+
+pub is_value : (setup : Setup) (s : Standing) (line : List ℕ) (n place : ℕ) (values : List (List ℕ)) (job : Job) → hearing_of setup s.jobs s.tagged line ≡ Replies n
+    → position (has_number n) s.jobs ≡ Some place → job ≡ get_or s.jobs place job
+    → values ≡ job.values ++ value_told (host_reading (text_in s.tagged line)) ∷ [] → IsValue setup s line place values
+is_value setup s line n place values job h p r v =
+    let f = found_place (has_number n) s.jobs place p in
+    let same : job ≡ f.job = read_is s.jobs place f.job job f.there r in
+    let number : n ≡ f.job.number = sym (equal f.job.number n f.passes) in
+    record {
+      job = f.job;
+      there = f.there;
+      hearing = h ∙ ap (λ (m : ℕ). Replies m) number;
+      values_are = v ∙ ap (λ (j : Job). j.values ++ value_told (host_reading (text_in s.tagged line)) ∷ []) same;
+    }
+
+map_twice : (n : ℕ) (o : Option (List ℕ)) → option_map (λ name. job_line n (remote_line (Getconfig name))) o ≡ option_map (job_line n) (option_map (λ name. remote_line (Getconfig name)) o)
+map_twice n None = refl
+map_twice n (Some name) = refl
+
+pub more_said : (jobs : List Job) (n place : ℕ) (o : Option (List ℕ)) (said : List ℕ) → position (has_number n) jobs ≡ Some place
+    → option_map (job_line n) (option_map (λ name. remote_line (Getconfig name)) o) ≡ Some said
+    → IfSome (slice_get jobs place) (λ job. option_map (λ name. job_line job.number (remote_line (Getconfig name))) o ≡ Some said)
+more_said jobs n place o said p e =
+    let f = found_place (has_number n) jobs place p in
+    let number : n ≡ f.job.number = sym (equal f.job.number n f.passes) in
+    subst (λ (x : Option Job). IfSome x (λ job. option_map (λ name. job_line job.number (remote_line (Getconfig name))) o ≡ Some said)) (sym f.there)
+    (subst (λ (m : ℕ). option_map (λ name. job_line m (remote_line (Getconfig name))) o ≡ Some said) number (map_twice n o ∙ e))

@@ -74,7 +74,7 @@ neither false b h = (refl, h)
 same_number : (job : Job) → has_number job.number job ≡ true
 same_number job = grind (arith, nat_tests)
 
-equal : (m n : ℕ) → (m == n) ≡ true → m ≡ n
+pub equal : (m n : ℕ) → (m == n) ≡ true → m ≡ n
 equal m n h = grind (arith, nat_tests)
 
 turned : (m n : ℕ) → (m == n) ≡ false → (n == m) ≡ false

@@ -1,9 +1,11 @@
 // The steps of a remote: what it takes up, and what it says.
-ghost use Rattle.std.specs.Prelude.{◌≡◌, ◌⊎◌, ◌<◌, ◌≤◌, IfOk, IfSome, OnErr, false, length, slice_get};
+ghost use Rattle.std.specs.Prelude.{◌≡◌, ◌⊎◌, ◌<◌, ◌≤◌, ◌+◌, ◌^◌, ◌||◌, IfOk, IfSome, OnErr, false, true, not, ◌&&◌, length, slice_get};
 ghost use Rattle.kit_core.specs.Calls.{is_line_said};
 ghost use Rattle.kit_async_core.specs.Books.{Took, Lacked, IsAsBefore, AreApart, room_owed, IsCalledAt, CallNoted, AnswerBegun};
+ghost use Rattle.kit_async_core.specs.Legality.{is_idle};
 ghost use Rattle.kit_async_core.specs.Events.{take_step, call_step, work_in};
-ghost use Rattle.kit_async_core.specs.Jobs.{final_in, job_line};
+ghost use Rattle.kit_async_core.specs.Jobs.{final_in, job_line, prepares, settles};
+ghost use Rattle.kit_async_core.specs.Standings.{with_call};
 
 use crate::book::{Book, waiting};
 use crate::due::job_line;
@@ -37,6 +39,13 @@ fn work(alloc: Global, setup: &Setup, job: &Job) -> Result<Reply, NoMemory>
 }
 
 impl Book {
+    // Whether the remote may take something up.
+    fn may_begin(&self, remote: u32) -> bool
+        ensures { result ≡ (not self.now.stands.over && is_idle self.now.stands.jobs remote) }
+    {
+        !self.over && is_idle(self.jobs.as_slice(), remote)
+    }
+
     /// The remote has nothing to do: it gets ready where it is its turn, or takes up the first request that it may.
     pub(crate) fn take(&mut self, setup: &Setup, remote: u32) -> Result<Reply, NoMemory>
         requires apart { AreApart self.old.stands.jobs }
@@ -46,7 +55,7 @@ impl Book {
         if let Some(at) = turn_of(setup, self.jobs.as_slice(), remote) {
             return work(self.alloc, setup, &self.jobs[at]);
         }
-        if self.over || !is_idle(self.jobs.as_slice(), remote) {
+        if !self.may_begin(remote) {
             return Ok(waiting(self.is_done(setup)));
         }
         let Some(at) = first_free(setup, self.jobs.as_slice()) else {
@@ -65,8 +74,24 @@ impl Book {
     }
 }
 
+// One call more.
+fn note_in(job: &mut Job, settles: bool)
+    requires { job.old.calls + 1 < 2 ^ 32 }
+    ensures { job.new ≡ with_call settles job.old }
+{
+    job.calls += 1;
+    job.settled = settles;
+}
+
 // What a remote said.
 impl Book {
+    // Whether the kit is prepared, once the remote said so for the job.
+    fn prepared_by(&self, setup: &Setup, job: &Job, said: &Said) -> bool
+        ensures { result ≡ (self.now.stands.prepared || prepares setup.now job.now said.now) }
+    {
+        self.prepared || job.prepares(setup, said)
+    }
+
     // Notes the call for the job at that place.
     fn note_call(&mut self, setup: &Setup, remote: u32, said: Said, at: usize)
         requires room { 0 < self.old.room }
@@ -76,16 +101,15 @@ impl Book {
         let job = &self.jobs[at];
         let number = job.number;
         let settles = job.settles(setup, &said);
-        let prepares = job.prepares(setup, &said);
-        let calls = job.calls + 1;
+        let prepared = self.prepared_by(setup, job, &said);
+        let _most = job.most_calls(setup);
         self.journal.push(Entry::Call {
             job: number,
             remote,
             said,
         });
-        self.prepared = self.prepared || prepares;
-        self.jobs[at].calls = calls;
-        self.jobs[at].settled = settles;
+        self.prepared = prepared;
+        note_in(&mut self.jobs[at], settles);
     }
 
     // The answer to the job at that place, twice: for the journal and to be written.
@@ -114,12 +138,22 @@ impl Book {
         }
     }
 
+    // Whether that word for the job at that place is to be answered.
+    fn is_owed(&self, setup: &Setup, at: usize, said: &Said) -> bool
+        requires { at < length self.now.stands.jobs }
+        ensures { IfSome (slice_get self.now.stands.jobs at) (λ job. result ≡ (not self.now.stands.over && settles setup.now job said.now)) }
+    {
+        let settles = self.jobs[at].settles(setup, said);
+        !self.over && settles
+    }
+
     // The call settles the job, and is answered.
     fn settle(&mut self, setup: &Setup, remote: u32, said: Said, at: usize) -> Reply
         requires apart { AreApart self.old.stands.jobs }
         requires room { room_owed setup.now self.old.stands ≤ self.old.room }
         requires is { IsCalledAt setup.now self.old.stands remote said at }
-        requires settles { self.old.stands.over ≡ false }
+        requires live { self.old.stands.over ≡ false }
+        requires settles { IfSome (slice_get self.old.stands.jobs at) (λ job. settles setup.now job said ≡ true) }
         ensures { Took setup.now self.old self.new (call_step setup.now self.old.stands remote said) result
             ⊎ Lacked setup.now self.old self.new (call_step setup.now self.old.stands remote said) result }
     {
@@ -154,7 +188,7 @@ impl Book {
         let Some(at) = called(setup, self.jobs.as_slice(), remote) else {
             return Reply::Odd;
         };
-        if !self.over && self.jobs[at].settles(setup, &said) {
+        if self.is_owed(setup, at, &said) {
             return self.settle(setup, remote, said, at);
         }
         self.note_call(setup, remote, said, at);
