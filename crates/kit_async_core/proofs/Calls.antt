@@ -140,8 +140,8 @@ noted_took setup old new remote said place d a k n h =
     (n.journal ∙ ap (λ (j : Job). old.journal ++ Call j.number remote said ∷ []) is)
     (s ∙ ap (λ (o : Option (ℕ × List ℕ)). record old.stands { due = o; prepared = old.stands.prepared || prepares setup job said; jobs = jobs }) (d ∙ sym silent))
     (λ l.
-      let e : room_owed setup new.stands ≡ 3 * calls_owed setup jobs + length old.stands.unwritten = ap (room_owed setup) s in
-      omega (arith, e, l, n.room, w.owed))
+    let e : room_owed setup new.stands ≡ 3 * calls_owed setup jobs + length old.stands.unwritten = ap (room_owed setup) s in
+    omega (arith, e, l, n.room, w.owed))
 
 -- ---- a call that settles its job
 
@@ -156,11 +156,11 @@ pub settled_took : (setup : Setup) (old new : BookValue) (remote : ℕ) (said : 
     → line ≡ job_line k.job.number (final_in k.job said)
     → new.journal ≡ old.journal ++ Call k.job.number remote said ∷ Say k.job.number line ∷ []
     → new.stands ≡ record old.stands {
-          due = None;
-          prepared = old.stands.prepared || prepares setup k.job said;
-          jobs = remove old.stands.jobs place;
-          unwritten = old.stands.unwritten ++ line ∷ [];
-        }
+      due = None;
+      prepared = old.stands.prepared || prepares setup k.job said;
+      jobs = remove old.stands.jobs place;
+      unwritten = old.stands.unwritten ++ line ∷ [];
+    }
     → new.room + 2 ≡ old.room
     → Took setup old new (call_step setup old.stands remote said) Done
 settled_took setup old new remote said place line a k o h l j s r =
@@ -187,20 +187,20 @@ settled_took setup old new remote said place line a k o h l j s r =
     ∙ sym closes
     ∙ sym (ap (said_in setup u) found))
     (λ m.
-      let e : room_owed setup new.stands ≡ 3 * calls_owed setup (remove old.stands.jobs place) + length (old.stands.unwritten ++ line ∷ []) = ap (room_owed setup) s in
-      let removed = calls_remove setup old.stands.jobs place job k.there in
-      omega (arith, e, m, r, removed, k.few, length-append old.stands.unwritten (line ∷ [])))
+    let e : room_owed setup new.stands ≡ 3 * calls_owed setup (remove old.stands.jobs place) + length (old.stands.unwritten ++ line ∷ []) = ap (room_owed setup) s in
+    let removed = calls_remove setup old.stands.jobs place job k.there in
+    omega (arith, e, m, r, removed, k.few, length-append old.stands.unwritten (line ∷ [])))
 
 -- no memory was found for the answer
 pub settled_lacked : (setup : Setup) (old new : BookValue) (remote : ℕ) (said : Said) (place : ℕ) → AreApart old.stands.jobs
     → (k : IsCalledAt setup old.stands remote said place) → old.stands.over ≡ false → settles setup k.job said ≡ true
     → new.journal ≡ old.journal ++ Call k.job.number remote said ∷ Lack ∷ []
     → new.stands ≡ record old.stands {
-          due = None;
-          prepared = old.stands.prepared || prepares setup k.job said;
-          jobs = set old.stands.jobs place (with_call (settles setup k.job said) k.job);
-          over = true;
-        }
+      due = None;
+      prepared = old.stands.prepared || prepares setup k.job said;
+      jobs = set old.stands.jobs place (with_call (settles setup k.job said) k.job);
+      over = true;
+    }
     → old.room ≤ new.room + 2
     → Lacked setup old new (call_step setup old.stands remote said) Unsaid
 settled_lacked setup old new remote said place a k o h j s r =
@@ -312,7 +312,7 @@ answered_settles setup old mid noted new remote said place number line a k o h n
     ∙ ap (λ (t : Standing). record t { due = None; jobs = remove t.jobs place }) n.stands
     ∙ ap (λ (t : Standing). record t { due = None; prepared = t.prepared || prepares setup n.job said; jobs = remove (set t.jobs place (with_call (settles setup n.job said) n.job)) place }) b.stands
     ∙ ap (λ (js : List Job). record old.stands { due = None; prepared = old.stands.prepared || prepares setup n.job said; jobs = js; unwritten = old.stands.unwritten ++ line ∷ [] })
-      (remove_set old.stands.jobs place (with_call (settles setup n.job said) n.job))
+    (remove_set old.stands.jobs place (with_call (settles setup n.job said) n.job))
     ∙ ap (λ (x : Job). record old.stands { due = None; prepared = old.stands.prepared || prepares setup x said; jobs = remove old.stands.jobs place; unwritten = old.stands.unwritten ++ line ∷ [] }) is)
     (omega (arith, r, n.room, b.room))
 

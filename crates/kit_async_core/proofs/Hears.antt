@@ -103,8 +103,8 @@ unexpected_took setup old new line m h j s r =
     (record { may = m; after_is = heard_of setup old.stands line Unexpected h; due_is = refl }) refl j
     (s ∙ sym (over_said setup (said_line t unexpected_line) (job_of t.jobs 0) refl))
     (λ k.
-      let e : room_owed setup new.stands ≡ 3 * calls_owed setup old.stands.jobs + length (old.stands.unwritten ++ unexpected_line ∷ []) = ap (room_owed setup) s in
-      omega (arith, e, k, r, length-append old.stands.unwritten (unexpected_line ∷ [])))
+    let e : room_owed setup new.stands ≡ 3 * calls_owed setup old.stands.jobs + length (old.stands.unwritten ++ unexpected_line ∷ []) = ap (room_owed setup) s in
+    omega (arith, e, k, r, length-append old.stands.unwritten (unexpected_line ∷ [])))
 
 -- ---- requests
 
@@ -144,8 +144,8 @@ begin_took setup old new line job m is silent j s r =
     (ap heard_reply (sym (live setup old.stands m))) j
     (s ∙ ap (λ (o : Option (ℕ × List ℕ)). record old.stands { due = o; tagged = old.stands.tagged || starts_tags (request_of job); jobs = old.stands.jobs ++ job ∷ [] }) (sym due))
     (λ k.
-      let e : room_owed setup new.stands ≡ 3 * calls_owed setup (old.stands.jobs ++ job ∷ []) + length old.stands.unwritten = ap (room_owed setup) s in
-      omega (arith, e, k, r, calls_append setup old.stands.jobs job, fresh_calls setup old.stands line job is))
+    let e : room_owed setup new.stands ≡ 3 * calls_owed setup (old.stands.jobs ++ job ∷ []) + length old.stands.unwritten = ap (room_owed setup) s in
+    omega (arith, e, k, r, calls_append setup old.stands.jobs job, fresh_calls setup old.stands line job is))
 
 -- what stands behind a line that is said for a new job
 said_new : (setup : Setup) (s : Standing) (line : List ℕ) (job : Job) (said : List ℕ) → IsRequest setup s line job
@@ -181,8 +181,8 @@ ask_took setup old new line job said m is e a j s r =
     ∙ sym (said_stays setup (said_line t (job_line job.number some.text)) job a)
     ∙ sym (said_new setup old.stands line job (job_line job.number some.text) is))
     (λ k.
-      let f : room_owed setup new.stands ≡ 3 * calls_owed setup (old.stands.jobs ++ job ∷ []) + length (old.stands.unwritten ++ said ∷ []) = ap (room_owed setup) s in
-      omega (arith, f, k, r, calls_append setup old.stands.jobs job, fresh_calls setup old.stands line job is, length-append old.stands.unwritten (said ∷ [])))
+    let f : room_owed setup new.stands ≡ 3 * calls_owed setup (old.stands.jobs ++ job ∷ []) + length (old.stands.unwritten ++ said ∷ []) = ap (room_owed setup) s in
+    omega (arith, f, k, r, calls_append setup old.stands.jobs job, fresh_calls setup old.stands line job is, length-append old.stands.unwritten (said ∷ [])))
 
 pub answered_took : (setup : Setup) (old new : BookValue) (line : List ℕ) (job : Job) (said : List ℕ) → may_hear setup old.stands ≡ true
     → IsRequest setup old.stands line job → option_map (job_line job.number) (line_in setup job) ≡ Some said → is_awaiting setup job ≡ false
@@ -205,8 +205,8 @@ answered_took setup old new line job said m is e a j s r =
     ∙ sym (said_goes setup u job (live setup old.stands m) a)
     ∙ sym (said_new setup old.stands line job (job_line job.number some.text) is))
     (λ k.
-      let f : room_owed setup new.stands ≡ 3 * calls_owed setup old.stands.jobs + length (old.stands.unwritten ++ said ∷ []) = ap (room_owed setup) s in
-      omega (arith, f, k, r, length-append old.stands.unwritten (said ∷ [])))
+    let f : room_owed setup new.stands ≡ 3 * calls_owed setup old.stands.jobs + length (old.stands.unwritten ++ said ∷ []) = ap (room_owed setup) s in
+    omega (arith, f, k, r, length-append old.stands.unwritten (said ∷ [])))
 
 -- ---- values
 
@@ -286,8 +286,8 @@ told_last_took setup old new line place values m a v last j s r =
     (ap heard_reply (sym (live setup old.stands m))) j
     (s ∙ ap (λ (o : Option (ℕ × List ℕ)). record old.stands { due = o; jobs = set old.stands.jobs place job }) (sym due))
     (λ h.
-      let e : room_owed setup new.stands ≡ 3 * calls_owed setup (set old.stands.jobs place job) + length old.stands.unwritten = ap (room_owed setup) s in
-      omega (arith, e, h, r, k.calls))
+    let e : room_owed setup new.stands ≡ 3 * calls_owed setup (set old.stands.jobs place job) + length old.stands.unwritten = ap (room_owed setup) s in
+    omega (arith, e, h, r, k.calls))
 
 record SomeName (setup : Setup) (n : ℕ) (number : ℕ) (said : List ℕ) : Type 0 where
   name : List ℕ
@@ -326,8 +326,8 @@ told_more_took setup old new line place values said m a v e j s r =
     ∙ sym (said_stays setup (said_line t (job_line job.number text)) job awaits)
     ∙ sym (ap (said_in setup (said_line t (job_line job.number text))) k.found))
     (λ h.
-      let f : room_owed setup new.stands ≡ 3 * calls_owed setup (set old.stands.jobs place job) + length (old.stands.unwritten ++ said ∷ []) = ap (room_owed setup) s in
-      omega (arith, f, h, r, k.calls, length-append old.stands.unwritten (said ∷ [])))
+    let f : room_owed setup new.stands ≡ 3 * calls_owed setup (set old.stands.jobs place job) + length (old.stands.unwritten ++ said ∷ []) = ap (room_owed setup) s in
+    omega (arith, f, h, r, k.calls, length-append old.stands.unwritten (said ∷ [])))
 
 -- ---- the job that a value is told to
 

@@ -12,4 +12,5 @@ pub mod Overs
 pub mod Places
 pub mod Smalls
 pub mod Stepping
+pub mod Steps
 pub mod Unwritten

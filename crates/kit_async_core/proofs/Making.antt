@@ -1,8 +1,8 @@
 -- Each step of a core makes what its number may make.
-use Rattle.std.proofs.Common.{◌≡◌, ◌⊎◌, inl, inr, ℕ, ◌+◌, ◌-◌, ◌≤◌, List, [], ◌∷◌, refl, Bool, true, false, ◌==◌, Some, None, Option, arith}
+use Rattle.std.proofs.Common.{◌≡◌, ◌⊎◌, inl, inr, ℕ, ◌+◌, ◌-◌, ◌≤◌, List, [], ◌∷◌, refl, sym, subst, Bool, true, false, ◌==◌, Some, None, Option, arith}
 use Rattle.std.specs.Prelude.{◌&&◌, ◌||◌, not, All, find, nat_lt, nat_le}
 use Rattle.std.proofs.lemmas.Bool.Decides.{nat_tests}
-use Rattle.std.proofs.lemmas.List.Elements.{All-nil, All-cons}
+use Rattle.std.proofs.lemmas.List.Elements.{All-nil, All-cons, All-head}
 use Rattle.kit_core.specs.declared.call.Said.{Said}
 use Rattle.kit_core.specs.Calls.{is_line_said}
 use Rattle.kit_async_core.specs.declared.setup.Setup.{Setup}
@@ -11,10 +11,11 @@ use Rattle.kit_async_core.specs.declared.entry.Entry.{Entry}
 use Rattle.kit_async_core.specs.declared.entry.Entry.TheVariants.{Heard, Take, Call, Say, Wrote, Close, Lack}
 use Rattle.kit_async_core.specs.declared.event.Event.{Event}
 use Rattle.kit_async_core.specs.declared.event.Event.TheVariants.{Hear, Take as TakeUp, Called, Next, Wrote as Written, Close as Deafen, Break}
+use Rattle.kit_async_core.specs.declared.event.Reply.{Reply}
 use Rattle.kit_async_core.specs.Jobs.{job_line}
 use Rattle.kit_async_core.specs.Standings.{Standing, after, standing}
 use Rattle.kit_async_core.specs.Legality.{may_hear, is_turn_of, is_called, is_done}
-use Rattle.kit_async_core.specs.Events.{IsMadeBy, Stepped, only, reader, writer, remote_of, is_of_remote, due_said, hear_step, free_step, first_free, turn_step, take_step, called_step, call_step, next_reply, wrote_step, close_step, if_it_is, event_step, step_of}
+use Rattle.kit_async_core.specs.Events.{IsMadeBy, Stepped, only, reader, writer, remote_of, is_of_remote, due_said, hear_step, free_step, first_free, turn_step, take_step, called_step, call_step, next_reply, wrote_step, close_step, if_it_is, event_step, step_of, IsUnsaid}
 use Rattle.kit_async_core.proofs.Fronts.{both}
 
 one_of : (by : ℕ) (e : Entry) → IsMadeBy by e → All (IsMadeBy by) (e ∷ [])
@@ -92,3 +93,22 @@ event_made setup s by Break = All-nil (IsMadeBy by)
 
 pub steps_are_made : (setup : Setup) (past : List Entry) (by : ℕ) (event : Event) → All (IsMadeBy by) (step_of setup past by event).group
 steps_are_made setup past by event = event_made setup (standing setup past) by event
+
+-- ---- a call without its answer
+
+called_remote : (setup : Setup) (s : Standing) (by : ℕ) (said : Said) (call answer : Entry) → (event_step setup s by (Called said)).group ≡ call ∷ answer ∷ [] → 3 ≤ by
+called_remote setup s by said call answer e = go (is_of_remote setup by) refl e
+  where
+    go : (b : Bool) → is_of_remote setup by ≡ b → (if_it_is b (call_step setup s (remote_of by) said)).group ≡ call ∷ answer ∷ [] → 3 ≤ by
+    go true is k = at_least by (both (nat_le 3 by) (nat_lt (remote_of by) setup.remotes) is).0
+    go false is k = absurd cc
+
+first_made : (by : ℕ) (group : List Entry) (call answer : Entry) → All (IsMadeBy by) group → group ≡ call ∷ answer ∷ [] → IsMadeBy by call
+first_made by group call answer a e = All-head (IsMadeBy by) call (answer ∷ []) (subst (All (IsMadeBy by)) e a)
+
+pub lacks_are_made : (setup : Setup) (past : List Entry) (by : ℕ) (said : Said) (group : List Entry) (reply : Reply)
+    → IsUnsaid (step_of setup past by (Called said)) group reply → All (IsMadeBy by) group
+lacks_are_made setup past by said group reply u =
+    let three : 3 ≤ by = called_remote setup (standing setup past) by said u.call u.answer u.whole in
+    let first : IsMadeBy by u.call = first_made by (step_of setup past by (Called said)).group u.call u.answer (steps_are_made setup past by (Called said)) u.whole in
+    subst (All (IsMadeBy by)) (sym u.group_is) (All-cons (IsMadeBy by) u.call (Lack ∷ []) first (one_of by Lack three))

@@ -37,9 +37,9 @@ impl Model for Book {
     ghost Value = { BookValue };
 
     ghost view = { λ b. record {
-        journal = b.journal.entries;
-        room = b.journal.room;
-        stands = record { due = None; tagged = b.tagged; prepared = b.prepared; jobs = b.jobs.items; over = b.over; closed = b.closed; unwritten = b.unwritten.items };
+      journal = b.journal.entries;
+      room = b.journal.room;
+      stands = record { due = None; tagged = b.tagged; prepared = b.prepared; jobs = b.jobs.items; over = b.over; closed = b.closed; unwritten = b.unwritten.items };
     } };
 }
 

@@ -136,13 +136,7 @@ impl Book {
     }
 
     // The first setting is asked for, and the job is open.
-    fn ask(
-        &mut self,
-        setup: &Setup,
-        line: Bytes,
-        job: Job,
-        said: Bytes,
-    ) -> Result<Reply, NoMemory>
+    fn ask(&mut self, setup: &Setup, line: Bytes, job: Job, said: Bytes) -> Result<Reply, NoMemory>
         requires may { may_hear setup.now self.old.stands ≡ true }
         requires is { IsRequest setup.now self.old.stands line job }
         requires said { option_map (job_line job.number) (line_in setup.now job) ≡ Some said }
@@ -197,12 +191,7 @@ impl Book {
         Ok(Reply::Done)
     }
 
-    fn hear_request(
-        &mut self,
-        setup: &Setup,
-        line: Bytes,
-        number: u64,
-    ) -> Result<Reply, NoMemory>
+    fn hear_request(&mut self, setup: &Setup, line: Bytes, number: u64) -> Result<Reply, NoMemory>
         requires may { may_hear setup.now self.old.stands ≡ true }
         requires is { hearing_of setup.now self.old.stands.jobs self.old.stands.tagged line ≡ Asks number }
         ensures ok { IfOk result (Took setup.now self.old self.new (hear_step setup.now self.old.stands line)) }

@@ -39,6 +39,13 @@ fn can_break(event: &Event) -> bool
     matches!(event, Event::Hear(_) | Event::Take | Event::Next)
 }
 
+// Whether a core is broken off, once the event came.
+fn broken_by(broken: bool, event: &Event) -> bool
+    ensures { result ≡ (broken || is_break event.now) }
+{
+    broken || matches!(event, Event::Break)
+}
+
 impl Book {
     // An event of that number.
     fn step(&mut self, setup: &Setup, by: u32, event: Event) -> Result<Reply, NoMemory>
@@ -130,9 +137,7 @@ impl KitCore {
         if self.broken && can_break(&event) {
             return Ok(Reply::Broken);
         }
-        if matches!(event, Event::Break) {
-            self.broken = true;
-        }
+        self.broken = broken_by(self.broken, &event);
         self.book.step(&self.setup, by, event)
     }
 }
