@@ -13,8 +13,8 @@ use ann_key::NoMemory;
 use std::alloc::Global;
 use wire_msg::{HostMsg, RemoteMsg, write_remote};
 
-// The request failed, for this reason.
-pub(super) fn failed<'a>(request: HostMsg<'a>, text: &'a [u8]) -> RemoteMsg<'a>
+/// The message that the request failed, for this reason. Of a request that no remote works on it is UNSUPPORTED-REQUEST.
+pub fn failed<'a>(request: HostMsg<'a>, text: &'a [u8]) -> RemoteMsg<'a>
     ensures line { remote_shown result ≡ final_line (Some (host_shown request.entry)) (Failure text.entry.now) }
     ensures sayable { IsAskable (host_shown request.entry) → IsSayable (remote_shown result) }
 {
@@ -57,8 +57,8 @@ fn done<'a>(request: HostMsg<'a>) -> RemoteMsg<'a>
     }
 }
 
-// The message that answers the request, by what the remote said.
-pub(super) fn final_message<'a>(request: HostMsg<'a>, said: &'a Said) -> RemoteMsg<'a>
+/// The message that answers the request, by what the remote said.
+pub fn final_message<'a>(request: HostMsg<'a>, said: &'a Said) -> RemoteMsg<'a>
     ensures line { remote_shown result ≡ final_line (Some (host_shown request.entry)) said.entry.now }
     ensures sayable { IsAskable (host_shown request.entry) → IsSayable (remote_shown result) }
 {

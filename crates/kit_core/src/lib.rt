@@ -15,6 +15,7 @@ mod remote;
 pub use asides::aside;
 pub use call::{Asked, Call, Said, first_line};
 pub use describe::{Availability, Describe, Pair, Where};
+pub use finals::{failed, final_message};
 pub use kit::{Kit, Step};
 pub use lists::{Lines, Values};
 pub use noted::Noted;

@@ -1,5 +1,5 @@
 // Lists of byte lists, each seen as one value.
-ghost use Rattle.std.specs.Prelude.{◌≡◌, ◌↔◌, ◌++◌, ◌∷◌, [], length, slice_get, IsTrue, IfOk, OnOk};
+ghost use Rattle.std.specs.Prelude.{◌≡◌, ◌↔◌, ◌++◌, ◌∷◌, [], length, slice_get, IsTrue, IfOk, OnOk, OnErr};
 ghost use Rattle.std.specs.Option.{option_copied};
 
 use ann_key::{Bytes, NoMemory};
@@ -59,9 +59,10 @@ impl Values {
         self.items.is_empty()
     }
 
-    // Adds one more.
-    pub(super) fn push(&mut self, value: Bytes) -> Result<(), NoMemory>
-        ensures { OnOk result (self.new ≡ self.old ++ value ∷ []) }
+    /// Adds one more. At `NoMemory` they are as before.
+    pub fn push(&mut self, value: Bytes) -> Result<(), NoMemory>
+        ensures ok { OnOk result (self.new ≡ self.old ++ value ∷ []) }
+        ensures err { OnErr result (self.new ≡ self.old) }
     {
         self.items.push(value)?;
         Ok(())

@@ -1,0 +1,16 @@
+pub mod Apart
+pub mod Calls
+pub mod Closings
+pub mod Dues
+pub mod Fronts
+pub mod Hears
+pub mod KitHalls
+pub mod Lacking
+pub mod Listening
+pub mod Making
+pub mod Overs
+pub mod Places
+pub mod Smalls
+pub mod Stepping
+pub mod Steps
+pub mod Unwritten

@@ -1,0 +1,47 @@
+use Rattle.std.proofs.Common.{◌≡◌, ◌∙◌, ◌++◌, ◌∷◌, ◌+◌, ◌<◌, [], List, ℕ, None, Some, Option, Bool, sym, ap, subst, refl, length, get_or, arith}
+use Rattle.std.specs.Prelude.{◌||◌, set, slice_get}
+use Rattle.kit_async_core.specs.declared.entry.Entry.TheVariants.{Call}
+use Rattle.kit_async_core.specs.declared.job.Job.{Job}
+use Rattle.kit_async_core.specs.Books.{BookValue, most_calls}
+use Rattle.kit_async_core.specs.Jobs.{prepares, settles}
+use Rattle.kit_async_core.specs.Standings.{Standing, with_call}
+use Rattle.kit_async_core.proofs.Places.{read_is}
+use Rattle.kit_async_core.proofs.book.Book.note_call.Goals as goal
+
+pub note_in-requires : goal.note_in-requires
+note_in-requires c =
+    let k = c.requires.is in
+    let there = subst (λ (v : BookValue). slice_get v.stands.jobs c.args.at ≡ Some k.job) (sym c.self.view_is) k.there in
+    let changed : c.index_mut.result.now ≡ k.job = read_is c.self.inside.jobs.items c.args.at k.job c.index_mut.result.now there c.index_mut.ensures.value in
+    let read : c.index-job.result.now ≡ k.job = read_is c.self.inside.jobs.items c.args.at k.job c.index-job.result.now there c.index-job.ensures in
+    let calls : c.index_mut.result.now.calls ≡ k.job.calls = ap (λ (j : Job). j.calls) changed in
+    let most : c.most_calls-most.result ≡ most_calls c.args.setup.now k.job = c.most_calls-most.ensures ∙ ap (most_calls c.args.setup.now) read in
+    omega (arith, calls, most, k.few, c.most_calls-most.type_inv)
+
+pub returns : goal.returns
+returns c =
+    let k = c.requires.is in
+    let i = c.self.inside in
+    let setup = c.args.setup.now in
+    let said = c.args.said in
+    let place : ℕ = c.args.at in
+    let s : Standing = record { due = None; tagged = i.tagged; prepared = i.prepared; jobs = i.jobs.items; over = i.over; closed = i.closed; unwritten = i.unwritten.items } in
+    let there = subst (λ (v : BookValue). slice_get v.stands.jobs place ≡ Some k.job) (sym c.self.view_is) k.there in
+    let changed : c.index_mut.result.now ≡ k.job = read_is i.jobs.items place k.job c.index_mut.result.now there c.index_mut.ensures.value in
+    let read : c.index-job.result.now ≡ k.job = read_is i.jobs.items place k.job c.index-job.result.now there c.index-job.ensures in
+    let settled : c.settles-settles.result ≡ settles setup k.job said = c.settles-settles.ensures ∙ ap (λ (j : Job). settles setup j said) read in
+    let noted : c.note_in.new.job ≡ with_call (settles setup k.job said) k.job =
+    c.note_in.ensures ∙ ap (λ (j : Job). with_call c.settles-settles.result j) changed ∙ ap (λ (b : Bool). with_call b k.job) settled in
+    let prepared : c.prepared_by-prepared.result ≡ (s.prepared || prepares setup k.job said) =
+    c.prepared_by-prepared.ensures ∙ ap (λ (v : BookValue). v.stands.prepared || prepares setup c.index-job.result.now said) (sym c.self.view_is)
+    ∙ ap (λ (j : Job). s.prepared || prepares setup j said) read in
+    record {
+      job = k.job;
+      there = k.there;
+      journal = c.push.ensures.entries ∙ ap (λ (j : Job). i.journal.entries ++ Call j.number c.args.remote said ∷ []) read
+          ∙ ap (λ (v : BookValue). v.journal ++ Call k.job.number c.args.remote said ∷ []) c.self.view_is;
+      room = omega (arith, c.push.ensures.room, ap (λ (v : BookValue). v.room) c.self.view_is);
+      stands = ap (λ (p : Bool). record s { prepared = p; jobs = set s.jobs place c.note_in.new.job }) prepared
+          ∙ ap (λ (j : Job). record s { prepared = s.prepared || prepares setup k.job said; jobs = set s.jobs place j }) noted
+          ∙ ap (λ (v : BookValue). record v.stands { prepared = v.stands.prepared || prepares setup k.job said; jobs = set v.stands.jobs place (with_call (settles setup k.job said) k.job) }) c.self.view_is;
+    }

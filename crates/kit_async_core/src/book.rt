@@ -1,0 +1,129 @@
+// A journal that is being written, and how a kit stands after it.
+ghost use Rattle.std.specs.Prelude.{◌≡◌, ◌≤◌, ◌∷◌, [], IfOk, OnErr, None, codes};
+ghost use Rattle.kit_async_core.specs.declared.entry.Entry.TheVariants.{Say};
+ghost use Rattle.kit_async_core.specs.Standings.{opening};
+ghost use Rattle.kit_async_core.specs.Legality.{may_hear, is_done};
+ghost use Rattle.kit_async_core.specs.Events.{waiting, next_reply, wrote_step, close_step};
+ghost use Rattle.kit_async_core.specs.Books.{Took, IsAsBefore, room_owed};
+
+use crate::entries::Entries;
+use crate::entry::Entry;
+use crate::event::Reply;
+use crate::job::Job;
+use crate::jobs::{all_await, hold_back};
+use crate::setup::Setup;
+use ann_key::{Bytes, NoMemory};
+use std::alloc::Global;
+use std::marker::Model;
+
+/// The journal of a kit, and beside it how the kit stands, where nothing is due.
+#[derive(Drop)]
+pub(crate) struct Book {
+    pub(crate) alloc: Global,
+    pub(crate) journal: Entries,
+    pub(crate) jobs: Vec<Job>,
+    pub(crate) tagged: bool,
+    pub(crate) prepared: bool,
+    pub(crate) over: bool,
+    pub(crate) closed: bool,
+    // What was said and isn't written yet.
+    pub(crate) unwritten: Vec<Bytes>,
+}
+
+impl Model for Book {
+    ghost use Rattle.std.specs.Prelude.{None};
+    ghost use Rattle.kit_async_core.specs.Books.{BookValue};
+
+    ghost Value = { BookValue };
+
+    ghost view = { λ b. record {
+      journal = b.journal.entries;
+      room = b.journal.room;
+      stands = record { due = None; tagged = b.tagged; prepared = b.prepared; jobs = b.jobs.items; over = b.over; closed = b.closed; unwritten = b.unwritten.items };
+    } };
+}
+
+/// Nothing can be done now, or ever.
+pub(crate) fn waiting(done: bool) -> Reply
+    ensures { result ≡ waiting done }
+{
+    if done { Reply::Over } else { Reply::Wait }
+}
+
+impl Book {
+    /// That of a kit that says its version.
+    pub(crate) fn new(alloc: Global) -> Result<Book, NoMemory>
+        ensures journal { IfOk result (λ b. b.journal ≡ Say 0 (codes "VERSION 1") ∷ []) }
+        ensures stands { IfOk result (λ b. b.stands ≡ record opening { due = None; unwritten = codes "VERSION 1" ∷ [] }) }
+        ensures room { IfOk result (λ b. b.room ≡ 1) }
+    {
+        let line = Bytes::copy(alloc, b"VERSION 1")?;
+        let copy = Bytes::copy(alloc, line.view())?;
+        let mut unwritten = Vec::new(alloc);
+        unwritten.push(copy)?;
+        let mut journal = Entries::new(alloc);
+        journal.take_room(2)?;
+        journal.push(Entry::Say { job: 0, line });
+        Ok(Book {
+            alloc,
+            journal,
+            jobs: Vec::new(alloc),
+            tagged: false,
+            prepared: false,
+            over: false,
+            closed: false,
+            unwritten,
+        })
+    }
+
+    /// Whether a line may be heard.
+    pub(crate) fn may_hear(&self, setup: &Setup) -> bool
+        ensures { result ≡ may_hear setup.now self.now.stands }
+    {
+        !self.over && !self.closed && !hold_back(setup, self.tagged, self.jobs.as_slice())
+    }
+
+    /// Whether no more can come of what was heard.
+    pub(crate) fn is_done(&self, setup: &Setup) -> bool
+        ensures { result ≡ is_done setup.now self.now.stands }
+    {
+        self.over || (self.closed && all_await(setup, self.jobs.as_slice()))
+    }
+
+    /// The next line that is to be written.
+    pub(crate) fn next(&self, setup: &Setup) -> Result<Reply, NoMemory>
+        ensures { IfOk result (λ reply. reply ≡ next_reply (is_done setup.now self.now.stands) self.now.stands.unwritten) }
+    {
+        match self.unwritten.first() {
+            Some(line) => Ok(Reply::Line(Bytes::copy(self.alloc, line.view())?)),
+            None => Ok(waiting(self.is_done(setup))),
+        }
+    }
+
+    /// The next line is written.
+    pub(crate) fn wrote(&mut self, setup: &Setup) -> Reply
+        requires { room_owed setup.now self.old.stands ≤ self.old.room }
+        ensures { Took setup.now self.old self.new (wrote_step self.old.stands.unwritten) result }
+    {
+        if self.unwritten.is_empty() {
+            return Reply::Odd;
+        }
+        self.unwritten.remove(0);
+        self.journal.push(Entry::Wrote);
+        Reply::Done
+    }
+
+    /// No more is heard.
+    pub(crate) fn close_ears(&mut self, setup: &Setup) -> Result<Reply, NoMemory>
+        ensures ok { IfOk result (Took setup.now self.old self.new (close_step self.old.stands)) }
+        ensures err { OnErr result (IsAsBefore self.old self.new) }
+    {
+        if self.over || self.closed {
+            return Ok(Reply::Done);
+        }
+        self.journal.take_room(1)?;
+        self.journal.push(Entry::Close);
+        self.closed = true;
+        Ok(Reply::Done)
+    }
+}

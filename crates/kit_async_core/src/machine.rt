@@ -1,0 +1,143 @@
+// What the threads of a kit share: the journal, and how the kit stands after it.
+ghost use Rattle.std.specs.Prelude.{◌≡◌, ◌≤◌, ◌||◌, ◌++◌, ◌∷◌, [], List, All, IfOk, IsOk, OnErr, Some, None, if◌then◌else◌, true, false, codes, length};
+ghost use Rattle.kit_async_core.specs.declared.entry.Entry.{Entry};
+ghost use Rattle.kit_async_core.specs.declared.entry.Entry.TheVariants.{Say};
+ghost use Rattle.kit_async_core.specs.Books.{AreApart, IsAsBefore, TookEvent, room_owed};
+ghost use Rattle.kit_async_core.specs.Events.{MayStep, IsMadeBy, can_break, takes_no_memory, is_break, is_of_remote, remote_of};
+ghost use Rattle.kit_async_core.specs.Legality.{Legal};
+
+use crate::book::Book;
+use crate::entries::Entries;
+use crate::entry::Entry;
+use crate::event::{Event, Reply};
+use crate::setup::Setup;
+use ann_key::{Bytes, NoMemory};
+use std::alloc::Global;
+use std::marker::Model;
+
+/// The number of the pass that reads. Those of the remotes come after the writer's.
+pub const READER: u32 = 1;
+
+/// The number of the pass that writes.
+pub const WRITER: u32 = 2;
+
+// The remote of that number.
+fn remote(setup: &Setup, by: u32) -> Option<u32>
+    ensures { result ≡ (if is_of_remote setup.now by then Some (remote_of by) else None) }
+{
+    if by >= 3 && by - 3 < setup.remotes {
+        Some(by - 3)
+    } else {
+        None
+    }
+}
+
+// Whether a core that is broken off does nothing at the event.
+fn can_break(event: &Event) -> bool
+    ensures { result ≡ can_break event.now }
+{
+    matches!(event, Event::Hear(_) | Event::Take | Event::Next)
+}
+
+// Whether a core is broken off, once the event came.
+fn broken_by(broken: bool, event: &Event) -> bool
+    ensures { result ≡ (broken || is_break event.now) }
+{
+    broken || matches!(event, Event::Break)
+}
+
+impl Book {
+    // An event of that number.
+    fn step(&mut self, setup: &Setup, by: u32, event: Event) -> Result<Reply, NoMemory>
+        requires apart { AreApart self.old.stands.jobs }
+        requires room { room_owed setup.now self.old.stands ≤ self.old.room }
+        ensures ok { IfOk result (TookEvent setup.now self.old self.new by event) }
+        ensures err { OnErr result (IsAsBefore self.old self.new) }
+        ensures free { takes_no_memory event ≡ true → IsOk result }
+    {
+        match event {
+            Event::Hear(line) if by == READER => self.hear(setup, line),
+            Event::Close if by == READER => self.close_ears(setup),
+            Event::Next if by == WRITER => self.next(setup),
+            Event::Wrote if by == WRITER => Ok(self.wrote(setup)),
+            Event::Take => match remote(setup, by) {
+                Some(remote) => self.take(setup, remote),
+                None => Ok(Reply::Odd),
+            },
+            Event::Called(said) => match remote(setup, by) {
+                Some(remote) => Ok(self.call(setup, remote, said)),
+                None => Ok(Reply::Odd),
+            },
+            Event::Break => Ok(Reply::Done),
+            Event::Hear(_) | Event::Close | Event::Next | Event::Wrote => Ok(Reply::Odd),
+        }
+    }
+}
+
+/// The core of a kit. It keeps its journal legal, and room for all that must not fail for want of memory.
+///
+/// Contracts see of it what doesn't change, the journal, and whether it is broken off.
+#[derive(Drop)]
+pub struct KitCore {
+    setup: Setup,
+    book: Book,
+    broken: bool,
+}
+
+impl Model for KitCore {
+    ghost use Rattle.std.specs.Prelude.{◌≡◌, ◌≤◌};
+    ghost use Rattle.kit_async_core.specs.Books.{CoreValue, IsBook};
+
+    ghost Value = { CoreValue };
+
+    ghost view = { λ c. record { setup = c.setup; journal = c.book.journal; broken = c.broken } };
+
+    ghost invariant = { λ c. IsBook c.setup c.book };
+}
+
+impl KitCore {
+    /// A core that says its version.
+    pub fn new(alloc: Global, setup: Setup) -> Result<KitCore, NoMemory>
+        ensures setup { IfOk result (λ c. c.setup ≡ setup) }
+        ensures journal { IfOk result (λ c. c.journal ≡ Say 0 (codes "VERSION 1") ∷ []) }
+        ensures whole { IfOk result (λ c. c.broken ≡ false) }
+    {
+        let book = Book::new(alloc)?;
+        Ok(KitCore {
+            setup,
+            book,
+            broken: false,
+        })
+    }
+
+    /// How many entries the journal has.
+    pub fn len(&self) -> u64
+        ensures { result ≡ length self.now.journal }
+    {
+        self.book.journal.view().len() as u64
+    }
+
+    /// What didn't change, and its journal, which is legal. It takes no memory.
+    pub fn close(self) -> (Setup, Entries)
+        ensures setup { result.0 ≡ self.setup }
+        ensures journal { result.1.entries ≡ self.journal }
+        ensures legal { Legal result.0 result.1.entries }
+    {
+        (self.setup, self.book.journal)
+    }
+
+    /// What comes of an event of that number. At `NoMemory` the journal is as before.
+    pub fn step(&mut self, by: u32, event: Event) -> Result<Reply, NoMemory>
+        ensures setup { self.new.setup ≡ self.old.setup }
+        ensures ok { IfOk result (λ reply. (group : List Entry) × (self.new.journal ≡ self.old.journal ++ group) × All (IsMadeBy by) group × MayStep self.old.setup self.old.journal by event group reply) }
+        ensures err { OnErr result (self.new.journal ≡ self.old.journal) }
+        ensures free { takes_no_memory event ≡ true → IsOk result }
+        ensures broken { self.new.broken ≡ (self.old.broken || is_break event) }
+    {
+        if self.broken && can_break(&event) {
+            return Ok(Reply::Broken);
+        }
+        self.broken = broken_by(self.broken, &event);
+        self.book.step(&self.setup, by, event)
+    }
+}

@@ -1,0 +1,49 @@
+// What doesn't change while a kit serves.
+ghost use Rattle.std.specs.Prelude.{◌≡◌, IfOk, option_copied, slice_get};
+
+use ann_key::{Bytes, NoMemory};
+use kit_core::{Remote, Values};
+use std::alloc::Global;
+
+/// The names of the first remote's settings, and how many remotes there are.
+#[derive(Drop)]
+pub struct Setup {
+    pub settings: Values,
+    pub remotes: u32,
+}
+
+// The names of the remote's settings, in their order.
+fn names<R: Remote>(alloc: Global, remote: &R) -> Result<Values, NoMemory>
+    ensures { IfOk result (λ names. names ≡ R.settings remote.now) }
+{
+    let mut names = Vec::new(alloc);
+    for n in 0..u32::MAX {
+        match remote.setting(n) {
+            Some(name) => names.push(Bytes::copy(alloc, name.as_bytes())?)?,
+            None => return Ok(Values::new(names)),
+        }
+    }
+    // There are never so many.
+    Err(NoMemory)
+}
+
+impl Setup {
+    /// That of so many remotes, of which this is the first.
+    pub fn of<R: Remote>(alloc: Global, first: &R, remotes: u32) -> Result<Setup, NoMemory>
+        ensures settings { IfOk result (λ s. s.settings ≡ R.settings first.now) }
+        ensures remotes { IfOk result (λ s. s.remotes ≡ remotes) }
+    {
+        let settings = names(alloc, first)?;
+        Ok(Setup { settings, remotes })
+    }
+
+    /// The name of the setting of that number, from 0.
+    pub fn name(&self, n: usize) -> Option<&[u8]>
+        ensures { option_copied result ≡ slice_get self.now.settings n }
+    {
+        match self.settings.view().get(n) {
+            Some(name) => Some(name.view()),
+            None => None,
+        }
+    }
+}

@@ -1,0 +1,44 @@
+// The core as the value of a hall, which many threads enter.
+ghost use Rattle.std.specs.Prelude.{◌≡◌};
+
+use crate::entry::Entry;
+use crate::event::{Event, Reply};
+use crate::machine::KitCore;
+use crate::setup::Setup;
+use ann_key::NoMemory;
+use hall::Held;
+
+impl Held for KitCore {
+    ghost use Rattle.kit_async_core.specs.Events.{MayStep, IsMadeBy, IsFree};
+
+    type Op = Event;
+
+    type Reply = Reply;
+
+    type Entry = Entry;
+
+    type Fixed = Setup;
+
+    ghost history = { λ c. c.journal };
+
+    ghost fixed = { λ c. c.setup };
+
+    ghost may = { MayStep };
+
+    ghost made_by = { IsMadeBy };
+
+    ghost is_free = { IsFree };
+
+    fn act(&mut self, by: u32, op: Event) -> Result<Reply, NoMemory> {
+        self.step(by, op)
+    }
+
+    fn len(&self) -> u64 {
+        self.len()
+    }
+
+    // No role rests on this core yet. Whom an entry concerns is said once one does.
+    fn bells(&self) -> u64 {
+        0
+    }
+}

@@ -1,0 +1,197 @@
+// The steps of a remote: what it takes up, and what it says.
+ghost use Rattle.std.specs.Prelude.{◌≡◌, ◌⊎◌, ◌<◌, ◌≤◌, ◌+◌, ◌^◌, ◌||◌, IfOk, IfSome, OnErr, false, true, not, ◌&&◌, length, slice_get};
+ghost use Rattle.kit_core.specs.Calls.{is_line_said};
+ghost use Rattle.kit_async_core.specs.Books.{Took, Lacked, IsAsBefore, AreApart, room_owed, IsCalledAt, CallNoted, AnswerBegun};
+ghost use Rattle.kit_async_core.specs.Legality.{is_idle};
+ghost use Rattle.kit_async_core.specs.Events.{take_step, call_step, work_in};
+ghost use Rattle.kit_async_core.specs.Jobs.{final_in, job_line, prepares, settles};
+ghost use Rattle.kit_async_core.specs.Standings.{with_call};
+
+use crate::book::{Book, waiting};
+use crate::due::job_line;
+use crate::entry::Entry;
+use crate::event::Reply;
+use crate::job::Job;
+use crate::jobs::{called, first_free, is_idle, turn_of};
+use crate::setup::Setup;
+use ann_key::{Bytes, NoMemory};
+use kit_core::Said;
+use std::alloc::Global;
+
+// No line ends in what the remote said.
+fn is_line_said(said: &Said) -> bool
+    ensures { result ≡ is_line_said said.now }
+{
+    match said {
+        Said::Yes | Said::No => true,
+        Said::Failure(text) => !text.view().contains(&b'\n'),
+    }
+}
+
+// What the job asks of its remote.
+fn work(alloc: Global, setup: &Setup, job: &Job) -> Result<Reply, NoMemory>
+    ensures { IfOk result (λ reply. reply ≡ work_in setup.now job.now) }
+{
+    match job.asked(alloc, setup)? {
+        Some(asked) => Ok(Reply::Work(asked)),
+        None => Ok(Reply::Odd),
+    }
+}
+
+impl Book {
+    // Whether the remote may take something up.
+    fn may_begin(&self, remote: u32) -> bool
+        ensures { result ≡ (not self.now.stands.over && is_idle self.now.stands.jobs remote) }
+    {
+        !self.over && is_idle(self.jobs.as_slice(), remote)
+    }
+
+    /// The remote has nothing to do: it gets ready where it is its turn, or takes up the first request that it may.
+    pub(crate) fn take(&mut self, setup: &Setup, remote: u32) -> Result<Reply, NoMemory>
+        requires apart { AreApart self.old.stands.jobs }
+        ensures ok { IfOk result (Took setup.now self.old self.new (take_step setup.now self.old.stands remote)) }
+        ensures err { OnErr result (IsAsBefore self.old self.new) }
+    {
+        if let Some(at) = turn_of(setup, self.jobs.as_slice(), remote) {
+            return work(self.alloc, setup, &self.jobs[at]);
+        }
+        if !self.may_begin(remote) {
+            return Ok(waiting(self.is_done(setup)));
+        }
+        let Some(at) = first_free(setup, self.jobs.as_slice()) else {
+            return Ok(waiting(self.is_done(setup)));
+        };
+        let job = &self.jobs[at];
+        let number = job.number;
+        let reply = work(self.alloc, setup, job)?;
+        self.journal.take_room(1)?;
+        self.journal.push(Entry::Take {
+            job: number,
+            remote,
+        });
+        self.jobs[at].taken = Some(remote);
+        Ok(reply)
+    }
+}
+
+// One call more.
+fn note_in(job: &mut Job, settles: bool)
+    requires { job.old.calls + 1 < 2 ^ 32 }
+    ensures { job.new ≡ with_call settles job.old }
+{
+    job.calls += 1;
+    job.settled = settles;
+}
+
+// What a remote said.
+impl Book {
+    // Whether the kit is prepared, once the remote said so for the job.
+    fn prepared_by(&self, setup: &Setup, job: &Job, said: &Said) -> bool
+        ensures { result ≡ (self.now.stands.prepared || prepares setup.now job.now said.now) }
+    {
+        self.prepared || job.prepares(setup, said)
+    }
+
+    // Notes the call for the job at that place.
+    fn note_call(&mut self, setup: &Setup, remote: u32, said: Said, at: usize)
+        requires room { 0 < self.old.room }
+        requires is { IsCalledAt setup.now self.old.stands remote said at }
+        ensures { CallNoted setup.now self.old self.new remote said at }
+    {
+        let job = &self.jobs[at];
+        let number = job.number;
+        let settles = job.settles(setup, &said);
+        let prepared = self.prepared_by(setup, job, &said);
+        let _most = job.most_calls(setup);
+        self.journal.push(Entry::Call {
+            job: number,
+            remote,
+            said,
+        });
+        self.prepared = prepared;
+        note_in(&mut self.jobs[at], settles);
+    }
+
+    // The answer to the job at that place, twice: for the journal and to be written.
+    fn answer(&self, at: usize, said: &Said) -> Result<(Bytes, Bytes), NoMemory>
+        requires at { at < length self.now.stands.jobs }
+        ensures { IfOk result (λ both. IfSome (slice_get self.now.stands.jobs at) (λ job. (both.0 ≡ job_line job.number (final_in job said.now)) × (both.1 ≡ job_line job.number (final_in job said.now)))) }
+    {
+        let job = &self.jobs[at];
+        let text = job.final_line(self.alloc, said)?;
+        let line = job_line(self.alloc, job.number, text)?;
+        let copy = Bytes::copy(self.alloc, line.view())?;
+        Ok((line, copy))
+    }
+
+    // The answer, among the lines that are to be written.
+    fn begin_answer(&mut self, at: usize, said: &Said) -> Option<Bytes>
+        requires at { at < length self.old.stands.jobs }
+        ensures { AnswerBegun self.old self.new at said.now result }
+    {
+        let Ok((line, copy)) = self.answer(at, said) else {
+            return None;
+        };
+        match self.unwritten.push(copy) {
+            Ok(()) => Some(line),
+            Err(_) => None,
+        }
+    }
+
+    // Whether that word for the job at that place is to be answered.
+    fn is_owed(&self, setup: &Setup, at: usize, said: &Said) -> bool
+        requires { at < length self.now.stands.jobs }
+        ensures { IfSome (slice_get self.now.stands.jobs at) (λ job. result ≡ (not self.now.stands.over && settles setup.now job said.now)) }
+    {
+        let settles = self.jobs[at].settles(setup, said);
+        !self.over && settles
+    }
+
+    // The call settles the job, and is answered.
+    fn settle(&mut self, setup: &Setup, remote: u32, said: Said, at: usize) -> Reply
+        requires apart { AreApart self.old.stands.jobs }
+        requires room { room_owed setup.now self.old.stands ≤ self.old.room }
+        requires is { IsCalledAt setup.now self.old.stands remote said at }
+        requires live { self.old.stands.over ≡ false }
+        requires settles { IfSome (slice_get self.old.stands.jobs at) (λ job. settles setup.now job said ≡ true) }
+        ensures { Took setup.now self.old self.new (call_step setup.now self.old.stands remote said) result
+            ⊎ Lacked setup.now self.old self.new (call_step setup.now self.old.stands remote said) result }
+    {
+        let answer = self.begin_answer(at, &said);
+        let number = self.jobs[at].number;
+        self.note_call(setup, remote, said, at);
+        match answer {
+            Some(line) => {
+                self.journal.push(Entry::Say { job: number, line });
+                self.jobs.remove(at);
+                Reply::Done
+            }
+            None => {
+                self.journal.push(Entry::Lack);
+                self.over = true;
+                Reply::Unsaid
+            }
+        }
+    }
+
+    /// What the remote said to its call. There is room for it.
+    pub(crate) fn call(&mut self, setup: &Setup, remote: u32, said: Said) -> Reply
+        requires apart { AreApart self.old.stands.jobs }
+        requires room { room_owed setup.now self.old.stands ≤ self.old.room }
+        requires remote { remote < setup.now.remotes }
+        ensures { Took setup.now self.old self.new (call_step setup.now self.old.stands remote said) result
+            ⊎ Lacked setup.now self.old self.new (call_step setup.now self.old.stands remote said) result }
+    {
+        if !is_line_said(&said) {
+            return Reply::Odd;
+        }
+        let Some(at) = called(setup, self.jobs.as_slice(), remote) else {
+            return Reply::Odd;
+        };
+        if self.is_owed(setup, at, &said) {
+            return self.settle(setup, remote, said, at);
+        }
+        self.note_call(setup, remote, said, at);
+        Reply::Done
+    }
+}
