@@ -1,0 +1,9 @@
+mod MayBegin
+mod Fronts
+mod Serving
+mod Stopping
+mod Greeting
+mod Begun
+mod Preparing
+mod Passing
+mod Everywhere
