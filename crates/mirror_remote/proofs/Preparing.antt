@@ -10,6 +10,24 @@ use Rattle.mirror_remote.specs.Mirrors.{AreAllReady, AreAskedFor, AreLeftAs, Are
 use Rattle.mirror_remote.specs.Beginnings.{BegunAll, BegunSome, BegunTo, BegunUpTo}
 use Rattle.mirror_remote.proofs.Begun.{adds_stays, asked_for, asked_more, asked_next, left_next, left_stopped, linked_greeted_all, rose_later, stopped_as, stopped_one, stops_split}
 
+-- these plans' programs were started, and maybe one more
+abbrev HaveAsked : Option Starts → Option Starts → List Plan → Type 0
+HaveAsked before after front = AddsAll before after (starts_of front) ⊎ ((program : List ℕ) × (b : Bool) × AddsAll before after (starts_of front ++ (program, b) ∷ []))
+
+told : (before after : Option Starts) (front : List Plan) → HaveAsked before after front → Starts
+told before after front (inl h) = starts_of front
+told before after front (inr (program, b, h)) = starts_of front ++ (program, b) ∷ []
+
+asked : (before after : Option Starts) (front : List Plan) (a : HaveAsked before after front) → AreAskedFor front (told before after front a)
+unfolding told
+asked before after front (inl h) = asked_for front
+asked before after front (inr (program, b, h)) = asked_more front (program, b)
+
+adds : (before after : Option Starts) (front : List Plan) (a : HaveAsked before after front) → AddsAll before after (told before after front a)
+unfolding told
+adds before after front (inl h) = h
+adds before after front (inr (program, b, h)) = h
+
 module _ (plans : List Plan) (old new : MirrorValue) (mid : ProgramsValue) (cs : List ChildValue) (before after : StoppedValue) (fresh : before.logs ≡ []) (left : new.logs ≡ after.logs) (none : new.children ≡ [])
     (stops : StopsAll cs before after) (stays : Stays mid.starts new.programs.starts) (later : mid.faults ≤ new.programs.faults) where
   -- the child of some plan isn't ready, and all were stopped
@@ -35,34 +53,16 @@ module _ (plans : List Plan) (old new : MirrorValue) (mid : ProgramsValue) (cs :
   pub cut_some : BegunSome plans old.programs mid cs → IsCutShort plans old new
   cut_some b =
       let all = stopped_as b.front cs before after b.greeted stops in
-      go b (left ∙ all.1 ∙ ap (λ (l : List LogValue). l ++ all.0) fresh) all.2
-    where
-      go : (b : BegunSome plans old.programs mid cs) → {logs : List LogValue} → new.logs ≡ logs → AreStoppedAs b.front logs → IsCutShort plans old new
-      go b {logs} are stopped = record {
+      record {
         front = b.front;
         back = b.back;
         are = b.are;
         none = none;
-        left = subst (AreLeftAs b.front) (sym are) (left_stopped b.front logs stopped);
-        told = told b.starts;
-        asked = asked b.starts;
-        starts = adds_stays old.programs.starts mid.starts new.programs.starts (told b.starts) (adds b.starts) stays;
+        left = subst (AreLeftAs b.front) (sym (left ∙ all.1 ∙ ap (λ (l : List LogValue). l ++ all.0) fresh)) (left_stopped b.front all.0 all.2);
+        told = told old.programs.starts mid.starts b.front b.starts;
+        asked = asked old.programs.starts mid.starts b.front b.starts;
+        starts = adds_stays old.programs.starts mid.starts new.programs.starts (told old.programs.starts mid.starts b.front b.starts) (adds old.programs.starts mid.starts b.front b.starts) stays;
       }
-        where
-          abbrev Asked : Type 0
-          Asked = AddsAll old.programs.starts mid.starts (starts_of b.front) ⊎ ((program : List ℕ) × (x : Bool) × AddsAll old.programs.starts mid.starts (starts_of b.front ++ (program, x) ∷ []))
-
-          told : Asked → Starts
-          told (inl h) = starts_of b.front
-          told (inr (program, x, h)) = starts_of b.front ++ (program, x) ∷ []
-
-          asked : (a : Asked) → AreAskedFor b.front (told a)
-          asked (inl h) = asked_for b.front
-          asked (inr (program, x, h)) = asked_more b.front (program, x)
-
-          adds : (a : Asked) → AddsAll old.programs.starts mid.starts (told a)
-          adds (inl h) = h
-          adds (inr (program, x, h)) = h
 
 -- a mirror that is stuck for want of memory for its words is cut short
 pub stuck_cut : (plans : List Plan) (n : ℕ) (old new : MirrorValue) → IsStuck plans n old new → IsCutShort plans old new

@@ -6,11 +6,11 @@ ghost use Rattle.mirror_remote.specs.Beginnings.{BeginsAs, BeginsAllAs};
 
 use crate::child::Child;
 use crate::opening::new_core;
-use mirror_plan::Plan;
 use ann_outside::{Programs, Sink, Source};
 use child_start::{Greeting, Mode, greet};
 use host_core::Core;
 use journal_model::Why;
+use mirror_plan::Plan;
 use std::alloc::Global;
 
 /// What became of one child.

@@ -13,7 +13,6 @@ ghost use Rattle.mirror_remote.specs.Mirrors.{Begins, Empties, Finishes, IsSound
 use crate::asking::{ask_all, ask_any, ask_check};
 use crate::beginning::{Outcome, begin_all};
 use crate::child::Child;
-use mirror_plan::{Plan, Plans, read_plans};
 use crate::saying::mirror_failure;
 use crate::stopped::{Stopped, stop_all};
 use ann_key::{Key, KeyRef, NoMemory, Text};
@@ -21,6 +20,7 @@ use ann_outside::Programs;
 use journal_look::Journal;
 use kit_core::{Said, Values};
 use link_roles::Wire;
+use mirror_plan::{Plan, Plans, read_plans};
 use std::alloc::Global;
 use std::marker::Model;
 use std::mem;
