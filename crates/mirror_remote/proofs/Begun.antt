@@ -1,5 +1,5 @@
 -- Children that are started one after the other, and stopped.
-use Rattle.std.proofs.Common.{◌≡◌, ◌⊎◌, inl, inr, ◌∙◌, ℕ, suc, ◌+◌, ◌-◌, ◌^◌, ◌<◌, ◌≤◌, List, [], ◌∷◌, ◌++◌, refl, sym, ap, subst, Bool, true, false, Option, Some, None, append_assoc, append-nil, length, map, take, drop, get_or, arith}
+use Rattle.std.proofs.Common.{◌≡◌, ◌⊎◌, inl, inr, ◌∙◌, ℕ, zero, suc, ◌+◌, ◌-◌, ◌^◌, ◌<◌, ◌≤◌, List, [], ◌∷◌, ◌++◌, refl, sym, ap, subst, Bool, true, false, Option, Some, None, append_assoc, append-nil, length, map, take, drop, get_or, add-one, arith}
 use Rattle.std.specs.Prelude.{min}
 use Rattle.std.proofs.lemmas.List.{map-append}
 use Rattle.ann_outside.specs.Causes.{AddsOne, Rose, Stays}
@@ -146,17 +146,20 @@ linked_greeted_all (p ∷ ps) (c ∷ cs) h = (h.0.linked, linked_greeted_all ps 
 -- the plan at this place, with those before and after it
 pub plan_at_place : (ps : List Plan) (i : ℕ) (p : Plan) → i < length ps → get_or ps i p ≡ p → ps ≡ take i ps ++ p ∷ drop (suc i) ps
 plan_at_place [] i p within here = absurd (omega arith)
-plan_at_place (q ∷ ps) 0 p within here = ap (λ (x : Plan). x ∷ ps) here
+plan_at_place (q ∷ ps) zero p within here = ap (λ (x : Plan). x ∷ ps) here
 plan_at_place (q ∷ ps) (suc i) p within here = ap (λ (l : List Plan). q ∷ l) (plan_at_place ps i p (omega (arith, within)) here)
 
+take_suc : (ps : List Plan) (i : ℕ) (p : Plan) → i < length ps → get_or ps i p ≡ p → take (suc i) ps ≡ take i ps ++ p ∷ []
+take_suc [] i p within here = absurd (omega arith)
+take_suc (q ∷ ps) zero p within here = ap (λ (x : Plan). x ∷ []) here
+take_suc (q ∷ ps) (suc i) p within here = ap (λ (l : List Plan). q ∷ l) (take_suc ps i p (omega (arith, within)) here)
+
 pub take_next : (ps : List Plan) (i : ℕ) (p : Plan) → i < length ps → get_or ps i p ≡ p → take (i + 1) ps ≡ take i ps ++ p ∷ []
-take_next [] i p within here = absurd (omega arith)
-take_next (q ∷ ps) 0 p within here = ap (λ (x : Plan). x ∷ []) here
-take_next (q ∷ ps) (suc i) p within here = ap (λ (l : List Plan). q ∷ l) (take_next ps i p (omega (arith, within)) here)
+take_next ps i p within here = rw add-one (take_suc ps i p within here)
 
 -- ---- they are stopped
 
-stopped_one : (p : Plan) (c : ChildValue) (old new : StoppedValue) → IsGreetedAs p c → (s : Stops c old new) → IsStoppedAs p s.log
+unfoldable pub stopped_one : (p : Plan) (c : ChildValue) (old new : StoppedValue) → IsGreetedAs p c → (s : Stops c old new) → IsStoppedAs p s.log
 stopped_one p c old new g s = record { opening = s.opening ∙ g.opening; past = c.journal; greeted = g.greeted; closes = s.closes }
 
 -- each was stopped as its plan's

@@ -21,8 +21,8 @@ refused (c ∷ cs) (v ∷ []) h = absurd cc
 refused (c ∷ cs) (v ∷ w ∷ vs) h = refused cs (w ∷ vs) h
 
 all_done : (b : Bool) (other : Said) → (other ≡ Yes → b ≡ true) → cond b Yes other ≡ Yes → b ≡ true
-all_done true other no h = refl
-all_done false other no h = no h
+all_done true other never h = refl
+all_done false other never h = never h
 
 done_by_all : (cs : List ChildValue) (vs : List Verdict) → all_said cs vs ≡ Yes → list_all is_done vs ≡ true
 done_by_all cs vs h = all_done (list_all is_done vs) (last_refusal cs vs) (λ e. refused cs vs e) h

@@ -257,7 +257,7 @@ module _ (q : HostMessage) (old new : List ChildValue) (at : ℕ) (v : Verdict) 
     pub said_done : is_done v ≡ true → list_all is_done (a.before ++ v ∷ []) ≡ true
     said_done h = all_last is_done a.before v a.went ∙ h
 
-    within : at < length new
+    pub within : at < length new
     within =
         let many : length new ≡ length old = front_length is_done q old new (a.before ++ v ∷ []) a.asked in
         let fits : length (a.before ++ v ∷ []) ≤ length new = front_fits is_done q old new (a.before ++ v ∷ []) a.asked in
@@ -265,7 +265,7 @@ module _ (q : HostMessage) (old new : List ChildValue) (at : ℕ) (v : Verdict) 
         let place = a.place in
         omega (arith, many, fits, one, place)
 
-    refused_by : (c : ChildValue) → slice_index_or new at c ≡ c → last_refusal new (a.before ++ v ∷ []) ≡ refusal c v
+    pub refused_by : (c : ChildValue) → slice_index_or new at c ≡ c → last_refusal new (a.before ++ v ∷ []) ≡ refusal c v
     refused_by c here =
         let inside : length a.before < length new = subst (λ (n : ℕ). n < length new) (sym a.place) within in
         last_is new a.before v c inside (subst (λ (n : ℕ). slice_index_or new n c ≡ c) (sym a.place) here)

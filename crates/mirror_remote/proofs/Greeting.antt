@@ -53,7 +53,7 @@ linked_greeted c one same g legal wired = record {
 
 pub serving_ready : (c : ChildValue) → IsLinked c → IsReady c.journal 1 → IsServing c
 serving_ready c l r =
-    let two : length (0 ∷ 1 ∷ []) ≡ 2 = refl in
+    let two : length {A = ℕ} (0 ∷ 1 ∷ []) ≡ 2 = refl in
     record { linked = l; prepared = r.prepared; greeted = omega (arith, ap (λ (js : List ℕ). length js) r.jobs, two) }
 
 -- a journal with a start that failed alone

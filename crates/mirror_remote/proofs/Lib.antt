@@ -1,5 +1,6 @@
 mod MayBegin
 mod Fronts
+mod Answering
 mod Serving
 mod Stopping
 mod Greeting

@@ -32,6 +32,7 @@ module _ (plans : List Plan) (old new : MirrorValue) (mid : ProgramsValue) (cs :
     (stops : StopsAll cs before after) (stays : Stays mid.starts new.programs.starts) (later : mid.faults ≤ new.programs.faults) where
   -- the child of some plan isn't ready, and all were stopped
   pub stuck_to : (n : ℕ) → BegunTo plans n old.programs mid cs → IsStuck plans n old new
+  unfolding stopped_one
   stuck_to n b =
       let s = stops_split b.first b.child before after (subst (λ (xs : List ChildValue). StopsAll xs before after) b.are stops) in
       let front = stopped_as b.front b.first before s.0 b.stands.greeted s.1 in
