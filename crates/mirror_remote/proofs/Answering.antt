@@ -47,14 +47,14 @@ module _ (q : HostMessage) (old new : List ChildValue) (at : ℕ) (v : Verdict) 
     check_no fails absent =
         over is_done q check_said old new No some
         (answers_check q old new at v a No (ap (λ (b : Bool). if b then No else last_refusal new (a.before ++ v ∷ [])) (sym absent)
-            ∙ ap (λ (b : Bool). if b then Yes else if is_absent v then No else last_refusal new (a.before ++ v ∷ [])) (sym fails)))
+        ∙ ap (λ (b : Bool). if b then Yes else if is_absent v then No else last_refusal new (a.before ++ v ∷ [])) (sym fails)))
 
     -- the last one doesn't know
     pub check_refused : (c : ChildValue) (r : Result Said NoMemory) → is_done v ≡ false → is_absent v ≡ false → slice_index_or new at c ≡ c → IfOk r (λ said. said ≡ refusal c v) → RulesCheck q old new r
     check_refused c (Ok said) fails there here h =
         over is_done q check_said old new said some
         (answers_check q old new at v a said (h ∙ sym (refused_by q old new at v a c here) ∙ ap (λ (b : Bool). if b then No else last_refusal new (a.before ++ v ∷ [])) (sym there)
-            ∙ ap (λ (b : Bool). if b then Yes else if is_absent v then No else last_refusal new (a.before ++ v ∷ [])) (sym fails)))
+        ∙ ap (λ (b : Bool). if b then Yes else if is_absent v then No else last_refusal new (a.before ++ v ∷ [])) (sym fails)))
     check_refused c (Err e) fails there here h = (a.before ++ v ∷ [], a.asked)
 
   module _ (a : AskedTo (λ v. not (is_done v)) q old new at v) where

@@ -3,6 +3,7 @@ mod Fronts
 mod Answering
 mod Serving
 mod Stopping
+mod Adding
 mod Greeting
 mod Begun
 mod Preparing

@@ -1,5 +1,5 @@
 // Children that were stopped.
-ghost use Rattle.std.specs.Prelude.{◌≡◌, ◌≤◌, ◌<◌, ◌++◌, ◌∷◌, [], IfOk, length, map, option_map, slice_get};
+ghost use Rattle.std.specs.Prelude.{◌≡◌, ◌≤◌, ◌<◌, ◌+◌, ◌++◌, ◌∷◌, [], IfOk, length, map, option_map, slice_get, vec_capacity, vec_len};
 ghost use Rattle.ann_outside.specs.Causes.{Stays};
 ghost use Rattle.child_end.specs.Wires.{wire_value};
 ghost use Rattle.mirror_remote.specs.Children.{AreLinked, AreSoundLogs, AreWired, IsLinked, IsUnwired, Stops, StopsAll, log_of};
@@ -66,9 +66,10 @@ impl<I: Sink + Drop, O: Source + Drop> Stopped<I, O> {
     pub(crate) fn journal(&self, n: usize) -> Option<&Journal>
         ensures { option_map (λ j. j.now.entries) result ≡ slice_get (map (λ l. l.journal) self.now.logs) n }
     {
-        match self.cores.get(n) {
-            Some(core) => Some(core.journal()),
-            None => None,
+        if n < self.cores.len() {
+            Some(self.cores[n].journal())
+        } else {
+            None
         }
     }
 
@@ -96,9 +97,7 @@ impl<I: Sink + Drop, O: Source + Drop> Stopped<I, O> {
             mut journals,
             spare: _,
         } = self;
-        for core in cores {
-            journals.push_reserved(journal_of(core));
-        }
+        add_journals(cores, &mut journals);
         (journals, wires)
     }
 }
@@ -148,6 +147,16 @@ where
 {
     for child in children {
         stop(programs, child, stopped);
+    }
+}
+
+// Adds the journals of these cores, in order.
+fn add_journals(cores: Vec<Core>, journals: &mut Vec<Journal>)
+    requires room { vec_len journals.old + vec_len cores ≤ vec_capacity journals.old }
+    ensures { map (λ j. j.entries) journals.new.items ≡ map (λ j. j.entries) journals.old.items ++ map (λ c. c.journal) cores.items }
+{
+    for core in cores {
+        journals.push_reserved(journal_of(core));
     }
 }
 

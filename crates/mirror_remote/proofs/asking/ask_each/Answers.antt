@@ -2,16 +2,11 @@ use Rattle.std.proofs.Common.{◌++◌, ◌∷◌, [], ◌≡◌, ◌==◌, ◌+
 use Rattle.std.specs.Prelude.{◌||◌}
 use Rattle.talk_serial.specs.Requests.{message_of}
 use Rattle.mirror_remote.specs.Asking.{goes_while}
-use Rattle.mirror_remote.proofs.Fronts.{asked_front, asked_to, at_first, at_next, goes_more, last_either, left_front}
+use Rattle.mirror_remote.proofs.Fronts.{asked_front, asked_to, at_first, at_next, goes_more, last_either}
 use Rattle.mirror_remote.proofs.asking.ask_each.Goals as goal
 
 pub children-init : goal.children-init
 children-init g c = at_first (goes_while c.args.while_done) (message_of c.args.request.now) c.args.children.now.items c.requires.some c.requires.serving
-
-pub returns-in_err-verdict-clause-asks : goal.returns-in_err-verdict-clause-asks
-returns-in_err-verdict-clause-asks g c =
-    let a = c.children.invariant in
-    (a.verdicts, left_front (goes_while c.args.while_done) (message_of c.args.request.now) c.args.children.now.items c.children.children.items c.ask_at.new.children.items c.children.at a a.more c.in_err-verdict.ensures.none)
 
 pub returns-then-is_starved-clause-asks : goal.returns-then-is_starved-clause-asks
 returns-then-is_starved-clause-asks g c =
@@ -24,7 +19,8 @@ returns-then-is_last-clause-asks g c =
     let old = c.args.children.now.items in
     let v = c.in_ok-verdict.verdict in
     let goes = goes_while c.args.while_done in
-    let last : (not (goes v) || c.children.at + 1 == length old) ≡ true = ap (λ (n : ℕ). not (goes v) || c.children.at + 1 == n) (sym c.len-count.ensures) ∙ sym c.is_last.ensures ∙ c.if-is_last.true in
+    let count : c.len-count.result ≡ length old = omega (arith, c.len-count.ensures, c.args.children.now.ok.0) in
+    let last : (not (goes v) || c.children.at + 1 == length old) ≡ true = ap (λ (n : ℕ). not (goes v) || c.children.at + 1 == n) (sym count) ∙ sym c.is_last.ensures ∙ c.if-is_last.true in
     asked_to goes (message_of c.args.request.now) old c.children.children.items c.ask_at.new.children.items c.children.at a a.more v c.in_ok-verdict.ensures.asked
     (last_either (goes v) c.children.at (length old) last) (sym c.is_starved.ensures ∙ c.if-is_starved.false)
 
@@ -34,7 +30,8 @@ children-preserved g c =
     let old = c.args.children.now.items in
     let v = c.in_ok-verdict.verdict in
     let goes = goes_while c.args.while_done in
-    let on : (not (goes v) || c.children.at + 1 == length old) ≡ false = ap (λ (n : ℕ). not (goes v) || c.children.at + 1 == n) (sym c.len-count.ensures) ∙ sym c.is_last.ensures ∙ c.if-is_last.false in
+    let count : c.len-count.result ≡ length old = omega (arith, c.len-count.ensures, c.args.children.now.ok.0) in
+    let on : (not (goes v) || c.children.at + 1 == length old) ≡ false = ap (λ (n : ℕ). not (goes v) || c.children.at + 1 == n) (sym count) ∙ sym c.is_last.ensures ∙ c.if-is_last.false in
     let t = goes_more (goes v) c.children.at (length old) a.more on in
     at_next goes (message_of c.args.request.now) old c.children.children.items c.ask_at.new.children.items c.children.at a a.more v c.in_ok-verdict.ensures.asked
     t.0 (sym c.is_starved.ensures ∙ c.if-is_starved.false) c.ask_at.ensures.serving t.1
