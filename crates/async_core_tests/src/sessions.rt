@@ -60,8 +60,7 @@ fn two_checks_cross(rt: HostRuntime) -> Result<(), Fail> {
     core.step(3, Event::Called(Said::No))?;
     let mut out = Vec::new(alloc);
     write_all(&mut core, &mut out)?;
-    assert_eq!(
-        rt;
+    assert_eq!(rt;
         out.as_slice(),
         b"VERSION 1\nEXTENSIONS ASYNC\nJ 1 GETCONFIG directory\nJ 1 PREPARE-SUCCESS\n\
           J 3 CHECKPRESENT-SUCCESS WORM--b\nJ 2 CHECKPRESENT-FAILURE WORM--a\n"
@@ -100,8 +99,7 @@ fn nothing_follows_what_is_unexpected(rt: HostRuntime) -> Result<(), Fail> {
     assert!(rt; matches!(reply, Reply::Over));
     let mut out = Vec::new(alloc);
     write_all(&mut core, &mut out)?;
-    assert_eq!(
-        rt;
+    assert_eq!(rt;
         out.as_slice(),
         b"VERSION 1\nEXTENSIONS ASYNC\nERROR unexpected message\n".as_slice()
     );
