@@ -28,10 +28,12 @@ pub(super) struct Turn {
     shuts: bool,
 }
 
-/// What each number waits for, and a bit for each bell that the last event rings: number n hears bell n % 64.
+/// What each number waits for, which is nothing from `top` on; and a bit for each bell that the last event rings: number n hears
+/// bell n % 64.
 #[derive(Clone, Copy)]
 pub(super) struct Waits {
     each: [Wish; NUMBERS],
+    top: usize,
     bells: u64,
 }
 
@@ -101,6 +103,7 @@ impl Waits {
     pub(super) fn none() -> Waits {
         Waits {
             each: [Wish::Nothing; NUMBERS],
+            top: 0,
             bells: 0,
         }
     }
@@ -117,7 +120,7 @@ impl Waits {
     }
 
     fn wake_for(&mut self, what: WhatRef<'_>) {
-        for number in 0..NUMBERS {
+        for number in 0..self.top.min(NUMBERS) {
             let wish = self.each[number];
             if !matches!(wish, Wish::Nothing) && may_come(wish, what) {
                 self.wake(number);
@@ -126,7 +129,7 @@ impl Waits {
     }
 
     fn wake_all(&mut self) {
-        for number in 0..NUMBERS {
+        for number in 0..self.top.min(NUMBERS) {
             if !matches!(self.each[number], Wish::Nothing) {
                 self.wake(number);
             }
@@ -136,7 +139,7 @@ impl Waits {
     // Who claims a task, or can claim no more, wakes one that waits for a task, and that one the next: where many wait for a key,
     // not all need look at each answer.
     fn wake_claimer(&mut self) {
-        for number in 0..NUMBERS {
+        for number in 0..self.top.min(NUMBERS) {
             if matches!(self.each[number], Wish::Task) {
                 self.wake(number);
                 return;
@@ -145,8 +148,10 @@ impl Waits {
     }
 
     fn set(&mut self, by: u32, wish: Wish) {
-        if (by as usize) < NUMBERS {
-            self.each[by as usize] = wish;
+        let number = by as usize;
+        if number < NUMBERS {
+            self.each[number] = wish;
+            self.top = self.top.max(number + 1);
         }
     }
 
