@@ -3,7 +3,7 @@ ghost use Rattle.std.specs.Prelude.{◌≤◌, length};
 ghost use Rattle.journal_model.specs.Limits.{most_tasks};
 
 use crate::event::{Event, Reply};
-use journal_look::{Journal, WhatRef, are_all_claimed};
+use journal_look::{Journal, WhatRef, are_all_claimed, task_of};
 use journal_model::Opening;
 
 /// How many numbers are looked after: those of a hall's passes, and 0.
@@ -28,12 +28,21 @@ pub(super) struct Turn {
     shuts: bool,
 }
 
+/// The tasks that were answered since a claim found none free: what kept others from being claimed.
+#[derive(Clone, Copy)]
+enum Answered {
+    Nothing,
+    One(u32),
+    Many,
+}
+
 /// What each number waits for, which is nothing from `top` on; and a bit for each bell that the last event rings: number n hears
 /// bell n % 64.
 #[derive(Clone, Copy)]
 pub(super) struct Waits {
     each: [Wish; NUMBERS],
     top: usize,
+    answered: Answered,
     bells: u64,
 }
 
@@ -87,6 +96,16 @@ fn may_be_last(what: WhatRef<'_>) -> bool {
     )
 }
 
+/// Whether each task that the old one was in the way of has the new one in its way.
+fn takes_over(opening: &Opening, old: u32, new: u32) -> bool {
+    match (task_of(opening, old), task_of(opening, new)) {
+        (Some(old), Some(new)) => {
+            old.file.view().is_empty() && old.key.view().text() == new.key.view().text()
+        }
+        _ => false,
+    }
+}
+
 impl Turn {
     pub(super) fn of(journal: &Journal, by: u32, event: &Event) -> Turn {
         Turn {
@@ -104,6 +123,7 @@ impl Waits {
         Waits {
             each: [Wish::Nothing; NUMBERS],
             top: 0,
+            answered: Answered::Nothing,
             bells: 0,
         }
     }
@@ -136,8 +156,6 @@ impl Waits {
         }
     }
 
-    // Who claims a task, or can claim no more, wakes one that waits for a task, and that one the next: where many wait for a key,
-    // not all need look at each answer.
     fn wake_claimer(&mut self) {
         for number in 0..self.top.min(NUMBERS) {
             if matches!(self.each[number], Wish::Task) {
@@ -145,6 +163,29 @@ impl Waits {
                 return;
             }
         }
+    }
+
+    // After a claim. Where it leaves a task that may be free, one that waits for a task is woken, and that one wakes the next:
+    // where many wait for a key, not all need look at each answer.
+    fn pass_on(&mut self, opening: &Opening, reply: &Reply) {
+        match (self.answered, reply) {
+            (_, Reply::Wait) => self.answered = Answered::Nothing,
+            (Answered::Nothing, _) => {}
+            (Answered::One(old), Reply::Task(new)) if takes_over(opening, old, *new) => {
+                self.answered = Answered::Nothing;
+            }
+            _ => self.wake_claimer(),
+        }
+    }
+
+    fn heed_entry(&mut self, what: WhatRef<'_>) {
+        if let WhatRef::Answer { task, .. } = what {
+            self.answered = match self.answered {
+                Answered::Nothing => Answered::One(task),
+                _ => Answered::Many,
+            };
+        }
+        self.wake_for(what);
     }
 
     fn set(&mut self, by: u32, wish: Wish) {
@@ -164,15 +205,15 @@ impl Waits {
         let mut is_last = turn.shuts;
         for at in turn.from..journal.len() {
             if let Some(entry) = journal.entry(at) {
-                self.wake_for(entry.what);
+                self.heed_entry(entry.what);
                 is_last = is_last || may_be_last(entry.what) && are_all_claimed(opening, journal);
             }
         }
         let waits = matches!(reply, Reply::Wait);
         if is_last {
             self.wake_all();
-        } else if !waits && matches!(turn.wish, Wish::Task) {
-            self.wake_claimer();
+        } else if matches!(turn.wish, Wish::Task) {
+            self.pass_on(opening, reply);
         }
         if waits {
             self.set(turn.by, turn.wish);
