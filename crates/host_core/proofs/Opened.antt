@@ -27,8 +27,8 @@ use Rattle.journal_model.proofs.Projecting.{parts_fit, asked_parts}
 use Rattle.journal_model.proofs.Soft.{got_cases}
 use Rattle.talk_serial.specs.declared.talk.Heard.TheVariants.{Aside as HeardAside}
 use Rattle.talk_serial.specs.Hearings.{heard, heard_as}
-use Rattle.journal_look.proofs.FirstItem.{adds_none}
-use Rattle.journal_look.specs.Looks.{first_text}
+use Rattle.journal_scan.proofs.FirstItem.{adds_none}
+use Rattle.journal_scan.specs.Looks.{first_text}
 use Rattle.talk_serial.specs.Requests.{is_request}
 
 -- ---- it has a request, to which nothing but the beginning of an answer was said

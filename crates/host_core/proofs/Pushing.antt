@@ -23,7 +23,7 @@ use Rattle.host_core.specs.declared.due.Due.{Due}
 use Rattle.host_core.specs.declared.due.Due.TheVariants.{Nothing, Settle, Replies, EndOf, EndedJobs, UnsentJobs}
 use Rattle.host_core.specs.declared.event.Event.{Event}
 use Rattle.host_core.specs.Steps.{step_of, needs_room, needs_memory, is_free}
-use Rattle.journal_look.specs.Looks.{NoneDue, due_asked, due_job, due_jobs, job_at}
+use Rattle.journal_scan.specs.Looks.{NoneDue, due_asked, due_job, due_jobs, job_at}
 use Rattle.host_core.specs.Moves.{dues, group_made, first_room, due_room, group_room}
 use Rattle.host_core.proofs.Stepping.{Legal-step}
 

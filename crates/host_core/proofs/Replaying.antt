@@ -15,7 +15,7 @@ use Rattle.talk_serial.specs.declared.talk.Heard.{Heard}
 use Rattle.talk_serial.specs.Talked.{Talked, is_over}
 use Rattle.talk_serial.specs.Requests.{message_of}
 use Rattle.talk_serial.specs.Hearings.{heard, heard_as, is_taken, Follows}
-use Rattle.journal_look.specs.Looks.{remote_text}
+use Rattle.journal_scan.specs.Looks.{remote_text}
 use Rattle.host_core.specs.Moves.{takes_lines, said_by, said_before}
 
 abbrev Said : Type 0

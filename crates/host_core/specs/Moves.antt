@@ -14,7 +14,7 @@ use Rattle.journal_model.specs.Journal.{open_jobs, is_unsent, has_spoken}
 use Rattle.journal_model.specs.Parts.{item_at}
 use Rattle.journal_model.specs.Room.{room_for}
 use Rattle.journal_model.specs.Due.{ending, ended_jobs, made_by, is_version_one, is_error, after_line}
-use Rattle.journal_look.specs.Looks.{due_jobs}
+use Rattle.journal_scan.specs.Looks.{due_jobs}
 use Rattle.host_core.specs.declared.due.Due.{Due}
 use Rattle.host_core.specs.declared.due.Due.TheVariants.{Nothing, Settle, Replies, EndOf, EndedJobs, UnsentJobs}
 use Rattle.host_core.specs.declared.moves.Move.{Move}

@@ -6,7 +6,7 @@ ghost use Rattle.journal_model.specs.declared.verdict.Verdict.TheVariants.{Ended
 ghost use Rattle.journal_model.specs.declared.entry.What.TheVariants.{Put, Verdict as Settled};
 ghost use Rattle.journal_model.specs.Room.{room_for};
 ghost use Rattle.journal_model.specs.Due.{made_by, ended_jobs, ending};
-ghost use Rattle.journal_look.specs.Looks.{due_jobs, job_at};
+ghost use Rattle.journal_scan.specs.Looks.{due_jobs, job_at};
 ghost use Rattle.host_core.specs.Pasts.{IsPast};
 ghost use Rattle.host_core.specs.Moves.{dues, group_made, due_room, group_room, verdicts_of, unsent_verdicts};
 

@@ -14,7 +14,7 @@ use Rattle.journal_model.specs.Parts.{part}
 use Rattle.journal_model.specs.Legality.{is_prepared}
 use Rattle.journal_model.specs.Projection.{final_in}
 use Rattle.journal_model.specs.Output.{why_words, text_at}
-use Rattle.journal_look.specs.Looks.{is_no_start}
+use Rattle.journal_scan.specs.Looks.{is_no_start}
 use Rattle.task_run.specs.TaskRuns.{refusal_of}
 
 -- ---- what is asked, as jobs 2, 3 and so on

@@ -17,7 +17,7 @@ use Rattle.journal_model.specs.declared.entry.Entry.{Entry}
 use Rattle.journal_model.specs.declared.opening.Opening.{Opening}
 use Rattle.journal_model.specs.Journal.{any, is_mute, is_started, verdict_of, why_of}
 use Rattle.journal_model.specs.Output.{answer_words}
-use Rattle.journal_look.specs.Looks.{is_no_start}
+use Rattle.journal_scan.specs.Looks.{is_no_start}
 use Rattle.keep_text.specs.KeptFiles.{bad_line, registers_of, notes_of, CountsAs}
 use Rattle.keep_desk.specs.KeptDesks.{text_at}
 use Rattle.keep_desk.specs.declared.TheConstants.{MOST_BYTES}

@@ -7,7 +7,7 @@ use Rattle.std.proofs.lemmas.List.{take-append-drop, take-append-le, length-drop
 use Rattle.std.proofs.lemmas.List.Elements.{All-head, All-tail, All-weaker, filter-append}
 use Rattle.journal_model.specs.declared.entry.Entry.{Entry}
 use Rattle.journal_model.proofs.Looks.{same_number}
-use Rattle.journal_look.specs.Looks.{is_written}
+use Rattle.journal_scan.specs.Looks.{is_written}
 use Rattle.journal_look.specs.declared.cursors.Cursor.{Cursor}
 use Rattle.journal_look.specs.Cursors.{AreAt, IsAt}
 

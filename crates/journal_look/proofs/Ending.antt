@@ -10,7 +10,7 @@ use Rattle.journal_model.specs.declared.entry.What.TheVariants.{Claim, Start, No
 use Rattle.journal_model.specs.declared.entry.Entry.{Entry}
 use Rattle.journal_model.specs.Journal.{asks, asked_jobs, is_open, is_settled}
 use Rattle.journal_model.proofs.Looks.{same, same_number, both}
-use Rattle.journal_look.specs.Looks.{due_asked, due_job, is_hosts, job_at}
+use Rattle.journal_scan.specs.Looks.{due_asked, due_job, is_hosts, job_at}
 use Rattle.journal_look.specs.declared.jobs.Open.{Open}
 use Rattle.journal_look.specs.Opens.{AreOpen, IsAsked, is_this}
 use Rattle.journal_look.proofs.Opening.{is_open_here}

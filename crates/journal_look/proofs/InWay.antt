@@ -13,7 +13,7 @@ use Rattle.journal_model.specs.Legality.{both_conflict, claimed_for, has_busy_ta
 use Rattle.journal_model.proofs.Looks.{differ, same, same_number}
 use Rattle.journal_look.specs.declared.held.Held.{Held}
 use Rattle.journal_look.specs.Holds.{AreHeld, held_of}
-use Rattle.journal_look.proofs.Parted.{same_bool, both_true}
+use Rattle.journal_scan.proofs.Parted.{same_bool, both_true}
 
 or_right : (b c : Bool) → c ≡ true → (b || c) ≡ true
 or_right true c h = refl

@@ -1,10 +1,11 @@
 -- The lives of the children after one more entry.
-use Rattle.std.proofs.Common.{◌≡◌, ◌≢◌, ◌∙◌, ℕ, ◌+◌, ◌-◌, ◌<◌, List, [], ◌∷◌, ◌++◌, refl, sym, ap, subst, Bool, true, false, cond, Option, Some, None, length, get_or, set, get_or-set_same, get_or-set_other, arith, inl, inr, length-append}
+use Rattle.std.proofs.Common.{◌≡◌, ◌≢◌, ◌∙◌, ℕ, ◌+◌, ◌-◌, ◌<◌, List, [], ◌∷◌, ◌++◌, refl, sym, ap, subst, Bool, true, false, cond, Option, Some, None, length, get_or, set, take, ◌≤◌, not, get_or-set_same, get_or-set_other, arith, inl, inr, length-append}
 use Rattle.std.specs.Prelude.{◌==◌, ◌||◌, ◌⊎◌, filter, is_some}
 use Rattle.std.specs.List.{cons_option}
 use Rattle.std.specs.Option.{option_or}
-use Rattle.std.proofs.lemmas.List.{get_or_default, get_or_past, get_or-append_right}
+use Rattle.std.proofs.lemmas.List.{take_more, length-take-le, get_or_default, get_or_past, get_or-append_right}
 use Rattle.std.proofs.lemmas.List.Elements.{filter-append}
+use Rattle.std.proofs.lemmas.List.Filters.{length-filter_both}
 use Rattle.std.proofs.lemmas.Grind.{common_steps}
 use Rattle.journal_model.specs.declared.entry.What.{What}
 use Rattle.journal_model.specs.declared.entry.What.TheVariants.{Claim, Start, NoStart, Ask, Put, Sent, Mute, Got, End, Verdict as Settled, Lost, Answer as Answered, Note as Noted}
@@ -13,7 +14,7 @@ use Rattle.journal_model.specs.Journal.{any, each_of, starts, ends, mutes, got_f
 use Rattle.journal_model.specs.Legality.{count, is_start, prepares}
 use Rattle.journal_model.proofs.Looks.{any-append, each_of-append, verdict_of-append, differ}
 use Rattle.journal_model.proofs.Linking.{why_of-append}
-use Rattle.journal_look.specs.Looks.{written_to, is_no_start}
+use Rattle.journal_scan.specs.Looks.{written_to, is_no_start}
 use Rattle.journal_look.specs.declared.life.Life.{Life}
 use Rattle.journal_look.specs.declared.life.Lives.{Lives}
 use Rattle.journal_look.specs.Lives.{AreLived, AreLives, about, counted, kept, life_of, lived, unlived}
@@ -219,3 +220,37 @@ lived_more past e old new are each starts no_start = record {
   starts = starts ∙ ap (counted (is_start e.what)) are.starts ∙ sym (count_more is_start past e);
   no_start = no_start ∙ ap (λ (b : Bool). is_no_start e.what || b) are.no_start ∙ sym (any_more is_no_start past e);
 }
+
+-- ---- through the entries
+
+no_more : {X : Type 0} (f : What → Option X) (past : List Entry) → length (each_of f past) ≤ length past
+no_more f [] = omega arith
+no_more f (e ∷ past) = go (f e.what) (no_more f past)
+  where
+    go : {X : Type 0} (o : Option X) → {xs : List X} → length xs ≤ length past → length (cons_option o xs) ≤ length past + 1
+    go None h = omega (arith, h)
+    go (Some x) h = omega (arith, h)
+
+counted_no_more : (p : What → Bool) (past : List Entry) → count p past ≤ length past
+counted_no_more p past = omega (arith, length-filter_both (λ (d : Entry). p d.what) (λ (d : Entry). not (p d.what)) (λ d. refl) past)
+
+pub life_next : (entries : List Entry) (n c : ℕ) (e : Entry) (life more : Life) → n < length entries → e ≡ get_or entries n e → more ≡ lived c e.what life → life ≡ life_of (take n entries) c
+    → more ≡ life_of (take (n + 1) entries) c
+life_next entries n c e life more long at is before =
+    is ∙ ap (lived c e.what) before ∙ ap (λ (d : Entry). lived c d.what (life_of (take n entries) c)) at
+    ∙ sym (life_more (take n entries) (get_or entries n e) c) ∙ ap (λ (es : List Entry). life_of es c) (sym (take_more entries n e long))
+
+-- none of the counts of a life is higher than the number of entries
+pub record AreFew (life : Life) (n : ℕ) : Type 0 where
+  pub asked : life.asked ≤ n
+  pub written : life.written ≤ n
+  pub sent : life.sent ≤ n
+
+pub few_through : (entries : List Entry) (n c : ℕ) (life : Life) → n < length entries → life ≡ life_of (take n entries) c → AreFew life n
+few_through entries n c life long is =
+    let short : length (take n entries) ≡ n = length-take-le n entries (omega (arith, long)) in
+    subst (λ (l : Life). AreFew l n) (sym is) (record {
+      asked = omega (arith, short, no_more (asks c) (take n entries));
+      written = omega (arith, short, no_more (written_to c) (take n entries));
+      sent = omega (arith, short, counted_no_more (sends c) (take n entries));
+    })

@@ -13,7 +13,7 @@ use Rattle.journal_model.specs.declared.entry.Entry.{Entry}
 use Rattle.journal_model.specs.Journal.{any, asks, asked_jobs, each_of, first_of, is_open, is_settled, open_jobs, settles, verdict_of}
 use Rattle.journal_model.specs.Legality.{has_open_job, job_for}
 use Rattle.journal_model.proofs.Looks.{any-append, each_of-append, verdict_of-append, settled_none, open_unsettled, same, same_number, differ, both, true_not_false}
-use Rattle.journal_look.specs.Looks.{is_hosts}
+use Rattle.journal_scan.specs.Looks.{is_hosts}
 use Rattle.journal_look.specs.declared.jobs.Open.{Open}
 use Rattle.journal_look.specs.declared.jobs.Told.{Told}
 use Rattle.journal_look.specs.Opens.{AreNumbered, AreOpen, AreTold, IsAsked, IsTold, closed, is_this, job_on, jobs_child, jobs_on, keeps_numbers, opened, touches}
@@ -616,7 +616,3 @@ place_here past jobs c j x are h = go jobs are.first h
             subst (λ (i : ℕ). prefix_len (λ (e : Entry). not (is_hosts c i e.what)) past ≡ x.at) of_job
             (subst (λ (d : ℕ). prefix_len (λ (e : Entry). not (is_hosts d y.job e.what)) past ≡ x.at) of_child
             (subst (λ (z : Open). prefix_len (λ (e : Entry). not (is_hosts y.child y.job e.what)) past ≡ z.at) is place)))
-
-pub some_of : {X : Type 0} (P : X → Type 0) (o : Option X) (x : X) → IfSome o P → o ≡ Some x → P x
-some_of P None x h e = absurd cc
-some_of P (Some y) x h e = let is : y ≡ x = cc in subst P is h

@@ -11,7 +11,7 @@ use Rattle.journal_look.specs.Opens.{AreJobsKnown}
 use Rattle.journal_look.proofs.Counting.{cursors_more}
 use Rattle.journal_look.specs.Tables.{AreTabled}
 use Rattle.journal_look.specs.declared.tables.Tables.{Tables}
-use Rattle.journal_look.proofs.Weighing.{left_more}
+use Rattle.journal_scan.proofs.Weighing.{left_more}
 use Rattle.journal_look.proofs.Holding.{unclaimed_more}
 
 pub noted : (past : List Entry) (e : Entry) (old new : Tables) → AreTabled past old → new.left ≡ old.left - line_bytes e.what → AreKnown (past ++ e ∷ []) new.lives

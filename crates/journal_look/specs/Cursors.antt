@@ -2,7 +2,7 @@
 use Rattle.std.specs.Prelude.{◌≡◌, ◌≤◌, List, filter, length, take}
 use Rattle.std.specs.List.{All}
 use Rattle.journal_model.specs.declared.entry.Entry.{Entry}
-use Rattle.journal_look.specs.Looks.{is_written}
+use Rattle.journal_scan.specs.Looks.{is_written}
 use Rattle.journal_look.specs.declared.cursors.Cursor.{Cursor}
 
 -- so many of the first entries write to the child

@@ -5,7 +5,7 @@ use Rattle.journal_model.specs.declared.entry.What.TheVariants.{Start, Ask, Put,
 use Rattle.journal_model.specs.declared.entry.Entry.{Entry}
 use Rattle.journal_model.specs.Journal.{starts, ends, mutes, got_from, offers, sends, asks, end_why, verdict_in, any, each_of, asked_jobs, is_started, is_ended, is_mute, has_spoken, why_of, verdict_of}
 use Rattle.journal_model.specs.Legality.{count, is_start, prepares}
-use Rattle.journal_look.specs.Looks.{written_to, is_no_start}
+use Rattle.journal_scan.specs.Looks.{written_to, is_no_start}
 use Rattle.journal_look.specs.declared.life.Life.{Life}
 use Rattle.journal_look.specs.declared.life.Lives.{Lives}
 

@@ -6,7 +6,7 @@ use Rattle.journal_model.specs.declared.entry.What.TheVariants.{Ask, Put, Verdic
 use Rattle.journal_model.specs.declared.entry.Entry.{Entry}
 use Rattle.journal_model.specs.Journal.{any, asked_jobs, each_of, open_jobs, settles, verdict_of}
 use Rattle.journal_model.specs.Legality.{job_for}
-use Rattle.journal_look.specs.Looks.{is_hosts}
+use Rattle.journal_scan.specs.Looks.{is_hosts}
 use Rattle.journal_look.specs.declared.jobs.Open.{Open}
 use Rattle.journal_look.specs.declared.jobs.Told.{Told}
 use Rattle.journal_look.specs.declared.jobs.Jobs.{Jobs}

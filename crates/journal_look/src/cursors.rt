@@ -3,10 +3,11 @@ ghost use Rattle.std.specs.Prelude.{◌≡◌, ◌==◌, ◌≤◌, ◌+◌, ◌
 ghost use Rattle.std.specs.List.{prefix_len};
 ghost use Rattle.journal_model.specs.declared.entry.Entry.{Entry};
 ghost use Rattle.journal_look.specs.Cursors.{AreAt, IsAt};
-ghost use Rattle.journal_look.specs.Looks.{is_written};
+ghost use Rattle.journal_scan.specs.Looks.{is_written};
 
-use crate::lines::{is_written, nth_written};
 use journal_model::{Entry, What};
+use journal_scan::lines::{is_written, nth_written};
+use journal_scan::talks::hosts_line;
 
 /// So many of the entries before the place write to the child.
 #[derive(Clone, Copy)]
@@ -82,6 +83,20 @@ pub(super) fn nth_from(entries: &[Entry], x: Cursor, child: u32, n: u64) -> Opti
     ensures { option_copied result ≡ slice_get (filter (λ e. is_written child e.what) entries.now) n }
 {
     nth_written(rest(entries, x.from), child, (n - x.passed) as usize)
+}
+
+/// The first of the lines for the child that were not written whole, where so many were, from its cursor on.
+pub(super) fn unsent_from(entries: &[Entry], x: Cursor, child: u32, sent: u64) -> Option<&[u8]>
+    requires child { x.child ≡ child }
+    requires at { IsAt entries.now x }
+    requires few { x.passed ≤ sent }
+    requires sent { sent ≡ length (filter (λ e. sends child e.what) entries.now) }
+    ensures { option_copied result ≡ option_map (λ w. w.1) (first_of (unsent entries.now child)) }
+{
+    match nth_from(entries, x, child, sent) {
+        Some(e) => Some(hosts_line(&e.what)),
+        None => None,
+    }
 }
 
 /// Puts a cursor at the first entry, where there is room for it.

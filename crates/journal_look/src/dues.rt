@@ -1,10 +1,10 @@
 // The jobs that an end or a mute settles, entry by entry.
 ghost use Rattle.std.specs.Prelude.{◌≡◌, ◌≤◌, length};
-ghost use Rattle.journal_look.specs.Looks.{due_job, job_at};
+ghost use Rattle.journal_scan.specs.Looks.{due_job, job_at};
 
-use crate::talks::entry_at;
-use crate::{children, lines};
 use journal_model::{Entry, What};
+use journal_scan::talks::entry_at;
+use journal_scan::{children, lines};
 
 /// The job that the entry asks, where the child's end settles it, or where its mute does.
 fn due_job(past: &[Entry], what: &What, child: u32, unsent: bool) -> Option<u64>

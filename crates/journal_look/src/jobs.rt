@@ -4,7 +4,7 @@ ghost use Rattle.std.specs.List.{list_all, list_any, prefix_len};
 ghost use Rattle.journal_model.specs.declared.entry.Entry.{Entry};
 ghost use Rattle.journal_model.specs.Journal.{asked_jobs, first_of, is_open, open_jobs, verdict_of};
 ghost use Rattle.journal_model.specs.Legality.{has_open_job};
-ghost use Rattle.journal_look.specs.Looks.{NoneDue, is_hosts};
+ghost use Rattle.journal_scan.specs.Looks.{NoneDue, is_hosts};
 ghost use Rattle.journal_look.specs.Lives.{AreKnown};
 ghost use Rattle.journal_look.specs.Opens.{AreJobsKnown, AreOpen, AreTold, IsTold, closed, is_this, jobs_child, keeps_numbers, opened};
 

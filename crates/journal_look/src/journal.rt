@@ -37,7 +37,7 @@ impl Journal {
     ghost use Rattle.journal_model.specs.Limits.{most_line_bytes};
     ghost use Rattle.journal_model.specs.Journal.{any, bytes_in, verdict_of};
     ghost use Rattle.journal_model.specs.Legality.{count, is_start};
-    ghost use Rattle.journal_look.specs.Looks.{is_no_start};
+    ghost use Rattle.journal_scan.specs.Looks.{is_no_start};
     ghost use Rattle.journal_look.specs.Holds.{AreHeld, AreUnclaimed};
     ghost use Rattle.journal_look.specs.Lives.{life_of};
     ghost use Rattle.journal_look.specs.Marks.{AreClaimed};
@@ -138,11 +138,11 @@ impl Journal {
         self.tables.left
     }
 
-    // The child's life, where it is known without the entries.
-    pub(crate) fn life(&self, child: u32) -> Option<Life>
-        ensures { IfSome result (λ life. life ≡ life_of self.now.entries child) }
+    // The child's life.
+    pub(crate) fn life(&self, child: u32) -> Life
+        ensures { result ≡ life_of self.now.entries child }
     {
-        life::look(&self.tables.lives, child)
+        life::look(&self.tables.lives, self.entries.as_slice(), child)
     }
 
     // How many children were started, where it is known without the entries.

@@ -1,7 +1,6 @@
 // A journal that is handed round, and all that is asked of one.
 #![tactic(auto)]
 
-mod children;
 mod cursors;
 mod dues;
 mod entry;
@@ -9,16 +8,13 @@ mod held;
 mod jobs;
 mod journal;
 mod life;
-mod lines;
 mod looks;
 mod marks;
 mod tables;
-mod talks;
 mod tasks;
 
 pub use entry::{EntryRef, WhatRef};
 pub use journal::Journal;
-pub use lines::is_version_one;
 pub use looks::{
     addressed, are_all_claimed, due_at, first_due, first_text, first_unsent, has_busy_task,
     has_no_open_job, has_no_start, has_open_job, has_spoken, is_all_sent, is_asked, is_claimed_by,
@@ -26,4 +22,5 @@ pub use looks::{
     least_free, line_at, may_ask, next_job, on_wire, said_at, starts_so_far, unclaimed, verdict_of,
     why_of,
 };
-pub use tasks::{may_note, task_of};
+pub use journal_scan::conflicts::{may_note, task_of};
+pub use journal_scan::lines::is_version_one;

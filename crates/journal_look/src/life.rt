@@ -2,12 +2,12 @@
 ghost use Rattle.std.specs.Prelude.{◌≡◌, ◌+◌, ◌-◌, ◌<◌, ◌^◌, ◌++◌, ◌∷◌, ◌||◌, [], List, Some, IfSome, IsTrue, is_some};
 ghost use Rattle.journal_model.specs.Journal.{any};
 ghost use Rattle.journal_model.specs.Legality.{count, is_start};
-ghost use Rattle.journal_look.specs.Looks.{is_no_start};
+ghost use Rattle.journal_scan.specs.Looks.{is_no_start};
 ghost use Rattle.journal_model.specs.declared.entry.Entry.{Entry};
 ghost use Rattle.journal_look.specs.Lives.{AreKnown, AreLived, AreLives, about, counted, kept, life_of, lived, unlived};
 
-use crate::{children, lines};
 use journal_model::{Entry, Verdict, What, Why};
+use journal_scan::{children, lines};
 use std::alloc::{AllocError, Global};
 
 /// What the entries so far say of a child: the verdicts are those of its jobs 0 and 1, the numbers how many jobs it was asked, how
@@ -238,14 +238,27 @@ fn find(lives: &[Life], child: u32) -> Life
     }
 }
 
-/// The child's life, where it is known.
-pub(super) fn look(lives: &Lives, child: u32) -> Option<Life>
-    ensures { (past : List Entry) → AreKnown past lives.now → IfSome result (λ life. life ≡ life_of past child) }
+/// The child's life, found by going through the entries.
+fn lived_through(entries: &[Entry], child: u32) -> Life
+    ensures { result ≡ life_of entries.now child }
 {
-    if !lives.known {
-        return None;
+    let mut life = unlived();
+    for e in entries {
+        life = lived(child, &e.what, life);
     }
-    Some(find(lives.each.as_slice(), child))
+    life
+}
+
+/// The child's life after these entries.
+pub(super) fn look(lives: &Lives, entries: &[Entry], child: u32) -> Life
+    requires { AreKnown entries.now lives.now }
+    ensures { result ≡ life_of entries.now child }
+{
+    if lives.known {
+        find(lives.each.as_slice(), child)
+    } else {
+        lived_through(entries, child)
+    }
 }
 
 /// How many children were started, where it is known.

@@ -5,12 +5,13 @@ ghost use Rattle.journal_model.specs.Limits.{most_tasks};
 ghost use Rattle.journal_model.specs.Journal.{offers, first_of, any, is_started, is_ended, is_mute, is_live, has_spoken, asked_jobs, open_jobs, is_open, verdict_of, why_of, line_at, is_tagged, addressed, on_wire, unsent, is_full};
 ghost use Rattle.journal_model.specs.Parts.{part, item_at};
 ghost use Rattle.journal_model.specs.Legality.{count, is_start, is_empty, is_claimed, numbers_of, least_free, is_prepared, is_greeted, may_ask, is_claimed_by, has_open_job, has_busy_task};
-ghost use Rattle.journal_look.specs.Looks.{NoneDue, is_hosts, is_no_start, first_text, remote_text, job_at};
+ghost use Rattle.journal_scan.specs.Looks.{NoneDue, is_hosts, is_no_start, first_text, remote_text, job_at};
 
 use crate::journal::Journal;
-use crate::{children, dues, jobs, lines, talks, tasks};
+use crate::{cursors, dues, jobs, tasks};
 use ann_key::{Bytes, NoMemory};
 use journal_model::{Opening, Verdict, Why};
+use journal_scan::{children, lines, talks};
 use std::alloc::Global;
 use wire_msg::tag;
 
@@ -20,70 +21,50 @@ use wire_msg::tag;
 pub fn is_started(journal: &Journal, child: u32) -> bool
     ensures { result ≡ is_started journal.now.entries child }
 {
-    match journal.life(child) {
-        Some(life) => life.started,
-        None => children::is_started(journal.entries(), child),
-    }
+    journal.life(child).started
 }
 
 /// Whether the child ended.
 pub fn is_ended(journal: &Journal, child: u32) -> bool
     ensures { result ≡ is_ended journal.now.entries child }
 {
-    match journal.life(child) {
-        Some(life) => life.ended,
-        None => children::is_ended(journal.entries(), child),
-    }
+    journal.life(child).ended
 }
 
 /// Whether a write to the child failed.
 pub fn is_mute(journal: &Journal, child: u32) -> bool
     ensures { result ≡ is_mute journal.now.entries child }
 {
-    match journal.life(child) {
-        Some(life) => life.mute,
-        None => children::is_mute(journal.entries(), child),
-    }
+    journal.life(child).mute
 }
 
 /// Whether the child was started and has not ended.
 pub fn is_live(journal: &Journal, child: u32) -> bool
     ensures { result ≡ is_live journal.now.entries child }
 {
-    match journal.life(child) {
-        Some(life) => life.started && !life.ended,
-        None => children::is_live(journal.entries(), child),
-    }
+    let life = journal.life(child);
+    life.started && !life.ended
 }
 
 /// Why the child ended, if it did.
 pub fn why_of(journal: &Journal, child: u32) -> Option<Why>
     ensures { result ≡ why_of journal.now.entries child }
 {
-    match journal.life(child) {
-        Some(life) => life.why,
-        None => children::why_of(journal.entries(), child),
-    }
+    journal.life(child).why
 }
 
 /// Whether the child has said a line.
 pub fn has_spoken(journal: &Journal, child: u32) -> bool
     ensures { result ≡ has_spoken journal.now.entries child }
 {
-    match journal.life(child) {
-        Some(life) => life.spoken,
-        None => children::has_spoken(journal.entries(), child),
-    }
+    journal.life(child).spoken
 }
 
 /// Whether ASYNC is offered to the child.
 pub fn is_offered(journal: &Journal, child: u32) -> bool
     ensures { result ≡ any (offers child) journal.now.entries }
 {
-    match journal.life(child) {
-        Some(life) => life.offered,
-        None => children::is_offered(journal.entries(), child),
-    }
+    journal.life(child).offered
 }
 
 /// How many children were started.
@@ -112,10 +93,7 @@ pub fn has_no_start(journal: &Journal) -> bool
 pub fn next_job(journal: &Journal, child: u32) -> u64
     ensures { result ≡ length (asked_jobs journal.now.entries child) }
 {
-    match journal.life(child) {
-        Some(life) => life.asked,
-        None => children::next_job(journal.entries(), child) as u64,
-    }
+    journal.life(child).asked
 }
 
 /// Whether the job was asked.
@@ -183,10 +161,8 @@ fn is_known_open(journal: &Journal, child: u32, job: u64) -> bool
 pub fn is_prepared(journal: &Journal, child: u32) -> bool
     ensures { result ≡ is_prepared journal.now.entries child }
 {
-    match journal.life(child) {
-        Some(life) => lines::is_done(life.second) && life.prepares,
-        None => lines::is_prepared(journal.entries(), child),
-    }
+    let life = journal.life(child);
+    lines::is_done(life.second) && life.prepares
 }
 
 /// Whether some request may be asked as this job of the child.
@@ -279,10 +255,8 @@ pub fn line_at(journal: &Journal, at: u64) -> &[u8]
 pub fn is_tagged(journal: &Journal, child: u32) -> bool
     ensures { result ≡ is_tagged journal.now.entries child }
 {
-    match journal.life(child) {
-        Some(life) => life.offered && lines::accepts_async(journal.entries(), life.first),
-        None => lines::is_tagged(journal.entries(), child),
-    }
+    let life = journal.life(child);
+    life.offered && lines::accepts_async(journal.entries(), life.first)
 }
 
 /// The job that the child's line is for, and its text without the tag.
@@ -317,10 +291,8 @@ pub fn on_wire(
 pub fn is_all_sent(journal: &Journal, child: u32) -> bool
     ensures { result ≡ is_empty (unsent journal.now.entries child) }
 {
-    match journal.life(child) {
-        Some(life) => lines::are_all_sent(life.written, life.sent),
-        None => lines::is_all_sent(journal.entries(), child),
-    }
+    let life = journal.life(child);
+    lines::are_all_sent(life.written, life.sent)
 }
 
 /// The first of the lines for the child that were not written whole.
@@ -330,12 +302,10 @@ pub fn first_unsent(journal: &Journal, child: u32) -> Option<&[u8]>
     if is_all_sent(journal, child) {
         return None;
     }
-    let Some(life) = journal.life(child) else {
-        return lines::first_unsent(journal.entries(), child);
-    };
+    let life = journal.life(child);
     match journal.cursor(child) {
         Some(cursor) if cursor.passed <= life.sent => {
-            lines::unsent_from(journal.entries(), cursor, child, life.sent)
+            cursors::unsent_from(journal.entries(), cursor, child, life.sent)
         }
         _ => lines::first_unsent(journal.entries(), child),
     }

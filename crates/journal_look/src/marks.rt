@@ -3,8 +3,8 @@ ghost use Rattle.std.specs.Prelude.{◌≡◌, ◌+◌, ◌≤◌, ◌<◌, ◌+
 ghost use Rattle.journal_model.specs.declared.entry.Entry.{Entry};
 ghost use Rattle.journal_look.specs.Marks.{AreClaimed};
 
-use crate::tasks;
 use journal_model::Entry;
+use journal_scan::claims;
 
 /// The mark below which each task is claimed, after one more entry.
 #[tactic(auto, using(crate::proofs::Marking::claimed_next, crate::proofs::Marking::claimed_more))]
@@ -12,7 +12,7 @@ pub(super) fn claimed_after(mark: u32, entry: &Entry) -> u32
     ensures some { 0 < mark → 0 < result }
     ensures claimed { (past : List Entry) → AreClaimed past mark → AreClaimed (past ++ entry.now ∷ []) result }
 {
-    if tasks::claims(&entry.what, mark) && mark < u32::MAX {
+    if claims::claims(&entry.what, mark) && mark < u32::MAX {
         mark + 1
     } else {
         mark
@@ -28,7 +28,7 @@ pub(super) fn claimed_from(entries: &[Entry], from: u32, top: u64) -> u32
     ensures claimed { AreClaimed entries.now result }
 {
     let mut task = from;
-    while task < u32::MAX && u64::from(task) < top && tasks::is_claimed(entries, task) {
+    while task < u32::MAX && u64::from(task) < top && claims::is_claimed(entries, task) {
         task += 1;
     }
     task

@@ -7,10 +7,10 @@ use crate::cursors::{self, Cursor, Turn};
 use crate::held::{self, Holds};
 use crate::jobs::{self, Jobs};
 use crate::life::{self, Lives};
-use crate::lines::{left_after, left_of};
 use crate::marks::{claimed_after, claimed_from};
 use ann_key::NoMemory;
 use journal_model::Entry;
+use journal_scan::lines::{left_after, left_of};
 use std::alloc::Global;
 
 /// How many more bytes the lines may have, what is known of the children, of the held tasks and of the jobs, how far the lines to each

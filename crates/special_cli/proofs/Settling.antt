@@ -16,7 +16,7 @@ use Rattle.journal_model.specs.Journal.{any, starts, ends, mutes, is_started, is
 use Rattle.journal_model.specs.Legality.{is_done, is_busy_with, has_busy_task, may_stop}
 use Rattle.journal_model.proofs.Looks.{both, same, any-append, each_of-append, verdict_of-append}
 use Rattle.journal_model.proofs.Linking.{why_of-append, why_is_end}
-use Rattle.journal_look.specs.Looks.{is_no_start}
+use Rattle.journal_scan.specs.Looks.{is_no_start}
 use Rattle.journal_model.specs.Shares.{are_by, is_closed}
 use Rattle.link_roles.specs.Alone.{Closes}
 use Rattle.child_start.specs.declared.greeting.Mode.TheVariants.{Init}

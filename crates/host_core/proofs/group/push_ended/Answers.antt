@@ -3,7 +3,7 @@ use Rattle.journal_model.specs.declared.verdict.Verdict.TheVariants.{Ended}
 use Rattle.journal_model.specs.declared.entry.What.TheVariants.{Verdict as Settled}
 use Rattle.journal_model.specs.Journal.{open_jobs}
 use Rattle.journal_model.specs.Due.{made_by, ended_jobs}
-use Rattle.journal_look.specs.Looks.{due_jobs}
+use Rattle.journal_scan.specs.Looks.{due_jobs}
 use Rattle.host_core.proofs.Pushing.{due_ended, length-what}
 use Rattle.host_core.proofs.group.push_ended.Goals as goal
 

@@ -5,7 +5,7 @@ use Rattle.journal_model.specs.declared.entry.What.TheVariants.{Verdict as Settl
 use Rattle.journal_model.specs.Journal.{open_jobs, is_unsent}
 use Rattle.journal_model.specs.Due.{made_by}
 use Rattle.host_core.specs.Moves.{unsent_verdicts}
-use Rattle.journal_look.specs.Looks.{due_jobs}
+use Rattle.journal_scan.specs.Looks.{due_jobs}
 use Rattle.host_core.proofs.Pushing.{due_unsent, length-what}
 use Rattle.host_core.proofs.group.push_unsent.Goals as goal
 

@@ -3,7 +3,7 @@ use Rattle.std.specs.List.{cons_option}
 use Rattle.journal_model.specs.declared.entry.Entry.{Entry}
 use Rattle.journal_model.specs.declared.entry.What.TheVariants.{Verdict as Settled}
 use Rattle.journal_model.specs.Due.{made_by}
-use Rattle.journal_look.specs.Looks.{job_at, due_jobs}
+use Rattle.journal_scan.specs.Looks.{job_at, due_jobs}
 use Rattle.host_core.proofs.Pushing.{none_pushed, room_next, pushed_next}
 use Rattle.host_core.proofs.group.push_verdicts.Goals as goal
 

@@ -1,7 +1,7 @@
 use Rattle.std.proofs.Common.{◌∙◌, ap, not, ◌<◌, List, length, subst}
 use Rattle.std.specs.List.{prefix_len}
 use Rattle.journal_model.specs.declared.entry.Entry.{Entry}
-use Rattle.journal_look.specs.Looks.{is_written}
+use Rattle.journal_scan.specs.Looks.{is_written}
 use Rattle.journal_look.proofs.Counting.{next_at}
 use Rattle.journal_look.proofs.cursors.advanced.Goals as goal
 

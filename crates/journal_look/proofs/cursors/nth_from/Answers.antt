@@ -1,7 +1,7 @@
 use Rattle.std.proofs.Common.{◌∙◌, ◌-◌, ◌≡◌, ℕ, ap, subst, drop, List}
 use Rattle.std.specs.Prelude.{filter, slice_get}
 use Rattle.journal_model.specs.declared.entry.Entry.{Entry}
-use Rattle.journal_look.specs.Looks.{is_written}
+use Rattle.journal_scan.specs.Looks.{is_written}
 use Rattle.journal_look.proofs.Counting.{unsent_by_cursor}
 use Rattle.journal_look.proofs.cursors.nth_from.Goals as goal
 

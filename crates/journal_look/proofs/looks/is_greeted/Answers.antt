@@ -1,7 +1,7 @@
 use Rattle.std.proofs.Common.{◌∙◌, ℕ, ap, sym}
 use Rattle.std.specs.Prelude.{is_some}
 use Rattle.journal_model.specs.Legality.{is_greeted}
-use Rattle.journal_look.proofs.Firsts.{some_verdict}
+use Rattle.journal_scan.proofs.Firsts.{some_verdict}
 use Rattle.journal_look.proofs.looks.is_greeted.Goals as goal
 
 pub returns-in-1 : goal.returns-in-1

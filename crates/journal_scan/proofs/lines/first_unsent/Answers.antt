@@ -1,0 +1,11 @@
+use Rattle.std.proofs.Common.{◌∙◌, ap, List, ℕ, Some, None}
+use Rattle.journal_scan.proofs.Written.{next_found}
+use Rattle.journal_scan.proofs.lines.first_unsent.Goals as goal
+
+pub returns-in-Some : goal.returns-in-Some
+returns-in-Some c =
+    ap (λ (l : List ℕ). Some l) c.hosts_line.ensures
+    ∙ next_found c.args.entries.now c.args.child c.sents.result (Some c.in-Some.e.now) c.sents.ensures c.in-Some.ensures
+
+pub returns-in-None : goal.returns-in-None
+returns-in-None c = next_found c.args.entries.now c.args.child c.sents.result None c.sents.ensures c.in-None.ensures

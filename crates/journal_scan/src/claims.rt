@@ -1,0 +1,124 @@
+// What the entries say of who holds a task, and of its jobs.
+ghost use Rattle.std.specs.Prelude.{◌≡◌};
+ghost use Rattle.journal_model.specs.Legality.{claims, is_claimed, turned, holder, is_busy, is_held_by, is_held_for, is_busy_with, job_for, has_open_job, claimed_for, has_busy_task};
+
+use crate::children;
+use journal_model::{Entry, Holder, What};
+
+/// Whether the entry claims the task.
+pub fn claims(what: &What, t: u32) -> bool
+    ensures { result ≡ claims t what.now }
+{
+    match what {
+        What::Claim { task, .. } => *task == t,
+        _ => false,
+    }
+}
+
+/// Whether the task was claimed.
+pub fn is_claimed(entries: &[Entry], task: u32) -> bool
+    ensures { result ≡ is_claimed entries.now task }
+{
+    entries.iter().any(|e| claims(&e.what, task))
+}
+
+/// What the entry makes of the task's holder.
+fn turned(held: Option<Holder>, entry: &Entry, t: u32) -> Option<Holder>
+    ensures { result ≡ turned t held entry.now }
+{
+    match &entry.what {
+        What::Claim { task, child } if *task == t => Some(Holder {
+            by: entry.by,
+            child: *child,
+        }),
+        What::Answer { task, .. } if *task == t => None,
+        _ => held,
+    }
+}
+
+/// Who holds the task.
+pub fn holder(entries: &[Entry], task: u32) -> Option<Holder>
+    ensures { result ≡ holder entries.now task }
+{
+    entries.iter().fold(None, |held, e| turned(held, e, task))
+}
+
+/// Whether someone holds the task.
+pub fn is_busy(entries: &[Entry], task: u32) -> bool
+    ensures { result ≡ is_busy entries.now task }
+{
+    holder(entries, task).is_some()
+}
+
+/// Whether the number holds it.
+pub fn is_held_by(holder: Option<Holder>, by: u32) -> bool
+    ensures { result ≡ is_held_by by holder }
+{
+    match holder {
+        Some(holder) => holder.by == by,
+        None => false,
+    }
+}
+
+/// Whether it is held for the child.
+pub fn is_held_for(holder: Option<Holder>, child: u32) -> bool
+    ensures { result ≡ is_held_for child holder }
+{
+    match holder {
+        Some(holder) => holder.child == child,
+        None => false,
+    }
+}
+
+/// Whether the task is held for the child.
+fn is_busy_with(entries: &[Entry], child: u32, task: u32) -> bool
+    ensures { result ≡ is_busy_with entries.now child task }
+{
+    is_held_for(holder(entries, task), child)
+}
+
+/// The job that the entry asks for the task, and its child.
+fn job_for(what: &What, t: u32) -> Option<(u32, u64)>
+    ensures { result ≡ job_for t what.now }
+{
+    match what {
+        What::Ask {
+            child,
+            job,
+            task,
+            ..
+        } if *task == t => Some((*child, *job)),
+        _ => None,
+    }
+}
+
+/// Whether a job of the task is open.
+pub fn has_open(entries: &[Entry], task: u32) -> bool
+    ensures { result ≡ has_open_job entries.now task }
+{
+    entries
+        .iter()
+        .filter_map(|e| job_for(&e.what, task))
+        .any(|q| children::is_open(entries, q.0, q.1))
+}
+
+/// The task that the entry claims for the child.
+fn claimed_for(what: &What, c: u32) -> Option<u32>
+    ensures { result ≡ claimed_for c what.now }
+{
+    match what {
+        What::Claim { task, child } if *child == c => Some(*task),
+        _ => None,
+    }
+}
+
+/// Whether a task is held for the child.
+pub fn has_busy(entries: &[Entry], child: u32) -> bool
+    ensures { result ≡ has_busy_task entries.now child }
+{
+    entries
+        .iter()
+        .filter_map(|e| claimed_for(&e.what, child))
+        .any(|task| is_busy_with(entries, child, task))
+}
+

@@ -1,0 +1,156 @@
+// What the journal says of a job's part.
+ghost use Rattle.std.specs.Prelude.{◌≡◌, ◌≤◌, true, false, not, length, IfSome, option_copied, slice_get};
+ghost use Rattle.std.specs.List.{prefix_len};
+ghost use Rattle.journal_model.specs.Journal.{addressed, any, offers};
+ghost use Rattle.journal_model.specs.Parts.{part, item_of, item_at, ends_at, is_place};
+ghost use Rattle.journal_scan.specs.Looks.{is_hosts, hosts_line, first_text, remote_text};
+
+use crate::{children, lines};
+use journal_model::{Entry, What, Why};
+
+/// Whether the line of the entry is the host's, in this job.
+fn is_hosts(what: &What, c: u32, j: u64) -> bool
+    ensures { result ≡ is_hosts c j what.now }
+{
+    match what {
+        What::Ask { child, job, .. } => *child == c && *job == j,
+        What::Put { child, job, .. } => *child == c && *job == j,
+        _ => false,
+    }
+}
+
+/// The line that the entry writes.
+pub fn hosts_line(what: &What) -> &[u8]
+    ensures { result.now ≡ hosts_line what.now }
+{
+    match what {
+        What::Ask { line, .. } => line.view(),
+        What::Put { line, .. } => line.view(),
+        _ => &[],
+    }
+}
+
+/// How many entries stand before the job's first.
+fn before_job(entries: &[Entry], child: u32, job: u64) -> usize
+    ensures value { result ≡ prefix_len (λ e. not (is_hosts child job e.what)) entries.now }
+    ensures bound { result ≤ length entries.now }
+{
+    entries
+        .iter()
+        .take_while(|e| !is_hosts(&e.what, child, job))
+        .count()
+}
+
+/// The entry at a place.
+pub fn entry_at(entries: &[Entry], at: usize) -> Option<&Entry>
+    ensures { option_copied result ≡ slice_get entries.now at }
+{
+    entries.get(at)
+}
+
+/// The same, where it may be known already.
+fn place(entries: &[Entry], known: Option<usize>, child: u32, job: u64) -> usize
+    requires { IfSome known (λ at. at ≡ prefix_len (λ e. not (is_hosts child job e.what)) entries.now) }
+    ensures value { result ≡ prefix_len (λ e. not (is_hosts child job e.what)) entries.now }
+    ensures bound { result ≤ length entries.now }
+{
+    match known {
+        Some(at) => at,
+        None => before_job(entries, child, job),
+    }
+}
+
+/// The line's text without the tag, for a child that takes none or among those entries.
+fn text_of<'a>(past: &[Entry], plain: bool, child: u32, line: &'a [u8]) -> &'a [u8]
+    requires { plain ≡ true → any (offers child) past.now ≡ false }
+    ensures { result.now ≡ (addressed past.now child line.entry.now).1 }
+{
+    if plain {
+        line
+    } else {
+        lines::text_of(past, child, line)
+    }
+}
+
+/// The text that the job's part begins with. The place of its first entry may be known, and that the child was offered no tags.
+pub fn first_text(
+    entries: &[Entry],
+    known: Option<usize>,
+    plain: bool,
+    child: u32,
+    job: u64,
+) -> Option<&[u8]>
+    requires known { IfSome known (λ at. at ≡ prefix_len (λ e. not (is_hosts child job e.what)) entries.now) }
+    requires plain { plain ≡ true → any (offers child) entries.now ≡ false }
+    ensures { option_copied result ≡ first_text (part entries.now child job) }
+{
+    let at = place(entries, known, child, job);
+    match entry_at(entries, at) {
+        Some(e) => Some(text_of(&entries[..at], plain, child, hosts_line(&e.what))),
+        None => None,
+    }
+}
+
+fn is_place(at: u64, why: Why) -> bool
+    ensures { result ≡ is_place at why }
+{
+    match why {
+        Why::Foul { at: place } | Why::Error { at: place } | Why::Version { at: place } => place
+            == at,
+        _ => false,
+    }
+}
+
+/// Whether the first of the entries is an end of the child for its line at that place.
+fn ends_at(rest: &[Entry], c: u32, at: u64) -> bool
+    ensures { result ≡ ends_at c at rest.now }
+{
+    match rest {
+        [first, ..] => match &first.what {
+            What::End { child, why } => *child == c && is_place(at, *why),
+            _ => false,
+        },
+        [] => false,
+    }
+}
+
+/// The text of a line that the child said in the job, between those entries.
+fn said_line<'a>(
+    past: &[Entry],
+    rest: &[Entry],
+    child: u32,
+    job: u64,
+    line: &'a [u8],
+) -> Option<&'a [u8]>
+    ensures { option_copied result ≡ remote_text (item_of child job past.now (What.Got child line.entry.now) rest.now) }
+{
+    let (to, text) = lines::addressed(past, child, line);
+    if to == Some(job)
+        && children::is_open(past, child, job)
+        && !ends_at(rest, child, past.len() as u64)
+    {
+        Some(text)
+    } else {
+        None
+    }
+}
+
+/// The text of the entry's line, where the remote said it in the job.
+fn said_in<'a>(past: &[Entry], rest: &[Entry], c: u32, job: u64, what: &'a What) -> Option<&'a [u8]>
+    ensures { option_copied result ≡ remote_text (item_of c job past.now what.entry.now rest.now) }
+{
+    match what {
+        What::Got { child, line } if *child == c => said_line(past, rest, c, job, line.view()),
+        _ => None,
+    }
+}
+
+/// The text of the line at that place, its tag taken off, where the child said it in the job.
+pub fn said_at(entries: &[Entry], child: u32, job: u64, at: usize) -> Option<&[u8]>
+    ensures { option_copied result ≡ remote_text (item_at entries.now child job at) }
+{
+    match entry_at(entries, at) {
+        Some(e) => said_in(&entries[..at], &entries[at + 1..], child, job, &e.what),
+        None => None,
+    }
+}
