@@ -225,11 +225,11 @@ lived_more past e old new are each starts no_start = record {
 
 no_more : {X : Type 0} (f : What → Option X) (past : List Entry) → length (each_of f past) ≤ length past
 no_more f [] = omega arith
-no_more f (e ∷ past) = go (f e.what) (no_more f past)
+no_more f (e ∷ past) = let h : length (each_of f (e ∷ past)) ≤ length past + 1 = go (f e.what) (each_of f past) (no_more f past) in omega (arith, h)
   where
-    go : {X : Type 0} (o : Option X) → {xs : List X} → length xs ≤ length past → length (cons_option o xs) ≤ length past + 1
-    go None h = omega (arith, h)
-    go (Some x) h = omega (arith, h)
+    go : {X : Type 0} (o : Option X) (xs : List X) → length xs ≤ length past → length (cons_option o xs) ≤ length past + 1
+    go None xs h = omega (arith, h)
+    go (Some x) xs h = omega (arith, h)
 
 counted_no_more : (p : What → Bool) (past : List Entry) → count p past ≤ length past
 counted_no_more p past = omega (arith, length-filter_both (λ (d : Entry). p d.what) (λ (d : Entry). not (p d.what)) (λ d. refl) past)

@@ -1,7 +1,8 @@
 // How far the lines that were written to each child are counted.
-ghost use Rattle.std.specs.Prelude.{◌≡◌, ◌==◌, ◌≤◌, ◌+◌, ◌-◌, not, drop, filter, find, length, option_copied, slice_get, IfSome, List};
+ghost use Rattle.std.specs.Prelude.{◌≡◌, ◌==◌, ◌≤◌, ◌+◌, ◌-◌, not, drop, filter, find, length, option_copied, option_map, slice_get, IfSome, List};
 ghost use Rattle.std.specs.List.{prefix_len};
 ghost use Rattle.journal_model.specs.declared.entry.Entry.{Entry};
+ghost use Rattle.journal_model.specs.Journal.{first_of, sends, unsent};
 ghost use Rattle.journal_look.specs.Cursors.{AreAt, IsAt};
 ghost use Rattle.journal_scan.specs.Looks.{is_written};
 

@@ -316,7 +316,7 @@ pub(super) fn note(jobs: &mut Jobs, lives: &Lives, at: usize, entry: &Entry)
     if !jobs.known {
         return;
     }
-    let Some(life) = life::look(lives, jobs_child(&entry.what)) else {
+    let Some(life) = life::known(lives, jobs_child(&entry.what)) else {
         jobs.known = false;
         return;
     };

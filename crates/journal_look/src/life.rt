@@ -1,5 +1,5 @@
 // What a journal keeps of each child, entry by entry.
-ghost use Rattle.std.specs.Prelude.{◌≡◌, ◌+◌, ◌-◌, ◌<◌, ◌^◌, ◌++◌, ◌∷◌, ◌||◌, [], List, Some, IfSome, IsTrue, is_some};
+ghost use Rattle.std.specs.Prelude.{◌≡◌, ◌+◌, ◌-◌, ◌<◌, ◌^◌, ◌++◌, ◌∷◌, ◌||◌, [], List, Some, IfSome, IsTrue, is_some, length};
 ghost use Rattle.journal_model.specs.Journal.{any};
 ghost use Rattle.journal_model.specs.Legality.{count, is_start};
 ghost use Rattle.journal_scan.specs.Looks.{is_no_start};
@@ -238,15 +238,26 @@ fn find(lives: &[Life], child: u32) -> Life
     }
 }
 
-/// The child's life, found by going through the entries.
-fn lived_through(entries: &[Entry], child: u32) -> Life
+/// The child's life, found by going through the entries, which are so many.
+fn lived_through(entries: &[Entry], count: usize, child: u32) -> Life
+    requires { count ≡ length entries.now }
     ensures { result ≡ life_of entries.now child }
 {
     let mut life = unlived();
-    for e in entries {
-        life = lived(child, &e.what, life);
+    for at in 0..count {
+        life = lived(child, &entries[at].what, life);
     }
     life
+}
+
+/// The child's life, where it is known without the entries.
+pub(super) fn known(lives: &Lives, child: u32) -> Option<Life>
+    ensures { (past : List Entry) → AreKnown past lives.now → IfSome result (λ life. life ≡ life_of past child) }
+{
+    if !lives.known {
+        return None;
+    }
+    Some(find(lives.each.as_slice(), child))
 }
 
 /// The child's life after these entries.
@@ -254,10 +265,9 @@ pub(super) fn look(lives: &Lives, entries: &[Entry], child: u32) -> Life
     requires { AreKnown entries.now lives.now }
     ensures { result ≡ life_of entries.now child }
 {
-    if lives.known {
-        find(lives.each.as_slice(), child)
-    } else {
-        lived_through(entries, child)
+    match known(lives, child) {
+        Some(life) => life,
+        None => lived_through(entries, entries.len(), child),
     }
 }
 

@@ -7,5 +7,5 @@ use Rattle.journal_look.proofs.looks.is_all_sent.Goals as goal
 pub returns : goal.returns
 returns c =
     c.are_all_sent.ensures
-    ∙ ap (λ (life : Life). not (nat_lt life.sent life.written)) c.life.ensures
+    ∙ ap (λ (life : Life). not (nat_lt life.sent life.written)) c.life-life.ensures
     ∙ all_sent c.args.journal.now.entries c.args.child
