@@ -16,7 +16,7 @@ use Rattle.gathering.proofs.Halls.{drop_start}
 use Rattle.task_run.specs.declared.setup.Setup.{Setup}
 use Rattle.lone_work.specs.Works.{DeskTells, TaskDone, claims_in}
 use Rattle.crew_work.specs.Crews.{Worked, calls_of}
-use Rattle.task_rounds.specs.JournalRuns.{HasJournalRun}
+use Rattle.gathering.specs.JournalRuns.{HasJournalRun}
 use Rattle.crew_work.proofs.Ending.{worker_ends}
 use Rattle.crew_rounds.specs.Crewing.{AllManned, DeskDid, DesksDid, Manned, WorkerTells, calls_from}
 

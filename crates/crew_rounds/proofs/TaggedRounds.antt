@@ -12,8 +12,8 @@ use Rattle.gathering.specs.Laws.{GoesOn, numbers_of}
 use Rattle.gathering.proofs.Gathering.{Closed, closed, own_in}
 use Rattle.gathering.proofs.WholeRounds.{tagged_gathers}
 use Rattle.lone_work.specs.Works.{TaskDone}
-use Rattle.task_rounds.specs.JournalRuns.{HasJournalRun}
-use Rattle.task_rounds.proofs.Lasting.{run_lasts}
+use Rattle.gathering.specs.JournalRuns.{HasJournalRun}
+use Rattle.gathering.proofs.Lasting.{run_lasts}
 use Rattle.crew_rounds.specs.Crewing.{WorkerTells, calls_from}
 use Rattle.crew_rounds.specs.TaggedRounds.{TaggedCloses, passes_of}
 use Rattle.crew_rounds.proofs.Crewing.{did_all, dones_of, ends_all}

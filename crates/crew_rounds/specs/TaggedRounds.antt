@@ -10,7 +10,7 @@ use Rattle.gathering.specs.Rounds.{CorePass, LinkValue, KeepsPost, EarEnds, Mout
 use Rattle.gathering.specs.Laws.{GoesOn, MayBeginTagged, Over, numbers_of}
 use Rattle.task_run.specs.declared.setup.Setup.{Setup}
 use Rattle.lone_work.specs.Works.{DeskTells, TaskDone}
-use Rattle.task_rounds.specs.JournalRuns.{HasJournalRun}
+use Rattle.gathering.specs.JournalRuns.{HasJournalRun}
 use Rattle.crew_rounds.specs.Crewing.{AllManned, DesksDid, WorkerTells, calls_from}
 
 abbrev pub passes_of : List WorkerTells → List CorePass

@@ -12,10 +12,10 @@ use Rattle.journal_model.specs.Shares.{Moved, is_of_child}
 use Rattle.journal_model.proofs.Looks.{same}
 use Rattle.link_roles.specs.Asks.{Grows, HasAsked, never}
 use Rattle.link_roles.proofs.Roles.{moved_both, moved_by, moved_wider}
-use Rattle.door_asker.specs.AtTasks.{AtTask, AskedFor}
-use Rattle.door_asker.specs.KnownLayouts.{IsBook}
-use Rattle.door_asker.specs.Noting.{by_noting}
-use Rattle.door_asker.proofs.Serving.{at_asked}
+use Rattle.lone_work.specs.AtTasks.{AtTask, AskedFor}
+use Rattle.lone_work.specs.KnownLayouts.{IsBook}
+use Rattle.lone_work.specs.Noting.{by_noting}
+use Rattle.lone_work.proofs.Serving.{at_asked}
 use Rattle.crew_work.specs.Jobs.{JobsOn, by_jobs}
 
 never_jobs : (c t : ℕ) (w : What) → never w ≡ true → by_jobs c t w ≡ true

@@ -21,8 +21,8 @@ use Rattle.host_core.specs.declared.event.Reply.{Reply}
 use Rattle.host_core.specs.declared.event.Reply.TheVariants.{Wait, NoTask, Done}
 use Rattle.host_core.specs.Steps.{Step, step_of, claim, only, append, gone, is_gone, are_all_claimed}
 use Rattle.link_roles.specs.Doors.{Appended, Made, Passed, Stepped}
-use Rattle.door_asker.specs.AtTasks.{AtTask}
-use Rattle.door_asker.proofs.Pairs.{passed}
+use Rattle.lone_work.specs.AtTasks.{AtTask}
+use Rattle.lone_work.proofs.Pairs.{passed}
 use Rattle.gathering.proofs.Laboring.{prepared_lasts, started_lasts}
 use Rattle.lone_work.proofs.Claiming.{free_unclaimed}
 use Rattle.crew_work.specs.Crews.{Begun, CanServe, HasClaimed, claimed_of}

@@ -16,7 +16,7 @@ use Rattle.journal_model.proofs.Testing.{all-join, all-split, or_left, or_right,
 use Rattle.link_roles.specs.Asks.{never}
 use Rattle.link_roles.specs.Doors.{Passed}
 use Rattle.link_roles.proofs.Roles.{others_make, others_none}
-use Rattle.door_asker.specs.Servings.{by_server}
+use Rattle.lone_work.specs.Servings.{by_server}
 use Rattle.gathering.specs.Posts.{makes, works}
 use Rattle.lone_work.specs.Works.{claimed_task}
 use Rattle.crew_work.specs.Crews.{Did, answers_by, by_task, claims_by, post_of}

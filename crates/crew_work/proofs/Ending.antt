@@ -20,7 +20,7 @@ use Rattle.gathering.proofs.Halls.{drop_start}
 use Rattle.gathering.proofs.Laboring.{started_lasts}
 use Rattle.link_roles.specs.Writings.{LoneWired}
 use Rattle.task_run.specs.declared.setup.Setup.{Setup}
-use Rattle.task_rounds.specs.JournalRuns.{HasJournalRun, JournalRun}
+use Rattle.gathering.specs.JournalRuns.{HasJournalRun, JournalRun}
 use Rattle.lone_work.specs.Works.{DeskTells, TaskDone, claimed_task}
 use Rattle.crew_work.specs.Crews.{AllRan, Worked, calls_of, claims_by, post_of, tasks_of}
 use Rattle.crew_work.specs.Runs.{LonesEnd, WorkersEnd}

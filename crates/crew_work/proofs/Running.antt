@@ -25,11 +25,11 @@ use Rattle.task_run.specs.Askings.{TaskStretch, askings, askings_from, bounds_ru
 use Rattle.task_run.specs.Ran.{behind_more}
 use Rattle.task_run.specs.Runs.{TaskRun}
 use Rattle.task_run.proofs.Askings.{asks_for, askings_from-append, askings_from-none, askings-unasked}
-use Rattle.door_asker.specs.AtTasks.{notings}
-use Rattle.door_asker.specs.Servings.{by_server}
-use Rattle.door_asker.proofs.Noted.{notes_for, notings_from-append, notings_from-none, notings-unnoted}
-use Rattle.task_rounds.specs.JournalRuns.{JournalRun}
-use Rattle.task_rounds.proofs.Lasting.{run_stays}
+use Rattle.lone_work.specs.AtTasks.{notings}
+use Rattle.lone_work.specs.Servings.{by_server}
+use Rattle.lone_work.proofs.Noted.{notes_for, notings_from-append, notings_from-none, notings-unnoted}
+use Rattle.gathering.specs.JournalRuns.{JournalRun}
+use Rattle.gathering.proofs.Lasting.{run_stays}
 use Rattle.crew_work.specs.Crews.{RanSo}
 
 -- ---- entries of a task

@@ -20,10 +20,10 @@ use Rattle.journal_model.proofs.Testing.{all-join}
 use Rattle.host_core.specs.Steps.{unclaimed}
 use Rattle.link_roles.specs.Doors.{Appended, Passed}
 use Rattle.link_roles.proofs.Roles.{others_make}
-use Rattle.door_asker.specs.AtTasks.{AtTask, SameTask, notings}
-use Rattle.door_asker.specs.KnownLayouts.{known_layouts}
-use Rattle.door_asker.proofs.KeyNotes.{layouts_since_claim}
-use Rattle.door_asker.proofs.Pairs.{passed}
+use Rattle.lone_work.specs.AtTasks.{AtTask, SameTask, notings}
+use Rattle.lone_work.specs.KnownLayouts.{known_layouts}
+use Rattle.lone_work.proofs.KeyNotes.{layouts_since_claim}
+use Rattle.lone_work.proofs.Pairs.{passed}
 use Rattle.task_run.specs.declared.setup.Setup.{Setup}
 use Rattle.task_run.specs.Askings.{askings, bounds_run}
 use Rattle.task_run.specs.Runs.{TaskRun}

@@ -18,14 +18,14 @@ use Rattle.host_core.specs.Steps.{are_all_claimed, is_gone, unclaimed}
 use Rattle.link_roles.specs.Doors.{Passed}
 use Rattle.link_roles.specs.declared.ear.Turn.{Turn}
 use Rattle.link_roles.specs.declared.ear.Turn.TheVariants.{Again, Rest, Over as Ended}
-use Rattle.door_asker.specs.AtTasks.{AtTask}
-use Rattle.door_asker.specs.KnownLayouts.{IsBook}
-use Rattle.door_asker.specs.Servings.{by_server}
+use Rattle.lone_work.specs.AtTasks.{AtTask}
+use Rattle.lone_work.specs.KnownLayouts.{IsBook}
+use Rattle.lone_work.specs.Servings.{by_server}
 use Rattle.gathering.specs.Posts.{Post, Worker, Lone, makes}
 use Rattle.gathering.specs.Tasks.{IsThrough}
 use Rattle.task_run.specs.declared.setup.Setup.{Setup}
 use Rattle.task_run.specs.Ran.{HasTaskCauses}
-use Rattle.task_rounds.specs.JournalRuns.{JournalRun}
+use Rattle.gathering.specs.JournalRuns.{JournalRun}
 use Rattle.lone_work.specs.Works.{CausedInTurn, DeskTells, TaskDone, all_calls, claims_in}
 use Rattle.crew_work.specs.declared.claims.Claimed.{Claimed}
 use Rattle.crew_work.specs.declared.claims.Claimed.TheVariants.{Task, Wait, Over}

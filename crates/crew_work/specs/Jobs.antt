@@ -6,8 +6,8 @@ use Rattle.journal_model.specs.declared.entry.Entry.{Entry}
 use Rattle.journal_model.specs.declared.opening.Opening.{Opening}
 use Rattle.link_roles.specs.Asks.{Grows}
 use Rattle.link_roles.specs.Doors.{IsSameDoor}
-use Rattle.door_asker.specs.AtTasks.{AtTask}
-use Rattle.door_asker.specs.KnownLayouts.{IsBook}
+use Rattle.lone_work.specs.AtTasks.{AtTask}
+use Rattle.lone_work.specs.KnownLayouts.{IsBook}
 
 -- requests for t of c, which may be lost, and notes of t
 abbrev pub by_jobs : ℕ → ℕ → What → Bool

@@ -9,7 +9,7 @@ use Rattle.link_roles.specs.Writings.{LoneWired, is_written_first}
 use Rattle.gathering.specs.Posts.{Post, makes}
 use Rattle.gathering.specs.Rounds.{CorePass, LinkValue, IsWired, LoneEnds, WorkerEnds}
 use Rattle.task_run.specs.declared.setup.Setup.{Setup}
-use Rattle.task_rounds.specs.JournalRuns.{HasJournalRun}
+use Rattle.gathering.specs.JournalRuns.{HasJournalRun}
 use Rattle.lone_work.specs.Works.{DeskTells}
 use Rattle.crew_work.specs.Crews.{Worked, calls_of, post_of}
 

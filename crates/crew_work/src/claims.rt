@@ -2,7 +2,7 @@
 ghost use Rattle.std.specs.Prelude.{◌≡◌};
 ghost use Rattle.journal_model.specs.declared.entry.What.TheVariants.{Answer as Answered};
 ghost use Rattle.link_roles.specs.Doors.{Appended, IsSameDoor};
-ghost use Rattle.door_asker.specs.AtTasks.{AtTask};
+ghost use Rattle.lone_work.specs.AtTasks.{AtTask};
 ghost use Rattle.crew_work.specs.Crews.{CanServe, HasClaimed, claimed_of};
 
 use ann_key::NoMemory;

@@ -4,12 +4,12 @@ ghost use Rattle.journal_model.specs.Projection.{IsNamed};
 ghost use Rattle.talk_serial.specs.Requests.{message_of};
 ghost use Rattle.link_roles.specs.Asks.{Grows};
 ghost use Rattle.link_roles.specs.Doors.{IsSameDoor};
-ghost use Rattle.door_asker.specs.AtTasks.{AtTask, AskedFor};
+ghost use Rattle.lone_work.specs.AtTasks.{AtTask, AskedFor};
 ghost use Rattle.crew_work.specs.Jobs.{by_jobs};
 
 use ann_key::NoMemory;
 use chunk_log::Layouts;
-use door_asker::{layouts, note};
+use lone_work::{layouts, note};
 use journal_model::Verdict;
 use link_crew::ask_job;
 use link_roles::Door;
@@ -51,8 +51,8 @@ pub struct JobAsker<'r, 'd, R: Wait, D: Door> {
 impl<'r, 'd, R: Wait, D: Door> Asker for JobAsker<'r, 'd, R, D> {
     ghost use Rattle.journal_model.specs.Legality.{may_note as can_note, task_of};
     ghost use Rattle.task_run.specs.Askings.{askings};
-    ghost use Rattle.door_asker.specs.AtTasks.{notings};
-    ghost use Rattle.door_asker.specs.KnownLayouts.{known_layouts};
+    ghost use Rattle.lone_work.specs.AtTasks.{notings};
+    ghost use Rattle.lone_work.specs.KnownLayouts.{known_layouts};
     ghost use Rattle.crew_work.specs.Jobs.{JobsGo, MayAsk};
     ghost use Rattle.crew_work.specs.JobLaws.{jobs_still, jobs_ready, jobs_behind};
 

@@ -11,15 +11,15 @@ ghost use Rattle.task_run.specs.Ran.{Ran, HasTaskCauses};
 ghost use Rattle.link_roles.specs.Doors.{IsSameDoor};
 ghost use Rattle.link_roles.specs.Moves.{IsSameLink};
 ghost use Rattle.link_roles.specs.Writings.{LoneWired};
-ghost use Rattle.door_asker.specs.AtTasks.{AtTask, notings};
-ghost use Rattle.door_asker.specs.KnownLayouts.{IsBook, known_layouts};
+ghost use Rattle.lone_work.specs.AtTasks.{AtTask, notings};
+ghost use Rattle.lone_work.specs.KnownLayouts.{IsBook, known_layouts};
 ghost use Rattle.crew_work.specs.Crews.{by_task};
 ghost use Rattle.crew_work.specs.Jobs.{JobsOn, MayAsk};
 
 use crate::job_asker::JobAsker;
 use ann_key::NoMemory;
 use ann_outside::{Desk, Sink, Source};
-use door_asker::LoneAsker;
+use lone_work::LoneAsker;
 use journal_model::Answer;
 use link_roles::{Door, Lone};
 use std::alloc::Global;

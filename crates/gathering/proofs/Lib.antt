@@ -7,3 +7,4 @@ pub mod Laboring
 pub mod Entering
 pub mod Ending
 pub mod WholeRounds
+pub mod Lasting

@@ -4,3 +4,5 @@ pub mod Posts
 pub mod Rounds
 pub mod Tasks
 pub mod Workers
+pub mod JournalRuns
+pub mod RunLaws

@@ -3,6 +3,7 @@
 
 pub mod laws;
 mod meaning;
+pub mod runs;
 pub mod worked;
 
 pub use meaning::Meaning;

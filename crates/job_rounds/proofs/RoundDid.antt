@@ -33,7 +33,7 @@ use Rattle.gathering.specs.Posts.{Ear, Ender, Mouth, Post, Worker, gives_up, is_
 use Rattle.gathering.specs.Rounds.{IsAmong, IsLostChild, LinkValue, Round, Rounded}
 use Rattle.task_run.specs.declared.setup.Setup.{Setup}
 use Rattle.task_run.specs.TaskRuns.{refusal_of}
-use Rattle.task_rounds.specs.JournalRuns.{JournalRun}
+use Rattle.gathering.specs.JournalRuns.{JournalRun}
 use Rattle.child_start.specs.Greetings.{asks_for}
 use Rattle.child_start.specs.declared.greeting.Mode.TheVariants.{Serve}
 use Rattle.lone_work.specs.Works.{DeskTells, TaskDone, claims_in}

@@ -26,7 +26,7 @@ use Rattle.child_start.specs.Greetings.{Greeted, IsReady, is_of_greeting}
 use Rattle.child_start.proofs.Jobs.{idle_on}
 use Rattle.child_end.specs.Programs.{ProgramsValue}
 use Rattle.child_end.specs.Wires.{WireValue}
-use Rattle.door_asker.specs.KnownLayouts.{IsBook}
+use Rattle.lone_work.specs.KnownLayouts.{IsBook}
 use Rattle.task_run.specs.declared.setup.Setup.{Setup}
 use Rattle.lone_work.specs.Works.{CanWork, DeskTells, claimed_task}
 use Rattle.lone_rounds.specs.Starting.{children, is_any_start, is_ready_untagged, is_spent, is_unclosed, started_in}

@@ -20,7 +20,7 @@ use ann_key::NoMemory;
 use ann_outside::{Desk, Programs};
 use child_end::finish;
 use child_start::{Greeting, Mode, greet};
-use door_asker::know_book;
+use lone_work::know_book;
 use journal_model::Answer;
 use link_roles::{Lone, Wire};
 use lone_rounds::{Plan, answer_one, is_offered, not_prepared, turn_away};

@@ -26,7 +26,7 @@ use Rattle.journal_model.specs.Halves.{EarValue, MouthValue}
 use Rattle.link_roles.specs.Writings.{LoneWired}
 use Rattle.journal_model.specs.declared.answer.Answer.{Answer}
 use Rattle.child_start.specs.Greetings.{Greeted, IsReady, is_greeting_line, is_of_greeting}
-use Rattle.door_asker.specs.KnownLayouts.{IsBook}
+use Rattle.lone_work.specs.KnownLayouts.{IsBook}
 use Rattle.lone_work.specs.Works.{CanWork, by_worker, claimed_task, claims_in, ends_answered}
 use Rattle.lone_work.proofs.Working.{ends_behind}
 use Rattle.lone_rounds.specs.Rounds.{EndsClosed, is_closing, is_of_run}

@@ -17,7 +17,7 @@ use Rattle.journal_model.specs.Shares.{are_by, is_closed}
 use Rattle.host_core.specs.Steps.{are_all_claimed}
 use Rattle.task_run.specs.declared.setup.Setup.{Setup}
 use Rattle.task_run.specs.TaskRuns.{failed_start}
-use Rattle.task_rounds.specs.JournalRuns.{JournalRun}
+use Rattle.gathering.specs.JournalRuns.{JournalRun}
 use Rattle.child_start.specs.Greetings.{is_greeting_line}
 use Rattle.lone_work.specs.Works.{DeskTells, TaskDone, CausedInTurn, all_calls, claims_in, ends_answered}
 use Rattle.lone_rounds.specs.Starting.{AreStarts, AreSpent, AreEnded, is_any_start}

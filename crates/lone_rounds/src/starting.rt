@@ -18,7 +18,7 @@ use ann_key::NoMemory;
 use ann_outside::{Desk, Programs};
 use child_end::finish;
 use child_start::{Greeting, Mode, greet};
-use door_asker::know_book;
+use lone_work::know_book;
 use host_core::Core;
 use journal_model::{Answer, Verdict};
 use link_roles::Wire;

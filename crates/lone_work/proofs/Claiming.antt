@@ -19,10 +19,10 @@ use Rattle.host_core.specs.declared.event.Event.TheVariants.{Claim as ClaimEvent
 use Rattle.host_core.specs.declared.event.Reply.{Reply}
 use Rattle.host_core.specs.declared.event.Reply.TheVariants.{NoTask, Done}
 use Rattle.journal_model.specs.declared.answer.Answer.{Answer}
-use Rattle.door_asker.specs.AtTasks.{AtTask}
+use Rattle.lone_work.specs.AtTasks.{AtTask}
 use Rattle.host_core.specs.Steps.{Step, step_of, claim, only, append, gone, is_gone, are_all_claimed}
 use Rattle.link_roles.specs.Doors.{Made, Stepped}
-use Rattle.door_asker.proofs.Serving.{idle_on, prepared_on}
+use Rattle.lone_work.proofs.Serving.{idle_on, prepared_on}
 use Rattle.lone_work.specs.Works.{Begun, CanWork, ClaimsNext, task_in}
 
 -- ---- tasks that are free

@@ -3,3 +3,9 @@ pub mod Claiming
 pub mod Running
 pub mod Working
 pub mod Turning
+pub mod Noted
+pub mod Pairs
+pub mod Serving
+pub mod KeyNotes
+pub mod Knowing
+pub mod Sizes

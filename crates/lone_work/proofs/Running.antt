@@ -26,13 +26,13 @@ use Rattle.task_run.specs.Ran.{Ran, HasTaskCauses, answered, behind_more}
 use Rattle.task_run.specs.Runs.{TaskRun}
 use Rattle.task_run.proofs.Askings.{asks_for, askings_from-append, askings_from-none, askings-unasked}
 use Rattle.link_roles.proofs.Linked.{any_narrower}
-use Rattle.door_asker.specs.AtTasks.{notings}
-use Rattle.door_asker.specs.KnownLayouts.{known_layouts}
-use Rattle.door_asker.specs.Servings.{HasTurn, ServesOn, by_server}
-use Rattle.door_asker.proofs.KeyNotes.{layouts_since_claim}
-use Rattle.door_asker.proofs.Noted.{notes_for, notings_from-append, notings_from-none, notings-unnoted}
-use Rattle.door_asker.proofs.Serving.{gives_none, held_on, idle_on, prepared_on, server_answers, server_claims}
-use Rattle.task_rounds.specs.JournalRuns.{JournalRun}
+use Rattle.lone_work.specs.AtTasks.{notings}
+use Rattle.lone_work.specs.KnownLayouts.{known_layouts}
+use Rattle.lone_work.specs.Servings.{HasTurn, ServesOn, by_server}
+use Rattle.lone_work.proofs.KeyNotes.{layouts_since_claim}
+use Rattle.lone_work.proofs.Noted.{notes_for, notings_from-append, notings_from-none, notings-unnoted}
+use Rattle.lone_work.proofs.Serving.{gives_none, held_on, idle_on, prepared_on, server_answers, server_claims}
+use Rattle.gathering.specs.JournalRuns.{JournalRun}
 use Rattle.lone_work.specs.Works.{Begun, CanWork, DeskTells, Does, RanFor}
 
 -- ---- entries of a task

@@ -20,9 +20,9 @@ use Rattle.link_roles.specs.Alone.{KeepsLink}
 use Rattle.link_roles.specs.Moves.{IsSameLink}
 use Rattle.link_roles.proofs.Writings.{lone_apart}
 use Rattle.link_roles.proofs.Roles.{by_own}
-use Rattle.door_asker.specs.AtTasks.{AtTask, notings}
-use Rattle.door_asker.specs.KnownLayouts.{known_layouts}
-use Rattle.door_asker.specs.Servings.{Serves, ServesOn}
+use Rattle.lone_work.specs.AtTasks.{AtTask, notings}
+use Rattle.lone_work.specs.KnownLayouts.{known_layouts}
+use Rattle.lone_work.specs.Servings.{Serves, ServesOn}
 use Rattle.journal_model.specs.Shares.{is_of_child}
 use Rattle.lone_work.specs.Works.{AreTasks, Begun, CanWork, DeskTells, Does, Worked}
 use Rattle.lone_work.proofs.Claiming.{found_between}

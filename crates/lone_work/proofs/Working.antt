@@ -20,10 +20,10 @@ use Rattle.journal_model.proofs.Working.{idle_shut}
 use Rattle.host_core.specs.Steps.{unclaimed}
 use Rattle.task_run.specs.declared.setup.Setup.{Setup}
 use Rattle.fetch_copy.proofs.CopyLaws.{gained_nothing, gained_more}
-use Rattle.door_asker.specs.Servings.{by_server}
-use Rattle.door_asker.proofs.Serving.{gives_none}
-use Rattle.task_rounds.specs.JournalRuns.{JournalRun}
-use Rattle.task_rounds.proofs.Lasting.{run_stays}
+use Rattle.lone_work.specs.Servings.{by_server}
+use Rattle.lone_work.proofs.Serving.{gives_none}
+use Rattle.gathering.specs.JournalRuns.{JournalRun}
+use Rattle.gathering.proofs.Lasting.{run_stays}
 use Rattle.lone_work.specs.Works.{AllRan, CausedInTurn, DeskTells, Does, RanFor, TaskDone, Worked, all_calls, by_worker, claimed_task, claims_in, ends_answered}
 use Rattle.lone_work.proofs.Claiming.{free_unclaimed}
 

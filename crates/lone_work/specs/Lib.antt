@@ -1,1 +1,6 @@
 pub mod Works
+pub mod AtTasks
+pub mod Noting
+pub mod Servings
+pub mod ServingLaws
+pub mod KnownLayouts

@@ -18,12 +18,12 @@ use Rattle.journal_model.specs.Output.{answer_in, answers_in}
 use Rattle.journal_model.specs.Shares.{are_by, by_link, makes_only}
 use Rattle.host_core.specs.declared.event.Reply.{Reply}
 use Rattle.host_core.specs.declared.event.Reply.TheVariants.{Task as TaskReply}
-use Rattle.door_asker.specs.KnownLayouts.{IsBook}
-use Rattle.door_asker.specs.Servings.{Serves, by_server}
+use Rattle.lone_work.specs.KnownLayouts.{IsBook}
+use Rattle.lone_work.specs.Servings.{Serves, by_server}
 use Rattle.gathering.specs.Tasks.{IsThrough}
 use Rattle.task_run.specs.declared.setup.Setup.{Setup}
 use Rattle.task_run.specs.Ran.{HasTaskCauses}
-use Rattle.task_rounds.specs.JournalRuns.{JournalRun}
+use Rattle.gathering.specs.JournalRuns.{JournalRun}
 
 -- ---- between two tasks
 

@@ -2,7 +2,7 @@
 ghost use Rattle.std.specs.Prelude.{◌≡◌, ◌++◌, ◌∷◌, [], true};
 ghost use Rattle.journal_model.specs.declared.entry.What.TheVariants.{Answer as Answered};
 ghost use Rattle.link_roles.specs.Doors.{IsSameDoor};
-ghost use Rattle.door_asker.specs.AtTasks.{AtTask};
+ghost use Rattle.lone_work.specs.AtTasks.{AtTask};
 ghost use Rattle.lone_work.specs.Works.{CanWork, ClaimsNext, task_in};
 
 use ann_key::NoMemory;

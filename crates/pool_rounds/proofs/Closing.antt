@@ -26,8 +26,8 @@ use Rattle.gathering.proofs.Gathering.{Closed, closed, gathers, own_in}
 use Rattle.gathering.proofs.Rounding.{of_second, pool_keeps}
 use Rattle.gathering.proofs.WholeRounds.{pool_gathers}
 use Rattle.task_run.specs.declared.setup.Setup.{Setup}
-use Rattle.task_rounds.specs.JournalRuns.{HasJournalRun}
-use Rattle.task_rounds.proofs.Lasting.{run_lasts}
+use Rattle.gathering.specs.JournalRuns.{HasJournalRun}
+use Rattle.gathering.proofs.Lasting.{run_lasts}
 use Rattle.lone_work.specs.Works.{DeskTells, TaskDone}
 use Rattle.crew_rounds.specs.Coming.{IsFresh}
 use Rattle.crew_rounds.specs.Crewing.{calls_from}

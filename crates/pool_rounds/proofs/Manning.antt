@@ -16,7 +16,7 @@ use Rattle.gathering.specs.Rounds.{CorePass, IsWired, LoneEnds, since}
 use Rattle.gathering.specs.Laws.{children_of, numbers_of}
 use Rattle.gathering.proofs.Halls.{drop_start}
 use Rattle.task_run.specs.declared.setup.Setup.{Setup}
-use Rattle.task_rounds.specs.JournalRuns.{HasJournalRun}
+use Rattle.gathering.specs.JournalRuns.{HasJournalRun}
 use Rattle.lone_work.specs.Works.{TaskDone}
 use Rattle.crew_work.specs.Crews.{calls_of}
 use Rattle.crew_work.proofs.Ending.{lones_end}

@@ -11,7 +11,7 @@ use Rattle.gathering.specs.Posts.{pool_crew}
 use Rattle.gathering.specs.Rounds.{LinkValue, IsAtRest, Round}
 use Rattle.gathering.specs.Laws.{Distinct, children_of}
 use Rattle.task_run.specs.declared.setup.Setup.{Setup}
-use Rattle.task_rounds.specs.JournalRuns.{HasJournalRun}
+use Rattle.gathering.specs.JournalRuns.{HasJournalRun}
 use Rattle.lone_work.specs.Works.{DeskTells, TaskDone}
 use Rattle.crew_work.specs.Crews.{CanServe}
 use Rattle.crew_rounds.specs.Crewing.{DesksDid, calls_from}

@@ -24,7 +24,7 @@ use Rattle.child_start.proofs.Jobs.{idle_on}
 use Rattle.child_end.specs.Programs.{ProgramsValue}
 use Rattle.child_end.specs.Wires.{IsOfStart, WireValue}
 use Rattle.child_end.proofs.Held.{lone_held}
-use Rattle.door_asker.specs.KnownLayouts.{IsBook}
+use Rattle.lone_work.specs.KnownLayouts.{IsBook}
 use Rattle.gathering.specs.Rounds.{IsAtRest, LinkValue}
 use Rattle.lone_rounds.specs.Starting.{is_unclosed}
 use Rattle.lone_rounds.specs.Rounds.{is_of_run}

@@ -19,7 +19,7 @@ use Rattle.host_core.specs.Steps.{unclaimed}
 use Rattle.child_start.proofs.Jobs.{idle_on}
 use Rattle.child_end.specs.Programs.{AddsAll, HaveStarted, ProgramsValue, is_failed_start, told, told_in}
 use Rattle.child_end.specs.Wires.{came, came_in}
-use Rattle.door_asker.specs.KnownLayouts.{IsBook}
+use Rattle.lone_work.specs.KnownLayouts.{IsBook}
 use Rattle.gathering.specs.Laws.{Distinct, children_of}
 use Rattle.gathering.specs.Rounds.{IsAtRest, LinkValue}
 use Rattle.lone_rounds.specs.Starting.{children, is_any_start, is_ready_untagged, started_in}

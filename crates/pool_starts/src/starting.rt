@@ -9,7 +9,7 @@ ghost use Rattle.child_start.specs.Cores.{IsSameCore};
 ghost use Rattle.child_end.specs.Programs.{programs_value};
 ghost use Rattle.child_end.specs.Wires.{wire_value};
 ghost use Rattle.crew_rounds.specs.Tagged.{link_of};
-ghost use Rattle.door_asker.specs.KnownLayouts.{IsBook};
+ghost use Rattle.lone_work.specs.KnownLayouts.{IsBook};
 ghost use Rattle.gathering.specs.Rounds.{IsAtRest};
 ghost use Rattle.crew_rounds.specs.PoolChildren.{PoolCan};
 ghost use Rattle.pool_starts.specs.Pools.{GathersAs, Serves, seat_value};

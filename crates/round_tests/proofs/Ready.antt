@@ -19,7 +19,7 @@ use Rattle.journal_model.proofs.Testing.{all-each, by_either}
 use Rattle.link_roles.specs.Writings.{LoneWired}
 use Rattle.child_start.specs.Greetings.{Greeted, IsReady, is_greeting_line_for, is_of_greeting}
 use Rattle.child_start.specs.declared.greeting.Mode.TheVariants.{Serve}
-use Rattle.door_asker.specs.KnownLayouts.{IsBook}
+use Rattle.lone_work.specs.KnownLayouts.{IsBook}
 use Rattle.lone_work.specs.Works.{AreTasks, CanWork}
 use Rattle.lone_rounds.specs.Starting.{is_unclosed}
 use Rattle.lone_rounds.proofs.Apart.{ended_unclosed, is_unclosed_end, link_unclosed}

@@ -12,7 +12,7 @@ use ann_outside::{MemChild, MemDesk, MemPrograms, MemSink, MemSource};
 use child_start::{Greeting, Mode, greet};
 use chunk_log::NoteBook;
 use crew_rounds::{Outcome, TaggedRound, round_tagged_some};
-use door_asker::know_book;
+use lone_work::know_book;
 use host_core::Core;
 use journal_model::{Identity, Opening};
 use link_roles::Lone;

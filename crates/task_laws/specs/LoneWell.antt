@@ -14,7 +14,7 @@ use Rattle.task_text.specs.declared.task.Task.{Task}
 use Rattle.task_run.specs.declared.setup.Setup.{Setup}
 use Rattle.task_run.specs.Askings.{run_askings}
 use Rattle.task_run.specs.TaskRuns.{refused_at}
-use Rattle.task_rounds.specs.JournalRuns.{JournalRun}
+use Rattle.gathering.specs.JournalRuns.{JournalRun}
 use Rattle.lone_work.specs.Works.{TaskDone}
 use Rattle.lone_rounds.specs.Rounds.{HasRun, ZeroRun}
 use Rattle.task_laws.specs.WentWell.{DeskWentWell, IsSuccess}

@@ -14,7 +14,7 @@ use Rattle.task_run.specs.Names.{part_of}
 use Rattle.task_run.specs.Reads.{appended, holds, are_found_so, is_renaming, is_last}
 use Rattle.task_run.specs.Gets.{asked_last, since_begin, checked}
 use Rattle.task_run.specs.Runs.{is_chunked}
-use Rattle.task_rounds.specs.JournalRuns.{JournalRun}
+use Rattle.gathering.specs.JournalRuns.{JournalRun}
 use Rattle.task_laws.specs.Changes.{Request}
 use Rattle.task_laws.specs.Contents.{Shows}
 use Rattle.task_laws.specs.Faithful.{Told, sent, IsFaithful, AreStoredFor}

@@ -10,7 +10,7 @@ use Rattle.journal_model.specs.Legality.{task_of}
 use Rattle.task_text.specs.declared.task.Task.{Task}
 use Rattle.task_run.specs.declared.setup.Setup.{Setup}
 use Rattle.task_run.specs.Askings.{askings, run_askings}
-use Rattle.task_rounds.specs.JournalRuns.{JournalRun}
+use Rattle.gathering.specs.JournalRuns.{JournalRun}
 use Rattle.task_laws.specs.WentWell.{is_asked_well, DeskWentWell, IsSuccess}
 
 -- a task that was done: by which number, its desk's calls, and its answer

@@ -8,7 +8,7 @@ ghost use Rattle.journal_model.specs.declared.verdict.Verdict.TheVariants.{Done,
 ghost use Rattle.journal_model.specs.Rows.{greeting};
 ghost use Rattle.task_run.specs.Rows.{setup_of, store_a, stores_a, sized, get_abc, fetched_1, gets_abc, got_abc, renamed, part_gone, store_ten, stores_ten, stored_ten, cut_behind_filling, made_twice, lost_ten, stored_short, get_ten, gets_ten, resumed_ten, check_ten, checks_ten, finds_ten, asks, c1, fetched_2_1, got_hi};
 ghost use Rattle.annex_model.specs.Messages.{Checkpresent, Transfer};
-ghost use Rattle.task_rounds.specs.JournalRuns.{JournalRun};
+ghost use Rattle.gathering.specs.JournalRuns.{JournalRun};
 ghost use Rattle.task_run.specs.Askings.{run_askings};
 ghost use Rattle.task_laws.specs.Changes.{requests, stored_by, Retrieves};
 ghost use Rattle.task_laws.specs.Contents.{Shows};

@@ -3,7 +3,7 @@ use Rattle.journal_model.specs.Legality.{Legal}
 use Rattle.journal_model.specs.declared.opening.Opening.{Opening}
 use Rattle.talk_serial.specs.Requests.{message_of}
 use Rattle.link_roles.proofs.Asking.{grows_on}
-use Rattle.door_asker.proofs.Pairs.{asked, never_untasked, passed}
+use Rattle.lone_work.proofs.Pairs.{asked, never_untasked, passed}
 use Rattle.crew_work.proofs.Asking.{jobs_asked}
 use Rattle.crew_work.proofs.job_asker.ask_for.Goals as goal
 

@@ -11,7 +11,7 @@ use Rattle.journal_model.specs.Legality.{Legal}
 use Rattle.child_end.specs.Programs.{ProgramsValue, programs_value}
 use Rattle.child_end.specs.Wires.{WireValue, wire_value}
 use Rattle.child_end.proofs.Held.{lone_held}
-use Rattle.door_asker.specs.KnownLayouts.{IsBook}
+use Rattle.lone_work.specs.KnownLayouts.{IsBook}
 use Rattle.lone_work.specs.Works.{DeskTells, desk_tells}
 use Rattle.lone_rounds.specs.Stints.{AnswersOne, TurnsAway, next_child}
 use Rattle.lone_rounds.proofs.Leaving.{starts_child, starts_none}

@@ -6,7 +6,7 @@ use Rattle.journal_model.specs.declared.opening.Opening.{Opening}
 use Rattle.journal_model.specs.Legality.{Legal}
 use Rattle.child_end.specs.Programs.{programs_value}
 use Rattle.child_end.proofs.Held.{lone_held}
-use Rattle.door_asker.specs.KnownLayouts.{IsBook}
+use Rattle.lone_work.specs.KnownLayouts.{IsBook}
 use Rattle.lone_work.specs.Works.{desk_tells}
 use Rattle.lone_rounds.specs.Stints.{AnswersOne, HasServed, Stint, TurnsAway}
 use Rattle.lone_rounds.proofs.Leaving.{may_ask, starts_child, starts_kept, starts_none}

@@ -2,7 +2,7 @@ use Rattle.std.proofs.Common.{List, true, sym, subst, ◌∙◌}
 use Rattle.journal_model.specs.declared.entry.Entry.{Entry}
 use Rattle.journal_model.specs.declared.opening.Opening.{Opening}
 use Rattle.child_start.specs.Greetings.{Greeted}
-use Rattle.door_asker.specs.KnownLayouts.{IsBook}
+use Rattle.lone_work.specs.KnownLayouts.{IsBook}
 use Rattle.round_tests.proofs.Ready.{greeted_can}
 use Rattle.round_tests.proofs.rounds.ready.Goals as goal
 

@@ -13,7 +13,7 @@ use Rattle.task_text.specs.declared.task.Work.TheVariants.{Get}
 use Rattle.task_run.specs.Askings.{TaskStretch}
 use Rattle.task_run.specs.Rows.{task_of, setup_of, asks, fetched_2_1, got_hi}
 use Rattle.task_run.specs.Runs.{TaskRun}
-use Rattle.task_rounds.specs.JournalRuns.{JournalRun}
+use Rattle.gathering.specs.JournalRuns.{JournalRun}
 use Rattle.task_laws.specs.Changes.{Retrieves}
 use Rattle.task_laws.specs.Rows.{hi, store_then_get, storing, retrieving, stored_then_got, the_store, the_retrieve}
 use Rattle.task_laws.proofs.rows.got_what_was_stored.Goals as goal

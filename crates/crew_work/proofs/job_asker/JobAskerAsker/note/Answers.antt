@@ -1,7 +1,7 @@
 use Rattle.std.proofs.Common.{ℕ, sym, subst, refl}
-use Rattle.door_asker.specs.AtTasks.{AtTask}
-use Rattle.door_asker.proofs.Knowing.{known_noted}
-use Rattle.door_asker.proofs.Serving.{at_noted}
+use Rattle.lone_work.specs.AtTasks.{AtTask}
+use Rattle.lone_work.proofs.Knowing.{known_noted}
+use Rattle.lone_work.proofs.Serving.{at_noted}
 use Rattle.crew_work.proofs.Asking.{jobs_on_noted}
 use Rattle.crew_work.proofs.job_asker.JobAskerAsker.note.Goals as goal
 

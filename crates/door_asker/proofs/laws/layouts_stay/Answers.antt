@@ -1,5 +1,0 @@
-use Rattle.door_asker.proofs.KeyNotes.{layouts_stay}
-use Rattle.door_asker.proofs.laws.layouts_stay.Goals as goal
-
-pub returns : goal.returns
-returns c = layouts_stay

@@ -1,5 +1,0 @@
-pub mod AtTasks
-pub mod Noting
-pub mod Servings
-pub mod ServingLaws
-pub mod KnownLayouts

@@ -1,0 +1,233 @@
+-- What asking and noting do to the requests and the notes that a journal has of a task.
+use Rattle.std.proofs.Common.{◌≡◌, ℕ, ◌<◌, ◌^◌, List, [], ◌∷◌, ◌++◌, length, append_assoc, refl, sym, ap, subst, ◌∙◌, Bool, true, false, not, ◌==◌, Some, None, Option, inl, inr, arith}
+use Rattle.std.proofs.lemmas.Bool.Decides.{nat_tests}
+use Rattle.std.specs.Prelude.{◌&&◌, ◌||◌, nat_lt}
+use Rattle.std.specs.List.{list_any}
+use Rattle.std.proofs.lemmas.List.Folds.{list_any-append}
+use Rattle.annex_model.specs.Messages.{HostMessage, host_line, host_reading, is_askable}
+use Rattle.annex_model.proofs.Classes.{test_askable}
+use Rattle.annex_model.proofs.Readings.{canonical_read}
+use Rattle.journal_model.specs.declared.verdict.Why.{Why}
+use Rattle.journal_model.specs.declared.verdict.Verdict.{Verdict}
+use Rattle.journal_model.specs.declared.entry.What.{What}
+use Rattle.journal_model.specs.declared.entry.What.TheVariants.{Ask, Put, Sent, Mute, Got, End, Verdict as Settled, Lost, Note}
+use Rattle.journal_model.specs.declared.entry.Entry.{Entry}
+use Rattle.journal_model.specs.declared.opening.Opening.{Opening}
+use Rattle.journal_model.specs.Journal.{any, addressed, each_of, is_open, is_settled, is_started, on_wire, verdict_of, why_of}
+use Rattle.journal_model.specs.Legality.{Legal, has_open_job, is_claimed_by, is_held_by, holder, is_in_turn, job_for, may_ask, may_note, task_of}
+use Rattle.journal_model.specs.Makers.{is_of_task, is_taken_by}
+use Rattle.journal_model.specs.Shares.{are_own, makes_only, by_link}
+use Rattle.journal_model.proofs.Holding.{holder_append}
+use Rattle.journal_model.proofs.Idling.{claimed_positive}
+use Rattle.journal_model.proofs.Looks.{entry, same, each_of-append, settled_none}
+use Rattle.journal_model.proofs.PartsGrow.{and_right}
+use Rattle.journal_model.proofs.Testing.{or_left, neither, by_either, all-split}
+use Rattle.journal_model.proofs.Working.{all_asked, closed_all, held_taken, holder_apart, jobs_stay_closed, no_jobs_in, settled_closed, taken_by-append, taken_claimed, tasks_kept}
+use Rattle.host_core.proofs.Wiring.{wired_text}
+use Rattle.host_core.specs.Steps.{Step, step_of, append, next_job}
+use Rattle.host_core.specs.declared.event.Event.TheVariants.{Note as NoteEvent}
+use Rattle.host_core.specs.declared.event.Reply.{Reply}
+use Rattle.host_core.specs.declared.event.Reply.TheVariants.{Done}
+use Rattle.task_run.specs.Askers.{Asking, Noting, is_gone}
+use Rattle.task_run.specs.Askings.{askings, lost_verdict}
+use Rattle.task_run.proofs.Askings.{asks_for, askings-unasked, askings-ask, askings-lost}
+use Rattle.link_roles.specs.Doors.{Passed, Appended, Made}
+use Rattle.link_roles.specs.Events.{IsJob}
+use Rattle.link_roles.specs.Asks.{HasAsked, Grows, lost_as, never}
+use Rattle.link_roles.proofs.Linked.{any_narrower}
+use Rattle.link_roles.proofs.Roles.{moved_by, none_made, others_make}
+use Rattle.lone_work.specs.AtTasks.{AtTask, SameTask, AsksNow, NotesNow, notings}
+use Rattle.lone_work.specs.Noting.{is_done, by_noting}
+use Rattle.lone_work.proofs.Noted.{notes_for, notings-unnoted, notings-note}
+
+-- ---- entries of a task
+
+asks_of : (t : ℕ) (w : What) → asks_for t w ≡ true → is_of_task t w ≡ true
+asks_of t (Ask child job task line) h = h
+asks_of t (Lost child task) h = h
+asks_of t w h = absurd cc
+
+notes_of : (t : ℕ) (w : What) → notes_for t w ≡ true → is_of_task t w ≡ true
+notes_of t (Note task chunk count) h = h
+notes_of t w h = absurd cc
+
+-- a link makes nothing of any task
+pub link_untasked : (c t : ℕ) (w : What) → by_link c w ≡ true → is_of_task t w ≡ false
+link_untasked c t (Put child job line) h = refl
+link_untasked c t (Sent child) h = refl
+link_untasked c t (Mute child) h = refl
+link_untasked c t (Got child line) h = refl
+link_untasked c t (End child why) h = refl
+link_untasked c t (Settled child job verdict) h = refl
+link_untasked c t w h = absurd cc
+
+pub never_untasked : (t : ℕ) (w : What) → never w ≡ true → is_of_task t w ≡ false
+never_untasked t w h = absurd cc
+
+-- what a request that found its child gone stands for
+lost_same : (why : Option Why) → lost_verdict why ≡ lost_as why
+lost_same None = refl
+lost_same (Some why) = refl
+
+lost_gone : (why : Option Why) → is_gone (lost_as why) ≡ true
+lost_gone None = refl
+lost_gone (Some why) = refl
+
+verdict_settles : (past : List Entry) (c j : ℕ) (v : Verdict) → verdict_of past c j ≡ Some v → is_settled past c j ≡ true
+verdict_settles past c j v h = by_either (is_settled past c j) (λ x. x) (λ f. absurd (none_some (sym (settled_none past c j f) ∙ h)))
+  where
+    none_some : None ≡ Some v → ⊥
+    none_some e = cc
+
+-- ---- how a task stands in a longer journal
+
+module _ (o : Opening) (n t : ℕ) where
+  -- a role that makes nothing of the task makes nothing of it, nor do others
+  pub apart : (makes : What → Bool) → ((w : What) → makes w ≡ true → is_of_task t w ≡ false) → (seen more : List Entry) → Legal o (seen ++ more)
+      → is_claimed_by seen n t ≡ true → makes_only makes n more ≡ true → any (is_of_task t) more ≡ false
+  apart makes none seen more legal held own =
+      let taken : is_taken_by (seen ++ more) n t ≡ true = taken_by-append seen more n t ∙ or_left (is_taken_by seen n t) (is_taken_by more n t) (held_taken seen n t held) in
+      let pos = claimed_positive o (seen ++ more) legal t (taken_claimed (seen ++ more) n t taken) in
+      let all : are_own (is_of_task t) n (seen ++ more) ≡ true = (tasks_kept o (seen ++ more) legal).own t n pos taken in
+      none_made makes (is_of_task t) none n more own (all-split (λ (e : Entry). not (is_of_task t e.what) || e.by == n) seen more all).1
+
+  pub at_on : (past more : List Entry) → AtTask o n t past → Legal o (past ++ more) → any (is_of_task t) more ≡ false → AtTask o n t (past ++ more)
+  at_on past more at legal none = record {
+    legal = legal;
+    held = ap (is_held_by n) (holder_apart past more t none) ∙ at.held;
+    shut = jobs_stay_closed past more t (no_jobs_in t more none) at.shut;
+  }
+
+  pub asked_on : (past more : List Entry) → AtTask o n t past → any (is_of_task t) more ≡ false → askings (past ++ more) t ≡ askings past t
+  asked_on past more at none = askings-unasked past more t at.shut (any_narrower (asks_for t) (is_of_task t) (asks_of t) more none)
+
+  pub noted_on : (past more : List Entry) → AtTask o n t past → any (is_of_task t) more ≡ false → notings (past ++ more) t ≡ notings past t
+  noted_on past more at none = notings-unnoted past more t at.shut (any_narrower (notes_for t) (is_of_task t) (notes_of t) more none)
+
+  pub passed : {a : Bool} {old new : List Entry} → AtTask o n t old → Legal o new → Passed n a old new → SameTask o n t old new
+  passed {old = old} {new = new} at legal s =
+      let none = apart never (never_untasked t) old s.others (subst (Legal o) s.is legal) at.held (others_make never n s.others s.apart) in
+      subst (SameTask o n t old) (sym s.is) record {
+        at = at_on old s.others at (subst (Legal o) s.is legal) none;
+        asked = asked_on old s.others at none;
+        noted = noted_on old s.others at none;
+      }
+
+  -- ---- a request
+
+  reads : (past : List Entry) (c job : ℕ) (q : HostMessage) → IsJob n c t q job past → job < 2 ^ 64 → host_reading (addressed past c (on_wire past c job (host_line q))).1 ≡ Some q
+  reads past c job q j small =
+      let askable : is_askable q ≡ true = and_right (is_started past c && may_ask past n t c && is_in_turn past c (next_job past c) q) (is_askable q) j.may in
+      ap host_reading (wired_text past c job (host_line q) small) ∙ canonical_read q (test_askable q askable)
+
+  settled_at : (past more : List Entry) (c job : ℕ) (q : HostMessage) (v : Verdict) → AtTask o n t past → IsJob n c t q job past → job < 2 ^ 64
+      → any (is_of_task t) more ≡ false → Legal o (past ++ entry n (Ask c job t (on_wire past c job (host_line q))) ∷ more)
+      → verdict_of (past ++ entry n (Ask c job t (on_wire past c job (host_line q))) ∷ more) c job ≡ Some v
+      → AsksNow o n t past (past ++ entry n (Ask c job t (on_wire past c job (host_line q))) ∷ more) q v
+  settled_at past more c job q v at j small none legal settled = record {
+    at = record { legal = legal; held = ap (is_held_by n) held ∙ at.held; shut = shut };
+    asked = record {
+      request = Some q;
+      kept = refl;
+      added = askings-ask past more t n c job line (Some q) v at.shut (any_narrower (asks_for t) (is_of_task t) (asks_of t) more none) (reads past c job q j small) settled;
+    };
+    noted = notings-unnoted past group t at.shut (any_narrower (notes_for t) (is_of_task t) (notes_of t) more none);
+  }
+    where
+      line : List ℕ
+      line = on_wire past c job (host_line q)
+
+      group : List Entry
+      group = entry n (Ask c job t line) ∷ more
+
+      held : holder (past ++ group) t ≡ holder past t
+      held = ap (λ (x : List Entry). holder x t) (sym (append_assoc past (entry n (Ask c job t line) ∷ []) more))
+          ∙ holder_apart (past ++ entry n (Ask c job t line) ∷ []) more t none ∙ holder_append past (entry n (Ask c job t line) ∷ []) t
+
+      jobs : each_of (job_for t) group ≡ (c, job) ∷ []
+      jobs = rw (same t, no_jobs_in t more none) refl
+
+      shut : has_open_job (past ++ group) t ≡ false
+      shut = ap (list_any (λ q. is_open (past ++ group) q.0 q.1)) (each_of-append (job_for t) past group ∙ ap (λ (x : List (ℕ × ℕ)). each_of (job_for t) past ++ x) jobs)
+          ∙ list_any-append (λ (q : ℕ × ℕ). is_open (past ++ group) q.0 q.1) (each_of (job_for t) past) ((c, job) ∷ [])
+          ∙ neither (list_any (λ q. is_open (past ++ group) q.0 q.1) (each_of (job_for t) past)) (is_open (past ++ group) c job || false)
+          (closed_all past group (each_of (job_for t) past) (all_asked t past) at.shut)
+          (rw (settled_closed (past ++ group) c job (verdict_settles (past ++ group) c job v settled)) refl)
+
+  lost_at : (past : List Entry) (c : ℕ) (q : HostMessage) → AtTask o n t past → Legal o (past ++ entry n (Lost c t) ∷ []) → AsksNow o n t past (past ++ entry n (Lost c t) ∷ []) q (lost_as (why_of past c))
+  lost_at past c q at legal = record {
+    at = record {
+      legal = legal;
+      held = ap (is_held_by n) (holder_append past (entry n (Lost c t) ∷ []) t) ∙ at.held;
+      shut = jobs_stay_closed past (entry n (Lost c t) ∷ []) t refl at.shut;
+    };
+    asked = record {
+      request = None;
+      kept = lost_gone (why_of past c);
+      added = askings-lost past [] t n c at.shut refl
+          ∙ ap (λ (v : Verdict). askings past t ++ record { request = None; verdict = v } ∷ []) (lost_same (why_of past c));
+    };
+    noted = notings-unnoted past (entry n (Lost c t) ∷ []) t at.shut refl;
+  }
+
+  -- behind entries that make nothing of the task
+  asks_from : (old mid new : List Entry) (q : HostMessage) (v : Verdict) → SameTask o n t old mid → AsksNow o n t mid new q v → AsksNow o n t old new q v
+  asks_from old mid new q v s a = record {
+    at = a.at;
+    asked = record {
+      request = a.asked.request;
+      kept = a.asked.kept;
+      added = a.asked.added ∙ ap (λ (xs : List Asking). xs ++ record { request = a.asked.request; verdict = v } ∷ []) s.asked;
+    };
+    noted = a.noted ∙ s.noted;
+  }
+
+  pub asked : {a : Bool} {makes : What → Bool} {Known : ℕ → Type 0} {old new : List Entry} (c : ℕ) (q : HostMessage) (v : Verdict)
+      → ((w : What) → makes w ≡ true → is_of_task t w ≡ false) → AtTask o n t old → Legal o new → HasAsked o n a makes old new c t q Known v → AsksNow o n t old new q v
+  asked {makes = makes} {old = old} {new = new} c q v none at legal (inl s) =
+      let p : List Entry = s.asked.past in
+      let before : SameTask o n t old p = passed at (s.asked.legal at.legal) s.asked.passed in
+      let j : IsJob n c t q s.job p = s.asked.found.0 in
+      let e : Entry = entry n (Ask c s.job t (on_wire p c s.job (host_line q))) in
+      let mid_is : s.mid ≡ p ++ e ∷ [] = s.asked.is ∙ ap (λ (l : List ℕ). p ++ entry n (Ask c s.job t l) ∷ []) s.asked.found.1 in
+      let is : new ≡ p ++ e ∷ s.on.more = s.on.is ∙ ap (λ (x : List Entry). x ++ s.on.more) mid_is ∙ append_assoc p (e ∷ []) s.on.more in
+      let held : is_claimed_by (p ++ e ∷ []) n t ≡ true = ap (is_held_by n) (holder_append p (e ∷ []) t) ∙ before.at.held in
+      let whole : Legal o (p ++ e ∷ s.on.more) = subst (Legal o) is legal in
+      let un = apart makes none (p ++ e ∷ []) s.on.more (subst (Legal o) (sym (append_assoc p (e ∷ []) s.on.more)) whole) held s.on.own in
+      subst (λ (x : List Entry). AsksNow o n t old x q v) (sym is)
+      (asks_from old p (p ++ e ∷ s.on.more) q v before
+      (settled_at p s.on.more c s.job q v before.at j s.small un whole (subst (λ (x : List Entry). verdict_of x c s.job ≡ Some v) is s.settled)))
+  asked {old = old} {new = new} c q v none at legal (inr s) =
+      let p : List Entry = s.past in
+      let before : SameTask o n t old p = passed at (s.legal at.legal) s.passed in
+      subst (λ (x : List Entry). AsksNow o n t old x q v) (sym s.is)
+      (asks_from old p (p ++ entry n (Lost c t) ∷ []) q v before
+      (subst (λ (w : Verdict). AsksNow o n t p (p ++ entry n (Lost c t) ∷ []) q w) (sym s.found.1) (lost_at p c q before.at (subst (Legal o) s.is legal))))
+
+  -- ---- a note
+
+  pub noted : {a : Bool} {old new : List Entry} {reply : Reply} (chunk count : ℕ) → may_note (task_of o t) ≡ true → 0 < chunk → AtTask o n t old → Legal o new
+      → Made o n a old new (NoteEvent t chunk count) reply → (is_done reply ≡ true) × NotesNow o n t old new chunk count × Grows n a (by_noting t) old new
+  noted {a} {old} {new} {reply} chunk count may some at legal m =
+      let p : List Entry = m.past in
+      let e : Entry = entry n (Note t chunk count) in
+      let before : SameTask o n t old p = passed at (m.legal at.legal) m.passed in
+      let more : nat_lt 0 chunk ≡ true = grind (arith, nat_tests) in
+      let step : step_of o p n (NoteEvent t chunk count) ≡ append o p n (Note t chunk count) Done = rw (before.at.held, may, before.at.shut, more) refl in
+      let is : new ≡ p ++ e ∷ [] = m.is ∙ ap (λ (s : Step). p ++ s.group) step in
+      let there : Appended o n a old new (Note t chunk count) (λ past. Unit {0}) = record { past = p; passed = m.passed; legal = m.legal; found = tt; is = is } in
+      let done : reply ≡ Done = m.reply_is ∙ ap (λ (s : Step). s.reply) step in (
+        ap is_done done,
+        subst (λ (x : List Entry). NotesNow o n t old x chunk count) (sym is) record {
+          at = record {
+            legal = subst (Legal o) is legal;
+            held = ap (is_held_by n) (holder_append p (e ∷ []) t) ∙ before.at.held;
+            shut = jobs_stay_closed p (e ∷ []) t refl before.at.shut;
+          };
+          asked = askings-unasked p (e ∷ []) t before.at.shut refl ∙ before.asked;
+          noted = notings-note p t n chunk count before.at.shut
+              ∙ ap (λ (xs : List Noting). xs ++ record { chunk = chunk; count = count; behind = length (askings p t) } ∷ []) before.noted
+              ∙ ap (λ (xs : List Asking). notings old t ++ record { chunk = chunk; count = count; behind = length xs } ∷ []) before.asked;
+        },
+        moved_by there (rw (same t) refl) (λ none u. u),
+      )

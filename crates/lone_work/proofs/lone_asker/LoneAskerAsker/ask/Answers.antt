@@ -1,0 +1,36 @@
+use Rattle.std.proofs.Common.{ℕ, sym, subst, refl}
+use Rattle.talk_serial.specs.Requests.{message_of}
+use Rattle.lone_work.specs.Servings.{Serves}
+use Rattle.lone_work.specs.AtTasks.{AtTask}
+use Rattle.lone_work.proofs.Knowing.{known_asked}
+use Rattle.lone_work.proofs.Serving.{may_later, serves_asked}
+use Rattle.lone_work.proofs.lone_asker.LoneAskerAsker.ask.Goals as goal
+
+pub ask_by_link-requires-clause-may : goal.ask_by_link-requires-clause-may
+ask_by_link-requires-clause-may g c = λ lone.
+    (let s = c.args.self.now in
+    may_later (g.D.Door.opening s.door.now) (g.D.Door.number s.door.now) s.link.now.ear.child c.args.number (g.D.Door.alone s.door.now) (g.D.Door.seen s.door.now) (message_of c.args.request.now)
+    (subst (λ (k : ℕ). Serves (g.D.Door.opening s.door.now) (g.D.Door.number s.door.now) (g.D.Door.alone s.door.now) s.link.now.ear.child k (g.D.Door.seen s.door.now)) (sym c.requires.task) c.requires.ready)
+    c.requires.turn c.requires.fields c.requires.file c.file_of-file.ensures lone)
+
+pub returns-clause-layouts : goal.returns-clause-layouts
+returns-clause-layouts g c =
+    let s = c.args.self.now in
+    let o = g.D.Door.opening s.door.now in
+    let n = g.D.Door.number s.door.now in
+    let seen = g.D.Door.seen s.door.now in
+    known_asked o (g.D.Door.opening c.ask_by_link.new.door) n c.args.number s.task c.ask_by_link.ensures.door.opening c.requires.task
+    (subst (λ (k : ℕ). AtTask o n k seen) (sym c.requires.task) c.requires.ready.at) c.ask_by_link.ensures.moved (message_of c.args.request.now) c.ask_by_link.result c.ask_by_link.ensures.asked
+
+pub returns-clause-on : goal.returns-clause-on
+returns-clause-on g c =
+    let s = c.args.self.now in
+    record {
+      door = c.ask_by_link.ensures.door;
+      link = c.ask_by_link.ensures.same;
+      task = refl;
+      on = serves_asked (g.D.Door.opening s.door.now) (g.D.Door.number s.door.now) c.args.number s.task (g.D.Door.alone s.door.now) (g.D.Door.seen s.door.now) (g.D.Door.seen c.ask_by_link.new.door) c.requires.task
+          s.link.now.ear.child (message_of c.args.request.now) c.ask_by_link.result
+          (subst (λ (k : ℕ). Serves (g.D.Door.opening s.door.now) (g.D.Door.number s.door.now) (g.D.Door.alone s.door.now) s.link.now.ear.child k (g.D.Door.seen s.door.now)) (sym c.requires.task) c.requires.ready)
+          c.ask_by_link.ensures.asked c.ask_by_link.ensures.turn c.ask_by_link.ensures.moved;
+    }

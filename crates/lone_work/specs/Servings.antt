@@ -1,0 +1,56 @@
+-- How a number stands that serves a task over a child, and what serving makes.
+use Rattle.std.specs.Prelude.{ℕ, ◌≡◌, ◌==◌, ◌&&◌, Bool, true, List, []}
+use Rattle.std.specs.Str.{is_utf8}
+use Rattle.annex_model.specs.Messages.{HostMessage, Transfer}
+use Rattle.journal_model.specs.declared.entry.What.{What}
+use Rattle.journal_model.specs.declared.entry.What.TheVariants.{Ask, Lost, Note}
+use Rattle.journal_model.specs.declared.entry.Entry.{Entry}
+use Rattle.journal_model.specs.declared.opening.Opening.{Opening}
+use Rattle.journal_model.specs.Journal.{is_started, open_jobs}
+use Rattle.journal_model.specs.Legality.{is_prepared, is_busy_with}
+use Rattle.journal_model.specs.Shares.{Moved, by_link, is_of_child}
+use Rattle.journal_model.specs.Halves.{EarValue, MouthValue}
+use Rattle.link_roles.specs.Writings.{LoneWired}
+use Rattle.link_roles.specs.Doors.{IsSameDoor}
+use Rattle.link_roles.specs.Moves.{IsSameLink}
+use Rattle.lone_work.specs.AtTasks.{AtTask}
+use Rattle.lone_work.specs.KnownLayouts.{IsBook}
+
+-- task t is the child's, which is prepared and has no open job
+pub record HasTurn (seen : List Entry) (c t : ℕ) : Type 0 where
+  pub prepared : is_prepared seen c ≡ true
+  pub busy : is_busy_with seen c t ≡ true
+  pub idle : open_jobs seen c ≡ []
+
+-- the number holds task t, no job of which is open, over a child that was started, in a run that began with a book; where nobody
+-- else steps the core, it is the child's turn
+pub record Serves (o : Opening) (number : ℕ) (alone : Bool) (c t : ℕ) (seen : List Entry) : Type 0 where
+  pub at : AtTask o number t seen
+  pub started : is_started seen c ≡ true
+  pub book : IsBook o.notes
+  pub turn : alone ≡ true → HasTurn seen c t
+
+-- requests for t over c, which may be lost, notes of t, and what c's link does
+abbrev pub by_server : ℕ → ℕ → What → Bool
+by_server c t (Ask child job task line) = child == c && task == t
+by_server c t (Lost child task) = child == c && task == t
+by_server c t (Note task chunk count) = task == t
+by_server c t w = by_link c w
+
+-- it serves the task still, and made nothing else
+pub record ServesOn (o : Opening) (number : ℕ) (alone : Bool) (c t : ℕ) (old new : List Entry) (Before After : Type 0) : Type 0 where
+  pub serves : Serves o number alone c t new
+  pub moved : Moved number alone (by_server c t) (is_of_child c) old new Before After
+
+-- the file that the message names, if it names one, is named by text
+abbrev pub names_text : HostMessage → Bool
+names_text (Transfer store key file) = is_utf8 file
+names_text q = true
+
+-- what an asker over a link and a door made of both: they are the same, and it serves the same task still
+pub record AskerGoes {D H : Type 0} (opening_of : D → Opening) (number_of : D → ℕ) (seen_of : D → List Entry) (alone_of : D → Bool) (loans_of : D → List ℕ) (home_of : D → H)
+    (old new : D) (ear ear' : EarValue) (mouth mouth' : MouthValue) (t u : ℕ) : Type 0 where
+  pub door : IsSameDoor opening_of number_of seen_of alone_of loans_of home_of old new
+  pub link : IsSameLink ear ear' mouth mouth'
+  pub task : u ≡ t
+  pub on : ServesOn (opening_of old) (number_of old) (alone_of old) ear.child t (seen_of old) (seen_of new) (LoneWired (seen_of old) ear mouth) (LoneWired (seen_of new) ear' mouth')

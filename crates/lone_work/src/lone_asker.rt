@@ -1,0 +1,77 @@
+// The asker of one task that has its child's link for itself.
+ghost use Rattle.std.specs.Prelude.{◌≡◌, ◌∷◌, [], true};
+ghost use Rattle.talk_serial.specs.Requests.{message_of};
+ghost use Rattle.lone_work.specs.Servings.{names_text};
+
+use crate::links::ask_by_link;
+use crate::notes;
+use ann_key::NoMemory;
+use ann_outside::{Sink, Source};
+use chunk_log::Layouts;
+use journal_model::Verdict;
+use link_roles::{Door, Lone};
+use std::alloc::Global;
+use talk_serial::Request;
+use task_run::Asker;
+
+// The name of the request's file, if it has one. It is text, as what the core may ask is.
+fn file_of(request: &Request) -> Option<&str>
+    ensures { names_text (message_of request.now) ≡ true }
+{
+    match request {
+        Request::Transfer { file, .. } => Some(file.view()),
+        _ => None,
+    }
+}
+
+/// Asks for one task over a link to its child.
+#[derive(Drop)]
+pub struct LoneAsker<'l, 'd, I: Sink, O: Source, D: Door> {
+    pub link: &'l mut Lone<I, O>,
+    pub door: &'d mut D,
+    pub task: u32,
+}
+
+impl<'l, 'd, I: Sink, O: Source, D: Door> Asker for LoneAsker<'l, 'd, I, O, D> {
+    ghost use Rattle.journal_model.specs.Legality.{may_note as can_note, task_of};
+    ghost use Rattle.task_run.specs.Askings.{askings};
+    ghost use Rattle.lone_work.specs.AtTasks.{notings};
+    ghost use Rattle.lone_work.specs.KnownLayouts.{known_layouts};
+    ghost use Rattle.lone_work.specs.Servings.{Serves, AskerGoes};
+    ghost use Rattle.lone_work.specs.ServingLaws.{goes_still, goes_ready, goes_behind};
+
+    ghost pairs = { λ s. askings (D.seen s.door.now) s.task };
+
+    ghost notes = { λ s. notings (D.seen s.door.now) s.task };
+
+    ghost task = { λ s. s.task };
+
+    ghost may_note = { λ s. can_note (task_of (D.opening s.door.now) s.task) };
+
+    ghost current = { λ s. known_layouts (D.opening s.door.now) (D.seen s.door.now) s.task };
+
+    ghost loans = { λ s. s.link.ghost_name ∷ s.door.ghost_name ∷ D.loans s.door.now };
+
+    ghost ready = { λ s. Serves (D.opening s.door.now) (D.number s.door.now) (D.alone s.door.now) s.link.now.ear.child s.task (D.seen s.door.now) };
+
+    ghost goes_on = { λ a b. AskerGoes D.opening D.number D.seen D.alone D.loans D.home a.door.now b.door.now a.link.now.ear b.link.now.ear a.link.now.mouth b.link.now.mouth a.task b.task };
+
+    ghost stays = { λ a h. goes_still D.opening D.number D.seen D.alone D.loans D.home a.door.now a.link.now.ear a.link.now.mouth a.task h };
+
+    ghost is_ready = { λ a b s. goes_ready D.opening D.number D.seen D.alone D.loans D.home a.door.now b.door.now a.link.now.ear b.link.now.ear a.link.now.mouth b.link.now.mouth a.task b.task s };
+
+    ghost goes_both = { λ a b d s r. goes_behind D.opening D.number D.seen D.alone D.loans D.home a.door.now b.door.now a.link.now.ear b.link.now.ear a.link.now.mouth b.link.now.mouth a.task b.task d.door.now d.link.now.ear d.link.now.mouth d.task s r };
+
+    fn ask(&mut self, alloc: Global, number: u32, request: &Request) -> Result<Verdict, NoMemory> {
+        let _file = file_of(request);
+        ask_by_link(self.link, self.door, number, request)
+    }
+
+    fn layouts(&mut self, alloc: Global, number: u32) -> Result<Layouts, NoMemory> {
+        notes::layouts(self.door, alloc, number)
+    }
+
+    fn note(&mut self, number: u32, chunk: u64, count: u64) -> Result<(), NoMemory> {
+        notes::note(self.door, number, chunk, count)
+    }
+}

@@ -1,0 +1,74 @@
+// Noting what chunks the remote has, and asking what was noted.
+ghost use Rattle.std.specs.Prelude.{◌≡◌, ◌<◌, true, IfOk, OnErr};
+ghost use Rattle.host_core.specs.declared.event.Event.TheVariants.{Note};
+ghost use Rattle.journal_model.specs.Legality.{may_note, task_of};
+ghost use Rattle.task_run.specs.Askers.{are_layouts};
+ghost use Rattle.link_roles.specs.Doors.{IsSameDoor, Passed};
+ghost use Rattle.link_roles.specs.Asks.{Grows, never};
+ghost use Rattle.lone_work.specs.AtTasks.{AtTask, NotesNow, NotedFor, SameTask};
+ghost use Rattle.lone_work.specs.KnownLayouts.{IsBook, known_in, known_layouts};
+ghost use Rattle.lone_work.specs.Noting.{is_done, by_noting};
+
+use ann_key::NoMemory;
+use chunk_log::Layouts;
+use host_core::{Event, Reply};
+use link_roles::Door;
+use std::alloc::Global;
+
+fn is_done(reply: Reply) -> bool
+    ensures { result ≡ is_done reply }
+{
+    match reply {
+        Reply::Done => true,
+        _ => false,
+    }
+}
+
+/// Notes that the remote has so many chunks of that size of the task's content. The door's number holds the task, which stores
+/// or drops.
+pub fn note<D: Door>(door: &mut D, task: u32, chunk: u64, count: u64) -> Result<(), NoMemory>
+    requires at { AtTask (D.opening door.old) (D.number door.old) task (D.seen door.old) }
+    requires may { may_note (task_of (D.opening door.old) task) ≡ true }
+    requires chunk { 0 < chunk }
+    ensures noted { NotedFor (D.opening door.old) (D.number door.old) task (D.seen door.old) (D.seen door.new) chunk count result }
+    ensures grows { Grows (D.number door.old) (D.alone door.old) (by_noting task) (D.seen door.old) (D.seen door.new) }
+    ensures door { IsSameDoor D.opening D.number D.seen D.alone D.loans D.home door.old door.new }
+{
+    match door.step(Event::Note { task, chunk, count }) {
+        Ok(reply) => {
+            if is_done(reply) {
+                Ok(())
+            } else {
+                unreachable!()
+            }
+        }
+        Err(NoMemory) => Err(NoMemory),
+    }
+}
+
+// The layouts that a reply tells, or none.
+fn layouts_in(alloc: Global, reply: Reply) -> Layouts
+    ensures { result ≡ known_in reply }
+{
+    match reply {
+        Reply::Layouts(layouts) => layouts,
+        _ => Layouts::new(alloc),
+    }
+}
+
+/// The layouts in which the remote is known to have the task's key, by all notes so far. The door's number holds the task. None
+/// of their chunks is empty, in a run that began with a book.
+pub fn layouts<D: Door>(door: &mut D, alloc: Global, task: u32) -> Result<Layouts, NoMemory>
+    requires at { AtTask (D.opening door.old) (D.number door.old) task (D.seen door.old) }
+    ensures known { IfOk result (λ layouts. layouts ≡ known_layouts (D.opening door.old) (D.seen door.old) task) }
+    ensures sizes { IsBook (D.opening door.old).notes → are_layouts (known_layouts (D.opening door.old) (D.seen door.old) task) ≡ true }
+    ensures stays { known_layouts (D.opening door.old) (D.seen door.new) task ≡ known_layouts (D.opening door.old) (D.seen door.old) task }
+    ensures same { SameTask (D.opening door.old) (D.number door.old) task (D.seen door.old) (D.seen door.new) }
+    ensures grows { Grows (D.number door.old) (D.alone door.old) never (D.seen door.old) (D.seen door.new) }
+    ensures door { IsSameDoor D.opening D.number D.seen D.alone D.loans D.home door.old door.new }
+{
+    match door.step(Event::Layouts { task }) {
+        Ok(reply) => Ok(layouts_in(alloc, reply)),
+        Err(error) => Err(error),
+    }
+}

@@ -1,5 +1,0 @@
-use Rattle.task_rounds.proofs.Lasting.{run_lasts}
-use Rattle.task_rounds.proofs.laws.runs_last.Goals as goal
-
-pub returns : goal.returns
-returns c = λ o setup calls n t past more none shut r. run_lasts o setup calls n t past more none shut r

@@ -1,2 +1,0 @@
-pub mod JournalRuns
-pub mod Laws
