@@ -63,15 +63,16 @@ impl<R: Remote> Noted<R> {
         remote
     }
 
-    // Keeps a call.
-    fn note(&mut self, asked: Asked, said: &Said) -> Result<(), NoMemory>
-        ensures ok { OnOk result (self.new.calls ≡ self.old.calls ++ record { asked = asked; said = said.now } ∷ []) }
+    // Keeps a call, and hands back what came of it.
+    fn keep(&mut self, asked: Asked, said: Said) -> Result<Said, NoMemory>
+        ensures ok { OnOk result (self.new.calls ≡ self.old.calls ++ record { asked = asked; said = said } ∷ []) }
         ensures err { OnErr result (self.new.calls ≡ self.old.calls) }
+        ensures said { IfOk result (λ s. s ≡ said) }
         ensures remote { self.new.remote ≡ self.old.remote }
     {
-        let said = said.copy(self.alloc)?;
-        self.calls.push(Call { asked, said })?;
-        Ok(())
+        let copy = said.copy(self.alloc)?;
+        self.calls.push(Call { asked, said: copy })?;
+        Ok(said)
     }
 }
 
@@ -93,8 +94,7 @@ impl<R: Remote> Remote for Noted<R> {
     {
         let asked = Asked::Prepare(values.copy(self.alloc)?);
         let said = self.remote.prepare(values)?;
-        self.note(asked, &said)?;
-        Ok(said)
+        self.keep(asked, said)
     }
 
     fn store(&mut self, key: KeyRef<'_>, file: &str) -> Result<Said, NoMemory>
@@ -105,10 +105,10 @@ impl<R: Remote> Remote for Noted<R> {
         ensures text { IfOk result (λ said. IsTrue (is_line_said said)) }
         ensures passed { OnOk result (R.calls self.new.remote ≡ called (R.calls self.old.remote) (Store (text_of key.entry) file.now) result) }
     {
-        let asked = Asked::Store(Key::copy(self.alloc, key)?, Text::copy(self.alloc, file)?);
+        let (key_copy, file_copy) = both(self.alloc, key, file)?;
+        let asked = Asked::Store(key_copy, file_copy);
         let said = self.remote.store(key, file)?;
-        self.note(asked, &said)?;
-        Ok(said)
+        self.keep(asked, said)
     }
 
     fn retrieve(&mut self, key: KeyRef<'_>, file: &str) -> Result<Said, NoMemory>
@@ -119,10 +119,10 @@ impl<R: Remote> Remote for Noted<R> {
         ensures text { IfOk result (λ said. IsTrue (is_line_said said)) }
         ensures passed { OnOk result (R.calls self.new.remote ≡ called (R.calls self.old.remote) (Retrieve (text_of key.entry) file.now) result) }
     {
-        let asked = Asked::Retrieve(Key::copy(self.alloc, key)?, Text::copy(self.alloc, file)?);
+        let (key_copy, file_copy) = both(self.alloc, key, file)?;
+        let asked = Asked::Retrieve(key_copy, file_copy);
         let said = self.remote.retrieve(key, file)?;
-        self.note(asked, &said)?;
-        Ok(said)
+        self.keep(asked, said)
     }
 
     fn check(&mut self, key: KeyRef<'_>) -> Result<Said, NoMemory>
@@ -134,8 +134,7 @@ impl<R: Remote> Remote for Noted<R> {
     {
         let asked = Asked::Check(Key::copy(self.alloc, key)?);
         let said = self.remote.check(key)?;
-        self.note(asked, &said)?;
-        Ok(said)
+        self.keep(asked, said)
     }
 
     fn remove(&mut self, key: KeyRef<'_>) -> Result<Said, NoMemory>
@@ -147,7 +146,15 @@ impl<R: Remote> Remote for Noted<R> {
     {
         let asked = Asked::Remove(Key::copy(self.alloc, key)?);
         let said = self.remote.remove(key)?;
-        self.note(asked, &said)?;
-        Ok(said)
+        self.keep(asked, said)
     }
+}
+
+// Copies of a transfer's key and file.
+fn both(alloc: Global, key: KeyRef<'_>, file: &str) -> Result<(Key, Text), NoMemory>
+    ensures { IfOk result (λ b. (b.0 ≡ text_of key.entry) × (b.1 ≡ file.now)) }
+{
+    let key = Key::copy(alloc, key)?;
+    let file = Text::copy(alloc, file)?;
+    Ok((key, file))
 }

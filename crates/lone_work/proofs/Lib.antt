@@ -1,4 +1,4 @@
-pub mod Notes
+pub mod TaskNotes
 pub mod Claiming
 pub mod Running
 pub mod Working

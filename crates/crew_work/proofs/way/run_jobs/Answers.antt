@@ -1,4 +1,4 @@
-use Rattle.lone_work.proofs.Notes.{notes_as_its_work}
+use Rattle.lone_work.proofs.TaskNotes.{notes_as_its_work}
 use Rattle.crew_work.proofs.way.run_jobs.Goals as goal
 
 pub run_task-requires-clause-notes : goal.run_task-requires-clause-notes
