@@ -1,5 +1,5 @@
 // Makes the journal again, by a core of its own.
-ghost use Rattle.std.specs.Prelude.{ℕ, ◌≡◌, ◌↔◌, ◌<◌, ◌^◌, List, Some, length, slice_get, IfOk, OnOk, IsTrue};
+ghost use Rattle.std.specs.Prelude.{ℕ, ◌≡◌, ◌↔◌, ◌<◌, ◌^◌, List, [], Some, None, Ok, length, slice_get, IfOk, IfSome, OnOk, IsTrue};
 ghost use Rattle.journal_model.specs.Beginnings.{MayBegin};
 ghost use Rattle.journal_model.specs.declared.entry.Entry.{Entry};
 ghost use Rattle.journal_look.specs.Shown.{entry_shown};
@@ -67,6 +67,33 @@ fn found_at_end(opening: &Opening, core: &Core, journal: &Journal) -> Audit
     }
 }
 
+/// Makes the journal again, entry by entry, by a core that has made nothing. What is found of the first entry that may not stand, if
+/// there is one.
+fn first_wrong(
+    alloc: Global,
+    opening: &Opening,
+    core: &mut Core,
+    journal: &Journal,
+) -> Result<Option<Audit>, NoMemory>
+    requires opening { core.old.opening ≡ opening.now }
+    requires fresh { core.old.journal ≡ [] }
+    ensures wrong { IfOk result (λ found. IfSome found (IsAudit opening.now journal.now.entries)) }
+    ensures whole { result ≡ Ok None → IsReplayed opening.now journal.now.entries core.new.journal }
+{
+    for at in 0..journal.len() {
+        let Some(entry) = journal.entry(at) else {
+            unreachable!()
+        };
+        if !may_stand(alloc, core, at, entry)? {
+            return Ok(Some(Audit::Wrong {
+                entry: at,
+                kind: kind::kind_of(entry.what),
+            }));
+        }
+    }
+    Ok(None)
+}
+
 /// What is found of the journal of a run that began so. It does the run again: a core is told each entry, and has to append the
 /// same. It takes memory for a copy of the opening and of the journal.
 pub fn audit(alloc: Global, opening: &Opening, journal: &Journal) -> Result<Audit, NoMemory>
@@ -74,16 +101,8 @@ pub fn audit(alloc: Global, opening: &Opening, journal: &Journal) -> Result<Audi
     ensures audit { IfOk result (IsAudit opening.now journal.now.entries) }
 {
     let mut core = Core::new(alloc, opening.copy(alloc)?)?;
-    for at in 0..journal.len() {
-        let Some(entry) = journal.entry(at) else {
-            unreachable!()
-        };
-        if !may_stand(alloc, &mut core, at, entry)? {
-            return Ok(Audit::Wrong {
-                entry: at,
-                kind: kind::kind_of(entry.what),
-            });
-        }
+    match first_wrong(alloc, opening, &mut core, journal)? {
+        Some(found) => Ok(found),
+        None => Ok(found_at_end(opening, &core, journal)),
     }
-    Ok(found_at_end(opening, &core, journal))
 }

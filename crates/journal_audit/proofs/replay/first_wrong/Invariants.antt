@@ -1,6 +1,6 @@
 use Rattle.std.proofs.Common.{◌≡◌, take}
 use Rattle.journal_audit.specs.Replays.{IsReplayed}
-use Rattle.journal_audit.proofs.replay.audit.Given as goal
+use Rattle.journal_audit.proofs.replay.first_wrong.Given as goal
 
 abbrev pub invariant-loop-at : goal.invariant-loop-at
 invariant-loop-at l = record {

@@ -2,18 +2,14 @@ use Rattle.std.proofs.Common.{◌∙◌, ◌<◌, List, length, refl, true, fals
 use Rattle.journal_model.specs.declared.entry.Entry.{Entry}
 use Rattle.journal_look.specs.Shown.{entry_shown}
 use Rattle.journal_audit.proofs.Auditing.{next_here, wrong_here, replayed_more, replayed_whole, read_there, some_there}
-use Rattle.journal_audit.proofs.replay.audit.Goals as goal
+use Rattle.journal_audit.proofs.replay.first_wrong.Goals as goal
 
 pub unreachable-requires : goal.unreachable-requires
 unreachable-requires c =
     some_there c.args.journal.now.entries c.loop-at.at (omega (arith, c.loop-at-test.true, c.len-at-end.ensures)) c.in_default.ensures
 
-pub found_at_end-requires : goal.found_at_end-requires
-found_at_end-requires c =
-    replayed_whole c.args.opening.now c.args.journal.now.entries c.loop-at.core.journal c.loop-at.at (omega (arith, c.loop-at-test.false, c.len-at-end.ensures)) c.loop-at.invariant.replayed
-
-pub returns-then-not-branch : goal.returns-then-not-branch
-returns-then-not-branch c =
+pub returns-then-not-branch-clause-wrong : goal.returns-then-not-branch-clause-wrong
+returns-then-not-branch-clause-wrong c =
     let items : List Entry = c.args.journal.now.entries in
     let less : c.loop-at.at < length items = omega (arith, c.loop-at-test.true, c.len-at-end.ensures) in
     let made = c.may_stand.new.core.journal in
@@ -21,9 +17,7 @@ returns-then-not-branch c =
     let is = read_there items c.loop-at.at e c.in-Some.ensures in
     let next = next_here c.args.opening.now c.loop-at.core.opening items c.loop-at.core.journal made c.loop-at.at e c.in_ok-may_stand.field-0 false
     c.loop-at.invariant.opening less c.loop-at.invariant.replayed c.in_ok-may_stand.ensures.next c.if-not-branch.true in
-    record {
-      audit = wrong_here c.args.opening.now items items made c.loop-at.at c.kind_of.result e refl less is c.loop-at.invariant.replayed.stands next c.kind_of.ensures;
-    }
+    wrong_here c.args.opening.now items items made c.loop-at.at c.kind_of.result e refl less is c.loop-at.invariant.replayed.stands next c.kind_of.ensures
 
 pub loop-at-preserved : goal.loop-at-preserved
 loop-at-preserved c =
@@ -38,3 +32,7 @@ loop-at-preserved c =
       opening = c.may_stand.ensures.opening ∙ c.loop-at.invariant.opening;
       replayed = replayed_more c.args.opening.now items made c.loop-at.at e less is next;
     }
+
+pub returns-clause-whole : goal.returns-clause-whole
+returns-clause-whole c none =
+    replayed_whole c.args.opening.now c.args.journal.now.entries c.loop-at.core.journal c.loop-at.at (omega (arith, c.loop-at-test.false, c.len-at-end.ensures)) c.loop-at.invariant.replayed
