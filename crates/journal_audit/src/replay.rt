@@ -94,15 +94,38 @@ fn first_wrong(
     Ok(None)
 }
 
+/// What is found by a core that has made nothing. It makes the journal again.
+fn found_by(
+    alloc: Global,
+    opening: &Opening,
+    core: &mut Core,
+    journal: &Journal,
+) -> Result<Audit, NoMemory>
+    requires opening { core.old.opening ≡ opening.now }
+    requires fresh { core.old.journal ≡ [] }
+    ensures { IfOk result (IsAudit opening.now journal.now.entries) }
+{
+    match first_wrong(alloc, opening, core, journal)? {
+        Some(found) => Ok(found),
+        None => Ok(found_at_end(opening, core, journal)),
+    }
+}
+
+/// A core that has made nothing.
+fn fresh_core(alloc: Global, opening: &Opening) -> Result<Core, NoMemory>
+    requires { MayBegin opening.now }
+    ensures { IfOk result (λ core. (core.opening ≡ opening.now) × (core.journal ≡ [])) }
+{
+    let opening = opening.copy(alloc)?;
+    Core::new(alloc, opening)
+}
+
 /// What is found of the journal of a run that began so. It does the run again: a core is told each entry, and has to append the
 /// same. It takes memory for a copy of the opening and of the journal.
 pub fn audit(alloc: Global, opening: &Opening, journal: &Journal) -> Result<Audit, NoMemory>
     requires { MayBegin opening.now }
     ensures audit { IfOk result (IsAudit opening.now journal.now.entries) }
 {
-    let mut core = Core::new(alloc, opening.copy(alloc)?)?;
-    match first_wrong(alloc, opening, &mut core, journal)? {
-        Some(found) => Ok(found),
-        None => Ok(found_at_end(opening, &core, journal)),
-    }
+    let mut core = fresh_core(alloc, opening)?;
+    found_by(alloc, opening, &mut core, journal)
 }
