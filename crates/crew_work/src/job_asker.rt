@@ -9,10 +9,10 @@ ghost use Rattle.crew_work.specs.Jobs.{by_jobs};
 
 use ann_key::NoMemory;
 use chunk_log::Layouts;
-use lone_work::{layouts, note};
 use journal_model::Verdict;
 use link_crew::ask_job;
 use link_roles::Door;
+use lone_work::{layouts, note};
 use std::alloc::Global;
 use std::sync::Wait;
 use talk_serial::Request;

@@ -7,10 +7,12 @@ ghost use Rattle.journal_look.specs.Holds.{held_of};
 ghost use Rattle.journal_look.specs.Marks.{AreClaimed};
 
 use crate::held::{self, Held};
-use crate::journal::Journal;
 use crate::jobs;
+use crate::journal::Journal;
 use journal_model::{Entry, Holder, Opening};
-use journal_scan::claims::{has_busy, has_open, holder, is_busy, is_claimed, is_held_by, is_held_for};
+use journal_scan::claims::{
+    has_busy, has_open, holder, is_busy, is_claimed, is_held_by, is_held_for,
+};
 use journal_scan::conflicts::both_conflict;
 
 /// How many tasks there are.

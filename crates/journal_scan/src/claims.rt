@@ -121,4 +121,3 @@ pub fn has_busy(entries: &[Entry], child: u32) -> bool
         .filter_map(|e| claimed_for(&e.what, child))
         .any(|task| is_busy_with(entries, child, task))
 }
-

@@ -79,4 +79,3 @@ fn changes_content(work: Work) -> bool
 {
     matches!(work, Work::Store | Work::Drop)
 }
-

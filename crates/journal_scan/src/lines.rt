@@ -138,11 +138,7 @@ pub fn by_tag(line: &[u8]) -> (Option<u64>, &[u8])
 }
 
 /// The job that the line is for, and its text without the tag.
-pub fn addressed<'a>(
-    entries: &[Entry],
-    child: u32,
-    line: &'a [u8],
-) -> (Option<u64>, &'a [u8])
+pub fn addressed<'a>(entries: &[Entry], child: u32, line: &'a [u8]) -> (Option<u64>, &'a [u8])
     ensures { (result.0, result.1.now) ≡ addressed entries.now child line.entry.now }
 {
     if is_tagged(entries, child) {

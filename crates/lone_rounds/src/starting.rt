@@ -18,10 +18,10 @@ use ann_key::NoMemory;
 use ann_outside::{Desk, Programs};
 use child_end::finish;
 use child_start::{Greeting, Mode, greet};
-use lone_work::know_book;
 use host_core::Core;
 use journal_model::{Answer, Verdict};
 use link_roles::Wire;
+use lone_work::know_book;
 use std::alloc::Global;
 use task_text::Task;
 

@@ -14,10 +14,10 @@ ghost use Rattle.lone_work.specs.KnownLayouts.{known_layouts};
 ghost use Rattle.lone_work.specs.Servings.{Serves, ServesOn};
 ghost use Rattle.lone_work.specs.Works.{AreTasks, Begun, CanWork, Does, desk_tells};
 
+use crate::LoneAsker;
 use crate::events::give;
 use ann_key::NoMemory;
 use ann_outside::{Desk, Sink, Source};
-use crate::LoneAsker;
 use journal_model::Answer;
 use link_roles::{Door, Lone};
 use std::alloc::Global;
