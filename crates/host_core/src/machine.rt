@@ -1,8 +1,9 @@
-ghost use Rattle.std.specs.Prelude.{◌≡◌, ◌<◌, ◌^◌, ◌++◌, [], length, true, false, All, IfOk, IsOk, IsTrue, OnOk, OnErr};
+ghost use Rattle.std.specs.Prelude.{◌≡◌, ◌<◌, ◌≤◌, ◌*◌, ◌^◌, ◌++◌, [], length, true, false, All, IfOk, IsOk, IsTrue, OnOk, OnErr};
 ghost use Rattle.chunk_log.specs.NoteBooks.{in_order};
 ghost use Rattle.journal_model.specs.Beginnings.{MayBegin};
 ghost use Rattle.journal_model.specs.Journal.{is_tagged};
 ghost use Rattle.journal_model.specs.Legality.{Legal};
+ghost use Rattle.journal_model.specs.Limits.{most_tasks};
 ghost use Rattle.host_core.specs.Books.{notes_after};
 ghost use Rattle.host_core.specs.Mays.{IsMadeBy};
 ghost use Rattle.host_core.specs.Steps.{step_of, takes_no_memory, is_free, unclaimed, told, shut_by};
@@ -58,12 +59,8 @@ impl Core {
         ensures empty { IfOk result (λ c. c.journal ≡ []) }
         ensures shut { IfOk result (λ c. c.shut ≡ false) }
     {
-        let room = 2 * opening.tasks.view().len();
-        let mut journal = Journal::new(alloc);
-        journal.take_room(room)?;
-        let registers = opening.registers.copy()?;
+        let (journal, registers, notes) = begun(alloc, &opening)?;
         let _kept = opening.registers.wanted();
-        let notes = opening.notes.copy(alloc)?;
         let _in_order = opening.notes.line(0);
         Ok(Core {
             alloc,
@@ -185,4 +182,18 @@ impl Core {
     {
         (self.journal, self.registers, self.notes)
     }
+}
+
+// What a core begins with: a journal with room for what the tasks may come to, and copies of the opening's registers and notes.
+fn begun(alloc: Global, opening: &Opening) -> Result<(Journal, Registers, NoteBook), NoMemory>
+    requires { length opening.now.tasks ≤ most_tasks }
+    ensures journal { IfOk result (λ b. (b.0.entries ≡ []) × (b.0.room ≡ 2 * length opening.now.tasks)) }
+    ensures registers { IfOk result (λ b. b.1 ≡ opening.now.registers) }
+    ensures notes { IfOk result (λ b. b.2 ≡ opening.now.notes) }
+{
+    let mut journal = Journal::new(alloc);
+    journal.take_room(2 * opening.tasks.view().len())?;
+    let registers = opening.registers.copy()?;
+    let notes = opening.notes.copy(alloc)?;
+    Ok((journal, registers, notes))
 }
