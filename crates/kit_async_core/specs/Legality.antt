@@ -25,9 +25,9 @@ may_hear setup s = not s.over && not s.closed && not (list_any (holds_back setup
 abbrev pub is_idle : List Job → ℕ → Bool
 is_idle jobs remote = not (list_any (is_worked_by remote) jobs)
 
--- Any remote may take it up: nobody has, and no earlier request that is open names its key.
+-- Any remote may take it up: nobody has, nor was anyone called for it, and no earlier request that is open names its key.
 abbrev pub is_free : Setup → List Job → Job → Bool
-is_free setup jobs job = is_for_any setup job && is_none job.taken && is_first_of_key jobs job
+is_free setup jobs job = is_for_any setup job && is_none job.taken && job.calls == 0 && is_first_of_key jobs job
 
 -- an open job of that number is so
 abbrev pub some_job : (Job → Bool) → ℕ → List Job → Bool
@@ -100,6 +100,14 @@ pub record Legal (setup : Setup) (journal : List Entry) : Type 0 where
 -- no more can come of what was heard
 abbrev pub is_done : Setup → Standing → Bool
 is_done setup s = s.over || (s.closed && list_all (is_awaiting setup) s.jobs)
+
+-- no memory was found for a line that was due
+abbrev pub is_lack : Entry → Bool
+is_lack Lack = true
+is_lack entry = false
+
+abbrev pub is_finished : Setup → Standing → Bool
+is_finished setup s = is_done setup s && not (is_some_line s.unwritten)
 
 -- all that could be said is said and written
 pub record IsFinished (setup : Setup) (s : Standing) : Type 0 where
