@@ -11,8 +11,19 @@ use Rattle.kit_async_core.specs.declared.entry.Entry.TheVariants.{Heard, Take, C
 use Rattle.kit_async.specs.declared.lent.KitEntry.{KitEntry}
 use Rattle.kit_async.specs.declared.lent.KitEntry.TheVariants.{Heard as HeardShown, Take as TakeShown, Call as CallShown, Say as SayShown, Wrote as WroteShown, Close as CloseShown, Lack as LackShown, Stop as StopShown}
 use Rattle.kit_async_core.specs.Standings.{standing}
-use Rattle.kit_async_core.specs.Legality.{is_legal, IsEnd}
+use Rattle.kit_async_core.specs.Standings.{Standing}
+use Rattle.kit_async_core.specs.Legality.{is_legal, is_some_line, IsFinished}
 use Rattle.kit_async.specs.Roles.{heard_lines, Written, calls_of}
+
+-- ---- the end
+
+-- How it stands by why it stopped. Bad is a line that ended it, or one that was too long to be heard.
+abbrev pub IsEnd : Why → Setup → Standing → Type 0
+IsEnd Eof setup s = IsFinished setup s × (s.over ≡ false) × (s.closed ≡ true)
+IsEnd ReadFault setup s = IsFinished setup s × (s.over ≡ false) × (s.closed ≡ true)
+IsEnd Bad setup s = IsFinished setup s
+IsEnd WriteFault setup s = is_some_line s.unwritten ≡ true
+IsEnd Memory setup s = Unit {0}
 
 -- ---- the exit status
 

@@ -26,7 +26,7 @@ impl Model for Entries {
 
 impl Entries {
     /// No entries, and no room. It takes no memory.
-    pub(crate) fn new(alloc: Global) -> Entries
+    pub fn new(alloc: Global) -> Entries
         ensures { result ≡ record { entries = []; room = 0 } }
     {
         Entries {

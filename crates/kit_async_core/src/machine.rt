@@ -39,6 +39,23 @@ fn can_break(event: &Event) -> bool
     matches!(event, Event::Hear(_) | Event::Take | Event::Next)
 }
 
+// The bells of all passes, by their numbers: bell n % 64 is that of pass n.
+fn all_bells(setup: &Setup) -> u64 {
+    if setup.remotes < 61 {
+        (1 << (setup.remotes + 3)) - 2
+    } else {
+        u64::MAX
+    }
+}
+
+// The bells of those whom the event may concern: what was taken up or written concerns nobody else.
+fn bells_of(setup: &Setup, event: &Event) -> u64 {
+    match event {
+        Event::Take | Event::Next | Event::Wrote => 0,
+        Event::Hear(_) | Event::Called(_) | Event::Close | Event::Break => all_bells(setup),
+    }
+}
+
 // Whether a core is broken off, once the event came.
 fn broken_by(broken: bool, event: &Event) -> bool
     ensures { result ≡ (broken || is_break event.now) }
@@ -82,6 +99,8 @@ pub struct KitCore {
     setup: Setup,
     book: Book,
     broken: bool,
+    // of those whom the last event may concern
+    bells: u64,
 }
 
 impl Model for KitCore {
@@ -107,6 +126,7 @@ impl KitCore {
             setup,
             book,
             broken: false,
+            bells: 0,
         })
     }
 
@@ -115,6 +135,11 @@ impl KitCore {
         ensures { result ≡ length self.now.journal }
     {
         self.book.journal.view().len() as u64
+    }
+
+    /// The bells of the passes whom the last event may concern, a bit for each.
+    pub(crate) fn bells(&self) -> u64 {
+        self.bells
     }
 
     /// What didn't change, and its journal, which is legal. It takes no memory.
@@ -134,6 +159,7 @@ impl KitCore {
         ensures free { takes_no_memory event ≡ true → IsOk result }
         ensures broken { self.new.broken ≡ (self.old.broken || is_break event) }
     {
+        self.bells = bells_of(&self.setup, &event);
         if self.broken && can_break(&event) {
             return Ok(Reply::Broken);
         }

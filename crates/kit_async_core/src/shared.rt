@@ -37,8 +37,7 @@ impl Held for KitCore {
         self.len()
     }
 
-    // No role rests on this core yet. Whom an entry concerns is said once one does.
     fn bells(&self) -> u64 {
-        0
+        self.bells()
     }
 }
