@@ -191,7 +191,7 @@ called_apart : (setup : Setup) (s : Standing) (said : Said) (o : Option Job) →
 called_apart setup s said None a = a
 called_apart setup s said (Some job) a = apart_changed job.number (with_call (settles setup job said)) (λ j. refl) s.jobs a
 
-after_apart : (setup : Setup) (s : Standing) (e : Entry) → AreApart s.jobs → AreApart (after setup s e).jobs
+pub after_apart : (setup : Setup) (s : Standing) (e : Entry) → AreApart s.jobs → AreApart (after setup s e).jobs
 after_apart setup s (Heard line) a =
     heard_apart setup s (text_in s.tagged line) (hearing_of setup s.jobs s.tagged line) (λ n e. asks_new setup s.jobs s.tagged line n e) a
 after_apart setup s (Take job remote) a = apart_changed job (with_taken remote) (λ j. refl) s.jobs a

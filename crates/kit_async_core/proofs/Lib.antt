@@ -1,4 +1,6 @@
 pub mod Apart
+pub mod Askings
+pub mod Callers
 pub mod Calls
 pub mod Closings
 pub mod Dues
@@ -6,6 +8,7 @@ pub mod Fronts
 pub mod Hears
 pub mod KitHalls
 pub mod Lacking
+pub mod Lasting
 pub mod Listening
 pub mod Making
 pub mod Overs

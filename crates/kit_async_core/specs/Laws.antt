@@ -1,14 +1,20 @@
 -- What holds of every legal journal, and of every hall of a kit's core.
-use Rattle.std.specs.Prelude.{ℕ, ◌≡◌, ◌≤◌, All, drop, length, Bool, true, false, List, [], ◌∷◌, ◌++◌, slice_get, Option, Some, None}
+use Rattle.std.specs.Prelude.{ℕ, ◌≡◌, ◌≤◌, ◌+◌, All, drop, length, Bool, true, false, List, [], ◌∷◌, ◌++◌, slice_get, Option, Some, None}
 use Rattle.std.specs.List.{list_any}
+use Rattle.kit_core.specs.declared.call.Said.{Said}
+use Rattle.kit_core.specs.declared.call.Asked.{Asked}
+use Rattle.kit_core.specs.Calls.{is_line_said}
 use Rattle.hall.specs.Passes.{HasClosed, HasEntered, IsPassOf, seen_of}
 use Rattle.kit_async_core.specs.declared.setup.Setup.{Setup}
 use Rattle.kit_async_core.specs.declared.entry.Entry.{Entry}
 use Rattle.kit_async_core.specs.declared.entry.Entry.TheVariants.{Heard, Take, Call, Say, Wrote, Close, Lack}
 use Rattle.kit_async_core.specs.declared.event.Event.{Event}
+use Rattle.kit_async_core.specs.declared.event.Event.TheVariants.{Take as TakeUp, Called}
 use Rattle.kit_async_core.specs.Events.{IsMadeBy, MayStep, step_of}
+use Rattle.kit_async_core.specs.Callings.{IsAsked, calls_of}
 use Rattle.kit_async_core.specs.Legality.{is_legal, Legal, IsFinished}
 use Rattle.kit_async_core.specs.declared.event.Reply.{Reply}
+use Rattle.kit_async_core.specs.declared.event.Reply.TheVariants.{Work}
 use Rattle.kit_async_core.specs.Lines.{KitHall, KitPass, heard_lines, hears, count_wrotes, said_lines}
 use Rattle.kit_async_core.specs.Standings.{standing}
 
@@ -75,3 +81,17 @@ abbrev pub FinalIsHeard : Type 0
 FinalIsHeard =
     (h : KitHall) (passes : List KitPass) (final : List Entry) (fixed : Setup) (i : ℕ) (p : KitPass) → HasClosed IsMadeBy MayStep h passes final fixed
     → slice_get passes i ≡ Some p → IsPassOf h p → p.number ≡ 1 → heard_lines final ≡ heard_lines (seen_of p)
+
+-- a remote that is told to work is to be called for that
+abbrev pub RemotesAreAsked : Type 0
+RemotesAreAsked =
+    (h : KitHall) (before after : KitPass) (remote : ℕ) (asked : Asked) → before.number ≡ remote + 3 → Legal h.fixed (seen_of before)
+    → HasEntered IsMadeBy MayStep h before after TakeUp (Work asked)
+    → IsAsked h.fixed (standing h.fixed (seen_of after)) remote asked × (calls_of h.fixed remote (seen_of after) ≡ calls_of h.fixed remote (seen_of before))
+
+-- and whatever others did since, what it says to that is noted as its next call
+abbrev pub CallsAreNoted : Type 0
+CallsAreNoted =
+    (h : KitHall) (before after : KitPass) (remote : ℕ) (said : Said) (asked : Asked) (reply : Reply) → before.number ≡ remote + 3 → Legal h.fixed (seen_of before)
+    → IsAsked h.fixed (standing h.fixed (seen_of before)) remote asked → is_line_said said ≡ true → HasEntered IsMadeBy MayStep h before after (Called said) reply
+    → calls_of h.fixed remote (seen_of after) ≡ calls_of h.fixed remote (seen_of before) ++ record { asked = asked; said = said } ∷ []

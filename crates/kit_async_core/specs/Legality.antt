@@ -25,9 +25,9 @@ may_hear setup s = not s.over && not s.closed && not (list_any (holds_back setup
 abbrev pub is_idle : List Job → ℕ → Bool
 is_idle jobs remote = not (list_any (is_worked_by remote) jobs)
 
--- Any remote may take it up: nobody has, and no earlier request that is open names its key.
+-- Any remote may take it up: nobody has, nor was anyone called for it, and no earlier request that is open names its key.
 abbrev pub is_free : Setup → List Job → Job → Bool
-is_free setup jobs job = is_for_any setup job && is_none job.taken && is_first_of_key jobs job
+is_free setup jobs job = is_for_any setup job && is_none job.taken && job.calls == 0 && is_first_of_key jobs job
 
 -- an open job of that number is so
 abbrev pub some_job : (Job → Bool) → ℕ → List Job → Bool

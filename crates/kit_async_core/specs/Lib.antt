@@ -1,4 +1,5 @@
 pub mod Books
+pub mod Callings
 pub mod Entries
 pub mod Events
 pub mod Hearings

@@ -2,7 +2,7 @@
 ghost use Rattle.std.specs.Prelude.{◌≡◌, [], ◌∷◌, ◌++◌, codes, true, false, Some, None};
 ghost use Rattle.kit_core.specs.declared.call.Said.TheVariants.{Yes, No, Failure};
 ghost use Rattle.kit_async_core.specs.declared.entry.Entry.TheVariants.{Heard, Take, Call, Say, Wrote, Close, Lack};
-ghost use Rattle.kit_async_core.specs.Laws.{FrontsAreLegal, OverIsLast, FinishedStays, FinalIsFinished, UnwrittenAre, StepsAreLegal, StepsAreMade, HallsStayLegal, ReadersHear, FinalIsHeard};
+ghost use Rattle.kit_async_core.specs.Laws.{FrontsAreLegal, OverIsLast, FinishedStays, FinalIsFinished, UnwrittenAre, StepsAreLegal, StepsAreMade, HallsStayLegal, ReadersHear, FinalIsHeard, RemotesAreAsked, CallsAreNoted};
 ghost use Rattle.kit_async_core.specs.Legality.{is_legal, is_done};
 ghost use Rattle.kit_async_core.specs.Rows.{two, bare, version, error, tagging, asking, readying, ready, check_a, check_b, absent_a, present_b, crossed, whole, plain, plain_check};
 ghost use Rattle.kit_async_core.specs.Standings.{standing};
@@ -141,4 +141,10 @@ pub fn halls_stay_legal()
 pub fn readers_hear()
     ensures entered { ReadersHear }
     ensures closed { FinalIsHeard }
+{}
+
+/// A remote that is told to work is noted to have had exactly that call, whatever others do in between.
+pub fn calls_are_noted()
+    ensures asked { RemotesAreAsked }
+    ensures noted { CallsAreNoted }
 {}

@@ -1,0 +1,3 @@
+pub mod Groups
+pub mod Readers
+pub mod Writers

@@ -1,0 +1,13 @@
+//! The roles of a kit that serves several jobs at once: what reads, what writes, and what calls a remote, each by its own pass of the
+//! hall of a kit's core, whatever the others do.
+#![tactic(auto)]
+
+mod reader;
+mod turn;
+mod why;
+mod writer;
+
+pub use reader::{First, listen, read_turn};
+pub use turn::Turn;
+pub use why::Why;
+pub use writer::{speak, write_turn};
