@@ -1,2 +1,1 @@
-pub mod Roles
 pub mod Served

@@ -13,7 +13,9 @@ use Rattle.kit_async.specs.declared.lent.KitEntry.TheVariants.{Heard as HeardSho
 use Rattle.kit_async_core.specs.Standings.{standing}
 use Rattle.kit_async_core.specs.Standings.{Standing}
 use Rattle.kit_async_core.specs.Legality.{is_legal, is_some_line, IsFinished}
-use Rattle.kit_async.specs.Roles.{heard_lines, Written, calls_of}
+use Rattle.kit_async_core.specs.Callings.{calls_of}
+use Rattle.kit_async_core.specs.Lines.{heard_lines}
+use Rattle.kit_async_roles.specs.Writing.{IsFaltered, written_lines}
 
 -- ---- the end
 

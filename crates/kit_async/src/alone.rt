@@ -1,23 +1,14 @@
 // A kit whose threads couldn't be started: the calling thread reads, works and writes, one request after the other.
-ghost use Rattle.std.specs.Prelude.{All};
-ghost use Rattle.hall.specs.Passes.{IsPassOf};
-
-use crate::reader::Reader;
-use crate::turn::Turn;
-use crate::worker::Worker;
-use crate::writer::Writer;
+use crate::roles::{Reader, Worker, Writer};
 use ann_outside::{Sink, Source};
 use kit_core::Remote;
 use std::sync::Wait;
 
 // One turn of each worker, and whether one of them did something.
-fn work_once<'a, K: Remote, R: Wait>(workers: &mut [Worker<'a, K, R>]) -> bool
-    requires { All (λ w. IsPassOf w.hall.now w.pass) workers.old }
-    ensures { All (λ w. IsPassOf w.hall.now w.pass) workers.new }
-{
+fn work_once<'a, K: Remote, R: Wait>(workers: &mut [Worker<'a, K, R>]) -> bool {
     let mut went = false;
     for at in 0..workers.len() {
-        if workers[at].turn() == Turn::Went {
+        if workers[at].turn() {
             went = true;
         }
     }
@@ -28,14 +19,11 @@ fn work_once<'a, K: Remote, R: Wait>(workers: &mut [Worker<'a, K, R>]) -> bool
 fn settle<'a, W: Sink, K: Remote, R: Wait>(
     writer: &mut Writer<'a, W, R>,
     workers: &mut [Worker<'a, K, R>],
-)
-    requires { IsPassOf writer.old.hall.now writer.old.pass × All (λ w. IsPassOf w.hall.now w.pass) workers.old }
-    ensures { IsPassOf writer.old.hall.now writer.new.pass × All (λ w. IsPassOf w.hall.now w.pass) workers.new }
-{
+) {
     let rt = writer.rt;
     for _ in rt.forever() {
         let worked = work_once(workers);
-        let wrote = writer.turn() == Turn::Went;
+        let wrote = writer.turn();
         if !worked && !wrote {
             return;
         }
@@ -48,14 +36,11 @@ pub(crate) fn serve_alone<'a, S: Source, W: Sink, K: Remote, R: Wait>(
     reader: &mut Reader<'a, S, R>,
     writer: &mut Writer<'a, W, R>,
     workers: &mut [Worker<'a, K, R>],
-)
-    requires { IsPassOf reader.old.hall.now reader.old.pass × IsPassOf writer.old.hall.now writer.old.pass × All (λ w. IsPassOf w.hall.now w.pass) workers.old }
-    ensures { IsPassOf reader.old.hall.now reader.new.pass × IsPassOf writer.old.hall.now writer.new.pass × All (λ w. IsPassOf w.hall.now w.pass) workers.new }
-{
+) {
     let rt = reader.rt;
     for _ in rt.forever() {
         settle(writer, workers);
-        if reader.turn() != Turn::Went {
+        if !reader.turn() {
             settle(writer, workers);
             return;
         }

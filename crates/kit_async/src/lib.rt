@@ -5,12 +5,9 @@
 mod alone;
 mod journal;
 mod lent;
-mod reader;
+mod roles;
 mod serving;
-mod turn;
 mod why;
-mod worker;
-mod writer;
 
 pub use journal::KitJournal;
 pub use lent::KitEntry;

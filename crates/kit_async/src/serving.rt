@@ -5,20 +5,20 @@ ghost use Rattle.kit_async.specs.Served.{Serves, setup_of, status_of};
 
 use crate::alone::serve_alone;
 use crate::journal::KitJournal;
-use kit_async_core::KitCore;
-use crate::reader::{Ear, Reader};
-use kit_async_core::Setup;
+use crate::roles::{Reader, Worker, Writer};
 use crate::why::Why;
-use crate::worker::{Hand, Worker};
-use crate::writer::{Mouth, Writer};
 use ann_outside::{Sink, Source};
 use crew_round::{Crew, Room, run_whole_crew};
 use hall::{Hall, Pass};
+use kit_async_core::{KitCore, Setup};
+use kit_async_roles::Why as RoleWhy;
 use kit_core::Remote;
+use kit_serve::LONGEST_LINE;
 use std::alloc::Global;
 use std::marker::{Send, Sync};
 use std::sync::Wait;
 use std::thread::Threads;
+use wire_line::Splitter;
 
 /// How remotes were served, with all that was handed in.
 #[derive(Drop)]
@@ -57,12 +57,29 @@ fn unserved<K: Drop, S, W>(alloc: Global, parts: Parts<K, S, W>) -> AsyncEnd<K, 
     }
 }
 
-// Why a kit stopped, by why its roles did: a failed write counts before all, and then want of memory.
-fn why_of(read: Option<Why>, wrote: Option<Why>, lacked: bool) -> Why {
-    match (wrote, lacked, read) {
-        (Some(Why::WriteFault), _, _) => Why::WriteFault,
-        (Some(_), _, _) | (_, true, _) | (_, _, None) => Why::Memory,
-        (None, false, Some(why)) => why,
+// Why the reader and the writer ended by themselves, if they did.
+#[derive(Clone, Copy)]
+struct RoleEnds {
+    read: Option<RoleWhy>,
+    wrote: Option<RoleWhy>,
+}
+
+// Why a kit stopped: a failed write counts before all, and then the kit has to be finished; where it isn't, memory was wanting.
+fn why_of(ends: RoleEnds, core: &KitCore) -> Why {
+    if matches!(ends.wrote, Some(RoleWhy::WriteFault)) {
+        return Why::WriteFault;
+    }
+    if !core.is_finished() {
+        return Why::Memory;
+    }
+    if core.is_over() {
+        return if core.lacks() { Why::Memory } else { Why::Bad };
+    }
+    match ends.read {
+        Some(RoleWhy::Eof) => Why::Eof,
+        Some(RoleWhy::ReadFault) => Why::ReadFault,
+        Some(RoleWhy::Long) => Why::Bad,
+        _ => Why::Memory,
     }
 }
 
@@ -99,27 +116,24 @@ fn deal<'a, K: Remote + Drop, R: Wait>(
             rt,
             hall,
             pass,
-            hand: Hand::new(remote),
+            number: remotes.len() as u32,
+            remote,
         });
     }
     workers
 }
 
-// Takes the passes and the remotes back, from the last worker on, and tells whether one wanted memory.
+// Takes the passes and the remotes back, from the last worker on.
 fn take_back<'a, K: Remote + Drop, R: Wait>(
     mut workers: Workers<'a, K, R>,
     passes: &mut Vec<Pass<KitCore>>,
     remotes: &mut Vec<K>,
-) -> bool {
-    let mut lacked = false;
+) {
     'backs: while let Some(worker) = workers.pop() {
-        let Worker { pass, hand, .. } = worker;
-        let (remote, why) = hand.part();
-        lacked = lacked || why.is_some();
+        let Worker { pass, remote, .. } = worker;
         passes.push_reserved(pass);
         remotes.push_reserved(remote);
     }
-    lacked
 }
 
 // What came back of a kit's roles.
@@ -127,7 +141,7 @@ fn take_back<'a, K: Remote + Drop, R: Wait>(
 struct Backs<K: Drop, S, W> {
     passes: Vec<Pass<KitCore>>,
     parts: Parts<K, S, W>,
-    why: Why,
+    ends: RoleEnds,
 }
 
 // Runs the roles, each in a thread of its own where all can have one.
@@ -150,7 +164,10 @@ fn play<
         return Backs {
             passes,
             parts,
-            why: Why::Memory,
+            ends: RoleEnds {
+                read: None,
+                wrote: None,
+            },
         };
     };
     let Parts {
@@ -165,15 +182,19 @@ fn play<
     let crew = Crew {
         ear: Reader {
             rt,
+            alloc,
             hall,
             pass: first,
-            ear: Ear::new(alloc, source),
+            source,
+            splitter: Splitter::new(alloc, LONGEST_LINE),
+            why: None,
         },
         mouth: Writer {
             rt,
             hall,
             pass: second,
-            mouth: Mouth::new(sink),
+            sink,
+            why: None,
         },
         workers,
     };
@@ -193,19 +214,19 @@ fn play<
     }
     let Reader {
         pass: first,
-        ear,
+        source,
+        why: read,
         ..
     } = reader;
     let Writer {
         pass: second,
-        mouth,
+        sink,
+        why: wrote,
         ..
     } = writer;
     passes.push_reserved(first);
     passes.push_reserved(second);
-    let lacked = take_back(backs, &mut passes, &mut remotes);
-    let (source, read) = ear.part();
-    let (sink, wrote) = mouth.part();
+    take_back(backs, &mut passes, &mut remotes);
     Backs {
         passes,
         parts: Parts {
@@ -213,7 +234,7 @@ fn play<
             source,
             sink,
         },
-        why: why_of(read, wrote, lacked),
+        ends: RoleEnds { read, wrote },
     }
 }
 
@@ -251,13 +272,19 @@ pub fn serve_async_some<
     let Ok((hall, passes)) = Hall::begin(alloc, core, seats + 2) else {
         return unserved(alloc, parts);
     };
-    let Backs { passes, parts, why } = play(rt, alloc, most, &hall, passes, parts);
+    let Backs {
+        passes,
+        parts,
+        ends,
+    } = play(rt, alloc, most, &hall, passes, parts);
     let Parts {
         remotes,
         source,
         sink,
     } = parts;
-    let (_, log) = hall.close(passes).close();
+    let core = hall.close(passes);
+    let why = why_of(ends, &core);
+    let (_, log) = core.close();
     AsyncEnd {
         status: why.status(),
         remotes,

@@ -48,8 +48,8 @@ never true t f = cc
 never false t f = cc
 
 pub decided : (b : Bool) → (b ≡ true → ⊥) → b ≡ false
-decided true no = absurd (no refl)
-decided false no = refl
+decided true never_so = absurd (never_so refl)
+decided false never_so = refl
 
 and_none : (b : Bool) → (b && false) ≡ false
 and_none true = refl
@@ -299,8 +299,12 @@ pub work_called : (setup : Setup) (jobs : List Job) (r : ℕ) → is_idle jobs r
 work_called setup jobs r idle x = go (is_making_ready x) refl
   where
     go : (b : Bool) → is_making_ready x ≡ b → is_called setup jobs r x ≡ at_work r x
-    go true e = rw (e, idle) (and_none (not (is_awaiting setup x) && not x.settled && x.calls == r && nat_lt r setup.remotes))
-    go false e = rw e refl
+    go true e =
+        ap (λ (m : Bool). cond m (is_turn_of setup jobs r x) (is_worked_by r x)) e
+        ∙ ap (λ (i : Bool). is_making_ready x && not (is_awaiting setup x) && not x.settled && x.calls == r && nat_lt r setup.remotes && i) idle
+        ∙ and_none (is_making_ready x && not (is_awaiting setup x) && not x.settled && x.calls == r && nat_lt r setup.remotes)
+        ∙ sym (ap (λ (m : Bool). not m && is_worked_by r x) e)
+    go false e = ap (λ (m : Bool). cond m (is_turn_of setup jobs r x) (is_worked_by r x)) e ∙ sym (ap (λ (m : Bool). not m && is_worked_by r x) e)
 
 turn_called : (setup : Setup) (all jobs : List Job) (r : ℕ) (job : Job) → find is_making_ready jobs ≡ Some job → list_any (is_worked_by r) jobs ≡ false → is_called setup all r job ≡ true
     → find (is_called setup all r) jobs ≡ Some job
@@ -318,7 +322,10 @@ pub busy_called : (setup : Setup) (r : ℕ) (jobs : List Job) (job : Job) → Bu
 busy_called setup r jobs job (inl f) = found_same (is_called setup jobs r) (at_work r) (work_called setup jobs r (not_idle r jobs job f)) jobs ∙ f
 busy_called setup r jobs job (inr t) =
     let m : is_making_ready job ≡ true = passes_of is_making_ready jobs job t.found in
-    turn_called setup jobs jobs r job t.found t.idle (rw (m, t.idle) (and_true (at_turn setup r job) t.turn))
+    let turn : is_turn_of setup jobs r job ≡ true =
+    ap (λ (b : Bool). b && not (is_awaiting setup job) && not job.settled && job.calls == r && nat_lt r setup.remotes && is_idle jobs r) m
+    ∙ ap (λ (i : Bool). at_turn setup r job && i) (ap not t.idle) ∙ and_true (at_turn setup r job) t.turn in
+    turn_called setup jobs jobs r job t.found t.idle (ap (λ (b : Bool). cond b (is_turn_of setup jobs r job) (is_worked_by r job)) m ∙ turn)
   where
     and_true : (b : Bool) → b ≡ true → (b && true) ≡ true
     and_true true e = refl

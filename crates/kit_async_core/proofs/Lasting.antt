@@ -97,7 +97,7 @@ holds setup r tagged jobs job t none =
     let c = both (not (is_awaiting setup job) && not job.settled) (job.calls == r) b.0 in
     let w : not (is_awaiting setup job) ≡ true = (both (not (is_awaiting setup job)) (not job.settled) c.0).0 in
     let k : holds_back setup tagged job ≡ false = found_not is_making_ready (holds_back setup tagged) jobs job t.found none in
-    let h : holds_back setup tagged job ≡ true = rw m w in
+    let h : holds_back setup tagged job ≡ true = ap (λ (b : Bool). cond b (not (is_awaiting setup job)) (not tagged)) m ∙ w in
     never (holds_back setup tagged job) h k
 
 working : (setup : Setup) (r : ℕ) (tagged : Bool) (jobs : List Job) (job : Job) → Busy setup r jobs job → list_any (holds_back setup tagged) jobs ≡ false → find (at_work r) jobs ≡ Some job
@@ -108,6 +108,10 @@ working setup r tagged jobs job (inr t) none = absurd (holds setup r tagged jobs
 awaits_other : (setup : Setup) (r : ℕ) (jobs : List Job) (job : Job) (n : ℕ) → AreApart jobs → find (at_work r) jobs ≡ Some job → Awaits setup jobs n → has_number n job ≡ false
 awaits_other setup r jobs job n a f w = decided (has_number n job) same
   where
+    not_both : (b : Bool) → b ≡ true → not b ≡ true → ⊥
+    not_both true x y = cc
+    not_both false x y = cc
+
     same : has_number n job ≡ true → ⊥
     same h =
         let is : Some w.job ≡ Some job = sym w.found ∙ only_job (at_work r) jobs job n a f h in
@@ -116,10 +120,6 @@ awaits_other setup r jobs job n a f w = decided (has_number n job) same
         let m : is_making_ready job ≡ true = (both (is_making_ready job) _ waits).0 in
         let k : not (is_making_ready job) ≡ true = (both (not (is_making_ready job)) (is_worked_by r job) (passes_of (at_work r) jobs job f)).0 in
         not_both (is_making_ready job) m k
-
-    not_both : (b : Bool) → b ≡ true → not b ≡ true → ⊥
-    not_both true x y = cc
-    not_both false x y = cc
 
 found_due : (setup : Setup) (over : Bool) (job : Job) (jobs : List Job) (n : ℕ) → has_number n job ≡ false → DueApart (due_of setup (job_of jobs n)) over job
 found_due setup over job jobs n h = go (job_of jobs n) refl

@@ -101,6 +101,14 @@ pub record Legal (setup : Setup) (journal : List Entry) : Type 0 where
 abbrev pub is_done : Setup → Standing → Bool
 is_done setup s = s.over || (s.closed && list_all (is_awaiting setup) s.jobs)
 
+-- no memory was found for a line that was due
+abbrev pub is_lack : Entry → Bool
+is_lack Lack = true
+is_lack entry = false
+
+abbrev pub is_finished : Setup → Standing → Bool
+is_finished setup s = is_done setup s && not (is_some_line s.unwritten)
+
 -- all that could be said is said and written
 pub record IsFinished (setup : Setup) (s : Standing) : Type 0 where
   pub done : is_done setup s ≡ true

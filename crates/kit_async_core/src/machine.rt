@@ -1,10 +1,12 @@
 // What the threads of a kit share: the journal, and how the kit stands after it.
 ghost use Rattle.std.specs.Prelude.{◌≡◌, ◌≤◌, ◌||◌, ◌++◌, ◌∷◌, [], List, All, IfOk, IsOk, OnErr, Some, None, if◌then◌else◌, true, false, codes, length};
+ghost use Rattle.std.specs.List.{list_any};
 ghost use Rattle.kit_async_core.specs.declared.entry.Entry.{Entry};
 ghost use Rattle.kit_async_core.specs.declared.entry.Entry.TheVariants.{Say};
 ghost use Rattle.kit_async_core.specs.Books.{AreApart, IsAsBefore, TookEvent, room_owed};
 ghost use Rattle.kit_async_core.specs.Events.{MayStep, IsMadeBy, can_break, takes_no_memory, is_break, is_of_remote, remote_of};
-ghost use Rattle.kit_async_core.specs.Legality.{Legal};
+ghost use Rattle.kit_async_core.specs.Legality.{Legal, is_finished, is_lack};
+ghost use Rattle.kit_async_core.specs.Standings.{standing};
 
 use crate::book::Book;
 use crate::entries::Entries;
@@ -54,6 +56,12 @@ fn bells_of(setup: &Setup, event: &Event) -> u64 {
         Event::Take | Event::Next | Event::Wrote => 0,
         Event::Hear(_) | Event::Called(_) | Event::Close | Event::Break => all_bells(setup),
     }
+}
+
+fn is_lack(entry: &Entry) -> bool
+    ensures { result ≡ is_lack entry.now }
+{
+    matches!(entry, Entry::Lack)
 }
 
 // Whether a core is broken off, once the event came.
@@ -140,6 +148,34 @@ impl KitCore {
     /// The bells of the passes whom the last event may concern, a bit for each.
     pub(crate) fn bells(&self) -> u64 {
         self.bells
+    }
+
+    /// Whether what was heard last ended it, or no memory was found for what it had to say.
+    pub fn is_over(&self) -> bool
+        ensures { result ≡ (standing self.now.setup self.now.journal).over }
+    {
+        self.book.over
+    }
+
+    /// Whether no more is heard.
+    pub fn is_closed(&self) -> bool
+        ensures { result ≡ (standing self.now.setup self.now.journal).closed }
+    {
+        self.book.closed
+    }
+
+    /// Whether all that could be said is said and written.
+    pub fn is_finished(&self) -> bool
+        ensures { result ≡ is_finished self.now.setup (standing self.now.setup self.now.journal) }
+    {
+        self.book.is_done(&self.setup) && self.book.unwritten.is_empty()
+    }
+
+    /// Whether no memory was found for what it had to say.
+    pub fn lacks(&self) -> bool
+        ensures { result ≡ list_any is_lack self.now.journal }
+    {
+        self.book.journal.view().iter().any(|entry| is_lack(entry))
     }
 
     /// What didn't change, and its journal, which is legal. It takes no memory.

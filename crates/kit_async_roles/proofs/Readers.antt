@@ -9,10 +9,11 @@ use Rattle.ann_outside.proofs.Telling.{appends_both}
 use Rattle.annex_model.specs.Lines.{has_newline, Cut}
 use Rattle.hall.specs.Passes.{seen_of}
 use Rattle.wire_line.specs.HeldBytes.{first_line, has_line, TakesLine}
-use Rattle.kit_serve.specs.Limits.{longest_line, is_short}
-use Rattle.kit_serve.specs.Turns.{Half, Leaves, ReadsOn}
+use Rattle.kit_serve.specs.Limits.{longest_line, is_short, next_line}
+use Rattle.kit_serve.specs.Turns.{Half, IsSpent, Leaves, ReadsOn, end_of}
 use Rattle.kit_serve.specs.declared.end.End.{End}
-use Rattle.kit_serve.proofs.Talks.{short_line, leaves_both}
+use Rattle.kit_serve.specs.declared.end.End.TheVariants.{Eof as EndEof, ReadFault as EndReadFault}
+use Rattle.kit_serve.proofs.Talks.{short_line, leaves_as, leaves_both}
 use Rattle.kit_async_core.specs.declared.entry.Entry.{Entry}
 use Rattle.kit_async_core.specs.declared.event.Event.{Event}
 use Rattle.kit_async_core.specs.declared.event.Event.TheVariants.{Hear, Close as Deafen, Break}
@@ -21,9 +22,11 @@ use Rattle.kit_async_core.specs.declared.event.Reply.TheVariants.{Done, Last, Wa
 use Rattle.kit_async_core.specs.Lines.{KitHall, KitPass, heard_lines, hears}
 use Rattle.kit_async_core.proofs.Listening.{reader_hears}
 use Rattle.kit_async_roles.specs.declared.why.Why.{Why}
-use Rattle.kit_async_roles.specs.declared.why.Why.TheVariants.{ReadFault, Memory}
-use Rattle.kit_async_roles.specs.Passes.{Stands, Enters}
-use Rattle.kit_async_roles.specs.Reading.{EarValue, Hears, IsQuiet, Reads, ReadingEnds, ReaderRan, is_taken}
+use Rattle.kit_async_roles.specs.declared.why.Why.TheVariants.{Eof, ReadFault, Long, Memory}
+use Rattle.kit_async_roles.specs.declared.turn.Turn.{Turn}
+use Rattle.kit_async_roles.specs.declared.turn.Turn.TheVariants.{Went, Over as TurnOver}
+use Rattle.kit_async_roles.specs.Passes.{Stands, Enters, why_of}
+use Rattle.kit_async_roles.specs.Reading.{EarValue, Hears, IsQuiet, Reads, ReadingEnds, ReaderRan, ear_of, is_taken}
 use Rattle.kit_async_roles.proofs.Groups.{stands_on}
 
 -- ---- what was heard
@@ -118,13 +121,26 @@ hearing_reads h p q e held' k begun r = record {
 }
 
 -- nothing was read, and it ended so
-pub ran_for : (h : KitHall) (p q : KitPass) (e : EarValue) (held' : List ℕ) (why : Option Why) → Hears h p q e.held held' → e.half.is_open ≡ true → (why ≡ Some ReadFault → ⊥)
-    → ReadingEnds why (record e { held = held' }) → ReaderRan h p q e (record e { held = held' }) why
-ran_for h p q e held' why k o none ends = record { stands = k.stands; reads = hearing_reads h p q e held' k; source = still e.half (why ≡ Some ReadFault) o none; ends = ends }
+pub ran_for : (h : KitHall) (p q : KitPass) (given left : Option (List ℕ)) (half : Half) (held held' : List ℕ) (why : Option Why) → Hears h p q held held' → half.is_open ≡ true
+    → (why ≡ Some ReadFault → ⊥) → ReadingEnds why (ear_of given left half held') → ReaderRan h p q (ear_of given left half held) (ear_of given left half held') why
+ran_for h p q given left half held held' why k o none ends = record {
+  stands = k.stands;
+  reads = hearing_reads h p q (ear_of given left half held) held' k;
+  source = still half (why ≡ Some ReadFault) o none;
+  ends = ends;
+}
 
-pub ran_quiet : (h : KitHall) (p q : KitPass) (e : EarValue) (held' : List ℕ) (why : Option Why) → Hears h p q e.held held' → e.half.is_open ≡ true → IsQuiet why
-    → ReaderRan h p q e (record e { held = held' }) why
-ran_quiet h p q e held' why k o quiet = ran_for h p q e held' why k o (no_fault why quiet) (quiet_ends why (record e { held = held' }) quiet)
+pub ran_quiet : (h : KitHall) (p q : KitPass) (given left : Option (List ℕ)) (half : Half) (held held' : List ℕ) (why : Option Why) → Hears h p q held held' → half.is_open ≡ true
+    → IsQuiet why → ReaderRan h p q (ear_of given left half held) (ear_of given left half held') why
+ran_quiet h p q given left half held held' why k o quiet =
+    ran_for h p q given left half held held' why k o (no_fault why quiet) (quiet_ends why (ear_of given left half held') quiet)
+
+-- a line that is too long stands first
+pub ran_long : (h : KitHall) (p q : KitPass) (given left : Option (List ℕ)) (half : Half) (held : List ℕ) (turn : Turn) → ((held : List ℕ) → Hears h p q held held) → half.is_open ≡ true
+    → turn ≡ TurnOver (Some Long) → longest_line < length (next_line held) → ReaderRan h p q (ear_of given left half held) (ear_of given left half held) (why_of turn)
+ran_long h p q given left half held turn k o e long =
+    subst (λ (t : Turn). ReaderRan h p q (ear_of given left half held) (ear_of given left half held) (why_of t)) (sym e)
+    (ran_for h p q given left half held held (Some Long) (k held) o (λ (bad : Some Long ≡ Some ReadFault). absurd cc) long)
 
 -- a read, and then a step that heard nothing
 pub read_reads : {T : Type 0} (begun : Option (List ℕ)) (journal : List Entry) (e f : EarValue) (result : Result T End) → ReadsOn e.given f.given e.held f.held result → Reads begun journal e
@@ -137,14 +153,55 @@ read_reads begun journal e f result r k = record {
   short = k.short;
 }
 
-pub ran_read : {T : Type 0} (h : KitHall) (p q : KitPass) (e f : EarValue) (result : Result T End) (why : Option Why) → Hears h p q f.held f.held → ReadsOn e.given f.given e.held f.held result
-    → Leaves e.half f.half (why ≡ Some ReadFault) → ReadingEnds why f → ReaderRan h p q e f why
-ran_read h p q e f result why k r source ends = record {
+pub ran_read : {T : Type 0} (h : KitHall) (p q : KitPass) (given given' left left' : Option (List ℕ)) (half half' : Half) (held held' : List ℕ) (result : Result T End) (why : Option Why)
+    → Hears h p q held' held' → ReadsOn given given' held held' result → Leaves half half' (why ≡ Some ReadFault) → ReadingEnds why (ear_of given' left' half' held')
+    → ReaderRan h p q (ear_of given left half held) (ear_of given' left' half' held') why
+ran_read h p q given given' left left' half half' held held' result why k r source ends = record {
   stands = k.stands;
-  reads = λ begun j. hearing_reads h p q f f.held k begun (read_reads begun (seen_of p) e f result r j);
+  reads = λ begun j. hearing_reads h p q (ear_of given' left' half' held') held' k begun
+      (read_reads begun (seen_of p) (ear_of given left half held) (ear_of given' left' half' held') result r j);
   source = source;
   ends = ends;
 }
+
+-- it read some
+pub ran_on : {T : Type 0} (h : KitHall) (p : KitPass) (given given' left left' : Option (List ℕ)) (half half' : Half) (held held' : List ℕ) (result : Result T End) → Stands h 1 p
+    → ReadsOn given given' held held' result → Leaves half half' (end_of result ≡ Some EndReadFault) → (end_of result ≡ Some EndReadFault → ⊥)
+    → ReaderRan h p p (ear_of given left half held) (ear_of given' left' half' held') None
+ran_on h p given given' left left' half half' held held' result s r l none =
+    ran_read h p p given given' left left' half half' held held' result None (unheard h p p held' s refl) r
+    (leaves_as half half' (end_of result ≡ Some EndReadFault) (None ≡ Some ReadFault) l none (λ (bad : None ≡ Some ReadFault). absurd cc)) tt
+
+-- the host's lines came to an end
+pub ran_eof : {T : Type 0} (h : KitHall) (p q : KitPass) (given given' left left' : Option (List ℕ)) (half half' : Half) (held held' : List ℕ) (result : Result T End) (turn : Turn)
+    → ((held : List ℕ) → Hears h p q held held) → turn ≡ TurnOver (Some Eof) → result ≡ Err EndEof → ReadsOn given given' held held' result → Leaves half half' (end_of result ≡ Some EndReadFault)
+    → held' ≡ held → has_newline held ≡ false → IsSpent (end_of result) left' → ReaderRan h p q (ear_of given left half held) (ear_of given' left' half' held') (why_of turn)
+ran_eof {T = T} h p q given given' left left' half half' held held' result turn k e is r l same none spent =
+    subst (λ (t : Turn). ReaderRan h p q (ear_of given left half held) (ear_of given' left' half' held') (why_of t)) (sym e)
+    (ran_read h p q given given' left left' half half' held held' result (Some Eof) (k held') r
+    (leaves_as half half' (end_of result ≡ Some EndReadFault) (Some Eof ≡ Some ReadFault) l
+    (λ f. let bad : Some EndEof ≡ Some EndReadFault = sym (ap (λ (x : Result T End). end_of x) is) ∙ f in absurd cc) (λ (bad : Some Eof ≡ Some ReadFault). absurd cc))
+    (ap has_newline same ∙ none, spent (ap (λ (x : Result T End). end_of x) is)))
+
+-- reading failed
+pub ran_fault : {T : Type 0} (h : KitHall) (p q : KitPass) (given given' left left' : Option (List ℕ)) (half half' : Half) (held held' : List ℕ) (result : Result T End) (turn : Turn)
+    → ((held : List ℕ) → Hears h p q held held) → turn ≡ TurnOver (Some ReadFault) → result ≡ Err EndReadFault → ReadsOn given given' held held' result
+    → Leaves half half' (end_of result ≡ Some EndReadFault) → held' ≡ held → has_newline held ≡ false
+    → ReaderRan h p q (ear_of given left half held) (ear_of given' left' half' held') (why_of turn)
+ran_fault {T = T} h p q given given' left left' half half' held held' result turn k e is r l same none =
+    subst (λ (t : Turn). ReaderRan h p q (ear_of given left half held) (ear_of given' left' half' held') (why_of t)) (sym e)
+    (ran_read h p q given given' left left' half half' held held' result (Some ReadFault) (k held') r
+    (record { later = l.later; cause = λ f. l.cause (ap (λ (x : Result T End). end_of x) is); quiet = λ no. absurd (no refl); opened = l.opened; number = l.number })
+    (ap has_newline same ∙ none))
+
+-- no memory was found for a read
+pub ran_memory : {T : Type 0} (h : KitHall) (p q : KitPass) (given given' left left' : Option (List ℕ)) (half half' : Half) (held held' : List ℕ) (result : Result T End) (turn : Turn)
+    → Hears h p q held' held' → turn ≡ TurnOver (Some Memory) → ReadsOn given given' held held' result → Leaves half half' (end_of result ≡ Some EndReadFault)
+    → (end_of result ≡ Some EndReadFault → ⊥) → ReaderRan h p q (ear_of given left half held) (ear_of given' left' half' held') (why_of turn)
+ran_memory h p q given given' left left' half half' held held' result turn k e r l none =
+    subst (λ (t : Turn). ReaderRan h p q (ear_of given left half held) (ear_of given' left' half' held') (why_of t)) (sym e)
+    (ran_read h p q given given' left left' half half' held held' result (Some Memory) k r
+    (leaves_as half half' (end_of result ≡ Some EndReadFault) (Some Memory ≡ Some ReadFault) l none (λ (bad : Some Memory ≡ Some ReadFault). absurd cc)) tt)
 
 -- ---- many turns
 

@@ -1,5 +1,6 @@
 -- What a pass of a kit's hall is to the role that holds it.
-use Rattle.std.specs.Prelude.{ℕ, ◌≡◌, ◌⊎◌, Option, Some, None}
+use Rattle.std.specs.Prelude.{ℕ, ◌≡◌, Bool, Option, Some, None}
+use Rattle.kit_serve.specs.Turns.{Half}
 use Rattle.hall.specs.Passes.{IsPassOf, HasEntered, seen_of}
 use Rattle.kit_async_core.specs.declared.event.Event.{Event}
 use Rattle.kit_async_core.specs.declared.event.Reply.{Reply}
@@ -7,7 +8,6 @@ use Rattle.kit_async_core.specs.Events.{IsMadeBy, MayStep}
 use Rattle.kit_async_core.specs.Legality.{Legal}
 use Rattle.kit_async_core.specs.Lines.{KitHall, KitPass}
 use Rattle.kit_async_roles.specs.declared.why.Why.{Why}
-use Rattle.kit_async_roles.specs.declared.why.Why.TheVariants.{Memory}
 use Rattle.kit_async_roles.specs.declared.turn.Turn.{Turn}
 use Rattle.kit_async_roles.specs.declared.turn.Turn.TheVariants.{Went, Rests, Over}
 
@@ -29,6 +29,6 @@ why_of Went = None
 why_of Rests = None
 why_of (Over why) = why
 
--- it ended for this reason, or because no memory was found
-abbrev pub IsEndFor : Why → Turn → Type 0
-IsEndFor why turn = (turn ≡ Over (Some why)) ⊎ (turn ≡ Over (Some Memory))
+-- what is seen of a source or a sink beside its bytes
+abbrev pub half_of : ℕ → Bool → Option ℕ → Half
+half_of faults is_open number = record { faults = faults; is_open = is_open; number = number }

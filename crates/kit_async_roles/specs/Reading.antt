@@ -26,6 +26,9 @@ pub record EarValue : Type 0 where
   pub half : Half
   pub held : List ℕ
 
+abbrev pub ear_of : Option (List ℕ) → Option (List ℕ) → Half → List ℕ → EarValue
+ear_of given left half held = record { given = given; left = left; half = half; held = held }
+
 -- ---- one line
 
 -- a line that isn't too long, more bytes than such a line has, or no whole line

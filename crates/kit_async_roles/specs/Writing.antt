@@ -16,6 +16,9 @@ pub record MouthValue : Type 0 where
   pub taken : Option (List ℕ)
   pub half : Half
 
+abbrev pub mouth_of : Option (List ℕ) → Half → MouthValue
+mouth_of taken half = record { taken = taken; half = half }
+
 -- the lines that were said and are written
 abbrev pub written_lines : List Entry → List (List ℕ)
 written_lines journal = take (count_wrotes journal) (said_lines journal)

@@ -5,9 +5,11 @@
 mod reader;
 mod turn;
 mod why;
+mod worker;
 mod writer;
 
 pub use reader::{First, listen, read_turn};
 pub use turn::Turn;
 pub use why::Why;
+pub use worker::{toil, work_turn};
 pub use writer::{speak, write_turn};

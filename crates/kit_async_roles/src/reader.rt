@@ -1,11 +1,11 @@
 // What reads the host's lines, and tells them to the core.
-ghost use Rattle.std.specs.Prelude.{◌≡◌, ℕ, List, true, false, None, IfOk, IsTrue};
+ghost use Rattle.std.specs.Prelude.{◌≡◌, ℕ, List, true, false, Some, None, IfOk, IsTrue};
 ghost use Rattle.annex_model.specs.Lines.{has_newline};
 ghost use Rattle.wire_line.specs.HeldBytes.{first_line, has_line, TakesLine};
 ghost use Rattle.kit_serve.specs.Limits.{longest_line};
-ghost use Rattle.kit_serve.specs.Turns.{Half};
-ghost use Rattle.kit_async_roles.specs.Passes.{IsEndFor, Stands, why_of};
-ghost use Rattle.kit_async_roles.specs.Reading.{EarValue, Hears, IsFirst, IsQuiet, ReaderRan, is_taken};
+ghost use Rattle.kit_async_roles.specs.Passes.{Stands, half_of, why_of};
+ghost use Rattle.kit_async_roles.specs.declared.turn.Turn.TheVariants.{Over};
+ghost use Rattle.kit_async_roles.specs.Reading.{Hears, IsFirst, IsQuiet, ReaderRan, ear_of, is_taken};
 
 use crate::turn::{Turn, enter, stop_for};
 use crate::why::Why;
@@ -92,15 +92,15 @@ fn hear<R: Wait>(
     turn_by(&reply)
 }
 
-// No more is heard, for this reason.
+// No more is heard, for this reason. Where there is no memory to note it, the kit is broken off.
 fn close<R: Wait>(rt: &R, hall: &Hall<KitCore>, pass: &mut Pass<KitCore>, why: Why) -> Turn
     requires { Stands hall.now 1 pass.old }
     ensures heard { (held : List ℕ) → Hears hall.now pass.old pass.new held held }
-    ensures ends { IsEndFor why result }
+    ensures ends { result ≡ Over (Some why) }
 {
     match enter(rt, hall, pass, Event::Close) {
         Some(_) => Turn::Over(Some(why)),
-        None => stop_for(rt, hall, pass, Why::Memory),
+        None => stop_for(rt, hall, pass, why),
     }
 }
 
@@ -117,8 +117,8 @@ fn read<S: Source, R: Wait>(
     requires limit { splitter.old.limit ≡ longest_line }
     requires none { has_newline splitter.old.bytes ≡ false }
     ensures ran { ReaderRan hall.now pass.old pass.new
-        (record { given = S.given source.old; left = S.left source.old; half = record { faults = S.faults source.old; is_open = S.is_open source.old; number = S.number source.old }; held = splitter.old.bytes })
-        (record { given = S.given source.new; left = S.left source.new; half = record { faults = S.faults source.new; is_open = S.is_open source.new; number = S.number source.new }; held = splitter.new.bytes })
+        (ear_of (S.given source.old) (S.left source.old) (half_of (S.faults source.old) (S.is_open source.old) (S.number source.old)) splitter.old.bytes)
+        (ear_of (S.given source.new) (S.left source.new) (half_of (S.faults source.new) (S.is_open source.new) (S.number source.new)) splitter.new.bytes)
         (why_of result) }
     ensures limit { splitter.new.limit ≡ longest_line }
 {
@@ -143,8 +143,8 @@ pub fn read_turn<S: Source, R: Wait>(
     requires open { S.is_open source.old ≡ true }
     requires limit { splitter.old.limit ≡ longest_line }
     ensures ran { ReaderRan hall.now pass.old pass.new
-        (record { given = S.given source.old; left = S.left source.old; half = record { faults = S.faults source.old; is_open = S.is_open source.old; number = S.number source.old }; held = splitter.old.bytes })
-        (record { given = S.given source.new; left = S.left source.new; half = record { faults = S.faults source.new; is_open = S.is_open source.new; number = S.number source.new }; held = splitter.new.bytes })
+        (ear_of (S.given source.old) (S.left source.old) (half_of (S.faults source.old) (S.is_open source.old) (S.number source.old)) splitter.old.bytes)
+        (ear_of (S.given source.new) (S.left source.new) (half_of (S.faults source.new) (S.is_open source.new) (S.number source.new)) splitter.new.bytes)
         (why_of result) }
     ensures limit { splitter.new.limit ≡ longest_line }
 {
@@ -169,8 +169,8 @@ pub fn listen<S: Source, R: Wait>(
     requires open { S.is_open source.old ≡ true }
     requires limit { splitter.old.limit ≡ longest_line }
     ensures ran { ReaderRan hall.now pass.old pass.new
-        (record { given = S.given source.old; left = S.left source.old; half = record { faults = S.faults source.old; is_open = S.is_open source.old; number = S.number source.old }; held = splitter.old.bytes })
-        (record { given = S.given source.new; left = S.left source.new; half = record { faults = S.faults source.new; is_open = S.is_open source.new; number = S.number source.new }; held = splitter.new.bytes })
+        (ear_of (S.given source.old) (S.left source.old) (half_of (S.faults source.old) (S.is_open source.old) (S.number source.old)) splitter.old.bytes)
+        (ear_of (S.given source.new) (S.left source.new) (half_of (S.faults source.new) (S.is_open source.new) (S.number source.new)) splitter.new.bytes)
         result }
     ensures limit { splitter.new.limit ≡ longest_line }
 {

@@ -2,10 +2,10 @@
 ghost use Rattle.std.specs.Prelude.{◌≡◌, ◌++◌, ◌∷◌, [], ℕ, take, true, OnOk, IsErr};
 ghost use Rattle.std.specs.Io.KnownBytes.{Appends};
 ghost use Rattle.ann_outside.specs.Causes.{StaysUntold};
-ghost use Rattle.kit_serve.specs.Turns.{Half, Leaves};
+ghost use Rattle.kit_serve.specs.Turns.{Leaves};
 ghost use Rattle.hall.specs.Passes.{seen_of};
-ghost use Rattle.kit_async_roles.specs.Passes.{Stands, why_of};
-ghost use Rattle.kit_async_roles.specs.Writing.{IsNextLine, MouthValue, WriterRan};
+ghost use Rattle.kit_async_roles.specs.Passes.{Stands, half_of, why_of};
+ghost use Rattle.kit_async_roles.specs.Writing.{IsNextLine, WriterRan, mouth_of};
 
 use crate::turn::{Turn, enter, stop_for};
 use crate::why::Why;
@@ -22,8 +22,8 @@ fn put<W: Sink>(sink: &mut W, line: &[u8]) -> Result<(), Failed>
     ensures ok { OnOk result (Appends (W.taken sink.old) (W.taken sink.new) (line.now ++ 10 ∷ [])) }
     ensures prefix { (n : ℕ) × Appends (W.taken sink.old) (W.taken sink.new) (take n (line.now ++ 10 ∷ [])) }
     ensures silent { StaysUntold (W.taken sink.old) (W.taken sink.new) }
-    ensures sink { Leaves (record { faults = W.faults sink.old; is_open = W.is_open sink.old; number = W.number sink.old })
-        (record { faults = W.faults sink.new; is_open = W.is_open sink.new; number = W.number sink.new }) (IsErr result) }
+    ensures sink { Leaves (half_of (W.faults sink.old) (W.is_open sink.old) (W.number sink.old))
+        (half_of (W.faults sink.new) (W.is_open sink.new) (W.number sink.new)) (IsErr result) }
 {
     write_line(sink, line)?;
     sink.flush()
@@ -41,8 +41,8 @@ fn write<W: Sink, R: Wait>(
     requires open { W.is_open sink.old ≡ true }
     requires line { IsNextLine (seen_of pass.old) line.now }
     ensures ran { WriterRan hall.now pass.old pass.new
-        (record { taken = W.taken sink.old; half = record { faults = W.faults sink.old; is_open = W.is_open sink.old; number = W.number sink.old } })
-        (record { taken = W.taken sink.new; half = record { faults = W.faults sink.new; is_open = W.is_open sink.new; number = W.number sink.new } })
+        (mouth_of (W.taken sink.old) (half_of (W.faults sink.old) (W.is_open sink.old) (W.number sink.old)))
+        (mouth_of (W.taken sink.new) (half_of (W.faults sink.new) (W.is_open sink.new) (W.number sink.new)))
         (why_of result) }
 {
     match put(sink, line.view()) {
@@ -65,8 +65,8 @@ pub fn write_turn<W: Sink, R: Wait>(
     requires stands { Stands hall.now 2 pass.old }
     requires open { W.is_open sink.old ≡ true }
     ensures ran { WriterRan hall.now pass.old pass.new
-        (record { taken = W.taken sink.old; half = record { faults = W.faults sink.old; is_open = W.is_open sink.old; number = W.number sink.old } })
-        (record { taken = W.taken sink.new; half = record { faults = W.faults sink.new; is_open = W.is_open sink.new; number = W.number sink.new } })
+        (mouth_of (W.taken sink.old) (half_of (W.faults sink.old) (W.is_open sink.old) (W.number sink.old)))
+        (mouth_of (W.taken sink.new) (half_of (W.faults sink.new) (W.is_open sink.new) (W.number sink.new)))
         (why_of result) }
 {
     match enter(rt, hall, pass, Event::Next) {
@@ -87,8 +87,8 @@ pub fn speak<W: Sink, R: Wait>(
     requires stands { Stands hall.now 2 pass.old }
     requires open { W.is_open sink.old ≡ true }
     ensures ran { WriterRan hall.now pass.old pass.new
-        (record { taken = W.taken sink.old; half = record { faults = W.faults sink.old; is_open = W.is_open sink.old; number = W.number sink.old } })
-        (record { taken = W.taken sink.new; half = record { faults = W.faults sink.new; is_open = W.is_open sink.new; number = W.number sink.new } })
+        (mouth_of (W.taken sink.old) (half_of (W.faults sink.old) (W.is_open sink.old) (W.number sink.old)))
+        (mouth_of (W.taken sink.new) (half_of (W.faults sink.new) (W.is_open sink.new) (W.number sink.new)))
         result }
 {
     for _ in rt.forever() {
