@@ -1,5 +1,6 @@
 -- What a pass has seen, once it told the core something.
-use Rattle.std.proofs.Common.{◌≡◌, ◌≢◌, ◌⊎◌, inl, inr, ℕ, ◌+◌, List, [], ◌∷◌, ◌++◌, refl, sym, ap, subst, ◌∙◌, Bool, true, false, Some, None, Option}
+use Rattle.std.proofs.Common.{◌≡◌, ◌≢◌, ◌⊎◌, inl, inr, ℕ, ◌+◌, List, [], ◌∷◌, ◌++◌, refl, sym, ap, subst, ◌∙◌, Bool, true, false, Some, None, Option, Result, Ok, Err, IfOk, OnErr, IfSome}
+use Rattle.std.specs.Option.{IsSome}
 use Rattle.hall.specs.declared.view.Link.{Link}
 use Rattle.hall.specs.Log.{flat, NotBy, Allowed, Legal as LegalLog}
 use Rattle.hall.specs.Passes.{IsPassOf, HasEntered, seen_of}
@@ -30,3 +31,14 @@ stands_on h n p q s t = subst (λ (m : ℕ). Stands h m q) s.number_is t
 -- the same by the number
 pub numbered : (h : KitHall) (n : ℕ) (p : KitPass) → Stands h n p → Stands h p.number p
 numbered h n p s = subst (λ (m : ℕ). Stands h m p) (sym s.number_is) s
+
+-- what the hall says of a step, whether or not memory was found for it
+pub entered_stands : {E : Type 0} (h : KitHall) (p q : KitPass) (event : Event) (result : Result Reply E) → Stands h p.number p → IsPassOf h q × (q.number ≡ p.number)
+    → IfOk result (Enters h p q event) → OnErr result (q ≡ p) → Stands h p.number q
+entered_stands h p q event (Ok reply) s own ok err = record { pass = own.0; number_is = own.1; legal = entered_legal h p q event reply ok }
+entered_stands h p q event (Err e) s own ok err = stands_still h p.number p q s err
+
+-- a step that needs no memory was answered
+pub answered : (h : KitHall) (p q : KitPass) (event : Event) (o : Option Reply) → IsSome o → IfSome o (Enters h p q event) → (reply : Reply) × Enters h p q event reply
+answered h p q event None some e = cc
+answered h p q event (Some reply) some e = (reply, e)
