@@ -1,8 +1,11 @@
 -- What a kit that served several jobs at once did.
-use Rattle.std.specs.Prelude.{ℕ, ◌≡◌, ◌⊎◌, ◌+◌, ◌<◌, ◌≤◌, Bool, true, false, List, [], ◌∷◌, ◌++◌, map, length, slice_get, Option, Some, None, IfSome}
+use Rattle.std.specs.Prelude.{ℕ, ◌≡◌, ◌⊎◌, ◌+◌, ◌<◌, Bool, true, false, List, [], ◌∷◌, ◌++◌, length, slice_get, Option, Some, None, option_map, IfSome, IsTrue}
+use Rattle.std.specs.List.{list_any, list_all}
 use Rattle.std.specs.Io.KnownBytes.{Appends}
-use Rattle.annex_model.specs.Lines.{text, Cut}
+use Rattle.ann_outside.specs.Causes.{StaysUntold}
+use Rattle.annex_model.specs.Lines.{text, has_newline, Cut}
 use Rattle.kit_core.specs.declared.call.Call.{Call as RemoteCall}
+use Rattle.kit_serve.specs.Limits.{longest_line, is_short, next_line}
 use Rattle.kit_async_core.specs.declared.setup.Setup.{Setup}
 use Rattle.kit_async.specs.declared.why.Why.{Why}
 use Rattle.kit_async.specs.declared.why.Why.TheVariants.{Eof, ReadFault, WriteFault, Bad, Memory}
@@ -10,22 +13,27 @@ use Rattle.kit_async_core.specs.declared.entry.Entry.{Entry}
 use Rattle.kit_async_core.specs.declared.entry.Entry.TheVariants.{Heard, Take, Call, Say, Wrote, Close, Lack}
 use Rattle.kit_async.specs.declared.lent.KitEntry.{KitEntry}
 use Rattle.kit_async.specs.declared.lent.KitEntry.TheVariants.{Heard as HeardShown, Take as TakeShown, Call as CallShown, Say as SayShown, Wrote as WroteShown, Close as CloseShown, Lack as LackShown, Stop as StopShown}
-use Rattle.kit_async_core.specs.Standings.{standing}
-use Rattle.kit_async_core.specs.Standings.{Standing}
-use Rattle.kit_async_core.specs.Legality.{is_legal, is_some_line, IsFinished}
 use Rattle.kit_async_core.specs.Callings.{calls_of}
+use Rattle.kit_async_core.specs.Legality.{is_legal, is_lack, IsFinished}
 use Rattle.kit_async_core.specs.Lines.{heard_lines}
+use Rattle.kit_async_core.specs.Standings.{standing}
 use Rattle.kit_async_roles.specs.Writing.{IsFaltered, written_lines}
 
 -- ---- the end
 
--- How it stands by why it stopped. Bad is a line that ended it, or one that was too long to be heard.
-abbrev pub IsEnd : Why → Setup → Standing → Type 0
-IsEnd Eof setup s = IsFinished setup s × (s.over ≡ false) × (s.closed ≡ true)
-IsEnd ReadFault setup s = IsFinished setup s × (s.over ≡ false) × (s.closed ≡ true)
-IsEnd Bad setup s = IsFinished setup s
-IsEnd WriteFault setup s = is_some_line s.unwritten ≡ true
-IsEnd Memory setup s = Unit {0}
+-- How it stands by why it stopped, with what is held of the host's bytes and what its source has left. At the end of the host's lines
+-- and after a failed read no whole line is held. Bad is a line that ended it, or one that is too long, which was never heard.
+abbrev pub IsEnd : Why → Setup → List Entry → List ℕ → Option (List ℕ) → Type 0
+IsEnd Eof setup journal rest left =
+    IsFinished setup (standing setup journal) × ((standing setup journal).over ≡ false) × ((standing setup journal).closed ≡ true) × (has_newline rest ≡ false) × IfSome left (λ bytes. bytes ≡ [])
+IsEnd ReadFault setup journal rest left =
+    IsFinished setup (standing setup journal) × ((standing setup journal).over ≡ false) × ((standing setup journal).closed ≡ true) × (has_newline rest ≡ false)
+IsEnd Bad setup journal rest left =
+    IsFinished setup (standing setup journal)
+    × ((((standing setup journal).over ≡ true) × (list_any is_lack journal ≡ false))
+    ⊎ (((standing setup journal).over ≡ false) × ((standing setup journal).closed ≡ true) × (longest_line < length (next_line rest))))
+IsEnd WriteFault setup journal rest left = Unit {0}
+IsEnd Memory setup journal rest left = Unit {0}
 
 -- ---- the exit status
 
@@ -78,24 +86,29 @@ Gained setup journal n [] [] = Unit {0}
 Gained setup journal n [] (new ∷ news) = ⊥
 Gained setup journal n (old ∷ olds) [] = ⊥
 Gained setup journal n (old ∷ olds) (new ∷ news) =
-    IfSome old (λ before. IfSome new (λ now. now ≡ before ++ calls_of setup n journal)) × Gained setup journal (n + 1) olds news
+    (new ≡ option_map (λ told. told ++ calls_of setup n journal) old) × Gained setup journal (n + 1) olds news
 
--- The journal is legal, and but for want of memory nothing is left due. The source gave the lines that were heard, and a rest; at the
--- end of the host's lines nothing is left of it. The sink took the text of the lines that are written, and where writing failed the
--- first bytes of the next. Each remote had the calls that the journal has of it. And it stands as the end says.
+-- these bytes are the text of the lines that are written; where writing failed, the first bytes of the next come after it
+abbrev pub IsWrittenBy : Why → List Entry → List ℕ → Type 0
+IsWrittenBy WriteFault journal bytes = IsFaltered journal bytes
+IsWrittenBy why journal bytes = bytes ≡ text (written_lines journal)
+
+-- The journal is legal, and unless memory ran out nothing is left due. The source gave the lines that were heard, none of them too long,
+-- and a rest. The sink took the text of the lines that are written, and where writing failed the first bytes of the next. Each remote had
+-- the calls that the journal has of it, with their requests' arguments. And it stands as the end says.
 pub record Serves (setup : Setup) (old new : Tells) (journal : JournalValue) : Type 0 where
   pub given : List ℕ
   pub taken : List ℕ
   pub rest : List ℕ
   pub legal : is_legal setup journal.entries ≡ true
   pub told : (journal.why ≡ Memory → ⊥) → (standing setup journal.entries).due ≡ None
-  pub gave : Appends old.given new.given given
+  pub gave : Appends old.given new.given given × StaysUntold old.given new.given
   pub cut : Cut given (heard_lines journal.entries) rest
-  pub spent : journal.why ≡ Eof → IfSome new.left (λ bytes. bytes ≡ [])
-  pub took : Appends old.taken new.taken taken
-  pub written : Written journal.entries (Some journal.why) taken
+  pub short : IsTrue (list_all is_short (heard_lines journal.entries))
+  pub took : Appends old.taken new.taken taken × StaysUntold old.taken new.taken
+  pub written : IsWrittenBy journal.why journal.entries taken
   pub gained : Gained setup journal.entries 0 old.calls new.calls
-  pub ended : IsEnd journal.why setup (standing setup journal.entries)
+  pub ended : IsEnd journal.why setup journal.entries rest new.left
 
 -- the settings of the first remote, and how many there are
 abbrev pub setup_of : {K : Type 0} → (K → List (List ℕ)) → List K → Setup
