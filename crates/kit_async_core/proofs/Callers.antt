@@ -211,9 +211,9 @@ takes_asked h p q r asked is l e = go (own_step h p q TakeUp (Work asked) r is e
             asks = b.asks;
           },
           calls_seen h p q TakeUp (Work asked) r is e
-          ∙ ap (λ (g : List Entry). calls_of h.fixed r (seen_of p) ++ calls_from h.fixed s r g) g'
-          ∙ ap (λ (cs : List RemoteCall). calls_of h.fixed r (seen_of p) ++ cs) (turned_calls (find (is_turn_of h.fixed s.jobs r) s.jobs))
-          ∙ append-nil (calls_of h.fixed r (seen_of p)),
+              ∙ ap (λ (g : List Entry). calls_of h.fixed r (seen_of p) ++ calls_from h.fixed s r g) g'
+              ∙ ap (λ (cs : List RemoteCall). calls_of h.fixed r (seen_of p) ++ cs) (turned_calls (find (is_turn_of h.fixed s.jobs r) s.jobs))
+              ∙ append-nil (calls_of h.fixed r (seen_of p)),
         )
 
     go : IsStepped (step_of h.fixed past (r + 3) TakeUp) e.group (Work asked)

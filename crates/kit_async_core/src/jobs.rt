@@ -92,10 +92,7 @@ fn is_first_of_key(jobs: &[Job], job: &Job) -> bool
 fn is_free(setup: &Setup, jobs: &[Job], job: &Job) -> bool
     ensures { result ≡ is_free setup.now jobs.now job.now }
 {
-    job.is_for_any(setup)
-        && job.taken.is_none()
-        && job.calls == 0
-        && is_first_of_key(jobs, job)
+    job.is_for_any(setup) && job.taken.is_none() && job.calls == 0 && is_first_of_key(jobs, job)
 }
 
 // Whether it is this remote's turn to get ready for the job.

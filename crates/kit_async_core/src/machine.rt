@@ -41,10 +41,10 @@ fn can_break(event: &Event) -> bool
     matches!(event, Event::Hear(_) | Event::Take | Event::Next)
 }
 
-// The bells of all passes, by their numbers: bell n % 64 is that of pass n.
+// The bells of all passes, by their numbers, and of 64: bell n % 64 is that of pass n.
 fn all_bells(setup: &Setup) -> u64 {
     if setup.remotes < 61 {
-        (1 << (setup.remotes + 3)) - 2
+        u64::MAX >> (61 - setup.remotes)
     } else {
         u64::MAX
     }
@@ -195,11 +195,11 @@ impl KitCore {
         ensures free { takes_no_memory event ≡ true → IsOk result }
         ensures broken { self.new.broken ≡ (self.old.broken || is_break event) }
     {
-        self.bells = bells_of(&self.setup, &event);
         if self.broken && can_break(&event) {
             return Ok(Reply::Broken);
         }
         self.broken = broken_by(self.broken, &event);
+        self.bells = bells_of(&self.setup, &event);
         self.book.step(&self.setup, by, event)
     }
 }
