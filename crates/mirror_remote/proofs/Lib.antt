@@ -1,0 +1,11 @@
+mod MayBegin
+mod Fronts
+mod Answering
+mod Serving
+mod Stopping
+mod Adding
+mod Greeting
+mod Begun
+mod Preparing
+mod Passing
+mod Everywhere
