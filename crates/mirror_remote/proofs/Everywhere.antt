@@ -1,16 +1,21 @@
 -- What follows of a Yes, and of a list of calls.
-use Rattle.std.proofs.Common.{◌≡◌, ◌∙◌, ℕ, suc, List, [], ◌∷◌, refl, sym, ap, subst, Bool, true, false, not, ◌==◌, length, cond, arith}
-use Rattle.std.specs.Prelude.{◌&&◌, ◌||◌}
+use Rattle.std.proofs.Common.{◌≡◌, ◌⊎◌, inl, inr, ◌∙◌, ℕ, suc, List, [], ◌∷◌, refl, sym, ap, subst, Bool, true, false, not, ◌==◌, Option, Some, None, length, cond, arith, ⊥}
+use Rattle.std.specs.Prelude.{◌&&◌, ◌||◌, codes, Result, Ok, Err, IfOk}
+use Rattle.ann_key.specs.declared.bytes.NoMemory.{NoMemory}
 use Rattle.std.specs.List.{list_all, list_any}
-use Rattle.annex_model.specs.Messages.{HostMessage}
+use Rattle.annex_model.specs.Messages.{HostMessage, Transfer, Checkpresent, Remove}
 use Rattle.journal_model.specs.declared.verdict.Verdict.{Verdict}
 use Rattle.journal_model.proofs.Looks.{both, same_number}
 use Rattle.kit_core.specs.declared.call.Said.{Said}
 use Rattle.kit_core.specs.declared.call.Said.TheVariants.{Yes, No, Failure}
-use Rattle.mirror_remote.specs.Children.{ChildValue, AreSoundChildren, AreSoundLogs}
-use Rattle.mirror_remote.specs.Rule.{all_said, check_said, is_absent, is_done, is_enough, last_refusal, Answers, AreAsBefore, AsksFront, GoesOn}
-use Rattle.mirror_remote.specs.Mirrors.{IsSoundMirror, MirrorValue}
-use Rattle.mirror_remote.specs.Sessions.{AllDid, AreCalls, Called, IsFresh}
+use Rattle.kit_core.specs.declared.call.Asked.{Asked}
+use Rattle.kit_core.specs.declared.call.Asked.TheVariants.{Prepare as AskPrepare, Store as AskStore, Retrieve as AskRetrieve, Check as AskCheck, Remove as AskRemove}
+use Rattle.mirror_plan.specs.declared.plan.Plan.{Plan}
+use Rattle.mirror_plan.specs.Settings.{first_bad, plans_in}
+use Rattle.mirror_remote.specs.Children.{ChildValue}
+use Rattle.mirror_remote.specs.Rule.{all_said, check_said, failure, retrieve_said, Rules, is_absent, is_done, is_enough, last_refusal, Answers, AreAsBefore, AsksFront, GoesOn}
+use Rattle.mirror_remote.specs.Mirrors.{MirrorValue, PreparesTo}
+use Rattle.mirror_remote.specs.Sessions.{is_prepare, is_prepared_after, prepared_by, AllDid, AreCalls, Called, IsFresh, Keeps}
 
 -- a refusal is no Yes
 refused : {A : Type 0} (cs : List ChildValue) (vs : List Verdict) → last_refusal cs vs ≡ Yes → A
@@ -62,12 +67,46 @@ all_have q old new a =
 
 -- ---- lists of calls
 
-fresh_sound : (m : MirrorValue) → IsFresh m → IsSoundMirror m
-fresh_sound m f = record { children = subst AreSoundChildren (sym f.0) tt; logs = subst AreSoundLogs (sym f.1) tt }
+front_none : (goes : Verdict → Bool) (q : HostMessage) (new : List ChildValue) (vs : List Verdict) → AsksFront goes q [] new vs → new ≡ []
+front_none goes q [] [] f = refl
+front_none goes q (c ∷ new) [] f = absurd f
+front_none goes q new (v ∷ vs) f = absurd f
 
-pub calls_sound : (m n : MirrorValue) (calls : List Called) → IsFresh m → AreCalls m calls n → IsSoundMirror n
-calls_sound m n calls fresh made = go m calls (fresh_sound m fresh) made
+-- a mirror without children asks nobody
+pub asks_nobody : (goes : Verdict → Bool) (q : HostMessage) (says : List ChildValue → List Verdict → Said) (old new : List ChildValue) (r : Result Said NoMemory) → old ≡ [] → Rules goes q says old new r
+    → (new ≡ []) × IfOk r (λ said. said ≡ failure (codes "not prepared"))
+asks_nobody goes q says [] new (Ok said) none k = k
+asks_nobody goes q says [] new (Err e) none (vs, f) = (front_none goes q new vs f, tt)
+asks_nobody goes q says (c ∷ old) new r none k = absurd cc
+
+pub refuses_all : (asked : Asked) (answer : Result Said NoMemory) (old new : MirrorValue) → is_prepare asked ≡ false → old.children ≡ [] → Keeps asked answer old new
+    → (new.children ≡ []) × IfOk answer (λ said. said ≡ failure (codes "not prepared"))
+refuses_all (AskPrepare values) answer old new other none keeps = absurd cc
+refuses_all (AskStore key file) answer old new other none keeps = asks_nobody is_done (Transfer true key file) all_said old.children new.children answer none keeps.0
+refuses_all (AskRetrieve key file) answer old new other none keeps = asks_nobody (λ v. not (is_done v)) (Transfer false key file) retrieve_said old.children new.children answer none keeps.0
+refuses_all (AskCheck key) answer old new other none keeps = asks_nobody is_done (Checkpresent key) check_said old.children new.children answer none keeps.0
+refuses_all (AskRemove key) answer old new other none keeps = asks_nobody is_done (Remove key) all_said old.children new.children answer none keeps.0
+
+-- a prepare that doesn't say Yes leaves no child
+unready : (o : Option ℕ) (plans : List Plan) (old new : MirrorValue) (said : Said) → (said ≡ Yes → ⊥) → PreparesTo o plans old new said → new.children ≡ []
+unready (Some n) plans old new said no p = p.0.children
+unready None [] old new said no p = p.0.children
+unready None (p ∷ ps) old new said no (inl (a, is)) = absurd (no is)
+unready None (p ∷ ps) old new said no (inr (n, s, is)) = s.none
+
+emptied : (asked : Asked) (answer : Result Said NoMemory) (was : Bool) (old new : MirrorValue) → (was ≡ false → old.children ≡ []) → Keeps asked answer old new → prepared_by asked answer was ≡ false → new.children ≡ []
+emptied (AskPrepare values) (Ok Yes) was old new known keeps h = absurd cc
+emptied (AskPrepare values) (Ok No) was old new known keeps h = unready (first_bad values) (plans_in values) old new No (λ e. absurd cc) keeps
+emptied (AskPrepare values) (Ok (Failure text)) was old new known keeps h = unready (first_bad values) (plans_in values) old new (Failure text) (λ e. absurd cc) keeps
+emptied (AskPrepare values) (Err e) was old new known keeps h = keeps.none
+emptied (AskStore key file) answer was old new known keeps h = (refuses_all (AskStore key file) answer old new refl (known h) keeps).0
+emptied (AskRetrieve key file) answer was old new known keeps h = (refuses_all (AskRetrieve key file) answer old new refl (known h) keeps).0
+emptied (AskCheck key) answer was old new known keeps h = (refuses_all (AskCheck key) answer old new refl (known h) keeps).0
+emptied (AskRemove key) answer was old new known keeps h = (refuses_all (AskRemove key) answer old new refl (known h) keeps).0
+
+pub unprepared_empty : (m n : MirrorValue) (calls : List Called) → IsFresh m → AreCalls m calls n → is_prepared_after false calls ≡ false → n.children ≡ []
+unprepared_empty m n calls fresh made h = go calls false m (λ e. fresh.0) made h
   where
-    go : (old : MirrorValue) (calls : List Called) → IsSoundMirror old → AreCalls old calls n → IsSoundMirror n
-    go old [] s same = subst IsSoundMirror (sym same) s
-    go old (call ∷ calls) s (mid, keeps, after, rest) = go mid calls after rest
+    go : (calls : List Called) (was : Bool) (old : MirrorValue) → (was ≡ false → old.children ≡ []) → AreCalls old calls n → is_prepared_after was calls ≡ false → n.children ≡ []
+    go [] was old known same h = ap (λ (x : MirrorValue). x.children) same ∙ known h
+    go (call ∷ calls) was old known (mid, keeps, rest) h = go calls (prepared_by call.asked call.answer was) mid (λ e. emptied call.asked call.answer was old mid known keeps e) rest h

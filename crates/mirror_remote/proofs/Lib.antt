@@ -7,5 +7,7 @@ mod Adding
 mod Greeting
 mod Begun
 mod Preparing
+mod Prepared
 mod Passing
 mod Everywhere
+mod Keeping

@@ -1,13 +1,16 @@
 // Laws over the definitions, and worked cases, each the contract of a function with nothing to do.
-ghost use Rattle.std.specs.Prelude.{◌≡◌, [], ◌∷◌, not, true, false, codes, List};
+ghost use Rattle.std.specs.Prelude.{◌≡◌, [], ◌∷◌, not, true, false, codes, List, Result, IfOk};
+ghost use Rattle.ann_key.specs.declared.bytes.NoMemory.{NoMemory};
 ghost use Rattle.annex_model.specs.Messages.{HostMessage};
 ghost use Rattle.journal_model.specs.declared.verdict.Why.TheVariants.{Eof, Memory};
 ghost use Rattle.journal_model.specs.declared.verdict.Verdict.TheVariants.{Done, Failed, Absent, Unknown, Unsupported, Ended, Unsent};
+ghost use Rattle.kit_core.specs.declared.call.Asked.{Asked};
+ghost use Rattle.kit_core.specs.declared.call.Said.{Said};
 ghost use Rattle.kit_core.specs.declared.call.Said.TheVariants.{Yes, No, Failure};
 ghost use Rattle.mirror_remote.specs.Children.{ChildValue};
-ghost use Rattle.mirror_remote.specs.Rule.{all_said, check_said, is_done, is_enough, retrieve_said, Answers};
-ghost use Rattle.mirror_remote.specs.Mirrors.{IsSoundMirror, MirrorValue};
-ghost use Rattle.mirror_remote.specs.Sessions.{AllDid, AreCalls, Called, IsFresh};
+ghost use Rattle.mirror_remote.specs.Rule.{all_said, check_said, failure, is_done, is_enough, retrieve_said, Answers};
+ghost use Rattle.mirror_remote.specs.Mirrors.{MirrorValue};
+ghost use Rattle.mirror_remote.specs.Sessions.{is_prepare, is_prepared_after, AllDid, AreCalls, Called, IsFresh, Keeps};
 ghost use Rattle.mirror_remote.specs.Rows.{two, two_saying};
 
 /// Over two children a store is over when one fails, or both did it. One success isn't enough.
@@ -44,9 +47,14 @@ pub fn yes_is_everywhere()
     ensures checked { (q : HostMessage) (old new : List ChildValue) → Answers is_done q check_said old new Yes → AllDid q old new }
 {}
 
-/// Over every list of calls, each journal of the children is legal, and each job's part fits: a conversation, or on a child that ended the front
-/// of one.
-#[tactic(auto, using(crate::proofs::Everywhere::calls_sound))]
-pub fn calls_keep_journals()
-    ensures { (m n : MirrorValue) (calls : List Called) → IsFresh m → AreCalls m calls n → IsSoundMirror n }
+/// After a list of calls whose last prepare didn't say Yes, or that has none, a mirror has no child.
+#[tactic(auto, using(crate::proofs::Everywhere::unprepared_empty))]
+pub fn unprepared_is_empty()
+    ensures { (m n : MirrorValue) (calls : List Called) → IsFresh m → AreCalls m calls n → is_prepared_after false calls ≡ false → n.children ≡ [] }
+{}
+
+/// Without a child each call but a prepare says that the mirror isn't prepared, and nobody is asked.
+#[tactic(auto, using(crate::proofs::Everywhere::refuses_all))]
+pub fn unprepared_refuses()
+    ensures { (asked : Asked) (answer : Result Said NoMemory) (old new : MirrorValue) → is_prepare asked ≡ false → old.children ≡ [] → Keeps asked answer old new → (new.children ≡ []) × IfOk answer (λ said. said ≡ failure (codes "not prepared")) }
 {}
