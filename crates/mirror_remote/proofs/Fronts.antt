@@ -1,6 +1,6 @@
 -- From one child that was asked to the next, and what is said of the last.
 use Rattle.std.proofs.Common.{◌≡◌, ◌⊎◌, inl, inr, ◌∙◌, ℕ, zero, suc, ◌+◌, ◌≤◌, ◌<◌, List, [], ◌∷◌, ◌++◌, refl, sym, ap, subst, Bool, true, false, not, ◌==◌, length, length-append, slice_set, slice_index_or, arith}
-use Rattle.std.specs.Prelude.{◌&&◌, ◌||◌, if◌then◌else◌, codes}
+use Rattle.std.specs.Prelude.{◌&&◌, ◌||◌, if◌then◌else◌, IfSome, codes}
 use Rattle.std.specs.List.{list_all, list_any}
 use Rattle.annex_model.specs.Messages.{HostMessage}
 use Rattle.journal_model.specs.declared.verdict.Verdict.{Verdict}
@@ -8,6 +8,10 @@ use Rattle.journal_model.specs.declared.verdict.Verdict.TheVariants.{Done, Faile
 use Rattle.journal_model.specs.declared.opening.Opening.{Opening}
 use Rattle.journal_model.specs.declared.entry.Entry.{Entry}
 use Rattle.journal_model.proofs.Looks.{both, same, same_number}
+use Rattle.journal_model.specs.Due.{replies_at}
+use Rattle.journal_model.specs.Parts.{part}
+use Rattle.journal_model.specs.Projection.{Ends, final_in}
+use Rattle.host_core.specs.Steps.{next_job}
 use Rattle.link_roles.specs.Alone.{AskedAlone}
 use Rattle.kit_core.specs.declared.call.Said.{Said}
 use Rattle.kit_core.specs.declared.call.Said.TheVariants.{Yes, No}
@@ -25,7 +29,7 @@ before_refl (c ∷ cs) = (record { journal = refl; opening = refl; number = refl
 asked_before : (q : HostMessage) (d c c' : ChildValue) (v : Verdict) → IsAsBefore d c → IsAsked q c c' v → IsAsked q d c' v
 asked_before q d c c' v b a = record {
   asked = subst (λ (o : Opening). AskedAlone o d.journal c'.journal 0 1 0 q v) b.opening (subst (λ (j : List Entry). AskedAlone c.opening j c'.journal 0 1 0 q v) b.journal a.asked);
-  named = a.named;
+  told = subst (λ (j : List Entry). IfSome (final_in v) (λ f. Ends (replies_at c'.opening c'.journal) q (part c'.journal 1 (next_job j 1)) f.0 f.1)) b.journal a.told;
   opening = a.opening ∙ b.opening;
   number = a.number ∙ b.number;
 }

@@ -1,6 +1,7 @@
 mod MayBegin
 mod Fronts
 mod Answering
+mod Told
 mod Serving
 mod Stopping
 mod Adding

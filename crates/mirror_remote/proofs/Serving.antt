@@ -2,7 +2,6 @@
 use Rattle.std.proofs.Common.{◌≡◌, ◌⊎◌, inl, inr, ◌∙◌, ℕ, ◌≤◌, ◌<◌, ◌+◌, List, [], ◌∷◌, ◌++◌, refl, sym, ap, subst, Bool, true, false, ◌==◌, Option, Some, None, append_assoc, append-nil, length, length-append, arith}
 use Rattle.std.specs.Prelude.{◌&&◌, ◌||◌, nat_lt, Result, Ok, Err, IfOk, OnErr}
 use Rattle.ann_key.specs.declared.bytes.NoMemory.{NoMemory}
-use Rattle.journal_model.specs.Projection.{IsNamed}
 use Rattle.std.specs.List.{list_all}
 use Rattle.std.specs.Option.{option_or}
 use Rattle.std.proofs.lemmas.List.Folds.{list_all-append}
@@ -22,6 +21,7 @@ use Rattle.child_start.proofs.Jobs.{idle_asked, or_true}
 use Rattle.child_start.proofs.Requests.{main_both}
 use Rattle.mirror_remote.specs.Children.{ChildValue, IsLinked, IsServing}
 use Rattle.mirror_remote.specs.Rule.{is_mirrored, IsAsked}
+use Rattle.mirror_remote.proofs.Told.{asked_told}
 
 -- ---- it may be asked
 
@@ -143,12 +143,12 @@ module _ (r : Result Verdict NoMemory) (q : HostMessage) (c c' : ChildValue) (k 
   asked_one : IfOk r (AskedAlone c.opening c.journal c'.journal 0 1 0 q)
   asked_one = subst (λ (n : ℕ). IfOk r (AskedAlone c.opening c.journal c'.journal 0 n 0 q)) first asked
 
-  pub asked_if : IfOk r (IsNamed q) → c'.opening ≡ c.opening → c'.number ≡ c.number → IfOk r (IsAsked q c c')
-  asked_if named opening number = go r asked_one named
+  pub asked_if : IsLinked c → is_mirrored q ≡ true → Legal c'.opening c'.journal → c'.opening ≡ c.opening → c'.number ≡ c.number → IfOk r (IsAsked q c c')
+  asked_if linked mirrored legal opening number = go r asked_one
     where
-      go : (x : Result Verdict NoMemory) → IfOk x (AskedAlone c.opening c.journal c'.journal 0 1 0 q) → IfOk x (IsNamed q) → IfOk x (IsAsked q c c')
-      go (Ok v) a n = record { asked = a; named = n; opening = opening; number = number }
-      go (Err e) a n = tt
+      go : (x : Result Verdict NoMemory) → IfOk x (AskedAlone c.opening c.journal c'.journal 0 1 0 q) → IfOk x (IsAsked q c c')
+      go (Ok v) a = record { asked = a; told = asked_told c c' q v linked (in_turn c.journal 2 q mirrored refl).1 legal a; opening = opening; number = number }
+      go (Err e) a = tt
 
   pub serving_if : IsServing c → OnErr r (c'.journal ≡ c.journal) → Legal c'.opening c'.journal → KeepsLink c.journal c'.journal c.ear c'.ear c.mouth c'.mouth → IsServing c'
   serving_if s same legal link = go r asked_one same

@@ -1,5 +1,5 @@
 -- The mirror rule: which children a call asks, in which order, and what it says.
-use Rattle.std.specs.Prelude.{ℕ, ◌≡◌, ◌==◌, ◌&&◌, ◌||◌, not, Bool, true, false, if◌then◌else◌, List, [], ◌∷◌, ◌++◌, length, Result, Ok, Err, codes, decimal}
+use Rattle.std.specs.Prelude.{ℕ, ◌≡◌, ◌==◌, ◌&&◌, ◌||◌, not, Bool, true, false, if◌then◌else◌, List, [], ◌∷◌, ◌++◌, length, Result, Ok, Err, IfSome, codes, decimal}
 use Rattle.std.specs.List.{list_all, list_any, before_first}
 use Rattle.ann_key.specs.declared.bytes.NoMemory.{NoMemory}
 use Rattle.annex_model.specs.Messages.{HostMessage, Transfer, Checkpresent, Remove, is_sent_key}
@@ -9,7 +9,10 @@ use Rattle.journal_model.specs.declared.verdict.Verdict.TheVariants.{Done, Faile
 use Rattle.journal_model.specs.declared.entry.Entry.{Entry}
 use Rattle.journal_model.specs.Legality.{is_text}
 use Rattle.journal_model.specs.Output.{text_at}
-use Rattle.journal_model.specs.Projection.{IsNamed}
+use Rattle.journal_model.specs.Due.{replies_at}
+use Rattle.journal_model.specs.Parts.{part}
+use Rattle.journal_model.specs.Projection.{Ends, final_in}
+use Rattle.host_core.specs.Steps.{next_job}
 use Rattle.journal_model.specs.Shares.{is_memory}
 use Rattle.link_roles.specs.Alone.{AskedAlone}
 use Rattle.kit_core.specs.declared.call.Said.{Said}
@@ -40,10 +43,14 @@ is_mirrored (Checkpresent key) = is_sent_key key
 is_mirrored (Remove key) = is_sent_key key
 is_mirrored q = false
 
+-- Where a line gave the verdict, the part of the child's next job is a whole conversation about this request, which ends so at that line.
+abbrev pub IsTold : HostMessage → ChildValue → ChildValue → Verdict → Type 0
+IsTold q old new v = IfSome (final_in v) (λ f. Ends (replies_at new.opening new.journal) q (part new.journal 1 (next_job old.journal 1)) f.0 f.1)
+
 -- the request was put to the child, as its next job, and came to this verdict, or it was lost, since the child had ended or was mute
 pub record IsAsked (q : HostMessage) (old new : ChildValue) (v : Verdict) : Type 0 where
   pub asked : AskedAlone old.opening old.journal new.journal 0 1 0 q v
-  pub named : IsNamed q v
+  pub told : IsTold q old new v
   pub opening : new.opening ≡ old.opening
   pub number : new.number ≡ old.number
 

@@ -29,7 +29,8 @@ returns-clause-asked g c =
     let s : IsServing old = subst IsServing (sym c.self.view_is) c.requires.serving in
     let q = message_of c.args.request.now in
     subst (λ (x : ChildValue). IfOk c.ask_over.result (IsAsked q x new)) c.self.view_is
-    (asked_if c.ask_over.result q old new c.self.inside.link.ear.child s.linked.child c.ask_over.ensures.asked c.ask_over.ensures.named c.ask_over.ensures.core.opening refl)
+    (asked_if c.ask_over.result q old new c.self.inside.link.ear.child s.linked.child c.ask_over.ensures.asked s.linked c.requires.mirrored
+    (c.ask_over.ensures.core.legal s.linked.legal) c.ask_over.ensures.core.opening refl)
 
 pub returns-clause-serving : goal.returns-clause-serving
 returns-clause-serving g c =
