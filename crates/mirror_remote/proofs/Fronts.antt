@@ -1,6 +1,7 @@
 -- From one child that was asked to the next, and what is said of the last.
 use Rattle.std.proofs.Common.{◌≡◌, ◌⊎◌, inl, inr, ◌∙◌, ℕ, zero, suc, ◌+◌, ◌≤◌, ◌<◌, List, [], ◌∷◌, ◌++◌, refl, sym, ap, subst, Bool, true, false, not, ◌==◌, length, length-append, slice_set, slice_index_or, arith}
-use Rattle.std.specs.Prelude.{◌&&◌, ◌||◌, if◌then◌else◌, IfSome, codes}
+use Rattle.std.specs.Prelude.{◌&&◌, ◌||◌, if◌then◌else◌, IfSome, codes, Result, Ok, Err}
+use Rattle.ann_key.specs.declared.bytes.NoMemory.{NoMemory}
 use Rattle.std.specs.List.{list_all, list_any}
 use Rattle.annex_model.specs.Messages.{HostMessage}
 use Rattle.journal_model.specs.declared.verdict.Verdict.{Verdict}
@@ -16,7 +17,7 @@ use Rattle.link_roles.specs.Alone.{AskedAlone}
 use Rattle.kit_core.specs.declared.call.Said.{Said}
 use Rattle.kit_core.specs.declared.call.Said.TheVariants.{Yes, No}
 use Rattle.mirror_remote.specs.Children.{ChildValue, AreServing, IsServing}
-use Rattle.mirror_remote.specs.Asking.{AskedTo, AsksAt, LeavesAt}
+use Rattle.mirror_remote.specs.Asking.{AskedTo, AsksAt, AsksEach, LeavesAt}
 use Rattle.mirror_remote.specs.Rule.{all_said, check_said, failure, is_absent, is_done, is_enough, is_starved, last_refusal, refusal, retrieve_said, Answers, AreAsBefore, AsksFront, GoesOn, IsAsBefore, IsAsked}
 
 -- ---- children as before
@@ -244,6 +245,11 @@ module _ (goes : Verdict → Bool) (q : HostMessage) (old now new : List ChildVa
           or_same : (b : Bool) (n : ℕ) → (b || n == n) ≡ true
           or_same true n = refl
           or_same false n = same n
+
+-- no memory was found: some were asked
+pub asks_err : (goes : Verdict → Bool) (q : HostMessage) (old new : List ChildValue) (vs : List Verdict) (r : Result (ℕ × Verdict) NoMemory) (e : NoMemory) → r ≡ Err e → AsksFront goes q old new vs → AsksEach goes q old new r
+asks_err goes q old new vs (Err x) e is f = (vs, f)
+asks_err goes q old new vs (Ok asked) e is f = absurd cc
 
 -- it is the last, or another one is to be asked
 pub last_either : (goes : Bool) (at n : ℕ) → (not goes || at + 1 == n) ≡ true → (goes ≡ false) ⊎ (at + 1 ≡ n)

@@ -1,12 +1,22 @@
 use Rattle.std.proofs.Common.{◌++◌, ◌∷◌, [], ◌≡◌, ◌==◌, ◌+◌, not, false, true, length, ap, sym, ◌∙◌, arith, ℕ}
 use Rattle.std.specs.Prelude.{◌||◌}
+use Rattle.std.proofs.lemmas.Result.{err_from_is_err_and}
 use Rattle.talk_serial.specs.Requests.{message_of}
 use Rattle.mirror_remote.specs.Asking.{goes_while}
-use Rattle.mirror_remote.proofs.Fronts.{asked_front, asked_to, at_first, at_next, goes_more, last_either}
+use Rattle.mirror_remote.proofs.Fronts.{asked_front, asked_to, asks_err, at_first, at_next, goes_more, last_either, left_front}
 use Rattle.mirror_remote.proofs.asking.ask_each.Goals as goal
 
 pub children-init : goal.children-init
 children-init g c = at_first (goes_while c.args.while_done) (message_of c.args.request.now) c.args.children.now.items c.requires.some c.requires.serving
+
+pub returns-in_err-verdict-clause-asks : goal.returns-in_err-verdict-clause-asks
+returns-in_err-verdict-clause-asks g c =
+    let a = c.children.invariant in
+    let goes = goes_while c.args.while_done in
+    let q = message_of c.args.request.now in
+    let p = err_from_is_err_and c.from_residual.result c.from_residual.ensures.1 in
+    asks_err goes q c.args.children.now.items c.ask_at.new.children.items a.verdicts c.from_residual.result p.0 p.1
+    (left_front goes q c.args.children.now.items c.children.children.items c.ask_at.new.children.items c.children.at a a.more c.in_err-verdict.ensures.none)
 
 pub returns-then-is_starved-clause-asks : goal.returns-then-is_starved-clause-asks
 returns-then-is_starved-clause-asks g c =
