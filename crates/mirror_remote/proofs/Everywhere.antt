@@ -14,7 +14,7 @@ use Rattle.mirror_plan.specs.declared.plan.Plan.{Plan}
 use Rattle.mirror_plan.specs.Settings.{first_bad, plans_in}
 use Rattle.mirror_remote.specs.Children.{ChildValue}
 use Rattle.mirror_remote.specs.Rule.{all_said, check_said, failure, retrieve_said, Rules, is_absent, is_done, is_enough, last_refusal, Answers, AreAsBefore, AsksFront, GoesOn}
-use Rattle.mirror_remote.specs.Mirrors.{MirrorValue, PreparesTo}
+use Rattle.mirror_remote.specs.Mirrors.{BeginsTo, MirrorValue, PreparesTo}
 use Rattle.mirror_remote.specs.Sessions.{is_prepare, is_prepared_after, prepared_by, AllDid, AreCalls, Called, IsFresh, Keeps}
 
 -- a refusal is no Yes
@@ -88,11 +88,14 @@ refuses_all (AskCheck key) answer old new other none keeps = asks_nobody is_done
 refuses_all (AskRemove key) answer old new other none keeps = asks_nobody is_done (Remove key) all_said old.children new.children answer none keeps.0
 
 -- a prepare that doesn't say Yes leaves no child
+unbegun : (plans : List Plan) (old new : MirrorValue) (said : Said) → (said ≡ Yes → ⊥) → BeginsTo plans old new said → new.children ≡ []
+unbegun [] old new said never (e, is) = e.children
+unbegun (p ∷ ps) old new said never (inl (a, is)) = absurd (never is)
+unbegun (p ∷ ps) old new said never (inr (n, s, is)) = s.none
+
 unready : (o : Option ℕ) (plans : List Plan) (old new : MirrorValue) (said : Said) → (said ≡ Yes → ⊥) → PreparesTo o plans old new said → new.children ≡ []
-unready (Some n) plans old new said no p = p.0.children
-unready None [] old new said no p = p.0.children
-unready None (p ∷ ps) old new said no (inl (a, is)) = absurd (no is)
-unready None (p ∷ ps) old new said no (inr (n, s, is)) = s.none
+unready (Some n) plans old new said never (e, is) = e.children
+unready None plans old new said never b = unbegun plans old new said never b
 
 emptied : (asked : Asked) (answer : Result Said NoMemory) (was : Bool) (old new : MirrorValue) → (was ≡ false → old.children ≡ []) → Keeps asked answer old new → prepared_by asked answer was ≡ false → new.children ≡ []
 emptied (AskPrepare values) (Ok Yes) was old new known keeps h = absurd cc

@@ -15,7 +15,7 @@ use Rattle.journal_model.specs.declared.entry.What.TheVariants.{Start, Ask}
 use Rattle.journal_model.specs.declared.entry.Entry.{Entry}
 use Rattle.journal_model.specs.declared.opening.Opening.{Opening}
 use Rattle.journal_model.specs.Due.{replies_at}
-use Rattle.journal_model.specs.Journal.{addressed, any, asked_jobs, first_of, is_tagged, offers, on_wire, open_jobs, verdict_of, why_of}
+use Rattle.journal_model.specs.Journal.{accepts_async, addressed, any, asked_jobs, first_of, is_tagged, offers, on_wire, open_jobs, verdict_of, why_of}
 use Rattle.journal_model.specs.Legality.{Legal}
 use Rattle.journal_model.specs.Parts.{part, part_from}
 use Rattle.journal_model.specs.Projection.{Ends, Fits, FitsFinal, PartFits, final_in}
@@ -42,11 +42,9 @@ none_offered (e ∷ es) h =
     rw (offers_none e.what t.0, none_offered es t.1) refl
 
 untagged : (c : ChildValue) → IsLinked c → is_tagged c.journal 1 ≡ false
-untagged c l = tagged (any (offers 1) c.journal) (ap (any (offers 1)) l.first ∙ none_offered l.more l.own)
-  where
-    tagged : {x : Bool} (b : Bool) → b ≡ false → (b && x) ≡ false
-    tagged true e = absurd cc
-    tagged false e = refl
+untagged c l =
+    let none : any (offers 1) c.journal ≡ false = ap (any (offers 1)) l.first ∙ none_offered l.more l.own in
+    ap (λ (b : Bool). b && accepts_async c.journal (verdict_of c.journal 1 0)) none
 
 wired_so : (past : List Entry) (j : ℕ) (message : List ℕ) → is_tagged past 1 ≡ false → (addressed past 1 (on_wire past 1 j message)).1 ≡ message
 wired_so past j message none = rw none refl
