@@ -1,5 +1,5 @@
 -- One more core, and one more wire, among what is left of children.
-use Rattle.std.proofs.Common.{◌≡◌, ◌∙◌, ℕ, ◌+◌, ◌≤◌, ◌<◌, List, [], ◌∷◌, ◌++◌, zero, suc, refl, sym, ap, subst, Some, None, Option, map, length, slice_index_or, append-nil, arith}
+use Rattle.std.proofs.Common.{◌≡◌, ◌∙◌, ℕ, ◌+◌, ◌≤◌, ◌<◌, ◌-◌, List, [], ◌∷◌, ◌++◌, zero, suc, refl, sym, ap, subst, Some, None, Option, map, length, slice_index_or, append-nil, arith}
 use Rattle.std.specs.List.{slice_get}
 use Rattle.std.proofs.lemmas.List.{map-append}
 use Rattle.journal_model.specs.declared.entry.Entry.{Entry}
@@ -66,3 +66,25 @@ module _ (c : ChildValue) (core : CoreValue) (cores more : List CoreValue) (wire
       go is w =
           subst (λ (ls : List LogValue). AreWired ls wires') (sym is.logs)
           (subst (AreWired (map log_of cores ++ is.log ∷ [])) (sym is.wires) (wired_next (map log_of cores) is.log wires (is.wire ∷ []) w (one_child is.log is.wire is.came is.child is.is_wire)))
+
+-- ---- the invariant of what is left
+
+-- the cores are sound, the wires are theirs, and there is room
+abbrev Keeps : List CoreValue → List WireValue → (cores wires journals room for_wires for_journals spare : ℕ) → Type 0
+Keeps cores wires n w j k kw kj spare =
+    AreSoundLogs (map log_of cores) × AreWired (map log_of cores) wires × (n + spare ≤ k) × (w + spare ≤ kw) × (n + spare ≤ kj) × (j ≡ 0)
+
+pub unstarted_kept : (cores more : List CoreValue) (core : CoreValue) (wires : List WireValue) (n n' w j k k' kw kj spare : ℕ) → more ≡ cores ++ core ∷ [] → IsUnwired (log_of core)
+    → 0 < spare → n' ≡ n + 1 → k' ≡ k → Keeps cores wires n w j k kw kj spare → Keeps more wires n' w j k' kw kj (spare - 1)
+unstarted_kept cores more core wires n n' w j k k' kw kj spare e u some len capacity h =
+    (unstarted_sound cores more core e u h.0, unstarted_wired cores more core e u wires h.1.0,
+    (let was = h.1.1.0 in omega (arith, was, some, len, capacity)),
+    (let was = h.1.1.1.0 in omega (arith, was)),
+    (let was = h.1.1.1.1.0 in omega (arith, was, some, len)),
+    h.1.1.1.1.1)
+
+-- there were no journals, so they are those of the cores
+pub finished_journals : {J : Type 0} (f : J → List Entry) (js : List J) (cores : List CoreValue) (new : List (List Entry)) → length js ≡ 0
+    → new ≡ map f js ++ map (λ (c : CoreValue). c.journal) cores → new ≡ map (λ (l : LogValue). l.journal) (map log_of cores)
+finished_journals f [] cores new none is = is ∙ journals_are cores
+finished_journals f (j ∷ js) cores new none is = absurd cc

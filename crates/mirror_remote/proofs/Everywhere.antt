@@ -1,5 +1,5 @@
 -- What follows of a Yes, and of a list of calls.
-use Rattle.std.proofs.Common.{◌≡◌, ◌⊎◌, inl, inr, ◌∙◌, ℕ, suc, List, [], ◌∷◌, refl, sym, ap, subst, Bool, true, false, not, ◌==◌, Option, Some, None, length, cond, arith, ⊥}
+use Rattle.std.proofs.Common.{◌≡◌, ◌⊎◌, inl, inr, ◌∙◌, ℕ, suc, List, [], ◌∷◌, refl, sym, ap, subst, Bool, true, false, not, ◌==◌, Option, Some, None, length, cond, arith}
 use Rattle.std.specs.Prelude.{◌&&◌, ◌||◌, codes, Result, Ok, Err, IfOk}
 use Rattle.ann_key.specs.declared.bytes.NoMemory.{NoMemory}
 use Rattle.std.specs.List.{list_all, list_any}
