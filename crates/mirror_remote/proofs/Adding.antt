@@ -77,14 +77,23 @@ Keeps cores wires n w j k kw kj spare =
 pub unstarted_kept : (cores more : List CoreValue) (core : CoreValue) (wires : List WireValue) (n n' w j k k' kw kj spare : ℕ) → more ≡ cores ++ core ∷ [] → IsUnwired (log_of core)
     → 0 < spare → n' ≡ n + 1 → k' ≡ k → Keeps cores wires n w j k kw kj spare → Keeps more wires n' w j k' kw kj (spare - 1)
 unstarted_kept cores more core wires n n' w j k k' kw kj spare e u some len capacity h =
-    (unstarted_sound cores more core e u h.0, unstarted_wired cores more core e u wires h.1.0,
-    (let was = h.1.1.0 in omega (arith, was, some, len, capacity)),
-    (let was = h.1.1.1.0 in omega (arith, was)),
-    (let was = h.1.1.1.1.0 in omega (arith, was, some, len)),
-    h.1.1.1.1.1)
+    (unstarted_sound cores more core e u h.0, unstarted_wired cores more core e u wires h.1,
+    (let was : n + spare ≤ k = h.2 in omega (arith, was, some, len, capacity)),
+    (let was : w + spare ≤ kw = h.3 in omega (arith, was)),
+    (let was : n + spare ≤ kj = h.4 in omega (arith, was, some, len)),
+    h.5)
 
 -- there were no journals, so they are those of the cores
-pub finished_journals : {J : Type 0} (f : J → List Entry) (js : List J) (cores : List CoreValue) (new : List (List Entry)) → length js ≡ 0
-    → new ≡ map f js ++ map (λ (c : CoreValue). c.journal) cores → new ≡ map (λ (l : LogValue). l.journal) (map log_of cores)
-finished_journals f [] cores new none is = is ∙ journals_are cores
-finished_journals f (j ∷ js) cores new none is = absurd cc
+pub finished_journals : {J : Type 0} (f : J → List Entry) (js : List J) (cores : List CoreValue) (new : List (List Entry)) (wires : List WireValue) (n w k kw kj spare : ℕ)
+    → Keeps cores wires n w (length js) k kw kj spare → new ≡ map f js ++ map (λ (c : CoreValue). c.journal) cores → new ≡ map (λ (l : LogValue). l.journal) (map log_of cores)
+finished_journals f [] cores new wires n w k kw kj spare h is = is ∙ journals_are cores
+finished_journals f (j ∷ js) cores new wires n w k kw kj spare h is = absurd (let none : suc (length js) ≡ 0 = h.5 in omega (arith, none))
+
+-- a place among the logs, as it is lent
+pub journal_at : (s : StoppedValue) (cores : List CoreValue) (wires : List WireValue) (spare n : ℕ) (c : CoreValue) → record { logs = map log_of cores; wires = wires; spare = spare } ≡ s → n < length cores → c ≡ slice_index_or cores n c
+    → Some c.journal ≡ slice_get (map (λ (l : LogValue). l.journal) s.logs) n
+journal_at s cores wires spare n c view within here = subst (λ (x : StoppedValue). Some c.journal ≡ slice_get (map (λ (l : LogValue). l.journal) x.logs) n) view (core_at cores n c within here)
+
+pub journal_past : (s : StoppedValue) (cores : List CoreValue) (wires : List WireValue) (spare n : ℕ) → record { logs = map log_of cores; wires = wires; spare = spare } ≡ s → length cores ≤ n
+    → None ≡ slice_get (map (λ (l : LogValue). l.journal) s.logs) n
+journal_past s cores wires spare n view past = subst (λ (x : StoppedValue). None ≡ slice_get (map (λ (l : LogValue). l.journal) x.logs) n) view (no_core cores n past)

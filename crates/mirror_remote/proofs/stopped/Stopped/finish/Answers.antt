@@ -1,9 +1,13 @@
-use Rattle.std.proofs.Common.{rules, ◌≡◌, ◌≤◌, ◌<◌, ◌+◌, ◌++◌, ◌∷◌, [], IfOk, length, map, option_map, slice_get, vec_capacity, vec_len, ℕ, ◌-◌, ◌*◌, ◌/◌, ◌%◌, Bool, true, false, nat_eq, nat_lt, List, slice_index_or, slice_set, bit_and, bit_or, Fits, w8, w32, w64, Bor, MutBor}
-use Rattle.ann_outside.specs.Causes.{Stays}
+use Rattle.std.proofs.Common.{◌≡◌, length, map, subst, vec_capacity, vec_len}
 use Rattle.child_end.specs.Wires.{wire_value}
-use Rattle.mirror_remote.specs.Children.{AreLinked, AreSoundLogs, AreWired, IsLinked, IsUnwired, Stops, StopsAll, log_of}
+use Rattle.mirror_remote.specs.Children.{StoppedValue}
+use Rattle.mirror_remote.proofs.Adding.{finished_journals}
 use Rattle.mirror_remote.proofs.stopped.Stopped.finish.Goals as goal
 
--- src/stopped.rt:88:5
 pub returns-clause-journals : goal.returns-clause-journals
-returns-clause-journals g c = ?
+returns-clause-journals g c =
+    subst (λ (s : StoppedValue). map (λ j. j.entries) c.add_journals.new.journals.items ≡ map (λ l. l.journal) s.logs) c.self.view_is
+    (finished_journals (λ j. j.entries) c.self.inside.journals.items c.self.inside.cores.items (map (λ j. j.entries) c.add_journals.new.journals.items)
+    (map (wire_value g.I.Sink.taken g.I.Sink.faults g.I.Sink.number g.I.Sink.is_open g.O.Source.given g.O.Source.left g.O.Source.faults g.O.Source.number g.O.Source.is_open) c.self.inside.wires.items)
+    (vec_len c.self.inside.cores) (vec_len c.self.inside.wires) (vec_capacity c.self.inside.cores) (vec_capacity c.self.inside.wires) (vec_capacity c.self.inside.journals) c.self.inside.spare
+    c.self.invariant c.add_journals.ensures)
