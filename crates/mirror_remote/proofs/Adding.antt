@@ -84,10 +84,10 @@ unstarted_kept cores more core wires n n' w j k k' kw kj spare e u some len capa
     h.5)
 
 -- there were no journals, so they are those of the cores
-pub finished_journals : {J : Type 0} (f : J → List Entry) (js : List J) (cores : List CoreValue) (new : List (List Entry)) (wires : List WireValue) (n w k kw kj spare : ℕ)
-    → Keeps cores wires n w (length js) k kw kj spare → new ≡ map f js ++ map (λ (c : CoreValue). c.journal) cores → new ≡ map (λ (l : LogValue). l.journal) (map log_of cores)
-finished_journals f [] cores new wires n w k kw kj spare h is = is ∙ journals_are cores
-finished_journals f (j ∷ js) cores new wires n w k kw kj spare h is = absurd (let none : suc (length js) ≡ 0 = h.5 in omega (arith, none))
+pub finished_journals : {J : Type 0} (f : J → List Entry) (js : List J) (cores : List CoreValue) (new : List (List Entry)) (wires : List WireValue) (n w j k kw kj spare : ℕ)
+    → j ≡ length js → Keeps cores wires n w j k kw kj spare → new ≡ map f js ++ map (λ (c : CoreValue). c.journal) cores → new ≡ map (λ (l : LogValue). l.journal) (map log_of cores)
+finished_journals f [] cores new wires n w j k kw kj spare len h is = is ∙ journals_are cores
+finished_journals f (x ∷ js) cores new wires n w j k kw kj spare len h is = absurd (let none : j ≡ 0 = h.5 in omega (arith, len, none))
 
 -- a place among the logs, as it is lent
 pub journal_at : (s : StoppedValue) (cores : List CoreValue) (wires : List WireValue) (spare n : ℕ) (c : CoreValue) → record { logs = map log_of cores; wires = wires; spare = spare } ≡ s → n < length cores → c ≡ slice_index_or cores n c
