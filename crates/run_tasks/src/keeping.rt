@@ -1,11 +1,10 @@
 // What is written behind the tasks.
 ghost use Rattle.std.specs.Prelude.{◌≡◌};
 ghost use Rattle.child_end.specs.Outsides.{table_value};
-ghost use Rattle.run_tasks.specs.Answering.{AreAllAnswered};
+ghost use Rattle.run_answers.specs.Answering.{AreAllAnswered};
 ghost use Rattle.run_tasks.specs.Runs.{IsJournaled, told_of};
 ghost use Rattle.run_tasks.specs.Workings.{Finishes, Keeps, Writes};
 
-use crate::answers::answers_of;
 use crate::made::RunEnd;
 use ann_key::NoMemory;
 use ann_outside::Desk;
@@ -14,6 +13,7 @@ use host_core::Core;
 use journal_desk::{JournalWritten, write_journal};
 use journal_model::Answer;
 use keep_desk::{KeptWritten, write_kept};
+use run_answers::answers_of;
 use std::alloc::Global;
 
 /// The answers of a run, and how it ended.

@@ -13,8 +13,8 @@ use Rattle.journal_model.specs.Legality.{Legal, answers, is_answered, is_busy, i
 use Rattle.journal_model.proofs.Holding.{held_unanswered}
 use Rattle.journal_model.proofs.Looks.{both}
 use Rattle.host_core.specs.Steps.{are_all_claimed}
-use Rattle.run_tasks.specs.Runs.{answer_for, answer_of}
-use Rattle.run_tasks.specs.Answering.{AreAllAnswered, HoldsAnswers}
+use Rattle.run_answers.specs.Answers.{answer_for, answer_of}
+use Rattle.run_answers.specs.Answering.{AreAllAnswered, HoldsAnswers}
 
 all_still : {X : Type 0} (p q : X → Bool) → ((x : X) → p x ≡ true → q x ≡ true) → (xs : List X) → list_all p xs ≡ true → list_all q xs ≡ true
 all_still p q more [] h = refl

@@ -4,8 +4,8 @@ use Rattle.std.specs.List.{list_all}
 use Rattle.task_text.specs.declared.task.Task.{Task}
 use Rattle.journal_model.specs.declared.answer.Answer.{Answer}
 use Rattle.journal_model.specs.declared.opening.Opening.{Opening}
-use Rattle.run_tasks.proofs.Answered.{all_full}
-use Rattle.run_tasks.proofs.answers.answers_of.Goals as goal
+use Rattle.run_answers.proofs.Answered.{all_full}
+use Rattle.run_answers.proofs.answers.answers_of.Goals as goal
 
 pub all_of-requires : goal.all_of-requires
 all_of-requires c =

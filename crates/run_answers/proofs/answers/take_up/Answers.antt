@@ -2,10 +2,10 @@ use Rattle.std.proofs.Common.{◌≡◌, ◌-◌, ◌+◌, ◌<◌, ◌≤◌, �
 use Rattle.std.specs.Prelude.{is_some}
 use Rattle.std.proofs.lemmas.List.{get_or_default}
 use Rattle.journal_model.specs.declared.entry.Entry.{Entry}
-use Rattle.run_tasks.specs.Answering.{TakesUp}
-use Rattle.run_tasks.proofs.Answering.{shown_answer, takes_quiet, takes_outside, takes_again, takes_first}
-use Rattle.run_tasks.proofs.answers.take_up.Goals as goal
-use Rattle.run_tasks.proofs.answers.take_up.Goals.{then-task-eq0-via-then-task-eq0, then-task-eq0-via-else-task-eq0+then-places-task}
+use Rattle.run_answers.specs.Answering.{TakesUp}
+use Rattle.run_answers.proofs.Answering.{shown_answer, takes_quiet, takes_outside, takes_again, takes_first}
+use Rattle.run_answers.proofs.answers.take_up.Goals as goal
+use Rattle.run_answers.proofs.answers.take_up.Goals.{then-task-eq0-via-then-task-eq0, then-task-eq0-via-else-task-eq0+then-places-task}
 
 pub returns-in_default : goal.returns-in_default
 returns-in_default c = takes_quiet c.args.entry c.args.places.now c.in_default.not-Answer

@@ -2,8 +2,8 @@
 ghost use Rattle.std.specs.Prelude.{◌≡◌, ◌<◌, ◌∷◌, [], IfOk, Some, is_some, map, slice_get, length, true};
 ghost use Rattle.std.specs.List.{list_all};
 ghost use Rattle.journal_look.specs.Shown.{entry_shown};
-ghost use Rattle.run_tasks.specs.Answering.{AreAllAnswered, HoldsAnswers, TakesUp};
-ghost use Rattle.run_tasks.specs.Runs.{AreAnswers};
+ghost use Rattle.run_answers.specs.Answering.{AreAllAnswered, HoldsAnswers, TakesUp};
+ghost use Rattle.run_answers.specs.Answers.{AreAnswers};
 
 use ann_key::NoMemory;
 use host_core::Core;

@@ -16,8 +16,8 @@ use Rattle.journal_look.specs.Shown.{what_shown, entry_shown}
 use Rattle.journal_look.specs.declared.entry.WhatRef.{WhatRef}
 use Rattle.journal_look.specs.declared.entry.WhatRef.TheVariants.{Answer as AnswerRef}
 use Rattle.journal_look.specs.declared.entry.EntryRef.{EntryRef}
-use Rattle.run_tasks.specs.Runs.{answer_for, answer_of}
-use Rattle.run_tasks.specs.Answering.{HoldsAnswers, TakesUp}
+use Rattle.run_answers.specs.Answers.{answer_for, answer_of}
+use Rattle.run_answers.specs.Answering.{HoldsAnswers, TakesUp}
 
 -- ---- one entry more
 

@@ -5,7 +5,7 @@ use Rattle.journal_model.specs.declared.answer.Answer.{Answer}
 use Rattle.journal_model.specs.declared.entry.Entry.{Entry}
 use Rattle.journal_model.specs.declared.opening.Opening.{Opening}
 use Rattle.journal_model.specs.Legality.{numbers_of}
-use Rattle.run_tasks.specs.Runs.{answer_of}
+use Rattle.run_answers.specs.Answers.{answer_of}
 
 -- so many places hold what the entries answer the tasks 1, 2 and so on
 abbrev pub HoldsAnswers : ℕ → List Entry → List (Option Answer) → Type 0

@@ -1,0 +1,44 @@
+// The files that a rehearsal begins with.
+ghost use Rattle.std.specs.Prelude.{◌≡◌, ◌≤◌, IfOk, Some};
+ghost use Rattle.ann_outside.specs.Fails.{Begins};
+ghost use Rattle.ann_outside.specs.MemDesk.{desk_fails};
+ghost use Rattle.rehearse_plan.specs.Plans.{content_of, files_of};
+ghost use Rattle.rehearse_plan.specs.declared.tasks.TheConstants.{MOST_TASKS};
+
+use crate::tasks::{keys, size_of, source_of};
+use ann_key::{Bytes, NoMemory, Text};
+use ann_outside::{Desk, MemDesk};
+use std::alloc::Global;
+
+// The content of the key of that number.
+fn content_of(alloc: Global, key: u32) -> Result<Bytes, NoMemory>
+    requires { key ≤ MOST_TASKS }
+    ensures { IfOk result (λ bytes. bytes ≡ content_of key) }
+{
+    let mut bytes = Vec::new(alloc);
+    'bytes: for at in 0..size_of(key) {
+        bytes.push(((key + 7 * at) % 256) as u8)?;
+    }
+    Ok(Bytes::from_vec(bytes))
+}
+
+// The content of each key, in the file of its number.
+fn files_of(alloc: Global, tasks: u32) -> Result<Vec<(Text, Bytes)>, NoMemory>
+    requires { tasks ≤ MOST_TASKS }
+    ensures { IfOk result (λ files. files.items ≡ files_of tasks) }
+{
+    let mut files = Vec::new(alloc);
+    'keys: for key in 0..keys(tasks) {
+        files.push((source_of(alloc, key)?, content_of(alloc, key)?))?;
+    }
+    Ok(files)
+}
+
+/// The desk that a rehearsal of so many tasks begins with: it has the content of each key. None of its calls is to fail.
+pub fn desk_of(alloc: Global, tasks: u32) -> Result<MemDesk, NoMemory>
+    requires { tasks ≤ MOST_TASKS }
+    ensures files { IfOk result (λ d. ⟦<MemDesk as Desk>⟧.files d ≡ Some (files_of tasks)) }
+    ensures fails { IfOk result (λ d. Begins (desk_fails d) []) }
+{
+    MemDesk::new(alloc, files_of(alloc, tasks)?, Vec::new(alloc))
+}
