@@ -1,7 +1,9 @@
 // What the tasks of a rehearsal are done with.
-ghost use Rattle.std.specs.Prelude.{◌≡◌, ◌≤◌, IfOk};
+ghost use Rattle.std.specs.Prelude.{◌≡◌, ◌≤◌, IfOk, true};
+ghost use Rattle.journal_model.specs.Beginnings.{MayBegin};
+ghost use Rattle.rehearse_plan.specs.Plans.{opening_of};
 ghost use Rattle.rehearse_plan.specs.declared.tasks.TheConstants.{MOST_TASKS};
-ghost use Rattle.rehearse_run.specs.Rehearsals.{IsReady};
+ghost use Rattle.rehearse_run.specs.Rehearsals.{IsReady, setup};
 
 use ann_key::{NoMemory, Text};
 use host_core::Core;
@@ -23,7 +25,9 @@ pub(crate) struct Ready {
 }
 
 // One start in each slot, and ASYNC may be offered. The program's name is never asked for.
-fn plan(alloc: Global) -> Result<Plan, NoMemory> {
+fn plan(alloc: Global) -> Result<Plan, NoMemory>
+    ensures { IfOk result (λ p. (p.starts ≡ 1) × (p.offers ≡ true) × (p.setup ≡ setup)) }
+{
     Ok(Plan {
         program: Text::copy(alloc, "annex-remote-dir")?,
         starts: 1,
@@ -39,7 +43,9 @@ fn plan(alloc: Global) -> Result<Plan, NoMemory> {
 /// All that so many tasks by that seed are done with.
 pub(crate) fn prepare(alloc: Global, seed: u32, tasks: u32) -> Result<Ready, NoMemory>
     requires { tasks ≤ MOST_TASKS }
-    ensures { IfOk result (IsReady seed tasks) }
+    ensures opening { IfOk result (λ r. r.core.opening ≡ opening_of seed tasks) }
+    ensures ready { IfOk result IsReady }
+    ensures may { IfOk result (λ r. MayBegin r.core.opening) }
 {
     let opening = opening_of(alloc, seed, tasks)?;
     let plan = plan(alloc)?;

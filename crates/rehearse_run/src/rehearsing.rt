@@ -1,19 +1,23 @@
 // The run of a rehearsal, and what is found of its journal.
-ghost use Rattle.std.specs.Prelude.{◌≡◌, ◌≤◌};
+ghost use Rattle.std.specs.Prelude.{◌≡◌, ◌≤◌, [], IfOk, None, map, replicate, vec_len};
+ghost use Rattle.journal_model.specs.Beginnings.{MayBegin};
+ghost use Rattle.lone_work.specs.Works.{desk_tells};
+ghost use Rattle.run_answers.specs.Answering.{AreAllAnswered};
+ghost use Rattle.rehearse_plan.specs.Plans.{opening_of};
 ghost use Rattle.rehearse_plan.specs.declared.tasks.TheConstants.{MOST_TASKS};
-ghost use Rattle.rehearse_run.specs.Rehearsals.{EndsRehearsal};
+ghost use Rattle.rehearse_run.specs.Rehearsals.{EndsRun, Finds, HasRehearsed, HasRun, IsReady, untold};
 
 use crate::made::{Rehearsed, RehearsalEnd};
 use crate::ready::{Ready, WORKERS, prepare};
 use crate::remotes::Remotes;
 use ann_key::NoMemory;
-use ann_outside::{Desks, MemDesk};
+use ann_outside::{Desk, Desks, Programs};
 use host_core::Core;
 use job_rounds::{Bench, run_jobs};
 use journal_audit::audit;
 use journal_look::Journal;
 use kit_serve::KitPrograms;
-use rehearse_plan::desk_of;
+use rehearse_plan::{MOST_TASKS, desk_of};
 use run_answers::answers_of;
 use shared_desks::{SharedDesk, SharedDesks};
 use std::alloc::Global;
@@ -30,9 +34,12 @@ fn journal_of(core: Core) -> Journal
 }
 
 // The desks of the workers.
-fn ask_desks<K: Desks>(alloc: Global, desks: &mut K) -> Result<Vec<K::Desk>, NoMemory>
-where
-    K::Desk: Drop,
+fn ask_desks<R: Wait + Clone + Drop + Send>(
+    alloc: Global,
+    desks: &mut SharedDesks<R>,
+) -> Result<Vec<SharedDesk<R>>, NoMemory>
+    ensures many { IfOk result (λ crew. vec_len crew ≡ 4) }
+    ensures fresh { IfOk result (λ crew. map (λ k. desk_tells None (⟦<SharedDesk<R> as Desk>⟧.counts k)) crew.items ≡ replicate 4 untold) }
 {
     let mut crew = Vec::with_capacity(alloc, WORKERS as usize)?;
     'workers: for before in 0..WORKERS {
@@ -44,6 +51,10 @@ where
 
 // The answers, and what is found of the journal.
 fn finish(alloc: Global, core: Core) -> Rehearsed
+    requires may { MayBegin core.opening }
+    requires answered { AreAllAnswered core.opening core.journal }
+    ensures journal { result.journal.entries ≡ core.journal }
+    ensures finds { Finds core.opening core.journal result.answers.items result.end }
 {
     let Ok(answers) = answers_of(alloc, &core) else {
         return Rehearsed::cut_off(alloc, journal_of(core));
@@ -58,17 +69,23 @@ fn finish(alloc: Global, core: Core) -> Rehearsed
     }
 }
 
-// Does the tasks over remotes in memory.
-fn run<R: Threads + Wait + Sync>(
+// Does the tasks over remotes in memory, and gives the core back.
+fn do_tasks<R: Threads + Wait + Sync>(
     rt: &R,
     alloc: Global,
     ready: Ready,
     desks: SharedDesks<&R>,
     crew: Vec<SharedDesk<&R>>,
-) -> Rehearsed
+) -> (Core, Result<(), NoMemory>)
+    requires ready { IsReady ready }
+    requires may { MayBegin ready.core.opening }
+    requires many { vec_len crew ≡ 4 }
+    requires fresh { map (λ k. desk_tells None (⟦<SharedDesk<&R> as Desk>⟧.counts k)) crew.items ≡ replicate 4 untold }
+    ensures opening { result.0.opening ≡ ready.core.opening }
+    ensures ran { HasRun ready.core.opening result.0.journal result.1 }
 {
     let Ok(mut wires) = Vec::with_capacity(alloc, WORKERS as usize) else {
-        return Rehearsed::cut_off(alloc, journal_of(ready.core));
+        return (ready.core, Err(NoMemory));
     };
     let Ready { core, plan, tasks } = ready;
     let mut programs = KitPrograms::new(rt, alloc, Remotes::new(alloc, desks));
@@ -82,32 +99,66 @@ fn run<R: Threads + Wait + Sync>(
         bench,
         &mut wires,
     );
-    let Bench { core, desks: _ } = bench;
+    (bench.core, ran)
+}
+
+// Does the tasks, and audits the journal.
+fn run<R: Threads + Wait + Sync>(
+    rt: &R,
+    alloc: Global,
+    ready: Ready,
+    desks: SharedDesks<&R>,
+    crew: Vec<SharedDesk<&R>>,
+) -> Rehearsed
+    requires ready { IsReady ready }
+    requires may { MayBegin ready.core.opening }
+    requires many { vec_len crew ≡ 4 }
+    requires fresh { map (λ k. desk_tells None (⟦<SharedDesk<&R> as Desk>⟧.counts k)) crew.items ≡ replicate 4 untold }
+    ensures { EndsRun ready.core.opening result.journal.entries result.answers.items result.end }
+{
+    let (core, ran) = do_tasks(rt, alloc, ready, desks, crew);
     match ran {
         Ok(()) => finish(alloc, core),
         Err(NoMemory) => Rehearsed::cut_off(alloc, journal_of(core)),
     }
 }
 
-/// Does so many tasks, which the seed gives, over remotes in memory, and audits the journal. It touches nothing outside.
-pub fn rehearse<R: Threads + Wait + Sync>(
+// What a rehearsal is made with.
+#[derive(Drop)]
+struct Stage<'a, R> {
+    ready: Ready,
+    desks: SharedDesks<&'a R>,
+    crew: Vec<SharedDesk<&'a R>>,
+}
+
+// Makes all of it: the core and its tasks, the files, and the workers' desks over them.
+fn set_stage<R: Threads + Wait + Sync>(
     rt: &R,
     alloc: Global,
     seed: u32,
     tasks: u32,
-) -> Rehearsed
+) -> Result<Stage<'_, R>, NoMemory>
+    requires { tasks ≤ MOST_TASKS }
+    ensures opening { IfOk result (λ s. s.ready.core.opening ≡ opening_of seed tasks) }
+    ensures ready { IfOk result (λ s. IsReady s.ready) }
+    ensures may { IfOk result (λ s. MayBegin s.ready.core.opening) }
+    ensures many { IfOk result (λ s. vec_len s.crew ≡ 4) }
+    ensures fresh { IfOk result (λ s. map (λ k. desk_tells None (⟦<SharedDesk<&R> as Desk>⟧.counts k)) s.crew.items ≡ replicate 4 untold) }
 {
-    let Ok(ready) = prepare(alloc, seed, tasks) else {
+    let ready = prepare(alloc, seed, tasks)?;
+    let mut desks = SharedDesks::new(rt, alloc, desk_of(alloc, tasks)?)?;
+    let crew = ask_desks(alloc, &mut desks)?;
+    Ok(Stage { ready, desks, crew })
+}
+
+/// Does so many tasks, which the seed gives, over remotes in memory, and audits the journal. It touches nothing outside.
+pub fn rehearse<R: Threads + Wait + Sync>(rt: &R, alloc: Global, seed: u32, tasks: u32) -> Rehearsed
+    requires { tasks ≤ MOST_TASKS }
+    ensures { HasRehearsed seed tasks result.journal.entries result.answers.items result.end }
+{
+    let Ok(stage) = set_stage(rt, alloc, seed, tasks) else {
         return Rehearsed::cut_off(alloc, Journal::new(alloc));
     };
-    let Ok(desk) = desk_of(alloc, tasks) else {
-        return Rehearsed::cut_off(alloc, Journal::new(alloc));
-    };
-    let Ok(mut desks) = SharedDesks::new(rt, alloc, desk) else {
-        return Rehearsed::cut_off(alloc, Journal::new(alloc));
-    };
-    let Ok(crew) = ask_desks(alloc, &mut desks) else {
-        return Rehearsed::cut_off(alloc, Journal::new(alloc));
-    };
+    let Stage { ready, desks, crew } = stage;
     run(rt, alloc, ready, desks, crew)
 }
