@@ -1,5 +1,5 @@
 -- What a rehearsal of so many tasks does, by its seed.
-use Rattle.std.specs.Prelude.{ℕ, ◌+◌, ◌*◌, ◌/◌, ◌%◌, List, [], ◌∷◌, ◌++◌, map, codes, decimal}
+use Rattle.std.specs.Prelude.{ℕ, ◌+◌, ◌*◌, ◌/◌, ◌%◌, ◌==◌, if◌then◌else◌, List, [], ◌∷◌, ◌++◌, map, codes, decimal}
 use Rattle.std.specs.List.{range_with_len}
 use Rattle.ann_outside.specs.Files.{Files}
 use Rattle.cli_words.specs.Identities.{nobody}
@@ -36,10 +36,7 @@ abbrev pub number_of : ℕ → ℕ → ℕ
 number_of seed task = seed + 30 * task + task * task
 
 abbrev pub work_at : ℕ → Work
-work_at 0 = Store
-work_at 1 = Get
-work_at 2 = Check
-work_at n = Drop
+work_at n = if n == 0 then Store else if n == 1 then Get else if n == 2 then Check else Drop
 
 abbrev pub work_of : ℕ → Work
 work_of number = work_at (number / 5 % 4)

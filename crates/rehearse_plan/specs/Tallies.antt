@@ -24,7 +24,7 @@ is_same Absent Absent = true
 is_same Dropped Dropped = true
 is_same Failed Failed = true
 is_same Other Other = true
-is_same word other = false
+is_same word _ = false
 
 abbrev pub is_of : Word → Answer → Bool
 is_of word answer = is_same word (word_of answer)

@@ -1,5 +1,5 @@
 // The files that a rehearsal begins with.
-ghost use Rattle.std.specs.Prelude.{◌≡◌, ◌≤◌, IfOk, Some};
+ghost use Rattle.std.specs.Prelude.{◌≡◌, ◌≤◌, [], IfOk, Some};
 ghost use Rattle.ann_outside.specs.Fails.{Begins};
 ghost use Rattle.ann_outside.specs.MemDesk.{desk_fails};
 ghost use Rattle.rehearse_plan.specs.Plans.{content_of, files_of};

@@ -1,5 +1,5 @@
 // How the answers of a rehearsal are counted.
-ghost use Rattle.std.specs.Prelude.{◌≡◌, ◌≤◌, IfOk, length};
+ghost use Rattle.std.specs.Prelude.{◌≡◌, ◌++◌, IfOk, OnOk};
 ghost use Rattle.rehearse_plan.specs.Tallies.{count_line, count_lines, count_of, is_of, word_text};
 
 use ann_key::{Bytes, NoMemory};

@@ -70,17 +70,17 @@ fn finish(alloc: Global, core: Core) -> Rehearsed
 }
 
 // Does the tasks over remotes in memory, and gives the core back.
-fn do_tasks<R: Threads + Wait + Sync>(
-    rt: &R,
+fn do_tasks<'a, R: Threads + Wait + Sync>(
+    rt: &'a R,
     alloc: Global,
     ready: Ready,
-    desks: SharedDesks<&R>,
-    crew: Vec<SharedDesk<&R>>,
+    desks: SharedDesks<&'a R>,
+    crew: Vec<SharedDesk<&'a R>>,
 ) -> (Core, Result<(), NoMemory>)
     requires ready { IsReady ready }
     requires may { MayBegin ready.core.opening }
     requires many { vec_len crew ≡ 4 }
-    requires fresh { map (λ k. desk_tells None (⟦<SharedDesk<&R> as Desk>⟧.counts k)) crew.items ≡ replicate 4 untold }
+    requires fresh { map (λ k. desk_tells None (⟦<SharedDesk<&'a R> as Desk>⟧.counts k)) crew.items ≡ replicate 4 untold }
     ensures opening { result.0.opening ≡ ready.core.opening }
     ensures ran { HasRun ready.core.opening result.0.journal result.1 }
 {
@@ -103,17 +103,17 @@ fn do_tasks<R: Threads + Wait + Sync>(
 }
 
 // Does the tasks, and audits the journal.
-fn run<R: Threads + Wait + Sync>(
-    rt: &R,
+fn run<'a, R: Threads + Wait + Sync>(
+    rt: &'a R,
     alloc: Global,
     ready: Ready,
-    desks: SharedDesks<&R>,
-    crew: Vec<SharedDesk<&R>>,
+    desks: SharedDesks<&'a R>,
+    crew: Vec<SharedDesk<&'a R>>,
 ) -> Rehearsed
     requires ready { IsReady ready }
     requires may { MayBegin ready.core.opening }
     requires many { vec_len crew ≡ 4 }
-    requires fresh { map (λ k. desk_tells None (⟦<SharedDesk<&R> as Desk>⟧.counts k)) crew.items ≡ replicate 4 untold }
+    requires fresh { map (λ k. desk_tells None (⟦<SharedDesk<&'a R> as Desk>⟧.counts k)) crew.items ≡ replicate 4 untold }
     ensures { EndsRun ready.core.opening result.journal.entries result.answers.items result.end }
 {
     let (core, ran) = do_tasks(rt, alloc, ready, desks, crew);
@@ -132,18 +132,18 @@ struct Stage<'a, R> {
 }
 
 // Makes all of it: the core and its tasks, the files, and the workers' desks over them.
-fn set_stage<R: Threads + Wait + Sync>(
-    rt: &R,
+fn set_stage<'a, R: Threads + Wait + Sync>(
+    rt: &'a R,
     alloc: Global,
     seed: u32,
     tasks: u32,
-) -> Result<Stage<'_, R>, NoMemory>
+) -> Result<Stage<'a, R>, NoMemory>
     requires { tasks ≤ MOST_TASKS }
     ensures opening { IfOk result (λ s. s.ready.core.opening ≡ opening_of seed tasks) }
     ensures ready { IfOk result (λ s. IsReady s.ready) }
     ensures may { IfOk result (λ s. MayBegin s.ready.core.opening) }
     ensures many { IfOk result (λ s. vec_len s.crew ≡ 4) }
-    ensures fresh { IfOk result (λ s. map (λ k. desk_tells None (⟦<SharedDesk<&R> as Desk>⟧.counts k)) s.crew.items ≡ replicate 4 untold) }
+    ensures fresh { IfOk result (λ s. map (λ k. desk_tells None (⟦<SharedDesk<&'a R> as Desk>⟧.counts k)) s.crew.items ≡ replicate 4 untold) }
 {
     let ready = prepare(alloc, seed, tasks)?;
     let mut desks = SharedDesks::new(rt, alloc, desk_of(alloc, tasks)?)?;
