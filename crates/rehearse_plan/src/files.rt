@@ -11,6 +11,7 @@ use ann_outside::{Desk, MemDesk};
 use std::alloc::Global;
 
 // The content of the key of that number.
+#[tactic(auto, using(crate::proofs::Looping::bytes_more))]
 fn content_of(alloc: Global, key: u32) -> Result<Bytes, NoMemory>
     requires { key ≤ MOST_TASKS }
     ensures { IfOk result (λ bytes. bytes ≡ content_of key) }
@@ -23,6 +24,7 @@ fn content_of(alloc: Global, key: u32) -> Result<Bytes, NoMemory>
 }
 
 // The content of each key, in the file of its number.
+#[tactic(auto, using(crate::proofs::Looping::files_more))]
 fn files_of(alloc: Global, tasks: u32) -> Result<Vec<(Text, Bytes)>, NoMemory>
     requires { tasks ≤ MOST_TASKS }
     ensures { IfOk result (λ files. files.items ≡ files_of tasks) }

@@ -90,8 +90,8 @@ pub fn print_counts(alloc: Global, answers: &[Answer]) -> Result<Bytes, NoMemory
     ensures { IfOk result (λ text. text ≡ count_lines answers.now) }
 {
     let mut text = Vec::new(alloc);
-    'words: for word in Word::ALL {
-        push_count(alloc, &mut text, word, answers)?;
+    'words: for word in Word::ALL.iter() {
+        push_count(alloc, &mut text, *word, answers)?;
     }
     Ok(Bytes::from_vec(text))
 }

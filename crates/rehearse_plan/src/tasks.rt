@@ -83,6 +83,7 @@ fn task_file(alloc: Global, work: Work, key: u32, task: u32) -> Result<Text, NoM
 }
 
 // The task of that number, from 1.
+#[tactic(auto, using(crate::proofs::Planned::few_keys))]
 fn task_of(alloc: Global, seed: u32, tasks: u32, task: u32) -> Result<Task, NoMemory>
     requires { (task ≤ MOST_TASKS) × (tasks ≤ MOST_TASKS) }
     ensures { IfOk result (λ t. t ≡ task_of seed tasks task) }
@@ -98,6 +99,7 @@ fn task_of(alloc: Global, seed: u32, tasks: u32, task: u32) -> Result<Task, NoMe
 }
 
 /// So many tasks, by the seed.
+#[tactic(auto, using(crate::proofs::Looping::tasks_more))]
 pub fn tasks_of(alloc: Global, seed: u32, tasks: u32) -> Result<Tasks, NoMemory>
     requires { tasks ≤ MOST_TASKS }
     ensures { IfOk result (λ list. list ≡ tasks_of seed tasks) }
