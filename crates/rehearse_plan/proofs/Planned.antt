@@ -1,6 +1,6 @@
 -- The keys are keys, and the tasks are tasks.
-use Rattle.std.proofs.Common.{◌≡◌, ℕ, zero, suc, ◌+◌, ◌/◌, ◌%◌, ◌<◌, ◌≤◌, ◌^◌, List, [], ◌∷◌, ◌++◌, length, refl, sym, ap, subst, ◌∙◌, Bool, true, false, Some, None, All, arith}
-use Rattle.std.specs.Prelude.{◌==◌, ◌&&◌, not, nat_lt, is_some, map, codes, decimal}
+use Rattle.std.proofs.Common.{◌≡◌, ℕ, zero, suc, ◌+◌, ◌/◌, ◌%◌, ◌<◌, ◌≤◌, ◌^◌, List, [], ◌∷◌, ◌++◌, length, refl, sym, ap, subst, ◌∙◌, Bool, true, false, Some, None, Ok, Err, All, arith}
+use Rattle.std.specs.Prelude.{◌==◌, ◌&&◌, not, nat_lt, is_some, map, codes, decimal, Result, MatchResult}
 use Rattle.std.specs.List.{list_all, list_any, range_with_len}
 use Rattle.std.specs.Str.{is_utf8}
 use Rattle.std.proofs.lemmas.List.Elements.{All-cons, All-nil}
@@ -108,3 +108,10 @@ begins seed tasks few = record {
 
 pub begins_as : (seed tasks : ℕ) (o : Opening) → tasks ≤ 65536 → o ≡ opening_of seed tasks → MayBegin o
 begins_as seed tasks o few same = subst MayBegin (sym same) (begins seed tasks few)
+
+-- what is read of the text of a key is no fault
+pub no_fault : {V E : Type 0} (r : Result V E) (e : E) (P : V → Type 0) (bytes : List ℕ) (key : ℕ) → r ≡ Err e → MatchResult r P (λ _. (parts : Parts) → IsKey bytes parts → ⊥)
+    → bytes ≡ key_text key → key < 2 ^ 64 → ⊥
+no_fault {V} {E} r e P bytes key is h same small =
+    let none : (parts : Parts) → IsKey bytes parts → ⊥ = subst (λ (x : Result V E). MatchResult x P (λ _. (parts : Parts) → IsKey bytes parts → ⊥)) is h in
+    none (parts_of key) (subst (λ (b : List ℕ). IsKey b (parts_of key)) (sym same) (key_spelled key small))

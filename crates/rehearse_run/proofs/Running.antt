@@ -1,6 +1,7 @@
 -- From what the workers did to what a rehearsal comes to.
 use Rattle.std.proofs.Common.{◌≡◌, ◌⊎◌, ℕ, List, [], ◌∷◌, refl, sym, ap, subst, inl, inr, Bool, true, false, Option, All, map, replicate, Ok, Err}
 use Rattle.std.specs.Prelude.{Result}
+use Rattle.ann_key.specs.declared.bytes.NoMemory.{NoMemory}
 use Rattle.std.proofs.lemmas.List.Elements.{All-head, All-tail}
 use Rattle.task_text.specs.declared.task.Task.{Task}
 use Rattle.task_text.specs.TaskLines.{IsTask}
@@ -15,7 +16,8 @@ use Rattle.lone_work.specs.Works.{AreTasks, DeskTells}
 use Rattle.child_end.specs.Wires.{wire_value}
 use Rattle.link_roles.specs.declared.wire.Wire.{Wire}
 use Rattle.job_rounds.specs.JobRuns.{RanJobs}
-use Rattle.rehearse_run.specs.Rehearsals.{EndsRun, Finds, IsRunOf, is_fault, setup, untold}
+use Rattle.lone_rounds.specs.Rounds.{IsWhole}
+use Rattle.rehearse_run.specs.Rehearsals.{EndsRun, Finds, HasRun, IsRunOf, is_fault, setup, untold}
 use Rattle.rehearse_run.specs.declared.made.RehearsalEnd.{RehearsalEnd}
 use Rattle.rehearse_run.specs.declared.made.RehearsalEnd.TheVariants.{Memory, Done}
 use Rattle.rehearse_run.proofs.Faultless.{AreQuiet}
@@ -49,3 +51,11 @@ run_of o s may limit journal before after same offers once fresh quiet ran = rec
 pub ends_done : (o : Opening) (journal : List Entry) (answers : List Answer) (end : RehearsalEnd) → IsRunOf o journal → are_all_claimed o journal ≡ true → Finds o journal answers end → EndsRun o journal answers end
 ends_done o journal answers Memory run all h = (inr run, h)
 ends_done o journal answers (Done found) run all h = record { run = run; all = all; answers_are = h.0; audit = h.1 }
+
+pub has_run : (o : Opening) (journal : List Entry) (result : Result (Unit {0}) NoMemory) → IsRunOf o journal → IsWhole o journal result → HasRun o journal result
+has_run o journal (Ok done) run all = (run, all)
+has_run o journal (Err want) run all = inr run
+
+-- no memory was found for what the children leave
+pub not_run : (o : Opening) (journal : List Entry) → journal ≡ [] → (journal ≡ []) ⊎ IsRunOf o journal
+not_run o journal none = inl none

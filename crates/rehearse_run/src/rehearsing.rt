@@ -1,11 +1,11 @@
 // The run of a rehearsal, and what is found of its journal.
-ghost use Rattle.std.specs.Prelude.{◌≡◌, ◌≤◌, [], IfOk, None, map, replicate, vec_len};
+ghost use Rattle.std.specs.Prelude.{◌≡◌, ◌≤◌, IfOk, map, replicate, vec_len};
+ghost use Rattle.ann_outside.specs.Desks.{no_counts};
 ghost use Rattle.journal_model.specs.Beginnings.{MayBegin};
-ghost use Rattle.lone_work.specs.Works.{desk_tells};
 ghost use Rattle.run_answers.specs.Answering.{AreAllAnswered};
 ghost use Rattle.rehearse_plan.specs.Plans.{opening_of};
 ghost use Rattle.rehearse_plan.specs.declared.tasks.TheConstants.{MOST_TASKS};
-ghost use Rattle.rehearse_run.specs.Rehearsals.{EndsRun, Finds, HasRehearsed, HasRun, IsReady, untold};
+ghost use Rattle.rehearse_run.specs.Rehearsals.{EndsRun, Finds, HasRehearsed, HasRun, IsReady};
 
 use crate::made::{Rehearsed, RehearsalEnd};
 use crate::ready::{Ready, WORKERS, prepare};
@@ -34,12 +34,12 @@ fn journal_of(core: Core) -> Journal
 }
 
 // The desks of the workers.
-fn ask_desks<R: Wait + Clone + Drop + Send>(
-    alloc: Global,
-    desks: &mut SharedDesks<R>,
-) -> Result<Vec<SharedDesk<R>>, NoMemory>
+#[tactic(auto, using(crate::proofs::Crews::counts_more))]
+fn ask_desks<K: Desks>(alloc: Global, desks: &mut K) -> Result<Vec<K::Desk>, NoMemory>
+where
+    K::Desk: Drop,
     ensures many { IfOk result (λ crew. vec_len crew ≡ 4) }
-    ensures fresh { IfOk result (λ crew. map (λ k. desk_tells None (⟦<SharedDesk<R> as Desk>⟧.counts k)) crew.items ≡ replicate 4 untold) }
+    ensures fresh { IfOk result (λ crew. map (λ k. K.Desk.counts k) crew.items ≡ replicate 4 no_counts) }
 {
     let mut crew = Vec::with_capacity(alloc, WORKERS as usize)?;
     'workers: for before in 0..WORKERS {
@@ -80,7 +80,7 @@ fn do_tasks<'a, R: Threads + Wait + Sync>(
     requires ready { IsReady ready }
     requires may { MayBegin ready.core.opening }
     requires many { vec_len crew ≡ 4 }
-    requires fresh { map (λ k. desk_tells None (⟦<SharedDesk<&'a R> as Desk>⟧.counts k)) crew.items ≡ replicate 4 untold }
+    requires fresh { map (λ k. ⟦<SharedDesk<&'a R> as Desk>⟧.counts k) crew.items ≡ replicate 4 no_counts }
     ensures opening { result.0.opening ≡ ready.core.opening }
     ensures ran { HasRun ready.core.opening result.0.journal result.1 }
 {
@@ -113,7 +113,7 @@ fn run<'a, R: Threads + Wait + Sync>(
     requires ready { IsReady ready }
     requires may { MayBegin ready.core.opening }
     requires many { vec_len crew ≡ 4 }
-    requires fresh { map (λ k. desk_tells None (⟦<SharedDesk<&'a R> as Desk>⟧.counts k)) crew.items ≡ replicate 4 untold }
+    requires fresh { map (λ k. ⟦<SharedDesk<&'a R> as Desk>⟧.counts k) crew.items ≡ replicate 4 no_counts }
     ensures { EndsRun ready.core.opening result.journal.entries result.answers.items result.end }
 {
     let (core, ran) = do_tasks(rt, alloc, ready, desks, crew);
@@ -143,7 +143,7 @@ fn set_stage<'a, R: Threads + Wait + Sync>(
     ensures ready { IfOk result (λ s. IsReady s.ready) }
     ensures may { IfOk result (λ s. MayBegin s.ready.core.opening) }
     ensures many { IfOk result (λ s. vec_len s.crew ≡ 4) }
-    ensures fresh { IfOk result (λ s. map (λ k. desk_tells None (⟦<SharedDesk<&'a R> as Desk>⟧.counts k)) s.crew.items ≡ replicate 4 untold) }
+    ensures fresh { IfOk result (λ s. map (λ k. ⟦<SharedDesk<&'a R> as Desk>⟧.counts k) s.crew.items ≡ replicate 4 no_counts) }
 {
     let ready = prepare(alloc, seed, tasks)?;
     let mut desks = SharedDesks::new(rt, alloc, desk_of(alloc, tasks)?)?;
