@@ -1,8 +1,9 @@
 -- The keys are keys, and the tasks are tasks.
-use Rattle.std.proofs.Common.{◌≡◌, ℕ, zero, suc, ◌+◌, ◌/◌, ◌%◌, ◌<◌, ◌≤◌, ◌^◌, List, [], ◌∷◌, ◌++◌, length, refl, sym, ap, subst, ◌∙◌, Bool, true, false, Some, None, Ok, Err, All, arith}
-use Rattle.std.specs.Prelude.{◌==◌, ◌&&◌, not, nat_lt, is_some, map, codes, decimal, Result, MatchResult}
+use Rattle.std.proofs.Common.{◌≡◌, ℕ, zero, suc, ◌+◌, ◌/◌, ◌%◌, ◌<◌, ◌≤◌, ◌^◌, List, [], ◌∷◌, ◌++◌, length, refl, sym, ap, subst, ◌∙◌, Bool, true, false, Some, None, All, arith}
+use Rattle.std.specs.Prelude.{◌==◌, ◌&&◌, not, nat_lt, is_some, map, codes, decimal}
 use Rattle.std.specs.List.{list_all, list_any, range_with_len}
 use Rattle.std.specs.Str.{is_utf8}
+use Rattle.std.proofs.lemmas.Bool.Decides.{nat_tests}
 use Rattle.std.proofs.lemmas.List.Elements.{All-cons, All-nil}
 use Rattle.std.proofs.lemmas.List.FromFn.{length-map-range_with_len}
 use Rattle.std.proofs.lemmas.Nat.{mod_below}
@@ -15,8 +16,12 @@ use Rattle.task_text.specs.declared.task.Work.{Work}
 use Rattle.task_text.specs.declared.task.Work.TheVariants.{Store, Get, Check, Drop}
 use Rattle.chunk_log.specs.ChunkLines.{IsWrittenUuid}
 use Rattle.chunk_log.proofs.Uuids.{nil_written}
+use Rattle.chunk_log.specs.declared.note.Note.{Note}
+use Rattle.reg_file.specs.Registers.{RegisterFile}
+use Rattle.cli_words.specs.Identities.{nobody}
 use Rattle.journal_model.specs.Beginnings.{MayBegin}
-use Rattle.journal_model.specs.declared.opening.Opening.{Opening}
+use Rattle.journal_model.specs.Replies.{IsLineIdentity}
+use Rattle.journal_model.specs.declared.opening.Identity.{Identity}
 use Rattle.rehearse_plan.specs.Plans.{key_number, key_text, keys, number_of, opening_of, size_of, source_of, target_of, task_of, task_with, tasks_of, work_of}
 use Rattle.rehearse_plan.proofs.Plain.{decimal_plain, is_plain, plain_both, plain_line, plain_sendable, plain_text}
 
@@ -43,7 +48,7 @@ key_spelled key h = record {
 }
   where
     named : (ds : List ℕ) → list_any (λ b. b == 10) ds ≡ false → is_name (114 ∷ ds) ≡ true
-    named ds e = rw e refl
+    named ds e = let some : nat_lt 0 (length (114 ∷ ds)) ≡ true = grind (arith, nat_tests) in rw (some, e) refl
 
 pub key_plain : (key : ℕ) → key < 2 ^ 64 → list_all is_plain (key_text key) ≡ true
 key_plain key h =
@@ -70,7 +75,7 @@ file_class front n some plain h =
   where
     longer : (xs ys : List ℕ) → nat_lt 0 (length xs) ≡ true → nat_lt 0 (length (xs ++ ys)) ≡ true
     longer [] ys e = absurd cc
-    longer (x ∷ xs) ys e = refl
+    longer (x ∷ xs) ys e = grind (arith, nat_tests)
 
 -- ---- tasks
 
@@ -106,12 +111,17 @@ begins seed tasks few = record {
   uuid = nil_written;
 }
 
-pub begins_as : (seed tasks : ℕ) (o : Opening) → tasks ≤ 65536 → o ≡ opening_of seed tasks → MayBegin o
-begins_as seed tasks o few same = subst MayBegin (sym same) (begins seed tasks few)
+pub begins_of : (seed tasks : ℕ) (list : List Task) (registers : RegisterFile) (notes : List Note) (who : Identity) → tasks ≤ 65536 → list ≡ tasks_of seed tasks → who ≡ nobody
+    → MayBegin (record { tasks = list; registers = registers; notes = notes; identity = who; stamp = 0 })
+begins_of seed tasks list registers notes who few same nil =
+    let o = begins seed tasks few in
+    record {
+      few = subst (λ (ts : List Task). length ts ≤ 65536) (sym same) o.few;
+      tasks = subst (λ (ts : List Task). All IsTask ts) (sym same) o.tasks;
+      lines = subst IsLineIdentity (sym nil) o.lines;
+      uuid = subst (λ (i : Identity). IsWrittenUuid i.uuid) (sym nil) o.uuid;
+    }
 
 -- what is read of the text of a key is no fault
-pub no_fault : {V E : Type 0} (r : Result V E) (e : E) (P : V → Type 0) (bytes : List ℕ) (key : ℕ) → r ≡ Err e → MatchResult r P (λ _. (parts : Parts) → IsKey bytes parts → ⊥)
-    → bytes ≡ key_text key → key < 2 ^ 64 → ⊥
-no_fault {V} {E} r e P bytes key is h same small =
-    let none : (parts : Parts) → IsKey bytes parts → ⊥ = subst (λ (x : Result V E). MatchResult x P (λ _. (parts : Parts) → IsKey bytes parts → ⊥)) is h in
-    none (parts_of key) (subst (λ (b : List ℕ). IsKey b (parts_of key)) (sym same) (key_spelled key small))
+pub no_fault : (bytes : List ℕ) (key : ℕ) → ((parts : Parts) → IsKey bytes parts → ⊥) → bytes ≡ key_text key → key < 2 ^ 64 → ⊥
+no_fault bytes key none same small = none (parts_of key) (subst (λ (b : List ℕ). IsKey b (parts_of key)) (sym same) (key_spelled key small))

@@ -22,8 +22,12 @@ size_of key = 16 + key % 200
 abbrev pub key_text : ℕ → List ℕ
 key_text key = codes "WORM-s" ++ (decimal (size_of key) ++ (codes "--r" ++ decimal key))
 
+-- a byte of it, at a place from 0
+abbrev pub byte_of : ℕ → ℕ → ℕ
+byte_of key place = (key + 7 * place) % 256
+
 abbrev pub content_of : ℕ → List ℕ
-content_of key = map (λ j. (key + 7 * j) % 256) (range_with_len 0 (size_of key))
+content_of key = map (byte_of key) (range_with_len 0 (size_of key))
 
 -- the file that has it
 abbrev pub source_of : ℕ → List ℕ
@@ -78,6 +82,9 @@ opening_of seed tasks = record {
   stamp = 0;
 }
 
+abbrev pub file_of : ℕ → List ℕ × List ℕ
+file_of key = (source_of key, content_of key)
+
 -- the files that there are then: the content of each key
 abbrev pub files_of : ℕ → Files
-files_of tasks = map (λ key. (source_of key, content_of key)) (range_with_len 0 (keys tasks))
+files_of tasks = map file_of (range_with_len 0 (keys tasks))

@@ -2,13 +2,21 @@
 ghost use Rattle.std.specs.Prelude.{◌≡◌, ◌≤◌, [], IfOk, Some};
 ghost use Rattle.ann_outside.specs.Fails.{Begins};
 ghost use Rattle.ann_outside.specs.MemDesk.{desk_fails};
-ghost use Rattle.rehearse_plan.specs.Plans.{content_of, files_of};
+ghost use Rattle.rehearse_plan.specs.Plans.{byte_of, content_of, files_of};
 ghost use Rattle.rehearse_plan.specs.declared.tasks.TheConstants.{MOST_TASKS};
 
 use crate::tasks::{keys, size_of, source_of};
 use ann_key::{Bytes, NoMemory, Text};
 use ann_outside::{Desk, MemDesk};
 use std::alloc::Global;
+
+// A byte of the content of the key of that number, at a place from 0.
+fn byte_of(key: u32, place: u32) -> u8
+    requires { (key ≤ MOST_TASKS) × (place ≤ MOST_TASKS) }
+    ensures { result ≡ byte_of key place }
+{
+    ((key + 7 * place) % 256) as u8
+}
 
 // The content of the key of that number.
 #[tactic(auto, using(crate::proofs::Looping::bytes_more))]
@@ -18,7 +26,7 @@ fn content_of(alloc: Global, key: u32) -> Result<Bytes, NoMemory>
 {
     let mut bytes = Vec::new(alloc);
     'bytes: for at in 0..size_of(key) {
-        bytes.push(((key + 7 * at) % 256) as u8)?;
+        bytes.push(byte_of(key, at))?;
     }
     Ok(Bytes::from_vec(bytes))
 }

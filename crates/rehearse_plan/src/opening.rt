@@ -22,7 +22,6 @@ fn registers(alloc: Global) -> Result<Registers, NoMemory>
 }
 
 /// What the run of so many tasks by that seed begins with.
-#[tactic(auto, using(crate::proofs::Planned::begins_as))]
 pub fn opening_of(alloc: Global, seed: u32, tasks: u32) -> Result<Opening, NoMemory>
     requires { tasks ≤ MOST_TASKS }
     ensures opening { IfOk result (λ o. o ≡ opening_of seed tasks) }

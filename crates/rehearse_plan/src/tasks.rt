@@ -44,16 +44,24 @@ pub(crate) fn size_of(key: u32) -> u32
     16 + key % 200
 }
 
+// The key that the text of that number spells.
+fn read_key(alloc: Global, text: &[u8], key: u32) -> Result<Key, NoMemory>
+    requires { text.now ≡ key_text key }
+    ensures { IfOk result (λ k. k ≡ key_text key) }
+{
+    match KeyRef::read(text) {
+        Ok(key) => Key::copy(alloc, key),
+        Err(_) => unreachable!(),
+    }
+}
+
 // The key of that number.
 fn key_of(alloc: Global, key: u32) -> Result<Key, NoMemory>
     ensures { IfOk result (λ k. k ≡ key_text key) }
 {
     let size = size_of(key);
     let text = format!(in alloc; "WORM-s{size}--r{key}")?;
-    match KeyRef::read(text.as_bytes()) {
-        Ok(key) => Key::copy(alloc, key),
-        Err(_) => unreachable!(),
-    }
+    read_key(alloc, text.as_bytes(), key)
 }
 
 /// The file that has the content of the key of that number.

@@ -16,6 +16,8 @@ use Rattle.lone_work.specs.Works.{AreTasks, DeskTells}
 use Rattle.child_end.specs.Wires.{wire_value}
 use Rattle.link_roles.specs.declared.wire.Wire.{Wire}
 use Rattle.job_rounds.specs.JobRuns.{RanJobs}
+use Rattle.run_answers.specs.Answering.{AreAllAnswered}
+use Rattle.run_answers.proofs.Answered.{all_answered}
 use Rattle.lone_rounds.specs.Rounds.{IsWhole}
 use Rattle.rehearse_run.specs.Rehearsals.{EndsRun, Finds, HasRun, IsRunOf, is_fault, setup, untold}
 use Rattle.rehearse_run.specs.declared.made.RehearsalEnd.{RehearsalEnd}
@@ -56,6 +58,23 @@ pub has_run : (o : Opening) (journal : List Entry) (result : Result (Unit {0}) N
 has_run o journal (Ok done) run all = (run, all)
 has_run o journal (Err want) run all = inr run
 
--- no memory was found for what the children leave
-pub not_run : (o : Opening) (journal : List Entry) → journal ≡ [] → (journal ≡ []) ⊎ IsRunOf o journal
-not_run o journal none = inl none
+-- ---- the end
+
+-- each task was answered
+pub answered_as : (o o' : Opening) (journal : List Entry) (result : Result (Unit {0}) NoMemory) (done : Unit {0}) → o' ≡ o → result ≡ Ok done → HasRun o journal result → AreAllAnswered o' journal
+answered_as o o' journal result done same is h =
+    let run : IsRunOf o journal × (are_all_claimed o journal ≡ true) = subst (HasRun o journal) is h in
+    subst (λ (x : Opening). AreAllAnswered x journal) (sym same) (all_answered o journal run.0.ran.legal run.0.ran.calm.idle run.1)
+
+pub ends_as : (o o' : Opening) (journal journal' : List Entry) (answers : List Answer) (end : RehearsalEnd) (result : Result (Unit {0}) NoMemory) (done : Unit {0}) → o' ≡ o → journal' ≡ journal → result ≡ Ok done
+    → HasRun o journal result → Finds o' journal answers end → EndsRun o journal' answers end
+ends_as o o' journal journal' answers end result done same kept is h finds =
+    let run : IsRunOf o journal × (are_all_claimed o journal ≡ true) = subst (HasRun o journal) is h in
+    subst (λ (j : List Entry). EndsRun o j answers end) (sym kept) (ends_done o journal answers end run.0 run.1 (subst (λ (x : Opening). Finds x journal answers end) same finds))
+
+-- no memory was found to start a child
+pub ends_wanting : (o : Opening) (journal journal' : List Entry) (answers : List Answer) (end : RehearsalEnd) (result : Result (Unit {0}) NoMemory) (want : NoMemory) → journal' ≡ journal → answers ≡ [] → end ≡ Memory
+    → result ≡ Err want → HasRun o journal result → EndsRun o journal' answers end
+ends_wanting o journal journal' answers end result want kept none memory is h =
+    let some : (journal ≡ []) ⊎ IsRunOf o journal = subst (HasRun o journal) is h in
+    subst (EndsRun o journal' answers) (sym memory) (subst (λ (j : List Entry). (j ≡ []) ⊎ IsRunOf o j) (sym kept) some, none)
