@@ -1,13 +1,10 @@
 // The files that a rehearsal begins with.
-ghost use Rattle.std.specs.Prelude.{◌≡◌, ◌≤◌, [], IfOk, Some};
-ghost use Rattle.ann_outside.specs.Fails.{Begins};
-ghost use Rattle.ann_outside.specs.MemDesk.{desk_fails};
+ghost use Rattle.std.specs.Prelude.{◌≡◌, ◌≤◌, IfOk};
 ghost use Rattle.rehearse_plan.specs.Plans.{byte_of, content_of, files_of};
 ghost use Rattle.rehearse_plan.specs.declared.tasks.TheConstants.{MOST_TASKS};
 
 use crate::tasks::{keys, size_of, source_of};
 use ann_key::{Bytes, NoMemory, Text};
-use ann_outside::{Desk, MemDesk};
 use std::alloc::Global;
 
 // A byte of the content of the key of that number, at a place from 0.
@@ -31,9 +28,9 @@ fn content_of(alloc: Global, key: u32) -> Result<Bytes, NoMemory>
     Ok(Bytes::from_vec(bytes))
 }
 
-// The content of each key, in the file of its number.
+/// The files that a rehearsal of so many tasks begins with: the content of each key, in the file of its number.
 #[tactic(auto, using(crate::proofs::Looping::files_more))]
-fn files_of(alloc: Global, tasks: u32) -> Result<Vec<(Text, Bytes)>, NoMemory>
+pub fn files_of(alloc: Global, tasks: u32) -> Result<Vec<(Text, Bytes)>, NoMemory>
     requires { tasks ≤ MOST_TASKS }
     ensures { IfOk result (λ files. files.items ≡ files_of tasks) }
 {
@@ -42,13 +39,4 @@ fn files_of(alloc: Global, tasks: u32) -> Result<Vec<(Text, Bytes)>, NoMemory>
         files.push((source_of(alloc, key)?, content_of(alloc, key)?))?;
     }
     Ok(files)
-}
-
-/// The desk that a rehearsal of so many tasks begins with: it has the content of each key. None of its calls is to fail.
-pub fn desk_of(alloc: Global, tasks: u32) -> Result<MemDesk, NoMemory>
-    requires { tasks ≤ MOST_TASKS }
-    ensures files { IfOk result (λ d. ⟦<MemDesk as Desk>⟧.files d ≡ Some (files_of tasks)) }
-    ensures fails { IfOk result (λ d. Begins (desk_fails d) []) }
-{
-    MemDesk::new(alloc, files_of(alloc, tasks)?, Vec::new(alloc))
 }

@@ -2,7 +2,9 @@
 ghost use Rattle.std.specs.Prelude.{◌≡◌, ◌≤◌, IfOk, map, replicate, vec_len};
 ghost use Rattle.ann_outside.specs.Desks.{no_counts};
 ghost use Rattle.journal_model.specs.Beginnings.{MayBegin};
+ghost use Rattle.journal_audit.specs.Audits.{IsAudit};
 ghost use Rattle.run_answers.specs.Answering.{AreAllAnswered};
+ghost use Rattle.run_answers.specs.Answers.{AreAnswers};
 ghost use Rattle.rehearse_plan.specs.Plans.{opening_of};
 ghost use Rattle.rehearse_plan.specs.declared.tasks.TheConstants.{MOST_TASKS};
 ghost use Rattle.rehearse_run.specs.Rehearsals.{EndsRun, Finds, HasRehearsed, HasRun, IsReady};
@@ -14,10 +16,11 @@ use ann_key::NoMemory;
 use ann_outside::{Desk, Desks, Programs};
 use host_core::Core;
 use job_rounds::{Bench, run_jobs};
-use journal_audit::audit;
+use journal_audit::{Audit, audit};
 use journal_look::Journal;
+use journal_model::Answer;
 use kit_serve::KitPrograms;
-use rehearse_plan::{MOST_TASKS, desk_of};
+use rehearse_plan::{MOST_TASKS, files_of};
 use run_answers::answers_of;
 use shared_desks::{SharedDesk, SharedDesks};
 use std::alloc::Global;
@@ -49,6 +52,18 @@ where
     Ok(crew)
 }
 
+// What the journal of a core answers, and what is found of it.
+fn found_of(alloc: Global, core: &Core) -> Result<(Vec<Answer>, Audit), NoMemory>
+    requires may { MayBegin core.now.opening }
+    requires answered { AreAllAnswered core.now.opening core.now.journal }
+    ensures answers { IfOk result (λ found. AreAnswers core.now.opening core.now.journal found.0.items) }
+    ensures audit { IfOk result (λ found. IsAudit core.now.opening core.now.journal found.1) }
+{
+    let answers = answers_of(alloc, core)?;
+    let found = audit(alloc, core.opening(), core.journal())?;
+    Ok((answers, found))
+}
+
 // The answers, and what is found of the journal.
 fn finish(alloc: Global, core: Core) -> Rehearsed
     requires may { MayBegin core.opening }
@@ -56,16 +71,15 @@ fn finish(alloc: Global, core: Core) -> Rehearsed
     ensures journal { result.journal.entries ≡ core.journal }
     ensures finds { Finds core.opening core.journal result.answers.items result.end }
 {
-    let Ok(answers) = answers_of(alloc, &core) else {
-        return Rehearsed::cut_off(alloc, journal_of(core));
-    };
-    let Ok(found) = audit(alloc, core.opening(), core.journal()) else {
-        return Rehearsed::cut_off(alloc, journal_of(core));
-    };
-    Rehearsed {
-        journal: journal_of(core),
-        answers,
-        end: RehearsalEnd::Done(found),
+    let found = found_of(alloc, &core);
+    let journal = journal_of(core);
+    match found {
+        Ok((answers, found)) => Rehearsed {
+            journal,
+            answers,
+            end: RehearsalEnd::Done(found),
+        },
+        Err(NoMemory) => Rehearsed::cut_off(alloc, journal),
     }
 }
 
@@ -146,7 +160,7 @@ fn set_stage<'a, R: Threads + Wait + Sync>(
     ensures fresh { IfOk result (λ s. map (λ k. ⟦<SharedDesk<&'a R> as Desk>⟧.counts k) s.crew.items ≡ replicate 4 no_counts) }
 {
     let ready = prepare(alloc, seed, tasks)?;
-    let mut desks = SharedDesks::new(rt, alloc, desk_of(alloc, tasks)?)?;
+    let mut desks = SharedDesks::of_files(rt, alloc, files_of(alloc, tasks)?)?;
     let crew = ask_desks(alloc, &mut desks)?;
     Ok(Stage { ready, desks, crew })
 }
