@@ -1,14 +1,17 @@
 -- What the desks of the workers tell.
-use Rattle.std.proofs.Common.{◌≡◌, ℕ, zero, suc, ◌+◌, List, [], ◌∷◌, ◌++◌, refl, sym, ap, ◌∙◌, map, replicate, None}
+use Rattle.std.proofs.Common.{◌≡◌, ℕ, zero, suc, ◌+◌, List, [], ◌∷◌, ◌++◌, refl, sym, ap, ◌∙◌, map, replicate, None, arith}
 use Rattle.std.proofs.lemmas.List.{map-append}
 use Rattle.ann_outside.specs.DeskCauses.{Counts}
 use Rattle.ann_outside.specs.Desks.{no_counts}
 use Rattle.lone_work.specs.Works.{DeskTells, desk_tells}
 use Rattle.rehearse_run.specs.Rehearsals.{untold}
 
+one_behind : (n : ℕ) → replicate n no_counts ++ no_counts ∷ [] ≡ replicate (suc n) no_counts
+one_behind zero = refl
+one_behind (suc n) = ap (λ (cs : List Counts). no_counts ∷ cs) (one_behind n)
+
 one_more : (n : ℕ) → replicate n no_counts ++ no_counts ∷ [] ≡ replicate (n + 1) no_counts
-one_more zero = refl
-one_more (suc n) = ap (λ (cs : List Counts). no_counts ∷ cs) (one_more n)
+one_more n = let same : suc n ≡ n + 1 = omega arith in one_behind n ∙ ap (λ (k : ℕ). replicate k no_counts) same
 
 -- and one that was asked for just now
 pub counts_more : {D : Type 0} (counts : D → Counts) (ks ks' : List D) (k : D) (n : ℕ) → ks' ≡ ks ++ k ∷ [] → counts k ≡ no_counts → map (λ (d : D). counts d) ks ≡ replicate n no_counts

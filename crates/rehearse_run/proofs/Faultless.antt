@@ -85,7 +85,7 @@ no_read_fault o journal legal =
             not_true false h = refl
 
             ends_so : (w : What) → w ≡ End child ReadFault → why_of (record { by = e.by; what = w } ∷ due_after o p e) child ≡ Some ReadFault
-            ends_so w h = subst (λ (x : What). why_of (record { by = e.by; what = x } ∷ due_after o p e) child ≡ Some ReadFault) (sym h) (rw (same child) refl)
+            ends_so w h = subst (λ (x : What). why_of (record { by = e.by; what = x } ∷ due_after o p e) child ≡ Some ReadFault) (sym h) (rw (same child) (ap (λ (b : Bool). cond {A = Option Why} b (Some ReadFault) None) (same child)))
         here (End child Eof) is = refl
         here (End child LongLine) is = refl
         here (End child Full) is = refl
@@ -169,11 +169,11 @@ pub wires_silent : (starts : Option Starts) (journal : List Entry) (n : ℕ) (cs
 wires_silent starts journal n [] wires h quiet c there = absurd (let bad : false ≡ true = there in cc)
 wires_silent starts journal n (None ∷ cs) wires h quiet c there = wires_silent starts journal (n + 1) cs wires h quiet c there
 wires_silent starts journal n (Some d ∷ cs) [] h quiet c there = absurd h
-wires_silent starts journal n (Some d ∷ cs) (wire ∷ wires) h quiet c there = here (d == c) refl
+wires_silent starts journal n (Some d ∷ cs) (wire ∷ wires) h quiet c there = here (d == c) refl (λ k. wires_silent starts journal (n + 1) cs wires h.3 quiet.2 c k)
   where
-    here : (b : Bool) → (d == c) ≡ b → IsSilent journal c
-    here true e = subst (IsSilent journal) (h.0 ∙ same_number d c e) (silent starts journal (n + 1) wire quiet.0 quiet.1 h.2)
-    here false e = wires_silent starts journal (n + 1) cs wires h.3 quiet.2 c (subst (λ (b : Bool). (b || has_child c cs) ≡ true) e there)
+    here : (b : Bool) → (d == c) ≡ b → (has_child c cs ≡ true → IsSilent journal c) → IsSilent journal c
+    here true e rest = subst (IsSilent journal) (h.0 ∙ same_number d c e) (silent starts journal (n + 1) wire quiet.0 quiet.1 h.2)
+    here false e rest = rest (subst (λ (b : Bool). (b || has_child c cs) ≡ true) e there)
 
 -- ---- the journal
 

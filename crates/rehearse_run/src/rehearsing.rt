@@ -84,7 +84,7 @@ fn finish(alloc: Global, core: Core) -> Rehearsed
 }
 
 // Does the tasks over remotes in memory, and gives the core back.
-fn do_tasks<'a, R: Threads + Wait + Sync>(
+fn do_tasks<'a, R: Threads + Wait + Sync + 'a>(
     rt: &'a R,
     alloc: Global,
     ready: Ready,
@@ -117,7 +117,7 @@ fn do_tasks<'a, R: Threads + Wait + Sync>(
 }
 
 // Does the tasks, and audits the journal.
-fn run<'a, R: Threads + Wait + Sync>(
+fn run<'a, R: Threads + Wait + Sync + 'a>(
     rt: &'a R,
     alloc: Global,
     ready: Ready,
@@ -159,9 +159,9 @@ fn set_stage<'a, R: Threads + Wait + Sync>(
     ensures many { IfOk result (λ s. vec_len s.crew ≡ 4) }
     ensures fresh { IfOk result (λ s. map (λ k. ⟦<SharedDesk<&'a R> as Desk>⟧.counts k) s.crew.items ≡ replicate 4 no_counts) }
 {
-    let ready = prepare(alloc, seed, tasks)?;
     let mut desks = SharedDesks::of_files(rt, alloc, files_of(alloc, tasks)?)?;
     let crew = ask_desks(alloc, &mut desks)?;
+    let ready = prepare(alloc, seed, tasks)?;
     Ok(Stage { ready, desks, crew })
 }
 
