@@ -169,10 +169,10 @@ pub wires_silent : (starts : Option Starts) (journal : List Entry) (n : ℕ) (cs
 wires_silent starts journal n [] wires h quiet c there = absurd (let bad : false ≡ true = there in cc)
 wires_silent starts journal n (None ∷ cs) wires h quiet c there = wires_silent starts journal (n + 1) cs wires h quiet c there
 wires_silent starts journal n (Some d ∷ cs) [] h quiet c there = absurd h
-wires_silent starts journal n (Some d ∷ cs) (wire ∷ wires) h quiet c there = here (d == c) refl (λ k. wires_silent starts journal (n + 1) cs wires h.3 quiet.2 c k)
+wires_silent starts journal n (Some d ∷ cs) (wire ∷ wires) h quiet c there = here (d == c) refl (λ k. wires_silent starts journal (n + 1) cs wires h.2 quiet.2 c k)
   where
     here : (b : Bool) → (d == c) ≡ b → (has_child c cs ≡ true → IsSilent journal c) → IsSilent journal c
-    here true e rest = subst (IsSilent journal) (h.0 ∙ same_number d c e) (silent starts journal (n + 1) wire quiet.0 quiet.1 h.2)
+    here true e rest = subst (IsSilent journal) (h.0 ∙ same_number d c e) (silent starts journal (n + 1) wire quiet.0 quiet.1 h.1)
     here false e rest = rest (subst (λ (b : Bool). (b || has_child c cs) ≡ true) e there)
 
 -- ---- the journal
