@@ -27,8 +27,8 @@ use Rattle.lone_rounds.proofs.Apart.{ended_on}
 use Rattle.lone_rounds.proofs.Tests.{claimed_on, each_without, no_children}
 use Rattle.crew_rounds.specs.PoolChildren.{MayServe, PoolCan}
 use Rattle.pool_starts.specs.Pools.{AreSeated, Gathered, SeatValue, is_among, is_claim}
-use Rattle.pool_starts.specs.Slots.{AllInTurn, in_pool, is_lost, offers_tags}
-use Rattle.pool_starts.proofs.SlotLaws.{turn_both, turn_filled, turn_quiet}
+use Rattle.pool_starts.specs.Slots.{AllInTurn, IsManned, in_pool, is_lost, offers_tags}
+use Rattle.pool_starts.proofs.SlotLaws.{IsFilled, filled_on, turn_both, turn_filled, turn_quiet}
 use Rattle.job_rounds.specs.Desks.{DesksDid, HaveDesks}
 use Rattle.job_rounds.specs.Pools.{LeavesPool, PoolServed}
 use Rattle.job_rounds.specs.PoolSteps.{ClosesAll}
@@ -189,6 +189,9 @@ module _ (o : Opening) (setup : Setup) (limit : ℕ) (old g mid new : List Entry
             (λ other. or_right (is_lost new c) (list_any (is_lost new) (children later)) (theirs (sym (ap (λ (b : Bool). b || list_any (λ (l : LinkValue). is_lost mid l.ear.child) links) other) ∙ h))))
         go (inr all) = inr (ap (are_all_claimed o) k.is ∙ claimed_on o mid k.tail all)
 
+    manned : whole ≡ true → IsManned o (length desks) new
+    manned w = λ pool. subst (IsFilled o (length desks)) (sym behind) (filled_on o (length desks) g then no_starts (at.manned w))
+
     takes_none : claims_in at.later ≡ []
     takes_none = each_without claimed_task is_claim claim_takes at.later at.unclaimed_yet
 
@@ -220,6 +223,7 @@ module _ (o : Opening) (setup : Setup) (limit : ℕ) (old g mid new : List Entry
         calm = closings_calm k m.calm;
         ended = ended;
         spent = spent;
+        manned = manned;
         placed = placed;
         did = did;
       },

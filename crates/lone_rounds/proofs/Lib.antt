@@ -1,6 +1,8 @@
 pub mod Tests
 pub mod Apart
 pub mod Later
+pub mod Spending
+pub mod Nexts
 pub mod Turns
 pub mod Zeros
 pub mod Runs

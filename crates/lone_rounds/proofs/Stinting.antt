@@ -4,7 +4,7 @@ use Rattle.std.specs.Prelude.{◌&&◌, is_some}
 use Rattle.std.specs.List.{list_all, list_any}
 use Rattle.journal_model.specs.declared.verdict.Why.TheVariants.{Closed}
 use Rattle.journal_model.specs.declared.entry.What.{What}
-use Rattle.journal_model.specs.declared.entry.What.TheVariants.{Claim, Start, Ask, Put, Sent, Mute, Got, End, Verdict as Settled, Lost, Answer as Answered, Note}
+use Rattle.journal_model.specs.declared.entry.What.TheVariants.{Claim, NoStart, Start, Ask, Put, Sent, Mute, Got, End, Verdict as Settled, Lost, Answer as Answered, Note}
 use Rattle.journal_model.specs.declared.entry.Entry.{Entry}
 use Rattle.journal_model.specs.declared.opening.Opening.{Opening}
 use Rattle.journal_model.specs.Journal.{any, each_of, is_ended, is_started, open_jobs, starts}
@@ -32,6 +32,7 @@ use Rattle.lone_work.proofs.Working.{ends_behind}
 use Rattle.lone_rounds.specs.Rounds.{EndsClosed, is_closing, is_of_run}
 use Rattle.lone_rounds.specs.Stints.{AnswersOne, in_stint, main_entry}
 use Rattle.lone_rounds.proofs.Later.{all_work, greeting_asks, late}
+use Rattle.lone_rounds.proofs.Nexts.{is_quiet}
 use Rattle.lone_rounds.proofs.Tests.{each_none, any_none, claimed_same}
 use Rattle.lone_rounds.proofs.Zeros.{rests_one}
 
@@ -100,6 +101,12 @@ greeting_gives : (c : ℕ) (w : What) → is_of_greeting c w ≡ true → answer
 greeting_gives c (Answered task answer) h = absurd cc
 greeting_gives c w h = refl
 
+greeting_quiet : (c : ℕ) (w : What) → is_of_greeting c w ≡ true → is_quiet w ≡ true
+greeting_quiet c (Start child slot offer) h = absurd cc
+greeting_quiet c (NoStart slot) h = absurd cc
+greeting_quiet c (Claim task child) h = absurd cc
+greeting_quiet c w h = refl
+
 greeting_unclaimed : (c t : ℕ) (w : What) → is_of_greeting c w ≡ true → claims t w ≡ false
 greeting_unclaimed c t (Claim task child) h = absurd cc
 greeting_unclaimed c t w h = refl
@@ -117,6 +124,9 @@ module _ (old new : List Entry) (offer : Bool) (c : ℕ) (g : Greeted old new 0 
 
   pub greeting_gives_none : answers_in g.more ≡ []
   greeting_gives_none = each_none answer_in (is_of_greeting c) (greeting_gives c) g.more g.own
+
+  pub quiet_greeting : list_all (λ (e : Entry). is_quiet e.what) g.more ≡ true
+  quiet_greeting = all_in (is_of_greeting c) is_quiet (greeting_quiet c) g.more g.own
 
   pub greeting_rests : ((t : ℕ) → is_busy old t ≡ false) → (t : ℕ) → is_busy new t ≡ false
   greeting_rests rest t =

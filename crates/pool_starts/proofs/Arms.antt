@@ -29,7 +29,7 @@ use Rattle.gathering.specs.Rounds.{IsAtRest, LinkValue}
 use Rattle.lone_rounds.specs.Starting.{is_unclosed}
 use Rattle.lone_rounds.specs.Rounds.{is_of_run}
 use Rattle.lone_rounds.specs.Stints.{AreLinked, StartsOne, main_entry, next_child}
-use Rattle.lone_rounds.proofs.Leaving.{adds_one, starts_child}
+use Rattle.lone_rounds.proofs.Leaving.{adds_one, rose_still, starts_child}
 use Rattle.lone_rounds.proofs.Served.{all_unclosed, greeting_unclosed, new_unclosed}
 use Rattle.lone_rounds.proofs.Stinting.{Closing, closing, closing_part, greeting_part, may_close, of_closing}
 use Rattle.crew_rounds.specs.Tagged.{link_of}
@@ -112,7 +112,7 @@ module _ (o : Opening) (program : List ℕ) (slot : ℕ) (old g : List Entry) (b
     one_child = All-cons (λ (l : LinkValue). l.mouth.child ≡ l.ear.child) (link_of ear mouth) [] one (All-nil (λ (l : LinkValue). l.mouth.child ≡ l.ear.child));
     seated = (refl, of_start before.starts mid.starts (program, true) mouth.number adds numbered.0, of_start before.starts mid.starts (program, true) ear.number adds numbered.1, tt);
     adds = adds_one before.starts mid.starts (program, true) adds;
-    fault = λ failed. absurd (let bad : false ≡ true = failed in cc);
+    faults = rose_still 0 before.faults before.faults mid.faults (omega arith) faults;
     later_faults = faults;
   }
 
@@ -159,7 +159,7 @@ module _ (o : Opening) (program : List ℕ) (slot : ℕ) (old g : List Entry) (b
       one_child = All-nil (λ (l : LinkValue). l.mouth.child ≡ l.ear.child);
       seated = laid_one its.new its.laid its.linked;
       adds = its.adds;
-      fault = λ failed. absurd (let bad : false ≡ true = failed in cc);
+      faults = its.faults;
       later_faults = its.later;
     }
 
@@ -185,6 +185,6 @@ fault_seats o program slot old new before after seats links is calm adds rose la
   one_child = All-nil (λ (l : LinkValue). l.mouth.child ≡ l.ear.child);
   seated = tt;
   adds = adds_one before.starts after.starts (program, false) adds;
-  fault = λ failed. rose;
+  faults = rose;
   later_faults = later;
 }
