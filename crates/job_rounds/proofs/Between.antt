@@ -20,10 +20,11 @@ use Rattle.child_end.specs.Wires.{came, came_in}
 use Rattle.task_run.specs.declared.setup.Setup.{Setup}
 use Rattle.lone_work.specs.Works.{DeskTells}
 use Rattle.lone_rounds.specs.Starting.{AllOffer, children, is_offered, is_ready_untagged, started_in}
-use Rattle.lone_rounds.specs.Rounds.{AllStandNext, is_of_run}
+use Rattle.lone_rounds.specs.Rounds.{AllLostWell, AllStandNext, is_of_run}
 use Rattle.lone_rounds.specs.Stints.{AreUpTo, IsOver, IsStart, main_entry, next_child}
 use Rattle.lone_rounds.proofs.Apart.{ended_on, ready_same}
 use Rattle.lone_rounds.proofs.Growing.{SaysStart, says_start}
+use Rattle.lone_rounds.proofs.Losing.{lost_both}
 use Rattle.lone_rounds.proofs.Nexts.{next_both, next_first}
 use Rattle.lone_rounds.proofs.Tests.{and_behind, any_none, any_same, children_up_to, claimed_on, count-append, count_none, neither_nor, offers_both}
 use Rattle.lone_rounds.proofs.Unready.{and_true}
@@ -31,8 +32,10 @@ use Rattle.pool_starts.specs.Slots.{AllInTurn, AreSpent, IsManned, StandsInTurn,
 use Rattle.gathering.specs.Rounds.{IsAtRest}
 use Rattle.job_rounds.specs.Desks.{DesksDid, HaveDesks}
 use Rattle.job_rounds.specs.JobRuns.{RanJobs}
+use Rattle.job_rounds.specs.Posts.{AllPosted}
 use Rattle.job_rounds.specs.Starts.{JobStretch, JobsBetween}
 use Rattle.job_rounds.proofs.Desks.{desks_as_many, desks_join, desks_nothing, desks_on, have_both, have_none}
+use Rattle.job_rounds.proofs.Posting.{posted_both, posted_main}
 use Rattle.job_rounds.proofs.Shutting.{shut_open}
 use Rattle.job_rounds.proofs.Slots.{apart_pool, first_none, offers_of, pool_offers, turn_both}
 use Rattle.job_rounds.proofs.Spent.{all_spent_both, pool_spent}
@@ -72,6 +75,8 @@ jobs_begin o setup may limit journal desks whole none = subst (λ (j : List Entr
   offered = and_true may;
   ended = refl;
   asks = refl;
+  lost = tt;
+  posts = tt;
   rest = λ t. refl;
   spent = λ w. inl refl;
   manned = λ w pool. absurd (let bad : false ≡ true = pool in cc);
@@ -178,6 +183,8 @@ module _ {o : Opening} {setup : Setup} {limit : ℕ} {offer next : Bool} {first 
       offered = offered_now;
       ended = all_ended;
       asks = ap (list_all (λ (e : Entry). is_of_run e.what)) s.is ∙ all-join (λ (e : Entry). is_of_run e.what) old tail b.asks (rw (its.asks, s.asks) refl);
+      lost = subst (AllLostWell []) (sym s.is) (lost_both [] old tail b.lost (its.loses old, s.lost));
+      posts = subst (AllPosted []) (sym s.is) (posted_both [] old tail b.posts (posted_both old (main_entry first ∷ []) s.later (posted_main old (main_entry first ∷ []) refl) s.posts));
       rest = s.rest;
       spent = λ w. spent_now (b.spent refl) (s.spent w);
       manned = λ w. subst (λ (n : ℕ). IsManned o n new) (sym as_many) (s.manned w);
@@ -199,6 +206,8 @@ ran_jobs {o} {setup} {may} {limit} {made} {offer} {journal} le b = record {
   starts = record { turn = b.turn; next = b.order; few = (let n = b.starts in omega (arith, n, le)); offers = b.offers; taken = b.untaken };
   ended = b.ended;
   asks = b.asks;
+  lost = b.lost;
+  posts = b.posts;
   calm = record { idle = b.rest; shut = shut_open journal b.shut };
   placed = b.placed;
   did = b.did;

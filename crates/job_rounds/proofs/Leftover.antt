@@ -21,10 +21,11 @@ use Rattle.task_run.specs.TaskRuns.{failed_start}
 use Rattle.task_run.proofs.Causes.{from_nothing}
 use Rattle.lone_work.specs.Works.{DeskTells}
 use Rattle.lone_rounds.specs.Starting.{AllOffer, children, is_any_start, is_offered, is_ready_untagged, started_in}
-use Rattle.lone_rounds.specs.Rounds.{AllStandNext, ends_for_memory, is_of_run, left_answer, start_untaken}
+use Rattle.lone_rounds.specs.Rounds.{AllLostWell, AllStandNext, ends_for_memory, is_of_run, left_answer, start_untaken}
 use Rattle.lone_rounds.specs.Stints.{AnswersLeft, Kept, answered_so, main_entry}
 use Rattle.lone_rounds.proofs.Apart.{ended_on, ready_same}
 use Rattle.lone_rounds.proofs.Leaving.{kept_still}
+use Rattle.lone_rounds.proofs.Losing.{lost_both, lost_tasks, loses_task}
 use Rattle.lone_rounds.proofs.Nexts.{is_quiet, next_both, next_quiet}
 use Rattle.lone_rounds.proofs.Runs.{IsOfNoCall, gained_nothing}
 use Rattle.lone_rounds.proofs.Tests.{any_same, children_up_to, count-append, count_none, no_children, offers_both, offers_none}
@@ -32,10 +33,12 @@ use Rattle.lone_rounds.proofs.Turns.{claim_takes, none_fails}
 use Rattle.lone_rounds.proofs.Zeros.{rests_one}
 use Rattle.pool_starts.specs.Slots.{AllInTurn, AreSpent, IsManned, are_spent, is_first_start}
 use Rattle.job_rounds.specs.Desks.{DeskDid, DesksDid, HaveDesks}
+use Rattle.job_rounds.specs.Posts.{AllPosted}
 use Rattle.job_rounds.specs.Unserved.{UnservedAnswers}
 use Rattle.job_rounds.specs.Starts.{JobsBetween}
 use Rattle.job_rounds.proofs.Between.{few_of}
 use Rattle.job_rounds.proofs.Desks.{desks_first, desks_join, desks_on, did_join, did_nothing, have_both, have_main, main_claims}
+use Rattle.job_rounds.proofs.Posting.{posted_both, posted_main}
 use Rattle.job_rounds.proofs.Shutting.{unasked}
 use Rattle.job_rounds.proofs.Slots.{manned_still, turn_both, turn_manned}
 use Rattle.job_rounds.proofs.Spent.{all_spent_both}
@@ -163,6 +166,8 @@ module _ {o : Opening} {setup : Setup} {may : Bool} {limit made : ℕ} {offer : 
     ended = ap (list_all (is_ended new)) children_are
         ∙ all-each (is_ended old) (is_ended new) (λ d k. ap (λ (j : List Entry). is_ended j d) a.is ∙ ended_on old more d k) (children old) b.ended;
     asks = ap (list_all (λ (e : Entry). is_of_run e.what)) a.is ∙ all-join (λ (e : Entry). is_of_run e.what) old more b.asks (left_all (left_answer old) is_of_run (λ t. refl) (λ t. refl) a.tasks);
+    lost = subst (AllLostWell []) (sym a.is) (lost_both [] old more b.lost (lost_tasks old more (left_all (left_answer old) loses_task (λ t. refl) (λ t. refl) a.tasks)));
+    posts = subst (AllPosted []) (sym a.is) (posted_both [] old more b.posts (posted_main old more main));
     rest = λ u. ap (λ (j : List Entry). is_busy j u) a.is ∙ left_rests (left_answer old) old a.tasks b.rest u;
     spent = λ w. inl (subst AreSpent (sym a.is) (still_spent (left_answer old) old a.tasks spent));
     manned = λ w. subst (IsManned o (length desks0)) (sym a.is) (manned_at more [] (sym (append-nil more)));

@@ -148,6 +148,7 @@ roomless_pool o jobs program old g first link before after can u = subst (λ (j 
     unclaimed_yet = refl;
     untagged = refl;
     asks = refl;
+    lost = tt;
     turn = tt;
     ended = refl;
     ready = refl;

@@ -30,19 +30,22 @@ use Rattle.task_run.specs.declared.setup.Setup.{Setup}
 use Rattle.task_run.specs.TaskRuns.{failed_start, gone_answer, or_refusal, refusal_of, unready_answer}
 use Rattle.lone_work.specs.Works.{DeskTells}
 use Rattle.lone_rounds.specs.Starting.{children, is_any_start, is_ready_untagged, started_in}
-use Rattle.lone_rounds.specs.Rounds.{AllStandNext, NoneUntaken, StandsNext, is_of_run, start_untaken, turn_of}
+use Rattle.lone_rounds.specs.Rounds.{AllLostWell, AllStandNext, NoneUntaken, StandsNext, is_of_run, start_untaken, turn_of}
 use Rattle.lone_rounds.specs.Stints.{AreLinked, MayHaveAsked, in_stint, main_entry}
 use Rattle.lone_rounds.proofs.Apart.{no_start_in}
 use Rattle.lone_rounds.proofs.Leaving.{adds_both, adds_one, none_told}
+use Rattle.lone_rounds.proofs.Losing.{greeted_next, lost_both, lost_greeting}
 use Rattle.lone_rounds.proofs.Nexts.{next_both, next_quiet}
 use Rattle.lone_rounds.proofs.Stinting.{greeting_part, greeting_takes_none, quiet_greeting}
 use Rattle.lone_rounds.proofs.Tests.{any_none, count-append, count_none, each_none, no_children, none_came}
 use Rattle.pool_starts.specs.Slots.{AllInTurn, begins_by_start, has_pool, in_pool, is_first_start, is_lost, is_unclaimed_since, last_slot, offers_tags, slot_of, spends}
 use Rattle.job_rounds.specs.Desks.{DesksDid, HaveDesks}
 use Rattle.job_rounds.specs.Pools.{LeavesPool, ServesPool}
+use Rattle.job_rounds.specs.Posts.{AllPosted}
 use Rattle.job_rounds.specs.Starts.{JobStretch, OneJobStart, StartsAll}
 use Rattle.job_rounds.proofs.Desks.{desks_join, desks_nothing, have_both, have_none}
 use Rattle.job_rounds.proofs.Objects.{failed_start_is, linked_shifted, of_start, rose_later}
+use Rattle.job_rounds.proofs.Posting.{posted_both, posted_main}
 use Rattle.job_rounds.proofs.Shutting.{rest_shut}
 use Rattle.job_rounds.proofs.Slots.{first_none, new_slot, new_unclaimed, pool_of, stint_pool, turn_both}
 use Rattle.job_rounds.proofs.Spent.{lost_spends, prepared_on}
@@ -268,6 +271,8 @@ module _ (o : Opening) (setup : Setup) (limit : ℕ) (offer : Bool) (old g new :
     within = subst (λ (n : ℕ). list_all (λ (e : Entry). in_pool n e.what) pool_later ≡ true) greeted.next within;
     untagged = untagged_all;
     asks = all-join (λ (e : Entry). is_of_run e.what) greeted.more s.later (greeting_part c greeted.more greeted.own greeted.main).asks s.asks;
+    lost = lost_both at_start greeted.more s.later (lost_greeting at_start c greeted.more (greeted_next old c 0 offer) greeted.own) (subst (λ (p : List Entry). AllLostWell p s.later) at_greeted s.lost);
+    posts = posted_both at_start greeted.more s.later (posted_main at_start greeted.more greeted.main) (subst (λ (p : List Entry). AllPosted p s.later) at_greeted s.posts);
     turn = turn_both o (length desks) at_start greeted.more s.later (greeting_turn o (length desks) at_start old g offer c greeted)
         (subst (λ (p : List Entry). AllInTurn o (length desks) p s.later) at_greeted s.turn);
     order = order;

@@ -11,6 +11,7 @@ use Rattle.journal_model.specs.Legality.{Legal, is_busy}
 use Rattle.journal_model.proofs.Looks.{both}
 use Rattle.journal_model.proofs.Testing.{all-join}
 use Rattle.host_core.specs.Steps.{are_all_claimed}
+use Rattle.gathering.specs.Posts.{makes, tagged_crew}
 use Rattle.gathering.specs.Rounds.{IsAtRest}
 use Rattle.crew_rounds.specs.TaggedRounds.{TaggedLeaves}
 use Rattle.child_start.specs.Greetings.{Greeted, IsReady}
@@ -19,17 +20,20 @@ use Rattle.child_end.specs.Wires.{WireValue}
 use Rattle.task_run.specs.declared.setup.Setup.{Setup}
 use Rattle.lone_work.specs.Works.{DeskTells, claims_in}
 use Rattle.lone_rounds.specs.Starting.{is_any_start, is_ready_untagged, is_spent}
-use Rattle.lone_rounds.specs.Rounds.{NoneUntaken, is_of_run}
+use Rattle.lone_rounds.specs.Rounds.{AllLostWell, NoneUntaken, is_of_run}
 use Rattle.lone_rounds.specs.Stints.{HasServed, Stint, Stretch, in_stint, main_entry, next_child}
 use Rattle.lone_rounds.proofs.Apart.{spent_on}
 use Rattle.lone_rounds.proofs.Growing.{starts_none}
-use Rattle.lone_rounds.proofs.Served.{ready_now, ready_taken, served_next, served_stint, untagged}
-use Rattle.lone_rounds.proofs.Stinting.{Closing, closing, closing_part, closing_rests, greeting_part, greeting_takes_none, of_closing}
+use Rattle.lone_rounds.proofs.Losing.{greeted_next, lost_both, lost_greeting, lost_others, lost_tasks}
+use Rattle.lone_rounds.proofs.Served.{ready_now, ready_taken, served_next, served_stint, tag_same, untagged}
+use Rattle.lone_rounds.proofs.Stinting.{Closing, closing, closing_loses, closing_part, closing_rests, greeting_part, greeting_takes_none, of_closing}
 use Rattle.lone_rounds.proofs.Tests.{claimed_on}
 use Rattle.job_rounds.specs.Desks.{DesksDid, HaveDesks}
+use Rattle.job_rounds.specs.Posts.{AllPosted}
 use Rattle.job_rounds.specs.Servings.{Serves, ServesRound}
 use Rattle.job_rounds.specs.Starts.{JobStretch, OneJobStart, StartsAll}
 use Rattle.job_rounds.proofs.Desks.{desks_join, desks_nothing, desks_on, have_both, have_none}
+use Rattle.job_rounds.proofs.Posting.{none_main, posted_both, posted_main, posted_tagged}
 use Rattle.job_rounds.proofs.RoundDid.{round_asks, round_desks, round_did, round_over, round_within}
 use Rattle.job_rounds.proofs.Shutting.{rest_shut}
 use Rattle.job_rounds.proofs.Stretching.{behind_first, closed_idle, job_start, more_than, served_idle, served_manned, served_turn, stint_job, stretch_job}
@@ -118,6 +122,24 @@ module _ (o : Opening) (setup : Setup) (limit : ℕ) (offer tagged : Bool) (old 
   abbrev at_start : List Entry
   at_start = old ++ first ∷ []
 
+  not_mains : list_all (λ (e : Entry). not (e.by == 0)) rest ≡ true
+  not_mains = none_main (3 + length desks) rest leaves.round.rounded.numbered
+
+  lost : AllLostWell at_start later
+  lost = lost_both at_start greeted.more (rest ++ k.tail) (lost_greeting at_start c greeted.more (greeted_next old c 0 offer) greeted.own)
+      (lost_both (at_start ++ greeted.more) rest k.tail (lost_others (at_start ++ greeted.more) rest not_mains) (lost_tasks ((at_start ++ greeted.more) ++ rest) k.tail (closing_loses c k.tail k.one)))
+
+  posts : AllPosted at_start later
+  posts = posted_both at_start greeted.more (rest ++ k.tail) (posted_main at_start greeted.more greeted.main)
+      (subst (λ (p : List Entry). AllPosted p (rest ++ k.tail)) (greeted.grown ∙ sym (append_assoc old (first ∷ []) greeted.more))
+      (posted_both g rest k.tail (posted_tagged c g rest tag_at (subst (λ (d : ℕ). list_all (λ (e : Entry). makes (tagged_crew d e.by) e.what) rest ≡ true) s.child leaves.round.rounded.posts))
+      (posted_main (g ++ rest) k.tail (closing_part c k.tail k.one).main)))
+    where
+      tag_at : (front back : List Entry) → rest ≡ front ++ back → is_tagged (g ++ front) c ≡ true
+      tag_at front back split = tag_same o g front c legal' ready greeted.idle (both (list_all (λ (e : Entry). in_stint c e.what) front) (list_all (λ (e : Entry). in_stint c e.what) back)
+          (sym (list_all-append (λ (e : Entry). in_stint c e.what) front back) ∙ ap (list_all (λ (e : Entry). in_stint c e.what)) (sym split) ∙ rest_within)).0
+          ∙ s.tagged
+
   abbrev stretch : Stretch o offer (offer && tagged) (Start c 0 offer) old new
   stretch = record {
     left = left;
@@ -127,6 +149,7 @@ module _ (o : Opening) (setup : Setup) (limit : ℕ) (offer tagged : Bool) (old 
     turn = served_next o old g offer c greeted legal' ready (rest ++ k.tail) end_within;
     within = subst (λ (n : ℕ). list_all (λ (e : Entry). in_stint n e.what) later ≡ true) greeted.next within;
     asks = asks;
+    lost = lost;
     rest = λ u. ap (λ (j : List Entry). is_busy j u) k.is ∙ closing_rests c k.tail k.one s.mid (λ t. ap (λ (j : List Entry). is_busy j t) s.round.1 ∙ calm.idle t) u;
     ended = ap (λ (b : Bool). b && true) k.ended;
     spent = over;
@@ -145,7 +168,7 @@ module _ (o : Opening) (setup : Setup) (limit : ℕ) (offer tagged : Bool) (old 
   pub round_stretch : (full : Bool) → JobStretch o setup limit offer (offer && tagged) (Start c 0 offer) old new desks desks' full
   round_stretch full = stretch_job stretch setup limit desks desks' full (served_turn o n offer old g new c legal' greeted ready (rest ++ k.tail) behind (inr s.tagged) later whole within) placed did
       (λ one. absurd (s.many one)) (λ shut. subst (λ (n : ℕ). open_jobs new n ≡ []) greeted.next idle)
-      (served_manned o n offer old g new c legal' greeted ready (rest ++ k.tail) behind (inr s.tagged) end_within)
+      (served_manned o n offer old g new c legal' greeted ready (rest ++ k.tail) behind (inr s.tagged) end_within) posts
 
   pub round_start : {program : List ℕ} {before after : ProgramsValue} {wires wires' : List WireValue} (full : Bool) → ((xs : List Entry) → any is_any_start xs ≡ false → StartsAll program new (first ∷ xs) before after wires wires')
       → OneJobStart o setup limit offer (offer && tagged) full program old new desks desks' before after wires wires'

@@ -43,9 +43,11 @@ use Rattle.pool_starts.specs.Pools.{is_claim}
 use Rattle.pool_starts.specs.Slots.{AllInTurn, IsManned, has_pool, in_pool, offers_tags, spends}
 use Rattle.pool_starts.proofs.SlotLaws.{first_started, none_first, pool_of as pool_is, turn_quiet}
 use Rattle.job_rounds.specs.Desks.{DesksDid, HaveDesks}
+use Rattle.job_rounds.specs.Posts.{AllPosted}
 use Rattle.job_rounds.specs.Servings.{CanBeServed}
 use Rattle.job_rounds.specs.Starts.{JobStretch, OneJobStart, StartsAll}
 use Rattle.job_rounds.proofs.Desks.{desks_main, have_main}
+use Rattle.job_rounds.proofs.Posting.{posted_main}
 use Rattle.job_rounds.proofs.Shutting.{AreShut, rest_shut, shut_next, shut_open}
 use Rattle.job_rounds.proofs.Slots.{manned_none, manned_one, pool_failed, pool_of, stint_pool, turn_both, turn_manned}
 use Rattle.job_rounds.proofs.Spent.{own_spends, prepared_on}
@@ -132,8 +134,8 @@ module _ {o : Opening} {offer next : Bool} {first : What} {old new : List Entry}
 
   pub stretch_job : (setup : Setup) (limit : ℕ) (desks desks' : List DeskTells) (whole : Bool) → AllInTurn o (length desks) (old ++ main_entry first ∷ []) s.later → HaveDesks (length desks) (old ++ main_entry first ∷ []) s.later
       → DesksDid o setup limit new (old ++ main_entry first ∷ []) s.later 1 desks desks' → (length desks ≡ 1 → are_by 0 s.later ≡ true) → (AreShut old → open_jobs new (next_child old) ≡ [])
-      → IsManned o (length desks) new → JobStretch o setup limit offer next first old new desks desks' whole
-  stretch_job setup limit desks desks' whole turn placed did alone idle manned = record {
+      → IsManned o (length desks) new → AllPosted (old ++ main_entry first ∷ []) s.later → JobStretch o setup limit offer next first old new desks desks' whole
+  stretch_job setup limit desks desks' whole turn placed did alone idle manned posts = record {
     left = s.left;
     later = s.later;
     is = s.is;
@@ -141,6 +143,8 @@ module _ {o : Opening} {offer next : Bool} {first : What} {old new : List Entry}
     within = all_in (in_stint (next_child old)) (in_pool (next_child old)) (stint_pool (next_child old)) s.later s.within;
     untagged = any_narrower offers_tags is_any_start no_tags s.later (starts_none s);
     asks = s.asks;
+    lost = s.lost;
+    posts = posts;
     turn = turn;
     order = s.turn;
     rest = s.rest;
@@ -173,7 +177,7 @@ module _ (o : Opening) (setup : Setup) (limit : ℕ) (offer next : Bool) (first 
       stretch_job s.stretch setup limit (desk ∷ others) (desk' ∷ others) whole turn
       (have_main (length (desk ∷ others)) (old ++ main_entry first ∷ []) s.stretch.later (omega arith) s.main)
       (desks_main o setup limit (more_than new) new (old ++ main_entry first ∷ []) s.stretch.later desk desk' others (omega arith) s.main s.done)
-      (λ one. s.main) idle manned
+      (λ one. s.main) idle manned (posted_main (old ++ main_entry first ∷ []) s.stretch.later s.main)
 
   -- where no desk is used
   pub stint_any : (desks : List DeskTells) → 0 < length desks → ((d : DeskTells) → Stint o setup (more_than new) offer next first old new d d) → (whole : Bool) → QuietStretch old new first

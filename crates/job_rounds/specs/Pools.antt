@@ -14,10 +14,11 @@ use Rattle.gathering.specs.Rounds.{IsAtRest}
 use Rattle.task_run.specs.declared.setup.Setup.{Setup}
 use Rattle.lone_work.specs.Works.{DeskTells}
 use Rattle.lone_rounds.specs.Starting.{children}
-use Rattle.lone_rounds.specs.Rounds.{is_of_run}
+use Rattle.lone_rounds.specs.Rounds.{AllLostWell, is_of_run}
 use Rattle.lone_rounds.specs.Stints.{AreLinked, ear_of, mouth_of}
 use Rattle.pool_starts.specs.Slots.{AllInTurn, IsManned, in_pool, is_lost, offers_tags}
 use Rattle.job_rounds.specs.Desks.{DesksDid, HaveDesks}
+use Rattle.job_rounds.specs.Posts.{AllPosted}
 
 -- Behind old, where child c of slot 0 is ready, there stand only starts in other slots, in turn, none offering ASYNC, and what was made of
 -- c and of their children. All is at rest, and each of these children has ended. Each task that was claimed has its desk's run. Where the
@@ -28,6 +29,8 @@ pub record ServesPool (o : Opening) (setup : Setup) (limit c : ℕ) (old new : L
   pub within : list_all (λ e. in_pool c e.what) later ≡ true
   pub untagged : any offers_tags later ≡ false
   pub asks : list_all (λ e. is_of_run e.what) later ≡ true
+  pub lost : AllLostWell old later
+  pub posts : AllPosted old later
   pub turn : AllInTurn o (length desks) old later
   pub legal : Legal o new
   pub calm : IsAtRest new

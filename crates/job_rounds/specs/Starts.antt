@@ -14,10 +14,11 @@ use Rattle.lone_work.specs.Works.{DeskTells}
 use Rattle.child_end.specs.Programs.{AddsAll, ProgramsValue, RoseBy, is_failed_start, told}
 use Rattle.child_end.specs.Wires.{WireValue, came}
 use Rattle.lone_rounds.specs.Starting.{AllOffer, AreEnded, children, is_offered, is_ready_untagged}
-use Rattle.lone_rounds.specs.Rounds.{AllStandNext, NoneUntaken, is_of_run}
+use Rattle.lone_rounds.specs.Rounds.{AllLostWell, AllStandNext, NoneUntaken, is_of_run}
 use Rattle.lone_rounds.specs.Stints.{AreLinked, IsOver, IsStart, MayHaveAsked, main_entry, next_child}
 use Rattle.pool_starts.specs.Slots.{AllInTurn, AreSpent, IsManned, in_pool, is_first_start, offers_tags, spends}
 use Rattle.job_rounds.specs.Desks.{DesksDid, HaveDesks}
+use Rattle.job_rounds.specs.Posts.{AllPosted}
 
 -- ---- one start of slot 0
 
@@ -32,6 +33,8 @@ pub record JobStretch (o : Opening) (setup : Setup) (limit : ℕ) (offer next : 
   pub within : list_all (λ e. in_pool (next_child old) e.what) later ≡ true
   pub untagged : any offers_tags later ≡ false
   pub asks : list_all (λ e. is_of_run e.what) later ≡ true
+  pub lost : AllLostWell (old ++ main_entry first ∷ []) later
+  pub posts : AllPosted (old ++ main_entry first ∷ []) later
   pub turn : AllInTurn o (length desks) (old ++ main_entry first ∷ []) later
   pub order : AllStandNext o (old ++ main_entry first ∷ []) later
   pub rest : (t : ℕ) → is_busy new t ≡ false
@@ -87,6 +90,8 @@ pub record JobsBetween (o : Opening) (setup : Setup) (may : Bool) (limit made : 
   pub offered : offer ≡ (may && is_offered journal)
   pub ended : AreEnded journal
   pub asks : list_all (λ e. is_of_run e.what) journal ≡ true
+  pub lost : AllLostWell [] journal
+  pub posts : AllPosted [] journal
   pub rest : (t : ℕ) → is_busy journal t ≡ false
   pub spent : whole ≡ true → AreSpent journal ⊎ (are_all_claimed o journal ≡ true)
   pub manned : whole ≡ true → IsManned o (length desks) journal

@@ -26,11 +26,12 @@ use Rattle.lone_work.proofs.Working.{ends_behind}
 use Rattle.child_end.specs.Wires.{AreWires, IsWire, WireValue, came, came_in}
 use Rattle.child_end.specs.Programs.{AddsAll, HaveStarted as HaveStartedSo, Leaves, ProgramsValue, is_failed_start, told}
 use Rattle.lone_rounds.specs.Starting.{AllOffer, AreSpent, children, is_any_start, is_elsewhere, is_offered, is_ready_untagged, started_in}
-use Rattle.lone_rounds.specs.Rounds.{AllStandNext, EndsClosed, RanAlone, ZeroAnswers, ends_for_memory, is_of_run, left_answer, start_untaken}
+use Rattle.lone_rounds.specs.Rounds.{AllLostWell, AllStandNext, EndsClosed, RanAlone, ZeroAnswers, ends_for_memory, is_of_run, left_answer, start_untaken}
 use Rattle.lone_rounds.specs.Stints.{AnswersLeft, AreLinked, AreUpTo, Between, IsLinked, IsOver, Kept, MayHaveAsked, OneStart, Spaced, Stint, TasksDone, answered_so, ear_of, main_entry, mouth_of}
 use Rattle.lone_rounds.proofs.Apart.{ended_on, ready_same}
 use Rattle.lone_rounds.proofs.Growing.{apart, between_next, starts_none}
 use Rattle.lone_rounds.proofs.Leaving.{adds_both, adds_none, adds_one, kept_next, kept_still, rose_still, stays_none}
+use Rattle.lone_rounds.proofs.Losing.{lost_both, lost_tasks, loses_task}
 use Rattle.lone_rounds.proofs.Nexts.{is_quiet, next_both, next_quiet}
 use Rattle.lone_rounds.proofs.Runs.{IsOfNoCall, all_runs, done_both, done_join, done_nothing, done_zero}
 use Rattle.lone_rounds.proofs.Spending.{none_spent, spent_both}
@@ -52,6 +53,7 @@ between_begin o setup may limit journal desk none = subst (λ (j : List Entry). 
     offered = and_true may;
     ended = refl;
     asks = refl;
+    lost = tt;
     rest = λ t. refl;
     spent = inl refl;
     untaken = refl;
@@ -172,6 +174,7 @@ module _ {o : Opening} {may : Bool} {made : ℕ} {offer : Bool} {old new : List 
     ended = ap (list_all (is_ended new)) children_are
         ∙ all-each (is_ended old) (is_ended new) (λ d k. ap (λ (j : List Entry). is_ended j d) a.is ∙ ended_on old more d k) (children old) b.ended;
     asks = ap (list_all (λ (e : Entry). is_of_run e.what)) a.is ∙ all-join (λ (e : Entry). is_of_run e.what) old more b.asks (left_all (left_answer old) is_of_run (λ t. refl) (λ t. refl) a.tasks);
+    lost = subst (AllLostWell []) (sym a.is) (lost_both [] old more b.lost (lost_tasks old more (left_all (left_answer old) loses_task (λ t. refl) (λ t. refl) a.tasks)));
     rest = λ u. ap (λ (j : List Entry). is_busy j u) a.is ∙ left_rests (left_answer old) old a.tasks b.rest u;
     spent = inl (subst AreSpent (sym a.is) (still_spent (left_answer old) old more none spent));
     untaken = subst (λ (j : List Entry). failed_start j (start_untaken j) ≡ None) (sym a.is) (left_untaken (left_answer old) old a.tasks b.untaken);
@@ -226,6 +229,7 @@ ran_alone {o} {setup} {may} {limit} {made} {offer} {journal} le b = record {
   starts = record { slots = b.spaced.slots; next = b.spaced.turn; few = (let n = b.spaced.starts in omega (arith, n, le)); offers = b.spaced.offers; taken = b.spaced.untaken };
   ended = b.spaced.ended;
   asks = b.spaced.asks;
+  lost = b.spaced.lost;
   done = b.done.done;
   claimed = b.done.claimed;
   answered = b.done.answered;

@@ -18,9 +18,10 @@ use Rattle.task_run.specs.declared.setup.Setup.{Setup}
 use Rattle.lone_work.specs.Works.{DeskTells, claimed_task}
 use Rattle.child_end.specs.Wires.{came, came_in}
 use Rattle.lone_rounds.specs.Starting.{AllOffer, AreSpent, OffersWell, children, is_any_start, is_elsewhere, is_offered, is_ready_untagged, is_spent, started_in}
-use Rattle.lone_rounds.specs.Rounds.{AllStandNext, is_of_run}
+use Rattle.lone_rounds.specs.Rounds.{AllLostWell, AllStandNext, IsLostIn, is_of_run}
 use Rattle.lone_rounds.specs.Stints.{AreUpTo, Between, IsStart, Spaced, Stint, Stretch, TasksDone, in_stint, main_entry, next_child}
 use Rattle.lone_rounds.proofs.Apart.{apart_in, ended_on, no_offer, no_start_in, ready_same}
+use Rattle.lone_rounds.proofs.Losing.{lost_both}
 use Rattle.lone_rounds.proofs.Nexts.{next_both, next_first}
 use Rattle.lone_rounds.proofs.Runs.{done_both, done_same}
 use Rattle.lone_rounds.proofs.Spending.{last_spent, spent_both}
@@ -33,6 +34,7 @@ pub record SaysStart (past : List Entry) (offer : Bool) (first : What) : Type 0 
   pub any_start : is_any_start first ≡ true
   pub here : is_elsewhere first ≡ false
   pub asks : is_of_run first ≡ true
+  pub loses : (journal : List Entry) → 0 ≡ 0 → IsLostIn journal first
   pub offers_well : (may : Bool) → offer ≡ (may && is_offered past) → OffersWell may past first
   pub of_none : (d : ℕ) → is_of_child d first ≡ false
   pub offers_next : (d : ℕ) → (next_child past == d) ≡ false → offers d first ≡ false
@@ -43,6 +45,7 @@ says_start past offer first (inl e) = subst (SaysStart past offer) (sym e) recor
   any_start = refl;
   here = refl;
   asks = refl;
+  loses = λ journal mains. tt;
   offers_well = λ may h. h;
   of_none = λ d. refl;
   offers_next = λ d other. ap (λ (b : Bool). b && offer) other;
@@ -52,6 +55,7 @@ says_start past offer first (inr e) = subst (SaysStart past offer) (sym e) recor
   any_start = refl;
   here = refl;
   asks = refl;
+  loses = λ journal mains. tt;
   offers_well = λ may h. tt;
   of_none = λ d. refl;
   offers_next = λ d other. refl;
@@ -166,6 +170,7 @@ module _ {o : Opening} {offer next : Bool} {first : What} {old new : List Entry}
       offered = offered_now;
       ended = earlier is_ended (λ d x. ended_on old tail d x) b.ended s.ended;
       asks = ap (list_all (λ (e : Entry). is_of_run e.what)) s.is ∙ all-join (λ (e : Entry). is_of_run e.what) old tail b.asks (rw (its.asks, s.asks) refl);
+      lost = subst (AllLostWell []) (sym s.is) (lost_both [] old tail b.lost (its.loses old, s.lost));
       rest = s.rest;
       spent = spent_now b.spent s.spent;
       untaken = s.untaken;

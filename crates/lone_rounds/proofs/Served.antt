@@ -36,9 +36,10 @@ use Rattle.lone_rounds.specs.Rounds.{AllStandNext, EndsClosed, NoneUntaken}
 use Rattle.lone_rounds.specs.Stints.{HasServed, Stint, TasksDone, in_stint, main_entry}
 use Rattle.lone_rounds.proofs.Apart.{ended_unclosed, is_unclosed_end, no_offer, no_start_in, spent_on}
 use Rattle.lone_rounds.proofs.Later.{late_from}
+use Rattle.lone_rounds.proofs.Losing.{loses_task}
 use Rattle.lone_rounds.proofs.Nexts.{next_both, next_quiet, next_where}
 use Rattle.lone_rounds.proofs.Runs.{done_same, worker_runs}
-use Rattle.lone_rounds.proofs.Stinting.{Closing, Part, closing, closing_claims, closing_ends, closing_part, closing_rests, greeting_claims_none, greeting_gives_none, greeting_part, greeting_takes_none, quiet_greeting, of_closing, part_both, worker_part}
+use Rattle.lone_rounds.proofs.Stinting.{Closing, Part, closing, closing_claims, closing_ends, closing_part, closing_rests, closing_loses, greeting_claims_none, greeting_gives_none, greeting_part, greeting_takes_none, quiet_greeting, served_lost, worker_loses, of_closing, part_both, worker_part}
 use Rattle.lone_rounds.proofs.Tests.{any_none, claimed_on, claimed_same, or_false}
 use Rattle.lone_rounds.proofs.Turns.{ready_untaken}
 
@@ -252,6 +253,7 @@ module _ (o : Opening) (setup : Setup) (limit : ℕ) (offer tagged : Bool) (old 
       turn = served_next o old g offer c greeted legal' ready (its ++ k.tail) rest_part.within;
       within = subst (λ (n : ℕ). list_all (λ (e : Entry). in_stint n e.what) later ≡ true) greeted.next part.within;
       asks = part.asks;
+      lost = served_lost old g offer c greeted (its ++ k.tail) (all-join (λ (e : Entry). loses_task e.what) its k.tail (worker_loses c its s.worked.only) (closing_loses c k.tail k.one));
       rest = λ u. ap (λ (j : List Entry). is_busy j u) k.is ∙ closing_rests c k.tail k.one s.mid s.can.rest u;
       ended = ap (λ (b : Bool). b && true) k.ended;
       spent = over;

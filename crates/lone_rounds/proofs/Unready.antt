@@ -30,9 +30,10 @@ use Rattle.lone_rounds.specs.Rounds.{ZeroAnswers, start_untaken, turn_of}
 use Rattle.lone_rounds.specs.Stints.{AnswersOne, Stint, TasksDone, TurnsAway, in_stint, main_entry}
 use Rattle.lone_work.proofs.Working.{ends_behind}
 use Rattle.lone_rounds.proofs.Apart.{spent_on, why_unclosed}
+use Rattle.lone_rounds.proofs.Losing.{lost_tasks}
 use Rattle.lone_rounds.proofs.Nexts.{is_quiet, next_quiet}
 use Rattle.lone_rounds.proofs.Runs.{IsOfNoCall, done_same, done_zero}
-use Rattle.lone_rounds.proofs.Stinting.{Closing, Part, closing, closing_ends, closing_part, closing_rests, greeting_claims_none, greeting_gives_none, greeting_part, greeting_rests, greeting_takes_none, of_closing, part_both, quiet_greeting, zero_part}
+use Rattle.lone_rounds.proofs.Stinting.{Closing, Part, closing, closing_ends, closing_loses, closing_part, closing_rests, greeting_claims_none, greeting_gives_none, greeting_part, greeting_rests, greeting_takes_none, of_closing, part_both, quiet_greeting, served_lost, zero_part}
 use Rattle.lone_rounds.proofs.Tests.{claimed_same, each_none}
 use Rattle.lone_rounds.proofs.Turns.{child_untaken, claim_takes, fault_untaken, none_fails}
 use Rattle.lone_rounds.proofs.Zeros.{rests_one}
@@ -172,6 +173,7 @@ module _ (o : Opening) (setup : Setup) (limit : ℕ) (offer : Bool) (old g new :
             (of_closing c k.tail k.one (λ (x : List Entry). list_all (λ (e : Entry). is_quiet e.what) (zero ++ x) ≡ true) refl refl));
         within = subst (λ (n : ℕ). list_all (λ (e : Entry). in_stint n e.what) later ≡ true) greeted.next part.within;
         asks = part.asks;
+        lost = served_lost old g offer c greeted (zero ++ k.tail) (closing_loses c k.tail k.one);
         rest = λ u. ap (λ (j : List Entry). is_busy j u) (k.is ∙ ap (λ (x : List Entry). x ++ k.tail) is)
             ∙ closing_rests c k.tail k.one (g ++ zero) (rests_one g t answer (greeting_rests old g offer c greeted rest)) u;
         ended = ap (λ (b : Bool). b && true) k.ended;
@@ -215,6 +217,7 @@ module _ (o : Opening) (setup : Setup) (limit : ℕ) (offer : Bool) (old g new :
       turn = next_quiet o (old ++ main_entry (NoStart 0) ∷ []) (main_entry (Claim t 0) ∷ main_entry (Answered t StartFault) ∷ []) refl;
       within = refl;
       asks = refl;
+      lost = lost_tasks (old ++ main_entry (NoStart 0) ∷ []) (main_entry (Claim t 0) ∷ main_entry (Answered t StartFault) ∷ []) refl;
       rest = λ u. ap (λ (j : List Entry). is_busy j u) is ∙ rests_one g t StartFault fault_rests u;
       ended = refl;
       spent = inl refl;

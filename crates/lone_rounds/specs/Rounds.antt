@@ -7,7 +7,7 @@ use Rattle.journal_model.specs.declared.verdict.Why.TheVariants.{Memory as ForMe
 use Rattle.journal_model.specs.declared.answer.Answer.{Answer}
 use Rattle.journal_model.specs.declared.answer.Answer.TheVariants.{Memory, NoChild}
 use Rattle.journal_model.specs.declared.entry.What.{What}
-use Rattle.journal_model.specs.declared.entry.What.TheVariants.{Start, NoStart, Claim, Ask, End, Answer as Answered}
+use Rattle.journal_model.specs.declared.entry.What.TheVariants.{Start, NoStart, Claim, Ask, End, Lost, Answer as Answered}
 use Rattle.journal_model.specs.declared.entry.Entry.{Entry}
 use Rattle.journal_model.specs.declared.opening.Opening.{Opening}
 use Rattle.journal_model.specs.Journal.{any, each_of}
@@ -68,6 +68,29 @@ pub record AreStarts (o : Opening) (may : Bool) (limit : ℕ) (journal : List En
   pub offers : AllOffer may [] journal
   pub taken : NoneUntaken journal
 
+-- ---- requests that are lost
+
+-- what starts and claims come to, in any slot: a start to its child or to none, which a claim takes up
+abbrev pub opened_in : What → Option (Option ℕ)
+opened_in (Start child slot offer) = Some (Some child)
+opened_in (NoStart slot) = Some None
+opened_in (Claim task child) = Some None
+opened_in w = None
+
+-- the child that is greeted here: that of the last start, where no task was claimed behind it
+abbrev pub greeted : List Entry → Option ℕ
+greeted past = option_and_then (λ child. child) (last_or None (each_of opened_in past))
+
+-- a request of no task is lost in the greeting of its child alone
+abbrev pub IsLostIn : List Entry → What → Type 0
+IsLostIn past (Lost child task) = task ≡ 0 → greeted past ≡ Some child
+IsLostIn past w = Unit {0}
+
+-- so is each that the main thread lost among the entries, which stand behind past
+abbrev pub AllLostWell : List Entry → List Entry → Type 0
+AllLostWell past [] = Unit {0}
+AllLostWell past (e ∷ rest) = (e.by ≡ 0 → IsLostIn past e.what) × AllLostWell (past ++ e ∷ []) rest
+
 -- ---- a task that is left
 
 -- a child ended for want of memory
@@ -111,7 +134,8 @@ abbrev pub is_of_run : What → Bool
 is_of_run (Ask child job task line) = if is_greeting_line job line then task == 0 else not (job == 0 || (job == 1 || task == 0))
 is_of_run w = true
 
--- The journal is legal and all its entries are the main thread's. Each child was started in its turn, and has ended. Each task
+-- The journal is legal and all its entries are the main thread's. Each child was started in its turn, and has ended. A request of no task
+-- is lost in a greeting alone. Each task
 -- that was claimed was run and then answered so, one behind the other, and the desk made the calls of these runs, in their
 -- order, and no others.
 pub record RanAlone (o : Opening) (setup : Setup) (may : Bool) (limit : ℕ) (journal : List Entry) (desk desk' : DeskTells) : Type 0 where
@@ -120,6 +144,7 @@ pub record RanAlone (o : Opening) (setup : Setup) (may : Bool) (limit : ℕ) (jo
   pub starts : AreStarts o may limit journal
   pub ended : AreEnded journal
   pub asks : list_all (λ e. is_of_run e.what) journal ≡ true
+  pub lost : AllLostWell [] journal
   pub done : List TaskDone
   pub claimed : map (λ r. r.task) done ≡ claims_in journal
   pub answered : map (λ r. (r.task, r.answer)) done ≡ answers_in journal

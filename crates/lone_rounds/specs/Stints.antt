@@ -23,7 +23,7 @@ use Rattle.lone_work.specs.Works.{CanWork, DeskTells, TaskDone, Worked, CausedIn
 use Rattle.child_end.specs.Wires.{WireValue, IsHeld, IsOfStart, came}
 use Rattle.child_end.specs.Programs.{ProgramsValue, AddsAll, RoseBy, is_failed_start, told}
 use Rattle.lone_rounds.specs.Starting.{AllOffer, AreEnded, AreSpent, children, is_any_start, is_elsewhere, is_offered, is_ready_untagged, is_spent}
-use Rattle.lone_rounds.specs.Rounds.{AllStandNext, EndsClosed, HasRun, NoneUntaken, ends_for_memory, is_of_run}
+use Rattle.lone_rounds.specs.Rounds.{AllLostWell, AllStandNext, EndsClosed, HasRun, NoneUntaken, ends_for_memory, is_of_run}
 
 -- an entry of the main thread's own
 abbrev pub main_entry : What → Entry
@@ -123,6 +123,7 @@ pub record Stretch (o : Opening) (offer next : Bool) (first : What) (old new : L
   pub turn : AllStandNext o (old ++ main_entry first ∷ []) later
   pub within : list_all (λ e. in_stint (next_child old) e.what) later ≡ true
   pub asks : list_all (λ e. is_of_run e.what) later ≡ true
+  pub lost : AllLostWell (old ++ main_entry first ∷ []) later
   pub rest : (t : ℕ) → is_busy new t ≡ false
   pub ended : list_all (is_ended new) (children (main_entry first ∷ [])) ≡ true
   pub spent : (list_all (is_spent new) (children (main_entry first ∷ [])) ≡ true) ⊎ (are_all_claimed o new ≡ true)
@@ -205,6 +206,7 @@ pub record Spaced (o : Opening) (may : Bool) (made : ℕ) (offer : Bool) (journa
   pub offered : offer ≡ (may && is_offered journal)
   pub ended : AreEnded journal
   pub asks : list_all (λ e. is_of_run e.what) journal ≡ true
+  pub lost : AllLostWell [] journal
   pub rest : (t : ℕ) → is_busy journal t ≡ false
   pub spent : AreSpent journal ⊎ (are_all_claimed o journal ≡ true)
   pub untaken : NoneUntaken journal

@@ -40,6 +40,7 @@ module _ (o : Opening) (jobs : ℕ) (program : List ℕ) (old : List Entry) (fir
         unclaimed_yet = refl;
         untagged = refl;
         asks = refl;
+        lost = tt;
         turn = tt;
         ended = refl;
         ready = refl;
@@ -100,6 +101,7 @@ module _ {o : Opening} {jobs : ℕ} {program : List ℕ} {old mid : List Entry} 
       unclaimed_yet = g.unclaimed_yet;
       untagged = g.untagged;
       asks = g.asks;
+      lost = g.lost;
       turn = g.turn;
       ended = g.ended;
       ready = g.ready;

@@ -19,7 +19,7 @@ use Rattle.child_end.specs.Programs.{HaveStarted, ProgramsValue, RoseBy, is_fail
 use Rattle.gathering.specs.Rounds.{LinkValue}
 use Rattle.crew_rounds.specs.Tagged.{link_of}
 use Rattle.lone_rounds.specs.Starting.{children}
-use Rattle.lone_rounds.specs.Rounds.{is_of_run}
+use Rattle.lone_rounds.specs.Rounds.{AllLostWell, is_of_run}
 use Rattle.lone_rounds.specs.Stints.{IsLinked}
 use Rattle.crew_rounds.specs.PoolChildren.{PoolCan}
 use Rattle.pool_starts.specs.declared.pool.Gathering.{Gathering}
@@ -50,6 +50,7 @@ pub record Gathered (o : Opening) (jobs : ℕ) (old new : List Entry) (first : L
   pub unclaimed_yet : any is_claim later ≡ false
   pub untagged : any offers_tags later ≡ false
   pub asks : list_all (λ e. is_of_run e.what) later ≡ true
+  pub lost : AllLostWell old later
   pub turn : AllInTurn o jobs old later
   pub ended : list_all (λ c. is_ended new c || is_among links c) (children later) ≡ true
   pub ready : list_all (λ c. not (is_prepared new c) || is_among links c) (children later) ≡ true

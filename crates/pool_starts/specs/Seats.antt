@@ -13,7 +13,7 @@ use Rattle.journal_model.specs.Shares.{are_by, is_of_child}
 use Rattle.child_end.specs.Wires.{IsLeft, WireValue, came}
 use Rattle.child_end.specs.Programs.{AddsAll, ProgramsValue, RoseBy, is_failed_start, told}
 use Rattle.gathering.specs.Rounds.{LinkValue}
-use Rattle.lone_rounds.specs.Rounds.{is_of_run}
+use Rattle.lone_rounds.specs.Rounds.{AllLostWell, is_of_run}
 use Rattle.lone_rounds.specs.Starting.{children}
 use Rattle.lone_rounds.specs.Stints.{MayHaveAsked, main_entry, next_child}
 use Rattle.crew_rounds.specs.PoolChildren.{MayServe}
@@ -34,6 +34,7 @@ pub record SeatsOne (o : Opening) (program : List ℕ) (slot : ℕ) (old new : L
   pub within : list_all (λ e. is_of_child (next_child old) e.what) later ≡ true
   pub main : are_by 0 later ≡ true
   pub asks : list_all (λ e. is_of_run e.what) later ≡ true
+  pub lost : AllLostWell (old ++ main_entry first ∷ []) later
   pub idle : open_jobs new (next_child old) ≡ []
   pub seat : List SeatValue
   pub link : List LinkValue

@@ -40,7 +40,7 @@ returns-in-Ok-clause-ends g c =
     (is_worked words o workers journal before after c.args.ready.plan.setup c.args.ready.plan.offers c.args.ready.plan.starts
     (length-map c.args.crew.items _ ∙ sym c.args.crew.ok.0 ∙ c.requires.crew, length-map crew.items value ∙ sym crew.ok.0 ∙ c.run_jobs-bench.ensures.desks ∙ c.requires.crew) c.requires.fresh
     (tells_tables g.D.Desk.counts g.D.Desk.files g.D.Desk.log crew.items) c.requires.prepared.setup c.requires.prepared.offers c.requires.prepared.starts c.run_jobs-bench.ensures.ran)
-    (subst (IsWhole o journal) c.in-Ok.is c.run_jobs-bench.ensures.whole) c.finish-finished.ensures
+    (subst (IsWhole o journal) c.in-Ok.is c.run_jobs-bench.ensures.whole) c.finish-finished.ensures.finishes
 
 pub returns-in-Ok-clause-leaves : goal.returns-in-Ok-clause-leaves
 returns-in-Ok-clause-leaves g c =
