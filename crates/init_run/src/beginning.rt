@@ -1,3 +1,4 @@
+ghost use Rattle.desk_file.specs.Names.{NamesOnly};
 ghost use Rattle.std.specs.Prelude.{◌≡◌, ◌≤◌, Ok, IfOk, IsTrue};
 ghost use Rattle.std.specs.List.{list_all};
 ghost use Rattle.ann_outside.specs.Causes.{Rose};
@@ -47,12 +48,14 @@ fn init_opening(
 }
 
 /// Reads the kept file that the words name, and puts together what the setup begins with. A file that isn't there hands on nothing.
+#[tactic(auto, using(keep_desk::proofs::Naming::kept_read_named))]
 pub fn begin<D: Desk>(alloc: Global, words: &InitWords, desk: &mut D) -> Result<Begun, NoMemory>
     requires { IsTrue (list_all is_setting words.now.settings) }
     ensures begins { Begins words.now (D.files desk.old) result }
     ensures files { D.files desk.new ≡ D.files desk.old }
     ensures fault { result ≡ Ok Begun.Fault → Rose (D.counts desk.old).faults (D.counts desk.new).faults }
     ensures later { (D.counts desk.old).faults ≤ (D.counts desk.new).faults }
+    ensures calls { NamesOnly (λ other. other ≡ words.now.keep) (D.log desk.old) (D.log desk.new) }
 {
     match read_kept(alloc, desk, words.keep.view()) {
         Ok(KeptRead::Kept { registers, notes }) => {

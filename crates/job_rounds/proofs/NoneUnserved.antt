@@ -123,11 +123,13 @@ module _ (past : List Entry) (w : AreWell past) where
 -- so are those up to the next start
 up_to_none : (p is : What → Bool) (xs : List Entry) → any p xs ≡ false → any p (up_to is xs) ≡ false
 up_to_none p is [] h = refl
-up_to_none p is (x ∷ xs) h = go (is x.what) (or_parts (p x.what) (any p xs) h)
+up_to_none p is (x ∷ xs) h =
+    let t = or_parts (p x.what) (any p xs) h in
+    go (is x.what) t.0 (up_to_none p is xs t.1)
   where
-    go : (b : Bool) → ((p x.what ≡ false) × (any p xs ≡ false)) → any p (cond b [] (x ∷ up_to is xs)) ≡ false
-    go true t = refl
-    go false t = (let one : p x.what ≡ false = t.0 in rw (one, up_to_none p is xs t.1) refl)
+    go : (b : Bool) → p x.what ≡ false → any p (up_to is xs) ≡ false → any p (cond b [] (x ∷ up_to is xs)) ≡ false
+    go true one rest = refl
+    go false one rest = rw (one, rest) refl
 
 part_well : (here xs : List Entry) → AreWell (here ++ xs) → AreWell (here ++ up_to is_first_start xs)
 part_well here xs w = record { heard = part is_muting w.heard; closed = part is_unclosed_end w.closed; ready = part is_refusal w.ready }

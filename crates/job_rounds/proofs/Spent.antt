@@ -101,12 +101,9 @@ pool_spent past n (e ∷ xs) h =
 last_spends : (old new later : List Entry) (child slot : ℕ) (offer : Bool) → new ≡ old ++ main_entry (Start child slot offer) ∷ later → any is_first_start later ≡ false → is_pool_spent new child (children later) ≡ true
     → spends (old ++ main_entry (Start child slot offer) ∷ []) (Start child slot offer) later ≡ true
 last_spends old new later child slot offer is none h =
-    or_right (not (slot == 0)) (is_pool_spent (here ++ front later) child (children (front later)))
-    (ap (λ (l : List Entry). is_pool_spent (here ++ l) child (children l)) (up_to_none is_first_start later none)
+    or_right (not (slot == 0)) (is_pool_spent ((old ++ main_entry (Start child slot offer) ∷ []) ++ front later) child (children (front later)))
+    (ap (λ (l : List Entry). is_pool_spent ((old ++ main_entry (Start child slot offer) ∷ []) ++ l) child (children l)) (up_to_none is_first_start later none)
     ∙ ap (λ (j : List Entry). is_pool_spent j child (children later)) (append_assoc old (main_entry (Start child slot offer) ∷ []) later ∙ sym is) ∙ h)
-  where
-    abbrev here : List Entry
-    here = old ++ main_entry (Start child slot offer) ∷ []
 
 -- which a ready child of its pool spends that is lost
 pub lost_spends : (old new later : List Entry) (c : ℕ) (offer : Bool) → new ≡ old ++ main_entry (Start c 0 offer) ∷ later → any is_first_start later ≡ false → list_any (is_lost new) (c ∷ children later) ≡ true

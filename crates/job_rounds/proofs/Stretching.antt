@@ -210,47 +210,51 @@ quiet_one o old new answer true a = record { tail = main_entry (Claim a.0 0) ∷
 quiet_one o old new answer false a = record { tail = []; is = a.0 ∙ sym (append-nil old); quiet = refl; unsettled = λ c. refl }
 
 -- where the greeted child was turned away
+module _ (old g mid new : List Entry) (offer : Bool) (c : ℕ) (undone : is_done (verdict_of g c 1) ≡ false) (greeted : Greeted old g 0 offer c) (one : QuietTail g mid) (k : Closing c mid new) where
+  abbrev turned : List Entry
+  turned = one.tail ++ k.tail
+
+  abbrev away_more : List Entry
+  away_more = greeted.more ++ turned
+
+  behind_away : new ≡ g ++ turned
+  behind_away = k.is ∙ ap (λ (x : List Entry). x ++ k.tail) one.is ∙ append_assoc g one.tail k.tail
+
+  whole_away : new ≡ old ++ main_entry (Start c 0 offer) ∷ away_more
+  whole_away = behind_away ∙ ap (λ (x : List Entry). x ++ turned) greeted.grown ∙ append_assoc old (main_entry (Start c 0 offer) ∷ greeted.more) turned
+
+  quiet_away : list_all (λ (e : Entry). is_quiet e.what) away_more ≡ true
+  quiet_away = all-join (λ (e : Entry). is_quiet e.what) greeted.more turned (quiet_greeting old g offer c greeted) (all-join (λ (e : Entry). is_quiet e.what) one.tail k.tail one.quiet (quiet_closing c k.tail k.one))
+
+  unprepared : is_prepared new c ≡ false
+  unprepared =
+      let none : verdict_of turned c 1 ≡ None =
+      verdict_of-append c 1 one.tail k.tail ∙ ap (λ (v : Option Verdict). option_or v (verdict_of k.tail c 1)) (one.unsettled c) ∙ of_closing c k.tail k.one (λ (x : List Entry). verdict_of x c 1 ≡ None) refl refl in
+      let v : verdict_of new c 1 ≡ verdict_of g c 1 = ap (λ (j : List Entry). verdict_of j c 1) behind_away ∙ verdict_of-append c 1 g turned ∙ or_none (verdict_of g c 1) (verdict_of turned c 1) none in
+      ap (λ (d : Bool). d && any (prepares c) new) (ap is_done v ∙ undone)
+
+  -- it was never prepared
+  never : (front rest : List Entry) → away_more ≡ front ++ rest → is_prepared (old ++ main_entry (Start c 0 offer) ∷ front) c ≡ false
+  never front rest split = go (is_prepared (old ++ main_entry (Start c 0 offer) ∷ front) c) refl
+    where
+      is_whole : new ≡ (old ++ main_entry (Start c 0 offer) ∷ front) ++ rest
+      is_whole = whole_away ∙ ap (λ (x : List Entry). old ++ main_entry (Start c 0 offer) ∷ x) split ∙ sym (append_assoc old (main_entry (Start c 0 offer) ∷ front) rest)
+
+      go : (d : Bool) → is_prepared (old ++ main_entry (Start c 0 offer) ∷ front) c ≡ d → d ≡ false
+      go false e = refl
+      go true e = (let bad : true ≡ false = sym (ap (λ (j : List Entry). is_prepared j c) is_whole ∙ prepared_on (old ++ main_entry (Start c 0 offer) ∷ front) rest c e) ∙ unprepared in absurd cc)
+
+  pub away_stretch : QuietStretch old new (Start c 0 offer)
+  away_stretch = record {
+    more = away_more;
+    is = whole_away;
+    quiet = quiet_away;
+    unpooled = λ front rest split. pool_is (old ++ main_entry (Start c 0 offer) ∷ front) c (first_started old front 0 c offer (none_first front (front_quiet away_more front rest quiet_away split)))
+        ∙ ap (λ (d : Bool). d && not (is_tagged (old ++ main_entry (Start c 0 offer) ∷ front) c)) (never front rest split);
+  }
+
 pub away_quiet : (o : Opening) (offer : Bool) (old g new : List Entry) (c : ℕ) (answer : Answer) → is_done (verdict_of g c 1) ≡ false → Greeted old g 0 offer c → TurnsAway o c g new answer → QuietStretch old new (Start c 0 offer)
-away_quiet o offer old g new c answer undone greeted (mid, (b, a), closes) = record { more = more; is = whole; quiet = quiet; unpooled = λ front rest split. unpooled front rest split }
-  where
-    k : Closing c mid new
-    k = closing c mid new closes
-
-    one : QuietTail g mid
-    one = quiet_one o g mid answer b a
-
-    abbrev more : List Entry
-    more = greeted.more ++ (one.tail ++ k.tail)
-
-    behind : new ≡ g ++ (one.tail ++ k.tail)
-    behind = k.is ∙ ap (λ (x : List Entry). x ++ k.tail) one.is ∙ append_assoc g one.tail k.tail
-
-    whole : new ≡ old ++ main_entry (Start c 0 offer) ∷ more
-    whole = behind ∙ ap (λ (x : List Entry). x ++ (one.tail ++ k.tail)) greeted.grown ∙ append_assoc old (main_entry (Start c 0 offer) ∷ greeted.more) (one.tail ++ k.tail)
-
-    quiet : list_all (λ (e : Entry). is_quiet e.what) more ≡ true
-    quiet = all-join (λ (e : Entry). is_quiet e.what) greeted.more (one.tail ++ k.tail) (quiet_greeting old g offer c greeted) (all-join (λ (e : Entry). is_quiet e.what) one.tail k.tail one.quiet (quiet_closing c k.tail k.one))
-
-    unprepared : is_prepared new c ≡ false
-    unprepared =
-        let none : verdict_of (one.tail ++ k.tail) c 1 ≡ None =
-        verdict_of-append c 1 one.tail k.tail ∙ ap (λ (v : Option Verdict). option_or v (verdict_of k.tail c 1)) (one.unsettled c) ∙ of_closing c k.tail k.one (λ (x : List Entry). verdict_of x c 1 ≡ None) refl refl in
-        let v : verdict_of new c 1 ≡ verdict_of g c 1 = ap (λ (j : List Entry). verdict_of j c 1) behind ∙ verdict_of-append c 1 g (one.tail ++ k.tail) ∙ or_none (verdict_of g c 1) (verdict_of (one.tail ++ k.tail) c 1) none in
-        ap (λ (d : Bool). d && any (prepares c) new) (ap is_done v ∙ undone)
-
-    -- it was never prepared
-    unpooled : (front rest : List Entry) → more ≡ front ++ rest → has_pool (old ++ main_entry (Start c 0 offer) ∷ front) ≡ false
-    unpooled front rest split = pool_is begun c (first_started old front 0 c offer (none_first front (front_quiet more front rest quiet split))) ∙ ap (λ (d : Bool). d && not (is_tagged begun c)) (before (is_prepared begun c) refl)
-      where
-        abbrev begun : List Entry
-        begun = old ++ main_entry (Start c 0 offer) ∷ front
-
-        is_whole : new ≡ begun ++ rest
-        is_whole = whole ∙ ap (λ (x : List Entry). old ++ main_entry (Start c 0 offer) ∷ x) split ∙ sym (append_assoc old (main_entry (Start c 0 offer) ∷ front) rest)
-
-        before : (d : Bool) → is_prepared begun c ≡ d → d ≡ false
-        before false e = refl
-        before true e = (let bad : true ≡ false = sym (ap (λ (j : List Entry). is_prepared j c) is_whole ∙ prepared_on begun rest c e) ∙ unprepared in absurd cc)
+away_quiet o offer old g new c answer undone greeted (mid, (b, a), closes) = away_stretch old g mid new offer c undone greeted (quiet_one o g mid answer b a) (closing c mid new closes)
 
 -- where no child was started
 pub fault_quiet : (o : Opening) (old g new : List Entry) (answer : Answer) (b : Bool) → g ≡ old ++ main_entry (NoStart 0) ∷ [] → AnswersOne o g new answer b → QuietStretch old new (NoStart 0)

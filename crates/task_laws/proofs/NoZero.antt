@@ -209,11 +209,13 @@ part_calm here xs w = record {
   where
     shorter : (p : What → Bool) (ys : List Entry) → any p ys ≡ false → any p (up_to is_any_start ys) ≡ false
     shorter p [] h = refl
-    shorter p (y ∷ ys) h = go (is_any_start y.what) (or_parts (p y.what) (any p ys) h)
+    shorter p (y ∷ ys) h =
+        let t = or_parts (p y.what) (any p ys) h in
+        go (is_any_start y.what) t.0 (shorter p ys t.1)
       where
-        go : (b : Bool) → ((p y.what ≡ false) × (any p ys ≡ false)) → any p (cond b [] (y ∷ up_to is_any_start ys)) ≡ false
-        go true t = refl
-        go false t = let one : p y.what ≡ false = t.0 in let rest : any p (up_to is_any_start ys) ≡ false = shorter p ys t.1 in rw (one, rest) refl
+        go : (b : Bool) → p y.what ≡ false → any p (up_to is_any_start ys) ≡ false → any p (cond b [] (y ∷ up_to is_any_start ys)) ≡ false
+        go true one rest = refl
+        go false one rest = rw (one, rest) refl
 
     part : (p : What → Bool) → any p (here ++ xs) ≡ false → any p (here ++ up_to is_any_start xs) ≡ false
     part p h =
@@ -238,22 +240,19 @@ pub none_without_child : NoneWithoutChild
 none_without_child limit journal t some w answer z =
     by_answers (subst P failed z.answers)
   where
-    abbrev more : List Entry
-    more = record { by = 0; what = Claim t 0 } ∷ record { by = 0; what = Answered t answer } ∷ z.rest
-
-    all_well : ChildrenWell (z.past ++ more)
+    all_well : ChildrenWell (z.past ++ record { by = 0; what = Claim t 0 } ∷ record { by = 0; what = Answered t answer } ∷ z.rest)
     all_well = subst (λ (x : List Entry). ChildrenWell x) z.is w
 
     well : AreWell z.past
     well = record {
-      started = before is_no_start z.past more all_well.started;
-      heard = before is_muting z.past more all_well.heard;
-      closed = before is_unclosed_end z.past more all_well.closed;
-      ready = before is_refusal z.past more all_well.ready;
+      started = before is_no_start z.past (record { by = 0; what = Claim t 0 } ∷ record { by = 0; what = Answered t answer } ∷ z.rest) all_well.started;
+      heard = before is_muting z.past (record { by = 0; what = Claim t 0 } ∷ record { by = 0; what = Answered t answer } ∷ z.rest) all_well.heard;
+      closed = before is_unclosed_end z.past (record { by = 0; what = Claim t 0 } ∷ record { by = 0; what = Answered t answer } ∷ z.rest) all_well.closed;
+      ready = before is_refusal z.past (record { by = 0; what = Claim t 0 } ∷ record { by = 0; what = Answered t answer } ∷ z.rest) all_well.ready;
     }
 
     k : Calm z.past
-    k = calm z.past more all_well
+    k = calm z.past (record { by = 0; what = Claim t 0 } ∷ record { by = 0; what = Answered t answer } ∷ z.rest) all_well
 
     failed : failed_start z.past (start_untaken z.past) ≡ None
     failed = none_failed z.past k
