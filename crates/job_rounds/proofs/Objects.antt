@@ -95,8 +95,7 @@ one_all {program} {journal} {first} {before} {after} {wires} {wires'} later none
   where
     all_failed : count is_failed_start (main_entry first ∷ later) ≡ count is_failed_start (main_entry first ∷ [])
     all_failed =
-        let none_failed = count_none is_failed_start later (any_narrower is_failed_start is_any_start failed_start_is later none) in
-        count-append is_failed_start (main_entry first ∷ []) later ∙ (omega (arith, none_failed))
+        count-append is_failed_start (main_entry first ∷ []) later ∙ (let none_failed = count_none is_failed_start later (any_narrower is_failed_start is_any_start failed_start_is later none) in omega (arith, none_failed))
 
 -- ---- all that is kept
 

@@ -69,7 +69,7 @@ kept_begin program journal before wires none bare =
     subst (λ (j : List Entry). Kept program j before before wires) (sym none) (subst (Kept program [] before before) (sym bare) record {
       linked = tt;
       started = adds_none before.starts;
-      faults = omega arith;
+      faults = rose_still 0 before.faults before.faults before.faults (omega arith) (omega arith);
       later = omega arith;
     })
 

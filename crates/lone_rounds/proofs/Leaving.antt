@@ -247,9 +247,9 @@ module _ {program : List ℕ} {old : List Entry} {start before : ProgramsValue} 
 
       failed_new : count is_failed_start new ≡ count is_failed_start old + count is_failed_start (main_entry first ∷ [])
       failed_new =
-          let none_failed = count_none is_failed_start later (any_narrower is_failed_start is_any_start failed_start_is later none) in
-          let of_tail = count-append is_failed_start (main_entry first ∷ []) later in
-          ap (count is_failed_start) is ∙ count-append is_failed_start old tail ∙ (omega (arith, none_failed, of_tail))
+          ap (count is_failed_start) is ∙ count-append is_failed_start old tail
+          ∙ ap (λ (n : ℕ). count is_failed_start old + n)
+          (count-append is_failed_start (main_entry first ∷ []) later ∙ (let none_failed = count_none is_failed_start later (any_narrower is_failed_start is_any_start failed_start_is later none) in omega (arith, none_failed)))
 
   -- behind entries that start nothing and are of no child
   pub kept_still : (new more : List Entry) → new ≡ old ++ more → any is_any_start more ≡ false → ((d : ℕ) → any (is_of_child d) more ≡ false) → Kept program new start before wires
@@ -269,5 +269,4 @@ module _ {program : List ℕ} {old : List Entry} {start before : ProgramsValue} 
 
       failed_new : count is_failed_start new ≡ count is_failed_start old
       failed_new =
-          let none_failed = count_none is_failed_start more (any_narrower is_failed_start is_any_start failed_start_is more none) in
-          ap (count is_failed_start) is ∙ count-append is_failed_start old more ∙ (omega (arith, none_failed))
+          ap (count is_failed_start) is ∙ count-append is_failed_start old more ∙ (let none_failed = count_none is_failed_start more (any_narrower is_failed_start is_any_start failed_start_is more none) in omega (arith, none_failed))

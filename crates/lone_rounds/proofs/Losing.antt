@@ -1,7 +1,7 @@
 -- Requests that are lost, along entries: one of no task only in the greeting of its child.
 use Rattle.std.proofs.Common.{◌≡◌, ℕ, List, [], ◌∷◌, ◌++◌, refl, sym, ap, subst, ◌∙◌, append_assoc, append-nil, Bool, true, false, not, ◌==◌, Some, None, Option}
 use Rattle.std.specs.Prelude.{◌&&◌, option_and_then}
-use Rattle.std.specs.List.{last_or, list_all}
+use Rattle.std.specs.List.{cons_option, last_or, list_all}
 use Rattle.journal_model.specs.declared.entry.What.{What}
 use Rattle.journal_model.specs.declared.entry.What.TheVariants.{Ask, Claim, Lost, NoStart, Start}
 use Rattle.journal_model.specs.declared.entry.Entry.{Entry}
@@ -47,7 +47,10 @@ pub greeted_next : (old : List Entry) (c slot : ℕ) (offer : Bool) → greeted 
 greeted_next old c slot offer = ap (option_and_then (λ (child : Option ℕ). child)) (ap (last_or None) (each_of-append opened_in old (main_entry (Start c slot offer) ∷ [])) ∙ last_behind None (each_of opened_in old) (Some c))
 
 still_greeted : (past : List Entry) (e : Entry) → opened_in e.what ≡ None → greeted (past ++ e ∷ []) ≡ greeted past
-still_greeted past e none = ap (λ (ts : List (Option ℕ)). option_and_then (λ (child : Option ℕ). child) (last_or None ts)) (each_of-append opened_in past (e ∷ []) ∙ (rw none (append-nil (each_of opened_in past))))
+still_greeted past e none =
+    let same : each_of opened_in (past ++ e ∷ []) ≡ each_of opened_in past =
+    each_of-append opened_in past (e ∷ []) ∙ ap (λ (x : Option (Option ℕ)). each_of opened_in past ++ cons_option x []) none ∙ append-nil (each_of opened_in past) in
+    ap (λ (ts : List (Option ℕ)). option_and_then (λ (child : Option ℕ). child) (last_or None ts)) same
 
 unopened : (c : ℕ) (w : What) → is_of_greeting c w ≡ true → opened_in w ≡ None
 unopened c (Start child slot offer) h = absurd cc

@@ -433,9 +433,8 @@ module _ {o : Opening} {jobs : ℕ} {program : List ℕ} {old mid new : List Ent
 
       failed_now : count is_failed_start later ≡ count is_failed_start g.later + count is_failed_start (begun ∷ [])
       failed_now =
-          let none_failed = count_none is_failed_start s.later (none_fails s.later starts_none) in
-          let of_tail = count-append is_failed_start (begun ∷ []) s.later in
-          count-append is_failed_start g.later tail ∙ (omega (arith, none_failed, of_tail))
+          count-append is_failed_start g.later tail
+          ∙ ap (λ (n : ℕ). count is_failed_start g.later + n) (count-append is_failed_start (begun ∷ []) s.later ∙ (let none_failed = count_none is_failed_start s.later (none_fails s.later starts_none) in omega (arith, none_failed)))
 
   -- ---- the pool serves still
 
