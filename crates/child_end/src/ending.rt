@@ -11,7 +11,6 @@ ghost use Rattle.child_start.specs.Cores.{IsSameCore};
 ghost use Rattle.child_end.specs.Wires.{IsHeld, IsLaid, wire_value};
 
 use ann_outside::{Programs, Sink, Source};
-use child_start::wait_for;
 use host_core::Core;
 use link_roles::{Door, Lone, OwnDoor, Wire};
 
@@ -55,7 +54,6 @@ pub fn finish<P: Programs>(
     ensures starts { Stays (P.starts programs.old) (P.starts programs.new) }
     ensures later { P.faults programs.old ≤ P.faults programs.new }
 {
-    let wire = link.finish();
-    wait_for(programs, &wire.inlet, &wire.outlet, stub);
-    wires.push_reserved(wire);
+    wires.push_reserved(link.finish());
+    let _status = programs.finish(stub);
 }

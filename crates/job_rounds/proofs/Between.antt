@@ -183,7 +183,7 @@ module _ {o : Opening} {setup : Setup} {limit : ℕ} {offer next : Bool} {first 
       offered = offered_now;
       ended = all_ended;
       asks = ap (list_all (λ (e : Entry). is_of_run e.what)) s.is ∙ all-join (λ (e : Entry). is_of_run e.what) old tail b.asks (rw (its.asks, s.asks) refl);
-      lost = subst (AllLostWell []) (sym s.is) (lost_both [] old tail b.lost (its.loses old, s.lost));
+      lost = subst (AllLostWell []) (sym s.is) (lost_both [] old tail b.lost (λ mains. its.loses old, s.lost));
       posts = subst (AllPosted []) (sym s.is) (posted_both [] old tail b.posts (posted_both old (main_entry first ∷ []) s.later (posted_main old (main_entry first ∷ []) refl) s.posts));
       rest = s.rest;
       spent = λ w. spent_now (b.spent refl) (s.spent w);

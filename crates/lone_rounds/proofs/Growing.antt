@@ -34,7 +34,7 @@ pub record SaysStart (past : List Entry) (offer : Bool) (first : What) : Type 0 
   pub any_start : is_any_start first ≡ true
   pub here : is_elsewhere first ≡ false
   pub asks : is_of_run first ≡ true
-  pub loses : (journal : List Entry) → 0 ≡ 0 → IsLostIn journal first
+  pub loses : (journal : List Entry) → IsLostIn journal first
   pub offers_well : (may : Bool) → offer ≡ (may && is_offered past) → OffersWell may past first
   pub of_none : (d : ℕ) → is_of_child d first ≡ false
   pub offers_next : (d : ℕ) → (next_child past == d) ≡ false → offers d first ≡ false
@@ -45,7 +45,7 @@ says_start past offer first (inl e) = subst (SaysStart past offer) (sym e) recor
   any_start = refl;
   here = refl;
   asks = refl;
-  loses = λ journal mains. tt;
+  loses = λ journal. tt;
   offers_well = λ may h. h;
   of_none = λ d. refl;
   offers_next = λ d other. ap (λ (b : Bool). b && offer) other;
@@ -55,7 +55,7 @@ says_start past offer first (inr e) = subst (SaysStart past offer) (sym e) recor
   any_start = refl;
   here = refl;
   asks = refl;
-  loses = λ journal mains. tt;
+  loses = λ journal. tt;
   offers_well = λ may h. tt;
   of_none = λ d. refl;
   offers_next = λ d other. refl;
@@ -170,7 +170,7 @@ module _ {o : Opening} {offer next : Bool} {first : What} {old new : List Entry}
       offered = offered_now;
       ended = earlier is_ended (λ d x. ended_on old tail d x) b.ended s.ended;
       asks = ap (list_all (λ (e : Entry). is_of_run e.what)) s.is ∙ all-join (λ (e : Entry). is_of_run e.what) old tail b.asks (rw (its.asks, s.asks) refl);
-      lost = subst (AllLostWell []) (sym s.is) (lost_both [] old tail b.lost (its.loses old, s.lost));
+      lost = subst (AllLostWell []) (sym s.is) (lost_both [] old tail b.lost (λ mains. its.loses old, s.lost));
       rest = s.rest;
       spent = spent_now b.spent s.spent;
       untaken = s.untaken;

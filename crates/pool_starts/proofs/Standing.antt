@@ -42,7 +42,7 @@ use Rattle.pool_starts.proofs.SlotLaws.{first_same, last_first, left_same, none_
 pub record SaysSlot (slot : ℕ) (past : List Entry) (first : What) : Type 0 where
   pub unclaiming : is_claim first ≡ false
   pub untagged : offers_tags first ≡ false
-  pub loses : (journal : List Entry) → 0 ≡ 0 → IsLostIn journal first
+  pub loses : (journal : List Entry) → IsLostIn journal first
   pub unoffering : (d : ℕ) → offers d first ≡ false
   pub asks_run : is_of_run first ≡ true
   pub asks_none : (d : ℕ) → asks d first ≡ None
@@ -72,7 +72,7 @@ pub says_slot : (slot : ℕ) (past : List Entry) (first : What) → IsSlotStart 
 says_slot slot past first (inl e) = subst (SaysSlot slot past) (sym e) record {
   unclaiming = refl;
   untagged = refl;
-  loses = λ journal mains. tt;
+  loses = λ journal. tt;
   unoffering = λ d. false_and (next_child past == d);
   asks_run = refl;
   asks_none = λ d. refl;
@@ -94,7 +94,7 @@ says_slot slot past first (inl e) = subst (SaysSlot slot past) (sym e) record {
 says_slot slot past first (inr e) = subst (SaysSlot slot past) (sym e) record {
   unclaiming = refl;
   untagged = refl;
-  loses = λ journal mains. tt;
+  loses = λ journal. tt;
   unoffering = λ d. refl;
   asks_run = refl;
   asks_none = λ d. refl;
@@ -392,7 +392,7 @@ module _ {o : Opening} {jobs : ℕ} {program : List ℕ} {old mid new : List Ent
     untagged = any-append offers_tags g.later tail
         ∙ neither (any offers_tags g.later) (any offers_tags tail) g.untagged (neither (offers_tags s.first) (any offers_tags s.later) says.untagged (own_tags (next_child mid) s.later s.within));
     asks = all-join (λ (e : Entry). is_of_run e.what) g.later tail g.asks (let its = says.asks_run in let rest = s.asks in rw (its, rest) refl);
-    lost = lost_both old g.later tail g.lost (subst (λ (j : List Entry). AllLostWell j tail) g.is (says.loses mid, s.lost));
+    lost = lost_both old g.later tail g.lost (subst (λ (j : List Entry). AllLostWell j tail) g.is (λ mains. says.loses mid, s.lost));
     turn = turn_now;
     ended = ended_now;
     ready = ready_now;
