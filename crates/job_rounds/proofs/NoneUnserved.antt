@@ -145,8 +145,8 @@ none_first past [] w h k = refl
 none_first past (x ∷ xs) w h k =
     let started = or_parts (is_no_start x.what) (any is_no_start xs) h in
     let spent = and_parts (spends (past ++ x ∷ []) x.what xs) (are_spent (past ++ x ∷ []) xs) k in
-    let then : AreWell ((past ++ x ∷ []) ++ xs) = subst AreWell (sym (append_assoc past (x ∷ []) xs)) w in
-    by_what x.what started.0 spent.0 then (none_first (past ++ x ∷ []) xs then started.1 spent.1)
+    let after : AreWell ((past ++ x ∷ []) ++ xs) = subst AreWell (sym (append_assoc past (x ∷ []) xs)) w in
+    by_what x.what started.0 spent.0 after (none_first (past ++ x ∷ []) xs after started.1 spent.1)
   where
     elsewhere : (b d : Bool) → d ≡ false → (not b || d) ≡ true → b ≡ false
     elsewhere false d p q = refl

@@ -227,8 +227,8 @@ none_started past [] w h k = refl
 none_started past (x ∷ xs) w h k =
     let started = or_parts (is_no_start x.what) (any is_no_start xs) h in
     let spent = and_parts (is_start_spent (past ++ x ∷ []) x.what xs) (are_spent (past ++ x ∷ []) xs) k in
-    let then : AreWell ((past ++ x ∷ []) ++ xs) = subst AreWell (sym (append_assoc past (x ∷ []) xs)) w in
-    by_what x.what started.0 spent.0 then (none_started (past ++ x ∷ []) xs then started.1 spent.1)
+    let after : AreWell ((past ++ x ∷ []) ++ xs) = subst AreWell (sym (append_assoc past (x ∷ []) xs)) w in
+    by_what x.what started.0 spent.0 after (none_started (past ++ x ∷ []) xs after started.1 spent.1)
   where
     by_what : (u : What) → is_no_start u ≡ false → is_start_spent (past ++ x ∷ []) u xs ≡ true → AreWell ((past ++ x ∷ []) ++ xs) → count is_any_start xs ≡ 0
         → length (cond (is_any_start u) (x ∷ filter (λ (y : Entry). is_any_start y.what) xs) (filter (λ (y : Entry). is_any_start y.what) xs)) ≡ 0
