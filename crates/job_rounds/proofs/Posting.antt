@@ -3,12 +3,13 @@ use Rattle.std.proofs.Common.{◌≡◌, ℕ, ◌<◌, List, [], ◌∷◌, ◌+
 use Rattle.std.specs.Prelude.{◌&&◌, ◌-◌, not, nat_lt, All}
 use Rattle.std.specs.List.{list_all, list_any, range_with_len}
 use Rattle.std.proofs.lemmas.Bool.Decides.{nat_tests}
+use Rattle.journal_model.specs.declared.entry.What.{What}
 use Rattle.journal_model.specs.declared.entry.Entry.{Entry}
 use Rattle.journal_model.specs.Journal.{any, is_tagged}
 use Rattle.journal_model.specs.Shares.{are_by}
 use Rattle.journal_model.proofs.Looks.{both, differ, either_left, either_right, same_number}
 use Rattle.gathering.specs.Laws.{children_of}
-use Rattle.gathering.specs.Posts.{makes, pool_crew, tagged_crew}
+use Rattle.gathering.specs.Posts.{makes, pool_crew, serves, tagged_crew}
 use Rattle.gathering.specs.Rounds.{LinkValue}
 use Rattle.lone_rounds.specs.Starting.{is_any_start}
 use Rattle.job_rounds.specs.Posts.{AllPosted, IsPosted, post_over}
@@ -37,6 +38,10 @@ posted_tagged c past (e ∷ xs) f h =
           (λ front rest is. ap (λ (j : List Entry). is_tagged j c) (append_assoc past (e ∷ []) front) ∙ f (e ∷ front) rest (ap (λ (l : List Entry). e ∷ l) is)) t.1,
     )
 
+-- a worker of a pool has its child for itself
+has_alone : (past : List Entry) (by c : ℕ) (w : What) → is_tagged past c ≡ false → nat_lt by 2 ≡ false → serves c w ≡ true → makes (post_over past c by) w ≡ true
+has_alone past by c w tag far h = rw (tag, far) h
+
 -- those of a pool, whose children take no tags, and go on so
 module _ (links : List LinkValue) (Untagged : List Entry → Type 0) (on : (past : List Entry) (e : Entry) → is_any_start e.what ≡ false → Untagged past → Untagged (past ++ e ∷ []))
     (none_tagged : (past : List Entry) → Untagged past → All (λ (l : LinkValue). is_tagged past l.ear.child ≡ false) links) where
@@ -48,7 +53,7 @@ module _ (links : List LinkValue) (Untagged : List Entry → Type 0) (on : (past
       let tag : is_tagged past p.child ≡ false = at_place (λ (c : ℕ). is_tagged past c ≡ false) links (e.by - 2) p.child (none_tagged past u) p.place in
       let high = p.high in
       let far : nat_lt e.by 2 ≡ false = grind (arith, nat_tests) in (
-        λ some. (p.child, rw (tag, far) p.serves_it),
+        λ some. (p.child, has_alone past e.by p.child e.what tag far p.serves_it),
         posted_pool (past ++ e ∷ []) xs (on past e (either_left (is_any_start e.what) (any is_any_start xs) z) u) (either_right (is_any_start e.what) (any is_any_start xs) z) t.1,
       )
 

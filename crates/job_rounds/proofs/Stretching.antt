@@ -199,11 +199,11 @@ quiet_closing : (c : ℕ) (tail : List Entry) → (tail ≡ []) ⊎ (tail ≡ ma
 quiet_closing c tail one = of_closing c tail one (λ (x : List Entry). list_all (λ (e : Entry). is_quiet e.what) x ≡ true) refl refl
 
 -- one task that was claimed without a child
-record QuietTail (old new : List Entry) : Type 0 where
-  tail : List Entry
-  is : new ≡ old ++ tail
-  quiet : list_all (λ e. is_quiet e.what) tail ≡ true
-  unsettled : (c : ℕ) → verdict_of tail c 1 ≡ None
+pub record QuietTail (old new : List Entry) : Type 0 where
+  pub tail : List Entry
+  pub is : new ≡ old ++ tail
+  pub quiet : list_all (λ e. is_quiet e.what) tail ≡ true
+  pub unsettled : (c : ℕ) → verdict_of tail c 1 ≡ None
 
 quiet_one : (o : Opening) (old new : List Entry) (answer : Answer) (b : Bool) → AnswersOne o old new answer b → QuietTail old new
 quiet_one o old new answer true a = record { tail = main_entry (Claim a.0 0) ∷ main_entry (Answered a.0 answer) ∷ []; is = a.2; quiet = refl; unsettled = λ c. refl }
