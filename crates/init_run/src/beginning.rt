@@ -48,7 +48,6 @@ fn init_opening(
 }
 
 /// Reads the kept file that the words name, and puts together what the setup begins with. A file that isn't there hands on nothing.
-#[tactic(auto, using(keep_desk::proofs::Naming::kept_read_named))]
 pub fn begin<D: Desk>(alloc: Global, words: &InitWords, desk: &mut D) -> Result<Begun, NoMemory>
     requires { IsTrue (list_all is_setting words.now.settings) }
     ensures begins { Begins words.now (D.files desk.old) result }

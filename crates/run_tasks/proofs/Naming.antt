@@ -23,8 +23,10 @@ module _ (words : RunWords) {old new : Option (List Call)} (name : List ℕ) whe
   pub read_names : (result : Result KeptRead NoMemory) → words.keep ≡ Some name → IsReadAs old new name result → NamesOnly (IsRunFile words) old new
   read_names result e by = names_wider (λ other is. kept_file words name other e (inl is)) (kept_read_named name result by)
 
-  pub kept_names : (text : List ℕ) (result : Result KeptWritten NoMemory) → words.keep ≡ Some name → IsKeptBy old new name text result → NamesOnly (IsRunFile words) old new
-  kept_names text result e by = names_wider (λ other is. kept_file words name other e is) (kept_written_named name text result by)
+  -- the name that was used is the one of the words
+  module _ (given : List ℕ) (same : name ≡ given) where
+    pub kept_names : (text : List ℕ) (result : Result KeptWritten NoMemory) → words.keep ≡ Some given → IsKeptBy old new name text result → NamesOnly (IsRunFile words) old new
+    kept_names text result e by = names_wider (λ other is. kept_file words name other (e ∙ ap (λ (x : List ℕ). Some x) (sym same)) is) (kept_written_named name text result by)
 
-  pub journal_names : (lines : List (List ℕ)) (result : Result JournalWritten NoMemory) → words.journal ≡ Some name → IsWrittenBy old new name lines result → NamesOnly (IsRunFile words) old new
-  journal_names lines result e by = names_wider (λ other is. inr (e ∙ ap (λ (x : List ℕ). Some x) (sym is))) (journal_written_named name lines result by)
+    pub journal_names : (lines : List (List ℕ)) (result : Result JournalWritten NoMemory) → words.journal ≡ Some given → IsWrittenBy old new name lines result → NamesOnly (IsRunFile words) old new
+    journal_names lines result e by = names_wider (λ other is. inr (e ∙ ap (λ (x : List ℕ). Some x) (sym (is ∙ same)))) (journal_written_named name lines result by)

@@ -10,6 +10,7 @@ use Rattle.run_tasks.proofs.Begun.{all_tasks}
 use Rattle.run_tasks.proofs.Crews.{tells_tables}
 use Rattle.run_tasks.proofs.Leaving.{leaves_named, ok_err}
 use Rattle.run_tasks.proofs.Working.{is_worked, ends_finished, ends_wanting}
+use Rattle.desk_file.proofs.Naming.{names_none}
 use Rattle.run_tasks.proofs.rounds.do_all.Goals as goal
 
 pub run_jobs-bench-requires-clause-tasks : goal.run_jobs-bench-requires-clause-tasks
@@ -65,3 +66,6 @@ returns-clause-ends g c =
 
 pub returns-clause-leaves : goal.returns-clause-leaves
 returns-clause-leaves g c = leaves_named (λ err. refl) c.journal_of-in-Err.ensures c.requires.prepared.program c.run_jobs-bench.ensures.leaves
+
+pub returns-clause-calls : goal.returns-clause-calls
+returns-clause-calls g c = names_none refl
