@@ -37,7 +37,6 @@ fn nothing_kept(alloc: Global) -> Kept
 }
 
 // What the kept file of that name hands on, or what stands against it.
-#[tactic(auto, using(crate::proofs::Naming::read_names))]
 fn read_named<D: Desk>(
     alloc: Global,
     words: &RunWords,

@@ -427,7 +427,7 @@ module _ (clock : Option ℕ) (before : OutsideValue) (input : InputFlow) (left 
     audit = λ same. other_words None refl same;
     wires = tt;
     starts = tt;
-    fault = tt;
+    faults = tt;
     desks = idle_desks h.idle;
   }
 
@@ -449,7 +449,7 @@ module _ (clock : Option ℕ) (before : OutsideValue) (input : InputFlow) (left 
     audit = λ same. other_words (Some (Show page)) refl same;
     wires = tt;
     starts = tt;
-    fault = tt;
+    faults = tt;
     desks = idle_desks h.idle;
   }
 
@@ -634,7 +634,7 @@ module _ (clock : Option ℕ) (before : OutsideValue) (input : InputFlow) (left 
     audit = λ same. (h.outcome, h.audit, h.idle, subst (λ (x : End). IsToldOf left status out err x) h.end_is told);
     wires = tt;
     starts = tt;
-    fault = tt;
+    faults = tt;
     desks = idle_desks h.idle;
   }
 
