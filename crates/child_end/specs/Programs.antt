@@ -1,11 +1,11 @@
 -- What programs tell of the starts that a run made, and what a run leaves of them and of its children's links.
-use Rattle.std.specs.Prelude.{ℕ, ◌≡◌, ◌⊎◌, Bool, true, false, List, [], ◌∷◌, ◌++◌, Option, Some, None}
-use Rattle.ann_outside.specs.Causes.{Rose}
+use Rattle.std.specs.Prelude.{ℕ, ◌≡◌, ◌⊎◌, ◌+◌, ◌-◌, ◌^◌, ◌≤◌, min, Bool, true, false, List, [], ◌∷◌, ◌++◌, Option, Some, None}
 use Rattle.ann_outside.specs.Starts.{Starts}
 use Rattle.journal_model.specs.declared.entry.What.{What}
 use Rattle.journal_model.specs.declared.entry.What.TheVariants.{Start, NoStart}
 use Rattle.journal_model.specs.declared.entry.Entry.{Entry}
-use Rattle.journal_model.specs.Journal.{any, each_of}
+use Rattle.journal_model.specs.Journal.{each_of}
+use Rattle.journal_model.specs.Legality.{count}
 use Rattle.child_end.specs.Wires.{WireValue, AreWires, came}
 
 -- the starts that programs tell, and how often they failed
@@ -44,9 +44,13 @@ abbrev pub is_failed_start : What → Bool
 is_failed_start (NoStart slot) = true
 is_failed_start _ = false
 
--- Of the objects of a run there are left the wires of its children, the starts that its journal has, and a fault where one
+-- the count rose by so many at least, or stands at the last value of its counter
+abbrev pub RoseBy : ℕ → ℕ → ℕ → Type 0
+RoseBy n before now = min (before + n) (2 ^ 64 - 1) ≤ now
+
+-- Of the objects of a run there are left the wires of its children, the starts that its journal has, and a fault for each that
 -- failed.
 pub record Leaves (wanted : Type 0) (program : List ℕ) (journal : List Entry) (before after : ProgramsValue) (wires : List WireValue) : Type 0 where
   pub wired : AreWires before.starts journal 0 (came journal) wires
   pub started : HaveStarted wanted program journal before.starts after.starts
-  pub fault : any is_failed_start journal ≡ true → Rose before.faults after.faults
+  pub faults : RoseBy (count is_failed_start journal) before.faults after.faults

@@ -1,3 +1,4 @@
 pub mod Logs
 pub mod ReadLaws
 pub mod WriteLaws
+pub mod Naming

@@ -1,1 +1,2 @@
 pub mod FromKept
+pub mod Naming

@@ -1,3 +1,4 @@
+ghost use Rattle.desk_file.specs.Names.{NamesOnly};
 ghost use Rattle.std.specs.Prelude.{◌≡◌, ◌≤◌, Ok, IfOk, IsTrue};
 ghost use Rattle.std.specs.List.{list_all};
 ghost use Rattle.ann_outside.specs.Causes.{Rose};
@@ -53,6 +54,7 @@ pub fn begin<D: Desk>(alloc: Global, words: &InitWords, desk: &mut D) -> Result<
     ensures files { D.files desk.new ≡ D.files desk.old }
     ensures fault { result ≡ Ok Begun.Fault → Rose (D.counts desk.old).faults (D.counts desk.new).faults }
     ensures later { (D.counts desk.old).faults ≤ (D.counts desk.new).faults }
+    ensures calls { NamesOnly (λ other. other ≡ words.now.keep) (D.log desk.old) (D.log desk.new) }
 {
     match read_kept(alloc, desk, words.keep.view()) {
         Ok(KeptRead::Kept { registers, notes }) => {

@@ -20,21 +20,25 @@ use Rattle.child_end.specs.Wires.{came, came_in}
 use Rattle.task_run.specs.declared.setup.Setup.{Setup}
 use Rattle.lone_work.specs.Works.{DeskTells}
 use Rattle.lone_rounds.specs.Starting.{AllOffer, children, is_offered, is_ready_untagged, started_in}
-use Rattle.lone_rounds.specs.Rounds.{is_of_run}
+use Rattle.lone_rounds.specs.Rounds.{AllLostWell, AllStandNext, is_of_run}
 use Rattle.lone_rounds.specs.Stints.{AreUpTo, IsOver, IsStart, main_entry, next_child}
 use Rattle.lone_rounds.proofs.Apart.{ended_on, ready_same}
 use Rattle.lone_rounds.proofs.Growing.{SaysStart, says_start}
+use Rattle.lone_rounds.proofs.Losing.{lost_both}
+use Rattle.lone_rounds.proofs.Nexts.{next_both, next_first}
 use Rattle.lone_rounds.proofs.Tests.{and_behind, any_none, any_same, children_up_to, claimed_on, count-append, count_none, neither_nor, offers_both}
 use Rattle.lone_rounds.proofs.Unready.{and_true}
-use Rattle.pool_starts.specs.Slots.{AllInTurn, AreSpent, StandsInTurn, are_spent, in_pool, is_first_start, offers_tags, spends}
+use Rattle.pool_starts.specs.Slots.{AllInTurn, AreSpent, IsManned, StandsInTurn, are_spent, in_pool, is_first_start, offers_tags, spends}
 use Rattle.gathering.specs.Rounds.{IsAtRest}
 use Rattle.job_rounds.specs.Desks.{DesksDid, HaveDesks}
 use Rattle.job_rounds.specs.JobRuns.{RanJobs}
+use Rattle.job_rounds.specs.Posts.{AllPosted}
 use Rattle.job_rounds.specs.Starts.{JobStretch, JobsBetween}
 use Rattle.job_rounds.proofs.Desks.{desks_as_many, desks_join, desks_nothing, desks_on, have_both, have_none}
+use Rattle.job_rounds.proofs.Posting.{posted_both, posted_main}
 use Rattle.job_rounds.proofs.Shutting.{shut_open}
 use Rattle.job_rounds.proofs.Slots.{apart_pool, first_none, offers_of, pool_offers, turn_both}
-use Rattle.job_rounds.proofs.Spent.{all_spent_on, pool_spent}
+use Rattle.job_rounds.proofs.Spent.{all_spent_both, pool_spent}
 use Rattle.job_rounds.proofs.Stretching.{start_takes}
 
 -- ---- the numbers of the children
@@ -65,13 +69,17 @@ pub jobs_begin : (o : Opening) (setup : Setup) (may : Bool) (limit : ℕ) (journ
 jobs_begin o setup may limit journal desks whole none = subst (λ (j : List Entry). JobsBetween o setup may limit 0 may j desks desks whole) (sym none) record {
   legal = record { stands = tt; nothing_due = refl };
   turn = tt;
+  order = tt;
   starts = refl;
   offers = tt;
   offered = and_true may;
   ended = refl;
   asks = refl;
+  lost = tt;
+  posts = tt;
   rest = λ t. refl;
   spent = λ w. inl refl;
+  manned = λ w pool. absurd (let bad : false ≡ true = pool in cc);
   untaken = refl;
   placed = tt;
   did = desks_nothing o setup limit [] [] [] 1 desks refl;
@@ -148,13 +156,13 @@ module _ {o : Opening} {setup : Setup} {limit : ℕ} {offer next : Bool} {first 
         ∙ all-join (is_ended new) (children old) (children tail)
         (all-each (is_ended old) (is_ended new) (λ d x. ap (λ (j : List Entry). is_ended j d) s.is ∙ ended_on old tail d x) (children old) b.ended) s.ended
 
-    spent_now : AreSpent old ⊎ (are_all_claimed o old ≡ true) → (spends new first s.later ≡ true) ⊎ (are_all_claimed o new ≡ true) → AreSpent new ⊎ (are_all_claimed o new ≡ true)
+    spent_now : AreSpent old ⊎ (are_all_claimed o old ≡ true) → (spends (old ++ main_entry first ∷ []) first s.later ≡ true) ⊎ (are_all_claimed o new ≡ true) → AreSpent new ⊎ (are_all_claimed o new ≡ true)
     spent_now h (inr all) = inr all
     spent_now (inr all) (inl k) = inr (ap (are_all_claimed o) s.is ∙ claimed_on o old tail all)
-    spent_now (inl h) (inl k) = inl (subst AreSpent (sym s.is) (all_spent_on old tail old tail h (subst (λ (j : List Entry). are_spent j tail ≡ true) s.is (here k))))
+    spent_now (inl h) (inl k) = inl (subst AreSpent (sym s.is) (all_spent_both [] old tail h (here k)))
       where
-        here : spends new first s.later ≡ true → are_spent new tail ≡ true
-        here x = (let more = pool_spent new (next_child old) s.later s.within in rw (x, more) refl)
+        here : spends (old ++ main_entry first ∷ []) first s.later ≡ true → are_spent old tail ≡ true
+        here x = (let more = pool_spent (old ++ main_entry first ∷ []) (next_child old) s.later s.within in rw (x, more) refl)
 
     turn_now : AllInTurn o (length desks0) old tail
     turn_now = subst (λ (n : ℕ). AllInTurn o n old tail) (sym as_many) (first_stands o (length desks) old old offer first s.start, s.turn)
@@ -169,13 +177,17 @@ module _ {o : Opening} {setup : Setup} {limit : ℕ} {offer next : Bool} {first 
     jobs_next = record {
       legal = legal;
       turn = subst (AllInTurn o (length desks0) []) (sym s.is) (turn_both o (length desks0) [] old tail b.turn turn_now);
+      order = subst (AllStandNext o []) (sym s.is) (next_both o [] old tail b.order (next_first o old offer first s.start (record { left = s.left; ended = b.ended; taken = b.untaken }), s.order));
       starts = one_start ∙ ap (λ (n : ℕ). n + 1) b.starts;
       offers = subst (AllOffer may []) (sym s.is) (offers_both may [] old tail b.offers (its.offers_well may b.offered, pool_offers o may (length desks) (next_child old) (old ++ main_entry first ∷ []) s.later s.turn s.within s.untagged));
       offered = offered_now;
       ended = all_ended;
       asks = ap (list_all (λ (e : Entry). is_of_run e.what)) s.is ∙ all-join (λ (e : Entry). is_of_run e.what) old tail b.asks (rw (its.asks, s.asks) refl);
+      lost = subst (AllLostWell []) (sym s.is) (lost_both [] old tail b.lost (λ mains. its.loses old, s.lost));
+      posts = subst (AllPosted []) (sym s.is) (posted_both [] old tail b.posts (posted_both old (main_entry first ∷ []) s.later (posted_main old (main_entry first ∷ []) refl) s.posts));
       rest = s.rest;
       spent = λ w. spent_now (b.spent refl) (s.spent w);
+      manned = λ w. subst (λ (n : ℕ). IsManned o n new) (sym as_many) (s.manned w);
       untaken = s.untaken;
       placed = subst (HaveDesks (length desks0) []) (sym s.is) (have_both (length desks0) [] old tail b.placed (
           have_both (length desks0) old (main_entry first ∷ []) s.later (have_none (length desks0) old (main_entry first ∷ []) (rw (start_takes old offer first s.start) refl))
@@ -191,9 +203,11 @@ pub ran_jobs : {o : Opening} {setup : Setup} {may : Bool} {limit made : ℕ} {of
     → RanJobs o setup may limit journal desks desks'
 ran_jobs {o} {setup} {may} {limit} {made} {offer} {journal} le b = record {
   legal = b.legal;
-  starts = record { turn = b.turn; few = (let n = b.starts in omega (arith, n, le)); offers = b.offers };
+  starts = record { turn = b.turn; next = b.order; few = (let n = b.starts in omega (arith, n, le)); offers = b.offers; taken = b.untaken };
   ended = b.ended;
   asks = b.asks;
+  lost = b.lost;
+  posts = b.posts;
   calm = record { idle = b.rest; shut = shut_open journal b.shut };
   placed = b.placed;
   did = b.did;

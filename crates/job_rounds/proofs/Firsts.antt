@@ -1,5 +1,5 @@
 -- What came of a child of slot 0 that is ready, in the journal and of the objects.
-use Rattle.std.proofs.Common.{◌≡◌, ℕ, ◌≤◌, List, [], ◌∷◌, refl, sym, ap, subst, ◌∙◌, append-nil, Bool, true, false, inl, inr, Ok, Result}
+use Rattle.std.proofs.Common.{◌≡◌, ℕ, ◌≤◌, List, [], ◌∷◌, refl, sym, ap, subst, ◌∙◌, append-nil, Bool, true, false, arith, inl, inr, Ok, Result}
 use Rattle.std.specs.Prelude.{◌&&◌, IsErr}
 use Rattle.ann_outside.specs.Causes.{AddsOne, Stays}
 use Rattle.journal_model.specs.declared.entry.What.TheVariants.{Start}
@@ -16,7 +16,7 @@ use Rattle.task_run.specs.declared.setup.Setup.{Setup}
 use Rattle.lone_work.specs.Works.{DeskTells}
 use Rattle.lone_rounds.specs.Starting.{is_any_start}
 use Rattle.lone_rounds.specs.Stints.{ear_of, main_entry, mouth_of}
-use Rattle.lone_rounds.proofs.Leaving.{stays_none}
+use Rattle.lone_rounds.proofs.Leaving.{rose_still, stays_none}
 use Rattle.job_rounds.specs.Pools.{IsLinkLeft, LeavesPool}
 use Rattle.job_rounds.specs.Servings.{FirstServed}
 use Rattle.job_rounds.specs.Starts.{LacksMemory, OneJobStart, StartsAll}
@@ -50,7 +50,7 @@ lone_leaves W program journal before after e ear m mouth wires wires' stays le s
   left = wire_left journal e ear m mouth wire one se sm is held;
   linked = tt;
   started = inl (stays_none before.starts after.starts stays);
-  fault = λ failed. absurd (let bad : false ≡ true = failed in cc);
+  faults = rose_still 0 before.faults before.faults after.faults (omega arith) le;
   later_faults = le;
 }
 
@@ -72,7 +72,7 @@ module _ (o : Opening) (setup : Setup) (limit : ℕ) (offer tagged : Bool) (old 
       serves few
       (lone_objects last l (all_told W program [] mid last none l.started) refl)
   made none (inr (many, plain, (s, l))) = subst (λ (next : Bool). OneJobStart o setup limit offer next true program old new desks desks' before last wires wires') (untagged plain)
-      (pool_start o setup limit offer old g new ear.child desks desks' true greeted legal' ready plain many s
+      (pool_start o setup limit offer old g new ear.child desks desks' true greeted legal' ready plain many left s
       (its_objects program new greeted.more s.later ear.child offer before mid ear mouth adds le numbered refl (none_started o old g offer ear.child greeted) W last last wires wires' l (all_told W program s.later mid last none l.started) refl))
 
   pub first_ok : (whole : Bool) → whole ≡ true → (W → ⊥) → FirstServed W o setup limit program g new desks desks' whole ear mouth mid last wires wires'
@@ -95,7 +95,7 @@ module _ (o : Opening) (setup : Setup) (limit : ℕ) (offer tagged : Bool) (old 
       inr (
         offer && false,
         a.mid,
-        pool_start o setup limit offer old g new ear.child desks desks' false greeted legal' ready plain many s
+        pool_start o setup limit offer old g new ear.child desks desks' false greeted legal' ready plain many left s
             (its_objects program new greeted.more s.later ear.child offer before mid ear mouth adds le numbered refl (none_started o old g offer ear.child greeted) W last a.mid wires wires' l a.adds a.faults),
         a.asked,
       )

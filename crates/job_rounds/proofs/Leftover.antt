@@ -11,7 +11,7 @@ use Rattle.journal_model.specs.declared.opening.Opening.{Opening}
 use Rattle.journal_model.specs.Journal.{any, is_ended, offers, open_jobs}
 use Rattle.journal_model.specs.Legality.{Legal, count, is_busy, is_start}
 use Rattle.journal_model.specs.Shares.{are_by, is_of_child}
-use Rattle.journal_model.proofs.Looks.{any-append, each_of-append}
+use Rattle.journal_model.proofs.Looks.{any-append, each_of-append, either_left}
 use Rattle.journal_model.proofs.Testing.{all-each, all-join, or_false}
 use Rattle.child_start.proofs.Jobs.{idle_on}
 use Rattle.child_end.specs.Programs.{ProgramsValue}
@@ -21,23 +21,27 @@ use Rattle.task_run.specs.TaskRuns.{failed_start}
 use Rattle.task_run.proofs.Causes.{from_nothing}
 use Rattle.lone_work.specs.Works.{DeskTells}
 use Rattle.lone_rounds.specs.Starting.{AllOffer, children, is_any_start, is_offered, is_ready_untagged, started_in}
-use Rattle.lone_rounds.specs.Rounds.{ends_for_memory, is_of_run, left_answer, start_untaken}
+use Rattle.lone_rounds.specs.Rounds.{AllLostWell, AllStandNext, ends_for_memory, is_of_run, left_answer, start_untaken}
 use Rattle.lone_rounds.specs.Stints.{AnswersLeft, Kept, answered_so, main_entry}
 use Rattle.lone_rounds.proofs.Apart.{ended_on, ready_same}
 use Rattle.lone_rounds.proofs.Leaving.{kept_still}
+use Rattle.lone_rounds.proofs.Losing.{lost_both, lost_tasks, loses_task}
+use Rattle.lone_rounds.proofs.Nexts.{is_quiet, next_both, next_quiet}
 use Rattle.lone_rounds.proofs.Runs.{IsOfNoCall, gained_nothing}
 use Rattle.lone_rounds.proofs.Tests.{any_same, children_up_to, count-append, count_none, no_children, offers_both, offers_none}
 use Rattle.lone_rounds.proofs.Turns.{claim_takes, none_fails}
 use Rattle.lone_rounds.proofs.Zeros.{rests_one}
-use Rattle.pool_starts.specs.Slots.{AllInTurn, AreSpent, are_spent, is_first_start}
+use Rattle.pool_starts.specs.Slots.{AllInTurn, AreSpent, IsManned, are_spent, is_first_start}
 use Rattle.job_rounds.specs.Desks.{DeskDid, DesksDid, HaveDesks}
+use Rattle.job_rounds.specs.Posts.{AllPosted}
 use Rattle.job_rounds.specs.Unserved.{UnservedAnswers}
 use Rattle.job_rounds.specs.Starts.{JobsBetween}
 use Rattle.job_rounds.proofs.Between.{few_of}
 use Rattle.job_rounds.proofs.Desks.{desks_first, desks_join, desks_on, did_join, did_nothing, have_both, have_main, main_claims}
+use Rattle.job_rounds.proofs.Posting.{posted_both, posted_main}
 use Rattle.job_rounds.proofs.Shutting.{unasked}
-use Rattle.job_rounds.proofs.Slots.{is_quiet, turn_both, turn_quiet}
-use Rattle.job_rounds.proofs.Spent.{all_spent_on}
+use Rattle.job_rounds.proofs.Slots.{manned_still, turn_both, turn_manned}
+use Rattle.job_rounds.proofs.Spent.{all_spent_both}
 
 -- ---- what they are not
 
@@ -71,12 +75,12 @@ module _ (answer : Answer) where
   left_untaken past [] h = subst (λ (j : List Entry). failed_start j (start_untaken j) ≡ None) (sym (append-nil past)) h
   left_untaken past (t ∷ ts) h = subst (λ (j : List Entry). failed_start j (start_untaken j) ≡ None) (sym (behind_one past t ts)) (left_untaken (past ++ one t) ts (one_untaken past t))
 
-  left_spent : (past rest : List Entry) (ts : List ℕ) → are_spent (past ++ rest) (answered_so answer ts) ≡ true
-  left_spent past rest [] = refl
-  left_spent past rest (t ∷ ts) = left_spent past rest ts
+  left_spent : (past : List Entry) (ts : List ℕ) → are_spent past (answered_so answer ts) ≡ true
+  left_spent past [] = refl
+  left_spent past (t ∷ ts) = left_spent ((past ++ main_entry (Claim t 0) ∷ []) ++ main_entry (Answered t answer) ∷ []) ts
 
   still_spent : (past : List Entry) (ts : List ℕ) → AreSpent past → AreSpent (past ++ answered_so answer ts)
-  still_spent past ts h = all_spent_on past (answered_so answer ts) past (answered_so answer ts) h (left_spent past (answered_so answer ts) ts)
+  still_spent past ts h = all_spent_both [] past (answered_so answer ts) h (left_spent past ts)
 
   one_spent : (past : List Entry) (t : ℕ) → AreSpent past → AreSpent (past ++ one t)
   one_spent past t h = still_spent past (t ∷ []) h
@@ -141,6 +145,12 @@ module _ {o : Opening} {setup : Setup} {may : Bool} {limit made : ℕ} {offer : 
       (λ d le. ap (λ (j : List Entry). is_ready_untagged j d) a.is ∙ ready_same old more d (apart d) o b.legal (left_none (left_answer old) (offers d) (λ t. refl) (λ t. refl) a.tasks))
       (children old) (children_up_to (count is_start old) old (few_of o old b.legal)))
 
+  manned_at : (front rest : List Entry) → more ≡ front ++ rest → IsManned o (length desks0) (old ++ front)
+  manned_at front rest split = manned_still o (length desks0) old front b.legal (front_none is_any_start none) (λ d. front_none (is_of_child d) (apart d)) (b.manned refl)
+    where
+      front_none : (p : What → Bool) → any p more ≡ false → any p front ≡ false
+      front_none p h = either_left (any p front) (any p rest) (sym (any-append p front rest) ∙ ap (any p) (sym split) ∙ h)
+
   did_more : (ds : List DeskTells) → DesksDid o setup limit (old ++ more) old more 1 ds ds
   did_more [] = tt
   did_more (d ∷ ds) = desks_first o setup limit (old ++ more) old more d d ds main (left_did (left_answer old) o setup limit (old ++ more) d (left_quiet old) old a.tasks refl (b.starts ∙ all) spent refl b.untaken)
@@ -148,15 +158,19 @@ module _ {o : Opening} {setup : Setup} {may : Bool} {limit made : ℕ} {offer : 
   pub jobs_left : JobsBetween o setup may limit made offer new desks0 desks true
   jobs_left = record {
     legal = legal;
-    turn = subst (AllInTurn o (length desks0) []) (sym a.is) (turn_both o (length desks0) [] old more b.turn (turn_quiet o (length desks0) old more (left_all (left_answer old) is_quiet (λ t. refl) (λ t. refl) a.tasks)));
+    turn = subst (AllInTurn o (length desks0) []) (sym a.is) (turn_both o (length desks0) [] old more b.turn (turn_manned o (length desks0) old more none (λ front rest split. manned_at front rest split)));
+    order = subst (AllStandNext o []) (sym a.is) (next_both o [] old more b.order (next_quiet o old more (left_all (left_answer old) is_quiet (λ t. refl) (λ t. refl) a.tasks)));
     starts = ap (count is_first_start) a.is ∙ same_count (left_answer old) old more (left_none (left_answer old) is_first_start (λ t. refl) (λ t. refl) a.tasks) ∙ b.starts;
     offers = subst (AllOffer may []) (sym a.is) (offers_both may [] old more b.offers (offers_none may old more none));
     offered = b.offered ∙ ap (λ (x : Bool). may && x) (sym offered_still);
     ended = ap (list_all (is_ended new)) children_are
         ∙ all-each (is_ended old) (is_ended new) (λ d k. ap (λ (j : List Entry). is_ended j d) a.is ∙ ended_on old more d k) (children old) b.ended;
     asks = ap (list_all (λ (e : Entry). is_of_run e.what)) a.is ∙ all-join (λ (e : Entry). is_of_run e.what) old more b.asks (left_all (left_answer old) is_of_run (λ t. refl) (λ t. refl) a.tasks);
+    lost = subst (AllLostWell []) (sym a.is) (lost_both [] old more b.lost (lost_tasks old more (left_all (left_answer old) loses_task (λ t. refl) (λ t. refl) a.tasks)));
+    posts = subst (AllPosted []) (sym a.is) (posted_both [] old more b.posts (posted_main old more main));
     rest = λ u. ap (λ (j : List Entry). is_busy j u) a.is ∙ left_rests (left_answer old) old a.tasks b.rest u;
     spent = λ w. inl (subst AreSpent (sym a.is) (still_spent (left_answer old) old a.tasks spent));
+    manned = λ w. subst (IsManned o (length desks0)) (sym a.is) (manned_at more [] (sym (append-nil more)));
     untaken = subst (λ (j : List Entry). failed_start j (start_untaken j) ≡ None) (sym a.is) (left_untaken (left_answer old) old a.tasks b.untaken);
     placed = subst (HaveDesks (length desks0) []) (sym a.is) (have_both (length desks0) [] old more b.placed (have_main (length desks0) old more some main));
     did = subst (λ (j : List Entry). DesksDid o setup limit j [] j 1 desks0 desks) (sym a.is)

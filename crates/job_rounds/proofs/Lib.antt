@@ -11,6 +11,7 @@ pub mod Objects
 pub mod Ends
 pub mod Rounding
 pub mod PoolPosts
+pub mod Posting
 pub mod PoolTags
 pub mod PoolClosings
 pub mod PoolMiddle

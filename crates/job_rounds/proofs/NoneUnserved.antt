@@ -1,5 +1,5 @@
 -- Where all goes well with the children, no task is claimed without one.
-use Rattle.std.proofs.Common.{◌≡◌, ◌∙◌, ℕ, ◌<◌, ◌==◌, Bool, true, false, not, List, [], ◌∷◌, ◌++◌, length, refl, sym, ap, subst, arith, Some, None, Option}
+use Rattle.std.proofs.Common.{◌≡◌, ◌∙◌, ℕ, ◌<◌, ◌==◌, Bool, true, false, not, List, [], ◌∷◌, ◌++◌, append_assoc, length, refl, sym, ap, subst, arith, Some, None, Option}
 use Rattle.std.specs.Prelude.{◌&&◌, ◌||◌, cond, is_some, option_and_then, find, filter}
 use Rattle.std.specs.List.{cons_option, list_all, list_any}
 use Rattle.std.proofs.lemmas.Bool.{and_parts, or_parts}
@@ -13,12 +13,13 @@ use Rattle.journal_model.specs.declared.entry.Entry.{Entry}
 use Rattle.journal_model.specs.Journal.{any, each_of, first_of, ends, mutes, is_mute, verdict_in, verdict_of, end_why, why_of}
 use Rattle.journal_model.specs.Legality.{count, is_prepared}
 use Rattle.journal_model.specs.Shares.{is_closed}
+use Rattle.journal_model.proofs.Looks.{any-append}
 use Rattle.task_run.specs.TaskRuns.{failed_start, refused_at, refusal_of}
-use Rattle.lone_rounds.specs.Starting.{is_spent, is_unclosed}
+use Rattle.lone_rounds.specs.Starting.{children, is_spent, is_unclosed, up_to}
 use Rattle.lone_rounds.specs.Rounds.{ZeroAnswers, start_untaken}
 use Rattle.task_laws.specs.LoneWell.{ChildrenWell, is_muting, is_no_start, is_refusal, is_unclosed_end}
 use Rattle.task_laws.proofs.NoZero.{none_without_child}
-use Rattle.pool_starts.specs.Slots.{are_spent, is_first_start, is_lost, pool_behind, spends}
+use Rattle.pool_starts.specs.Slots.{are_spent, is_first_start, is_lost, is_pool_spent, spends}
 use Rattle.job_rounds.specs.Unserved.{IsUnserved, UnservedAnswers}
 use Rattle.job_rounds.specs.JobsWell.{NoneUnserved}
 
@@ -89,22 +90,22 @@ none_refused past c h = of_first (each_of (verdict_in c 1) past) (all_unrefused 
 
 -- ---- none is spent
 
-module _ (past more : List Entry) (w : ChildrenWell (past ++ more)) where
-  mute : (c : ℕ) → is_mute past c ≡ false
-  mute c = none_mute past c (before is_muting past more w.heard)
+-- each child that these entries tell of got ready, ended only when it was closed and could be written to
+record AreWell (past : List Entry) : Type 0 where
+  heard : any is_muting past ≡ false
+  closed : any is_unclosed_end past ≡ false
+  ready : any is_refusal past ≡ false
 
-  closing : (c : ℕ) → is_unclosed (why_of past c) ≡ false
-  closing c = none_unclosed past c (before is_unclosed_end past more w.closed)
-
+module _ (past : List Entry) (w : AreWell past) where
   not_spent : (c : ℕ) → is_spent past c ≡ false
   not_spent c =
-      let r : is_some (refusal_of past c) ≡ false = none_refused past c (before is_refusal past more w.ready) in
-      let m : is_mute past c ≡ false = mute c in
-      let u : is_unclosed (why_of past c) ≡ false = closing c in
+      let r : is_some (refusal_of past c) ≡ false = none_refused past c w.ready in
+      let m : is_mute past c ≡ false = none_mute past c w.heard in
+      let u : is_unclosed (why_of past c) ≡ false = none_unclosed past c w.closed in
       rw (r, m, u) refl
 
   not_lost : (c : ℕ) → is_lost past c ≡ false
-  not_lost c = nothing (is_prepared past c) (is_mute past c) (is_unclosed (why_of past c)) (mute c) (closing c)
+  not_lost c = nothing (is_prepared past c) (is_mute past c) (is_unclosed (why_of past c)) (none_mute past c w.heard) (none_unclosed past c w.closed)
     where
       nothing : (a b d : Bool) → b ≡ false → d ≡ false → (a && (b || d)) ≡ false
       nothing true false false x y = refl
@@ -116,29 +117,51 @@ module _ (past more : List Entry) (w : ChildrenWell (past ++ more)) where
   none_lost [] = refl
   none_lost (c ∷ cs) = (let one : is_lost past c ≡ false = not_lost c in rw (one, none_lost cs) refl)
 
-  -- so no start was made in slot 0
-  none_first : (xs : List Entry) → any is_no_start xs ≡ false → are_spent past xs ≡ true → count is_first_start xs ≡ 0
-  none_first [] h k = refl
-  none_first (x ∷ xs) h k =
-      let started = or_parts (is_no_start x.what) (any is_no_start xs) h in
-      let spent = and_parts (spends past x.what xs) (are_spent past xs) k in
-      by_what x.what started.0 spent.0 (none_first xs started.1 spent.1)
-    where
-      elsewhere : (b d : Bool) → d ≡ false → (not b || d) ≡ true → b ≡ false
-      elsewhere false d x y = refl
-      elsewhere true false x y = absurd cc
-      elsewhere true true x y = absurd cc
+  none_pool_spent : (c : ℕ) (cs : List ℕ) → is_pool_spent past c cs ≡ false
+  none_pool_spent c cs = (let own : is_spent past c ≡ false = not_spent c in rw (own, none_lost cs) refl)
 
-      by_what : (u : What) → is_no_start u ≡ false → spends past u xs ≡ true → count is_first_start xs ≡ 0
-          → length (cond (is_first_start u) (x ∷ filter (λ (y : Entry). is_first_start y.what) xs) (filter (λ (y : Entry). is_first_start y.what) xs)) ≡ 0
-      by_what (Start child slot offer) n s rest =
-          let own : is_spent past child ≡ false = not_spent child in
-          let others : list_any (is_lost past) (pool_behind xs) ≡ false = none_lost (pool_behind xs) in
-          let both : (is_spent past child || list_any (is_lost past) (pool_behind xs)) ≡ false = rw (own, others) refl in
-          let away : (slot == 0) ≡ false = elsewhere (slot == 0) (is_spent past child || list_any (is_lost past) (pool_behind xs)) both s in
-          rw away rest
-      by_what (NoStart slot) n s rest = absurd cc
-      by_what u n s rest = rest
+-- so are those up to the next start
+up_to_none : (p is : What → Bool) (xs : List Entry) → any p xs ≡ false → any p (up_to is xs) ≡ false
+up_to_none p is [] h = refl
+up_to_none p is (x ∷ xs) h =
+    let t = or_parts (p x.what) (any p xs) h in
+    go (is x.what) t.0 (up_to_none p is xs t.1)
+  where
+    go : (b : Bool) → p x.what ≡ false → any p (up_to is xs) ≡ false → any p (cond b [] (x ∷ up_to is xs)) ≡ false
+    go true one rest = refl
+    go false one rest = rw (one, rest) refl
+
+part_well : (here xs : List Entry) → AreWell (here ++ xs) → AreWell (here ++ up_to is_first_start xs)
+part_well here xs w = record { heard = part is_muting w.heard; closed = part is_unclosed_end w.closed; ready = part is_refusal w.ready }
+  where
+    part : (p : What → Bool) → any p (here ++ xs) ≡ false → any p (here ++ up_to is_first_start xs) ≡ false
+    part p h =
+        let t = or_parts (any p here) (any p xs) (sym (any-append p here xs) ∙ h) in
+        any-append p here (up_to is_first_start xs) ∙ (let one : any p here ≡ false = t.0 in rw (one, up_to_none p is_first_start xs t.1) refl)
+
+-- so no start was made in slot 0
+none_first : (past xs : List Entry) → AreWell (past ++ xs) → any is_no_start xs ≡ false → are_spent past xs ≡ true → count is_first_start xs ≡ 0
+none_first past [] w h k = refl
+none_first past (x ∷ xs) w h k =
+    let started = or_parts (is_no_start x.what) (any is_no_start xs) h in
+    let spent = and_parts (spends (past ++ x ∷ []) x.what xs) (are_spent (past ++ x ∷ []) xs) k in
+    let after : AreWell ((past ++ x ∷ []) ++ xs) = subst AreWell (sym (append_assoc past (x ∷ []) xs)) w in
+    by_what x.what started.0 spent.0 after (none_first (past ++ x ∷ []) xs after started.1 spent.1)
+  where
+    elsewhere : (b d : Bool) → d ≡ false → (not b || d) ≡ true → b ≡ false
+    elsewhere false d p q = refl
+    elsewhere true false p q = absurd cc
+    elsewhere true true p q = absurd cc
+
+    by_what : (u : What) → is_no_start u ≡ false → spends (past ++ x ∷ []) u xs ≡ true → AreWell ((past ++ x ∷ []) ++ xs) → count is_first_start xs ≡ 0
+        → length (cond (is_first_start u) (x ∷ filter (λ (y : Entry). is_first_start y.what) xs) (filter (λ (y : Entry). is_first_start y.what) xs)) ≡ 0
+    by_what (Start child slot offer) n s well rest =
+        let there : List Entry = (past ++ x ∷ []) ++ up_to is_first_start xs in
+        let away : (slot == 0) ≡ false = elsewhere (slot == 0) (is_pool_spent there child (children (up_to is_first_start xs)))
+        (none_pool_spent there (part_well (past ++ x ∷ []) xs well) child (children (up_to is_first_start xs))) s in
+        rw away rest
+    by_what (NoStart slot) n s well rest = absurd cc
+    by_what u n s well rest = rest
 
 pub none_unserved : NoneUnserved
 none_unserved limit journal t some w answer z = go (failed_start z.past (start_untaken z.past)) refl z.answers
@@ -149,6 +172,9 @@ none_unserved limit journal t some w answer z = go (failed_start z.past (start_u
     well : ChildrenWell (z.past ++ more)
     well = subst ChildrenWell z.is w
 
+    so_far : AreWell z.past
+    so_far = record { heard = before is_muting z.past more well.heard; closed = before is_unclosed_end z.past more well.closed; ready = before is_refusal z.past more well.ready }
+
     go : (failed : Option Answer) → failed_start z.past (start_untaken z.past) ≡ failed → UnservedAnswers limit z.past failed answer → ⊥
     go (Some failed) e a = none_without_child limit journal t some w answer (record { past = z.past; rest = z.rest; is = z.is; answers = subst (λ (x : Option Answer). ZeroAnswers limit z.past x answer) (sym e) a })
-    go None e a = (let none = none_first z.past more well z.past (before is_no_start z.past more well.started) a.1 in let all = a.0 in omega (arith, none, all, some))
+    go None e a = (let none = none_first [] z.past so_far (before is_no_start z.past more well.started) a.1 in let all = a.0 in omega (arith, none, all, some))

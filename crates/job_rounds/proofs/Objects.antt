@@ -1,30 +1,29 @@
 -- The wires and the programs of a run, as its journal grows by a start of slot 0 and those of its pool.
 use Rattle.std.proofs.Common.{◌≡◌, ℕ, suc, ◌+◌, ◌≤◌, List, [], ◌∷◌, ◌++◌, refl, sym, ap, subst, ◌∙◌, length, length-append, Bool, true, false, Some, None, Option, arith}
-use Rattle.std.specs.Prelude.{◌||◌, filter}
+use Rattle.std.specs.Prelude.{◌-◌, ◌^◌, filter, min}
 use Rattle.std.specs.List.{cons_option}
 use Rattle.ann_outside.specs.Starts.{Starts, IsNumbered}
-use Rattle.ann_outside.specs.Causes.{AddsOne, Rose}
+use Rattle.ann_outside.specs.Causes.{AddsOne}
 use Rattle.journal_model.specs.declared.entry.What.{What}
 use Rattle.journal_model.specs.declared.entry.What.TheVariants.{Start, NoStart}
 use Rattle.journal_model.specs.declared.entry.Entry.{Entry}
 use Rattle.journal_model.specs.Journal.{any}
 use Rattle.journal_model.specs.Legality.{count, is_start}
 use Rattle.journal_model.specs.Shares.{is_of_child}
-use Rattle.journal_model.proofs.Looks.{any-append, each_of-append}
-use Rattle.journal_model.proofs.Testing.{by_either}
+use Rattle.journal_model.proofs.Looks.{each_of-append}
 use Rattle.link_roles.proofs.Linked.{any_narrower}
-use Rattle.child_end.specs.Programs.{AddsAll, ProgramsValue, is_failed_start, told, told_in}
+use Rattle.child_end.specs.Programs.{AddsAll, ProgramsValue, RoseBy, is_failed_start, told, told_in}
 use Rattle.child_end.specs.Wires.{IsOfStart, WireValue, came, came_in}
 use Rattle.lone_rounds.specs.Starting.{is_any_start}
 use Rattle.lone_rounds.specs.Stints.{AreLinked, AreUpTo, IsLinked, Kept, StartsOne, main_entry}
-use Rattle.lone_rounds.proofs.Leaving.{adds_both, linked_both, linked_on, none_told, rose_on}
-use Rattle.lone_rounds.proofs.Tests.{none_came}
+use Rattle.lone_rounds.proofs.Leaving.{adds_both, linked_both, linked_on, none_told, rose_both}
+use Rattle.lone_rounds.proofs.Tests.{count-append, count_none, none_came}
 use Rattle.job_rounds.specs.Starts.{StartsAll}
 
 -- ---- counts of faults
 
-pub rose_later : (a b c : ℕ) → a ≤ b → Rose b c → Rose a c
-rose_later a b c h r = omega arith
+pub rose_later : (n a b c : ℕ) → a ≤ b → RoseBy n b c → RoseBy n a c
+rose_later n a b c h r = (let x : min (b + n) (2 ^ 64 - 1) ≤ c = r in omega (arith, h, x))
 
 pub failed_start_is : (w : What) → is_failed_start w ≡ true → is_any_start w ≡ true
 failed_start_is (NoStart slot) h = refl
@@ -90,14 +89,13 @@ one_all {program} {journal} {first} {before} {after} {wires} {wires'} later none
   new = s.new;
   laid = s.laid;
   linked = subst (λ (cs : List (Option ℕ)). AreLinked before.starts journal 0 cs s.new) (ap (λ (cs : List (Option ℕ)). cons_option (came_in first) cs) (sym (none_came later none))) s.linked;
-  fault = λ failed. s.fault (of_first (is_failed_start first) (any is_failed_start later) (any_narrower is_failed_start is_any_start failed_start_is later none) failed);
+  faults = subst (λ (n : ℕ). RoseBy n before.faults after.faults) (sym all_failed) s.faults;
   later_faults = s.later;
 }
   where
-    of_first : (a b : Bool) → b ≡ false → (a || b) ≡ true → a ≡ true
-    of_first true b e h = refl
-    of_first false true e h = absurd cc
-    of_first false false e h = absurd cc
+    all_failed : count is_failed_start (main_entry first ∷ later) ≡ count is_failed_start (main_entry first ∷ [])
+    all_failed =
+        count-append is_failed_start (main_entry first ∷ []) later ∙ (let none_failed = count_none is_failed_start later (any_narrower is_failed_start is_any_start failed_start_is later none) in omega (arith, none_failed))
 
 -- ---- all that is kept
 
@@ -109,7 +107,7 @@ kept_more {program} {old} {start} {before} {wires} k up_to new tail after wires'
       (linked_both start.starts new 0 (came old) (came tail) wires s.new earlier
       (linked_shifted start.starts before.starts (told program old) new (length (came old)) k.started (as_many program old) 0 (came tail) s.new s.linked)));
   started = subst (AddsAll start.starts after.starts) (sym told_new) (adds_both start.starts before.starts after.starts (told program old) (told program tail) k.started s.adds);
-  fault = λ failed. rose failed;
+  faults = subst (λ (n : ℕ). RoseBy n start.faults after.faults) (sym (ap (count is_failed_start) is ∙ count-append is_failed_start old tail)) (rose_both (count is_failed_start old) (count is_failed_start tail) start.faults before.faults after.faults k.faults s.faults);
   later = (let a = k.later in let b = s.later_faults in omega (arith, a, b));
 }
   where
@@ -121,15 +119,6 @@ kept_more {program} {old} {start} {before} {wires} k up_to new tail after wires'
 
     earlier : AreLinked start.starts new 0 (came old) wires
     earlier = subst (λ (j : List Entry). AreLinked start.starts j 0 (came old) wires) (sym is) (linked_on start.starts old tail (count is_start old) apart 0 (came old) wires up_to k.linked)
-
-    rose : any is_failed_start new ≡ true → Rose start.faults after.faults
-    rose failed = by_either (any is_failed_start old)
-        (λ some_old. rose_on start.faults before.faults after.faults (k.fault some_old) s.later_faults)
-        (λ none_old. rose_later start.faults before.faults after.faults k.later (s.fault (at_tail (any is_failed_start old) none_old (sym (ap (any is_failed_start) is ∙ any-append is_failed_start old tail) ∙ failed))))
-      where
-        at_tail : (a : Bool) {b : Bool} → a ≡ false → (a || b) ≡ true → b ≡ true
-        at_tail false x y = y
-        at_tail true x y = absurd cc
 
 -- ---- as many wires as children
 

@@ -5,7 +5,7 @@ use Rattle.std.specs.List.{list_all, list_any}
 use Rattle.std.proofs.lemmas.Bool.Decides.{nat_tests}
 use Rattle.std.proofs.lemmas.List.Elements.{All-head, All-tail}
 use Rattle.journal_model.specs.declared.entry.What.{What}
-use Rattle.journal_model.specs.declared.entry.What.TheVariants.{Claim, Start, NoStart, Ask, End}
+use Rattle.journal_model.specs.declared.entry.What.TheVariants.{Claim, Start, NoStart, Ask, End, Lost}
 use Rattle.journal_model.specs.declared.entry.Entry.{Entry}
 use Rattle.journal_model.specs.Halves.{EarValue, MouthValue}
 use Rattle.journal_model.specs.Journal.{any, asks, is_ended}
@@ -23,6 +23,7 @@ use Rattle.lone_work.specs.Works.{claimed_task, claims_in}
 use Rattle.lone_rounds.specs.Rounds.{is_of_run}
 use Rattle.lone_rounds.specs.Starting.{is_any_start}
 use Rattle.lone_rounds.proofs.Apart.{ended_on}
+use Rattle.lone_rounds.proofs.Losing.{loses_task}
 use Rattle.lone_rounds.proofs.Stinting.{Closing, closing, of_closing}
 use Rattle.lone_rounds.proofs.Tests.{any_none, each_none}
 use Rattle.pool_starts.specs.Pools.{is_claim}
@@ -90,6 +91,10 @@ closing_untasked : (cs : List ℕ) (t : ℕ) (w : What) → closes_one cs w ≡ 
 closing_untasked cs t (End child why) h = refl
 closing_untasked cs t w h = absurd cc
 
+closing_loses : (cs : List ℕ) (w : What) → closes_one cs w ≡ true → loses_task w ≡ true
+closing_loses cs (Lost child task) h = absurd cc
+closing_loses cs w h = refl
+
 closing_of_run : (cs : List ℕ) (w : What) → closes_one cs w ≡ true → is_of_run w ≡ true
 closing_of_run cs (Ask child job task line) h = absurd cc
 closing_of_run cs w h = refl
@@ -116,6 +121,9 @@ module _ {cs : List ℕ} {mid new : List Entry} (k : Closings cs mid new) where
 
   pub closings_ask : list_all (λ e. is_of_run e.what) k.tail ≡ true
   closings_ask = all-each (λ (e : Entry). closes_one cs e.what) (λ (e : Entry). is_of_run e.what) (λ e. closing_of_run cs e.what) k.tail k.all
+
+  pub closings_lose : list_all (λ e. loses_task e.what) k.tail ≡ true
+  closings_lose = all-each (λ (e : Entry). closes_one cs e.what) (λ (e : Entry). loses_task e.what) (λ e. closing_loses cs e.what) k.tail k.all
 
   -- all is at rest still
   pub closings_calm : IsAtRest mid → IsAtRest new

@@ -17,7 +17,7 @@ use Rattle.gathering.specs.Laws.{children_of}
 use Rattle.gathering.specs.Rounds.{LinkValue}
 use Rattle.task_run.specs.declared.setup.Setup.{Setup}
 use Rattle.lone_work.specs.Works.{DeskTells}
-use Rattle.lone_rounds.proofs.Leaving.{stays_none}
+use Rattle.lone_rounds.proofs.Leaving.{rose_still, stays_none}
 use Rattle.lone_rounds.proofs.Stinting.{may_close}
 use Rattle.crew_rounds.specs.PoolChildren.{MayServe}
 use Rattle.pool_rounds.specs.Pool.{AreSameLinks}
@@ -72,7 +72,7 @@ module _ {wanted : Type 0} (o : Opening) (setup : Setup) (limit : ℕ) (program 
     pub pool_ends : {wanted' : Type 0} → (wanted → wanted') → PoolServed wanted' o setup limit program old new desks desks' whole first.ear first.mouth before after wires wires'
     pool_ends f = pool_served o setup limit old g mid new first p.more desks desks' whole before.starts p.others its legal p.gathered p.by.seated m closed_so legal'
         (λ more is none. leaves_pool program g new p.gathered.later more first p.more links' p.others (count is_start old) before told after wires wires' f none (omega (arith, its))
-        (later_ascend o old p.gathered.later (subst (Legal o) p.gathered.is legal_g)) p.by.seated p.by.started p.by.fault p.by.later_faults stays later settled
+        (later_ascend o old p.gathered.later (subst (Legal o) p.gathered.is legal_g)) p.by.seated p.by.started p.by.faults p.by.later_faults stays later settled
         (λ d k wire at apart l. wire_stays before.starts g m.rest mid new (children_of (first ∷ p.more)) m.is closed_so k wire (subst (λ (e : ℕ). any (is_of_child e) m.rest ≡ false) (sym at) (m.others d apart)) l))
 
 -- ---- the pool is whole: it did tasks
@@ -148,6 +148,7 @@ roomless_pool o jobs program old g first link before after can u = subst (λ (j 
     unclaimed_yet = refl;
     untagged = refl;
     asks = refl;
+    lost = tt;
     turn = tt;
     ended = refl;
     ready = refl;
@@ -157,7 +158,7 @@ roomless_pool o jobs program old g first link before after can u = subst (λ (j 
   by = record {
     seated = tt;
     started = inl (stays_none before.starts after.starts u.starts);
-    fault = λ failed. absurd cc;
+    faults = rose_still 0 before.faults before.faults after.faults (omega arith) u.later_faults;
     later_faults = u.later_faults;
   };
 }

@@ -21,7 +21,7 @@ use Rattle.journal_model.proofs.Idling.{asks_none, mains_ask}
 use Rattle.journal_model.proofs.Linking.{why_is_end, why_of-append}
 use Rattle.journal_model.proofs.Looks.{any-append, both, differ, each_of-append, either_left, is_asked, same_number}
 use Rattle.journal_model.proofs.Projecting.{invariant}
-use Rattle.journal_model.proofs.Testing.{all-each, all-split, by_either, or_left, or_right}
+use Rattle.journal_model.proofs.Testing.{all-each, all-join, all-split, by_either, or_left, or_right}
 use Rattle.journal_model.proofs.Verdicts.{unasked_none}
 use Rattle.host_core.specs.Steps.{are_all_claimed, is_gone}
 use Rattle.link_roles.proofs.Linked.{any_narrower}
@@ -32,14 +32,15 @@ use Rattle.gathering.specs.Tasks.{IsThrough}
 use Rattle.child_start.proofs.Jobs.{idle_on}
 use Rattle.task_run.specs.declared.setup.Setup.{Setup}
 use Rattle.lone_work.specs.Works.{DeskTells, by_worker, claimed_task, claims_in}
-use Rattle.lone_rounds.specs.Rounds.{is_of_run}
+use Rattle.lone_rounds.specs.Rounds.{AllLostWell, is_of_run}
 use Rattle.lone_rounds.specs.Starting.{is_any_start, is_unclosed}
 use Rattle.lone_rounds.specs.Stints.{HasServed, TasksDone, in_stint}
 use Rattle.lone_rounds.proofs.Apart.{apart_in, ended_unclosed, is_unclosed_end, link_unclosed, mute_on, no_start_in, unclosed_on}
 use Rattle.lone_rounds.proofs.Later.{late, late_from}
+use Rattle.lone_rounds.proofs.Losing.{lost_others, lost_tasks, loses_task}
 use Rattle.lone_rounds.proofs.Runs.{done_same, gained_nothing, worker_runs}
 use Rattle.lone_rounds.proofs.Served.{all_unclosed}
-use Rattle.lone_rounds.proofs.Stinting.{Closing, Part, closing, closing_part, closing_rests, of_closing, part_both, worker_part}
+use Rattle.lone_rounds.proofs.Stinting.{Closing, Part, closing, closing_loses, closing_part, closing_rests, of_closing, part_both, worker_loses, worker_part}
 use Rattle.lone_rounds.proofs.Tests.{any_none, claimed_on}
 use Rattle.crew_work.specs.Crews.{claims_by}
 use Rattle.crew_rounds.specs.PoolChildren.{MayServe, PoolCan}
@@ -48,9 +49,11 @@ use Rattle.pool_starts.specs.Pools.{is_claim}
 use Rattle.pool_starts.specs.Slots.{in_pool, is_lost}
 use Rattle.job_rounds.specs.Desks.{DesksDid, HaveDesks, claims_for}
 use Rattle.job_rounds.specs.PoolSteps.{RoundsPool}
+use Rattle.job_rounds.specs.Posts.{AllPosted}
 use Rattle.job_rounds.specs.Servings.{ServesAlone}
 use Rattle.job_rounds.proofs.Desks.{desks_main, desks_nothing, have_main}
 use Rattle.job_rounds.proofs.PoolPosts.{pool_asks, pool_claims, pool_desks, pool_stands, pool_within, start_is_mains}
+use Rattle.job_rounds.proofs.Posting.{none_main, posted_main, posted_pool}
 use Rattle.job_rounds.proofs.PoolTags.{prepared_on, starts_offer, tag_stays}
 use Rattle.job_rounds.proofs.RoundDid.{any_round_did, in_range, lost_unclosed}
 use Rattle.job_rounds.proofs.Shutting.{AreShut, rest_shut, shut_next, shut_open}
@@ -130,6 +133,8 @@ pub record Middle (o : Opening) (setup : Setup) (limit first : ℕ) (links : Lis
   pub none : any is_any_start rest ≡ false
   pub within : list_all (λ e. in_pool first e.what) rest ≡ true
   pub asks : list_all (λ e. is_of_run e.what) rest ≡ true
+  pub lost : AllLostWell g rest
+  pub posts : AllPosted g rest
   pub quiet : whole ≡ false → any is_claim rest ≡ false
   pub legal : Legal o mid
   pub calm : IsAtRest mid
@@ -146,6 +151,8 @@ middle_none o setup limit first links g desks legal calm = record {
   none = refl;
   within = refl;
   asks = refl;
+  lost = tt;
+  posts = tt;
   quiet = λ w. refl;
   legal = legal;
   calm = calm;
@@ -264,6 +271,8 @@ module _ (o : Opening) (setup : Setup) (limit first : ℕ) (g mid : List Entry) 
     none = no_starts;
     within = pool_within links first low rest rounded.posts;
     asks = pool_asks links rest later rounded.posts (all-split (λ (e : Entry). not (asks_none e.what) || e.by == 0) g rest (mains_ask o (g ++ rest) rounded.legal)).1;
+    lost = lost_others g rest (none_main (1 + length links) rest rounded.numbered);
+    posts = posted_pool links (Behind g) behind_on (λ past b. both_tags past b links ready untagged) g rest here no_starts rounded.posts;
     quiet = λ w. absurd cc;
     legal = rounded.legal;
     calm = rounded.at_rest;
@@ -421,6 +430,8 @@ module _ (o : Opening) (setup : Setup) (limit first : ℕ) (g mid : List Entry) 
     none = any_none (in_stint c) is_any_start (no_start_in c) then part.within;
     within = all-each (λ (e : Entry). in_stint c e.what) (λ (e : Entry). in_pool first e.what) (λ e h. stint_pool first c e.what least h) then part.within;
     asks = part.asks;
+    lost = lost_tasks g then (all-join (λ (e : Entry). loses_task e.what) worked k.tail (worker_loses c worked s.worked.only) (closing_loses c k.tail k.one));
+    posts = posted_main g then part.main;
     quiet = λ w. absurd cc;
     legal = legal';
     calm = calm;

@@ -1,10 +1,11 @@
 -- A child of slot 0 that takes no tags: a pool is started behind it and does tasks, and all are closed.
-use Rattle.std.proofs.Common.{◌≡◌, ◌⊎◌, ℕ, ◌+◌, ◌<◌, ◌≤◌, List, [], ◌∷◌, ◌++◌, refl, sym, ap, subst, ◌∙◌, append_assoc, length, Bool, true, false, not, ◌==◌, cond, Some, None, Option, arith, inl, inr}
+use Rattle.std.proofs.Common.{◌≡◌, ◌⊎◌, ℕ, ◌+◌, ◌<◌, ◌≤◌, List, [], ◌∷◌, ◌++◌, refl, sym, ap, subst, ◌∙◌, append_assoc, append-nil, length, Bool, true, false, not, ◌==◌, cond, Some, None, Option, arith, inl, inr}
 use Rattle.std.specs.Prelude.{◌&&◌, ◌||◌, filter, nat_le, option_and_then, option_map}
 use Rattle.std.specs.List.{cons_option, last_or, list_all, list_any}
 use Rattle.std.specs.Option.{option_or}
+use Rattle.std.proofs.lemmas.List.Folds.{list_all-append}
 use Rattle.ann_outside.specs.Starts.{Starts}
-use Rattle.ann_outside.specs.Causes.{AddsOne, Rose, Stays}
+use Rattle.ann_outside.specs.Causes.{AddsOne, Stays}
 use Rattle.annex_model.specs.Messages.{remote_reading}
 use Rattle.annex_model.specs.Tags.{names_async}
 use Rattle.journal_model.specs.declared.verdict.Verdict.{Verdict}
@@ -16,35 +17,39 @@ use Rattle.journal_model.specs.declared.opening.Opening.{Opening}
 use Rattle.journal_model.specs.Halves.{EarValue, MouthValue}
 use Rattle.journal_model.specs.Journal.{accepts_async, any, each_of, got_line, is_ended, is_settled, is_tagged, offers, open_jobs, verdict_of}
 use Rattle.journal_model.specs.Legality.{Legal, count, is_done, is_start, prepares}
-use Rattle.journal_model.proofs.Looks.{any-append, both, each_of-append, unsettled, verdict_of-append}
+use Rattle.journal_model.proofs.Looks.{any-append, both, each_of-append, either_left, unsettled, verdict_of-append}
 use Rattle.journal_model.proofs.Projecting.{invariant}
 use Rattle.journal_model.proofs.Replying.{slice_get-left}
 use Rattle.journal_model.proofs.Testing.{all-join, neither, or_false, or_left}
 use Rattle.host_core.specs.Steps.{are_all_claimed}
 use Rattle.link_roles.proofs.Linked.{any_narrower}
 use Rattle.child_start.specs.Greetings.{AreNumbered, Greeted, IsReady, is_of_greeting}
-use Rattle.child_end.specs.Programs.{AddsAll, HaveStarted, ProgramsValue, is_failed_start, told, told_in}
+use Rattle.child_end.specs.Programs.{AddsAll, HaveStarted, ProgramsValue, RoseBy, is_failed_start, told, told_in}
 use Rattle.child_end.specs.Wires.{IsOfStart, WireValue, came, came_in}
 use Rattle.task_run.specs.declared.setup.Setup.{Setup}
 use Rattle.task_run.specs.TaskRuns.{failed_start, gone_answer, or_refusal, refusal_of, unready_answer}
 use Rattle.lone_work.specs.Works.{DeskTells}
 use Rattle.lone_rounds.specs.Starting.{children, is_any_start, is_ready_untagged, started_in}
-use Rattle.lone_rounds.specs.Rounds.{is_of_run, start_untaken, turn_of}
+use Rattle.lone_rounds.specs.Rounds.{AllLostWell, AllStandNext, NoneUntaken, StandsNext, is_of_run, start_untaken, turn_of}
 use Rattle.lone_rounds.specs.Stints.{AreLinked, MayHaveAsked, in_stint, main_entry}
 use Rattle.lone_rounds.proofs.Apart.{no_start_in}
 use Rattle.lone_rounds.proofs.Leaving.{adds_both, adds_one, none_told}
-use Rattle.lone_rounds.proofs.Stinting.{greeting_part, greeting_takes_none}
+use Rattle.lone_rounds.proofs.Losing.{greeted_next, lost_both, lost_greeting}
+use Rattle.lone_rounds.proofs.Nexts.{next_both, next_quiet}
+use Rattle.lone_rounds.proofs.Stinting.{greeting_part, greeting_takes_none, quiet_greeting}
 use Rattle.lone_rounds.proofs.Tests.{any_none, count-append, count_none, each_none, no_children, none_came}
-use Rattle.pool_starts.specs.Slots.{AllInTurn, begins_by_start, has_pool, in_pool, is_lost, is_unclaimed_since, last_slot, offers_tags, slot_of, spends}
+use Rattle.pool_starts.specs.Slots.{AllInTurn, begins_by_start, has_pool, in_pool, is_first_start, is_lost, is_unclaimed_since, last_slot, offers_tags, slot_of, spends}
 use Rattle.job_rounds.specs.Desks.{DesksDid, HaveDesks}
 use Rattle.job_rounds.specs.Pools.{LeavesPool, ServesPool}
+use Rattle.job_rounds.specs.Posts.{AllPosted}
 use Rattle.job_rounds.specs.Starts.{JobStretch, OneJobStart, StartsAll}
 use Rattle.job_rounds.proofs.Desks.{desks_join, desks_nothing, have_both, have_none}
 use Rattle.job_rounds.proofs.Objects.{failed_start_is, linked_shifted, of_start, rose_later}
+use Rattle.job_rounds.proofs.Posting.{posted_both, posted_main}
 use Rattle.job_rounds.proofs.Shutting.{rest_shut}
-use Rattle.job_rounds.proofs.Slots.{new_slot, new_unclaimed, pool_of, stint_pool, turn_both, turn_quiet}
+use Rattle.job_rounds.proofs.Slots.{first_none, new_slot, new_unclaimed, pool_of, stint_pool, turn_both}
 use Rattle.job_rounds.proofs.Spent.{lost_spends, prepared_on}
-use Rattle.job_rounds.proofs.Stretching.{all_in, job_start, no_tags, quiet_greeting}
+use Rattle.job_rounds.proofs.Stretching.{all_in, greeting_turn, job_start, no_tags}
 
 -- ---- what the last start came to
 
@@ -135,6 +140,26 @@ module _ (o : Opening) (g more : List Entry) (c : ℕ) (legal : Legal o g) (read
   nothing_owed = ap (λ (b : Bool). cond b None (or_refusal (gone_answer (g ++ more) c) (refusal_of (g ++ more) c)))
       (both (is_done (verdict_of (g ++ more) c 1)) (any (prepares c) (g ++ more)) (prepared_on g more c ready.prepared)).0
 
+-- ---- in which turn
+
+-- Entries of a pool stand in their turn where no start is left for a task to take up at each place.
+next_pool : (o : Opening) (past : List Entry) (n : ℕ) (xs : List Entry) → list_all (λ (e : Entry). in_pool n e.what) xs ≡ true → ((front rest : List Entry) → xs ≡ front ++ rest → NoneUntaken (past ++ front)) → AllStandNext o past xs
+next_pool o past n [] within f = tt
+next_pool o past n (e ∷ xs) within f =
+    let t = both (in_pool n e.what) (list_all (λ (x : Entry). in_pool n x.what) xs) within in (
+      one e.what t.0 (subst NoneUntaken (append-nil past) (f [] (e ∷ xs) refl)),
+      next_pool o (past ++ e ∷ []) n xs t.1 (λ front rest is. subst NoneUntaken (sym (append_assoc past (e ∷ []) front)) (f (e ∷ front) rest (ap (λ (l : List Entry). e ∷ l) is))),
+    )
+  where
+    elsewhere : {A : Type 0} (slot : ℕ) → not (slot == 0) ≡ true → slot ≡ 0 → A
+    elsewhere slot other is = (let bad : not (slot == 0) ≡ false = ap (λ (m : ℕ). not (m == 0)) is in let worse : true ≡ false = sym other ∙ bad in absurd cc)
+
+    one : (w : What) → in_pool n w ≡ true → NoneUntaken past → StandsNext o past w
+    one (Start child slot offer) k m = λ zeroth. elsewhere slot (both (nat_le n child) (not (slot == 0)) k).1 zeroth
+    one (NoStart slot) k m = λ zeroth. elsewhere slot k zeroth
+    one (Claim task child) k m = λ some. m
+    one w k m = tt
+
 -- ---- the greeting
 
 greeting_stint : (c : ℕ) (old g : List Entry) (offer : Bool) → (greeted : Greeted old g 0 offer c) → list_all (λ (e : Entry). in_stint c e.what) greeted.more ≡ true
@@ -182,7 +207,7 @@ module _ (o : Opening) (old g : List Entry) (offer : Bool) (c : ℕ) (greeted : 
 -- ---- the stretch
 
 module _ (o : Opening) (setup : Setup) (limit : ℕ) (offer : Bool) (old g new : List Entry) (c : ℕ) (desks desks' : List DeskTells) (whole : Bool)
-    (greeted : Greeted old g 0 offer c) (legal' : Legal o g) (ready : IsReady g c) (tag : is_tagged g c ≡ false) (many : length desks ≡ 1 → ⊥) (s : ServesPool o setup limit c g new desks desks' whole) where
+    (greeted : Greeted old g 0 offer c) (legal' : Legal o g) (ready : IsReady g c) (tag : is_tagged g c ≡ false) (many : length desks ≡ 1 → ⊥) (left : are_all_claimed o old ≡ false) (s : ServesPool o setup limit c g new desks desks' whole) where
   abbrev first : Entry
   first = main_entry (Start c 0 offer)
 
@@ -211,11 +236,27 @@ module _ (o : Opening) (setup : Setup) (limit : ℕ) (offer : Bool) (old g new :
   ready_new : is_ready_untagged new c ≡ true
   ready_new = ap (λ (j : List Entry). is_ready_untagged j c) s.is ∙ ready_still o g s.later c legal' ready greeted.idle s.untagged ∙ ap not tag
 
-  owed_none : unready_answer new c ≡ None
-  owed_none = ap (λ (j : List Entry). unready_answer j c) s.is ∙ nothing_owed o g s.later c legal' ready greeted.idle s.untagged
+  -- at each place of it no start is left for a task to take up
+  pool_taken : (front rest : List Entry) → s.later ≡ front ++ rest → NoneUntaken (g ++ front)
+  pool_taken front rest split =
+      let grown : g ++ front ≡ old ++ first ∷ (greeted.more ++ front) = ap (λ (x : List Entry). x ++ front) greeted.grown ∙ append_assoc old (first ∷ greeted.more) front in
+      subst NoneUntaken (sym grown)
+      (pool_untaken old (greeted.more ++ front) c c offer (all-join (λ (e : Entry). in_pool c e.what) greeted.more front (in_its_pool o old g offer c greeted) front_within)
+      (subst (λ (j : List Entry). unready_answer j c ≡ None) grown (nothing_owed o g front c legal' ready greeted.idle front_untagged)))
+    where
+      front_within : list_all (λ (e : Entry). in_pool c e.what) front ≡ true
+      front_within = (both (list_all (λ (e : Entry). in_pool c e.what) front) (list_all (λ (e : Entry). in_pool c e.what) rest)
+          (sym (list_all-append (λ (e : Entry). in_pool c e.what) front rest) ∙ ap (list_all (λ (e : Entry). in_pool c e.what)) (sym split) ∙ s.within)).0
 
-  spent : (list_any (is_lost new) (c ∷ children s.later) ≡ true) ⊎ (are_all_claimed o new ≡ true) → (spends new (Start c 0 offer) pool_later ≡ true) ⊎ (are_all_claimed o new ≡ true)
-  spent (inl h) = inl (lost_spends new c c offer pool_later within (ap (λ (ds : List ℕ). list_any (is_lost new) (c ∷ ds)) its_children ∙ h))
+      front_untagged : any offers_tags front ≡ false
+      front_untagged = either_left (any offers_tags front) (any offers_tags rest) (sym (any-append offers_tags front rest) ∙ ap (any offers_tags) (sym split) ∙ s.untagged)
+
+  order : AllStandNext o at_start pool_later
+  order = next_both o at_start greeted.more s.later (next_quiet o at_start greeted.more (quiet_greeting old g offer c greeted))
+      (subst (λ (p : List Entry). AllStandNext o p s.later) at_greeted (next_pool o g c s.later s.within pool_taken))
+
+  spent : (list_any (is_lost new) (c ∷ children s.later) ≡ true) ⊎ (are_all_claimed o new ≡ true) → (spends at_start (Start c 0 offer) pool_later ≡ true) ⊎ (are_all_claimed o new ≡ true)
+  spent (inl h) = inl (lost_spends old new pool_later c offer pool_whole (any_none (in_pool c) is_first_start (first_none c) pool_later within) (ap (λ (ds : List ℕ). list_any (is_lost new) (c ∷ ds)) its_children ∙ h))
   spent (inr h) = inr h
 
   no_more : offer && false ≡ (offer && not (list_any (is_ready_untagged new) (c ∷ children pool_later)))
@@ -223,19 +264,23 @@ module _ (o : Opening) (setup : Setup) (limit : ℕ) (offer : Bool) (old g new :
 
   pub pool_stretch : JobStretch o setup limit offer (offer && false) (Start c 0 offer) old new desks desks' whole
   pool_stretch = record {
+    left = left;
     later = pool_later;
     is = pool_whole;
     start = inl (ap (λ (n : ℕ). Start n 0 offer) greeted.next);
     within = subst (λ (n : ℕ). list_all (λ (e : Entry). in_pool n e.what) pool_later ≡ true) greeted.next within;
     untagged = untagged_all;
     asks = all-join (λ (e : Entry). is_of_run e.what) greeted.more s.later (greeting_part c greeted.more greeted.own greeted.main).asks s.asks;
-    turn = turn_both o (length desks) at_start greeted.more s.later (turn_quiet o (length desks) at_start greeted.more (quiet_greeting old g offer c greeted))
+    lost = lost_both at_start greeted.more s.later (lost_greeting at_start c greeted.more (greeted_next old c 0 offer) greeted.own) (subst (λ (p : List Entry). AllLostWell p s.later) at_greeted s.lost);
+    posts = posted_both at_start greeted.more s.later (posted_main at_start greeted.more greeted.main) (subst (λ (p : List Entry). AllPosted p s.later) at_greeted s.posts);
+    turn = turn_both o (length desks) at_start greeted.more s.later (greeting_turn o (length desks) at_start old g offer c greeted)
         (subst (λ (p : List Entry). AllInTurn o (length desks) p s.later) at_greeted s.turn);
+    order = order;
     rest = s.calm.idle;
     ended = ap (λ (ds : List ℕ). list_all (is_ended new) (c ∷ ds)) its_children ∙ s.ended;
     spent = λ w. spent (s.spent w);
-    untaken = subst (λ (j : List Entry). failed_start j (start_untaken j) ≡ None) (sym pool_whole)
-        (pool_untaken old pool_later c c offer within (subst (λ (j : List Entry). unready_answer j c ≡ None) pool_whole owed_none));
+    manned = s.manned;
+    untaken = subst NoneUntaken (sym s.is) (pool_taken s.later [] (sym (append-nil s.later)));
     offers = no_more;
     placed = have_both (length desks) at_start greeted.more s.later (have_none (length desks) at_start greeted.more (greeting_takes_none old g offer c greeted))
         (subst (λ (p : List Entry). HaveDesks (length desks) p s.later) at_greeted s.placed);
@@ -254,7 +299,7 @@ module _ (o : Opening) (setup : Setup) (limit : ℕ) (offer : Bool) (old g new :
 -- The child of slot 0 was started, and then, where programs were asked for what `others` says, its pool.
 module _ (program : List ℕ) (new tail others : List Entry) (c : ℕ) (before mid : ProgramsValue) (ear : EarValue) (mouth : MouthValue) (adds : AddsOne before.starts mid.starts (program, true)) (le : before.faults ≤ mid.faults)
     (numbered : AreNumbered mid.starts ear mouth) (is_child : ear.child ≡ c) (came_is : came tail ≡ Some c ∷ came others) (told_is : told program tail ≡ (program, true) ∷ told program others)
-    (failed_is : any is_failed_start tail ≡ true → any is_failed_start others ≡ true) where
+    (failed_is : count is_failed_start tail ≡ count is_failed_start others) where
   pub first_objects : (W : Type 0) (last after : ProgramsValue) (wires wires' : List WireValue) → (l : LeavesPool W program new others ear mouth mid last wires wires') → AddsAll mid.starts after.starts (told program others) → after.faults ≡ last.faults
       → StartsAll program new tail before after wires wires'
   first_objects W last after wires wires' l all same = record {
@@ -271,13 +316,9 @@ module _ (program : List ℕ) (new tail others : List Entry) (c : ℕ) (before m
       },
       linked_shifted before.starts mid.starts ((program, true) ∷ []) new 1 (adds_one before.starts mid.starts (program, true) adds) refl 0 (came others) l.more l.linked,
     );
-    fault = λ failed. subst (Rose before.faults) (sym same) (rose_later before.faults mid.faults last.faults le (l.fault (failed_is failed)));
+    faults = subst (RoseBy (count is_failed_start tail) before.faults) (sym same) (subst (λ (n : ℕ). RoseBy n before.faults last.faults) (sym failed_is) (rose_later (count is_failed_start others) before.faults mid.faults last.faults le l.faults));
     later_faults = (let a = l.later_faults in omega (arith, le, a, same));
   }
-
-failed_behind : (a : Bool) {b : Bool} → a ≡ false → (a || b) ≡ true → b ≡ true
-failed_behind false x y = y
-failed_behind true x y = absurd cc
 
 -- behind the start there stand entries that start nothing, and then others
 module _ (program : List ℕ) (new more others : List Entry) (c : ℕ) (offer : Bool) (before mid : ProgramsValue) (ear : EarValue) (mouth : MouthValue) (adds : AddsOne before.starts mid.starts (program, true)) (le : before.faults ≤ mid.faults)
@@ -287,7 +328,7 @@ module _ (program : List ℕ) (new more others : List Entry) (c : ℕ) (offer : 
   its_objects = first_objects program new (main_entry (Start c 0 offer) ∷ (more ++ others)) others c before mid ear mouth adds le numbered is_child
       (ap (λ (cs : List (Option ℕ)). Some c ∷ cs) (each_of-append came_in more others ∙ ap (λ (cs : List (Option ℕ)). cs ++ came others) (none_came more none)))
       (ap (λ (ts : Starts). (program, true) ∷ ts) (each_of-append (told_in program) more others ∙ ap (λ (ts : Starts). ts ++ told program others) (none_told program more none)))
-      (λ failed. failed_behind (any is_failed_start more) (any_narrower is_failed_start is_any_start failed_start_is more none) (sym (any-append is_failed_start more others) ∙ failed))
+      (let none_failed = count_none is_failed_start more (any_narrower is_failed_start is_any_start failed_start_is more none) in count-append is_failed_start more others ∙ (omega (arith, none_failed)))
 
 -- ---- where no memory was found to start one more
 

@@ -21,21 +21,24 @@ use Rattle.gathering.specs.Laws.{Distinct, children_of}
 use Rattle.gathering.specs.Rounds.{LinkValue}
 use Rattle.task_run.specs.declared.setup.Setup.{Setup}
 use Rattle.lone_work.specs.Works.{DeskTells, claimed_task, claims_in}
-use Rattle.lone_rounds.specs.Rounds.{is_of_run}
+use Rattle.lone_rounds.specs.Rounds.{AllLostWell, is_of_run}
 use Rattle.lone_rounds.specs.Starting.{children, is_any_start, started_in}
 use Rattle.lone_rounds.proofs.Apart.{ended_on}
+use Rattle.lone_rounds.proofs.Losing.{lost_both, lost_tasks}
 use Rattle.lone_rounds.proofs.Tests.{claimed_on, each_without, no_children}
 use Rattle.crew_rounds.specs.PoolChildren.{MayServe, PoolCan}
 use Rattle.pool_starts.specs.Pools.{AreSeated, Gathered, SeatValue, is_among, is_claim}
-use Rattle.pool_starts.specs.Slots.{AllInTurn, in_pool, is_lost, offers_tags}
-use Rattle.pool_starts.proofs.SlotLaws.{turn_both, turn_filled, turn_quiet}
+use Rattle.pool_starts.specs.Slots.{AllInTurn, IsManned, in_pool, is_lost, offers_tags}
+use Rattle.pool_starts.proofs.SlotLaws.{IsFilled, filled_on, turn_both, turn_filled, turn_quiet}
 use Rattle.job_rounds.specs.Desks.{DesksDid, HaveDesks}
 use Rattle.job_rounds.specs.Pools.{LeavesPool, PoolServed}
 use Rattle.job_rounds.specs.PoolSteps.{ClosesAll}
+use Rattle.job_rounds.specs.Posts.{AllPosted}
 use Rattle.job_rounds.specs.Servings.{CanBeServed}
 use Rattle.job_rounds.proofs.Desks.{desks_join, desks_nothing, desks_on, have_both, have_none}
-use Rattle.job_rounds.proofs.PoolClosings.{Closings, closings, closings_calm, closings_ask, closings_claim, closings_start, closings_take, closings_within}
+use Rattle.job_rounds.proofs.PoolClosings.{Closings, closings, closings_calm, closings_ask, closings_claim, closings_lose, closings_start, closings_take, closings_within}
 use Rattle.job_rounds.proofs.PoolMiddle.{Middle, lost_on}
+use Rattle.job_rounds.proofs.Posting.{posted_both, posted_main}
 use Rattle.job_rounds.proofs.PoolTags.{later_ascend, later_untagged, seated_above, seated_any, tag_stays, tags_offer}
 
 -- ---- what is gathered
@@ -141,6 +144,12 @@ module _ (o : Opening) (setup : Setup) (limit : ℕ) (old g mid new : List Entry
     asks : list_all (λ (e : Entry). is_of_run e.what) later ≡ true
     asks = all-join (λ (e : Entry). is_of_run e.what) at.later then at.asks (all-join (λ (e : Entry). is_of_run e.what) m.rest k.tail m.asks (closings_ask k))
 
+    lost : AllLostWell old later
+    lost = lost_both old at.later then at.lost (subst (λ (p : List Entry). AllLostWell p then) at.is (lost_both g m.rest k.tail m.lost (lost_tasks (g ++ m.rest) k.tail (closings_lose k))))
+
+    posts : AllPosted old later
+    posts = posted_both old at.later then (posted_main old at.later at.main) (subst (λ (p : List Entry). AllPosted p then) at.is (posted_both g m.rest k.tail m.posts (posted_main (g ++ m.rest) k.tail k.main)))
+
     turn_then : (b : Bool) → whole ≡ b → AllInTurn o (length desks) g then
     turn_then true w = turn_filled o (length desks) g then no_starts (at.manned w)
     turn_then false w = turn_quiet o (length desks) g then no_starts (any-append is_claim m.rest k.tail ∙ neither (any is_claim m.rest) (any is_claim k.tail) (m.quiet w) (closings_claim k))
@@ -189,6 +198,9 @@ module _ (o : Opening) (setup : Setup) (limit : ℕ) (old g mid new : List Entry
             (λ other. or_right (is_lost new c) (list_any (is_lost new) (children later)) (theirs (sym (ap (λ (b : Bool). b || list_any (λ (l : LinkValue). is_lost mid l.ear.child) links) other) ∙ h))))
         go (inr all) = inr (ap (are_all_claimed o) k.is ∙ claimed_on o mid k.tail all)
 
+    manned : whole ≡ true → IsManned o (length desks) new
+    manned w = λ pool. subst (IsFilled o (length desks)) (sym behind) (filled_on o (length desks) g then no_starts (at.manned w))
+
     takes_none : claims_in at.later ≡ []
     takes_none = each_without claimed_task is_claim claim_takes at.later at.unclaimed_yet
 
@@ -215,11 +227,14 @@ module _ (o : Opening) (setup : Setup) (limit : ℕ) (old g mid new : List Entry
         within = within;
         untagged = untagged;
         asks = asks;
+        lost = lost;
+        posts = posts;
         turn = turn;
         legal = legal';
         calm = closings_calm k m.calm;
         ended = ended;
         spent = spent;
+        manned = manned;
         placed = placed;
         did = did;
       },

@@ -3,28 +3,29 @@ use Rattle.std.proofs.Common.{◌≡◌, ◌⊎◌, ℕ, ◌+◌, ◌<◌, ◌�
 use Rattle.std.specs.Prelude.{◌||◌, All}
 use Rattle.std.specs.List.{list_any}
 use Rattle.std.proofs.lemmas.List.Elements.{All-head, All-tail}
-use Rattle.ann_outside.specs.Causes.{Rose, Stays}
+use Rattle.ann_outside.specs.Causes.{Stays}
 use Rattle.ann_outside.specs.Starts.{Starts}
 use Rattle.journal_model.specs.declared.entry.What.{What}
-use Rattle.journal_model.specs.declared.entry.What.TheVariants.{NoStart}
 use Rattle.journal_model.specs.declared.entry.Entry.{Entry}
 use Rattle.journal_model.specs.Halves.{EarValue, MouthValue}
 use Rattle.journal_model.specs.Journal.{any}
+use Rattle.journal_model.specs.Legality.{count}
 use Rattle.journal_model.specs.Shares.{is_of_child}
-use Rattle.journal_model.proofs.Looks.{any-append, differ, each_of-append}
+use Rattle.journal_model.proofs.Looks.{differ, each_of-append}
 use Rattle.link_roles.proofs.Linked.{any_narrower}
-use Rattle.child_end.specs.Programs.{AddsAll, HaveStarted, ProgramsValue, is_failed_start, told, told_in}
+use Rattle.child_end.specs.Programs.{AddsAll, HaveStarted, ProgramsValue, RoseBy, is_failed_start, told, told_in}
 use Rattle.child_end.specs.Wires.{IsHeld, IsLeft, IsOfStart, WireValue, came, came_in}
 use Rattle.child_end.proofs.Held.{held_apart}
 use Rattle.gathering.specs.Rounds.{LinkValue}
 use Rattle.lone_rounds.specs.Starting.{is_any_start}
 use Rattle.lone_rounds.specs.Stints.{AreLinked, IsLinked, ear_of, mouth_of}
-use Rattle.lone_rounds.proofs.Leaving.{none_told, rose_on}
-use Rattle.lone_rounds.proofs.Tests.{none_came, or_false}
+use Rattle.lone_rounds.proofs.Leaving.{none_told, rose_still}
+use Rattle.lone_rounds.proofs.Tests.{count-append, count_none, none_came}
 use Rattle.pool_rounds.specs.Pool.{AreSameLinks}
 use Rattle.pool_starts.specs.Pools.{AreSeated, OverBy, SeatValue, Serves}
 use Rattle.job_rounds.specs.Pools.{LeavesPool}
 use Rattle.job_rounds.specs.PoolSteps.{AreLaid, AreSettled, ClosesAll}
+use Rattle.job_rounds.proofs.Objects.{failed_start_is}
 use Rattle.job_rounds.proofs.PoolClosings.{closes_held}
 use Rattle.job_rounds.proofs.PoolTags.{Ascends, seated_above}
 
@@ -116,10 +117,6 @@ have_started {wanted} {wanted'} program gl more a b c f none h k = subst (λ (xs
     go (inl x) = inl (adds_stay a b c (told program gl) x k)
     go (inr (w, (t, x))) = inr (f w, (t, adds_stay a b c (told program gl ++ (program, t) ∷ []) x k))
 
-failed_start : (w : What) → is_failed_start w ≡ true → is_any_start w ≡ true
-failed_start (NoStart slot) h = refl
-failed_start w h = absurd cc
-
 -- ---- all of it
 
 -- what the wires were laid for: the first link's seat and the others'
@@ -131,7 +128,7 @@ pub record Settled (new : List Entry) (first : LinkValue) (links links' : List L
 
 pub leaves_pool : {wanted wanted' : Type 0} (program : List ℕ) (g new gl more : List Entry) (first : LinkValue) (links links' : List LinkValue) (others : List SeatValue) (m : ℕ) (before mid after : ProgramsValue) (wires wires' : List WireValue)
     → (wanted → wanted') → any is_any_start more ≡ false → first.ear.child ≤ m → Ascends m (came gl) → AreSeated before.starts g 0 (came gl) others links → HaveStarted wanted program gl before.starts mid.starts
-    → (any is_failed_start gl ≡ true → Rose before.faults mid.faults) → before.faults ≤ mid.faults → Stays mid.starts after.starts → mid.faults ≤ after.faults → Settled new first links links' others wires wires'
+    → RoseBy (count is_failed_start gl) before.faults mid.faults → before.faults ≤ mid.faults → Stays mid.starts after.starts → mid.faults ≤ after.faults → Settled new first links links' others wires wires'
     → ((c k : ℕ) (wire : WireValue) → wire.child ≡ c → list_any (λ (l : LinkValue). l.ear.child == c) (first ∷ links) ≡ false → IsLinked before.starts g k wire → IsLinked before.starts new k wire)
     → LeavesPool wanted' program new (gl ++ more) first.ear first.mouth before after wires wires'
 leaves_pool {wanted} {wanted'} program g new gl more first links links' others m before mid after wires wires' f none low ascends seated started fault later stays later' s keeps = go links' s.laid.0 s.laid.1 s.laid.2 s.same s.held s.one
@@ -139,8 +136,8 @@ leaves_pool {wanted} {wanted'} program g new gl more first links links' others m
     came_same : came (gl ++ more) ≡ came gl
     came_same = each_of-append came_in gl more ∙ ap (λ (cs : List (Option ℕ)). came gl ++ cs) (none_came more none) ∙ append-nil (came gl)
 
-    failed_same : any is_failed_start (gl ++ more) ≡ any is_failed_start gl
-    failed_same = any-append is_failed_start gl more ∙ ap (λ (b : Bool). any is_failed_start gl || b) (any_narrower is_failed_start is_any_start failed_start more none) ∙ or_false (any is_failed_start gl)
+    failed_same : count is_failed_start (gl ++ more) ≡ count is_failed_start gl
+    failed_same = let none_failed = count_none is_failed_start more (any_narrower is_failed_start is_any_start failed_start_is more none) in count-append is_failed_start gl more ∙ (omega (arith, none_failed))
 
     keeps_far : (c k : ℕ) (wire : WireValue) → wire.child ≡ c → m < c → list_any (λ (l : LinkValue). l.ear.child == c) links ≡ false → IsLinked before.starts g k wire → IsLinked before.starts new k wire
     keeps_far c k wire is far apart l =
@@ -164,6 +161,6 @@ leaves_pool {wanted} {wanted'} program g new gl more first links links' others m
       linked = subst (λ (cs : List (Option ℕ)). AreLinked before.starts new 0 cs ws) (sym came_same)
           (wires_linked before.starts g new 0 m (came gl) others links ls ws seated settled.1 same.1 (All-tail (λ (y : LinkValue). IsHeld new y.ear y.mouth) l ls held) (All-tail (λ (y : LinkValue). y.mouth.child ≡ y.ear.child) l ls one) ascends keeps_far);
       started = have_started program gl more before.starts mid.starts after.starts f none started stays;
-      fault = λ failed. rose_on before.faults mid.faults after.faults (fault (sym failed_same ∙ failed)) later';
+      faults = subst (λ (n : ℕ). RoseBy n before.faults after.faults) (sym failed_same) (rose_still (count is_failed_start gl) before.faults mid.faults after.faults fault later');
       later_faults = omega (arith, later, later');
     }

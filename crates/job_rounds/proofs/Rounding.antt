@@ -1,41 +1,45 @@
 -- A child that takes tags: a round of workers does tasks over it, and it is closed.
 use Rattle.std.proofs.Common.{◌≡◌, ◌⊎◌, ℕ, ◌+◌, ◌≤◌, List, [], ◌∷◌, ◌++◌, refl, sym, ap, subst, ◌∙◌, append_assoc, length, Bool, true, false, not, arith, inl, inr}
-use Rattle.std.specs.Prelude.{◌&&◌, ◌||◌, None}
+use Rattle.std.specs.Prelude.{◌&&◌, ◌||◌, ◌==◌, None}
 use Rattle.std.specs.List.{list_all, range_with_len}
+use Rattle.std.proofs.lemmas.List.Folds.{list_all-append}
 use Rattle.journal_model.specs.declared.entry.What.TheVariants.{Start}
 use Rattle.journal_model.specs.declared.entry.Entry.{Entry}
 use Rattle.journal_model.specs.declared.opening.Opening.{Opening}
 use Rattle.journal_model.specs.Journal.{any, asked_jobs, is_tagged, open_jobs}
 use Rattle.journal_model.specs.Legality.{Legal, is_busy}
+use Rattle.journal_model.proofs.Looks.{both}
 use Rattle.journal_model.proofs.Testing.{all-join}
 use Rattle.host_core.specs.Steps.{are_all_claimed}
+use Rattle.gathering.specs.Posts.{makes, tagged_crew}
 use Rattle.gathering.specs.Rounds.{IsAtRest}
 use Rattle.crew_rounds.specs.TaggedRounds.{TaggedLeaves}
 use Rattle.child_start.specs.Greetings.{Greeted, IsReady}
 use Rattle.child_end.specs.Programs.{ProgramsValue}
 use Rattle.child_end.specs.Wires.{WireValue}
 use Rattle.task_run.specs.declared.setup.Setup.{Setup}
-use Rattle.task_run.specs.TaskRuns.{failed_start, unready_answer}
 use Rattle.lone_work.specs.Works.{DeskTells, claims_in}
 use Rattle.lone_rounds.specs.Starting.{is_any_start, is_ready_untagged, is_spent}
-use Rattle.lone_rounds.specs.Rounds.{is_of_run, start_untaken}
+use Rattle.lone_rounds.specs.Rounds.{AllLostWell, NoneUntaken, is_of_run}
 use Rattle.lone_rounds.specs.Stints.{HasServed, Stint, Stretch, in_stint, main_entry, next_child}
 use Rattle.lone_rounds.proofs.Apart.{spent_on}
 use Rattle.lone_rounds.proofs.Growing.{starts_none}
-use Rattle.lone_rounds.proofs.Served.{answers_nothing, ready_now, served_stint, untagged}
-use Rattle.lone_rounds.proofs.Stinting.{Closing, closing, closing_part, closing_rests, greeting_part, greeting_takes_none, of_closing}
+use Rattle.lone_rounds.proofs.Losing.{greeted_next, lost_both, lost_greeting, lost_others, lost_tasks}
+use Rattle.lone_rounds.proofs.Served.{ready_now, ready_taken, served_next, served_stint, tag_same, untagged}
+use Rattle.lone_rounds.proofs.Stinting.{Closing, closing, closing_loses, closing_part, closing_rests, greeting_part, greeting_takes_none, of_closing}
 use Rattle.lone_rounds.proofs.Tests.{claimed_on}
-use Rattle.lone_rounds.proofs.Turns.{ready_untaken}
 use Rattle.job_rounds.specs.Desks.{DesksDid, HaveDesks}
+use Rattle.job_rounds.specs.Posts.{AllPosted}
 use Rattle.job_rounds.specs.Servings.{Serves, ServesRound}
 use Rattle.job_rounds.specs.Starts.{JobStretch, OneJobStart, StartsAll}
 use Rattle.job_rounds.proofs.Desks.{desks_join, desks_nothing, desks_on, have_both, have_none}
+use Rattle.job_rounds.proofs.Posting.{none_main, posted_both, posted_main, posted_tagged}
 use Rattle.job_rounds.proofs.RoundDid.{round_asks, round_desks, round_did, round_over, round_within}
 use Rattle.job_rounds.proofs.Shutting.{rest_shut}
-use Rattle.job_rounds.proofs.Stretching.{closed_idle, job_start, more_than, served_idle, served_turn, stint_job, stretch_job}
+use Rattle.job_rounds.proofs.Stretching.{behind_first, closed_idle, job_start, more_than, served_idle, served_manned, served_turn, stint_job, stretch_job}
 
 module _ (o : Opening) (setup : Setup) (limit : ℕ) (offer tagged : Bool) (old g new : List Entry) (c : ℕ) (desks desks' : List DeskTells)
-    (legal : Legal o old) (greeted : Greeted old g 0 offer c) (legal' : Legal o g) (ready : IsReady g c) (tag : tagged ≡ is_tagged g c) (s : ServesRound o setup c g new desks desks') where
+    (legal : Legal o old) (left : are_all_claimed o old ≡ false) (greeted : Greeted old g 0 offer c) (legal' : Legal o g) (ready : IsReady g c) (tag : tagged ≡ is_tagged g c) (s : ServesRound o setup c g new desks desks') where
   abbrev first : Entry
   first = main_entry (Start c 0 offer)
 
@@ -109,9 +113,6 @@ module _ (o : Opening) (setup : Setup) (limit : ℕ) (offer tagged : Bool) (old 
       go (inr spent) = inl (ap (λ (b : Bool). b && true) (
           ap (λ (j : List Entry). is_spent j c) mid_is ∙ spent_on (g ++ rest) k.tail c (ap (is_spent (g ++ rest)) (sym s.child) ∙ spent)))
 
-  unready_none : unready_answer new c ≡ None
-  unready_none = ap (λ (j : List Entry). unready_answer j c) behind ∙ answers_nothing o g (rest ++ k.tail) c legal' ready greeted.idle end_within
-
   ready_said : is_ready_untagged new c ≡ not tagged
   ready_said = ap (λ (j : List Entry). is_ready_untagged j c) behind ∙ ready_now o g (rest ++ k.tail) c legal' ready greeted.idle end_within ∙ ap not (sym tag)
 
@@ -121,18 +122,38 @@ module _ (o : Opening) (setup : Setup) (limit : ℕ) (offer tagged : Bool) (old 
   abbrev at_start : List Entry
   at_start = old ++ first ∷ []
 
+  not_mains : list_all (λ (e : Entry). not (e.by == 0)) rest ≡ true
+  not_mains = none_main (3 + length desks) rest leaves.round.rounded.numbered
+
+  lost : AllLostWell at_start later
+  lost = lost_both at_start greeted.more (rest ++ k.tail) (lost_greeting at_start c greeted.more (greeted_next old c 0 offer) greeted.own)
+      (lost_both (at_start ++ greeted.more) rest k.tail (lost_others (at_start ++ greeted.more) rest not_mains) (lost_tasks ((at_start ++ greeted.more) ++ rest) k.tail (closing_loses c k.tail k.one)))
+
+  posts : AllPosted at_start later
+  posts = posted_both at_start greeted.more (rest ++ k.tail) (posted_main at_start greeted.more greeted.main)
+      (subst (λ (p : List Entry). AllPosted p (rest ++ k.tail)) (greeted.grown ∙ sym (append_assoc old (first ∷ []) greeted.more))
+      (posted_both g rest k.tail (posted_tagged c g rest tag_at (subst (λ (d : ℕ). list_all (λ (e : Entry). makes (tagged_crew d e.by) e.what) rest ≡ true) s.child leaves.round.rounded.posts))
+      (posted_main (g ++ rest) k.tail (closing_part c k.tail k.one).main)))
+    where
+      tag_at : (front back : List Entry) → rest ≡ front ++ back → is_tagged (g ++ front) c ≡ true
+      tag_at front back split = tag_same o g front c legal' ready greeted.idle (both (list_all (λ (e : Entry). in_stint c e.what) front) (list_all (λ (e : Entry). in_stint c e.what) back)
+          (sym (list_all-append (λ (e : Entry). in_stint c e.what) front back) ∙ ap (list_all (λ (e : Entry). in_stint c e.what)) (sym split) ∙ rest_within)).0
+          ∙ s.tagged
+
   abbrev stretch : Stretch o offer (offer && tagged) (Start c 0 offer) old new
   stretch = record {
+    left = left;
     later = later;
     is = whole;
     start = inl (ap (λ (n : ℕ). Start n 0 offer) greeted.next);
+    turn = served_next o old g offer c greeted legal' ready (rest ++ k.tail) end_within;
     within = subst (λ (n : ℕ). list_all (λ (e : Entry). in_stint n e.what) later ≡ true) greeted.next within;
     asks = asks;
+    lost = lost;
     rest = λ u. ap (λ (j : List Entry). is_busy j u) k.is ∙ closing_rests c k.tail k.one s.mid (λ t. ap (λ (j : List Entry). is_busy j t) s.round.1 ∙ calm.idle t) u;
     ended = ap (λ (b : Bool). b && true) k.ended;
     spent = over;
-    untaken = subst (λ (j : List Entry). failed_start j (start_untaken j) ≡ None) (sym whole)
-        (ready_untaken old later c offer c within (subst (λ (j : List Entry). unready_answer j c ≡ None) whole unready_none));
+    untaken = subst NoneUntaken (sym behind) (ready_taken o old g offer c greeted legal' ready (rest ++ k.tail) end_within);
     offers = untagged offer tagged ∙ ap (λ (b : Bool). offer && not (b || false)) (sym ready_said);
   }
 
@@ -147,6 +168,7 @@ module _ (o : Opening) (setup : Setup) (limit : ℕ) (offer tagged : Bool) (old 
   pub round_stretch : (full : Bool) → JobStretch o setup limit offer (offer && tagged) (Start c 0 offer) old new desks desks' full
   round_stretch full = stretch_job stretch setup limit desks desks' full (served_turn o n offer old g new c legal' greeted ready (rest ++ k.tail) behind (inr s.tagged) later whole within) placed did
       (λ one. absurd (s.many one)) (λ shut. subst (λ (n : ℕ). open_jobs new n ≡ []) greeted.next idle)
+      (served_manned o n offer old g new c legal' greeted ready (rest ++ k.tail) behind (inr s.tagged) end_within) posts
 
   pub round_start : {program : List ℕ} {before after : ProgramsValue} {wires wires' : List WireValue} (full : Bool) → ((xs : List Entry) → any is_any_start xs ≡ false → StartsAll program new (first ∷ xs) before after wires wires')
       → OneJobStart o setup limit offer (offer && tagged) full program old new desks desks' before after wires wires'
@@ -165,11 +187,19 @@ module _ (o : Opening) (setup : Setup) (limit : ℕ) (offer tagged : Bool) (old 
   grown : new ≡ g ++ (served.worked.more ++ closes.tail)
   grown = closes.is ∙ ap (λ (x : List Entry). x ++ closes.tail) served.worked.is ∙ append_assoc g served.worked.more closes.tail
 
+  grown_within : list_all (λ (e : Entry). in_stint c e.what) (served.worked.more ++ closes.tail) ≡ true
+  grown_within = (both (list_all (λ (e : Entry). in_stint c e.what) greeted.more) (list_all (λ (e : Entry). in_stint c e.what) (served.worked.more ++ closes.tail))
+      (sym (list_all-append (λ (e : Entry). in_stint c e.what) greeted.more (served.worked.more ++ closes.tail))
+      ∙ ap (list_all (λ (e : Entry). in_stint c e.what)) (sym (behind_first old stint.stretch.later (greeted.more ++ (served.worked.more ++ closes.tail)) new (Start c 0 offer) stint.stretch.is
+      (grown ∙ ap (λ (x : List Entry). x ++ (served.worked.more ++ closes.tail)) greeted.grown ∙ append_assoc old (main_entry (Start c 0 offer) ∷ greeted.more) (served.worked.more ++ closes.tail))))
+      ∙ subst (λ (n : ℕ). list_all (λ (e : Entry). in_stint n e.what) stint.stretch.later ≡ true) (sym greeted.next) stint.stretch.within)).1
+
   alone_stretch : (full : Bool) → JobStretch o setup limit offer (offer && tagged) (Start c 0 offer) old new (desk ∷ others) (desk' ∷ others) full
   alone_stretch full = stint_job o setup limit offer (offer && tagged) (Start c 0 offer) old new desk desk' others stint full
       (served_turn o (length (desk ∷ others)) offer old g new c legal' greeted ready (served.worked.more ++ closes.tail) grown few stint.stretch.later stint.stretch.is
       (subst (λ (n : ℕ). list_all (λ (e : Entry). in_stint n e.what) stint.stretch.later ≡ true) (sym greeted.next) stint.stretch.within))
       (λ shut. served_idle o setup c (next_child old) g new desk desk' greeted.next served)
+      (served_manned o (length (desk ∷ others)) offer old g new c legal' greeted ready (served.worked.more ++ closes.tail) grown few grown_within)
 
   pub alone_start : {program : List ℕ} {before after : ProgramsValue} {wires wires' : List WireValue} (full : Bool) → ((xs : List Entry) → any is_any_start xs ≡ false → StartsAll program new (main_entry (Start c 0 offer) ∷ xs) before after wires wires')
       → OneJobStart o setup limit offer (offer && tagged) full program old new (desk ∷ others) (desk' ∷ others) before after wires wires'
@@ -185,4 +215,4 @@ served_start o setup limit offer tagged old g new c desks desks' {program} {befo
     (subst (λ (es : List DeskTells). OneJobStart o setup limit offer (offer && tagged) full program old new (a.desk ∷ a.others) es before after wires wires') (sym a.after)
     (alone_start o setup limit offer tagged old g new c a.desk a.desk' a.others legal left greeted legal' ready tag a.served (subst (λ (ds : List DeskTells). (length ds ≡ 1) ⊎ (is_tagged g c ≡ true)) a.before few) full objects))
 served_start o setup limit offer tagged old g new c desks desks' full legal left greeted legal' ready tag (inr s) few objects =
-    round_start o setup limit offer tagged old g new c desks desks' legal greeted legal' ready tag s full objects
+    round_start o setup limit offer tagged old g new c desks desks' legal left greeted legal' ready tag s full objects

@@ -10,13 +10,17 @@ use Rattle.journal_model.specs.declared.entry.Entry.{Entry}
 use Rattle.journal_model.specs.declared.opening.Opening.{Opening}
 use Rattle.journal_model.specs.Journal.{any, each_of, offers}
 use Rattle.journal_model.specs.Shares.{is_of_child}
+use Rattle.journal_model.specs.Legality.{Legal}
 use Rattle.journal_model.proofs.Looks.{both, differ, each_of-append, either_left, either_right, same_number}
 use Rattle.journal_model.proofs.Testing.{or_left, or_right}
 use Rattle.host_core.specs.Steps.{unclaimed}
 use Rattle.lone_rounds.specs.Starting.{AllOffer, OffersWell, children, is_any_start, is_offered, is_ready_untagged, started_in}
 use Rattle.lone_rounds.specs.Stints.{in_stint, main_entry}
-use Rattle.lone_rounds.proofs.Tests.{each_none}
+use Rattle.link_roles.proofs.Linked.{any_narrower}
+use Rattle.lone_rounds.proofs.Apart.{ready_same}
+use Rattle.lone_rounds.proofs.Tests.{each_none, each_without}
 use Rattle.pool_starts.specs.Slots.{AllInTurn, IsInSlot, IsManned, StandsInTurn, begins_by_start, first_in, has_pool, in_pool, is_first_start, is_ready_pool, is_unclaimed_since, last_slot, offers_tags, slot_of}
+use Rattle.pool_starts.proofs.SlotLaws.{filled_on, first_same, last_first, none_first, pool_of as pool_is}
 
 -- ---- what stands behind a start of slot 0
 
@@ -87,36 +91,10 @@ pub turn_both : (o : Opening) (jobs : ℕ) (past xs ys : List Entry) → AllInTu
 turn_both o jobs past [] ys h k = subst (λ (p : List Entry). AllInTurn o jobs p ys) (append-nil past) k
 turn_both o jobs past (e ∷ xs) ys h k = (h.0, turn_both o jobs (past ++ e ∷ []) xs ys h.1 (subst (λ (p : List Entry). AllInTurn o jobs p ys) (sym (append_assoc past (e ∷ []) xs)) k))
 
--- no start, and no claim for a child
-abbrev pub is_quiet : What → Bool
-is_quiet (Start child slot offer) = false
-is_quiet (NoStart slot) = false
-is_quiet (Claim task child) = child == 0
-is_quiet w = true
-
-pub quiet_starts : (w : What) → is_quiet w ≡ true → is_any_start w ≡ false
-quiet_starts (Start child slot offer) h = absurd cc
-quiet_starts (NoStart slot) h = absurd cc
-quiet_starts w h = refl
-
-quiet_turn : (o : Opening) (jobs : ℕ) (past : List Entry) (w : What) → is_quiet w ≡ true → StandsInTurn o jobs past w
-quiet_turn o jobs past (Start child slot offer) h = absurd cc
-quiet_turn o jobs past (NoStart slot) h = absurd cc
-quiet_turn o jobs past (Claim task zero) h = tt
-quiet_turn o jobs past (Claim task (suc child)) h = (let e = same_number (suc child) 0 h in absurd (omega (arith, e)))
-quiet_turn o jobs past w h = tt
-
-pub turn_quiet : (o : Opening) (jobs : ℕ) (past xs : List Entry) → list_all (λ (e : Entry). is_quiet e.what) xs ≡ true → AllInTurn o jobs past xs
-turn_quiet o jobs past [] h = tt
-turn_quiet o jobs past (e ∷ xs) h =
-    let t = both (is_quiet e.what) (list_all (λ (x : Entry). is_quiet x.what) xs) h in
-    (quiet_turn o jobs past e.what t.0, turn_quiet o jobs (past ++ e ∷ []) xs t.1)
-
 manned_turn : (o : Opening) (jobs : ℕ) (past : List Entry) (w : What) → is_any_start w ≡ false → IsManned o jobs past → StandsInTurn o jobs past w
 manned_turn o jobs past (Start child slot offer) none m = absurd cc
 manned_turn o jobs past (NoStart slot) none m = absurd cc
-manned_turn o jobs past (Claim task zero) none m = tt
-manned_turn o jobs past (Claim task (suc child)) none m = m
+manned_turn o jobs past (Claim task child) none m = m
 manned_turn o jobs past w none m = tt
 
 -- where nothing is started, and at each place a task may be claimed
@@ -134,6 +112,24 @@ manned_one o past = λ pool. (let least = min-le_left 1 (length (unclaimed o pas
 
 pub manned_none : (o : Opening) (jobs : ℕ) (past : List Entry) → has_pool past ≡ false → IsManned o jobs past
 manned_none o jobs past none = λ pool. absurd (let bad : true ≡ false = sym pool ∙ none in cc)
+
+-- entries that start nothing and are of no child leave it so
+pub manned_still : (o : Opening) (jobs : ℕ) (past more : List Entry) → Legal o past → any is_any_start more ≡ false → ((d : ℕ) → any (is_of_child d) more ≡ false) → IsManned o jobs past → IsManned o jobs (past ++ more)
+manned_still o jobs past more legal none apart m = λ pool. filled_on o jobs past more none (m (sym (pool_same (last_first past) refl) ∙ pool))
+  where
+    first_is : last_first (past ++ more) ≡ last_first past
+    first_is = first_same past more (none_first more none)
+
+    unoffered : (d : ℕ) → any (offers d) more ≡ false
+    unoffered d = any_narrower (offers d) is_any_start offered_start more none
+      where
+        offered_start : (w : What) → offers d w ≡ true → is_any_start w ≡ true
+        offered_start (Start child slot offer) h = refl
+        offered_start w h = absurd cc
+
+    pool_same : (x : Option ℕ) → last_first past ≡ x → has_pool (past ++ more) ≡ has_pool past
+    pool_same None e = ap (is_ready_pool (past ++ more)) (first_is ∙ e) ∙ sym (ap (is_ready_pool past) e)
+    pool_same (Some c) e = pool_is (past ++ more) c (first_is ∙ e) ∙ ready_same past more c (apart c) o legal (unoffered c) ∙ sym (pool_is past c e)
 
 -- ---- whether a pool serves
 
@@ -156,6 +152,12 @@ pub pool_of : (old later : List Entry) (c n : ℕ) (offer : Bool) → list_all (
 pool_of old later c n offer within =
     ap (λ (o : Option (Option ℕ)). is_ready_pool (old ++ main_entry (Start c 0 offer) ∷ later) (flat o))
     (last_of_start first_in (Start c 0 offer) (Some c) old later refl (each_none first_in (in_pool n) (λ w h. no_first_in w (first_none n w h)) later within))
+
+-- behind a start of slot 0 that gave no child there is none
+pub pool_failed : (old later : List Entry) → any is_any_start later ≡ false → has_pool (old ++ main_entry (NoStart 0) ∷ later) ≡ false
+pool_failed old later none =
+    ap (λ (o : Option (Option ℕ)). is_ready_pool (old ++ main_entry (NoStart 0) ∷ later) (flat o))
+    (last_of_start first_in (NoStart 0) None old later refl (each_without first_in is_first_start no_first_in later (none_first later none)))
 
 -- behind a start in slot 0, where nothing was started or claimed since
 pub new_slot : (old later : List Entry) (c : ℕ) (offer : Bool) → each_of slot_of later ≡ [] → last_slot (old ++ main_entry (Start c 0 offer) ∷ later) ≡ 0

@@ -1,22 +1,24 @@
 -- One start of slot 0 and what follows it, over one child at a time.
 use Rattle.std.proofs.Common.{◌≡◌, ◌⊎◌, ℕ, ◌+◌, ◌<◌, List, [], ◌∷◌, ◌++◌, refl, sym, ap, subst, ◌∙◌, append_assoc, append-nil, length, Bool, true, false, not, Some, None, arith, inl, inr}
-use Rattle.std.specs.Prelude.{◌&&◌, is_some}
+use Rattle.std.specs.Prelude.{◌&&◌, Option, is_some}
+use Rattle.std.specs.Option.{option_or}
 use Rattle.std.specs.List.{cons_option, list_all, list_any}
 use Rattle.std.proofs.lemmas.List.{append_cancel_left}
 use Rattle.std.proofs.lemmas.List.Folds.{list_all-append}
 use Rattle.journal_model.specs.declared.answer.Answer.{Answer}
+use Rattle.journal_model.specs.declared.verdict.Verdict.{Verdict}
 use Rattle.journal_model.specs.declared.verdict.Why.TheVariants.{Closed}
 use Rattle.journal_model.specs.declared.entry.What.{What}
 use Rattle.journal_model.specs.declared.entry.What.TheVariants.{Claim, Start, NoStart, End, Answer as Answered}
 use Rattle.journal_model.specs.declared.entry.Entry.{Entry}
 use Rattle.journal_model.specs.declared.opening.Opening.{Opening}
-use Rattle.journal_model.specs.Journal.{any, asks, asked_jobs, is_ended, is_tagged, open_jobs, why_of}
+use Rattle.journal_model.specs.Journal.{any, asks, asked_jobs, is_ended, is_tagged, open_jobs, verdict_of, why_of}
 use Rattle.journal_model.specs.Halves.{EarValue, MouthValue}
-use Rattle.journal_model.specs.Legality.{Legal, count}
+use Rattle.journal_model.specs.Legality.{Legal, count, is_done, is_prepared, prepares}
 use Rattle.journal_model.specs.Shares.{are_by}
 use Rattle.journal_model.proofs.Linking.{why_is_end}
-use Rattle.journal_model.proofs.Looks.{both}
-use Rattle.journal_model.proofs.Testing.{all-join, or_left}
+use Rattle.journal_model.proofs.Looks.{both, or_none, verdict_of-append}
+use Rattle.journal_model.proofs.Testing.{all-join}
 use Rattle.host_core.specs.Steps.{are_all_claimed}
 use Rattle.link_roles.specs.Alone.{Closes}
 use Rattle.link_roles.specs.Writings.{LoneWired}
@@ -33,16 +35,22 @@ use Rattle.lone_rounds.specs.Starting.{children, is_any_start, is_ready_untagged
 use Rattle.lone_rounds.specs.Stints.{AnswersOne, HasServed, IsStart, Stint, Stretch, TurnsAway, in_stint, main_entry, next_child}
 use Rattle.lone_rounds.proofs.Apart.{no_start_in}
 use Rattle.lone_rounds.proofs.Growing.{starts_none}
+use Rattle.lone_rounds.proofs.Nexts.{is_quiet, quiet_starts}
 use Rattle.lone_rounds.proofs.Served.{all_unclosed, greeting_unclosed, new_unclosed, ready_now}
-use Rattle.lone_rounds.proofs.Stinting.{Closing, closing, greeting_part, greeting_rests, greeting_works, of_closing, one_idle}
+use Rattle.lone_rounds.proofs.Stinting.{Closing, closing, greeting_part, greeting_rests, greeting_works, of_closing, one_idle, quiet_greeting}
 use Rattle.lone_rounds.proofs.Tests.{any_none, no_children}
-use Rattle.pool_starts.specs.Slots.{AllInTurn, IsManned, has_pool, in_pool, is_lost, offers_tags, pool_behind, spends}
+use Rattle.pool_starts.specs.Pools.{is_claim}
+use Rattle.pool_starts.specs.Slots.{AllInTurn, IsManned, has_pool, in_pool, offers_tags, spends}
+use Rattle.pool_starts.proofs.SlotLaws.{first_started, none_first, pool_of as pool_is, turn_quiet}
 use Rattle.job_rounds.specs.Desks.{DesksDid, HaveDesks}
+use Rattle.job_rounds.specs.Posts.{AllPosted}
 use Rattle.job_rounds.specs.Servings.{CanBeServed}
 use Rattle.job_rounds.specs.Starts.{JobStretch, OneJobStart, StartsAll}
 use Rattle.job_rounds.proofs.Desks.{desks_main, have_main}
+use Rattle.job_rounds.proofs.Posting.{posted_main}
 use Rattle.job_rounds.proofs.Shutting.{AreShut, rest_shut, shut_next, shut_open}
-use Rattle.job_rounds.proofs.Slots.{is_quiet, manned_none, manned_one, pool_of, quiet_starts, stint_pool, turn_both, turn_manned, turn_quiet}
+use Rattle.job_rounds.proofs.Slots.{manned_none, manned_one, pool_failed, pool_of, stint_pool, turn_both, turn_manned}
+use Rattle.job_rounds.proofs.Spent.{own_spends, prepared_on}
 
 -- entries that all pass one test pass another
 pub all_in : (p q : What → Bool) → ((w : What) → p w ≡ true → q w ≡ true) → (xs : List Entry) → list_all (λ (e : Entry). p e.what) xs ≡ true → list_all (λ (e : Entry). q e.what) xs ≡ true
@@ -82,18 +90,29 @@ behind_first old later more new first is so = tails (append_cancel_left old (mai
     tails : main_entry first ∷ later ≡ main_entry first ∷ more → later ≡ more
     tails e = cc
 
--- what stands behind the start starts nothing and claims nothing for a child
+-- what stands behind the start starts nothing and claims nothing for a child, and no pool serves
 pub record QuietStretch (old new : List Entry) (first : What) : Type 0 where
   pub more : List Entry
   pub is : new ≡ old ++ main_entry first ∷ more
   pub quiet : list_all (λ e. is_quiet e.what) more ≡ true
-
-pub quiet_turns : {old new : List Entry} {first : What} (o : Opening) (jobs : ℕ) (q : QuietStretch old new first) (later : List Entry) → new ≡ old ++ main_entry first ∷ later → AllInTurn o jobs (old ++ main_entry first ∷ []) later
-quiet_turns {old} {new} {first} o jobs q later is = turn_quiet o jobs (old ++ main_entry first ∷ []) later
-    (subst (λ (x : List Entry). list_all (λ (e : Entry). is_quiet e.what) x ≡ true) (behind_first old q.more later new first q.is is) q.quiet)
+  pub unpooled : (front rest : List Entry) → more ≡ front ++ rest → has_pool (old ++ main_entry first ∷ front) ≡ false
 
 pub quiet_none : {old new : List Entry} {first : What} (q : QuietStretch old new first) → any is_any_start q.more ≡ false
 quiet_none q = any_none is_quiet is_any_start quiet_starts q.more q.quiet
+
+pub quiet_turns : {old new : List Entry} {first : What} (o : Opening) (jobs : ℕ) (q : QuietStretch old new first) (later : List Entry) → new ≡ old ++ main_entry first ∷ later → AllInTurn o jobs (old ++ main_entry first ∷ []) later
+quiet_turns {old} {new} {first} o jobs q later is =
+    subst (AllInTurn o jobs (old ++ main_entry first ∷ [])) (behind_first old q.more later new first q.is is)
+    (turn_manned o jobs (old ++ main_entry first ∷ []) q.more (quiet_none q)
+    (λ front rest split. subst (IsManned o jobs) (sym (append_assoc old (main_entry first ∷ []) front)) (manned_none o jobs (old ++ main_entry first ∷ front) (q.unpooled front rest split))))
+
+pub quiet_manned : {old new : List Entry} {first : What} (o : Opening) (jobs : ℕ) → QuietStretch old new first → IsManned o jobs new
+quiet_manned {old} {new} {first} o jobs q = manned_none o jobs new (ap has_pool q.is ∙ q.unpooled q.more [] (sym (append-nil q.more)))
+
+front_quiet : (more front rest : List Entry) → list_all (λ (e : Entry). is_quiet e.what) more ≡ true → more ≡ front ++ rest → any is_any_start front ≡ false
+front_quiet more front rest quiet split = any_none is_quiet is_any_start quiet_starts front
+    (both (list_all (λ (e : Entry). is_quiet e.what) front) (list_all (λ (e : Entry). is_quiet e.what) rest)
+    (sym (list_all-append (λ (e : Entry). is_quiet e.what) front rest) ∙ ap (list_all (λ (e : Entry). is_quiet e.what)) (sym split) ∙ quiet)).0
 
 -- the stretch, and the objects of the same entries
 pub job_start : {o : Opening} {setup : Setup} {limit : ℕ} {offer next whole : Bool} {program : List ℕ} {first : What} {old new : List Entry} {desks desks' : List DeskTells} {before after : ProgramsValue} {wires wires' : List WireValue}
@@ -108,12 +127,6 @@ pub no_tags : (w : What) → offers_tags w ≡ true → is_any_start w ≡ true
 no_tags (Start child slot offer) h = refl
 no_tags w h = absurd cc
 
--- a start of slot 0, which its own child spends
-own_spends : (old new later : List Entry) (offer : Bool) (first : What) → IsStart old offer first → list_all (is_spent new) (children (main_entry first ∷ [])) ≡ true → spends new first later ≡ true
-own_spends old new later offer first (inl e) h = subst (λ (w : What). spends new w later ≡ true) (sym e)
-    (or_left (is_spent new (next_child old)) (list_any (is_lost new) (pool_behind later)) (both (is_spent new (next_child old)) true (subst (λ (w : What). list_all (is_spent new) (children (main_entry w ∷ [])) ≡ true) e h)).0)
-own_spends old new later offer first (inr e) h = ap (λ (w : What). spends new w later) e
-
 -- what a stretch of one child is in a run with several desks
 module _ {o : Opening} {offer next : Bool} {first : What} {old new : List Entry} (s : Stretch o offer next first old new) where
   one_child : children (main_entry first ∷ s.later) ≡ children (main_entry first ∷ [])
@@ -121,18 +134,23 @@ module _ {o : Opening} {offer next : Bool} {first : What} {old new : List Entry}
 
   pub stretch_job : (setup : Setup) (limit : ℕ) (desks desks' : List DeskTells) (whole : Bool) → AllInTurn o (length desks) (old ++ main_entry first ∷ []) s.later → HaveDesks (length desks) (old ++ main_entry first ∷ []) s.later
       → DesksDid o setup limit new (old ++ main_entry first ∷ []) s.later 1 desks desks' → (length desks ≡ 1 → are_by 0 s.later ≡ true) → (AreShut old → open_jobs new (next_child old) ≡ [])
-      → JobStretch o setup limit offer next first old new desks desks' whole
-  stretch_job setup limit desks desks' whole turn placed did alone idle = record {
+      → IsManned o (length desks) new → AllPosted (old ++ main_entry first ∷ []) s.later → JobStretch o setup limit offer next first old new desks desks' whole
+  stretch_job setup limit desks desks' whole turn placed did alone idle manned posts = record {
+    left = s.left;
     later = s.later;
     is = s.is;
     start = s.start;
     within = all_in (in_stint (next_child old)) (in_pool (next_child old)) (stint_pool (next_child old)) s.later s.within;
     untagged = any_narrower offers_tags is_any_start no_tags s.later (starts_none s);
     asks = s.asks;
+    lost = s.lost;
+    posts = posts;
     turn = turn;
+    order = s.turn;
     rest = s.rest;
     ended = ap (list_all (is_ended new)) one_child ∙ s.ended;
     spent = λ w. spent s.spent;
+    manned = λ w. manned;
     untaken = s.untaken;
     offers = s.offers ∙ ap (λ (ds : List ℕ). offer && not (list_any (is_ready_untagged new) ds)) (sym one_child);
     placed = placed;
@@ -141,8 +159,8 @@ module _ {o : Opening} {offer next : Bool} {first : What} {old new : List Entry}
     shut = start_shuts old new s.later offer first (next_child old) s.start s.is s.within idle;
   }
     where
-      spent : (list_all (is_spent new) (children (main_entry first ∷ [])) ≡ true) ⊎ (are_all_claimed o new ≡ true) → (spends new first s.later ≡ true) ⊎ (are_all_claimed o new ≡ true)
-      spent (inl h) = inl (own_spends old new s.later offer first s.start h)
+      spent : (list_all (is_spent new) (children (main_entry first ∷ [])) ≡ true) ⊎ (are_all_claimed o new ≡ true) → (spends (old ++ main_entry first ∷ []) first s.later ≡ true) ⊎ (are_all_claimed o new ≡ true)
+      spent (inl h) = inl (own_spends old new s.later first s.is (none_first s.later (starts_none s)) h)
       spent (inr h) = inr h
 
 -- more starts than the journal has
@@ -153,58 +171,90 @@ more_than journal = count is_any_start journal + 1
 
 module _ (o : Opening) (setup : Setup) (limit : ℕ) (offer next : Bool) (first : What) (old new : List Entry) where
   pub stint_job : (desk desk' : DeskTells) (others : List DeskTells) (s : Stint o setup (more_than new) offer next first old new desk desk') → (whole : Bool)
-      → AllInTurn o (length (desk ∷ others)) (old ++ main_entry first ∷ []) s.stretch.later → (AreShut old → open_jobs new (next_child old) ≡ [])
+      → AllInTurn o (length (desk ∷ others)) (old ++ main_entry first ∷ []) s.stretch.later → (AreShut old → open_jobs new (next_child old) ≡ []) → IsManned o (length (desk ∷ others)) new
       → JobStretch o setup limit offer next first old new (desk ∷ others) (desk' ∷ others) whole
-  stint_job desk desk' others s whole turn idle =
+  stint_job desk desk' others s whole turn idle manned =
       stretch_job s.stretch setup limit (desk ∷ others) (desk' ∷ others) whole turn
       (have_main (length (desk ∷ others)) (old ++ main_entry first ∷ []) s.stretch.later (omega arith) s.main)
       (desks_main o setup limit (more_than new) new (old ++ main_entry first ∷ []) s.stretch.later desk desk' others (omega arith) s.main s.done)
-      (λ one. s.main) idle
+      (λ one. s.main) idle manned (posted_main (old ++ main_entry first ∷ []) s.stretch.later s.main)
 
   -- where no desk is used
   pub stint_any : (desks : List DeskTells) → 0 < length desks → ((d : DeskTells) → Stint o setup (more_than new) offer next first old new d d) → (whole : Bool) → QuietStretch old new first
       → (AreShut old → open_jobs new (next_child old) ≡ []) → JobStretch o setup limit offer next first old new desks desks whole
   stint_any [] some f whole q idle = absurd (let bad : ⊥ = omega (arith, some) in bad)
-  stint_any (d ∷ ds) some f whole q idle = stint_job d d ds (f d) whole (quiet_turns o (length (d ∷ ds)) q (f d).stretch.later (f d).stretch.is) idle
+  stint_any (d ∷ ds) some f whole q idle = stint_job d d ds (f d) whole (quiet_turns o (length (d ∷ ds)) q (f d).stretch.later (f d).stretch.is) idle (quiet_manned o (length (d ∷ ds)) q)
 
 -- ---- in which turn its entries stand
 
-greeting_quiet : (c : ℕ) (w : What) → is_of_greeting c w ≡ true → is_quiet w ≡ true
-greeting_quiet c (Start child slot offer) h = absurd cc
-greeting_quiet c (NoStart slot) h = absurd cc
-greeting_quiet c (Claim task child) h = absurd cc
-greeting_quiet c w h = refl
+greeting_claims : (c : ℕ) (w : What) → is_of_greeting c w ≡ true → is_claim w ≡ false
+greeting_claims c (Claim task child) h = absurd cc
+greeting_claims c w h = refl
 
-pub quiet_greeting : (old g : List Entry) (offer : Bool) (c : ℕ) → (greeted : Greeted old g 0 offer c) → list_all (λ (e : Entry). is_quiet e.what) greeted.more ≡ true
-quiet_greeting old g offer c greeted = all_in (is_of_greeting c) is_quiet (greeting_quiet c) greeted.more greeted.own
+pub greeting_turn : (o : Opening) (jobs : ℕ) (past old g : List Entry) (offer : Bool) (c : ℕ) → (greeted : Greeted old g 0 offer c) → AllInTurn o jobs past greeted.more
+greeting_turn o jobs past old g offer c greeted = turn_quiet o jobs past greeted.more (any_none is_quiet is_any_start quiet_starts greeted.more (quiet_greeting old g offer c greeted))
+    (any_none (is_of_greeting c) is_claim (greeting_claims c) greeted.more greeted.own)
 
 quiet_closing : (c : ℕ) (tail : List Entry) → (tail ≡ []) ⊎ (tail ≡ main_entry (End c Closed) ∷ []) → list_all (λ (e : Entry). is_quiet e.what) tail ≡ true
 quiet_closing c tail one = of_closing c tail one (λ (x : List Entry). list_all (λ (e : Entry). is_quiet e.what) x ≡ true) refl refl
 
 -- one task that was claimed without a child
-record QuietTail (old new : List Entry) : Type 0 where
-  tail : List Entry
-  is : new ≡ old ++ tail
-  quiet : list_all (λ e. is_quiet e.what) tail ≡ true
+pub record QuietTail (old new : List Entry) : Type 0 where
+  pub tail : List Entry
+  pub is : new ≡ old ++ tail
+  pub quiet : list_all (λ e. is_quiet e.what) tail ≡ true
+  pub unsettled : (c : ℕ) → verdict_of tail c 1 ≡ None
 
 quiet_one : (o : Opening) (old new : List Entry) (answer : Answer) (b : Bool) → AnswersOne o old new answer b → QuietTail old new
-quiet_one o old new answer true a = record { tail = main_entry (Claim a.0 0) ∷ main_entry (Answered a.0 answer) ∷ []; is = a.2; quiet = refl }
-quiet_one o old new answer false a = record { tail = []; is = a.0 ∙ sym (append-nil old); quiet = refl }
+quiet_one o old new answer true a = record { tail = main_entry (Claim a.0 0) ∷ main_entry (Answered a.0 answer) ∷ []; is = a.2; quiet = refl; unsettled = λ c. refl }
+quiet_one o old new answer false a = record { tail = []; is = a.0 ∙ sym (append-nil old); quiet = refl; unsettled = λ c. refl }
 
 -- where the greeted child was turned away
-pub away_quiet : (o : Opening) (offer : Bool) (old g new : List Entry) (c : ℕ) (answer : Answer) → Greeted old g 0 offer c → TurnsAway o c g new answer → QuietStretch old new (Start c 0 offer)
-away_quiet o offer old g new c answer greeted (mid, (b, a), closes) = record {
-  more = greeted.more ++ (one.tail ++ k.tail);
-  is = k.is ∙ ap (λ (x : List Entry). x ++ k.tail) one.is ∙ append_assoc g one.tail k.tail ∙ ap (λ (x : List Entry). x ++ (one.tail ++ k.tail)) greeted.grown
-      ∙ append_assoc old (main_entry (Start c 0 offer) ∷ greeted.more) (one.tail ++ k.tail);
-  quiet = all-join (λ (e : Entry). is_quiet e.what) greeted.more (one.tail ++ k.tail) (quiet_greeting old g offer c greeted) (all-join (λ (e : Entry). is_quiet e.what) one.tail k.tail one.quiet (quiet_closing c k.tail k.one));
-}
-  where
-    k : Closing c mid new
-    k = closing c mid new closes
+module _ (old g mid new : List Entry) (offer : Bool) (c : ℕ) (undone : is_done (verdict_of g c 1) ≡ false) (greeted : Greeted old g 0 offer c) (one : QuietTail g mid) (k : Closing c mid new) where
+  abbrev turned : List Entry
+  turned = one.tail ++ k.tail
 
-    one : QuietTail g mid
-    one = quiet_one o g mid answer b a
+  abbrev away_more : List Entry
+  away_more = greeted.more ++ turned
+
+  behind_away : new ≡ g ++ turned
+  behind_away = k.is ∙ ap (λ (x : List Entry). x ++ k.tail) one.is ∙ append_assoc g one.tail k.tail
+
+  whole_away : new ≡ old ++ main_entry (Start c 0 offer) ∷ away_more
+  whole_away = behind_away ∙ ap (λ (x : List Entry). x ++ turned) greeted.grown ∙ append_assoc old (main_entry (Start c 0 offer) ∷ greeted.more) turned
+
+  quiet_away : list_all (λ (e : Entry). is_quiet e.what) away_more ≡ true
+  quiet_away = all-join (λ (e : Entry). is_quiet e.what) greeted.more turned (quiet_greeting old g offer c greeted) (all-join (λ (e : Entry). is_quiet e.what) one.tail k.tail one.quiet (quiet_closing c k.tail k.one))
+
+  unprepared : is_prepared new c ≡ false
+  unprepared =
+      let none : verdict_of turned c 1 ≡ None =
+      verdict_of-append c 1 one.tail k.tail ∙ ap (λ (v : Option Verdict). option_or v (verdict_of k.tail c 1)) (one.unsettled c) ∙ of_closing c k.tail k.one (λ (x : List Entry). verdict_of x c 1 ≡ None) refl refl in
+      let v : verdict_of new c 1 ≡ verdict_of g c 1 = ap (λ (j : List Entry). verdict_of j c 1) behind_away ∙ verdict_of-append c 1 g turned ∙ or_none (verdict_of g c 1) (verdict_of turned c 1) none in
+      ap (λ (d : Bool). d && any (prepares c) new) (ap is_done v ∙ undone)
+
+  -- it was never prepared
+  never : (front rest : List Entry) → away_more ≡ front ++ rest → is_prepared (old ++ main_entry (Start c 0 offer) ∷ front) c ≡ false
+  never front rest split = go (is_prepared (old ++ main_entry (Start c 0 offer) ∷ front) c) refl
+    where
+      is_whole : new ≡ (old ++ main_entry (Start c 0 offer) ∷ front) ++ rest
+      is_whole = whole_away ∙ ap (λ (x : List Entry). old ++ main_entry (Start c 0 offer) ∷ x) split ∙ sym (append_assoc old (main_entry (Start c 0 offer) ∷ front) rest)
+
+      go : (d : Bool) → is_prepared (old ++ main_entry (Start c 0 offer) ∷ front) c ≡ d → d ≡ false
+      go false e = refl
+      go true e = (let bad : true ≡ false = sym (ap (λ (j : List Entry). is_prepared j c) is_whole ∙ prepared_on (old ++ main_entry (Start c 0 offer) ∷ front) rest c e) ∙ unprepared in absurd cc)
+
+  pub away_stretch : QuietStretch old new (Start c 0 offer)
+  away_stretch = record {
+    more = away_more;
+    is = whole_away;
+    quiet = quiet_away;
+    unpooled = λ front rest split. pool_is (old ++ main_entry (Start c 0 offer) ∷ front) c (first_started old front 0 c offer (none_first front (front_quiet away_more front rest quiet_away split)))
+        ∙ ap (λ (d : Bool). d && not (is_tagged (old ++ main_entry (Start c 0 offer) ∷ front) c)) (never front rest split);
+  }
+
+pub away_quiet : (o : Opening) (offer : Bool) (old g new : List Entry) (c : ℕ) (answer : Answer) → is_done (verdict_of g c 1) ≡ false → Greeted old g 0 offer c → TurnsAway o c g new answer → QuietStretch old new (Start c 0 offer)
+away_quiet o offer old g new c answer undone greeted (mid, (b, a), closes) = away_stretch old g mid new offer c undone greeted (quiet_one o g mid answer b a) (closing c mid new closes)
 
 -- where no child was started
 pub fault_quiet : (o : Opening) (old g new : List Entry) (answer : Answer) (b : Bool) → g ≡ old ++ main_entry (NoStart 0) ∷ [] → AnswersOne o g new answer b → QuietStretch old new (NoStart 0)
@@ -212,6 +262,7 @@ fault_quiet o old g new answer b failed a = record {
   more = one.tail;
   is = one.is ∙ ap (λ (x : List Entry). x ++ one.tail) failed ∙ append_assoc old (main_entry (NoStart 0) ∷ []) one.tail;
   quiet = one.quiet;
+  unpooled = λ front rest split. pool_failed old front (front_quiet one.tail front rest one.quiet split);
 }
   where
     one : QuietTail g new
@@ -234,6 +285,9 @@ module _ (o : Opening) (jobs : ℕ) (offer : Bool) (old g new : List Entry) (c :
   one_or_tagged more within (inl one) = subst (λ (n : ℕ). IsManned o n (g ++ more)) (sym one) (manned_one o (g ++ more))
   one_or_tagged more within (inr tag) = manned_none o jobs (g ++ more) (untagged_not more within tag)
 
+  pub served_manned : (more : List Entry) → new ≡ g ++ more → (jobs ≡ 1) ⊎ (is_tagged g c ≡ true) → list_all (λ (e : Entry). in_stint c e.what) more ≡ true → IsManned o jobs new
+  served_manned more behind few within = subst (IsManned o jobs) (sym behind) (one_or_tagged more within few)
+
   pub served_turn : (more : List Entry) → new ≡ g ++ more → (jobs ≡ 1) ⊎ (is_tagged g c ≡ true) → (later : List Entry) → new ≡ old ++ main_entry (Start c 0 offer) ∷ later
       → list_all (λ (e : Entry). in_stint c e.what) later ≡ true → AllInTurn o jobs at_start later
   served_turn more behind few later is within =
@@ -242,7 +296,7 @@ module _ (o : Opening) (jobs : ℕ) (offer : Bool) (old g new : List Entry) (c :
       let here : list_all (λ (e : Entry). in_stint c e.what) more ≡ true =
       (both (list_all (λ (e : Entry). in_stint c e.what) greeted.more) (list_all (λ (e : Entry). in_stint c e.what) more)
       (sym (list_all-append (λ (e : Entry). in_stint c e.what) greeted.more more) ∙ ap (list_all (λ (e : Entry). in_stint c e.what)) (sym same) ∙ within)).1 in
-      subst (AllInTurn o jobs at_start) (sym same) (turn_both o jobs at_start greeted.more more (turn_quiet o jobs at_start greeted.more (quiet_greeting old g offer c greeted))
+      subst (AllInTurn o jobs at_start) (sym same) (turn_both o jobs at_start greeted.more more (greeting_turn o jobs at_start old g offer c greeted)
       (subst (λ (p : List Entry). AllInTurn o jobs p more) (greeted.grown ∙ sym (append_assoc old (main_entry (Start c 0 offer) ∷ []) greeted.more))
       (turn_manned o jobs g more (any_none (in_stint c) is_any_start (no_start_in c) more here)
       (λ front rest split. one_or_tagged front (both (list_all (λ (e : Entry). in_stint c e.what) front) (list_all (λ (e : Entry). in_stint c e.what) rest)

@@ -9,11 +9,13 @@ use Rattle.gathering.specs.Rounds.{IsAtRest}
 use Rattle.task_run.specs.declared.setup.Setup.{Setup}
 use Rattle.lone_work.specs.Works.{DeskTells}
 use Rattle.lone_rounds.specs.Starting.{AreEnded}
-use Rattle.lone_rounds.specs.Rounds.{is_of_run}
+use Rattle.lone_rounds.specs.Rounds.{AllLostWell, is_of_run}
 use Rattle.pool_starts.specs.Slots.{AreStarts}
 use Rattle.job_rounds.specs.Desks.{DesksDid, HaveDesks}
+use Rattle.job_rounds.specs.Posts.{AllPosted}
 
--- The journal is legal. Each child was started in its slot and its turn, and has ended. Job 0 and job 1 are the greeting's, each later one is a task's.
+-- The journal is legal. Each child was started in its slot and its turn, and has ended. Job 0 and job 1 are the greeting's, each later one is a task's. The
+-- main thread loses a request of no task in a greeting alone, and what it didn't make was made at a post over some child.
 -- No task is left unanswered that was claimed, and no job open. Each task was run by the number that claimed it, with its worker's desk, which made the calls of
 -- its tasks, in the order of their claims, and no others. With one desk, all entries are the main thread's.
 pub record RanJobs (o : Opening) (setup : Setup) (may : Bool) (limit : ℕ) (journal : List Entry) (desks desks' : List DeskTells) : Type 0 where
@@ -21,6 +23,8 @@ pub record RanJobs (o : Opening) (setup : Setup) (may : Bool) (limit : ℕ) (jou
   pub starts : AreStarts o may limit (length desks) journal
   pub ended : AreEnded journal
   pub asks : list_all (λ e. is_of_run e.what) journal ≡ true
+  pub lost : AllLostWell [] journal
+  pub posts : AllPosted [] journal
   pub calm : IsAtRest journal
   pub placed : HaveDesks (length desks) [] journal
   pub did : DesksDid o setup limit journal [] journal 1 desks desks'

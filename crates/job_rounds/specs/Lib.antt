@@ -7,3 +7,4 @@ pub mod Starts
 pub mod Unserved
 pub mod JobsWell
 pub mod JobsKeep
+pub mod Posts

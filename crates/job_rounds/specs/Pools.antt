@@ -2,38 +2,41 @@
 -- closed.
 use Rattle.std.specs.Prelude.{ℕ, ◌≡◌, ◌⊎◌, ◌≤◌, Bool, true, false, List, ◌∷◌, ◌++◌, length}
 use Rattle.std.specs.List.{list_all, list_any}
-use Rattle.ann_outside.specs.Causes.{Rose}
 use Rattle.journal_model.specs.declared.entry.Entry.{Entry}
 use Rattle.journal_model.specs.declared.opening.Opening.{Opening}
 use Rattle.journal_model.specs.Halves.{EarValue, MouthValue}
 use Rattle.journal_model.specs.Journal.{any, is_ended}
-use Rattle.journal_model.specs.Legality.{Legal}
+use Rattle.journal_model.specs.Legality.{Legal, count}
 use Rattle.host_core.specs.Steps.{are_all_claimed}
-use Rattle.child_end.specs.Programs.{HaveStarted, ProgramsValue, is_failed_start}
+use Rattle.child_end.specs.Programs.{HaveStarted, ProgramsValue, RoseBy, is_failed_start}
 use Rattle.child_end.specs.Wires.{IsHeld, WireValue, came}
 use Rattle.gathering.specs.Rounds.{IsAtRest}
 use Rattle.task_run.specs.declared.setup.Setup.{Setup}
 use Rattle.lone_work.specs.Works.{DeskTells}
 use Rattle.lone_rounds.specs.Starting.{children}
-use Rattle.lone_rounds.specs.Rounds.{is_of_run}
+use Rattle.lone_rounds.specs.Rounds.{AllLostWell, is_of_run}
 use Rattle.lone_rounds.specs.Stints.{AreLinked, ear_of, mouth_of}
-use Rattle.pool_starts.specs.Slots.{AllInTurn, in_pool, is_lost, offers_tags}
+use Rattle.pool_starts.specs.Slots.{AllInTurn, IsManned, in_pool, is_lost, offers_tags}
 use Rattle.job_rounds.specs.Desks.{DesksDid, HaveDesks}
+use Rattle.job_rounds.specs.Posts.{AllPosted}
 
 -- Behind old, where child c of slot 0 is ready, there stand only starts in other slots, in turn, none offering ASYNC, and what was made of
 -- c and of their children. All is at rest, and each of these children has ended. Each task that was claimed has its desk's run. Where the
--- pool was whole, one of its ready children is lost, or all tasks are claimed.
+-- pool was whole, one of its ready children is lost, or all tasks are claimed, and each slot had its start as far as there are tasks.
 pub record ServesPool (o : Opening) (setup : Setup) (limit c : ℕ) (old new : List Entry) (desks desks' : List DeskTells) (whole : Bool) : Type 0 where
   pub later : List Entry
   pub is : new ≡ old ++ later
   pub within : list_all (λ e. in_pool c e.what) later ≡ true
   pub untagged : any offers_tags later ≡ false
   pub asks : list_all (λ e. is_of_run e.what) later ≡ true
+  pub lost : AllLostWell old later
+  pub posts : AllPosted old later
   pub turn : AllInTurn o (length desks) old later
   pub legal : Legal o new
   pub calm : IsAtRest new
   pub ended : list_all (is_ended new) (c ∷ children later) ≡ true
   pub spent : whole ≡ true → (list_any (is_lost new) (c ∷ children later) ≡ true) ⊎ (are_all_claimed o new ≡ true)
+  pub manned : whole ≡ true → IsManned o (length desks) new
   pub placed : HaveDesks (length desks) old later
   pub did : DesksDid o setup limit new old later 1 desks desks'
 
@@ -45,7 +48,7 @@ pub record IsLinkLeft (journal : List Entry) (ear : EarValue) (mouth : MouthValu
   pub closed : (wire.is_inlet_open ≡ false) × (wire.is_outlet_open ≡ false)
 
 -- Of the objects: behind the wires there stand that of the child of slot 0 and, in the order of their starts, those of the pool's other
--- children; the programs were asked for what `later` says; a fault was counted where a start failed.
+-- children; the programs were asked for what `later` says; a fault was counted for each start that failed.
 pub record LeavesPool (wanted : Type 0) (program : List ℕ) (new later : List Entry) (ear : EarValue) (mouth : MouthValue) (before after : ProgramsValue) (wires wires' : List WireValue) : Type 0 where
   pub own : WireValue
   pub more : List WireValue
@@ -53,7 +56,7 @@ pub record LeavesPool (wanted : Type 0) (program : List ℕ) (new later : List E
   pub left : IsLinkLeft new ear mouth own
   pub linked : AreLinked before.starts new 0 (came later) more
   pub started : HaveStarted wanted program later before.starts after.starts
-  pub fault : any is_failed_start later ≡ true → Rose before.faults after.faults
+  pub faults : RoseBy (count is_failed_start later) before.faults after.faults
   pub later_faults : before.faults ≤ after.faults
 
 -- both, of the same entries

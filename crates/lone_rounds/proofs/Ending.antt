@@ -24,14 +24,17 @@ use Rattle.task_run.specs.TaskRuns.{failed_start}
 use Rattle.lone_work.specs.Works.{DeskTells, ends_answered}
 use Rattle.lone_work.proofs.Working.{ends_behind}
 use Rattle.child_end.specs.Wires.{AreWires, IsWire, WireValue, came, came_in}
-use Rattle.child_end.specs.Programs.{AddsAll, HaveStarted as HaveStartedSo, Leaves, ProgramsValue, told}
-use Rattle.lone_rounds.specs.Starting.{AllOffer, AreSpent, children, is_any_start, is_elsewhere, is_offered, is_ready_untagged, is_spent, started_in}
-use Rattle.lone_rounds.specs.Rounds.{EndsClosed, RanAlone, ZeroAnswers, ends_for_memory, is_of_run, left_answer, start_untaken}
+use Rattle.child_end.specs.Programs.{AddsAll, HaveStarted as HaveStartedSo, Leaves, ProgramsValue, is_failed_start, told}
+use Rattle.lone_rounds.specs.Starting.{AllOffer, AreSpent, children, is_any_start, is_elsewhere, is_offered, is_ready_untagged, started_in}
+use Rattle.lone_rounds.specs.Rounds.{AllLostWell, AllStandNext, EndsClosed, RanAlone, ZeroAnswers, ends_for_memory, is_of_run, left_answer, start_untaken}
 use Rattle.lone_rounds.specs.Stints.{AnswersLeft, AreLinked, AreUpTo, Between, IsLinked, IsOver, Kept, MayHaveAsked, OneStart, Spaced, Stint, TasksDone, answered_so, ear_of, main_entry, mouth_of}
-use Rattle.lone_rounds.proofs.Apart.{ended_on, ready_same, spent_on}
+use Rattle.lone_rounds.proofs.Apart.{ended_on, ready_same}
 use Rattle.lone_rounds.proofs.Growing.{apart, between_next, starts_none}
-use Rattle.lone_rounds.proofs.Leaving.{adds_both, adds_none, adds_one, kept_next, kept_still, rose_on, stays_none}
+use Rattle.lone_rounds.proofs.Leaving.{adds_both, adds_none, adds_one, kept_next, kept_still, rose_still, stays_none}
+use Rattle.lone_rounds.proofs.Losing.{lost_both, lost_tasks, loses_task}
+use Rattle.lone_rounds.proofs.Nexts.{is_quiet, next_both, next_quiet}
 use Rattle.lone_rounds.proofs.Runs.{IsOfNoCall, all_runs, done_both, done_join, done_nothing, done_zero}
+use Rattle.lone_rounds.proofs.Spending.{none_spent, spent_both}
 use Rattle.lone_rounds.proofs.Tests.{any_same, children_up_to, count-append, count_fewer, count_none, no_children, none_came, none_left, offers_both, offers_none, or_false, some_left}
 use Rattle.lone_rounds.proofs.Turns.{claim_takes, none_fails}
 use Rattle.lone_rounds.proofs.Unready.{and_true}
@@ -44,11 +47,13 @@ between_begin o setup may limit journal desk none = subst (λ (j : List Entry). 
   spaced = record {
     legal = record { stands = tt; nothing_due = refl };
     slots = refl;
+    turn = tt;
     starts = refl;
     offers = tt;
     offered = and_true may;
     ended = refl;
     asks = refl;
+    lost = tt;
     rest = λ t. refl;
     spent = inl refl;
     untaken = refl;
@@ -64,7 +69,7 @@ kept_begin program journal before wires none bare =
     subst (λ (j : List Entry). Kept program j before before wires) (sym none) (subst (Kept program [] before before) (sym bare) record {
       linked = tt;
       started = adds_none before.starts;
-      fault = λ failed. absurd (let bad : false ≡ true = failed in cc);
+      faults = rose_still 0 before.faults before.faults before.faults (omega arith) (omega arith);
       later = omega arith;
     })
 
@@ -110,8 +115,7 @@ module _ (answer : Answer) where
   same_children past more none = each_of-append started_in past more ∙ ap (λ (ds : List ℕ). children past ++ ds) (no_children more none) ∙ append-nil (children past)
 
   still_spent : (past more : List Entry) → any is_any_start more ≡ false → AreSpent past → AreSpent (past ++ more)
-  still_spent past more none h =
-      ap (list_all (is_spent (past ++ more))) (same_children past more none) ∙ all-each (is_spent past) (is_spent (past ++ more)) (λ d k. spent_on past more d k) (children past) h
+  still_spent past more none h = spent_both [] past more h (none_spent past more none)
 
   same_left : (past more : List Entry) → any ends_for_memory more ≡ false → left_answer (past ++ more) ≡ left_answer past
   same_left past more none =
@@ -163,12 +167,14 @@ module _ {o : Opening} {may : Bool} {made : ℕ} {offer : Bool} {old new : List 
   spaced_left = record {
     legal = legal;
     slots = ap (any is_elsewhere) a.is ∙ any-append is_elsewhere old more ∙ neither (any is_elsewhere old) (any is_elsewhere more) b.slots (left_none (left_answer old) is_elsewhere (λ t. refl) (λ t. refl) a.tasks);
+    turn = subst (AllStandNext o []) (sym a.is) (next_both o [] old more b.turn (next_quiet o old more (left_all (left_answer old) is_quiet (λ t. refl) (λ t. refl) a.tasks)));
     starts = ap (count is_any_start) a.is ∙ same_count (left_answer old) old more none ∙ b.starts;
     offers = subst (AllOffer may []) (sym a.is) (offers_both may [] old more b.offers (offers_none may old more none));
     offered = b.offered ∙ ap (λ (x : Bool). may && x) (sym offered_still);
     ended = ap (list_all (is_ended new)) children_are
         ∙ all-each (is_ended old) (is_ended new) (λ d k. ap (λ (j : List Entry). is_ended j d) a.is ∙ ended_on old more d k) (children old) b.ended;
     asks = ap (list_all (λ (e : Entry). is_of_run e.what)) a.is ∙ all-join (λ (e : Entry). is_of_run e.what) old more b.asks (left_all (left_answer old) is_of_run (λ t. refl) (λ t. refl) a.tasks);
+    lost = subst (AllLostWell []) (sym a.is) (lost_both [] old more b.lost (lost_tasks old more (left_all (left_answer old) loses_task (λ t. refl) (λ t. refl) a.tasks)));
     rest = λ u. ap (λ (j : List Entry). is_busy j u) a.is ∙ left_rests (left_answer old) old a.tasks b.rest u;
     spent = inl (subst AreSpent (sym a.is) (still_spent (left_answer old) old more none spent));
     untaken = subst (λ (j : List Entry). failed_start j (start_untaken j) ≡ None) (sym a.is) (left_untaken (left_answer old) old a.tasks b.untaken);
@@ -220,9 +226,10 @@ pub ran_alone : {o : Opening} {setup : Setup} {may : Bool} {limit made : ℕ} {o
 ran_alone {o} {setup} {may} {limit} {made} {offer} {journal} le b = record {
   legal = b.spaced.legal;
   main = b.main;
-  starts = record { slots = b.spaced.slots; few = (let n = b.spaced.starts in omega (arith, n, le)); offers = b.spaced.offers };
+  starts = record { slots = b.spaced.slots; next = b.spaced.turn; few = (let n = b.spaced.starts in omega (arith, n, le)); offers = b.spaced.offers; taken = b.spaced.untaken };
   ended = b.spaced.ended;
   asks = b.spaced.asks;
+  lost = b.spaced.lost;
   done = b.done.done;
   claimed = b.done.claimed;
   answered = b.done.answered;
@@ -247,7 +254,7 @@ pub leaves_kept : (W : Type 0) {program : List ℕ} {journal : List Entry} {befo
 leaves_kept W {program} {journal} {before} {after} {wires} k = record {
   wired = wires_of before.starts journal 0 (came journal) wires k.linked;
   started = inl k.started;
-  fault = k.fault;
+  faults = k.faults;
 }
 
 -- where no memory was found to start one more
@@ -256,7 +263,7 @@ pub leaves_or : (W : Type 0) {program : List ℕ} {journal : List Entry} {before
 leaves_or W {program} {journal} {before} {mid} {after} {wires} w k (asked, later) = record {
   wired = wires_of before.starts journal 0 (came journal) wires k.linked;
   started = go asked;
-  fault = λ failed. rose_on before.faults mid.faults after.faults (k.fault failed) later;
+  faults = rose_still (count is_failed_start journal) before.faults mid.faults after.faults k.faults later;
 }
   where
     go : Stays mid.starts after.starts ⊎ ((b : Bool) × AddsOne mid.starts after.starts (program, b)) → HaveStartedSo W program journal before.starts after.starts

@@ -18,10 +18,13 @@ use Rattle.task_run.specs.declared.setup.Setup.{Setup}
 use Rattle.lone_work.specs.Works.{DeskTells, claimed_task}
 use Rattle.child_end.specs.Wires.{came, came_in}
 use Rattle.lone_rounds.specs.Starting.{AllOffer, AreSpent, OffersWell, children, is_any_start, is_elsewhere, is_offered, is_ready_untagged, is_spent, started_in}
-use Rattle.lone_rounds.specs.Rounds.{is_of_run}
+use Rattle.lone_rounds.specs.Rounds.{AllLostWell, AllStandNext, IsLostIn, is_of_run}
 use Rattle.lone_rounds.specs.Stints.{AreUpTo, Between, IsStart, Spaced, Stint, Stretch, TasksDone, in_stint, main_entry, next_child}
-use Rattle.lone_rounds.proofs.Apart.{apart_in, ended_on, no_offer, no_start_in, ready_same, spent_on}
+use Rattle.lone_rounds.proofs.Apart.{apart_in, ended_on, no_offer, no_start_in, ready_same}
+use Rattle.lone_rounds.proofs.Losing.{lost_both}
+use Rattle.lone_rounds.proofs.Nexts.{next_both, next_first}
 use Rattle.lone_rounds.proofs.Runs.{done_both, done_same}
+use Rattle.lone_rounds.proofs.Spending.{last_spent, spent_both}
 use Rattle.lone_rounds.proofs.Tests.{and_behind, any_none, any_same, children_up_to, claimed_on, count-append, count_none, neither_nor, no_children, none_came, offers_both, offers_none, up_to_both, up_to_more}
 
 -- ---- the start itself
@@ -31,6 +34,7 @@ pub record SaysStart (past : List Entry) (offer : Bool) (first : What) : Type 0 
   pub any_start : is_any_start first ≡ true
   pub here : is_elsewhere first ≡ false
   pub asks : is_of_run first ≡ true
+  pub loses : (journal : List Entry) → IsLostIn journal first
   pub offers_well : (may : Bool) → offer ≡ (may && is_offered past) → OffersWell may past first
   pub of_none : (d : ℕ) → is_of_child d first ≡ false
   pub offers_next : (d : ℕ) → (next_child past == d) ≡ false → offers d first ≡ false
@@ -41,6 +45,7 @@ says_start past offer first (inl e) = subst (SaysStart past offer) (sym e) recor
   any_start = refl;
   here = refl;
   asks = refl;
+  loses = λ journal. tt;
   offers_well = λ may h. h;
   of_none = λ d. refl;
   offers_next = λ d other. ap (λ (b : Bool). b && offer) other;
@@ -50,6 +55,7 @@ says_start past offer first (inr e) = subst (SaysStart past offer) (sym e) recor
   any_start = refl;
   here = refl;
   asks = refl;
+  loses = λ journal. tt;
   offers_well = λ may h. tt;
   of_none = λ d. refl;
   offers_next = λ d other. refl;
@@ -152,17 +158,19 @@ module _ {o : Opening} {offer next : Bool} {first : What} {old new : List Entry}
         → AreSpent new ⊎ (are_all_claimed o new ≡ true)
     spent_now h (inr all) = inr all
     spent_now (inr all) (inl k) = inr (ap (are_all_claimed o) s.is ∙ claimed_on o old tail all)
-    spent_now (inl h) (inl k) = inl (earlier is_spent (λ d x. spent_on old tail d x) h k)
+    spent_now (inl h) (inl k) = inl (subst AreSpent (sym s.is) (spent_both [] old tail h (last_spent old new s.later first s.is starts_none k)))
 
     pub spaced_next : Spaced o may (made + 1) next new
     spaced_next = record {
       legal = legal;
       slots = ap (any is_elsewhere) s.is ∙ any-append is_elsewhere old tail ∙ neither (any is_elsewhere old) (any is_elsewhere tail) b.slots (neither (is_elsewhere first) (any is_elsewhere s.later) its.here elsewhere_none);
+      turn = subst (AllStandNext o []) (sym s.is) (next_both o [] old tail b.turn (next_first o old offer first s.start (record { left = s.left; ended = b.ended; taken = b.untaken }), s.turn));
       starts = one_start ∙ ap (λ (n : ℕ). n + 1) b.starts;
       offers = subst (AllOffer may []) (sym s.is) (offers_both may [] old tail b.offers (its.offers_well may b.offered, offers_none may (old ++ main_entry first ∷ []) s.later starts_none));
       offered = offered_now;
       ended = earlier is_ended (λ d x. ended_on old tail d x) b.ended s.ended;
       asks = ap (list_all (λ (e : Entry). is_of_run e.what)) s.is ∙ all-join (λ (e : Entry). is_of_run e.what) old tail b.asks (rw (its.asks, s.asks) refl);
+      lost = subst (AllLostWell []) (sym s.is) (lost_both [] old tail b.lost (λ mains. its.loses old, s.lost));
       rest = s.rest;
       spent = spent_now b.spent s.spent;
       untaken = s.untaken;

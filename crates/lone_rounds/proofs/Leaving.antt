@@ -1,6 +1,6 @@
 -- The wires and the programs of a run, as its journal grows.
 use Rattle.std.proofs.Common.{◌≡◌, ◌⊎◌, ℕ, suc, ◌+◌, ◌≤◌, List, [], ◌∷◌, ◌++◌, refl, sym, ap, subst, ◌∙◌, append_assoc, append-nil, length, length-append, Bool, true, false, Some, None, Option, arith, inl, inr}
-use Rattle.std.specs.Prelude.{◌||◌}
+use Rattle.std.specs.Prelude.{◌-◌, ◌^◌, min}
 use Rattle.std.specs.List.{cons_option}
 use Rattle.ann_outside.specs.Starts.{Starts, IsNumbered}
 use Rattle.ann_outside.specs.Causes.{AddsOne, Rose, Stays}
@@ -11,24 +11,23 @@ use Rattle.journal_model.specs.Journal.{any}
 use Rattle.journal_model.specs.Legality.{count, is_start}
 use Rattle.journal_model.specs.Halves.{EarValue, MouthValue, IsSameEar, IsSameMouth}
 use Rattle.journal_model.specs.Shares.{is_of_child}
-use Rattle.journal_model.proofs.Looks.{any-append, each_of-append}
-use Rattle.journal_model.proofs.Testing.{by_either}
+use Rattle.journal_model.proofs.Looks.{each_of-append}
 use Rattle.link_roles.proofs.Linked.{any_narrower}
 use Rattle.child_start.specs.Greetings.{AreNumbered}
 use Rattle.child_end.specs.Wires.{IsHeld, IsLaid, IsLeft, IsOfStart, WireValue, came, came_in}
 use Rattle.child_end.proofs.Held.{held_apart}
-use Rattle.child_end.specs.Programs.{AddsAll, ProgramsValue, is_failed_start, told, told_in}
+use Rattle.child_end.specs.Programs.{AddsAll, ProgramsValue, RoseBy, is_failed_start, told, told_in}
 use Rattle.lone_rounds.specs.Starting.{is_any_start}
 use Rattle.lone_rounds.specs.Stints.{AreLinked, AreUpTo, IsLinked, Kept, StartsOne, ear_of, main_entry, mouth_of}
-use Rattle.lone_rounds.proofs.Tests.{each_without, none_came}
+use Rattle.lone_rounds.proofs.Tests.{count-append, count_none, each_without, none_came}
 
 -- ---- counts of faults
 
-rose_later : (a b c : ℕ) → a ≤ b → Rose b c → Rose a c
-rose_later a b c h r = omega arith
+pub rose_both : (n m a b c : ℕ) → RoseBy n a b → RoseBy m b c → RoseBy (n + m) a c
+rose_both n m a b c h k = (let x : min (a + n) (2 ^ 64 - 1) ≤ b = h in let y : min (b + m) (2 ^ 64 - 1) ≤ c = k in omega (arith, x, y))
 
-pub rose_on : (a b c : ℕ) → Rose a b → b ≤ c → Rose a c
-rose_on a b c r h = omega arith
+pub rose_still : (n a b c : ℕ) → RoseBy n a b → b ≤ c → RoseBy n a c
+rose_still n a b c h k = (let x : min (a + n) (2 ^ 64 - 1) ≤ b = h in omega (arith, x, k))
 
 -- ---- lists that are told
 
@@ -178,7 +177,7 @@ starts_child program journal c offer before mid after faults ear mouth wires wir
     },
     tt,
   );
-  fault = λ failed. absurd (let bad : false ≡ true = failed in cc);
+  faults = rose_still 0 before.faults before.faults after.faults (omega arith) (omega arith);
   later = omega arith;
 }
 
@@ -197,7 +196,7 @@ starts_none program journal before after wires wires' adds rose le same = record
   new = [];
   laid = same ∙ sym (append-nil wires);
   linked = tt;
-  fault = λ failed. rose;
+  faults = rose;
   later = le;
 }
 
@@ -211,7 +210,7 @@ module _ {program : List ℕ} {old : List Entry} {start before : ProgramsValue} 
     linked = subst (AreLinked start.starts new 0 (came new)) (sym s.laid) (subst (λ (cs : List (Option ℕ)). AreLinked start.starts new 0 cs (wires ++ s.new)) (sym came_new)
         (linked_both start.starts new 0 (came old) (came (main_entry first ∷ [])) wires s.new earlier (here first s.new s.linked)));
     started = subst (AddsAll start.starts after.starts) (sym told_new) (adds_both start.starts before.starts after.starts (told program old) (told program (main_entry first ∷ [])) k.started s.adds);
-    fault = λ failed. rose failed;
+    faults = subst (λ (n : ℕ). RoseBy n start.faults after.faults) (sym failed_new) (rose_both (count is_failed_start old) (count is_failed_start (main_entry first ∷ [])) start.faults before.faults after.faults k.faults s.faults);
     later = (let a = k.later in let b = s.later in omega (arith, a, b));
   }
     where
@@ -246,22 +245,11 @@ module _ {program : List ℕ} {old : List Entry} {start before : ProgramsValue} 
       here w [] h = tt
       here w (v ∷ ws) h = absurd h
 
-      rose : any is_failed_start new ≡ true → Rose start.faults after.faults
-      rose failed = by_either (any is_failed_start old)
-          (λ some_old. rose_on start.faults before.faults after.faults (k.fault some_old) s.later)
-          (λ none_old. rose_later start.faults before.faults after.faults k.later (s.fault (at_first none_old (sym (ap (any is_failed_start) is ∙ any-append is_failed_start old tail) ∙ failed))))
-        where
-          later_none : any is_failed_start later ≡ false
-          later_none = any_narrower is_failed_start is_any_start failed_start_is later none
-
-          at_first : any is_failed_start old ≡ false → (any is_failed_start old || (is_failed_start first || any is_failed_start later)) ≡ true → is_failed_start first ≡ true
-          at_first none_old h = go (any is_failed_start old) (is_failed_start first) (any is_failed_start later) none_old later_none h
-            where
-              go : (a b d : Bool) → a ≡ false → d ≡ false → (a || (b || d)) ≡ true → b ≡ true
-              go false true false x y z = refl
-              go false false false x y z = absurd cc
-              go false b true x y z = absurd cc
-              go true b d x y z = absurd cc
+      failed_new : count is_failed_start new ≡ count is_failed_start old + count is_failed_start (main_entry first ∷ [])
+      failed_new =
+          ap (count is_failed_start) is ∙ count-append is_failed_start old tail
+          ∙ ap (λ (n : ℕ). count is_failed_start old + n)
+          (count-append is_failed_start (main_entry first ∷ []) later ∙ (let none_failed = count_none is_failed_start later (any_narrower is_failed_start is_any_start failed_start_is later none) in omega (arith, none_failed)))
 
   -- behind entries that start nothing and are of no child
   pub kept_still : (new more : List Entry) → new ≡ old ++ more → any is_any_start more ≡ false → ((d : ℕ) → any (is_of_child d) more ≡ false) → Kept program new start before wires
@@ -269,7 +257,7 @@ module _ {program : List ℕ} {old : List Entry} {start before : ProgramsValue} 
     linked = subst (λ (cs : List (Option ℕ)). AreLinked start.starts new 0 cs wires) (sym came_new)
         (subst (λ (j : List Entry). AreLinked start.starts j 0 (came old) wires) (sym is) (linked_on start.starts old more (count is_start old) (λ d le. apart d) 0 (came old) wires up_to k.linked));
     started = subst (AddsAll start.starts before.starts) (sym told_new) k.started;
-    fault = λ failed. k.fault (earlier failed);
+    faults = subst (λ (n : ℕ). RoseBy n start.faults before.faults) (sym failed_new) k.faults;
     later = k.later;
   }
     where
@@ -279,10 +267,6 @@ module _ {program : List ℕ} {old : List Entry} {start before : ProgramsValue} 
       told_new : told program new ≡ told program old
       told_new = ap (told program) is ∙ each_of-append (told_in program) old more ∙ ap (λ (ts : Starts). told program old ++ ts) (none_told program more none) ∙ append-nil (told program old)
 
-      earlier : any is_failed_start new ≡ true → any is_failed_start old ≡ true
-      earlier failed = go (any is_failed_start old) (any is_failed_start more) (any_narrower is_failed_start is_any_start failed_start_is more none) (sym (ap (any is_failed_start) is ∙ any-append is_failed_start old more) ∙ failed)
-        where
-          go : (a b : Bool) → b ≡ false → (a || b) ≡ true → a ≡ true
-          go true b e h = refl
-          go false true e h = absurd cc
-          go false false e h = absurd cc
+      failed_new : count is_failed_start new ≡ count is_failed_start old
+      failed_new =
+          ap (count is_failed_start) is ∙ count-append is_failed_start old more ∙ (let none_failed = count_none is_failed_start more (any_narrower is_failed_start is_any_start failed_start_is more none) in omega (arith, none_failed))

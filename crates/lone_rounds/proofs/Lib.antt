@@ -1,6 +1,9 @@
 pub mod Tests
 pub mod Apart
 pub mod Later
+pub mod Spending
+pub mod Nexts
+pub mod Losing
 pub mod Turns
 pub mod Zeros
 pub mod Runs

@@ -3,6 +3,7 @@ use Rattle.std.proofs.Common.{◌≡◌, ◌⊎◌, ℕ, ◌+◌, ◌<◌, ◌�
 use Rattle.std.specs.Prelude.{◌&&◌, ◌||◌, is_some, filter}
 use Rattle.std.specs.List.{list_all}
 use Rattle.std.specs.Option.{option_or}
+use Rattle.std.proofs.lemmas.List.Folds.{list_all-append}
 use Rattle.journal_model.specs.declared.verdict.Why.{Why}
 use Rattle.journal_model.specs.declared.verdict.Verdict.{Verdict}
 use Rattle.journal_model.specs.declared.verdict.Verdict.TheVariants.{Done as DoneAt}
@@ -28,15 +29,17 @@ use Rattle.gathering.specs.Tasks.{IsThrough}
 use Rattle.child_start.specs.Greetings.{Greeted, IsReady, is_of_greeting}
 use Rattle.child_start.proofs.Begun.{later_unstarted}
 use Rattle.task_run.specs.declared.setup.Setup.{Setup}
-use Rattle.task_run.specs.TaskRuns.{failed_start, gone_answer, or_refusal, refusal_of, unready_answer}
+use Rattle.task_run.specs.TaskRuns.{gone_answer, or_refusal, refusal_of, unready_answer}
 use Rattle.lone_work.specs.Works.{DeskTells, by_worker, claimed_task, claims_in, ends_answered}
-use Rattle.lone_rounds.specs.Starting.{is_ready_untagged, is_spent, is_unclosed}
-use Rattle.lone_rounds.specs.Rounds.{EndsClosed, start_untaken}
+use Rattle.lone_rounds.specs.Starting.{is_any_start, is_ready_untagged, is_spent, is_unclosed}
+use Rattle.lone_rounds.specs.Rounds.{AllStandNext, EndsClosed, NoneUntaken}
 use Rattle.lone_rounds.specs.Stints.{HasServed, Stint, TasksDone, in_stint, main_entry}
 use Rattle.lone_rounds.proofs.Apart.{ended_unclosed, is_unclosed_end, no_offer, no_start_in, spent_on}
 use Rattle.lone_rounds.proofs.Later.{late_from}
+use Rattle.lone_rounds.proofs.Losing.{loses_task}
+use Rattle.lone_rounds.proofs.Nexts.{next_both, next_quiet, next_where}
 use Rattle.lone_rounds.proofs.Runs.{done_same, worker_runs}
-use Rattle.lone_rounds.proofs.Stinting.{Closing, Part, closing, closing_claims, closing_ends, closing_part, closing_rests, greeting_claims_none, greeting_gives_none, greeting_part, greeting_takes_none, of_closing, part_both, worker_part}
+use Rattle.lone_rounds.proofs.Stinting.{Closing, Part, closing, closing_claims, closing_ends, closing_part, closing_rests, closing_loses, greeting_claims_none, greeting_gives_none, greeting_part, greeting_takes_none, quiet_greeting, served_lost, worker_loses, of_closing, part_both, worker_part}
 use Rattle.lone_rounds.proofs.Tests.{any_none, claimed_on, claimed_same, or_false}
 use Rattle.lone_rounds.proofs.Turns.{ready_untaken}
 
@@ -89,6 +92,28 @@ module _ (o : Opening) (g more : List Entry) (c : ℕ) (legal : Legal o g) (read
 
   pub answers_nothing : unready_answer (g ++ more) c ≡ None
   answers_nothing = ap (λ (b : Bool). cond b None (or_refusal (gone_answer (g ++ more) c) (refusal_of (g ++ more) c))) done_still
+
+-- behind its greeting no start is left for a task to take up, so one may be claimed for the child
+module _ (o : Opening) (old g : List Entry) (offer : Bool) (c : ℕ) (greeted : Greeted old g 0 offer c) (legal : Legal o g) (ready : IsReady g c) where
+  abbrev begun : Entry
+  begun = main_entry (Start c 0 offer)
+
+  pub ready_taken : (more : List Entry) → list_all (λ (e : Entry). in_stint c e.what) more ≡ true → NoneUntaken (g ++ more)
+  ready_taken more within =
+      let grown : g ++ more ≡ old ++ begun ∷ (greeted.more ++ more) = ap (λ (x : List Entry). x ++ more) greeted.grown ∙ append_assoc old (begun ∷ greeted.more) more in
+      subst NoneUntaken (sym grown)
+      (ready_untaken old (greeted.more ++ more) c offer c (all-join (λ (e : Entry). in_stint c e.what) greeted.more more (greeting_part c greeted.more greeted.own greeted.main).within within)
+      (subst (λ (j : List Entry). unready_answer j c ≡ None) grown (answers_nothing o g more c legal ready greeted.idle within)))
+
+  pub served_next : (more : List Entry) → list_all (λ (e : Entry). in_stint c e.what) more ≡ true → AllStandNext o (old ++ begun ∷ []) (greeted.more ++ more)
+  served_next more within =
+      next_both o (old ++ begun ∷ []) greeted.more more (next_quiet o (old ++ begun ∷ []) greeted.more (quiet_greeting old g offer c greeted))
+      (subst (λ (p : List Entry). AllStandNext o p more) (greeted.grown ∙ sym (append_assoc old (begun ∷ []) greeted.more))
+      (next_where o g more (any_none (in_stint c) is_any_start (no_start_in c) more within) (λ front rest split. ready_taken front (front_within front rest split))))
+    where
+      front_within : (front rest : List Entry) → more ≡ front ++ rest → list_all (λ (e : Entry). in_stint c e.what) front ≡ true
+      front_within front rest split = (both (list_all (λ (e : Entry). in_stint c e.what) front) (list_all (λ (e : Entry). in_stint c e.what) rest)
+          (sym (list_all-append (λ (e : Entry). in_stint c e.what) front rest) ∙ ap (list_all (λ (e : Entry). in_stint c e.what)) (sym split) ∙ within)).0
 
 -- ---- what ends a child that works
 
@@ -215,25 +240,24 @@ module _ (o : Opening) (setup : Setup) (limit : ℕ) (offer tagged : Bool) (old 
       go [] is h = absurd (let bad : true ≡ false = sym all ∙ unworked is in cc)
       go (x ∷ xs) is h = closing_ends c k.tail k.one g new x xs (k.is ∙ ap (λ (y : List Entry). y ++ k.tail) (s.worked.is ∙ ap (λ (y : List Entry). g ++ y) is)) h
 
-  unready_none : unready_answer new c ≡ None
-  unready_none = ap (λ (j : List Entry). unready_answer j c) behind ∙ answers_nothing o g (its ++ k.tail) c legal' ready greeted.idle rest_part.within
-
   ready_said : is_ready_untagged new c ≡ not tagged
   ready_said = ap (λ (j : List Entry). is_ready_untagged j c) behind ∙ ready_now o g (its ++ k.tail) c legal' ready greeted.idle rest_part.within ∙ ap not (sym tag)
 
   pub served_stint : Stint o setup limit offer (offer && tagged) (Start c 0 offer) old new desk desk'
   served_stint = record {
     stretch = record {
+      left = left;
       later = later;
       is = whole;
       start = inl (ap (λ (n : ℕ). Start n 0 offer) greeted.next);
+      turn = served_next o old g offer c greeted legal' ready (its ++ k.tail) rest_part.within;
       within = subst (λ (n : ℕ). list_all (λ (e : Entry). in_stint n e.what) later ≡ true) greeted.next part.within;
       asks = part.asks;
+      lost = served_lost old g offer c greeted (its ++ k.tail) (all-join (λ (e : Entry). loses_task e.what) its k.tail (worker_loses c its s.worked.only) (closing_loses c k.tail k.one));
       rest = λ u. ap (λ (j : List Entry). is_busy j u) k.is ∙ closing_rests c k.tail k.one s.mid s.can.rest u;
       ended = ap (λ (b : Bool). b && true) k.ended;
       spent = over;
-      untaken = subst (λ (j : List Entry). failed_start j (start_untaken j) ≡ None) (sym whole)
-          (ready_untaken old later c offer c part.within (subst (λ (j : List Entry). unready_answer j c ≡ None) whole unready_none));
+      untaken = subst NoneUntaken (sym behind) (ready_taken o old g offer c greeted legal' ready (its ++ k.tail) rest_part.within);
       offers = untagged offer tagged ∙ ap (λ (b : Bool). offer && not (b || false)) (sym ready_said);
     };
     main = part.main;

@@ -4,7 +4,7 @@ use Rattle.std.specs.Prelude.{◌&&◌, is_some}
 use Rattle.std.specs.List.{list_all, list_any}
 use Rattle.journal_model.specs.declared.verdict.Why.TheVariants.{Closed}
 use Rattle.journal_model.specs.declared.entry.What.{What}
-use Rattle.journal_model.specs.declared.entry.What.TheVariants.{Claim, Start, Ask, Put, Sent, Mute, Got, End, Verdict as Settled, Lost, Answer as Answered, Note}
+use Rattle.journal_model.specs.declared.entry.What.TheVariants.{Claim, NoStart, Start, Ask, Put, Sent, Mute, Got, End, Verdict as Settled, Lost, Answer as Answered, Note}
 use Rattle.journal_model.specs.declared.entry.Entry.{Entry}
 use Rattle.journal_model.specs.declared.opening.Opening.{Opening}
 use Rattle.journal_model.specs.Journal.{any, each_of, is_ended, is_started, open_jobs, starts}
@@ -29,9 +29,11 @@ use Rattle.child_start.specs.Greetings.{Greeted, IsReady, is_greeting_line, is_o
 use Rattle.lone_work.specs.KnownLayouts.{IsBook}
 use Rattle.lone_work.specs.Works.{CanWork, by_worker, claimed_task, claims_in, ends_answered}
 use Rattle.lone_work.proofs.Working.{ends_behind}
-use Rattle.lone_rounds.specs.Rounds.{EndsClosed, is_closing, is_of_run}
+use Rattle.lone_rounds.specs.Rounds.{AllLostWell, EndsClosed, is_closing, is_of_run}
 use Rattle.lone_rounds.specs.Stints.{AnswersOne, in_stint, main_entry}
 use Rattle.lone_rounds.proofs.Later.{all_work, greeting_asks, late}
+use Rattle.lone_rounds.proofs.Losing.{greeted_next, lost_both, lost_greeting, lost_tasks, loses_task}
+use Rattle.lone_rounds.proofs.Nexts.{is_quiet}
 use Rattle.lone_rounds.proofs.Tests.{each_none, any_none, claimed_same}
 use Rattle.lone_rounds.proofs.Zeros.{rests_one}
 
@@ -100,6 +102,12 @@ greeting_gives : (c : ℕ) (w : What) → is_of_greeting c w ≡ true → answer
 greeting_gives c (Answered task answer) h = absurd cc
 greeting_gives c w h = refl
 
+greeting_quiet : (c : ℕ) (w : What) → is_of_greeting c w ≡ true → is_quiet w ≡ true
+greeting_quiet c (Start child slot offer) h = absurd cc
+greeting_quiet c (NoStart slot) h = absurd cc
+greeting_quiet c (Claim task child) h = absurd cc
+greeting_quiet c w h = refl
+
 greeting_unclaimed : (c t : ℕ) (w : What) → is_of_greeting c w ≡ true → claims t w ≡ false
 greeting_unclaimed c t (Claim task child) h = absurd cc
 greeting_unclaimed c t w h = refl
@@ -117,6 +125,9 @@ module _ (old new : List Entry) (offer : Bool) (c : ℕ) (g : Greeted old new 0 
 
   pub greeting_gives_none : answers_in g.more ≡ []
   greeting_gives_none = each_none answer_in (is_of_greeting c) (greeting_gives c) g.more g.own
+
+  pub quiet_greeting : list_all (λ (e : Entry). is_quiet e.what) g.more ≡ true
+  quiet_greeting = all_in (is_of_greeting c) is_quiet (greeting_quiet c) g.more g.own
 
   pub greeting_rests : ((t : ℕ) → is_busy old t ≡ false) → (t : ℕ) → is_busy new t ≡ false
   greeting_rests rest t =
@@ -137,6 +148,13 @@ module _ (old new : List Entry) (offer : Bool) (c : ℕ) (g : Greeted old new 0 
     rest = greeting_rests rest;
     book = book;
   }
+
+-- what follows the greeting loses requests of tasks alone
+pub served_lost : (old new : List Entry) (offer : Bool) (c : ℕ) (g : Greeted old new 0 offer c) (more : List Entry) → list_all (λ (e : Entry). loses_task e.what) more ≡ true
+    → AllLostWell (old ++ main_entry (Start c 0 offer) ∷ []) (g.more ++ more)
+served_lost old new offer c g more h =
+    lost_both (old ++ main_entry (Start c 0 offer) ∷ []) g.more more (lost_greeting (old ++ main_entry (Start c 0 offer) ∷ []) c g.more (greeted_next old c 0 offer) g.own)
+    (lost_tasks ((old ++ main_entry (Start c 0 offer) ∷ []) ++ g.more) more h)
 
 -- ---- tasks
 
@@ -160,6 +178,13 @@ worker_part c xs only own later = record {
   main = own;
   asks = all_work c xs only later;
 }
+
+worker_loses_task : (c : ℕ) (w : What) → by_worker c w ≡ true → loses_task w ≡ true
+worker_loses_task c (Lost child task) h = (both (child == c) (not (task == 0)) h).1
+worker_loses_task c w h = refl
+
+pub worker_loses : (c : ℕ) (xs : List Entry) → list_all (λ (e : Entry). by_worker c e.what) xs ≡ true → list_all (λ (e : Entry). loses_task e.what) xs ≡ true
+worker_loses c xs h = all_in (by_worker c) loses_task (worker_loses_task c) xs h
 
 pub zero_part : (c t : ℕ) (answer : Answer) → Part c (main_entry (Claim t 0) ∷ main_entry (Answered t answer) ∷ [])
 zero_part c t answer = record { within = refl; main = refl; asks = refl }
@@ -194,6 +219,9 @@ module _ (c : ℕ) (tail : List Entry) (one : (tail ≡ []) ⊎ (tail ≡ main_e
 
   pub closing_part : Part c tail
   closing_part = of_closing (Part c) (record { within = refl; main = refl; asks = refl }) (record { within = rw (same c) refl; main = refl; asks = refl })
+
+  pub closing_loses : list_all (λ (e : Entry). loses_task e.what) tail ≡ true
+  closing_loses = of_closing (λ (x : List Entry). list_all (λ (e : Entry). loses_task e.what) x ≡ true) refl refl
 
   pub closing_closes : list_all (λ (e : Entry). is_closing e.what) tail ≡ true
   closing_closes = of_closing (λ (x : List Entry). list_all (λ (e : Entry). is_closing e.what) x ≡ true) refl refl

@@ -19,7 +19,7 @@ use Rattle.journal_model.specs.Shares.{is_closed}
 use Rattle.journal_model.proofs.Holding.{holder_append}
 use Rattle.journal_model.proofs.Linking.{why_is_end}
 use Rattle.journal_model.proofs.Looks.{each_of-append, or_none, verdict_of-append}
-use Rattle.journal_model.proofs.Testing.{or_left, or_right}
+use Rattle.journal_model.proofs.Testing.{all-join, or_left, or_right}
 use Rattle.host_core.specs.Steps.{are_all_claimed}
 use Rattle.child_start.specs.Greetings.{Greeted, HasEnded, IsRefused, IsUnsent, is_of_greeting, is_refusal}
 use Rattle.task_run.specs.declared.setup.Setup.{Setup}
@@ -30,8 +30,10 @@ use Rattle.lone_rounds.specs.Rounds.{ZeroAnswers, start_untaken, turn_of}
 use Rattle.lone_rounds.specs.Stints.{AnswersOne, Stint, TasksDone, TurnsAway, in_stint, main_entry}
 use Rattle.lone_work.proofs.Working.{ends_behind}
 use Rattle.lone_rounds.proofs.Apart.{spent_on, why_unclosed}
+use Rattle.lone_rounds.proofs.Losing.{lost_tasks}
+use Rattle.lone_rounds.proofs.Nexts.{is_quiet, next_quiet}
 use Rattle.lone_rounds.proofs.Runs.{IsOfNoCall, done_same, done_zero}
-use Rattle.lone_rounds.proofs.Stinting.{Closing, Part, closing, closing_ends, closing_part, closing_rests, greeting_claims_none, greeting_gives_none, greeting_part, greeting_rests, greeting_takes_none, of_closing, part_both, zero_part}
+use Rattle.lone_rounds.proofs.Stinting.{Closing, Part, closing, closing_ends, closing_loses, closing_part, closing_rests, greeting_claims_none, greeting_gives_none, greeting_part, greeting_rests, greeting_takes_none, of_closing, part_both, quiet_greeting, served_lost, zero_part}
 use Rattle.lone_rounds.proofs.Tests.{claimed_same, each_none}
 use Rattle.lone_rounds.proofs.Turns.{child_untaken, claim_takes, fault_untaken, none_fails}
 use Rattle.lone_rounds.proofs.Zeros.{rests_one}
@@ -154,7 +156,7 @@ module _ (o : Opening) (setup : Setup) (limit : ℕ) (offer : Bool) (old g new :
     done : TasksDone o setup limit new later desk desk
     done = done_same o setup limit new zero later desk desk taken given (done_zero o setup limit new g k.tail t answer desk behind answers unready.quiet)
 
-    unprepared : is_ready_untagged new c ≡ false
+    pub unprepared : is_ready_untagged new c ≡ false
     unprepared =
         let none : verdict_of (zero ++ k.tail) c 1 ≡ None = of_closing c k.tail k.one (λ (x : List Entry). verdict_of (zero ++ x) c 1 ≡ None) refl refl in
         let v : verdict_of new c 1 ≡ verdict_of g c 1 = ap (λ (j : List Entry). verdict_of j c 1) behind ∙ verdict_of-append c 1 g (zero ++ k.tail) ∙ or_none (verdict_of g c 1) (verdict_of (zero ++ k.tail) c 1) none in
@@ -163,11 +165,15 @@ module _ (o : Opening) (setup : Setup) (limit : ℕ) (offer : Bool) (old g new :
     pub turned_away : Stint o setup limit offer offer (Start c 0 offer) old new desk desk
     turned_away = record {
       stretch = record {
+        left = left;
         later = later;
         is = whole;
         start = inl (ap (λ (n : ℕ). Start n 0 offer) greeted.next);
+        turn = next_quiet o (old ++ first ∷ []) later (all-join (λ (e : Entry). is_quiet e.what) greeted.more (zero ++ k.tail) (quiet_greeting old g offer c greeted)
+            (of_closing c k.tail k.one (λ (x : List Entry). list_all (λ (e : Entry). is_quiet e.what) (zero ++ x) ≡ true) refl refl));
         within = subst (λ (n : ℕ). list_all (λ (e : Entry). in_stint n e.what) later ≡ true) greeted.next part.within;
         asks = part.asks;
+        lost = served_lost old g offer c greeted (zero ++ k.tail) (closing_loses c k.tail k.one);
         rest = λ u. ap (λ (j : List Entry). is_busy j u) (k.is ∙ ap (λ (x : List Entry). x ++ k.tail) is)
             ∙ closing_rests c k.tail k.one (g ++ zero) (rests_one g t answer (greeting_rests old g offer c greeted rest)) u;
         ended = ap (λ (b : Bool). b && true) k.ended;
@@ -203,12 +209,15 @@ module _ (o : Opening) (setup : Setup) (limit : ℕ) (offer : Bool) (old g new :
   fault_one : (t : ℕ) → new ≡ g ++ main_entry (Claim t 0) ∷ main_entry (Answered t StartFault) ∷ [] → Stint o setup limit offer offer (NoStart 0) old new desk desk
   fault_one t is = record {
     stretch = record {
+      left = left;
       later = main_entry (Claim t 0) ∷ main_entry (Answered t StartFault) ∷ [];
       is = is ∙ ap (λ (x : List Entry). x ++ main_entry (Claim t 0) ∷ main_entry (Answered t StartFault) ∷ []) failed
           ∙ append_assoc old (main_entry (NoStart 0) ∷ []) (main_entry (Claim t 0) ∷ main_entry (Answered t StartFault) ∷ []);
       start = inr refl;
+      turn = next_quiet o (old ++ main_entry (NoStart 0) ∷ []) (main_entry (Claim t 0) ∷ main_entry (Answered t StartFault) ∷ []) refl;
       within = refl;
       asks = refl;
+      lost = lost_tasks (old ++ main_entry (NoStart 0) ∷ []) (main_entry (Claim t 0) ∷ main_entry (Answered t StartFault) ∷ []) refl;
       rest = λ u. ap (λ (j : List Entry). is_busy j u) is ∙ rests_one g t StartFault fault_rests u;
       ended = refl;
       spent = inl refl;

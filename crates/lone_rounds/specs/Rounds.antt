@@ -1,5 +1,5 @@
 -- What a run leaves that is made by one thread, over one child at a time.
-use Rattle.std.specs.Prelude.{ℕ, ◌≡◌, ◌⊎◌, ◌<◌, ◌==◌, ◌||◌, not, if◌then◌else◌, Bool, true, false, List, [], ◌∷◌, ◌++◌, map, All, Option, Some, None, option_and_then, Result, MatchResult}
+use Rattle.std.specs.Prelude.{ℕ, ◌≡◌, ◌⊎◌, ◌<◌, ◌≤◌, ◌==◌, ◌||◌, not, if◌then◌else◌, Bool, true, false, List, [], ◌∷◌, ◌++◌, map, All, Option, Some, None, option_and_then, Result, MatchResult}
 use Rattle.std.specs.List.{list_all, last_or}
 use Rattle.ann_key.specs.declared.bytes.NoMemory.{NoMemory}
 use Rattle.ann_outside.specs.Calls.{Gained}
@@ -7,7 +7,7 @@ use Rattle.journal_model.specs.declared.verdict.Why.TheVariants.{Memory as ForMe
 use Rattle.journal_model.specs.declared.answer.Answer.{Answer}
 use Rattle.journal_model.specs.declared.answer.Answer.TheVariants.{Memory, NoChild}
 use Rattle.journal_model.specs.declared.entry.What.{What}
-use Rattle.journal_model.specs.declared.entry.What.TheVariants.{Start, NoStart, Claim, Ask, End, Answer as Answered}
+use Rattle.journal_model.specs.declared.entry.What.TheVariants.{Start, NoStart, Claim, Ask, End, Lost, Answer as Answered}
 use Rattle.journal_model.specs.declared.entry.Entry.{Entry}
 use Rattle.journal_model.specs.declared.opening.Opening.{Opening}
 use Rattle.journal_model.specs.Journal.{any, each_of}
@@ -20,7 +20,7 @@ use Rattle.task_run.specs.TaskRuns.{failed_start}
 use Rattle.gathering.specs.JournalRuns.{JournalRun}
 use Rattle.child_start.specs.Greetings.{is_greeting_line}
 use Rattle.lone_work.specs.Works.{DeskTells, TaskDone, CausedInTurn, all_calls, claims_in, ends_answered}
-use Rattle.lone_rounds.specs.Starting.{AreStarts, AreSpent, AreEnded, is_any_start}
+use Rattle.lone_rounds.specs.Starting.{AllOffer, AreEnded, AreSpent, is_any_start, is_elsewhere}
 
 -- ---- a task that no child takes
 
@@ -34,6 +34,64 @@ turn_of w = None
 -- what the last start came to, where no task was claimed behind it
 abbrev pub start_untaken : List Entry → Option (Option ℕ)
 start_untaken past = option_and_then (λ turn. turn) (last_or None (each_of turn_of past))
+
+-- no start that gave no child that is ready is left for a task to take up
+abbrev pub NoneUntaken : List Entry → Type 0
+NoneUntaken past = failed_start past (start_untaken past) ≡ None
+
+-- ---- in which turn
+
+-- Slot 0 may be started: a task is left, each child before has ended, and no start is left for one to take up.
+pub record MayStart (o : Opening) (past : List Entry) : Type 0 where
+  pub left : are_all_claimed o past ≡ false
+  pub ended : AreEnded past
+  pub taken : NoneUntaken past
+
+-- slot 0 is started only where it may be, and a task is claimed for a child only where no start is left for one to take up
+abbrev pub StandsNext : Opening → List Entry → What → Type 0
+StandsNext o past (Start child slot offer) = slot ≡ 0 → MayStart o past
+StandsNext o past (NoStart slot) = slot ≡ 0 → MayStart o past
+StandsNext o past (Claim task child) = 0 < child → NoneUntaken past
+StandsNext o past w = Unit {0}
+
+-- so do all of the entries, which stand behind past
+abbrev pub AllStandNext : Opening → List Entry → List Entry → Type 0
+AllStandNext o past [] = Unit {0}
+AllStandNext o past (e ∷ rest) = StandsNext o past e.what × AllStandNext o (past ++ e ∷ []) rest
+
+-- All starts are in slot 0, each in its turn, at most so many, and each offers ASYNC exactly where it is to. None is left for a task to
+-- take up.
+pub record AreStarts (o : Opening) (may : Bool) (limit : ℕ) (journal : List Entry) : Type 0 where
+  pub slots : any is_elsewhere journal ≡ false
+  pub next : AllStandNext o [] journal
+  pub few : count is_any_start journal ≤ limit
+  pub offers : AllOffer may [] journal
+  pub taken : NoneUntaken journal
+
+-- ---- requests that are lost
+
+-- what starts and claims come to, in any slot: a start to its child or to none, which a claim takes up
+abbrev pub opened_in : What → Option (Option ℕ)
+opened_in (Start child slot offer) = Some (Some child)
+opened_in (NoStart slot) = Some None
+opened_in (Claim task child) = Some None
+opened_in w = None
+
+-- the child that is greeted here: that of the last start, where no task was claimed behind it
+abbrev pub greeted : List Entry → Option ℕ
+greeted past = option_and_then (λ child. child) (last_or None (each_of opened_in past))
+
+-- a request of no task is lost in the greeting of its child alone
+abbrev pub IsLostIn : List Entry → What → Type 0
+IsLostIn past (Lost child task) = task ≡ 0 → greeted past ≡ Some child
+IsLostIn past w = Unit {0}
+
+-- so is each that the main thread lost among the entries, which stand behind past
+abbrev pub AllLostWell : List Entry → List Entry → Type 0
+AllLostWell past [] = Unit {0}
+AllLostWell past (e ∷ rest) = (e.by ≡ 0 → IsLostIn past e.what) × AllLostWell (past ++ e ∷ []) rest
+
+-- ---- a task that is left
 
 -- a child ended for want of memory
 abbrev pub ends_for_memory : What → Bool
@@ -76,15 +134,17 @@ abbrev pub is_of_run : What → Bool
 is_of_run (Ask child job task line) = if is_greeting_line job line then task == 0 else not (job == 0 || (job == 1 || task == 0))
 is_of_run w = true
 
--- The journal is legal and all its entries are the main thread's. Each child was started in its turn, and has ended. Each task
+-- The journal is legal and all its entries are the main thread's. Each child was started in its turn, and has ended. A request of no task
+-- is lost in a greeting alone. Each task
 -- that was claimed was run and then answered so, one behind the other, and the desk made the calls of these runs, in their
 -- order, and no others.
 pub record RanAlone (o : Opening) (setup : Setup) (may : Bool) (limit : ℕ) (journal : List Entry) (desk desk' : DeskTells) : Type 0 where
   pub legal : Legal o journal
   pub main : are_by 0 journal ≡ true
-  pub starts : AreStarts may limit journal
+  pub starts : AreStarts o may limit journal
   pub ended : AreEnded journal
   pub asks : list_all (λ e. is_of_run e.what) journal ≡ true
+  pub lost : AllLostWell [] journal
   pub done : List TaskDone
   pub claimed : map (λ r. r.task) done ≡ claims_in journal
   pub answered : map (λ r. (r.task, r.answer)) done ≡ answers_in journal

@@ -1,13 +1,13 @@
 -- Which starts a run makes, when it offers ASYNC, and what spends a start.
-use Rattle.std.specs.Prelude.{ℕ, ◌≡◌, ◌≤◌, ◌==◌, ◌&&◌, ◌||◌, not, Bool, true, false, List, [], ◌∷◌, ◌++◌, Option, Some, None, is_some}
+use Rattle.std.specs.Prelude.{ℕ, ◌≡◌, ◌==◌, ◌&&◌, ◌||◌, not, if◌then◌else◌, Bool, true, false, List, [], ◌∷◌, ◌++◌, Option, Some, None, is_some}
 use Rattle.std.specs.List.{list_all, list_any}
 use Rattle.journal_model.specs.declared.verdict.Why.{Why}
 use Rattle.journal_model.specs.declared.verdict.Why.TheVariants.{Closed}
 use Rattle.journal_model.specs.declared.entry.What.{What}
 use Rattle.journal_model.specs.declared.entry.What.TheVariants.{Start, NoStart}
 use Rattle.journal_model.specs.declared.entry.Entry.{Entry}
-use Rattle.journal_model.specs.Journal.{any, each_of, is_ended, is_mute, is_tagged, why_of}
-use Rattle.journal_model.specs.Legality.{count, is_prepared}
+use Rattle.journal_model.specs.Journal.{each_of, is_ended, is_mute, is_tagged, why_of}
+use Rattle.journal_model.specs.Legality.{is_prepared}
 use Rattle.task_run.specs.TaskRuns.{refusal_of}
 
 -- ---- starts
@@ -53,12 +53,6 @@ abbrev pub AllOffer : Bool → List Entry → List Entry → Type 0
 AllOffer may past [] = Unit {0}
 AllOffer may past (e ∷ rest) = OffersWell may past e.what × AllOffer may (past ++ e ∷ []) rest
 
--- All starts are in slot 0, at most so many, and each offers ASYNC exactly where it is to.
-pub record AreStarts (may : Bool) (limit : ℕ) (journal : List Entry) : Type 0 where
-  pub slots : any is_elsewhere journal ≡ false
-  pub few : count is_any_start journal ≤ limit
-  pub offers : AllOffer may [] journal
-
 -- ---- what spends a start
 
 -- an end that the host didn't make by closing
@@ -71,9 +65,24 @@ is_unclosed (Some why) = true
 abbrev pub is_spent : List Entry → ℕ → Bool
 is_spent past c = is_some (refusal_of past c) || (is_mute past c || is_unclosed (why_of past c))
 
--- each start is spent; one that gave no child is
+-- the entries before the first of this kind
+abbrev pub up_to : (What → Bool) → List Entry → List Entry
+up_to is [] = []
+up_to is (e ∷ rest) = if is e.what then [] else e ∷ up_to is rest
+
+-- Of a start, the last of these entries, and of what stands behind it: it gave no child, or its child is spent by what stands before the
+-- next start.
+abbrev pub is_start_spent : List Entry → What → List Entry → Bool
+is_start_spent here (Start child slot offer) rest = is_spent (here ++ up_to is_any_start rest) child
+is_start_spent here w rest = true
+
+-- so is each start of the entries, which stand behind past
+abbrev pub are_spent : List Entry → List Entry → Bool
+are_spent past [] = true
+are_spent past (e ∷ rest) = is_start_spent (past ++ e ∷ []) e.what rest && are_spent (past ++ e ∷ []) rest
+
 abbrev pub AreSpent : List Entry → Type 0
-AreSpent past = list_all (is_spent past) (children past) ≡ true
+AreSpent journal = are_spent [] journal ≡ true
 
 -- each child has ended
 abbrev pub AreEnded : List Entry → Type 0

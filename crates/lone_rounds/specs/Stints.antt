@@ -3,7 +3,7 @@ use Rattle.std.specs.Prelude.{ℕ, ◌≡◌, ◌⊎◌, ◌≤◌, ◌+◌, ◌
 use Rattle.std.specs.List.{list_all, list_any}
 use Rattle.ann_key.specs.declared.bytes.NoMemory.{NoMemory}
 use Rattle.ann_outside.specs.Calls.{Gained}
-use Rattle.ann_outside.specs.Causes.{AddsOne, Rose, Stays}
+use Rattle.ann_outside.specs.Causes.{AddsOne, Stays}
 use Rattle.ann_outside.specs.Starts.{Starts}
 use Rattle.journal_model.specs.declared.answer.Answer.{Answer}
 use Rattle.journal_model.specs.declared.entry.What.{What}
@@ -19,12 +19,11 @@ use Rattle.host_core.specs.Steps.{are_all_claimed}
 use Rattle.link_roles.specs.Alone.{Closes}
 use Rattle.gathering.specs.Tasks.{IsThrough}
 use Rattle.task_run.specs.declared.setup.Setup.{Setup}
-use Rattle.task_run.specs.TaskRuns.{failed_start}
 use Rattle.lone_work.specs.Works.{CanWork, DeskTells, TaskDone, Worked, CausedInTurn, all_calls, claims_in}
 use Rattle.child_end.specs.Wires.{WireValue, IsHeld, IsOfStart, came}
-use Rattle.child_end.specs.Programs.{ProgramsValue, AddsAll, is_failed_start, told}
+use Rattle.child_end.specs.Programs.{ProgramsValue, AddsAll, RoseBy, is_failed_start, told}
 use Rattle.lone_rounds.specs.Starting.{AllOffer, AreEnded, AreSpent, children, is_any_start, is_elsewhere, is_offered, is_ready_untagged, is_spent}
-use Rattle.lone_rounds.specs.Rounds.{EndsClosed, HasRun, ends_for_memory, is_of_run, start_untaken}
+use Rattle.lone_rounds.specs.Rounds.{AllLostWell, AllStandNext, EndsClosed, HasRun, NoneUntaken, ends_for_memory, is_of_run}
 
 -- an entry of the main thread's own
 abbrev pub main_entry : What → Entry
@@ -114,18 +113,21 @@ next_child past = count is_start past + 1
 abbrev pub IsStart : List Entry → Bool → What → Type 0
 IsStart past offer first = (first ≡ Start (next_child past) 0 offer) ⊎ (first ≡ NoStart 0)
 
--- The journal has one start more, and what followed it, whoever made that. No task is busy behind it; its child has ended; it is
--- spent, or all tasks are claimed. `next` says whether ASYNC is offered from then on.
+-- Where a task is left, the journal has one start more, and what followed it, whoever made that, in turn. No task is busy behind it; its
+-- child has ended; it is spent, or all tasks are claimed. `next` says whether ASYNC is offered from then on.
 pub record Stretch (o : Opening) (offer next : Bool) (first : What) (old new : List Entry) : Type 0 where
+  pub left : are_all_claimed o old ≡ false
   pub later : List Entry
   pub is : new ≡ old ++ main_entry first ∷ later
   pub start : IsStart old offer first
+  pub turn : AllStandNext o (old ++ main_entry first ∷ []) later
   pub within : list_all (λ e. in_stint (next_child old) e.what) later ≡ true
   pub asks : list_all (λ e. is_of_run e.what) later ≡ true
+  pub lost : AllLostWell (old ++ main_entry first ∷ []) later
   pub rest : (t : ℕ) → is_busy new t ≡ false
   pub ended : list_all (is_ended new) (children (main_entry first ∷ [])) ≡ true
   pub spent : (list_all (is_spent new) (children (main_entry first ∷ [])) ≡ true) ⊎ (are_all_claimed o new ≡ true)
-  pub untaken : failed_start new (start_untaken new) ≡ None
+  pub untaken : NoneUntaken new
   pub offers : next ≡ (offer && not (list_any (is_ready_untagged new) (children (main_entry first ∷ []))))
 
 -- the same, where the main thread made it, did the tasks and closed the child
@@ -159,13 +161,13 @@ AreLinked starts journal n (None ∷ cs) wires = AreLinked starts journal (n + 1
 AreLinked starts journal n (Some c ∷ cs) (wire ∷ wires) = (wire.child ≡ c) × IsLinked starts journal (n + 1) wire × AreLinked starts journal (n + 1) cs wires
 AreLinked starts journal n _ _ = ⊥
 
--- the programs were asked for this one once more, and the wires are those of its child, or none; a fault was counted where it failed
+-- the programs were asked for this one once more, and the wires are those of its child, or none; a fault was counted if it failed
 pub record StartsOne (program : List ℕ) (journal : List Entry) (first : What) (before after : ProgramsValue) (wires wires' : List WireValue) : Type 0 where
   pub adds : AddsAll before.starts after.starts (told program (main_entry first ∷ []))
   pub new : List WireValue
   pub laid : wires' ≡ wires ++ new
   pub linked : AreLinked before.starts journal 0 (came (main_entry first ∷ [])) new
-  pub fault : is_failed_start first ≡ true → Rose before.faults after.faults
+  pub faults : RoseBy (count is_failed_start (main_entry first ∷ [])) before.faults after.faults
   pub later : before.faults ≤ after.faults
 
 -- one start, in the journal and of the objects
@@ -193,19 +195,21 @@ AreUpTo n [] = Unit {0}
 AreUpTo n (None ∷ cs) = AreUpTo n cs
 AreUpTo n (Some c ∷ cs) = (c ≤ n) × AreUpTo n cs
 
--- So many starts were made, all in slot 0, each offering ASYNC where it was to. Their children have ended, and are spent unless all
+-- So many starts were made, all in slot 0, each in its turn, offering ASYNC where it was to. Their children have ended, and are spent unless all
 -- tasks are claimed; no task is busy, and no start is left for one to take.
 pub record Spaced (o : Opening) (may : Bool) (made : ℕ) (offer : Bool) (journal : List Entry) : Type 0 where
   pub legal : Legal o journal
   pub slots : any is_elsewhere journal ≡ false
+  pub turn : AllStandNext o [] journal
   pub starts : count is_any_start journal ≡ made
   pub offers : AllOffer may [] journal
   pub offered : offer ≡ (may && is_offered journal)
   pub ended : AreEnded journal
   pub asks : list_all (λ e. is_of_run e.what) journal ≡ true
+  pub lost : AllLostWell [] journal
   pub rest : (t : ℕ) → is_busy journal t ≡ false
   pub spent : AreSpent journal ⊎ (are_all_claimed o journal ≡ true)
-  pub untaken : failed_start journal (start_untaken journal) ≡ None
+  pub untaken : NoneUntaken journal
   pub few : AreUpTo (count is_start journal) (came journal)
 
 -- the same, where the main thread made all of it; each task that was claimed is done
@@ -215,11 +219,11 @@ pub record Between (o : Opening) (setup : Setup) (may : Bool) (limit made : ℕ)
   pub done : TasksDone o setup limit journal journal desk desk'
   pub last : are_all_claimed o journal ≡ true → EndsClosed journal
 
--- the programs were asked for what the journal says, each of its children has its wire, and a fault was counted where one failed
+-- the programs were asked for what the journal says, each of its children has its wire, and a fault was counted for each that failed
 pub record Kept (program : List ℕ) (journal : List Entry) (before after : ProgramsValue) (wires : List WireValue) : Type 0 where
   pub linked : AreLinked before.starts journal 0 (came journal) wires
   pub started : AddsAll before.starts after.starts (told program journal)
-  pub fault : any is_failed_start journal ≡ true → Rose before.faults after.faults
+  pub faults : RoseBy (count is_failed_start journal) before.faults after.faults
   pub later : before.faults ≤ after.faults
 
 -- the same, where they may have been asked once more for want of memory

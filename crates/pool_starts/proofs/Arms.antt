@@ -29,9 +29,10 @@ use Rattle.gathering.specs.Rounds.{IsAtRest, LinkValue}
 use Rattle.lone_rounds.specs.Starting.{is_unclosed}
 use Rattle.lone_rounds.specs.Rounds.{is_of_run}
 use Rattle.lone_rounds.specs.Stints.{AreLinked, StartsOne, main_entry, next_child}
-use Rattle.lone_rounds.proofs.Leaving.{adds_one, starts_child}
+use Rattle.lone_rounds.proofs.Leaving.{adds_one, rose_still, starts_child}
+use Rattle.lone_rounds.proofs.Losing.{greeted_next, lost_both, lost_greeting, lost_tasks}
 use Rattle.lone_rounds.proofs.Served.{all_unclosed, greeting_unclosed, new_unclosed}
-use Rattle.lone_rounds.proofs.Stinting.{Closing, closing, closing_part, greeting_part, may_close, of_closing}
+use Rattle.lone_rounds.proofs.Stinting.{Closing, closing, closing_loses, closing_part, greeting_part, may_close, of_closing}
 use Rattle.crew_rounds.specs.Tagged.{link_of}
 use Rattle.crew_rounds.specs.PoolChildren.{MayServe}
 use Rattle.pool_starts.specs.Pools.{AreSeated, OverBy, SeatValue, Serves, is_among}
@@ -91,6 +92,7 @@ module _ (o : Opening) (program : List ℕ) (slot : ℕ) (old g : List Entry) (b
     within = subst (λ (n : ℕ). list_all (λ (e : Entry). is_of_child n e.what) greeted.more ≡ true) greeted.next (own old g slot ear.child greeted);
     main = greeted.main;
     asks = (greeting_part ear.child greeted.more greeted.own greeted.main).asks;
+    lost = lost_greeting (old ++ main_entry (Start ear.child slot false) ∷ []) ear.child greeted.more (greeted_next old ear.child slot false) greeted.own;
     idle = subst (λ (n : ℕ). open_jobs g n ≡ []) greeted.next greeted.idle;
     seat = Serves ∷ [];
     link = link_of ear mouth ∷ [];
@@ -112,7 +114,7 @@ module _ (o : Opening) (program : List ℕ) (slot : ℕ) (old g : List Entry) (b
     one_child = All-cons (λ (l : LinkValue). l.mouth.child ≡ l.ear.child) (link_of ear mouth) [] one (All-nil (λ (l : LinkValue). l.mouth.child ≡ l.ear.child));
     seated = (refl, of_start before.starts mid.starts (program, true) mouth.number adds numbered.0, of_start before.starts mid.starts (program, true) ear.number adds numbered.1, tt);
     adds = adds_one before.starts mid.starts (program, true) adds;
-    fault = λ failed. absurd (let bad : false ≡ true = failed in cc);
+    faults = rose_still 0 before.faults before.faults mid.faults (omega arith) faults;
     later_faults = faults;
   }
 
@@ -149,6 +151,9 @@ module _ (o : Opening) (program : List ℕ) (slot : ℕ) (old g : List Entry) (b
       asks = all-join (λ (e : Entry). is_of_run e.what) greeted.more k.tail (greeting_part ear.child greeted.more greeted.own greeted.main).asks (closing_part ear.child k.tail k.one).asks;
       idle = subst (λ (n : ℕ). open_jobs new n ≡ []) greeted.next
           (ap (λ (j : List Entry). open_jobs j ear.child) k.is ∙ idle_on g k.tail ear.child (of_closing ear.child k.tail k.one (λ (x : List Entry). asked_jobs x ear.child ≡ []) refl refl) greeted.idle);
+      lost = lost_both (old ++ main_entry (Start ear.child slot false) ∷ []) greeted.more k.tail
+          (lost_greeting (old ++ main_entry (Start ear.child slot false) ∷ []) ear.child greeted.more (greeted_next old ear.child slot false) greeted.own)
+          (lost_tasks ((old ++ main_entry (Start ear.child slot false) ∷ []) ++ greeted.more) k.tail (closing_loses ear.child k.tail k.one));
       seat = OverBy over.wire ∷ [];
       link = [];
       seats_are = over.seats_are;
@@ -159,7 +164,7 @@ module _ (o : Opening) (program : List ℕ) (slot : ℕ) (old g : List Entry) (b
       one_child = All-nil (λ (l : LinkValue). l.mouth.child ≡ l.ear.child);
       seated = laid_one its.new its.laid its.linked;
       adds = its.adds;
-      fault = λ failed. absurd (let bad : false ≡ true = failed in cc);
+      faults = its.faults;
       later_faults = its.later;
     }
 
@@ -185,6 +190,7 @@ fault_seats o program slot old new before after seats links is calm adds rose la
   one_child = All-nil (λ (l : LinkValue). l.mouth.child ≡ l.ear.child);
   seated = tt;
   adds = adds_one before.starts after.starts (program, false) adds;
-  fault = λ failed. rose;
+  lost = tt;
+  faults = rose;
   later_faults = later;
 }

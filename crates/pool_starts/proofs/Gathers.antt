@@ -7,10 +7,10 @@ use Rattle.journal_model.specs.declared.entry.Entry.{Entry}
 use Rattle.journal_model.specs.declared.opening.Opening.{Opening}
 use Rattle.journal_model.specs.Legality.{Legal, count, is_start}
 use Rattle.host_core.specs.Steps.{unclaimed}
-use Rattle.child_end.specs.Programs.{AddsAll, HaveStarted, ProgramsValue, told}
+use Rattle.child_end.specs.Programs.{AddsAll, HaveStarted, ProgramsValue, is_failed_start, told}
 use Rattle.child_end.specs.Wires.{came}
 use Rattle.gathering.specs.Rounds.{LinkValue}
-use Rattle.lone_rounds.proofs.Leaving.{adds_both, adds_none, adds_one, rose_on, stays_none}
+use Rattle.lone_rounds.proofs.Leaving.{adds_both, adds_none, adds_one, rose_still, stays_none}
 use Rattle.crew_rounds.specs.PoolChildren.{MayServe, PoolCan}
 use Rattle.pool_starts.specs.Pools.{Gathered, IsPool, IsWithin, SeatValue, Serves}
 use Rattle.pool_starts.specs.Seats.{SeatsNone, SeatsOne}
@@ -40,6 +40,7 @@ module _ (o : Opening) (jobs : ℕ) (program : List ℕ) (old : List Entry) (fir
         unclaimed_yet = refl;
         untagged = refl;
         asks = refl;
+        lost = tt;
         turn = tt;
         ended = refl;
         ready = refl;
@@ -49,7 +50,7 @@ module _ (o : Opening) (jobs : ℕ) (program : List ℕ) (old : List Entry) (fir
       by = record {
         seated = tt;
         started = inl (adds_none before.starts);
-        fault = λ failed. absurd (let bad : false ≡ true = failed in cc);
+        faults = rose_still 0 before.faults before.faults before.faults (omega arith) (omega arith);
         later_faults = omega arith;
       };
     };
@@ -100,6 +101,7 @@ module _ {o : Opening} {jobs : ℕ} {program : List ℕ} {old mid : List Entry} 
       unclaimed_yet = g.unclaimed_yet;
       untagged = g.untagged;
       asks = g.asks;
+      lost = g.lost;
       turn = g.turn;
       ended = g.ended;
       ready = g.ready;
@@ -131,7 +133,7 @@ module _ {o : Opening} {jobs : ℕ} {program : List ℕ} {old mid : List Entry} 
         by = record {
           seated = t.pool.by.seated;
           started = asked n.asked.0;
-          fault = λ failed. rose_on before.faults between.faults after.faults (t.pool.by.fault failed) n.asked.1;
+          faults = rose_still (count is_failed_start g.later) before.faults between.faults after.faults t.pool.by.faults n.asked.1;
           later_faults = (let a = t.pool.by.later_faults in let b = n.asked.1 in omega (arith, a, b));
         };
       }

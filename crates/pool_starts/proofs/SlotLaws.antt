@@ -182,8 +182,7 @@ turn_where o jobs past (e ∷ xs) none f = (
     one : (w : What) → is_any_start w ≡ false → IsManned o jobs past → StandsInTurn o jobs past w
     one (Start child slot offer) a m = absurd cc
     one (NoStart slot) a m = absurd cc
-    one (Claim task zero) a m = tt
-    one (Claim task (suc child)) a m = m
+    one (Claim task child) a m = m
     one w a m = tt
 
 front_none : (p : What → Bool) (xs front rest : List Entry) → xs ≡ front ++ rest → any p xs ≡ false → any p front ≡ false

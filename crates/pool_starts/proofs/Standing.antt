@@ -3,7 +3,6 @@ use Rattle.std.proofs.Common.{◌≡◌, ℕ, zero, suc, ◌+◌, ◌<◌, ◌�
 use Rattle.std.specs.Prelude.{◌&&◌, ◌||◌, All, is_some, unwrap_or}
 use Rattle.std.specs.List.{cons_option, last_or, list_all}
 use Rattle.std.proofs.lemmas.List.Elements.{All-append, All-cons, All-head, All-nil, All-tail}
-use Rattle.ann_outside.specs.Causes.{Rose}
 use Rattle.ann_outside.specs.Starts.{Starts}
 use Rattle.journal_model.specs.declared.entry.What.{What}
 use Rattle.journal_model.specs.declared.entry.What.TheVariants.{Start, NoStart}
@@ -17,16 +16,17 @@ use Rattle.journal_model.proofs.Looks.{any-append, both, differ, each_of-append,
 use Rattle.journal_model.proofs.Testing.{all-each, all-join, by_either, neither, or_left, or_right}
 use Rattle.host_core.specs.Steps.{unclaimed}
 use Rattle.child_start.proofs.Jobs.{idle_on}
-use Rattle.child_end.specs.Programs.{AddsAll, HaveStarted, ProgramsValue, is_failed_start, told, told_in}
+use Rattle.child_end.specs.Programs.{AddsAll, HaveStarted, ProgramsValue, RoseBy, is_failed_start, told, told_in}
 use Rattle.child_end.specs.Wires.{came, came_in}
 use Rattle.lone_work.specs.KnownLayouts.{IsBook}
 use Rattle.gathering.specs.Laws.{Distinct, children_of}
 use Rattle.gathering.specs.Rounds.{IsAtRest, LinkValue}
 use Rattle.lone_rounds.specs.Starting.{children, is_any_start, is_ready_untagged, started_in}
-use Rattle.lone_rounds.specs.Rounds.{is_of_run}
+use Rattle.lone_rounds.specs.Rounds.{AllLostWell, IsLostIn, is_of_run}
 use Rattle.lone_rounds.specs.Stints.{AreUpTo, main_entry, next_child}
 use Rattle.lone_rounds.proofs.Apart.{ended_on, ready_same}
-use Rattle.lone_rounds.proofs.Leaving.{adds_both, none_told, rose_on}
+use Rattle.lone_rounds.proofs.Losing.{lost_both}
+use Rattle.lone_rounds.proofs.Leaving.{adds_both, none_told, rose_both}
 use Rattle.lone_rounds.proofs.Tests.{UpTo, any_none, children_up_to, count-append, count_none, no_children, none_came, up_to_both, up_to_more}
 use Rattle.crew_rounds.specs.PoolChildren.{MayServe, PoolCan}
 use Rattle.pool_starts.specs.Pools.{AreSeated, Gathered, GathersBy, IsPool, OverBy, SeatValue, Serves, is_among, is_claim}
@@ -42,6 +42,7 @@ use Rattle.pool_starts.proofs.SlotLaws.{first_same, last_first, left_same, none_
 pub record SaysSlot (slot : ℕ) (past : List Entry) (first : What) : Type 0 where
   pub unclaiming : is_claim first ≡ false
   pub untagged : offers_tags first ≡ false
+  pub loses : (journal : List Entry) → IsLostIn journal first
   pub unoffering : (d : ℕ) → offers d first ≡ false
   pub asks_run : is_of_run first ≡ true
   pub asks_none : (d : ℕ) → asks d first ≡ None
@@ -71,6 +72,7 @@ pub says_slot : (slot : ℕ) (past : List Entry) (first : What) → IsSlotStart 
 says_slot slot past first (inl e) = subst (SaysSlot slot past) (sym e) record {
   unclaiming = refl;
   untagged = refl;
+  loses = λ journal. tt;
   unoffering = λ d. false_and (next_child past == d);
   asks_run = refl;
   asks_none = λ d. refl;
@@ -92,6 +94,7 @@ says_slot slot past first (inl e) = subst (SaysSlot slot past) (sym e) record {
 says_slot slot past first (inr e) = subst (SaysSlot slot past) (sym e) record {
   unclaiming = refl;
   untagged = refl;
+  loses = λ journal. tt;
   unoffering = λ d. refl;
   asks_run = refl;
   asks_none = λ d. refl;
@@ -389,6 +392,7 @@ module _ {o : Opening} {jobs : ℕ} {program : List ℕ} {old mid new : List Ent
     untagged = any-append offers_tags g.later tail
         ∙ neither (any offers_tags g.later) (any offers_tags tail) g.untagged (neither (offers_tags s.first) (any offers_tags s.later) says.untagged (own_tags (next_child mid) s.later s.within));
     asks = all-join (λ (e : Entry). is_of_run e.what) g.later tail g.asks (let its = says.asks_run in let rest = s.asks in rw (its, rest) refl);
+    lost = lost_both old g.later tail g.lost (subst (λ (j : List Entry). AllLostWell j tail) g.is (λ mains. says.loses mid, s.lost));
     turn = turn_now;
     ended = ended_now;
     ready = ready_now;
@@ -415,7 +419,7 @@ module _ {o : Opening} {jobs : ℕ} {program : List ℕ} {old mid new : List Ent
   by_now = record {
     seated = seated_now;
     started = inl (subst (AddsAll before.starts after.starts) (sym told_now) (adds_both before.starts between.starts after.starts (told program g.later) (told program (begun ∷ [])) adds_mid s.adds));
-    fault = λ failed. rose failed;
+    faults = subst (λ (n : ℕ). RoseBy n before.faults after.faults) (sym failed_now) (rose_both (count is_failed_start g.later) (count is_failed_start (begun ∷ [])) before.faults between.faults after.faults t.pool.by.faults s.faults);
     later_faults = (let a = t.pool.by.later_faults in let b = s.later_faults in omega (arith, a, b));
   }
     where
@@ -427,22 +431,10 @@ module _ {o : Opening} {jobs : ℕ} {program : List ℕ} {old mid new : List Ent
       none_fails [] h = refl
       none_fails (e ∷ xs) h = neither (is_failed_start e.what) (any is_failed_start xs) (later_fails e.what (either_left (is_any_start e.what) (any is_any_start xs) h)) (none_fails xs (either_right (is_any_start e.what) (any is_any_start xs) h))
 
-      rose_back : (a b c : ℕ) → a ≤ b → Rose b c → Rose a c
-      rose_back a b c h r = omega arith
-
-      rose : any is_failed_start later ≡ true → Rose before.faults after.faults
-      rose failed = by_either (any is_failed_start g.later)
-          (λ h. rose_on before.faults between.faults after.faults (t.pool.by.fault h) s.later_faults)
-          (λ h. rose_back before.faults between.faults after.faults t.pool.by.later_faults (s.fault (at_first h)))
-        where
-          at_first : any is_failed_start g.later ≡ false → is_failed_start s.first ≡ true
-          at_first h = or_first (is_failed_start s.first) (any is_failed_start s.later) (none_fails s.later starts_none)
-              (sym (any-append is_failed_start g.later tail ∙ ap (λ (b : Bool). b || any is_failed_start tail) h) ∙ failed)
-            where
-              or_first : (a b : Bool) → b ≡ false → (a || b) ≡ true → a ≡ true
-              or_first true b e k = refl
-              or_first false true e k = absurd cc
-              or_first false false e k = absurd cc
+      failed_now : count is_failed_start later ≡ count is_failed_start g.later + count is_failed_start (begun ∷ [])
+      failed_now =
+          count-append is_failed_start g.later tail
+          ∙ ap (λ (n : ℕ). count is_failed_start g.later + n) (count-append is_failed_start (begun ∷ []) s.later ∙ (let none_failed = count_none is_failed_start s.later (none_fails s.later starts_none) in omega (arith, none_failed)))
 
   -- ---- the pool serves still
 

@@ -4,7 +4,7 @@ use Rattle.std.specs.List.{list_all}
 use Rattle.ann_outside.specs.declared.Sink.{Ghosts as SinkGhosts}
 use Rattle.ann_outside.specs.declared.Source.{Ghosts as SourceGhosts}
 use Rattle.ann_outside.specs.Starts.{Starts}
-use Rattle.ann_outside.specs.Causes.{Rose, Stays}
+use Rattle.ann_outside.specs.Causes.{Stays}
 use Rattle.journal_model.specs.declared.entry.What.{What}
 use Rattle.journal_model.specs.declared.entry.What.TheVariants.{Claim}
 use Rattle.journal_model.specs.declared.entry.Entry.{Entry}
@@ -15,11 +15,11 @@ use Rattle.journal_model.specs.Shares.{are_by}
 use Rattle.host_core.specs.Steps.{unclaimed}
 use Rattle.link_roles.specs.declared.wire.Wire.{Wire}
 use Rattle.child_end.specs.Wires.{WireValue, IsOfStart, came}
-use Rattle.child_end.specs.Programs.{HaveStarted, ProgramsValue, is_failed_start}
+use Rattle.child_end.specs.Programs.{HaveStarted, ProgramsValue, RoseBy, is_failed_start}
 use Rattle.gathering.specs.Rounds.{LinkValue}
 use Rattle.crew_rounds.specs.Tagged.{link_of}
 use Rattle.lone_rounds.specs.Starting.{children}
-use Rattle.lone_rounds.specs.Rounds.{is_of_run}
+use Rattle.lone_rounds.specs.Rounds.{AllLostWell, is_of_run}
 use Rattle.lone_rounds.specs.Stints.{IsLinked}
 use Rattle.crew_rounds.specs.PoolChildren.{PoolCan}
 use Rattle.pool_starts.specs.declared.pool.Gathering.{Gathering}
@@ -50,6 +50,7 @@ pub record Gathered (o : Opening) (jobs : ℕ) (old new : List Entry) (first : L
   pub unclaimed_yet : any is_claim later ≡ false
   pub untagged : any offers_tags later ≡ false
   pub asks : list_all (λ e. is_of_run e.what) later ≡ true
+  pub lost : AllLostWell old later
   pub turn : AllInTurn o jobs old later
   pub ended : list_all (λ c. is_ended new c || is_among links c) (children later) ≡ true
   pub ready : list_all (λ c. not (is_prepared new c) || is_among links c) (children later) ≡ true
@@ -73,11 +74,11 @@ AreSeated starts journal n (Some c ∷ cs) (Serves ∷ seats) (l ∷ links) =
     (l.ear.child ≡ c) × IsOfStart starts (n + 1) l.mouth.number × IsOfStart starts (n + 1) l.ear.number × AreSeated starts journal (n + 1) cs seats links
 AreSeated starts journal n _ _ _ = ⊥
 
--- of the objects: the children's seats, the starts that the entries have, and a fault where one failed
+-- of the objects: the children's seats, the starts that the entries have, and a fault for each that failed
 pub record GathersBy (wanted : Type 0) (program : List ℕ) (new later : List Entry) (before after : ProgramsValue) (seats : List SeatValue) (links : List LinkValue) : Type 0 where
   pub seated : AreSeated before.starts new 0 (came later) seats links
   pub started : HaveStarted wanted program later before.starts after.starts
-  pub fault : any is_failed_start later ≡ true → Rose before.faults after.faults
+  pub faults : RoseBy (count is_failed_start later) before.faults after.faults
   pub later_faults : before.faults ≤ after.faults
 
 -- ---- what gathering comes to

@@ -1,19 +1,19 @@
 -- What one more start of a pool leaves.
 use Rattle.std.specs.Prelude.{ℕ, ◌≡◌, ◌⊎◌, ◌≤◌, ◌||◌, not, All, true, false, List, [], ◌∷◌, ◌++◌}
 use Rattle.std.specs.List.{list_all}
-use Rattle.ann_outside.specs.Causes.{Rose, Stays}
+use Rattle.ann_outside.specs.Causes.{Stays}
 use Rattle.journal_model.specs.declared.entry.What.{What}
 use Rattle.journal_model.specs.declared.entry.What.TheVariants.{Start, NoStart}
 use Rattle.journal_model.specs.declared.entry.Entry.{Entry}
 use Rattle.journal_model.specs.declared.opening.Opening.{Opening}
 use Rattle.journal_model.specs.Halves.{EarValue, MouthValue}
 use Rattle.journal_model.specs.Journal.{is_ended, open_jobs}
-use Rattle.journal_model.specs.Legality.{is_prepared}
+use Rattle.journal_model.specs.Legality.{count, is_prepared}
 use Rattle.journal_model.specs.Shares.{are_by, is_of_child}
 use Rattle.child_end.specs.Wires.{IsLeft, WireValue, came}
-use Rattle.child_end.specs.Programs.{AddsAll, ProgramsValue, is_failed_start, told}
+use Rattle.child_end.specs.Programs.{AddsAll, ProgramsValue, RoseBy, is_failed_start, told}
 use Rattle.gathering.specs.Rounds.{LinkValue}
-use Rattle.lone_rounds.specs.Rounds.{is_of_run}
+use Rattle.lone_rounds.specs.Rounds.{AllLostWell, is_of_run}
 use Rattle.lone_rounds.specs.Starting.{children}
 use Rattle.lone_rounds.specs.Stints.{MayHaveAsked, main_entry, next_child}
 use Rattle.crew_rounds.specs.PoolChildren.{MayServe}
@@ -25,7 +25,7 @@ IsSlotStart slot past first = (first ≡ Start (next_child past) slot false) ⊎
 
 -- The main thread made one start in the slot, and what followed it of its child alone. The child has no open job. It can serve in a round,
 -- and its link and seat were put behind the others; or it isn't ready and has ended, and its wire was. The programs were asked once, and a fault was
--- counted where that failed.
+-- counted if that failed.
 pub record SeatsOne (o : Opening) (program : List ℕ) (slot : ℕ) (old new : List Entry) (before after : ProgramsValue) (seats seats' : List SeatValue) (links links' : List LinkValue) : Type 0 where
   pub first : What
   pub later : List Entry
@@ -34,6 +34,7 @@ pub record SeatsOne (o : Opening) (program : List ℕ) (slot : ℕ) (old new : L
   pub within : list_all (λ e. is_of_child (next_child old) e.what) later ≡ true
   pub main : are_by 0 later ≡ true
   pub asks : list_all (λ e. is_of_run e.what) later ≡ true
+  pub lost : AllLostWell (old ++ main_entry first ∷ []) later
   pub idle : open_jobs new (next_child old) ≡ []
   pub seat : List SeatValue
   pub link : List LinkValue
@@ -45,7 +46,7 @@ pub record SeatsOne (o : Opening) (program : List ℕ) (slot : ℕ) (old new : L
   pub one_child : All (λ l. l.mouth.child ≡ l.ear.child) link
   pub seated : AreSeated before.starts new 0 (came (main_entry first ∷ [])) seat link
   pub adds : AddsAll before.starts after.starts (told program (main_entry first ∷ []))
-  pub fault : is_failed_start first ≡ true → Rose before.faults after.faults
+  pub faults : RoseBy (count is_failed_start (main_entry first ∷ [])) before.faults after.faults
   pub later_faults : before.faults ≤ after.faults
 
 -- no memory was found for a start: nothing was noted or seated, though the programs may have been asked

@@ -8,7 +8,8 @@ use Rattle.journal_model.specs.declared.opening.Opening.{Opening}
 use Rattle.journal_model.specs.Journal.{each_of, is_mute, why_of}
 use Rattle.journal_model.specs.Legality.{count, is_prepared}
 use Rattle.host_core.specs.Steps.{unclaimed}
-use Rattle.lone_rounds.specs.Starting.{AllOffer, is_ready_untagged, is_spent, is_unclosed}
+use Rattle.lone_rounds.specs.Starting.{AllOffer, children, is_ready_untagged, is_spent, is_unclosed, up_to}
+use Rattle.lone_rounds.specs.Rounds.{AllStandNext, NoneUntaken}
 
 -- ---- starts
 
@@ -64,12 +65,11 @@ IsInSlot o jobs past (suc before) = IsNextSlot o jobs past before
 abbrev pub IsManned : Opening → ℕ → List Entry → Type 0
 IsManned o jobs past = has_pool past ≡ true → min jobs (length (unclaimed o past)) ≤ last_slot past + 1
 
--- a start stands in its slot, and a task is claimed for a child where the pool is whole
+-- a start stands in its slot, and a task is claimed where the pool is whole
 abbrev pub StandsInTurn : Opening → ℕ → List Entry → What → Type 0
 StandsInTurn o jobs past (Start child slot offer) = IsInSlot o jobs past slot
 StandsInTurn o jobs past (NoStart slot) = IsInSlot o jobs past slot
-StandsInTurn o jobs past (Claim task zero) = Unit {0}
-StandsInTurn o jobs past (Claim task (suc child)) = IsManned o jobs past
+StandsInTurn o jobs past (Claim task child) = IsManned o jobs past
 StandsInTurn o jobs past w = Unit {0}
 
 -- so do all of the entries, which stand behind past
@@ -83,11 +83,14 @@ is_first_start (Start child slot offer) = slot == 0
 is_first_start (NoStart slot) = slot == 0
 is_first_start w = false
 
--- Starts stand in their slots, at most so many in slot 0, and each offers ASYNC exactly where it is to.
+-- Starts and claims stand in their slots and their turn, with at most so many starts in slot 0, and each offers ASYNC exactly where it is
+-- to. None is left for a task to take up.
 pub record AreStarts (o : Opening) (may : Bool) (limit jobs : ℕ) (journal : List Entry) : Type 0 where
   pub turn : AllInTurn o jobs [] journal
+  pub next : AllStandNext o [] journal
   pub few : count is_first_start journal ≤ limit
   pub offers : AllOffer may [] journal
+  pub taken : NoneUntaken journal
 
 -- ---- what a pool's children and workers make
 
@@ -118,27 +121,20 @@ offers_tags w = false
 abbrev pub is_lost : List Entry → ℕ → Bool
 is_lost past c = is_prepared past c && (is_mute past c || is_unclosed (why_of past c))
 
--- behind this entry stand these children, where the next start of slot 0 ends them
-abbrev pub behind_start : What → List ℕ → List ℕ
-behind_start (Start child slot offer) more = if slot == 0 then [] else child ∷ more
-behind_start (NoStart slot) more = if slot == 0 then [] else more
-behind_start w more = more
+-- the child is spent, or one of the others is lost
+abbrev pub is_pool_spent : List Entry → ℕ → List ℕ → Bool
+is_pool_spent past child others = is_spent past child || list_any (is_lost past) others
 
--- the children of the other slots, up to the next start of slot 0
-abbrev pub pool_behind : List Entry → List ℕ
-pool_behind [] = []
-pool_behind (e ∷ rest) = behind_start e.what (pool_behind rest)
-
--- The start is in another slot; or it gave no child; or its child refused to get ready, is mute, or ended and was not closed; or one of
--- its pool is lost.
+-- Of a start, the last of these entries, and of what stands behind it up to the next start of slot 0: it is in another slot; or it gave
+-- no child; or its child refused to get ready, is mute, or ended and was not closed; or one of its pool is lost.
 abbrev pub spends : List Entry → What → List Entry → Bool
-spends past (Start child slot offer) rest = not (slot == 0) || (is_spent past child || list_any (is_lost past) (pool_behind rest))
-spends past w rest = true
+spends here (Start child slot offer) rest = not (slot == 0) || is_pool_spent (here ++ up_to is_first_start rest) child (children (up_to is_first_start rest))
+spends here w rest = true
 
--- each start among the entries is so
+-- so it is with each start of the entries, which stand behind past
 abbrev pub are_spent : List Entry → List Entry → Bool
 are_spent past [] = true
-are_spent past (e ∷ rest) = spends past e.what rest && are_spent past rest
+are_spent past (e ∷ rest) = spends (past ++ e ∷ []) e.what rest && are_spent (past ++ e ∷ []) rest
 
 abbrev pub AreSpent : List Entry → Type 0
-AreSpent past = are_spent past past ≡ true
+AreSpent journal = are_spent [] journal ≡ true

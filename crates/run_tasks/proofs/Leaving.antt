@@ -7,9 +7,10 @@ use Rattle.ann_outside.specs.Starts.{Starts}
 use Rattle.ann_outside.specs.Causes.{AddsOne, Stays}
 use Rattle.ann_outside.specs.Desks.{Made}
 use Rattle.journal_model.specs.declared.entry.Entry.{Entry}
-use Rattle.journal_model.specs.Journal.{any}
+use Rattle.journal_model.specs.Legality.{count}
 use Rattle.child_end.specs.Wires.{WireValue, AreWires, came}
-use Rattle.child_end.specs.Programs.{ProgramsValue, told, AddsAll, HaveStarted, Leaves, is_failed_start}
+use Rattle.child_end.specs.Programs.{ProgramsValue, told, AddsAll, HaveStarted, Leaves, RoseBy, is_failed_start}
+use Rattle.lone_rounds.proofs.Leaving.{rose_still}
 use Rattle.child_end.specs.Outsides.{TableValue}
 use Rattle.run_tasks.specs.Runs.{AddsMade}
 use Rattle.run_tasks.specs.Workings.{AddsWorkers}
@@ -20,16 +21,13 @@ adds_none : (t : Option Starts) → AddsAll t t []
 adds_none None = tt
 adds_none (Some xs) = sym (append-nil xs)
 
-none_failed : {A : Type 0} (journal : List Entry) → journal ≡ [] → any is_failed_start journal ≡ true → A
-none_failed journal none h = absurd (let bad : true ≡ false = sym h ∙ ap (any is_failed_start) none in cc)
-
 -- nothing was started
 pub leaves_nothing : (W : Type 0) (programs : ProgramsValue) (program : List ℕ) (journal : List Entry) (wires : List WireValue) → journal ≡ [] → wires ≡ []
     → Leaves W program journal programs programs wires
 leaves_nothing W programs program journal wires j w = record {
   wired = subst (λ (x : List Entry). AreWires programs.starts journal 0 (came x) wires) (sym j) (subst (λ (ws : List WireValue). AreWires programs.starts journal 0 [] ws) (sym w) tt);
   started = inl (subst (λ (x : List Entry). AddsAll programs.starts programs.starts (told program x)) (sym j) (adds_none programs.starts));
-  fault = λ failed. none_failed journal j failed;
+  faults = subst (λ (x : List Entry). RoseBy (count is_failed_start x) programs.faults programs.faults) (sym j) (rose_still 0 programs.faults programs.faults programs.faults (omega arith) (omega arith));
 }
 
 -- the want of memory, the program and the journal are named otherwise
@@ -38,7 +36,7 @@ pub leaves_named : {V W : Type 0} {program program' : List ℕ} {journal journal
 leaves_named {V} {W} {program} {program'} {journal} {journal'} {before} {after} {wires} f j e h =
     subst (λ (x : List Entry). Leaves W program' x before after wires) (sym j)
     (subst (λ (p : List ℕ). Leaves W p journal before after wires) e
-    (record { wired = h.wired; started = go h.started; fault = h.fault }))
+    (record { wired = h.wired; started = go h.started; faults = h.faults }))
   where
     go : HaveStarted V program journal before.starts after.starts → HaveStarted W program journal before.starts after.starts
     go (inl all) = inl all

@@ -6,3 +6,4 @@ pub mod Working
 pub mod Leaving
 pub mod Journaled
 pub mod Crews
+pub mod Naming

@@ -6,6 +6,7 @@ use Rattle.ann_outside.specs.Causes.{Rose}
 use Rattle.ann_outside.specs.Calls.{IsLogBlank}
 use Rattle.ann_outside.specs.Desks.{Made, no_counts}
 use Rattle.ann_outside.specs.Files.{Files, WhereTold, OthersStay}
+use Rattle.desk_file.specs.Names.{CallsName}
 use Rattle.desk_file.specs.Writes.{new_name, IsReplacedBy}
 use Rattle.task_text.specs.declared.task.Task.{Task}
 use Rattle.keep_text.specs.KeptFiles.{bad_line, kept_text}
@@ -107,6 +108,15 @@ pub record IsRunOf (words : RunWords) (clock : Option ℕ) (told : Option Files)
 abbrev pub IsNewOf : Option (List ℕ) → List ℕ → Type 0
 IsNewOf None other = ⊥
 IsNewOf (Some name) other = other ≡ new_name name
+
+-- the kept file, or the one in which it is made
+abbrev pub IsKeptFile : Option (List ℕ) → List ℕ → Type 0
+IsKeptFile None other = ⊥
+IsKeptFile (Some name) other = (other ≡ name) ⊎ (other ≡ new_name name)
+
+-- a file of a run at desk 0: one of those, or the journal file
+abbrev pub IsRunFile : RunWords → List ℕ → Type 0
+IsRunFile words other = IsKeptFile words.keep other ⊎ (words.journal ≡ Some other)
 
 -- all files of the desk are as before but that one, where files are told
 abbrev pub IsAsBefore : RunWords → Option Files → TableValue → Type 0
@@ -220,7 +230,8 @@ AddsMade None (Some ys) more = ⊥
 AddsMade (Some xs) None more = ⊥
 AddsMade (Some xs) (Some ys) more = ys ≡ xs ++ more
 
--- desk 0 was asked for first, and then those of the workers, in turn, as many as the words say at most, and this came of it
+-- desk 0 was asked for first, and then those of the workers, in turn, as many as the words say at most, and this came of it. Where desk 0
+-- tells its calls, they name the kept file, the one in which it is made, and the journal file alone.
 pub record IsAtDesk (words : RunWords) (clock : Option ℕ) (before : OutsideValue) (flow : InputFlow) (after : OutsideValue) (made : MadeValue) : Type 0 where
   pub told : Option Files
   pub table : TableValue
@@ -231,6 +242,7 @@ pub record IsAtDesk (words : RunWords) (clock : Option ℕ) (before : OutsideVal
   pub desks : AddsMade before.made after.made (record { number = 0; files = told } ∷ more)
   pub numbers : map (λ m. m.number) more ≡ range_with_len 1 (length workers)
   pub ends : EndsRun words clock told flow table workers made made.end
+  pub named : IfSome table.log (CallsName (IsRunFile words))
   pub none : IfUnwhole made.end (made.answers ≡ [])
   pub objects : Leaves (made.end ≡ Memory) words.program made.journal before.programs after.programs made.wires
 

@@ -1,8 +1,10 @@
 // What a run begins with: the kept file, the input and the clock, in this order.
 ghost use Rattle.std.specs.Prelude.{◌≡◌, [], IfOk, Some, true};
+ghost use Rattle.desk_file.specs.Names.{NamesOnly};
 ghost use Rattle.keep_text.specs.KeptFiles.{CountsAs, notes_of, registers_of};
 ghost use Rattle.run_tasks.specs.Inputs.{input_flow, run_opening};
 ghost use Rattle.run_tasks.specs.Beginnings.{BeginsRun, ReadsInput, ReadsKept};
+ghost use Rattle.run_tasks.specs.Runs.{IsRunFile};
 
 use crate::made::RunEnd;
 use ann_key::NoMemory;
@@ -44,6 +46,7 @@ fn read_named<D: Desk>(
     requires named { words.now.keep ≡ Some name.now }
     ensures kept { ReadsKept words.now (D.files desk.old) (D.counts desk.old).faults (D.counts desk.new).faults result }
     ensures files { D.files desk.new ≡ D.files desk.old }
+    ensures calls { NamesOnly (IsRunFile words.now) (D.log desk.old) (D.log desk.new) }
 {
     match read_kept(alloc, desk, name) {
         Ok(KeptRead::Kept { registers, notes }) => Ok(Kept { registers, notes }),
@@ -55,9 +58,11 @@ fn read_named<D: Desk>(
 }
 
 // What the kept file hands on, where the words name one.
+#[tactic(auto, using(desk_file::proofs::Naming::names_none))]
 fn read_keep<D: Desk>(alloc: Global, words: &RunWords, desk: &mut D) -> Result<Kept, RunEnd>
     ensures kept { ReadsKept words.now (D.files desk.old) (D.counts desk.old).faults (D.counts desk.new).faults result }
     ensures files { D.files desk.new ≡ D.files desk.old }
+    ensures calls { NamesOnly (IsRunFile words.now) (D.log desk.old) (D.log desk.new) }
 {
     match &words.keep {
         Some(name) => read_named(alloc, words, name.view(), desk),
@@ -110,6 +115,7 @@ pub(crate) fn begin<D: Desk, I: Source, C: Clock>(
     requires { I.is_open input.old ≡ true }
     ensures begins { BeginsRun words.now (C.answer clock.old) (D.files desk.old) (input_flow (I.given input.old) (I.given input.new) (I.left input.old) (I.left input.new) (I.faults input.old) (I.faults input.new)) (D.counts desk.old).faults (D.counts desk.new).faults result }
     ensures files { D.files desk.new ≡ D.files desk.old }
+    ensures calls { NamesOnly (IsRunFile words.now) (D.log desk.old) (D.log desk.new) }
 {
     let kept = read_keep(alloc, words, desk)?;
     let tasks = read_input(alloc, input)?;

@@ -1,8 +1,9 @@
 // What is written behind the tasks.
 ghost use Rattle.std.specs.Prelude.{◌≡◌};
 ghost use Rattle.child_end.specs.Outsides.{table_value};
+ghost use Rattle.desk_file.specs.Names.{NamesOnly};
 ghost use Rattle.run_tasks.specs.Answering.{AreAllAnswered};
-ghost use Rattle.run_tasks.specs.Runs.{IsJournaled, told_of};
+ghost use Rattle.run_tasks.specs.Runs.{IsJournaled, IsRunFile, told_of};
 ghost use Rattle.run_tasks.specs.Workings.{Finishes, Keeps, Writes};
 
 use crate::answers::answers_of;
@@ -25,13 +26,15 @@ pub(crate) struct Finished {
 
 // Puts the config that the run began with, the other registers behind the journal and the notes behind it in the place of the
 // kept file, where the words name one.
+#[tactic(auto, using(crate::proofs::Naming::kept_names, desk_file::proofs::Naming::names_none))]
 fn keep<D: Desk>(
     alloc: Global,
     words: &RunWords,
     desk: &mut D,
     core: &Core,
 ) -> Result<KeptWritten, NoMemory>
-    ensures { Keeps words.now (D.files desk.old) (table_value D.counts D.files D.log desk.new) core.now.opening core.now.journal result }
+    ensures keeps { Keeps words.now (D.files desk.old) (table_value D.counts D.files D.log desk.new) core.now.opening core.now.journal result }
+    ensures calls { NamesOnly (IsRunFile words.now) (D.log desk.old) (D.log desk.new) }
 {
     match &words.keep {
         Some(name) => write_kept(
@@ -47,13 +50,15 @@ fn keep<D: Desk>(
 }
 
 // Writes the text of the run into the journal file, where the words name one.
+#[tactic(auto, using(crate::proofs::Naming::journal_names, desk_file::proofs::Naming::names_none))]
 fn write_text<D: Desk>(
     alloc: Global,
     words: &RunWords,
     desk: &mut D,
     core: &Core,
 ) -> Result<JournalWritten, NoMemory>
-    ensures { IsJournaled words.now (table_value D.counts D.files D.log desk.old) (table_value D.counts D.files D.log desk.new) core.now.opening core.now.journal result }
+    ensures journaled { IsJournaled words.now (table_value D.counts D.files D.log desk.old) (table_value D.counts D.files D.log desk.new) core.now.opening core.now.journal result }
+    ensures calls { NamesOnly (IsRunFile words.now) (D.log desk.old) (D.log desk.new) }
 {
     match &words.journal {
         Some(name) => write_journal(alloc, desk, name.view(), core.opening(), core.journal()),
@@ -72,13 +77,15 @@ fn told_of(kept: KeptWritten, journal: JournalWritten) -> KeptWritten
 }
 
 // Writes the kept file, and then the journal file, also where the kept file could not be written.
+#[tactic(auto, using(desk_file::proofs::Naming::names_both))]
 fn write_both<D: Desk>(
     alloc: Global,
     words: &RunWords,
     desk: &mut D,
     core: &Core,
 ) -> Result<KeptWritten, NoMemory>
-    ensures { Writes words.now (D.files desk.old) (table_value D.counts D.files D.log desk.new) core.now.opening core.now.journal result }
+    ensures writes { Writes words.now (D.files desk.old) (table_value D.counts D.files D.log desk.new) core.now.opening core.now.journal result }
+    ensures calls { NamesOnly (IsRunFile words.now) (D.log desk.old) (D.log desk.new) }
 {
     let kept = keep(alloc, words, desk, core)?;
     let journal = write_text(alloc, words, desk, core)?;
@@ -86,6 +93,7 @@ fn write_both<D: Desk>(
 }
 
 /// Takes the answers of all tasks from the journal, and writes the kept file and the journal file.
+#[tactic(auto, using(desk_file::proofs::Naming::names_none))]
 pub(crate) fn finish<D: Desk>(
     alloc: Global,
     words: &RunWords,
@@ -93,7 +101,8 @@ pub(crate) fn finish<D: Desk>(
     core: &Core,
 ) -> Finished
     requires { AreAllAnswered core.now.opening core.now.journal }
-    ensures { Finishes words.now (D.files desk.old) (table_value D.counts D.files D.log desk.new) core.now.opening core.now.journal result.answers.items result.end }
+    ensures finishes { Finishes words.now (D.files desk.old) (table_value D.counts D.files D.log desk.new) core.now.opening core.now.journal result.answers.items result.end }
+    ensures calls { NamesOnly (IsRunFile words.now) (D.log desk.old) (D.log desk.new) }
 {
     let Ok(answers) = answers_of(alloc, core) else {
         return Finished {

@@ -3,10 +3,11 @@ ghost use Rattle.std.specs.Prelude.{◌≡◌, ◌≤◌, ◌<◌, ◌*◌, [], 
 ghost use Rattle.annex_model.specs.Lines.{has_newline};
 ghost use Rattle.journal_model.specs.Beginnings.{MayBegin};
 ghost use Rattle.child_end.specs.Outsides.{table_value};
+ghost use Rattle.desk_file.specs.Names.{NamesOnly};
 ghost use Rattle.child_end.specs.Programs.{Leaves, programs_value};
 ghost use Rattle.child_end.specs.Wires.{wire_value};
 ghost use Rattle.lone_work.specs.Works.{desk_tells};
-ghost use Rattle.run_tasks.specs.Runs.{AreFresh};
+ghost use Rattle.run_tasks.specs.Runs.{AreFresh, IsRunFile};
 ghost use Rattle.run_tasks.specs.Workings.{AddsWorkers, EndsWork, GoesOn, IsPrepared};
 ghost use Rattle.run_tasks.specs.declared.made.RunEnd.TheVariants.{Memory};
 
@@ -135,6 +136,7 @@ where
     requires room { words.now.starts * words.now.jobs ≤ vec_capacity wires.old }
     requires none { wires.old.items ≡ [] }
     ensures ends { EndsWork words.now (D.files desk.old) (table_value D.counts D.files D.log desk.new) ready.core.opening (map (table_value D.counts D.files D.log) result.crew.items) result.journal.entries result.answers.items result.end }
+    ensures calls { NamesOnly (IsRunFile words.now) (D.log desk.old) (D.log desk.new) }
     ensures crew { vec_len result.crew ≡ words.now.jobs }
     ensures leaves { Leaves (result.end ≡ Memory) words.now.program result.journal.entries (programs_value (P.starts programs.old) (P.faults programs.old)) (programs_value (P.starts programs.new) (P.faults programs.new)) (map (wire_value P.Inlet.taken P.Inlet.faults P.Inlet.number P.Inlet.is_open P.Outlet.given P.Outlet.left P.Outlet.faults P.Outlet.number P.Outlet.is_open) wires.new.items) }
 {
@@ -186,6 +188,7 @@ where
     requires room { words.now.starts * words.now.jobs ≤ vec_capacity wires.old }
     requires none { wires.old.items ≡ [] }
     ensures ends { EndsWork words.now (K.Desk.files desk.old) (table_value K.Desk.counts K.Desk.files K.Desk.log desk.new) opening (map (table_value K.Desk.counts K.Desk.files K.Desk.log) result.crew.items) result.journal.entries result.answers.items result.end }
+    ensures calls { NamesOnly (IsRunFile words.now) (K.Desk.log desk.old) (K.Desk.log desk.new) }
     ensures desks { AddsWorkers words.now.jobs (K.made desks.old) (K.made desks.new) (map (table_value K.Desk.counts K.Desk.files K.Desk.log) result.crew.items) }
     ensures leaves { Leaves (result.end ≡ Memory) words.now.program result.journal.entries (programs_value (P.starts programs.old) (P.faults programs.old)) (programs_value (P.starts programs.new) (P.faults programs.new)) (map (wire_value P.Inlet.taken P.Inlet.faults P.Inlet.number P.Inlet.is_open P.Outlet.given P.Outlet.left P.Outlet.faults P.Outlet.number P.Outlet.is_open) wires.new.items) }
 {
@@ -224,6 +227,7 @@ where
     requires room { words.now.starts * words.now.jobs ≤ vec_capacity wires.old }
     requires none { wires.old.items ≡ [] }
     ensures goes_on { GoesOn words.now (table_value K.Desk.counts K.Desk.files K.Desk.log desk.old) (table_value K.Desk.counts K.Desk.files K.Desk.log desk.new) (map (table_value K.Desk.counts K.Desk.files K.Desk.log) result.crew.items) result.journal.entries result.answers.items begun result.end }
+    ensures calls { NamesOnly (IsRunFile words.now) (K.Desk.log desk.old) (K.Desk.log desk.new) }
     ensures desks { AddsWorkers words.now.jobs (K.made desks.old) (K.made desks.new) (map (table_value K.Desk.counts K.Desk.files K.Desk.log) result.crew.items) }
     ensures leaves { Leaves (result.end ≡ Memory) words.now.program result.journal.entries (programs_value (P.starts programs.old) (P.faults programs.old)) (programs_value (P.starts programs.new) (P.faults programs.new)) (map (wire_value P.Inlet.taken P.Inlet.faults P.Inlet.number P.Inlet.is_open P.Outlet.given P.Outlet.left P.Outlet.faults P.Outlet.number P.Outlet.is_open) wires.new.items) }
 {

@@ -427,7 +427,7 @@ module _ (clock : Option ℕ) (before : OutsideValue) (input : InputFlow) (left 
     audit = λ same. other_words None refl same;
     wires = tt;
     starts = tt;
-    fault = tt;
+    faults = tt;
     desks = idle_desks h.idle;
   }
 
@@ -449,7 +449,7 @@ module _ (clock : Option ℕ) (before : OutsideValue) (input : InputFlow) (left 
     audit = λ same. other_words (Some (Show page)) refl same;
     wires = tt;
     starts = tt;
-    fault = tt;
+    faults = tt;
     desks = idle_desks h.idle;
   }
 
@@ -476,7 +476,7 @@ module _ (clock : Option ℕ) (before : OutsideValue) (input : InputFlow) (left 
             audit = λ same. other_words (Some (Check program key)) refl same;
             wires = if_fit _ (reason_refused key) program e h.objects.wired;
             starts = if_fit _ (reason_refused key) program e (started left status out err end program before told h.objects.started);
-            fault = if_fit _ (reason_refused key) program e h.objects.fault;
+            faults = if_fit _ (reason_refused key) program e h.objects.faults;
             desks = made_still before.made left.outside.made left.tables h.desks.made h.desks.tables;
           }
       go (Some reason) e h =
@@ -497,7 +497,7 @@ module _ (clock : Option ℕ) (before : OutsideValue) (input : InputFlow) (left 
             audit = λ same. other_words (Some (Check program key)) refl same;
             wires = if_unfit _ (reason_refused key) program reason e;
             starts = if_unfit _ (reason_refused key) program reason e;
-            fault = if_unfit _ (reason_refused key) program reason e;
+            faults = if_unfit _ (reason_refused key) program reason e;
             desks = idle_desks h.idle;
           }
 
@@ -524,7 +524,7 @@ module _ (clock : Option ℕ) (before : OutsideValue) (input : InputFlow) (left 
             audit = λ same. other_words (Some (Info program key)) refl same;
             wires = if_fit _ (refusal_if key) program e h.objects.wired;
             starts = if_fit _ (refusal_if key) program e (started left status out err end program before told h.objects.started);
-            fault = if_fit _ (refusal_if key) program e h.objects.fault;
+            faults = if_fit _ (refusal_if key) program e h.objects.faults;
             desks = made_still before.made left.outside.made left.tables h.desks.made h.desks.tables;
           }
       go (Some reason) e h =
@@ -545,7 +545,7 @@ module _ (clock : Option ℕ) (before : OutsideValue) (input : InputFlow) (left 
             audit = λ same. other_words (Some (Info program key)) refl same;
             wires = if_unfit _ (refusal_if key) program reason e;
             starts = if_unfit _ (refusal_if key) program reason e;
-            fault = if_unfit _ (refusal_if key) program reason e;
+            faults = if_unfit _ (refusal_if key) program reason e;
             desks = idle_desks h.idle;
           }
 
@@ -570,7 +570,7 @@ module _ (clock : Option ℕ) (before : OutsideValue) (input : InputFlow) (left 
         audit = λ same. other_words (Some (Init words)) refl same;
         wires = objects.wired;
         starts = started left status out err end words.program before told objects.started;
-        fault = objects.fault;
+        faults = objects.faults;
         desks = desks h;
       }
     where
@@ -605,7 +605,7 @@ module _ (clock : Option ℕ) (before : OutsideValue) (input : InputFlow) (left 
         audit = λ same. other_words (Some (Run words)) refl same;
         wires = objects.wired;
         starts = started left status out err end words.program before told objects.started;
-        fault = objects.fault;
+        faults = objects.faults;
         desks = desks h;
       }
     where
@@ -634,7 +634,7 @@ module _ (clock : Option ℕ) (before : OutsideValue) (input : InputFlow) (left 
     audit = λ same. (h.outcome, h.audit, h.idle, subst (λ (x : End). IsToldOf left status out err x) h.end_is told);
     wires = tt;
     starts = tt;
-    fault = tt;
+    faults = tt;
     desks = idle_desks h.idle;
   }
 

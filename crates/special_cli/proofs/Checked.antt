@@ -73,9 +73,10 @@ ran_nothing o setup may limit journal none =
     subst (λ (j : List Entry). RanAlone o setup may limit j silent silent) (sym none) record {
       legal = record { stands = tt; nothing_due = refl };
       main = refl;
-      starts = record { slots = refl; few = omega arith; offers = tt };
+      starts = record { slots = refl; next = tt; few = omega arith; offers = tt; taken = refl };
       ended = refl;
       asks = refl;
+      lost = tt;
       done = [];
       claimed = refl;
       answered = refl;

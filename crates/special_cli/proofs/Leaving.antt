@@ -1,14 +1,14 @@
 -- What a run leaves of its programs and its child.
-use Rattle.std.proofs.Common.{◌≡◌, ◌⊎◌, inl, inr, ℕ, List, [], ◌∷◌, length, refl, sym, ap, subst, ◌∙◌, Bool, true, false, Some, None, Option, length-append}
-use Rattle.std.specs.Prelude.{IsTrue, filter_map, option_and_then}
-use Rattle.std.specs.List.{list_any}
+use Rattle.std.proofs.Common.{◌≡◌, ◌⊎◌, ◌≤◌, inl, inr, ℕ, suc, List, [], ◌∷◌, length, refl, sym, ap, subst, ◌∙◌, arith, cond, Bool, true, false, Some, None, Option, length-append}
+use Rattle.std.specs.Prelude.{IsTrue, filter, filter_map, option_and_then}
+use Rattle.std.specs.List.{cons_option}
 use Rattle.std.proofs.lemmas.List.{append-nil}
 use Rattle.ann_outside.specs.Starts.{Starts, IsNumbered}
 use Rattle.ann_outside.specs.Causes.{AddsOne, Rose, Stays}
 use Rattle.journal_model.specs.declared.entry.What.{What}
 use Rattle.journal_model.specs.declared.entry.What.TheVariants.{Start, NoStart}
 use Rattle.journal_model.specs.declared.entry.Entry.{Entry}
-use Rattle.journal_model.specs.Journal.{any}
+use Rattle.journal_model.specs.Legality.{count}
 use Rattle.journal_model.specs.Wires.{Wired, Caused, is_heard_in_turn}
 use Rattle.journal_model.specs.Halves.{EarValue, MouthValue}
 use Rattle.link_roles.specs.Writings.{is_written_first, LoneWired}
@@ -16,18 +16,14 @@ use Rattle.journal_model.proofs.Ears.{halves_wire}
 use Rattle.child_start.specs.Greetings.{AreNumbered}
 use Rattle.special_cli.specs.Endings.{start_in, starts_in}
 use Rattle.child_end.specs.Wires.{came_in, came, is_served_alone, IsOfStart, IsWire, AreWires, IsLaid}
-use Rattle.child_end.specs.Programs.{told_in, told, AddsAll, HaveStarted, Leaves, is_failed_start}
+use Rattle.child_end.specs.Programs.{told_in, told, AddsAll, HaveStarted, Leaves, RoseBy, is_failed_start}
+use Rattle.lone_rounds.proofs.Leaving.{rose_still}
 use Rattle.special_cli.specs.Objects.{OneIsLeft}
 use Rattle.child_end.specs.Wires.{WireValue}
 use Rattle.child_end.specs.Programs.{ProgramsValue}
-use Rattle.special_cli.proofs.Looking.{holds_in, through, any_through}
+use Rattle.special_cli.proofs.Looking.{through}
 
 -- ---- the starts
-
-failed_is : (w : What) → is_failed_start w ≡ holds_in is_failed_start (start_in w)
-failed_is (Start child slot offer) = refl
-failed_is (NoStart slot) = refl
-failed_is w = refl
 
 came_is : (w : What) → came_in w ≡ option_and_then came_in (start_in w)
 came_is (Start child slot offer) = refl
@@ -45,11 +41,19 @@ told_is program w = refl
 told_of_starts : (program : List ℕ) (journal : List Entry) (first : What) → starts_in journal ≡ first ∷ [] → told program journal ≡ filter_map (told_in program) (first ∷ [])
 told_of_starts program journal first h = through (told_in program) start_in (told_in program) (told_is program) journal ∙ ap (filter_map (told_in program)) h
 
--- a start that gave a child is none that failed
-none_failed : {A : Type 0} (journal : List Entry) (c slot : ℕ) (offer : Bool) → starts_in journal ≡ Start c slot offer ∷ [] → any is_failed_start journal ≡ true → A
-none_failed journal c slot offer h failed =
-    let none : any is_failed_start journal ≡ false = any_through is_failed_start start_in is_failed_start failed_is journal ∙ ap (list_any is_failed_start) h in
-    absurd (let bad : true ≡ false = sym failed ∙ none in cc)
+-- how many starts failed, by the starts alone
+failed_of_starts : (journal : List Entry) (first : What) → starts_in journal ≡ first ∷ [] → count is_failed_start journal ≡ length (filter is_failed_start (first ∷ []))
+failed_of_starts journal first h = of_starts journal ∙ ap (λ (ws : List What). length (filter is_failed_start ws)) h
+  where
+    of_starts : (xs : List Entry) → count is_failed_start xs ≡ length (filter is_failed_start (starts_in xs))
+    of_starts [] = refl
+    of_starts (e ∷ xs) = go e.what (of_starts xs)
+      where
+        go : (w : What) → count is_failed_start xs ≡ length (filter is_failed_start (starts_in xs))
+            → length (cond (is_failed_start w) (e ∷ filter (λ (x : Entry). is_failed_start x.what) xs) (filter (λ (x : Entry). is_failed_start x.what) xs)) ≡ length (filter is_failed_start (cons_option (start_in w) (starts_in xs)))
+        go (Start child slot offer) r = r
+        go (NoStart slot) r = ap (λ (n : ℕ). suc n) r
+        go w r = r
 
 adds_stays : (old mid new : Option Starts) (x : List ℕ × Bool) → AddsOne old mid x → Stays mid new → AddsAll old new (x ∷ [])
 adds_stays None None None x a s = tt
@@ -118,8 +122,8 @@ empty_wires old journal wires nothing none =
 
 -- ---- what is left
 
-none_started : {A : Type 0} (journal : List Entry) → journal ≡ [] → any is_failed_start journal ≡ true → A
-none_started journal none h = absurd (let bad : true ≡ false = sym h ∙ ap (any is_failed_start) none in cc)
+none_failed : (before after : ProgramsValue) (journal : List Entry) → journal ≡ [] → before.faults ≤ after.faults → RoseBy (count is_failed_start journal) before.faults after.faults
+none_failed before after journal none le = subst (λ (x : List Entry). RoseBy (count is_failed_start x) before.faults after.faults) (sym none) (rose_still 0 before.faults before.faults after.faults (omega arith) le)
 
 stays_none : (old new : Option Starts) → Stays old new → AddsAll old new []
 stays_none None None s = tt
@@ -137,16 +141,16 @@ pub leaves_nothing : (W : Type 0) (before after : ProgramsValue) (program : List
 leaves_nothing W before after program journal wires same j w = record {
   wired = empty_wires before.starts journal wires j w;
   started = inl (subst (λ (x : List Entry). AddsAll before.starts after.starts (told program x)) (sym j) (subst (λ (v : ProgramsValue). AddsAll before.starts v.starts []) (sym same) (adds_none before.starts)));
-  fault = λ failed. none_started journal j failed;
+  faults = none_failed before after journal j (subst (λ (v : ProgramsValue). before.faults ≤ v.faults) (sym same) (omega arith));
 }
 
 -- no memory was found, after one start at most
 pub leaves_unstarted : (W : Type 0) (before after : ProgramsValue) (program : List ℕ) (journal : List Entry) (wires : List WireValue) → W → journal ≡ [] → wires ≡ []
-    → Stays before.starts after.starts ⊎ ((b : Bool) × AddsOne before.starts after.starts (program, b)) → Leaves W program journal before after wires
-leaves_unstarted W before after program journal wires wanted j w h = record {
+    → Stays before.starts after.starts ⊎ ((b : Bool) × AddsOne before.starts after.starts (program, b)) → before.faults ≤ after.faults → Leaves W program journal before after wires
+leaves_unstarted W before after program journal wires wanted j w h le = record {
   wired = empty_wires before.starts journal wires j w;
   started = subst (λ (x : List Entry). HaveStarted W program x before.starts after.starts) (sym j) (go h);
-  fault = λ failed. none_started journal j failed;
+  faults = none_failed before after journal j le;
 }
   where
     go : Stays before.starts after.starts ⊎ ((b : Bool) × AddsOne before.starts after.starts (program, b)) → HaveStarted W program [] before.starts after.starts
@@ -159,17 +163,17 @@ pub leaves_failed : (W : Type 0) (before after : ProgramsValue) (program : List 
 leaves_failed W before after program journal wires j w adds rose = record {
   wired = no_wire before.starts journal wires j w;
   started = inl (fault_told program journal before.starts after.starts j adds);
-  fault = λ failed. rose;
+  faults = subst (λ (n : ℕ). RoseBy n before.faults after.faults) (sym (failed_of_starts journal (NoStart 0) j)) rose;
 }
 
 -- one child was started, and its link is closed
 pub leaves_child : (W : Type 0) (mid : Option Starts) (before after : ProgramsValue) (program : List ℕ) (journal : List Entry) (ear : EarValue) (mouth : MouthValue) (wires : List WireValue)
     → starts_in journal ≡ Start 1 0 false ∷ [] → AddsOne before.starts mid (program, true) → Stays mid after.starts → AreNumbered mid ear mouth → ear.child ≡ 1 → mouth.child ≡ ear.child
-    → LoneWired journal ear mouth → OneIsLeft ear mouth wires → Leaves W program journal before after wires
-leaves_child W mid before after program journal ear mouth wires j adds stays numbered one both_one linked only = record {
+    → LoneWired journal ear mouth → OneIsLeft ear mouth wires → before.faults ≤ after.faults → Leaves W program journal before after wires
+leaves_child W mid before after program journal ear mouth wires j adds stays numbered one both_one linked only le = record {
   wired = one_wire before.starts mid journal (program, true) ear mouth wires j adds numbered one both_one linked only;
   started = inl (child_told program journal before.starts mid after.starts j adds stays);
-  fault = λ failed. none_failed journal 1 0 false j failed;
+  faults = subst (λ (n : ℕ). RoseBy n before.faults after.faults) (sym (failed_of_starts journal (Start 1 0 false) j)) (rose_still 0 before.faults before.faults after.faults (omega arith) le);
 }
 
 -- the want of memory, the journal and the objects are named otherwise
@@ -178,7 +182,7 @@ pub leaves_as : {V W : Type 0} {program : List ℕ} {journal journal' : List Ent
 leaves_as {V} {W} {program} {journal} {journal'} {before} {before'} {after} {wires} f j o h =
     subst (λ (x : List Entry). Leaves W program x before' after wires) (sym j)
     (subst (λ (x : ProgramsValue). Leaves W program journal x after wires) (sym o)
-    (record { wired = h.wired; started = go h.started; fault = h.fault }))
+    (record { wired = h.wired; started = go h.started; faults = h.faults }))
   where
     go : HaveStarted V program journal before.starts after.starts → HaveStarted W program journal before.starts after.starts
     go (inl all) = inl all

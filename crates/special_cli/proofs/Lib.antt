@@ -12,3 +12,4 @@ pub mod Talking
 pub mod Keeping
 pub mod Settling
 pub mod Written
+pub mod Naming

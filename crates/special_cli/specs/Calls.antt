@@ -1,7 +1,7 @@
 -- All that is told of a call, in one record.
 use Rattle.std.specs.Prelude.{ℕ, ◌≡◌, ◌⊎◌, true, [], Option, Some, None, IfSome, IsSome, Result}
 use Rattle.ann_outside.specs.Causes.{Rose}
-use Rattle.journal_model.specs.Journal.{any}
+use Rattle.journal_model.specs.Legality.{count}
 use Rattle.audit_run.specs.declared.error.AuditError.{AuditError}
 use Rattle.journal_audit.specs.declared.found.Audit.{Audit}
 use Rattle.cli_words.specs.declared.command.Command.{Command}
@@ -11,7 +11,7 @@ use Rattle.special_cli.specs.Informs.{IsInformed, IsInfoTold}
 use Rattle.child_end.specs.Outsides.{OutsideValue}
 use Rattle.special_cli.specs.Left.{Left, IsIdle}
 use Rattle.child_end.specs.Wires.{AreWires, came}
-use Rattle.child_end.specs.Programs.{HaveStarted, is_failed_start}
+use Rattle.child_end.specs.Programs.{HaveStarted, RoseBy, is_failed_start}
 use Rattle.child_end.specs.Outsides.{HaveMade}
 use Rattle.special_cli.specs.Commands.{Runs}
 use Rattle.special_cli.specs.Setups.{HasSetUp}
@@ -60,5 +60,5 @@ pub record IsCalled (clock : Option ℕ) (before : OutsideValue) (input : InputF
   pub audit : wish ≡ Some AuditWord → IsAuditCalled before input status out err left
   pub wires : IfSome (run_in wish) (λ program. AreWires before.programs.starts left.journal 0 (came left.journal) left.wires)
   pub starts : IfSome (run_in wish) (λ program. HaveStarted (LacksMemory status (Rose err.faults err.faults')) program left.journal before.programs.starts left.outside.programs.starts)
-  pub fault : IfSome (run_in wish) (λ program. any is_failed_start left.journal ≡ true → Rose before.programs.faults left.outside.programs.faults)
+  pub faults : IfSome (run_in wish) (λ program. RoseBy (count is_failed_start left.journal) before.programs.faults left.outside.programs.faults)
   pub desks : HaveMade before.made left.outside.made left.tables

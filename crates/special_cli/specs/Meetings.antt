@@ -1,5 +1,5 @@
 -- What became of the one child that a command starts, by the journal and the programs.
-use Rattle.std.specs.Prelude.{ℕ, ◌≡◌, ◌⊎◌, Bool, true, false, List, [], ◌∷◌}
+use Rattle.std.specs.Prelude.{ℕ, ◌≡◌, ◌⊎◌, ◌≤◌, Bool, true, false, List, [], ◌∷◌}
 use Rattle.ann_outside.specs.declared.Sink.{Ghosts as SinkGhosts}
 use Rattle.ann_outside.specs.declared.Source.{Ghosts as SourceGhosts}
 use Rattle.ann_outside.specs.Causes.{AddsOne, Rose, Stays}
@@ -20,6 +20,7 @@ pub record IsMet {T : Type 0} (P : ℕ → T → Type 0) (journal : List Entry) 
   pub wired : LoneWired journal ear mouth
   pub numbers : AreNumbered after.starts ear mouth
   pub starts : AddsOne before.starts after.starts (program, true)
+  pub later : before.faults ≤ after.faults
 
 -- the one start of the program failed
 pub record IsUnstarted (journal : List Entry) (before after : ProgramsValue) (program : List ℕ) : Type 0 where
@@ -31,6 +32,7 @@ pub record IsUnstarted (journal : List Entry) (before after : ProgramsValue) (pr
 pub record IsUnmet (journal : List Entry) (before after : ProgramsValue) (program : List ℕ) : Type 0 where
   pub nothing : journal ≡ []
   pub starts : Stays before.starts after.starts ⊎ ((b : Bool) × AddsOne before.starts after.starts (program, b))
+  pub later : before.faults ≤ after.faults
 
 abbrev pub Met : {I O S T : Type 0} {sinks : SinkGhosts I} {sources : SourceGhosts O} → (ℕ → T → Type 0) → List Entry → ProgramsValue → ProgramsValue → List ℕ → Meeting I O S T sinks sources → Type 0
 Met P journal before after program (Over link stub came) = IsMet P journal before after program link.ear link.mouth came

@@ -1,9 +1,10 @@
 -- What comes of a setup: what its child was asked, what it begins with, and what is kept.
-use Rattle.std.specs.Prelude.{ℕ, ◌≡◌, ◌⊎◌, ◌==◌, ◌&&◌, ◌<◌, not, Bool, true, false, List, [], ◌∷◌, length, Option, Some, None, Ok}
+use Rattle.std.specs.Prelude.{ℕ, ◌≡◌, ◌⊎◌, ◌==◌, ◌&&◌, ◌<◌, not, Bool, true, false, List, [], ◌∷◌, length, Option, IfSome, Some, None, Ok}
 use Rattle.std.specs.List.{list_all}
 use Rattle.ann_outside.specs.Causes.{AddsOne, Rose}
 use Rattle.ann_outside.specs.DeskCauses.{Counts}
 use Rattle.ann_outside.specs.Files.{Files, WhereTold, OthersStay}
+use Rattle.desk_file.specs.Names.{CallsName}
 use Rattle.desk_file.specs.Writes.{new_name, IsReplacedBy}
 use Rattle.keep_text.specs.KeptFiles.{bad_line, kept_text}
 use Rattle.keep_desk.specs.declared.TheConstants.{MOST_BYTES}
@@ -100,6 +101,10 @@ pub record IsUnbegun (words : InitWords) (told : Option Files) (table : TableVal
   pub nothing : journal ≡ []
   pub before : IsAsBefore words told table
 
+-- a file of a setup at desk 0: the kept file, or the one in which it is made
+abbrev pub IsInitFile : InitWords → List ℕ → Type 0
+IsInitFile words other = (other ≡ words.keep) ⊎ (other ≡ new_name words.keep)
+
 -- what a setup at desk 0 comes to, by its end
 abbrev pub EndsInit : InitWords → Option Files → TableValue → List Entry → Ending → Type 0
 EndsInit words told table journal (BadKept line) = IsUnbegun words told table journal (λ kept. bad_line kept ≡ Some line)
@@ -111,13 +116,14 @@ EndsInit words told table journal (NotSetUp answer) = IsRunOf words told journal
 EndsInit words told table journal Memory = ((journal ≡ []) ⊎ IsRunOf words told journal) × IsAsBefore words told table
 EndsInit words told table journal end = ⊥
 
--- desk 0 was asked for, once, and this came of it
+-- desk 0 was asked for, once, and this came of it; where it tells its calls, they name those files alone
 pub record IsAtDesk (words : InitWords) (before : OutsideValue) (ran : RanValue) : Type 0 where
   pub told : Option Files
   pub table : TableValue
   pub tables : ran.left.tables ≡ table ∷ []
   pub made : AddsOne before.made ran.left.outside.made (record { number = 0; files = told })
   pub ends : EndsInit words told table ran.left.journal ran.end
+  pub named : IfSome table.log (CallsName (IsInitFile words))
   pub none : ran.left.answers ≡ []
   pub objects : Leaves (ran.end ≡ Memory) words.program ran.left.journal before.programs ran.left.outside.programs ran.left.wires
 

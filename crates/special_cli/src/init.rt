@@ -3,13 +3,14 @@ mod asking;
 
 ghost use Rattle.std.specs.Prelude.{◌≡◌, ◌<◌, [], map, IfOk, Ok, vec_capacity};
 ghost use Rattle.ann_outside.specs.Desks.{no_counts};
+ghost use Rattle.desk_file.specs.Names.{NamesOnly};
 ghost use Rattle.init_run.specs.Setups.{Begins};
 ghost use Rattle.special_cli.specs.declared.end.End.TheVariants.{Memory};
 ghost use Rattle.child_end.specs.Wires.{wire_value};
 ghost use Rattle.child_end.specs.Programs.{programs_value};
 ghost use Rattle.child_end.specs.Outsides.{table_value};
 ghost use Rattle.child_end.specs.Programs.{Leaves};
-ghost use Rattle.special_cli.specs.Setups.{AreSound, EndsInit, EndsKeep, HasSetUp};
+ghost use Rattle.special_cli.specs.Setups.{AreSound, EndsInit, EndsKeep, HasSetUp, IsInitFile};
 
 use crate::end::End;
 use crate::outside::Outside;
@@ -132,6 +133,7 @@ where
     requires fresh { D.counts desk.old ≡ no_counts }
     requires room { (wires.old.items ≡ []) × (0 < vec_capacity wires.old) }
     ensures ends { EndsInit words.now (D.files desk.old) (table_value D.counts D.files D.log desk.new) result.journal.entries result.end }
+    ensures calls { NamesOnly (IsInitFile words.now) (D.log desk.old) (D.log desk.new) }
     ensures leaves { Leaves (result.end ≡ Memory) words.now.program result.journal.entries (programs_value (P.starts programs.old) (P.faults programs.old)) (programs_value (P.starts programs.new) (P.faults programs.new)) (map (wire_value P.Inlet.taken P.Inlet.faults P.Inlet.number P.Inlet.is_open P.Outlet.given P.Outlet.left P.Outlet.faults P.Outlet.number P.Outlet.is_open) wires.new.items) }
 {
     match begin(alloc, words, desk) {
@@ -159,6 +161,7 @@ where
     requires begins { Begins words.now (D.files desk.old) (Ok (Begun.Ready opening)) }
     requires room { (wires.old.items ≡ []) × (0 < vec_capacity wires.old) }
     ensures ends { EndsInit words.now (D.files desk.old) (table_value D.counts D.files D.log desk.new) result.journal.entries result.end }
+    ensures calls { NamesOnly (IsInitFile words.now) (D.log desk.old) (D.log desk.new) }
     ensures leaves { Leaves (result.end ≡ Memory) words.now.program result.journal.entries (programs_value (P.starts programs.old) (P.faults programs.old)) (programs_value (P.starts programs.new) (P.faults programs.new)) (map (wire_value P.Inlet.taken P.Inlet.faults P.Inlet.number P.Inlet.is_open P.Outlet.given P.Outlet.left P.Outlet.faults P.Outlet.number P.Outlet.is_open) wires.new.items) }
 {
     let Ok(mut core) = Core::new(alloc, opening) else {
@@ -179,6 +182,7 @@ where
 // Puts what the registers hold behind the journal, and the notes, in the place of the kept file.
 fn keep<D: Desk>(alloc: Global, words: &InitWords, desk: &mut D, core: &Core) -> End
     ensures keeps { EndsKeep words.now (D.files desk.old) (D.files desk.new) (D.counts desk.new) core.now.opening core.now.journal result }
+    ensures calls { NamesOnly (IsInitFile words.now) (D.log desk.old) (D.log desk.new) }
 {
     let registers = core.registers();
     let notes = &core.opening().notes;

@@ -1,5 +1,5 @@
 -- Where all goes well with the children, no task is claimed without one.
-use Rattle.std.proofs.Common.{◌≡◌, ◌∙◌, ◌⊎◌, inl, inr, ℕ, ◌==◌, Bool, true, false, not, List, [], ◌∷◌, ◌++◌, length, refl, sym, ap, subst, arith}
+use Rattle.std.proofs.Common.{◌≡◌, ◌∙◌, ◌⊎◌, inl, inr, ℕ, ◌==◌, Bool, true, false, not, List, [], ◌∷◌, ◌++◌, append_assoc, length, refl, sym, ap, subst, arith}
 use Rattle.std.specs.Prelude.{◌&&◌, cond, if◌then◌else◌, Option, Some, None, is_some, is_none, option_and_then, find, filter, slice_index_or}
 use Rattle.std.specs.List.{list_all, cons_option, last_or}
 use Rattle.std.proofs.lemmas.Bool.{and_parts, or_parts}
@@ -16,11 +16,12 @@ use Rattle.journal_model.specs.declared.opening.Opening.{Opening}
 use Rattle.journal_model.specs.Journal.{any, each_of, first_of, ends, mutes, is_ended, is_mute, verdict_in, verdict_of, end_why, why_of}
 use Rattle.journal_model.specs.Legality.{is_done, count}
 use Rattle.journal_model.specs.Shares.{is_closed}
+use Rattle.journal_model.proofs.Looks.{any-append}
 use Rattle.task_run.specs.declared.setup.Setup.{Setup}
 use Rattle.task_run.specs.TaskRuns.{refused_at, refusal_of, or_refusal, ended_answer, gone_answer, unready_answer, failed_start}
 use Rattle.task_run.proofs.Texts.{apart}
 use Rattle.lone_work.specs.Works.{TaskDone}
-use Rattle.lone_rounds.specs.Starting.{is_any_start, started_in, children, is_unclosed, is_spent}
+use Rattle.lone_rounds.specs.Starting.{is_any_start, is_unclosed, is_spent, is_start_spent, are_spent, up_to}
 use Rattle.lone_rounds.specs.Rounds.{turn_of, start_untaken, ZeroAnswers, HasRun}
 use Rattle.task_laws.specs.LoneWell.{is_no_start, is_refusal, is_unclosed_end, is_muting, ChildrenWell, NoneWithoutChild, IsDeskWell, WentWellAlone, IsDoneWell, LoneSucceeds}
 use Rattle.task_laws.proofs.RunsWell.{one_succeeds}
@@ -106,6 +107,13 @@ no_refusal past c h = of_first (each_of (verdict_in c 1) past) (none_refused pas
     of_first [] k = refl
     of_first (v ∷ vs) k = none_is (refused_at v) (and_parts (is_none (refused_at v)) (list_all (λ w. is_none (refused_at w)) vs) k).0
 
+-- these entries tell of nothing that went wrong with a child
+record AreWell (past : List Entry) : Type 0 where
+  started : any is_no_start past ≡ false
+  heard : any is_muting past ≡ false
+  closed : any is_unclosed_end past ≡ false
+  ready : any is_refusal past ≡ false
+
 -- what is so before a place
 record Calm (past : List Entry) : Type 0 where
   started : any is_no_start past ≡ false
@@ -190,26 +198,61 @@ not_spent past c k = by_end (k.closing c)
     by_end (inl e) = let m : is_mute past c ≡ false = k.mute c in let u : is_unclosed (why_of past c) ≡ false = ap is_unclosed e in rw (refusal, m, u) refl
     by_end (inr e) = let m : is_mute past c ≡ false = k.mute c in let u : is_unclosed (why_of past c) ≡ false = ap is_unclosed e in rw (refusal, m, u) refl
 
-none_started : (past : List Entry) → any is_no_start past ≡ false → children past ≡ [] → count is_any_start past ≡ 0
-none_started [] h e = refl
-none_started (x ∷ past) h e = by_what x.what (or_parts (is_no_start x.what) (any is_no_start past) h).0 e (none_started past (or_parts (is_no_start x.what) (any is_no_start past) h).1)
+-- up to the next start all goes well too
+part_calm : (here xs : List Entry) → AreWell (here ++ xs) → Calm (here ++ up_to is_any_start xs)
+part_calm here xs w = record {
+  started = part is_no_start w.started;
+  mute = λ c. none_mute (here ++ up_to is_any_start xs) c (part is_muting w.heard);
+  closing = λ c. all_closed (here ++ up_to is_any_start xs) c (part is_unclosed_end w.closed);
+  refusal = λ c. no_refusal (here ++ up_to is_any_start xs) c (part is_refusal w.ready);
+}
   where
-    by_what : (w : What) → is_no_start w ≡ false → cons_option (started_in w) (children past) ≡ [] → (children past ≡ [] → count is_any_start past ≡ 0)
-        → length (cond (is_any_start w) (x ∷ filter (λ (y : Entry). is_any_start y.what) past) (filter (λ (y : Entry). is_any_start y.what) past)) ≡ 0
-    by_what (Start child slot offer) k f more = absurd (let g : child ∷ children past ≡ [] = f in cc)
-    by_what (NoStart slot) k f more = apart (sym k)
-    by_what w k f more = more f
+    shorter : (p : What → Bool) (ys : List Entry) → any p ys ≡ false → any p (up_to is_any_start ys) ≡ false
+    shorter p [] h = refl
+    shorter p (y ∷ ys) h =
+        let t = or_parts (p y.what) (any p ys) h in
+        go (is_any_start y.what) t.0 (shorter p ys t.1)
+      where
+        go : (b : Bool) → p y.what ≡ false → any p (up_to is_any_start ys) ≡ false → any p (cond b [] (y ∷ up_to is_any_start ys)) ≡ false
+        go true one rest = refl
+        go false one rest = rw (one, rest) refl
 
-all_spent_none : (past : List Entry) → Calm past → (cs : List ℕ) → list_all (is_spent past) cs ≡ true → cs ≡ []
-all_spent_none past k [] h = refl
-all_spent_none past k (c ∷ cs) h = apart (sym (not_spent past c k) ∙ (and_parts (is_spent past c) (list_all (is_spent past) cs) h).0)
+    part : (p : What → Bool) → any p (here ++ xs) ≡ false → any p (here ++ up_to is_any_start xs) ≡ false
+    part p h =
+        let t = or_parts (any p here) (any p xs) (sym (any-append p here xs) ∙ h) in
+        any-append p here (up_to is_any_start xs) ∙ (let one : any p here ≡ false = t.0 in rw (one, shorter p xs t.1) refl)
+
+none_started : (past xs : List Entry) → AreWell (past ++ xs) → any is_no_start xs ≡ false → are_spent past xs ≡ true → count is_any_start xs ≡ 0
+none_started past [] w h k = refl
+none_started past (x ∷ xs) w h k =
+    let started = or_parts (is_no_start x.what) (any is_no_start xs) h in
+    let spent = and_parts (is_start_spent (past ++ x ∷ []) x.what xs) (are_spent (past ++ x ∷ []) xs) k in
+    let after : AreWell ((past ++ x ∷ []) ++ xs) = subst AreWell (sym (append_assoc past (x ∷ []) xs)) w in
+    by_what x.what started.0 spent.0 after (none_started (past ++ x ∷ []) xs after started.1 spent.1)
+  where
+    by_what : (u : What) → is_no_start u ≡ false → is_start_spent (past ++ x ∷ []) u xs ≡ true → AreWell ((past ++ x ∷ []) ++ xs) → count is_any_start xs ≡ 0
+        → length (cond (is_any_start u) (x ∷ filter (λ (y : Entry). is_any_start y.what) xs) (filter (λ (y : Entry). is_any_start y.what) xs)) ≡ 0
+    by_what (Start child slot offer) n s well rest = apart (sym (not_spent ((past ++ x ∷ []) ++ up_to is_any_start xs) child (part_calm (past ++ x ∷ []) xs well)) ∙ s)
+    by_what (NoStart slot) n s well rest = apart (sym n)
+    by_what u n s well rest = rest
 
 pub none_without_child : NoneWithoutChild
 none_without_child limit journal t some w answer z =
     by_answers (subst P failed z.answers)
   where
+    all_well : ChildrenWell (z.past ++ record { by = 0; what = Claim t 0 } ∷ record { by = 0; what = Answered t answer } ∷ z.rest)
+    all_well = subst (λ (x : List Entry). ChildrenWell x) z.is w
+
+    well : AreWell z.past
+    well = record {
+      started = before is_no_start z.past (record { by = 0; what = Claim t 0 } ∷ record { by = 0; what = Answered t answer } ∷ z.rest) all_well.started;
+      heard = before is_muting z.past (record { by = 0; what = Claim t 0 } ∷ record { by = 0; what = Answered t answer } ∷ z.rest) all_well.heard;
+      closed = before is_unclosed_end z.past (record { by = 0; what = Claim t 0 } ∷ record { by = 0; what = Answered t answer } ∷ z.rest) all_well.closed;
+      ready = before is_refusal z.past (record { by = 0; what = Claim t 0 } ∷ record { by = 0; what = Answered t answer } ∷ z.rest) all_well.ready;
+    }
+
     k : Calm z.past
-    k = calm z.past (record { by = 0; what = Claim t 0 } ∷ record { by = 0; what = Answered t answer } ∷ z.rest) (subst (λ (x : List Entry). ChildrenWell x) z.is w)
+    k = calm z.past (record { by = 0; what = Claim t 0 } ∷ record { by = 0; what = Answered t answer } ∷ z.rest) all_well
 
     failed : failed_start z.past (start_untaken z.past) ≡ None
     failed = none_failed z.past k
@@ -219,8 +262,7 @@ none_without_child limit journal t some w answer z =
 
     by_answers : ZeroAnswers limit z.past None answer → ⊥
     by_answers a =
-        let none : children z.past ≡ [] = all_spent_none z.past k (children z.past) a.1 in
-        let zero_starts : count is_any_start z.past ≡ 0 = none_started z.past k.started none in
+        let zero_starts : count is_any_start z.past ≡ 0 = none_started [] z.past well k.started a.1 in
         let all : count is_any_start z.past ≡ limit = a.0 in
         omega arith
 

@@ -127,7 +127,7 @@ returns-in-Refused-clause-starts g c =
     let desks : List DeskTells = map (λ k. desk_tells (g.K.Desk.log k) (g.K.Desk.counts k)) c.args.bench.desks.items in
     let away : TurnsAway o child mid new answer = subst (λ (w : Opening). TurnsAway w child mid new answer) c.greet.ensures.core.opening c.turn_away.ensures.away in
     let some : 0 < length desks = subst (λ (n : ℕ). 0 < n) (sym (length-map c.args.bench.desks.items _ ∙ sym c.args.bench.desks.ok.0)) c.requires.desks.0 in
-    let quiet = away_quiet o c.args.offer old mid new child answer c.in-Refused.ensures.tells.0 away in
+    let quiet = away_quiet o c.args.offer old mid new child answer c.in-Refused.ensures.tells.1.undone c.in-Refused.ensures.tells.0 away in
     job_start quiet.more quiet.is
     (one_all quiet.more (quiet_none quiet)
     (starts_child c.args.plan.now.program new child c.args.offer (programs_value (g.P.Programs.starts c.args.programs.now) (g.P.Programs.faults c.args.programs.now)) (g.P.Programs.starts c.greet.new.programs)
@@ -151,7 +151,7 @@ returns-in-Ended-clause-starts g c =
     let desks : List DeskTells = map (λ k. desk_tells (g.K.Desk.log k) (g.K.Desk.counts k)) c.args.bench.desks.items in
     let away : TurnsAway o child mid new answer = subst (λ (w : Opening). TurnsAway w child mid new answer) c.greet.ensures.core.opening c.turn_away-in-Ended.ensures.away in
     let some : 0 < length desks = subst (λ (n : ℕ). 0 < n) (sym (length-map c.args.bench.desks.items _ ∙ sym c.args.bench.desks.ok.0)) c.requires.desks.0 in
-    let quiet = away_quiet o c.args.offer old mid new child answer c.in-Ended.ensures.tells.0 away in
+    let quiet = away_quiet o c.args.offer old mid new child answer c.in-Ended.ensures.tells.1.undone c.in-Ended.ensures.tells.0 away in
     job_start quiet.more quiet.is
     (one_all quiet.more (quiet_none quiet)
     (starts_child c.args.plan.now.program new child c.args.offer (programs_value (g.P.Programs.starts c.args.programs.now) (g.P.Programs.faults c.args.programs.now)) (g.P.Programs.starts c.greet.new.programs)
@@ -175,7 +175,7 @@ returns-in-Unsent-clause-starts g c =
     let desks : List DeskTells = map (λ k. desk_tells (g.K.Desk.log k) (g.K.Desk.counts k)) c.args.bench.desks.items in
     let away : TurnsAway o child mid new answer = subst (λ (w : Opening). TurnsAway w child mid new answer) c.greet.ensures.core.opening c.turn_away-in-Unsent.ensures.away in
     let some : 0 < length desks = subst (λ (n : ℕ). 0 < n) (sym (length-map c.args.bench.desks.items _ ∙ sym c.args.bench.desks.ok.0)) c.requires.desks.0 in
-    let quiet = away_quiet o c.args.offer old mid new child answer c.in-Unsent.ensures.tells.0 away in
+    let quiet = away_quiet o c.args.offer old mid new child answer c.in-Unsent.ensures.tells.1.undone c.in-Unsent.ensures.tells.0 away in
     job_start quiet.more quiet.is
     (one_all quiet.more (quiet_none quiet)
     (starts_child c.args.plan.now.program new child c.args.offer (programs_value (g.P.Programs.starts c.args.programs.now) (g.P.Programs.faults c.args.programs.now)) (g.P.Programs.starts c.greet.new.programs)

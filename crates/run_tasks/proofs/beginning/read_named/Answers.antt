@@ -3,6 +3,7 @@ use Rattle.std.specs.Prelude.{IfSome}
 use Rattle.keep_desk.specs.declared.reading.KeptRead.{KeptRead}
 use Rattle.keep_desk.specs.KeptDesks.{IsReadAs, IsKeptAt}
 use Rattle.run_tasks.proofs.Begun.{hands_on}
+use Rattle.run_tasks.proofs.Naming.{read_names}
 use Rattle.run_tasks.proofs.beginning.read_named.Goals as goal
 
 pub returns-in-Ok-Kept-clause-kept : goal.returns-in-Ok-Kept-clause-kept
@@ -14,3 +15,18 @@ returns-in-Ok-Kept-clause-kept g c =
     hands_on c.args.words.now told name c.requires.named old new c.in-Ok-Kept.registers c.in-Ok-Kept.notes
     (subst (λ (k : KeptRead). IsReadAs old new name (Ok k)) c.in-Ok-Kept.field-0-is c.in-Ok-Kept.ensures.read)
     (subst (λ (k : KeptRead). IfSome told (λ files. IsKeptAt name files (Ok k))) c.in-Ok-Kept.field-0-is c.in-Ok-Kept.ensures.told)
+
+pub returns-in-Ok-Kept-clause-calls : goal.returns-in-Ok-Kept-clause-calls
+returns-in-Ok-Kept-clause-calls g c = read_names c.args.words.now c.args.name.now c.read_kept.result c.requires.named c.read_kept.ensures.read
+
+pub returns-in-Ok-BadLine-clause-calls : goal.returns-in-Ok-BadLine-clause-calls
+returns-in-Ok-BadLine-clause-calls g c = read_names c.args.words.now c.args.name.now c.read_kept.result c.requires.named c.read_kept.ensures.read
+
+pub returns-in-Ok-TooLarge-clause-calls : goal.returns-in-Ok-TooLarge-clause-calls
+returns-in-Ok-TooLarge-clause-calls g c = read_names c.args.words.now c.args.name.now c.read_kept.result c.requires.named c.read_kept.ensures.read
+
+pub returns-in-Ok-Fault-clause-calls : goal.returns-in-Ok-Fault-clause-calls
+returns-in-Ok-Fault-clause-calls g c = read_names c.args.words.now c.args.name.now c.read_kept.result c.requires.named c.read_kept.ensures.read
+
+pub returns-in-Err-clause-calls : goal.returns-in-Err-clause-calls
+returns-in-Err-clause-calls g c = read_names c.args.words.now c.args.name.now c.read_kept.result c.requires.named c.read_kept.ensures.read

@@ -7,6 +7,7 @@ use Rattle.run_tasks.specs.Runs.{MadeValue}
 use Rattle.run_tasks.proofs.Begun.{may_begin_all}
 use Rattle.run_tasks.proofs.Leaving.{made_first}
 use Rattle.run_tasks.proofs.Working.{ends_run, no_answers}
+use Rattle.desk_file.proofs.Naming.{names_all, names_both}
 use Rattle.run_tasks.proofs.doing.do_tasks.Goals as goal
 
 pub go_on-worked-requires-clause-may : goal.go_on-worked-requires-clause-may
@@ -50,6 +51,7 @@ returns g c =
       ends =
           ends_run words (g.C.Clock.answer c.args.clock.now) told flow (g.K.Desk.Desk.counts c.in-Ok-desk.desk).faults before table workers made c.begin-begun.result c.begin-begun.ensures.files
           (ap (λ (n : Counts). n.faults) c.in-Ok-desk.ensures.fresh.0) c.begin-begun.ensures.begins c.go_on-worked.ensures.goes_on;
+      named = names_all c.in-Ok-desk.ensures.fresh.1 (names_both c.begin-begun.ensures.calls c.go_on-worked.ensures.calls);
       none = no_answers words before table workers made.journal made.answers c.begin-begun.result made.end c.go_on-worked.ensures.goes_on;
       objects = c.go_on-worked.ensures.leaves;
     }

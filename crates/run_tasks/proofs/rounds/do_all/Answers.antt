@@ -10,6 +10,7 @@ use Rattle.run_tasks.proofs.Begun.{all_tasks}
 use Rattle.run_tasks.proofs.Crews.{tells_tables}
 use Rattle.run_tasks.proofs.Leaving.{leaves_named, ok_err}
 use Rattle.run_tasks.proofs.Working.{is_worked, ends_finished, ends_wanting}
+use Rattle.desk_file.proofs.Naming.{names_none}
 use Rattle.run_tasks.proofs.rounds.do_all.Goals as goal
 
 pub run_jobs-bench-requires-clause-tasks : goal.run_jobs-bench-requires-clause-tasks
@@ -40,7 +41,7 @@ returns-in-Ok-clause-ends g c =
     (is_worked words o workers journal before after c.args.ready.plan.setup c.args.ready.plan.offers c.args.ready.plan.starts
     (length-map c.args.crew.items _ ∙ sym c.args.crew.ok.0 ∙ c.requires.crew, length-map crew.items value ∙ sym crew.ok.0 ∙ c.run_jobs-bench.ensures.desks ∙ c.requires.crew) c.requires.fresh
     (tells_tables g.D.Desk.counts g.D.Desk.files g.D.Desk.log crew.items) c.requires.prepared.setup c.requires.prepared.offers c.requires.prepared.starts c.run_jobs-bench.ensures.ran)
-    (subst (IsWhole o journal) c.in-Ok.is c.run_jobs-bench.ensures.whole) c.finish-finished.ensures
+    (subst (IsWhole o journal) c.in-Ok.is c.run_jobs-bench.ensures.whole) c.finish-finished.ensures.finishes
 
 pub returns-in-Ok-clause-leaves : goal.returns-in-Ok-clause-leaves
 returns-in-Ok-clause-leaves g c =
@@ -65,3 +66,6 @@ returns-clause-ends g c =
 
 pub returns-clause-leaves : goal.returns-clause-leaves
 returns-clause-leaves g c = leaves_named (λ err. refl) c.journal_of-in-Err.ensures c.requires.prepared.program c.run_jobs-bench.ensures.leaves
+
+pub returns-clause-calls : goal.returns-clause-calls
+returns-clause-calls g c = names_none refl

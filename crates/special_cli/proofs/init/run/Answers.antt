@@ -1,4 +1,8 @@
-use Rattle.std.proofs.Common.{◌≡◌, ◌∙◌, map, refl, ap, rules, arith}
+use Rattle.std.proofs.Common.{◌≡◌, ◌∙◌, List, Option, map, refl, sym, ap, subst, rules, arith}
+use Rattle.ann_outside.specs.declared.file_desk.Call.{Call}
+use Rattle.desk_file.specs.Names.{NamesOnly}
+use Rattle.desk_file.proofs.Naming.{names_none}
+use Rattle.special_cli.specs.Setups.{IsInitFile}
 use Rattle.std.specs.Prelude.{IsErr}
 use Rattle.std.proofs.lemmas.Grind.{common_steps}
 use Rattle.init_run.specs.declared.setup.Setup.TheVariants.{Initialized, Stopped}
@@ -37,6 +41,17 @@ returns-clause-ends g c =
           ends_wanting c.args.words.now told table c.args.opening core.opening core.journal c.journal_of.result.entries c.match-asked.end c.requires.begins same legal c.ask-asked.ensures.asked w.end-is
           (ap g.D.Desk.files w.desk-is) c.journal_of.ensures
     ]
+
+pub returns-clause-calls : goal.returns-clause-calls
+returns-clause-calls g c =
+    elim c.match-asked.branch [
+      | in-Ok-Initialized w ↦ subst (λ (log : Option (List Call)). NamesOnly (IsInitFile c.args.words.now) (g.D.Desk.log c.args.desk.now) log) (sym (ap g.D.Desk.log w.desk-is)) w.keep-end.ensures.calls
+      | in-Ok-Stopped w ↦ names_none (ap g.D.Desk.log w.desk-is)
+      | in-Err w ↦ names_none (ap g.D.Desk.log w.desk-is)
+    ]
+
+pub returns-in_default-clause-calls : goal.returns-in_default-clause-calls
+returns-in_default-clause-calls g c = names_none refl
 
 pub returns-clause-leaves : goal.returns-clause-leaves
 returns-clause-leaves g c =

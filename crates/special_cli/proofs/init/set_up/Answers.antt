@@ -1,4 +1,5 @@
-use Rattle.std.proofs.Common.{map, refl, ap}
+use Rattle.std.proofs.Common.{map, refl, ap, inl}
+use Rattle.desk_file.proofs.Naming.{names_both, names_wider}
 use Rattle.child_end.specs.Programs.{programs_value}
 use Rattle.child_end.specs.Outsides.{table_value}
 use Rattle.special_cli.proofs.Keeping.{same_files}
@@ -14,3 +15,18 @@ pub returns-in-Err-clause-leaves : goal.returns-in-Err-clause-leaves
 returns-in-Err-clause-leaves g c =
     leaves_nothing _ (programs_value (g.P.Programs.starts c.args.programs.now) (g.P.Programs.faults c.args.programs.now)) (programs_value (g.P.Programs.starts c.args.programs.now) (g.P.Programs.faults c.args.programs.now)) c.args.words.now.program
     c.nothing_made-in-Err.result.journal.entries _ refl c.nothing_made-in-Err.ensures.0 (ap (map _) c.requires.room.0)
+
+pub returns-in-Ok-Ready-clause-calls : goal.returns-in-Ok-Ready-clause-calls
+returns-in-Ok-Ready-clause-calls g c = names_both (names_wider (λ other is. inl is) c.in-Ok-Ready.ensures.calls) c.run.ensures.calls
+
+pub returns-in-Ok-BadLine-clause-calls : goal.returns-in-Ok-BadLine-clause-calls
+returns-in-Ok-BadLine-clause-calls g c = names_wider (λ other is. inl is) c.in-Ok-BadLine.ensures.calls
+
+pub returns-in-Ok-TooLarge-clause-calls : goal.returns-in-Ok-TooLarge-clause-calls
+returns-in-Ok-TooLarge-clause-calls g c = names_wider (λ other is. inl is) c.in-Ok-TooLarge.ensures.calls
+
+pub returns-in-Ok-Fault-clause-calls : goal.returns-in-Ok-Fault-clause-calls
+returns-in-Ok-Fault-clause-calls g c = names_wider (λ other is. inl is) c.in-Ok-Fault.ensures.calls
+
+pub returns-in-Err-clause-calls : goal.returns-in-Err-clause-calls
+returns-in-Err-clause-calls g c = names_wider (λ other is. inl is) c.in-Err.ensures.calls

@@ -18,6 +18,7 @@ returns-in-Ready-clause-met g c = record {
   wired = search rules;
   numbers = search rules;
   starts = c.in-Ready.ensures.starts;
+  later = c.in-Ready.ensures.later;
 }
 
 pub returns-in-Refused-clause-met : goal.returns-in-Refused-clause-met
@@ -29,6 +30,7 @@ returns-in-Refused-clause-met g c = record {
   wired = c.in-Refused.ensures.wired;
   numbers = c.in-Refused.ensures.numbers;
   starts = c.in-Refused.ensures.starts;
+  later = c.in-Refused.ensures.later;
 }
 
 pub returns-in-Ended-clause-met : goal.returns-in-Ended-clause-met
@@ -40,6 +42,7 @@ returns-in-Ended-clause-met g c = record {
   wired = c.in-Ended.ensures.wired;
   numbers = c.in-Ended.ensures.numbers;
   starts = c.in-Ended.ensures.starts;
+  later = c.in-Ended.ensures.later;
 }
 
 pub returns-in-Unsent-clause-met : goal.returns-in-Unsent-clause-met
@@ -51,4 +54,5 @@ returns-in-Unsent-clause-met g c = record {
   wired = c.in-Unsent.ensures.wired;
   numbers = c.in-Unsent.ensures.numbers;
   starts = c.in-Unsent.ensures.starts;
+  later = c.in-Unsent.ensures.later;
 }

@@ -7,6 +7,7 @@ returns-in-Ready-clause-met g c = record {
   wired = c.in-Ready.ensures.wired;
   numbers = c.in-Ready.ensures.numbers;
   starts = c.in-Ready.ensures.starts;
+  later = c.in-Ready.ensures.later;
 }
 
 pub returns-in-Refused-clause-met : goal.returns-in-Refused-clause-met
@@ -15,6 +16,7 @@ returns-in-Refused-clause-met g c = record {
   wired = c.in-Refused.ensures.wired;
   numbers = c.in-Refused.ensures.numbers;
   starts = c.in-Refused.ensures.starts;
+  later = c.in-Refused.ensures.later;
 }
 
 pub returns-in-Ended-clause-met : goal.returns-in-Ended-clause-met
@@ -23,6 +25,7 @@ returns-in-Ended-clause-met g c = record {
   wired = c.in-Ended.ensures.wired;
   numbers = c.in-Ended.ensures.numbers;
   starts = c.in-Ended.ensures.starts;
+  later = c.in-Ended.ensures.later;
 }
 
 pub returns-in-Unsent-clause-met : goal.returns-in-Unsent-clause-met
@@ -31,4 +34,5 @@ returns-in-Unsent-clause-met g c = record {
   wired = c.in-Unsent.ensures.wired;
   numbers = c.in-Unsent.ensures.numbers;
   starts = c.in-Unsent.ensures.starts;
+  later = c.in-Unsent.ensures.later;
 }

@@ -1,0 +1,8 @@
+use Rattle.special_cli.proofs.Naming.{kept_named}
+use Rattle.special_cli.proofs.init.keep.Goals as goal
+
+pub returns-in-Ok-clause-calls : goal.returns-in-Ok-clause-calls
+returns-in-Ok-clause-calls g c = kept_named c.args.words.now _ _ c.write_kept.result c.view.ensures c.write_kept.ensures.calls
+
+pub returns-in-Err-clause-calls : goal.returns-in-Err-clause-calls
+returns-in-Err-clause-calls g c = kept_named c.args.words.now _ _ c.write_kept.result c.view.ensures c.write_kept.ensures.calls
