@@ -6,7 +6,7 @@ import resource
 import signal
 import time
 
-from harness import SPECIAL, UUID, audit, expect, limits, require, run, table
+from harness import SPECIAL, UUID, audit, expect, finish, limits, require, run, table
 
 E = "WORM-s5--b"
 GREETING = "echo VERSION 1\nread -r line\necho EXTENSIONS\nread -r line\necho PREPARE-SUCCESS\n"
@@ -89,6 +89,20 @@ def case_a_grandchild_that_holds_the_pipe_delays_nobody(room):
 def case_a_gibibyte_without_a_line_end(room):
     room.script("child.sh", ASKED + "head -c 1073741824 /dev/zero\n")
     expect(room.special("check", "./child.sh", E), (1, "1 ended longline\n", ""))
+
+
+@limits(240)
+def case_a_child_that_fills_the_journal_is_ended(room):
+    room.script("child.sh", ASKED + "yes 'PROGRESS 1' | head -n 7999988\n")
+    done = room.run_tasks("./child.sh", f"check {E}\n", "--jobs", "1", "--starts", "1")
+    expect(done, (1, "1 ended full\n", ""))
+    with open(room.path("journal"), "rb") as journal:
+        journal.seek(-120, os.SEEK_END)
+        last = journal.read().decode().split("\n")[-6:]
+        wanted = ["0 got 1 PROGRESS 1", "0 end 1 full", "0 verdict 1 2 ended full", "0 answer 1 ended full", "end 8000003", ""]
+        expect(last, wanted, "the journal's last lines")
+        journal.seek(0)
+        expect(finish(room.start([SPECIAL, "audit"], stdin=journal)), (0, "legal\n", ""), "the audit")
 
 
 @limits(20, waits=True)

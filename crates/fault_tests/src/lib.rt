@@ -1,5 +1,7 @@
-//! A test of `special` over a child in memory of whose output a read fails, which no pipe of a machine does.
+//! Tests of `special` over objects in memory of which one call fails: each call in its turn, which no pipe and no file of a machine does.
 #![tactic(auto)]
 
 #[cfg(test)]
-mod reads;
+mod faults;
+#[cfg(test)]
+mod trial;

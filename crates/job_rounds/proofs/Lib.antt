@@ -25,3 +25,4 @@ pub mod Firsts
 pub mod Steps
 pub mod NoneUnserved
 pub mod Succeeding
+pub mod Completing

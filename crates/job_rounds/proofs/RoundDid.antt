@@ -83,7 +83,7 @@ first_what w [] = w
 first_what w (e ∷ xs) = e.what
 
 -- where there is at most one such entry, two of them say the same
-only_one : (p : What → Bool) (xs : List Entry) (v w : What) → count p xs ≤ 1 → Stands xs v → Stands xs w → p v ≡ true → p w ≡ true → v ≡ w
+pub only_one : (p : What → Bool) (xs : List Entry) (v w : What) → count p xs ≤ 1 → Stands xs v → Stands xs w → p v ≡ true → p w ≡ true → v ≡ w
 only_one p xs v w few a b x y = ap (first_what v) (sym (only_pick p xs v few a x) ∙ only_pick p xs w few b y)
 
 -- ---- an answer is given once
@@ -95,7 +95,7 @@ count_first p e xs none = go (p e.what)
     go true = omega (arith, none)
     go false = omega (arith, none)
 
-answered_once : (o : Opening) (journal : List Entry) → Legal o journal → (t : ℕ) → count (answers t) journal ≤ 1
+pub answered_once : (o : Opening) (journal : List Entry) → Legal o journal → (t : ℕ) → count (answers t) journal ≤ 1
 answered_once o journal l =
     Legal-induction o (λ past. (t : ℕ) → count (answers t) past ≤ 1) (λ t. omega arith) (λ past e legal before may. step past e.by e.what legal before may) journal l
   where

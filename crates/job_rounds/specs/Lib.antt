@@ -8,3 +8,4 @@ pub mod Unserved
 pub mod JobsWell
 pub mod JobsKeep
 pub mod Posts
+pub mod Completeness

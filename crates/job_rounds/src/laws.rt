@@ -5,6 +5,7 @@ ghost use Rattle.journal_model.specs.declared.opening.Opening.{Opening};
 ghost use Rattle.journal_model.specs.Legality.{Legal};
 ghost use Rattle.task_run.specs.declared.setup.Setup.{Setup};
 ghost use Rattle.lone_work.specs.Works.{DeskTells};
+ghost use Rattle.job_rounds.specs.Completeness.{JobsComplete};
 ghost use Rattle.job_rounds.specs.JobsWell.{JobsSucceed, NoneUnserved};
 ghost use Rattle.job_rounds.specs.JobsKeep.{JobsKeep};
 
@@ -21,4 +22,9 @@ pub fn jobs_succeed()
 /// In a legal journal, with a faithful remote, a get keeps what the stores of its keys sent.
 pub fn jobs_keep()
     ensures { (o : Opening) (setup : Setup) (journal : List Entry) → Legal o journal → JobsKeep o setup journal }
+{}
+
+/// Where no desk counted a fault, and all else went well from outside, each answer in the journal is a success, or says that no memory was found.
+pub fn jobs_complete()
+    ensures { JobsComplete }
 {}

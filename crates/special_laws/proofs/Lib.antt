@@ -1,3 +1,4 @@
 pub mod Alone
 pub mod AtZero
 pub mod Mains
+pub mod Completing

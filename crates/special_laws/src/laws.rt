@@ -19,6 +19,7 @@ ghost use Rattle.run_tasks.specs.Inputs.{InputFlow};
 ghost use Rattle.run_tasks.specs.Runs.{IsRunOf};
 ghost use Rattle.special_cli.specs.Informs.{IsInformed};
 ghost use Rattle.special_cli.specs.Setups.{IsSetup};
+ghost use Rattle.special_laws.specs.Completeness.{IdleLacksMemory, RunCompletes};
 ghost use Rattle.special_laws.specs.Rows.{gone_early, unstarted, present_wire, HasWires};
 
 /// A check that found its key is told by its one answer, whole, or cut off where a write failed; by no other answer and with no
@@ -94,4 +95,11 @@ pub fn one_thread_serves_alone()
     ensures init { (journal : List Entry) (c : ℕ) → IsSetup journal → is_served_alone journal c ≡ true }
     ensures run { (words : RunWords) (clock : Option ℕ) (told : Option Files) (input : InputFlow) (workers : List TableValue) (journal : List Entry) (c : ℕ) → IsRunOf words clock told input workers journal → words.jobs ≡ 1 → is_served_alone journal c ≡ true }
     ensures untagged { (journal : List Entry) (c : ℕ) → is_tagged journal c ≡ false → is_served_alone journal c ≡ true }
+{}
+
+/// A run in which no count of faults rose, and all else went well from outside, ends with status 0 and with each task's success, unless
+/// no memory was found.
+pub fn run_completes()
+    ensures begun { RunCompletes }
+    ensures idle { IdleLacksMemory }
 {}
