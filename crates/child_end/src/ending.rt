@@ -11,6 +11,7 @@ ghost use Rattle.child_start.specs.Cores.{IsSameCore};
 ghost use Rattle.child_end.specs.Wires.{IsHeld, IsLaid, wire_value};
 
 use ann_outside::{Programs, Sink, Source};
+use child_start::wait_for;
 use host_core::Core;
 use link_roles::{Door, Lone, OwnDoor, Wire};
 
@@ -54,6 +55,7 @@ pub fn finish<P: Programs>(
     ensures starts { Stays (P.starts programs.old) (P.starts programs.new) }
     ensures later { P.faults programs.old ≤ P.faults programs.new }
 {
-    wires.push_reserved(link.finish());
-    let _status = programs.finish(stub);
+    let wire = link.finish();
+    wait_for(programs, &wire.inlet, &wire.outlet, stub);
+    wires.push_reserved(wire);
 }

@@ -6,4 +6,4 @@ pub mod laws;
 mod starting;
 
 pub use greeting::{Greeting, Mode};
-pub use starting::greet;
+pub use starting::{greet, wait_for};

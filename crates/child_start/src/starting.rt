@@ -1,4 +1,4 @@
-ghost use Rattle.std.specs.Prelude.{◌≡◌, ◌≤◌, ◌<◌, ◌+◌, ◌++◌, ◌∷◌, [], true, MatchOption, MatchResult};
+ghost use Rattle.std.specs.Prelude.{◌≡◌, ◌≤◌, ◌<◌, ◌+◌, ◌++◌, ◌∷◌, [], false, true, MatchOption, MatchResult};
 ghost use Rattle.ann_outside.specs.Causes.{Rose, Stays};
 ghost use Rattle.journal_model.specs.declared.entry.What.TheVariants.{Start, NoStart};
 ghost use Rattle.journal_model.specs.Legality.{Legal, count, is_start};
@@ -230,6 +230,21 @@ where
     let mut outlet = outlet;
     inlet.close();
     outlet.close();
+    wait_for(programs, &inlet, &outlet, stub);
+}
+
+/// Waits for a child's program to end. Both halves are closed by then, so that a program that reads on finds its input at an end.
+pub fn wait_for<P: Programs>(
+    programs: &mut P,
+    inlet: &P::Inlet,
+    outlet: &P::Outlet,
+    stub: P::Stub,
+)
+    requires inlet { P.Inlet.is_open inlet.now ≡ false }
+    requires outlet { P.Outlet.is_open outlet.now ≡ false }
+    ensures starts { Stays (P.starts programs.old) (P.starts programs.new) }
+    ensures later { P.faults programs.old ≤ P.faults programs.new }
+{
     let _status = programs.finish(stub);
 }
 

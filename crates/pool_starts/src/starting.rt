@@ -20,7 +20,7 @@ use crate::pool::{Gathering, Pool, Seat};
 use ann_key::NoMemory;
 use ann_outside::{Programs, Sink, Source};
 use child_end::close_child;
-use child_start::{Greeting, Mode, greet};
+use child_start::{Greeting, Mode, greet, wait_for};
 use host_core::Core;
 use link_roles::Lone;
 use std::alloc::Global;
@@ -73,8 +73,9 @@ where
     ensures core { IsSameCore core.old core.new }
 {
     close_child(&link, core);
-    pool.seats.push_reserved(Seat::Over(link.finish()));
-    let _status = programs.finish(stub);
+    let wire = link.finish();
+    wait_for(programs, &wire.inlet, &wire.outlet, stub);
+    pool.seats.push_reserved(Seat::Over(wire));
 }
 
 // Starts and greets one more child, in this slot. ASYNC isn't offered to it.
