@@ -1,7 +1,10 @@
 -- How a run ends that went well from outside.
 use Rattle.std.proofs.Common.{◌≡◌, ◌∙◌, ◌⊎◌, inl, inr, ℕ, zero, suc, ◌+◌, ◌-◌, ◌≤◌, ◌==◌, Bool, true, false, cond, List, [], ◌∷◌, ◌++◌, length, refl, sym, ap, subst, arith, Some, None, Option, Ok}
-use Rattle.std.specs.Prelude.{◌&&◌, ◌||◌, map, slice_get, Result}
+use Rattle.std.specs.Prelude.{◌&&◌, ◌||◌, not, All, is_some, map, slice_get, Result}
+use Rattle.std.proofs.lemmas.Bool.{and_parts}
+use Rattle.std.proofs.lemmas.List.Elements.{All-head, All-tail}
 use Rattle.std.specs.List.{list_all, list_any, cons_option, range_with_len}
+use Rattle.ann_key.specs.Keys.{is_key, is_sendable, key_reading}
 use Rattle.ann_key.specs.declared.bytes.NoMemory.{NoMemory}
 use Rattle.ann_outside.specs.Causes.{Rose}
 use Rattle.ann_outside.specs.Files.{Files, WhereTold}
@@ -32,7 +35,9 @@ use Rattle.special_cli.specs.Endings.{is_well}
 use Rattle.special_cli.specs.Left.{Left}
 use Rattle.special_cli.specs.Tells.{Flow, IsMemoryTold, IsToldOf, IsWritten, answers_status}
 use Rattle.special_laws.specs.Completeness.{AreAllWell, EndsWell, HasCompleted, IdleLacksMemory, IsKeptQuiet, IsQuiet, RunCompletes, WentWell, says_memory}
+use Rattle.task_laws.specs.LoneWell.{AreKeysRead}
 use Rattle.task_laws.specs.WentWell.{IsSuccess, success_of}
+use Rattle.task_text.specs.TaskLines.{IsTask, has_chunk}
 use Rattle.task_text.specs.declared.task.Task.{Task}
 use Rattle.task_text.specs.declared.task.Work.{Work}
 use Rattle.task_text.specs.declared.task.Work.TheVariants.{Store, Get, Check, Drop}
@@ -199,6 +204,21 @@ task_at o tasks i task same is = at i (let e : suc i - 1 ≡ i = omega arith in 
         let is_i : suc i - 1 ≡ i = omega arith in
         ap (slice_get o.tasks) is_i ∙ ap (λ (ts : List Task). slice_get ts i) same ∙ is
 
+all_at : {X : Type 0} (P : X → Type 0) (xs : List X) (i : ℕ) (x : X) → All P xs → slice_get xs i ≡ Some x → P x
+all_at P [] i x all h = absurd (let bad : None ≡ Some x = h in cc)
+all_at P (y ∷ xs) zero x all h = let one : Some y ≡ Some x = h in let is : y ≡ x = cc in subst P is (All-head P y xs all)
+all_at P (y ∷ xs) (suc i) x all h = all_at P xs i x (All-tail P y xs all) h
+
+key_is_read : (task : Task) → IsTask task → is_some (key_reading task.key) ≡ true
+key_is_read task is = (and_parts (is_key task.key) (is_sendable task.key && not (has_chunk task.key)) is.key_class).0
+
+keys_are_read : (o : Opening) (tasks : List Task) → o.tasks ≡ tasks → All IsTask tasks → AreKeysRead o
+keys_are_read o tasks same all zero task h = absurd cc
+keys_are_read o tasks same all (suc i) task h =
+    let at : suc i - 1 ≡ i = omega arith in
+    let is : slice_get tasks i ≡ Some task = ap (λ (ts : List Task). slice_get ts i) (sym same) ∙ ap (slice_get o.tasks) (sym at) ∙ h in
+    key_is_read task (all_at IsTask tasks i task all is)
+
 module _ (words : RunWords) (clock : Option ℕ) (input : InputFlow) (status : ℕ) (out err : Flow) (left : Left) (quiet : IsQuiet input out err) where
   completes : (end : RunEnd) (told : Option Files) (table : TableValue) (workers : List TableValue) (whole : IsWholeRun words clock told input table workers (made_in left end) W.Done)
       → EndsWell words clock told input table workers (made_in left end) (Done W.Done) whole → IsToldOf left status out err (end_of (Done W.Done)) → HasCompleted input status left.answers
@@ -209,7 +229,13 @@ module _ (words : RunWords) (clock : Option ℕ) (input : InputFlow) (status : �
       same = ap (λ (o : Opening). o.tasks) whole.run.begins.is
 
       given : AreAnsweredWell whole.run.opening left.journal
-      given = jobs_complete whole.run.opening _ true words.starts left.journal whole.run.before _ whole.run.ran well
+      given = jobs_complete whole.run.opening _ true words.starts left.journal whole.run.before _ whole.run.ran record {
+        starts = well.starts;
+        keys = keys_are_read whole.run.opening whole.run.tasks same whole.run.input.comes.1.1.each;
+        children = well.children;
+        asked = well.asked;
+        desks = well.desks;
+      }
 
       each : (i : ℕ) (task : Task) (answer : Answer) → slice_get whole.run.tasks i ≡ Some task → answer_of left.journal (1 + i) ≡ Some answer → IsSuccess task.work answer
       each i task answer is h =

@@ -1,22 +1,25 @@
 -- When a run went well from outside, by what was counted, and with which answers and status it ends then.
-use Rattle.std.specs.Prelude.{ℕ, ◌≡◌, ◌⊎◌, Bool, true, false, List, [], ◌∷◌, map, Option, None, Ok}
+use Rattle.std.specs.Prelude.{ℕ, ◌≡◌, ◌⊎◌, ◌<◌, Bool, true, false, List, [], ◌∷◌, map, Option, None, Ok}
 use Rattle.std.specs.List.{list_any}
 use Rattle.ann_outside.specs.Causes.{Rose}
 use Rattle.ann_outside.specs.Files.{Files}
 use Rattle.child_end.specs.Outsides.{OutsideValue, TableValue}
 use Rattle.cli_words.specs.declared.command.RunWords.{RunWords}
-use Rattle.job_rounds.specs.Completeness.{JobsFoundWell}
+use Rattle.job_rounds.specs.Completeness.{DesksFound}
 use Rattle.journal_model.specs.declared.answer.Answer.{Answer}
 use Rattle.journal_model.specs.declared.answer.Answer.TheVariants.{Memory as MemoryAnswer}
+use Rattle.journal_model.specs.declared.entry.Entry.{Entry}
 use Rattle.keep_desk.specs.declared.writing.KeptWritten.TheVariants as W
 use Rattle.run_tasks.specs.Inputs.{InputFlow, IsTaken, run_setup}
-use Rattle.run_tasks.specs.Runs.{EndsRun, IsAtDesk, IsIdle, MadeValue, table_tells}
+use Rattle.run_tasks.specs.Runs.{EndsRun, IsAtDesk, IsIdle, IsRunOf, MadeValue, table_tells}
 use Rattle.run_tasks.specs.declared.made.RunEnd.{RunEnd}
 use Rattle.run_tasks.specs.declared.made.RunEnd.TheVariants.{BadKept, KeptTooLarge, FileFailed, InputFailed, Refused, Memory, Done}
 use Rattle.special_cli.specs.Doings.{end_of, made_in}
 use Rattle.special_cli.specs.Left.{Left}
 use Rattle.special_cli.specs.Tells.{Flow, IsToldOf}
 use Rattle.task_input.specs.declared.limits.TheConstants.Limits.{TASKS}
+use Rattle.task_laws.specs.LoneWell.{ChildrenWell}
+use Rattle.task_laws.specs.RunWell.{AreAskedWell}
 use Rattle.task_laws.specs.WentWell.{IsSuccess}
 use Rattle.task_text.specs.declared.task.Task.{Task}
 
@@ -33,6 +36,14 @@ pub record IsKeptQuiet (told : Option Files) (table : TableValue) : Type 0 where
   pub faults : Rose 0 table.counts.faults → ⊥
   pub missing : told ≡ None → Rose 0 table.counts.missing → ⊥
 
+-- A start was allowed; the children of the run got ready, and ended only when they were closed; each request of a task was done, but that what a
+-- store asks before it stores may be answered in any way; no desk of a worker counted a fault, and each task found what it should.
+pub record TasksFoundWell (words : RunWords) (clock : Option ℕ) (told : Option Files) (input : InputFlow) (workers : List TableValue) (journal : List Entry) (run : IsRunOf words clock told input workers journal) : Type 0 where
+  pub starts : 0 < words.starts
+  pub children : ChildrenWell journal
+  pub asked : AreAskedWell run.opening journal
+  pub desks : DesksFound run.opening (run_setup words run.stamp) words.starts journal [] journal 1 run.before (map table_tells workers) run.ran.did
+
 -- No line of the kept file or of the input was refused, and the kept file is within its limit, as it was read and as it is to be written.
 -- The tasks found what they should.
 abbrev pub EndsWell : (words : RunWords) (clock : Option ℕ) (told : Option Files) (input : InputFlow) (table : TableValue) (workers : List TableValue) (made : MadeValue) (end : RunEnd)
@@ -46,7 +57,7 @@ EndsWell words clock told input table workers made Memory ends = Unit {0}
 EndsWell words clock told input table workers made (Done W.TooLarge) whole = ⊥
 EndsWell words clock told input table workers made (Done W.Fault) whole = Unit {0}
 EndsWell words clock told input table workers made (Done W.Done) whole =
-    JobsFoundWell whole.run.opening (run_setup words whole.run.stamp) true words.starts made.journal whole.run.before (map table_tells workers) whole.run.ran
+    TasksFoundWell words clock told input workers made.journal whole.run
 
 -- So it is at the desk of the kept file, and at the others.
 abbrev pub WentWell : (words : RunWords) (clock : Option ℕ) (before : OutsideValue) (input : InputFlow) (after : OutsideValue) (made : MadeValue) → IsAtDesk words clock before input after made → Type 0
