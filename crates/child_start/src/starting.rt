@@ -234,12 +234,7 @@ where
 }
 
 /// Waits for a child's program to end. Both halves are closed by then, so that a program that reads on finds its input at an end.
-pub fn wait_for<P: Programs>(
-    programs: &mut P,
-    inlet: &P::Inlet,
-    outlet: &P::Outlet,
-    stub: P::Stub,
-)
+pub fn wait_for<P: Programs>(programs: &mut P, inlet: &P::Inlet, outlet: &P::Outlet, stub: P::Stub)
     requires inlet { P.Inlet.is_open inlet.now ≡ false }
     requires outlet { P.Outlet.is_open outlet.now ≡ false }
     ensures starts { Stays (P.starts programs.old) (P.starts programs.new) }
