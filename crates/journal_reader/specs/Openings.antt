@@ -28,3 +28,13 @@ pub record IsReadBack (read written : Opening) : Type 0 where
   pub notes : read.notes ≡ map cut_note written.notes
   pub identity : read.identity ≡ written.identity
   pub stamp : read.stamp ≡ written.stamp
+
+-- What the text of an opening tells of it: all but users and passwords, and the stamps of notes cut to microseconds.
+abbrev pub as_told : Opening → Opening
+as_told o = record {
+  tasks = o.tasks;
+  registers = record o.registers { creds = [] };
+  notes = map cut_note o.notes;
+  identity = o.identity;
+  stamp = o.stamp;
+}

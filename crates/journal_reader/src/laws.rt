@@ -2,10 +2,10 @@
 ghost use Rattle.std.specs.Prelude.{◌≡◌, ℕ, List, [], ◌∷◌, ◌++◌, Some, length, slice_get, IsTrue};
 ghost use Rattle.chunk_log.specs.NoteBooks.{in_order};
 ghost use Rattle.entry_lines.specs.Entries.{IsEntry};
-ghost use Rattle.journal_lines.specs.JournalTexts.{Told, told, told_lines};
+ghost use Rattle.journal_lines.specs.JournalTexts.{Told, journal_lines, told, told_lines};
 ghost use Rattle.journal_model.specs.declared.entry.Entry.{Entry};
 ghost use Rattle.journal_model.specs.declared.opening.Opening.{Opening};
-ghost use Rattle.journal_reader.specs.Openings.{IsReadBack, IsTellable};
+ghost use Rattle.journal_reader.specs.Openings.{IsReadBack, IsTellable, as_told};
 ghost use Rattle.journal_reader.specs.Readings.{Reading, CannotGo, start};
 ghost use Rattle.journal_reader.specs.RunTexts.{Begins, IsTold};
 ghost use Rattle.journal_reader.specs.Runs.{IsOpeningOf, Reads};
@@ -38,4 +38,11 @@ pub fn what_is_refused_is_in_no_text()
 pub fn what_is_written_is_read()
     ensures text { (o : Opening) (journal : List Entry) → IsTellable o → ((n : ℕ) (entry : Entry) → slice_get journal n ≡ Some entry → IsEntry entry) → IsTold (told o journal) }
     ensures opening { (o read : Opening) (journal : List Entry) → IsTellable o → IsTrue (in_order read.notes) → IsOpeningOf read (told o journal) → IsReadBack read o }
+{}
+
+/// One text tells one run: lines that are the whole text of two things are that of one, and two runs that are written alike are alike, but
+/// for users and passwords and for parts of a microsecond in the stamps of notes.
+pub fn one_text_tells_one_run()
+    ensures told { (t u : Told) → IsTold t → IsTold u → told_lines t ≡ told_lines u → t ≡ u }
+    ensures run { (o p : Opening) (journal entries : List Entry) → IsTellable o → IsTellable p → ((n : ℕ) (entry : Entry) → slice_get journal n ≡ Some entry → IsEntry entry) → ((n : ℕ) (entry : Entry) → slice_get entries n ≡ Some entry → IsEntry entry) → journal_lines o journal ≡ journal_lines p entries → (as_told o ≡ as_told p) × (journal ≡ entries) }
 {}
