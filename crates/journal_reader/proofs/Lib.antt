@@ -6,6 +6,7 @@ mod KeptOrder
 mod KeptSaid
 mod KeptWritten
 mod LineFields
+mod OneText
 mod ReadBack
 mod SameNotes
 pub mod Sound
