@@ -2,6 +2,7 @@
 use Rattle.std.proofs.Common.{◌≡◌, ◌∙◌, ◌⊎◌, inl, inr, ℕ, zero, suc, ◌+◌, ◌-◌, ◌^◌, ◌≤◌, ◌<◌, ◌==◌, Bool, true, false, cond, List, [], ◌∷◌, ◌++◌, length, append_assoc, refl, sym, ap, subst, arith, Some, None, Option, Ok}
 use Rattle.std.specs.Prelude.{◌||◌, All, is_some, map, min}
 use Rattle.std.specs.List.{list_all, list_any, cons_option}
+use Rattle.std.proofs.lemmas.Bool.Decides.{nat_tests}
 use Rattle.std.proofs.lemmas.List.Elements.{All-cons, All-head, All-nil, All-tail}
 use Rattle.ann_key.specs.Keys.{Parts, key_reading}
 use Rattle.ann_outside.specs.Causes.{Rose}
@@ -166,36 +167,29 @@ module _ (o : Opening) (setup : Setup) (limit : ℕ) (journal : List Entry) (sta
 
   done_among : (t : ℕ) (rs : List TaskDone) → AreDone o setup limit journal rs → All (IsDoneWell o) rs → list_any (λ u. u == t) (map (λ (r : TaskDone). r.task) rs) ≡ true → Did t
   done_among t [] done well h = absurd cc
-  done_among t (r ∷ rs) done well h = by_test (r.task == t) refl h
+  done_among t (r ∷ rs) done well h = by_test (r.task == t) refl h (done_among t rs done.1 (All-tail (IsDoneWell o) r rs well))
     where
-      by_test : (b : Bool) → (r.task == t) ≡ b → (b || list_any (λ u. u == t) (map (λ (x : TaskDone). x.task) rs)) ≡ true → Did t
-      by_test true e k = record { r = r; task_is = same_number r.task t e; done = done.0; well = All-head (IsDoneWell o) r rs well }
-      by_test false e k = done_among t rs done.1 (All-tail (IsDoneWell o) r rs well) k
+      by_test : (b : Bool) → (r.task == t) ≡ b → (b || list_any (λ u. u == t) (map (λ (x : TaskDone). x.task) rs)) ≡ true
+          → (list_any (λ u. u == t) (map (λ (x : TaskDone). x.task) rs) ≡ true → Did t) → Did t
+      by_test true e k more = record { r = r; task_is = same_number r.task t e; done = done.0; well = All-head (IsDoneWell o) r rs well }
+      by_test false e k more = more k
+
+  beyond : (a b : ℕ) → a ≤ b → (a == b) ≡ false → a + 1 ≤ b
+  beyond a b l f = grind (arith, nat_tests)
 
   desks_among : (past entries : List Entry) (k : ℕ) (ds es : List DeskTells) (did : DesksDid o setup limit journal past entries k ds es) → DesksFound o setup limit journal past entries k ds es did
       → (t m : ℕ) → k ≤ m → m < k + length ds → list_any (λ u. u == t) (claims_for m past entries) ≡ true → Did t
   desks_among past entries k [] es did found t m low high h = absurd (let bad : ⊥ = omega (arith, low, high) in bad)
   desks_among past entries k (d ∷ ds) [] did found t m low high h = absurd did
-  desks_among past entries k (d ∷ ds) (e ∷ es) did found t m low high h = by_either (k == m) here further
+  desks_among past entries k (d ∷ ds) (e ∷ es) did found t m low high h =
+      by_either (k == m) here (λ off. desks_among past entries (k + 1) ds es did.1 found.2 t m (beyond k m low off) (omega (arith, high)) h)
     where
       here : (k == m) ≡ true → Did t
       here at =
           let is : m ≡ k = sym (same_number k m at) in
           let claimed : list_any (λ u. u == t) (map (λ (r : TaskDone). r.task) did.0.done) ≡ true =
           ap (list_any (λ u. u == t)) (did.0.claimed ∙ ap (λ (n : ℕ). claims_for n past entries) (sym is)) ∙ h in
-          done_among t did.0.done did.0.ran (all_found d.counts e.counts found.0 d.counts did.0.done (omega arith, omega arith) did.0.caused found.1.0 did.0.ran) claimed
-
-      further : (k == m) ≡ false → Did t
-      further off = desks_among past entries (k + 1) ds es did.1 found.1.1 t m above (omega (arith, high)) h
-        where
-          above : k + 1 ≤ m
-          above = beyond k m low off
-            where
-              beyond : (a b : ℕ) → a ≤ b → (a == b) ≡ false → a + 1 ≤ b
-              beyond zero zero l f = absurd cc
-              beyond zero (suc b) l f = omega arith
-              beyond (suc a) zero l f = absurd (let bad : ⊥ = omega (arith, l) in bad)
-              beyond (suc a) (suc b) l f = let r : a + 1 ≤ b = beyond a b (omega (arith, l)) f in omega (arith, r)
+          done_among t did.0.done did.0.ran (all_found d.counts e.counts found.0 d.counts did.0.done (omega arith, omega arith) did.0.caused found.1 did.0.ran) claimed
 
 -- ---- an answer
 
@@ -212,7 +206,7 @@ run_stands journal t run = record {
   front = run.past ++ entry run.by (Claim t run.child) ∷ run.within;
   by = run.answered_by;
   back = run.rest;
-  is = run.is ∙ sym (append_assoc run.past (entry run.by (Claim t run.child) ∷ run.within) (entry run.answered_by (Answered t run.answer) ∷ run.rest));
+  is = run.is;
 }
 
 answer_inside : (t : ℕ) (a b : Answer) → Answered t a ≡ Answered t b → a ≡ b
@@ -236,7 +230,7 @@ jobs_complete o setup may limit journal desks desks' ran well front rest by t an
     did =
         let low = found.some in
         let high = found.few in
-        desks_among o setup limit journal well.starts well.keys well.children well.asked [] journal 1 desks desks' ran.did well.desks t found.desk (omega (arith, low)) (omega (arith, high)) found.claimed
+        desks_among o setup limit journal well.starts well.keys well.children well.asked [] journal 1 desks desks' ran.did well.found t found.desk (omega (arith, low)) (omega (arith, high)) found.claimed
 
     by_done : (d : Did o setup limit journal well.starts well.keys well.children well.asked t) → IsDone o setup limit journal d.r → IsSuccess task.work answer
     by_done d (inr z) = absurd (none_unserved limit journal d.r.task well.starts well.children d.r.answer z.0)

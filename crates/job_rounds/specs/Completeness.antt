@@ -45,7 +45,7 @@ pub record JobsFoundWell (o : Opening) (setup : Setup) (may : Bool) (limit : ℕ
   pub keys : AreKeysRead o
   pub children : ChildrenWell journal
   pub asked : AreAskedWell o journal
-  pub desks : DesksFound o setup limit journal [] journal 1 desks desks' ran.did
+  pub found : DesksFound o setup limit journal [] journal 1 desks desks' ran.did
 
 -- each answer in the journal is its task's success, or says that no memory was found
 abbrev pub AreAnsweredWell : Opening → List Entry → Type 0

@@ -234,7 +234,7 @@ module _ (words : RunWords) (clock : Option ℕ) (input : InputFlow) (status : �
         keys = keys_are_read whole.run.opening whole.run.tasks same whole.run.input.comes.1.1.each;
         children = well.children;
         asked = well.asked;
-        desks = well.desks;
+        found = well.found;
       }
 
       each : (i : ℕ) (task : Task) (answer : Answer) → slice_get whole.run.tasks i ≡ Some task → answer_of left.journal (1 + i) ≡ Some answer → IsSuccess task.work answer
@@ -248,8 +248,8 @@ module _ (words : RunWords) (clock : Option ℕ) (input : InputFlow) (status : �
 pub run_completes : RunCompletes
 run_completes words clock before input status out err left (BadKept line) at told quiet well = absurd well.1
 run_completes words clock before input status out err left KeptTooLarge at told quiet well = absurd well.1
-run_completes words clock before input status out err left FileFailed at told quiet well = absurd (well.0.faults at.ends.1.1)
-run_completes words clock before input status out err left InputFailed at told quiet well = absurd (quiet.reads at.ends.1.0)
+run_completes words clock before input status out err left FileFailed at told quiet well = absurd (well.0.faults at.ends.2)
+run_completes words clock before input status out err left InputFailed at told quiet well = absurd (quiet.reads at.ends.1)
 run_completes words clock before input status out err left (Refused line reason) at told quiet well = absurd well.1
 run_completes words clock before input status out err left Memory at told quiet well = inl (memory_so status out err quiet.warns told)
 run_completes words clock before input status out err left (Done W.TooLarge) at told quiet well = absurd well.1

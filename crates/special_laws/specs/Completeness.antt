@@ -42,7 +42,7 @@ pub record TasksFoundWell (words : RunWords) (clock : Option ℕ) (told : Option
   pub starts : 0 < words.starts
   pub children : ChildrenWell journal
   pub asked : AreAskedWell run.opening journal
-  pub desks : DesksFound run.opening (run_setup words run.stamp) words.starts journal [] journal 1 run.before (map table_tells workers) run.ran.did
+  pub found : DesksFound run.opening (run_setup words run.stamp) words.starts journal [] journal 1 run.before (map table_tells workers) run.ran.did
 
 -- No line of the kept file or of the input was refused, and the kept file is within its limit, as it was read and as it is to be written.
 -- The tasks found what they should.
