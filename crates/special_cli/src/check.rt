@@ -22,7 +22,7 @@ use host_core::Core;
 use journal_model::Answer;
 use link_roles::Wire;
 use lone_rounds::{Plan, run_alone};
-use run_tasks::answers_of;
+use run_answers::answers_of;
 use std::alloc::Global;
 use task_run::Setup;
 use task_text::{Task, Tasks};
