@@ -1,9 +1,8 @@
 -- Where the halves of all children count no fault, the journal tells of none.
-use Rattle.std.proofs.Common.{◌≡◌, ◌≤◌, ◌<◌, ℕ, ◌+◌, List, [], ◌∷◌, ◌++◌, refl, sym, ap, subst, ◌∙◌, Bool, true, false, not, cond, None, Some, Option, arith, map}
-use Rattle.std.specs.Prelude.{◌==◌, ◌&&◌, ◌||◌, filter}
+use Rattle.std.proofs.Common.{◌≡◌, ◌≤◌, ◌<◌, ℕ, suc, ◌+◌, List, [], ◌∷◌, ◌++◌, refl, sym, ap, subst, ◌∙◌, Bool, true, false, not, cond, None, Some, Option, arith, map}
+use Rattle.std.specs.Prelude.{◌-◌, ◌^◌, ◌==◌, ◌&&◌, ◌||◌, filter, min}
 use Rattle.std.specs.List.{list_all, list_any, cons_option}
 use Rattle.std.specs.Option.{option_or}
-use Rattle.ann_outside.specs.Causes.{Rose}
 use Rattle.ann_outside.specs.Starts.{Starts}
 use Rattle.journal_model.specs.declared.verdict.Why.{Why}
 use Rattle.journal_model.specs.declared.verdict.Why.TheVariants.{Eof, ReadFault, LongLine, Full, Memory, Closed, Foul, Error, Version}
@@ -15,13 +14,13 @@ use Rattle.journal_model.specs.declared.entry.Entry.{Entry}
 use Rattle.journal_model.specs.declared.opening.Opening.{Opening}
 use Rattle.journal_model.specs.Due.{due_after, due_by, made_by}
 use Rattle.journal_model.specs.Journal.{any, ends, is_ended, is_live, is_mute, is_started, mutes, open_jobs, starts, why_of}
-use Rattle.journal_model.specs.Legality.{Legal, may_come, may_stop}
+use Rattle.journal_model.specs.Legality.{Legal, count, may_come, may_stop}
 use Rattle.journal_model.proofs.Fresh.{fresh}
 use Rattle.journal_model.proofs.Growing.{Legal-induction}
 use Rattle.journal_model.proofs.Linking.{why_alone, why_of-append}
 use Rattle.journal_model.proofs.Looks.{any-append, both, either_left, either_right, same, same_number}
 use Rattle.journal_model.proofs.Soft.{is_soft, soft_got, soft_mute, soft_verdicts}
-use Rattle.child_end.specs.Programs.{is_failed_start}
+use Rattle.child_end.specs.Programs.{RoseBy, is_failed_start}
 use Rattle.child_end.specs.Wires.{AreWires, IsWire, WireValue, came, came_in, wire_value}
 use Rattle.link_roles.specs.declared.wire.Wire.{Wire}
 use Rattle.rehearse_run.specs.Rehearsals.{is_fault}
@@ -175,17 +174,33 @@ wires_silent starts journal n (Some d ∷ cs) (wire ∷ wires) h quiet c there =
     here true e rest = subst (IsSilent journal) (h.0 ∙ same_number d c e) (silent starts journal (n + 1) wire quiet.0 quiet.1 h.1)
     here false e rest = rest (subst (λ (b : Bool). (b || has_child c cs) ≡ true) e there)
 
+-- ---- the starts
+
+-- what counts none isn't there
+none_counted : (p : What → Bool) (xs : List Entry) → count p xs ≡ 0 → any p xs ≡ false
+none_counted p [] h = refl
+none_counted p (e ∷ xs) h = here (p e.what) refl
+  where
+    here : (b : Bool) → p e.what ≡ b → any p (e ∷ xs) ≡ false
+    here true is =
+        let more : count p (e ∷ xs) ≡ suc (count p xs) = rw is refl in
+        absurd (let no : ⊥ = omega (arith, more, h) in no)
+    here false is =
+        let same : count p (e ∷ xs) ≡ count p xs = rw is refl in
+        rw (is, none_counted p xs (sym same ∙ h)) refl
+
+-- a count of faults that stays 0 counted no failed start
+none_failed : (journal : List Entry) (before after : ℕ) → RoseBy (count is_failed_start journal) before after → before ≡ 0 → after ≡ 0 → any is_failed_start journal ≡ false
+none_failed journal before after rose first last =
+    none_counted is_failed_start journal (let n = count is_failed_start journal in let more : min (before + n) (2 ^ 64 - 1) ≤ after = rose in omega (arith, more, first, last))
+
 -- ---- the journal
 
 pub faultless : (o : Opening) (journal : List Entry) (starts : Option Starts) (wires : List WireValue) (before after : ℕ) → Legal o journal → AreWires starts journal 0 (came journal) wires → AreQuiet wires
-    → (any is_failed_start journal ≡ true → Rose before after) → before ≡ 0 → after ≡ 0 → any is_fault journal ≡ false
+    → RoseBy (count is_failed_start journal) before after → before ≡ 0 → after ≡ 0 → any is_fault journal ≡ false
 faultless o journal starts wires before after legal laid quiet rose first last =
-    none_of_all journal (started (any is_failed_start journal) refl) (no_mute journal (λ c. (each c).1)) (no_read_fault o journal legal (λ c. (each c).0))
+    none_of_all journal (none_failed journal before after rose first last) (no_mute journal (λ c. (each c).1)) (no_read_fault o journal legal (λ c. (each c).0))
   where
-    started : (b : Bool) → any is_failed_start journal ≡ b → any is_failed_start journal ≡ false
-    started false h = h
-    started true h = let more : Rose before after = rose h in let bad : Rose 0 0 = subst (λ (k : ℕ). Rose 0 k) last (subst (λ (k : ℕ). Rose k after) first more) in absurd (let no : ⊥ = omega (arith, bad) in no)
-
     each : (c : ℕ) → IsSilent journal c
     each c = here (is_started journal c) refl
       where

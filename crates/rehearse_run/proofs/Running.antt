@@ -16,6 +16,7 @@ use Rattle.lone_work.specs.Works.{AreTasks, DeskTells}
 use Rattle.child_end.specs.Wires.{wire_value}
 use Rattle.link_roles.specs.declared.wire.Wire.{Wire}
 use Rattle.job_rounds.specs.JobRuns.{RanJobs}
+use Rattle.job_rounds.proofs.Succeeding.{jobs_keep, jobs_succeed}
 use Rattle.run_answers.specs.Answering.{AreAllAnswered}
 use Rattle.run_answers.proofs.Answered.{all_answered}
 use Rattle.lone_rounds.specs.Rounds.{IsWhole}
@@ -46,6 +47,8 @@ run_of o s may limit journal before after same offers once fresh quiet ran = rec
       (subst (λ (b : Bool). RanJobs o setup b limit journal before after) offers
       (subst (λ (x : Setup). RanJobs o x may limit journal before after) same ran)));
   parts = parts_fit o journal ran.legal;
+  succeeds = jobs_succeed o setup 1 journal [] journal 1 (replicate 4 untold) after;
+  keeps = jobs_keep o setup journal ran.legal;
   faultless = quiet;
 }
 
@@ -61,16 +64,16 @@ has_run o journal (Err want) run all = inr run
 -- ---- the end
 
 -- each task was answered
-pub answered_as : (o o' : Opening) (journal : List Entry) (result : Result (Unit {0}) NoMemory) (done : Unit {0}) → o' ≡ o → result ≡ Ok done → HasRun o journal result → AreAllAnswered o' journal
-answered_as o o' journal result done same is h =
+pub answered_as : (o : Opening) (journal : List Entry) (result : Result (Unit {0}) NoMemory) (done : Unit {0}) → result ≡ Ok done → HasRun o journal result → AreAllAnswered o journal
+answered_as o journal result done is h =
     let run : IsRunOf o journal × (are_all_claimed o journal ≡ true) = subst (HasRun o journal) is h in
-    subst (λ (x : Opening). AreAllAnswered x journal) (sym same) (all_answered o journal run.0.ran.legal run.0.ran.calm.idle run.1)
+    all_answered o journal run.0.ran.legal run.0.ran.calm.idle run.1
 
-pub ends_as : (o o' : Opening) (journal journal' : List Entry) (answers : List Answer) (end : RehearsalEnd) (result : Result (Unit {0}) NoMemory) (done : Unit {0}) → o' ≡ o → journal' ≡ journal → result ≡ Ok done
-    → HasRun o journal result → Finds o' journal answers end → EndsRun o journal' answers end
-ends_as o o' journal journal' answers end result done same kept is h finds =
+pub ends_as : (o : Opening) (journal journal' : List Entry) (answers : List Answer) (end : RehearsalEnd) (result : Result (Unit {0}) NoMemory) (done : Unit {0}) → journal' ≡ journal → result ≡ Ok done → HasRun o journal result
+    → Finds o journal answers end → EndsRun o journal' answers end
+ends_as o journal journal' answers end result done kept is h finds =
     let run : IsRunOf o journal × (are_all_claimed o journal ≡ true) = subst (HasRun o journal) is h in
-    subst (λ (j : List Entry). EndsRun o j answers end) (sym kept) (ends_done o journal answers end run.0 run.1 (subst (λ (x : Opening). Finds x journal answers end) same finds))
+    subst (λ (j : List Entry). EndsRun o j answers end) (sym kept) (ends_done o journal answers end run.0 run.1 finds)
 
 -- no memory was found to start a child
 pub ends_wanting : (o : Opening) (journal journal' : List Entry) (answers : List Answer) (end : RehearsalEnd) (result : Result (Unit {0}) NoMemory) (want : NoMemory) → journal' ≡ journal → answers ≡ [] → end ≡ Memory

@@ -17,6 +17,8 @@ use Rattle.host_core.specs.Steps.{are_all_claimed}
 use Rattle.task_run.specs.declared.setup.Setup.{Setup}
 use Rattle.lone_work.specs.Works.{DeskTells, desk_tells}
 use Rattle.job_rounds.specs.JobRuns.{RanJobs}
+use Rattle.job_rounds.specs.JobsKeep.{JobsKeep}
+use Rattle.job_rounds.specs.JobsWell.{JobsSucceed}
 use Rattle.rehearse_plan.specs.Plans.{opening_of}
 use Rattle.run_answers.specs.Answers.{AreAnswers}
 use Rattle.rehearse_run.specs.declared.made.RehearsalEnd.{RehearsalEnd}
@@ -39,6 +41,10 @@ pub record IsReady (r : Ready) : Type 0 where
 abbrev pub untold : DeskTells
 untold = desk_tells None no_counts
 
+-- no value counts any
+abbrev pub CountsNone : {X : Type 0} → (X → ℕ) → Type 0
+CountsNone {X} counts = (x : X) → counts x ≡ 0
+
 -- a start that gave no child, a child that can't be written to, or one that can't be read from
 abbrev pub is_fault : What → Bool
 is_fault (NoStart slot) = true
@@ -47,11 +53,14 @@ is_fault (End child ReadFault) = true
 is_fault w = false
 
 -- The opening's tasks were done by four workers, each with a fresh desk, over children that are started once in each slot. Each job's part
--- fits, and nothing failed at a child.
+-- fits. Where all went well from outside, each task succeeded, or memory was wanted; where the remote was faithful, gets kept what stores
+-- sent. Nothing failed at a child.
 pub record IsRunOf (o : Opening) (journal : List Entry) : Type 0 where
   pub desks : List DeskTells
   pub ran : RanJobs o setup true 1 journal (replicate 4 untold) desks
   pub parts : (c j : ℕ) → JobFits (replies_at o journal) journal c j
+  pub succeeds : JobsSucceed o setup 1 journal [] journal 1 (replicate 4 untold) desks
+  pub keeps : JobsKeep o setup journal
   pub faultless : any is_fault journal ≡ false
 
 -- so all tasks were done; or no memory was found, and perhaps some were

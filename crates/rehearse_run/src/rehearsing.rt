@@ -7,7 +7,8 @@ ghost use Rattle.run_answers.specs.Answering.{AreAllAnswered};
 ghost use Rattle.run_answers.specs.Answers.{AreAnswers};
 ghost use Rattle.rehearse_plan.specs.Plans.{opening_of};
 ghost use Rattle.rehearse_plan.specs.declared.tasks.TheConstants.{MOST_TASKS};
-ghost use Rattle.rehearse_run.specs.Rehearsals.{EndsRun, Finds, HasRehearsed, HasRun, IsReady};
+ghost use Rattle.lone_work.specs.Works.{desk_tells};
+ghost use Rattle.rehearse_run.specs.Rehearsals.{CountsNone, EndsRun, Finds, HasRehearsed, HasRun, IsReady, untold};
 
 use crate::made::{Rehearsed, RehearsalEnd};
 use crate::ready::{Ready, WORKERS, prepare};
@@ -83,18 +84,23 @@ fn finish(alloc: Global, core: Core) -> Rehearsed
     }
 }
 
-// Does the tasks over remotes in memory, and gives the core back.
-fn do_tasks<'a, R: Threads + Wait + Sync + 'a>(
-    rt: &'a R,
+// Does the tasks over programs none of whose calls fails, and gives the core back. The wires are let go.
+fn do_tasks<P: Programs, K: Desk + Send + Drop, R: Threads + Wait + Sync>(
+    rt: &R,
     alloc: Global,
     ready: Ready,
-    desks: SharedDesks<&'a R>,
-    crew: Vec<SharedDesk<&'a R>>,
+    programs: &mut P,
+    crew: Vec<K>,
 ) -> (Core, Result<(), NoMemory>)
+where
+    P::Inlet: Send + Drop,
+    P::Outlet: Send + Drop,
+    P::Stub: Drop,
     requires ready { IsReady ready }
     requires may { MayBegin ready.core.opening }
     requires many { vec_len crew ≡ 4 }
-    requires fresh { map (λ k. ⟦<SharedDesk<&'a R> as Desk>⟧.counts k) crew.items ≡ replicate 4 no_counts }
+    requires fresh { map (λ k. desk_tells (K.log k) (K.counts k)) crew.items ≡ replicate 4 untold }
+    requires sound { CountsNone P.faults × CountsNone P.Inlet.faults × CountsNone P.Outlet.faults }
     ensures opening { result.0.opening ≡ ready.core.opening }
     ensures ran { HasRun ready.core.opening result.0.journal result.1 }
 {
@@ -102,12 +108,11 @@ fn do_tasks<'a, R: Threads + Wait + Sync + 'a>(
         return (ready.core, Err(NoMemory));
     };
     let Ready { core, plan, tasks } = ready;
-    let mut programs = KitPrograms::new(rt, alloc, Remotes::new(alloc, desks));
     let bench = Bench { core, desks: crew };
     let (bench, ran) = run_jobs(
         rt,
         alloc,
-        &mut programs,
+        programs,
         &plan,
         tasks.view(),
         bench,
@@ -116,7 +121,19 @@ fn do_tasks<'a, R: Threads + Wait + Sync + 'a>(
     (bench.core, ran)
 }
 
-// Does the tasks, and audits the journal.
+// What tasks that were done come to: their answers, and what is found of the journal.
+fn end_run(alloc: Global, core: Core, ran: Result<(), NoMemory>) -> Rehearsed
+    requires may { MayBegin core.opening }
+    requires ran { HasRun core.opening core.journal ran }
+    ensures { EndsRun core.opening result.journal.entries result.answers.items result.end }
+{
+    match ran {
+        Ok(()) => finish(alloc, core),
+        Err(NoMemory) => Rehearsed::cut_off(alloc, journal_of(core)),
+    }
+}
+
+// Does the tasks over remotes in memory, and audits the journal.
 fn run<'a, R: Threads + Wait + Sync + 'a>(
     rt: &'a R,
     alloc: Global,
@@ -130,11 +147,9 @@ fn run<'a, R: Threads + Wait + Sync + 'a>(
     requires fresh { map (λ k. ⟦<SharedDesk<&'a R> as Desk>⟧.counts k) crew.items ≡ replicate 4 no_counts }
     ensures { EndsRun ready.core.opening result.journal.entries result.answers.items result.end }
 {
-    let (core, ran) = do_tasks(rt, alloc, ready, desks, crew);
-    match ran {
-        Ok(()) => finish(alloc, core),
-        Err(NoMemory) => Rehearsed::cut_off(alloc, journal_of(core)),
-    }
+    let mut programs = KitPrograms::new(rt, alloc, Remotes::new(alloc, desks));
+    let (core, ran) = do_tasks(rt, alloc, ready, &mut programs, crew);
+    end_run(alloc, core, ran)
 }
 
 // What a rehearsal is made with.
