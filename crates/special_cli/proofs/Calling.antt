@@ -677,14 +677,15 @@ module _ (clock : Option ℕ) (before : OutsideValue) (input : InputFlow) (left 
   }
 
   called_rehearsal : (seed tasks : ℕ) → IsUnread input × HasRehearsed seed tasks before whole → Called (Some (Rehearse seed tasks))
+  unfolding wanted_of NeitherIn
   called_rehearsal seed tasks (unread, h) =
-      let none = subst (λ (x : End). NeitherIn (wanted_of x)) (sym h.end_is) (rehearsal_wanted h.end) in
+      let none : NeitherIn (wanted_of end) = subst (λ (x : End). NeitherIn (wanted_of x)) (sym h.end_is) (rehearsal_wanted h.end) in
       record {
-        usage = λ s. apart (wanted_of end) status 2 out err ends refl (two none) s;
+        usage = λ s. apart (wanted_of end) status 2 out err ends refl none.0 s;
         words = λ no. some_none (Rehearse seed tasks) no;
-        refused = λ s. apart (wanted_of end) status 3 out err ends refl (three none) s;
+        refused = λ s. apart (wanted_of end) status 3 out err ends refl none.1 s;
         key = λ some. never some;
-        early = λ no other. some_none (seed, tasks) other;
+        early = λ no other. some_none {X = ℕ × ℕ} (seed, tasks) other;
         output = output;
         checked = tt;
         told = tt;
@@ -696,17 +697,9 @@ module _ (clock : Option ℕ) (before : OutsideValue) (input : InputFlow) (left 
         rehearsal = (h.end, h.made, h.untouched, unread, subst (λ (x : End). IsToldOf left status out err x) h.end_is told);
         wires = tt;
         starts = tt;
-        fault = tt;
+        faults = tt;
         desks = made_still before.made left.outside.made left.tables (ap (λ (o : OutsideValue). o.made) h.untouched.outside) h.untouched.tables;
       }
-    where
-      two : NeitherIn (wanted_of end) → list_any (λ w. w == 2) (wanted_of end) ≡ false
-      unfolding NeitherIn
-      two n = n.0
-
-      three : NeitherIn (wanted_of end) → list_any (λ w. w == 3) (wanted_of end) ≡ false
-      unfolding NeitherIn
-      three n = n.1
 
   called_left : (wish : Option Command) → Runs clock before input wish whole → Called wish
   called_left None h = called_unknown h
