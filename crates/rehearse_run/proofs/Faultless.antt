@@ -114,8 +114,10 @@ no_mute (e ∷ journal) none = rw (here e.what (λ c. either_left (mutes c e.wha
 pub none_of_all : (journal : List Entry) → any is_failed_start journal ≡ false → any is_muting journal ≡ false → any is_read_fault journal ≡ false → any is_fault journal ≡ false
 none_of_all [] a b c = refl
 none_of_all (e ∷ journal) a b c =
-    rw (here e.what (either_left (is_failed_start e.what) (any is_failed_start journal) a) (either_left (is_muting e.what) (any is_muting journal) b) (either_left (is_read_fault e.what) (any is_read_fault journal) c),
-    none_of_all journal (either_right (is_failed_start e.what) (any is_failed_start journal) a) (either_right (is_muting e.what) (any is_muting journal) b) (either_right (is_read_fault e.what) (any is_read_fault journal) c)) refl
+    rw (
+      here e.what (either_left (is_failed_start e.what) (any is_failed_start journal) a) (either_left (is_muting e.what) (any is_muting journal) b) (either_left (is_read_fault e.what) (any is_read_fault journal) c),
+      none_of_all journal (either_right (is_failed_start e.what) (any is_failed_start journal) a) (either_right (is_muting e.what) (any is_muting journal) b) (either_right (is_read_fault e.what) (any is_read_fault journal) c),
+    ) refl
   where
     here : (w : What) → is_failed_start w ≡ false → is_muting w ≡ false → is_read_fault w ≡ false → is_fault w ≡ false
     here (NoStart slot) x y z = absurd cc

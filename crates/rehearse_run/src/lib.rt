@@ -6,5 +6,5 @@ mod ready;
 mod rehearsing;
 mod remotes;
 
-pub use made::{Rehearsed, RehearsalEnd};
+pub use made::{RehearsalEnd, Rehearsed};
 pub use rehearsing::rehearse;

@@ -10,7 +10,7 @@ ghost use Rattle.rehearse_plan.specs.declared.tasks.TheConstants.{MOST_TASKS};
 ghost use Rattle.lone_work.specs.Works.{desk_tells};
 ghost use Rattle.rehearse_run.specs.Rehearsals.{CountsNone, EndsRun, Finds, HasRehearsed, HasRun, IsReady, untold};
 
-use crate::made::{Rehearsed, RehearsalEnd};
+use crate::made::{RehearsalEnd, Rehearsed};
 use crate::ready::{Ready, WORKERS, prepare};
 use crate::remotes::Remotes;
 use ann_key::NoMemory;
@@ -109,15 +109,7 @@ where
     };
     let Ready { core, plan, tasks } = ready;
     let bench = Bench { core, desks: crew };
-    let (bench, ran) = run_jobs(
-        rt,
-        alloc,
-        programs,
-        &plan,
-        tasks.view(),
-        bench,
-        &mut wires,
-    );
+    let (bench, ran) = run_jobs(rt, alloc, programs, &plan, tasks.view(), bench, &mut wires);
     (bench.core, ran)
 }
 

@@ -28,10 +28,6 @@ pub(crate) fn rehearse_tasks<P: Programs, K: Desks, R: Threads + Wait + Sync>(
     tasks: u32,
     outside: Outside<P, K>,
 ) -> Ran<P, K>
-where
-    P::Inlet: Drop,
-    P::Outlet: Drop,
-    K::Desk: Drop,
     requires { tasks ≤ 65536 }
     ensures { HasRehearsed seed tasks outside result }
 {
