@@ -181,15 +181,15 @@ wires_silent starts journal n (Some d ∷ cs) (wire ∷ wires) h quiet c there =
 -- what counts none isn't there
 none_counted : (p : What → Bool) (xs : List Entry) → count p xs ≡ 0 → any p xs ≡ false
 none_counted p [] h = refl
-none_counted p (e ∷ xs) h = here (p e.what) refl
+none_counted p (e ∷ xs) h = here (p e.what) refl (none_counted p xs)
   where
-    here : (b : Bool) → p e.what ≡ b → any p (e ∷ xs) ≡ false
-    here true is =
+    here : (b : Bool) → p e.what ≡ b → (count p xs ≡ 0 → any p xs ≡ false) → any p (e ∷ xs) ≡ false
+    here true is rest =
         let more : count p (e ∷ xs) ≡ suc (count p xs) = rw is refl in
         absurd (let no : ⊥ = omega (arith, more, h) in no)
-    here false is =
+    here false is rest =
         let same : count p (e ∷ xs) ≡ count p xs = rw is refl in
-        rw (is, none_counted p xs (sym same ∙ h)) refl
+        rw (is, rest (sym same ∙ h)) refl
 
 -- a count of faults that stays 0 counted no failed start
 none_failed : (journal : List Entry) (before after : ℕ) → RoseBy (count is_failed_start journal) before after → before ≡ 0 → after ≡ 0 → any is_failed_start journal ≡ false
