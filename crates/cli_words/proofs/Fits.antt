@@ -14,8 +14,8 @@ use Rattle.journal_model.specs.Replies.{IsLineIdentity}
 use Rattle.cli_words.specs.Grammar.{is_without, run_grammar, value_at}
 use Rattle.cli_words.specs.Identities.{nobody, IsFit}
 use Rattle.cli_words.specs.Settings.{is_setting, setting_at, settings_in, spells_setting}
-use Rattle.cli_words.specs.Values.{has_end, is_text, is_word_of_command, number_in, uuid_in}
-use Rattle.cli_words.specs.Words.{are_texts, check_of, command_of, info_of, init_of, init_with, is_help, of_command, page_alone, page_of, most_chunk, run_from, run_of, run_with}
+use Rattle.cli_words.specs.Values.{has_end, is_text, is_word_of_command, number_in, padded_number_in, uuid_in}
+use Rattle.cli_words.specs.Words.{are_texts, check_of, command_of, info_of, init_of, init_with, is_help, of_command, page_alone, page_of, most_chunk, most_rehearsed, most_seed, rehearse_of, rehearse_with, run_from, run_of, run_with}
 use Rattle.cli_words.specs.declared.command.Command.{Command}
 use Rattle.cli_words.specs.declared.command.Command.TheVariants.{Run, Audit, Show}
 use Rattle.cli_words.specs.declared.command.Page.{Page}
@@ -157,6 +157,17 @@ run_fits words = go (fault_of run_grammar words) (matches_of run_grammar words)
     go [] rows = from_fits rows
     go (k ∷ ks) rows = tt
 
+rehearse_fits : (words : List (List ℕ)) → Fits (rehearse_of words)
+rehearse_fits [] = tt
+rehearse_fits (seed ∷ []) = tt
+rehearse_fits (seed ∷ tasks ∷ []) = go (padded_number_in 0 most_seed seed) (padded_number_in 1 most_rehearsed tasks)
+  where
+    go : (s t : Option ℕ) → Fits (rehearse_with s t)
+    go (Some s) (Some t) = record { settings = refl; identity = nobody_fits }
+    go (Some s) None = tt
+    go None t = tt
+rehearse_fits (seed ∷ tasks ∷ more ∷ words) = tt
+
 pub command_fits : (words : List (List ℕ)) → IfSome (command_of words) IsFit
 command_fits [] = tt
 command_fits (word ∷ []) =
@@ -168,5 +179,6 @@ command_fits (word ∷ next ∷ words) =
     (either_fits (bytes_eq word (codes "check")) (check_of rest) _ (check_fits rest)
     (either_fits (bytes_eq word (codes "info")) (info_of rest) _ (info_fits rest)
     (either_fits (bytes_eq word (codes "init")) (init_of rest) _ (init_fits rest)
-    (either_fits (bytes_eq word (codes "run")) (option_map Run (run_of (word ∷ rest))) None (run_fits (word ∷ rest)) tt))))
+    (either_fits (bytes_eq word (codes "run")) (option_map Run (run_of (word ∷ rest))) _ (run_fits (word ∷ rest))
+    (either_fits (bytes_eq word (codes "rehearse")) (rehearse_of rest) None (rehearse_fits rest) tt)))))
     tt)

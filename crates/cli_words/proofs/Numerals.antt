@@ -3,8 +3,8 @@ use Rattle.std.proofs.Common.{◌≡◌, ℕ, ◌≤◌, Bool, true, false, cond
 use mathlib.Core.Bool.{false≢true}
 use Rattle.std.specs.Prelude.{◌&&◌, nat_le}
 use Rattle.std.proofs.lemmas.Bool.Decides.{nat_tests}
-use Rattle.ann_key.specs.Numbers.{is_numeral, value_of}
-use Rattle.cli_words.specs.Values.{number_in, IsNumberIn}
+use Rattle.ann_key.specs.Numbers.{is_number, is_numeral, value_of}
+use Rattle.cli_words.specs.Values.{number_in, padded_number_in, IsNumberIn}
 
 both : (a b : Bool) → (a && b) ≡ true → (a ≡ true) × (b ≡ true)
 both true b h = (refl, h)
@@ -29,6 +29,19 @@ module _ (least most : ℕ) (text : List ℕ) (n : ℕ) where
           let low : least ≤ value_of text = within least (value_of text) ends.0 in
           let high : value_of text ≤ most = within (value_of text) most ends.1 in
           record { numeral = record { form = parts.0; value = same }; least_one = omega arith; most_one = omega arith }
+
+  pub padded_read : padded_number_in least most text ≡ Some n → (least ≤ n) × (n ≤ most)
+  padded_read h = go (is_number text && (nat_le least (value_of text) && nat_le (value_of text) most)) refl h
+    where
+      go : (b : Bool) → (is_number text && (nat_le least (value_of text) && nat_le (value_of text) most)) ≡ b → cond b (Some (value_of text)) None ≡ Some n → (least ≤ n) × (n ≤ most)
+      go false e h = absurd cc
+      go true e h =
+          let same : value_of text ≡ n = cc in
+          let parts = both (is_number text) _ e in
+          let ends = both (nat_le least (value_of text)) _ parts.1 in
+          let low : least ≤ value_of text = within least (value_of text) ends.0 in
+          let high : value_of text ≤ most = within (value_of text) most ends.1 in
+          (omega arith, omega arith)
 
   pub number_given : IsNumberIn least most text n → number_in least most text ≡ Some n
   number_given is =

@@ -10,15 +10,15 @@ use Rattle.clap.specs.Walk.{Row}
 use Rattle.annex_model.specs.Lines.{has_newline}
 use Rattle.cli_words.specs.Grammar.{is_without, run_grammar, value_at}
 use Rattle.cli_words.specs.Ranges.{HasRanges}
-use Rattle.cli_words.specs.Values.{has_end, is_text, is_word_of_command, number_in, uuid_in, IsNumberIn}
+use Rattle.cli_words.specs.Values.{has_end, is_text, is_word_of_command, number_in, padded_number_in, uuid_in, IsNumberIn}
 use Rattle.cli_words.specs.Settings.{settings_in}
-use Rattle.cli_words.specs.Words.{are_texts, check_of, command_of, info_of, init_of, init_with, is_help, of_command, page_alone, page_of, most_chunk, run_from, run_of, run_with}
+use Rattle.cli_words.specs.Words.{are_texts, check_of, command_of, info_of, init_of, init_with, is_help, of_command, page_alone, page_of, most_chunk, most_rehearsed, most_seed, rehearse_of, rehearse_with, run_from, run_of, run_with}
 use Rattle.cli_words.specs.declared.command.Command.{Command}
 use Rattle.cli_words.specs.declared.command.Command.TheVariants.{Run, Audit, Show}
 use Rattle.cli_words.specs.declared.command.Page.{Page}
 use Rattle.cli_words.specs.declared.command.RunWords.{RunWords}
 use Rattle.cli_words.specs.declared.settings.Setting.{Setting}
-use Rattle.cli_words.proofs.Numerals.{number_read}
+use Rattle.cli_words.proofs.Numerals.{number_read, padded_read}
 
 -- ---- a run
 
@@ -146,6 +146,24 @@ init_ranged (program ∷ uuid ∷ keep ∷ words) = go (uuid_in uuid) (settings_
     go (Some uuid) None = tt
     go None settings = tt
 
+padded_in : (least most : ℕ) (text : List ℕ) → IsRead least most (padded_number_in least most text)
+padded_in least most text = go (padded_number_in least most text) refl
+  where
+    go : (o : Option ℕ) → padded_number_in least most text ≡ o → IsRead least most o
+    go None e = tt
+    go (Some n) e = padded_read least most text n e
+
+rehearse_ranged : (words : List (List ℕ)) → Ranged (rehearse_of words)
+rehearse_ranged [] = tt
+rehearse_ranged (seed ∷ []) = tt
+rehearse_ranged (seed ∷ tasks ∷ []) = go (padded_number_in 0 most_seed seed) (padded_number_in 1 most_rehearsed tasks) (padded_in 0 most_seed seed) (padded_in 1 most_rehearsed tasks)
+  where
+    go : (s t : Option ℕ) → IsRead 0 most_seed s → IsRead 1 most_rehearsed t → Ranged (rehearse_with s t)
+    go (Some s) (Some t) h k = let one = k.0 in (h.1, omega arith, k.1)
+    go (Some s) None h k = tt
+    go None t h k = tt
+rehearse_ranged (seed ∷ tasks ∷ more ∷ words) = tt
+
 pub command_ranged : (words : List (List ℕ)) → Ranged (command_of words)
 command_ranged [] = tt
 command_ranged (word ∷ []) = either_ranged (bytes_eq word (codes "audit")) (Some Audit) (option_map Show (page_alone word)) tt (show_ranged (page_alone word))
@@ -156,5 +174,6 @@ command_ranged (word ∷ next ∷ words) =
     (either_ranged (bytes_eq word (codes "check")) (check_of rest) _ (check_ranged rest)
     (either_ranged (bytes_eq word (codes "info")) (info_of rest) _ (info_ranged rest)
     (either_ranged (bytes_eq word (codes "init")) (init_of rest) _ (init_ranged rest)
-    (either_ranged (bytes_eq word (codes "run")) (option_map Run (run_of (word ∷ rest))) None (run_ranged (word ∷ rest)) tt))))
+    (either_ranged (bytes_eq word (codes "run")) (option_map Run (run_of (word ∷ rest))) _ (run_ranged (word ∷ rest))
+    (either_ranged (bytes_eq word (codes "rehearse")) (rehearse_of rest) None (rehearse_ranged rest) tt)))))
     tt)

@@ -2,9 +2,9 @@
 use Rattle.std.specs.Prelude.{◌≡◌, ◌≤◌, ◌<◌, false}
 use Rattle.annex_model.specs.Lines.{has_newline}
 use Rattle.cli_words.specs.declared.command.Command.{Command}
-use Rattle.cli_words.specs.declared.command.Command.TheVariants.{Run}
+use Rattle.cli_words.specs.declared.command.Command.TheVariants.{Rehearse, Run}
 use Rattle.cli_words.specs.declared.command.RunWords.{RunWords}
-use Rattle.cli_words.specs.Words.{most_chunk}
+use Rattle.cli_words.specs.Words.{most_chunk, most_rehearsed, most_seed}
 
 -- 1 to 64 tasks are done at a time; chunks have at most so many bytes, and 0 stands for whole files; a child may be started 1 to 16 times,
 -- and the folder's name holds no line's end
@@ -15,7 +15,8 @@ pub record IsRanged (words : RunWords) : Type 0 where
   pub few : words.starts ≤ 16
   pub work : has_newline words.work ≡ false
 
--- so it is, where the words are a run's
+-- so it is, where the words are a run's; and a rehearsal has as great a seed at most, and 1 to so many tasks
 abbrev pub HasRanges : Command → Type 0
 HasRanges (Run words) = IsRanged words
+HasRanges (Rehearse seed tasks) = (seed ≤ most_seed) × (0 < tasks) × (tasks ≤ most_rehearsed)
 HasRanges command = Unit {0}

@@ -1,5 +1,5 @@
 -- Worked words.
-use Rattle.std.specs.Prelude.{ℕ, List, ◌∷◌, None, codes}
+use Rattle.std.specs.Prelude.{ℕ, List, [], ◌∷◌, None, codes}
 use Rattle.cli_words.specs.declared.command.RunWords.{RunWords}
 
 abbrev pub Words : Type 0
@@ -39,3 +39,6 @@ least_run = record {
 
 abbrev pub init_words : Words → Words
 init_words more = codes "init" ∷ codes "p" ∷ sample_uuid ∷ codes "keep" ∷ more
+
+abbrev pub rehearse_words : List ℕ → List ℕ → Words
+rehearse_words seed tasks = codes "rehearse" ∷ seed ∷ tasks ∷ []

@@ -3,7 +3,7 @@ use Rattle.std.specs.Prelude.{ℕ, ◌≤◌, ◌==◌, ◌&&◌, ◌||◌, not,
 use Rattle.std.specs.List.{list_all, list_any}
 use Rattle.std.specs.declared.alloc.Global.{Global}
 use Rattle.uuid.specs.Text.{parsed, hyphenated_text, lower}
-use Rattle.ann_key.specs.Numbers.{is_digit, is_numeral, value_of, IsNumeral}
+use Rattle.ann_key.specs.Numbers.{is_digit, is_number, is_numeral, value_of, IsNumeral}
 
 -- the bytes of each word
 abbrev pub texts_of : List (String Global) → List (List ℕ)
@@ -40,6 +40,15 @@ pub record IsNumberIn (least most : ℕ) (text : List ℕ) (n : ℕ) : Type 0 wh
   pub numeral : IsNumeral n text
   pub least_one : least ≤ n
   pub most_one : n ≤ most
+
+-- 1 to 20 digits
+abbrev pub is_number_form : List ℕ → Bool
+is_number_form text = nat_lt 0 (length text) && (nat_le (length text) 20 && list_all is_digit text)
+
+-- leading zeros are read too
+abbrev pub padded_number_in : ℕ → ℕ → List ℕ → Option ℕ
+padded_number_in least most text =
+    if is_number text && (nat_le least (value_of text) && nat_le (value_of text) most) then Some (value_of text) else None
 
 -- ---- UUIDs
 

@@ -5,13 +5,13 @@ use Rattle.std.specs.Option.{option_map_or}
 use Rattle.clap.specs.Walk.{Row, first_of}
 use Rattle.clap.specs.Simple.{matches_of}
 use Rattle.clap.specs.Faults.{fault_of}
-use Rattle.cli_words.specs.Values.{is_text, is_word_of_command, number_in, uuid_in}
+use Rattle.cli_words.specs.Values.{is_text, is_word_of_command, number_in, padded_number_in, uuid_in}
 use Rattle.cli_words.specs.Settings.{settings_in}
 use Rattle.cli_words.specs.Grammar.{is_without, run_grammar, value_at}
 use Rattle.cli_words.specs.declared.command.Command.{Command}
-use Rattle.cli_words.specs.declared.command.Command.TheVariants.{Check, Info, Init, Run, Audit, Show}
+use Rattle.cli_words.specs.declared.command.Command.TheVariants.{Check, Info, Init, Run, Audit, Rehearse, Show}
 use Rattle.cli_words.specs.declared.command.Page.{Page}
-use Rattle.cli_words.specs.declared.command.Page.TheVariants.{Overview, Check as CheckPage, Info as InfoPage, Init as InitPage, Run as RunPage, Audit as AuditPage, Version}
+use Rattle.cli_words.specs.declared.command.Page.TheVariants.{Overview, Check as CheckPage, Info as InfoPage, Init as InitPage, Run as RunPage, Audit as AuditPage, Rehearse as RehearsePage, Version}
 use Rattle.cli_words.specs.declared.command.RunWords.{RunWords}
 use Rattle.cli_words.specs.declared.settings.Setting.{Setting}
 
@@ -30,6 +30,7 @@ page_of word =
     else if bytes_eq word (codes "init") then Some InitPage
     else if bytes_eq word (codes "run") then Some RunPage
     else if bytes_eq word (codes "audit") then Some AuditPage
+    else if bytes_eq word (codes "rehearse") then Some RehearsePage
     else None
 
 abbrev pub is_help : List (List ℕ) → Bool
@@ -94,6 +95,21 @@ run_from rows =
 unfoldable pub run_of : List (List ℕ) → Option RunWords
 run_of words = if is_without (fault_of run_grammar words) then run_from (matches_of run_grammar words) else None
 
+-- the greatest seed of a rehearsal, and how many tasks it has at most
+abbrev pub most_seed : ℕ
+most_seed = 4294967295
+
+abbrev pub most_rehearsed : ℕ
+most_rehearsed = 65536
+
+abbrev pub rehearse_with : Option ℕ → Option ℕ → Option Command
+rehearse_with (Some seed) (Some tasks) = Some (Rehearse seed tasks)
+rehearse_with seed tasks = None
+
+abbrev pub rehearse_of : List (List ℕ) → Option Command
+rehearse_of (seed ∷ tasks ∷ []) = rehearse_with (padded_number_in 0 most_seed seed) (padded_number_in 1 most_rehearsed tasks)
+rehearse_of words = None
+
 -- ---- all words
 
 abbrev pub of_command : List ℕ → List (List ℕ) → Option Command
@@ -102,6 +118,7 @@ of_command word rest =
     else if bytes_eq word (codes "info") then info_of rest
     else if bytes_eq word (codes "init") then init_of rest
     else if bytes_eq word (codes "run") then option_map Run (run_of (word ∷ rest))
+    else if bytes_eq word (codes "rehearse") then rehearse_of rest
     else None
 
 abbrev pub behind : List ℕ → List (List ℕ) → Option Command

@@ -14,6 +14,8 @@ pub enum Command {
     Run(RunWords),
     /// Checks the text of a run, which is the input.
     Audit,
+    /// Does so many tasks, which the seed gives, over remotes in memory, and checks the journal.
+    Rehearse { seed: u32, tasks: u32 },
     /// Prints a text.
     Show(Page),
 }
@@ -28,6 +30,7 @@ pub enum Page {
     Init,
     Run,
     Audit,
+    Rehearse,
     Version,
 }
 

@@ -1,12 +1,12 @@
 // Laws over the definitions, each the contract of a function with nothing to do.
 ghost use Rattle.std.specs.Prelude.{◌≡◌, ℕ, ◌++◌, ◌∷◌, [], List, Some, None, codes};
 ghost use Rattle.reg_file.specs.Registers.{nothing_set, config_of};
-ghost use Rattle.cli_words.specs.Rows.{braced_uuid, init_words, least_run, plain_uuid, run_words, sample_uuid, upper_uuid};
+ghost use Rattle.cli_words.specs.Rows.{braced_uuid, init_words, least_run, plain_uuid, rehearse_words, run_words, sample_uuid, upper_uuid};
 ghost use Rattle.cli_words.specs.Settings.{set_all, settings_in};
 ghost use Rattle.cli_words.specs.Values.{number_in, uuid_in, IsNumberIn};
 ghost use Rattle.cli_words.specs.Words.{command_of};
-ghost use Rattle.cli_words.specs.declared.command.Command.TheVariants.{Audit, Check, Info, Init, Run, Show};
-ghost use Rattle.cli_words.specs.declared.command.Page.TheVariants.{Overview, Version, Check as CheckPage, Run as RunPage, Audit as AuditPage};
+ghost use Rattle.cli_words.specs.declared.command.Command.TheVariants.{Audit, Check, Info, Init, Rehearse, Run, Show};
+ghost use Rattle.cli_words.specs.declared.command.Page.TheVariants.{Overview, Version, Check as CheckPage, Run as RunPage, Audit as AuditPage, Rehearse as RehearsePage};
 
 /// The words of `check`, `info` and `audit`.
 pub fn worked_words()
@@ -23,6 +23,22 @@ pub fn worked_words()
     ensures audit { command_of (codes "audit" ∷ []) ≡ Some Audit }
     ensures audit_of { command_of (codes "audit" ∷ codes "f" ∷ []) ≡ None }
     ensures other { command_of (codes "chek" ∷ codes "p" ∷ codes "k" ∷ []) ≡ None }
+{}
+
+/// The words of `rehearse`.
+pub fn worked_rehearsals()
+    ensures least { command_of (rehearse_words (codes "0") (codes "1")) ≡ Some (Rehearse 0 1) }
+    ensures most { command_of (rehearse_words (codes "4294967295") (codes "65536")) ≡ Some (Rehearse 4294967295 65536) }
+    ensures zeros { command_of (rehearse_words (codes "007") (codes "00000000000000002000")) ≡ Some (Rehearse 7 2000) }
+    ensures greater_seed { command_of (rehearse_words (codes "4294967296") (codes "1")) ≡ None }
+    ensures no_tasks { command_of (rehearse_words (codes "1") (codes "0")) ≡ None }
+    ensures more_tasks { command_of (rehearse_words (codes "1") (codes "65537")) ≡ None }
+    ensures long { command_of (rehearse_words (codes "000000000000000000001") (codes "1")) ≡ None }
+    ensures sign { command_of (rehearse_words (codes "+1") (codes "1")) ≡ None }
+    ensures seed_alone { command_of (codes "rehearse" ∷ codes "1" ∷ []) ≡ None }
+    ensures three { command_of (codes "rehearse" ∷ codes "1" ∷ codes "8" ∷ codes "9" ∷ []) ≡ None }
+    ensures alone { command_of (codes "rehearse" ∷ []) ≡ None }
+    ensures help { command_of (codes "rehearse" ∷ codes "--help" ∷ []) ≡ Some (Show RehearsePage) }
 {}
 
 /// A request for a text is the only word, or the only one behind a command's name; elsewhere it is out of the grammar.

@@ -3,10 +3,11 @@ ghost use Rattle.std.specs.Prelude.{◌≡◌, ◌<◌, IfOk, IfSome, length, op
 ghost use Rattle.cli_words.specs.Identities.{IsFit};
 ghost use Rattle.cli_words.specs.Ranges.{HasRanges};
 ghost use Rattle.cli_words.specs.Values.{texts_of};
-ghost use Rattle.cli_words.specs.Words.{all_behind, alone, check_of, command_of, info_of, init_of, is_help, of_command, page_alone, page_of, run_of};
+ghost use Rattle.cli_words.specs.Words.{all_behind, alone, check_of, command_of, info_of, init_of, is_help, of_command, page_alone, page_of, rehearse_of, run_of};
 ghost use Rattle.cli_words.specs.declared.command.Command.TheVariants.{Run, Show};
 
 use crate::command::{Command, InitWords, Page};
+use crate::numbers::padded_number_in;
 use crate::run::run_of;
 use crate::settings::settings_in;
 use crate::uuids::uuid_in;
@@ -79,6 +80,8 @@ fn page_of(word: &str) -> Option<Page>
         Some(Page::Run)
     } else if word == "audit" {
         Some(Page::Audit)
+    } else if word == "rehearse" {
+        Some(Page::Rehearse)
     } else {
         None
     }
@@ -114,6 +117,8 @@ fn behind(alloc: Global, words: &[String]) -> Result<Option<Command>, NoMemory>
         init_of(alloc, rest)
     } else if word == "run" {
         run_command(alloc, words)
+    } else if word == "rehearse" {
+        Ok(rehearse_of(rest))
     } else {
         Ok(None)
     }
@@ -174,4 +179,19 @@ fn run_command(alloc: Global, words: &[String]) -> Result<Option<Command>, NoMem
         Some(run) => Ok(Some(Command::Run(run))),
         None => Ok(None),
     }
+}
+
+// The seed and the number of tasks.
+fn rehearse_of(words: &[String]) -> Option<Command>
+    ensures { result ≡ rehearse_of (texts_of words.now) }
+{
+    let [seed, tasks] = words else {
+        return None;
+    };
+    let seed = padded_number_in(seed.as_str(), 0, 4_294_967_295)?;
+    let tasks = padded_number_in(tasks.as_str(), 1, 65_536)?;
+    Some(Command::Rehearse {
+        seed: seed as u32,
+        tasks: tasks as u32,
+    })
 }

@@ -1,5 +1,3 @@
-pub mod Answering
-pub mod Answered
 pub mod Begun
 pub mod Kept
 pub mod Working

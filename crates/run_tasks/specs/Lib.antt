@@ -2,4 +2,3 @@ pub mod Inputs
 pub mod Runs
 pub mod Beginnings
 pub mod Workings
-pub mod Answering

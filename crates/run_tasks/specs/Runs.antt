@@ -38,6 +38,7 @@ use Rattle.lone_work.specs.Works.{DeskTells, desk_tells}
 use Rattle.job_rounds.specs.JobsKeep.{JobsKeep}
 use Rattle.job_rounds.specs.JobsWell.{JobsSucceed}
 use Rattle.job_rounds.specs.JobRuns.{RanJobs}
+pub use Rattle.run_answers.specs.Answers.{answer_for, answer_of, AreAnswers}
 use Rattle.run_tasks.specs.Inputs.{InputFlow, IsUnread, IsTaken, IsTextFor, IsRunOpening, run_setup}
 use Rattle.run_tasks.specs.declared.made.RunEnd.{RunEnd}
 use Rattle.run_tasks.specs.declared.made.RunEnd.TheVariants.{BadKept, KeptTooLarge, FileFailed, InputFailed, Refused, Memory, Done}
@@ -49,21 +50,6 @@ pub record MadeValue : Type 0 where
   pub wires : List WireValue
   pub tables : List TableValue
   pub end : RunEnd
-
--- ---- the answers
-
--- what the entry answers the task
-abbrev pub answer_for : ℕ → What → Option Answer
-answer_for t (Answered task answer) = if task == t then Some answer else None
-answer_for t w = None
-
--- the journal's answer of a task
-abbrev pub answer_of : List Entry → ℕ → Option Answer
-answer_of journal t = first_of (each_of (answer_for t) journal)
-
--- there is one answer for each task, in their order: the journal's
-abbrev pub AreAnswers : Opening → List Entry → List Answer → Type 0
-AreAnswers o journal answers = map (λ answer. Some answer) answers ≡ map (answer_of journal) (numbers_of o)
 
 -- ---- the run
 

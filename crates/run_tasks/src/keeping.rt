@@ -2,11 +2,10 @@
 ghost use Rattle.std.specs.Prelude.{◌≡◌};
 ghost use Rattle.child_end.specs.Outsides.{table_value};
 ghost use Rattle.desk_file.specs.Names.{NamesOnly};
-ghost use Rattle.run_tasks.specs.Answering.{AreAllAnswered};
+ghost use Rattle.run_answers.specs.Answering.{AreAllAnswered};
 ghost use Rattle.run_tasks.specs.Runs.{IsJournaled, IsRunFile, told_of};
 ghost use Rattle.run_tasks.specs.Workings.{Finishes, Keeps, Writes};
 
-use crate::answers::answers_of;
 use crate::made::RunEnd;
 use ann_key::NoMemory;
 use ann_outside::Desk;

@@ -1,13 +1,11 @@
 // The whole of a run: what it begins with, its tasks, by as many workers as the words say, and what is kept of it.
 #![tactic(auto)]
 
-mod answers;
 mod beginning;
 mod doing;
 mod keeping;
 mod made;
 mod rounds;
 
-pub use answers::answers_of;
 pub use doing::do_tasks;
 pub use made::{Made, RunEnd};

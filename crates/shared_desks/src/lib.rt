@@ -1,41 +1,58 @@
 // Desks that are all one map of files, for several threads.
 //
-// The map is a desk in memory behind a lock. What another thread does to it is known to nobody, so these desks tell
-// their counts alone.
+// The map is behind a lock. What another thread does to it is known to nobody, so these desks tell their counts alone.
 #![tactic(auto)]
+
+mod files;
+mod shelf;
 
 ghost use Rattle.std.specs.Prelude.{◌≡◌, None, IfOk};
 ghost use Rattle.ann_outside.specs.DeskCauses.{HasCauses, LeavesOther};
 
-use ann_key::NoMemory;
+use crate::files::FileMap;
+use crate::shelf::Shelf;
+use ann_key::{Bytes, NoMemory, Text};
 use ann_outside::{Desk, DeskError, Desks, MemDesk};
 use std::alloc::Global;
 use std::marker::Send;
 use std::sync::{Arc, Mutex, Wait};
 
-/// Makes desks over the files of one desk in memory. The calls of that desk that are to fail are counted over all calls of
-/// them together.
+/// Makes desks over the files of one map.
 #[derive(Drop)]
 pub struct SharedDesks<R> {
     rt: R,
-    map: Arc<Mutex<MemDesk>>,
+    map: Arc<Mutex<Shelf>>,
 }
 
 /// A desk over the shared files. No log is kept.
 #[derive(Drop)]
 pub struct SharedDesk<R> {
     rt: R,
-    map: Arc<Mutex<MemDesk>>,
+    map: Arc<Mutex<Shelf>>,
     faults: u64,
     missing: u64,
 }
 
 impl<R: Wait + Clone + Drop + Send> SharedDesks<R> {
-    /// Desks over the files of this one. They wait for the lock by that runtime.
+    /// Desks over the files of this one, whose calls that are to fail are counted over all calls of them together. They wait
+    /// for the lock by that runtime.
     pub fn new(rt: R, alloc: Global, desk: MemDesk) -> Result<SharedDesks<R>, NoMemory>
         ensures { IfOk result (λ d. ⟦<SharedDesks<R> as Desks>⟧.made d ≡ None) }
     {
-        let map = Arc::new(alloc, Mutex::new(desk))?;
+        let map = Arc::new(alloc, Mutex::new(Shelf::Desk(desk)))?;
+        Ok(SharedDesks { rt, map })
+    }
+
+    /// Desks over these files, of which the last of a name counts. A file is found in a few steps, however many there are.
+    pub fn of_files(
+        rt: R,
+        alloc: Global,
+        files: Vec<(Text, Bytes)>,
+    ) -> Result<SharedDesks<R>, NoMemory>
+        ensures { IfOk result (λ d. ⟦<SharedDesks<R> as Desks>⟧.made d ≡ None) }
+    {
+        let files = FileMap::new(alloc, files)?;
+        let map = Arc::new(alloc, Mutex::new(Shelf::Map(files)))?;
         Ok(SharedDesks { rt, map })
     }
 }
@@ -55,16 +72,6 @@ impl<R: Wait + Clone + Drop + Send> Desks for SharedDesks<R> {
             missing: 0,
         })
     }
-}
-
-// A file that is shorter than asked stays as it is.
-fn cut_if_long(desk: &mut MemDesk, name: &str, size: u64) -> Result<(), DeskError> {
-    if let Some(bytes) = desk.content(name) {
-        if (bytes.view().len() as u64) < size {
-            return Err(DeskError::Failed);
-        }
-    }
-    desk.cut(name, size)
 }
 
 impl<R: Wait> SharedDesk<R> {
@@ -92,88 +99,72 @@ impl<R: Wait> Desk for SharedDesk<R> {
 
     fn size(&mut self, name: &str) -> Result<u64, DeskError> {
         let size = {
-            let mut desk = self.map.lock(&self.rt);
-            let size = desk.size(name);
-            desk.forget_log();
-            size
+            let mut files = self.map.lock(&self.rt);
+            files.size(name)
         };
         self.counted(size)
     }
 
     fn read_at(&mut self, name: &str, from: u64, buf: &mut [u8]) -> Result<usize, DeskError> {
         let count = {
-            let mut desk = self.map.lock(&self.rt);
-            let count = desk.read_at(name, from, buf);
-            desk.forget_log();
-            count
+            let mut files = self.map.lock(&self.rt);
+            files.read_at(name, from, buf)
         };
         self.counted(count)
     }
 
     fn create(&mut self, name: &str) -> Result<(), DeskError> {
         let done = {
-            let mut desk = self.map.lock(&self.rt);
-            let done = desk.create(name);
-            desk.forget_log();
-            done
+            let mut files = self.map.lock(&self.rt);
+            files.create(name)
         };
         self.counted(done)
     }
 
     fn create_new(&mut self, name: &str) -> Result<(), DeskError> {
         let done = {
-            let mut desk = self.map.lock(&self.rt);
-            let done = desk.create_new(name);
-            desk.forget_log();
-            done
+            let mut files = self.map.lock(&self.rt);
+            files.create_new(name)
         };
         self.counted(done)
     }
 
     fn append(&mut self, name: &str, piece: &[u8]) -> Result<(), DeskError> {
         let done = {
-            let mut desk = self.map.lock(&self.rt);
-            let done = desk.append(name, piece);
-            desk.forget_log();
-            done
+            let mut files = self.map.lock(&self.rt);
+            files.append(name, piece)
         };
         self.counted(done)
     }
 
     fn cut(&mut self, name: &str, size: u64) -> Result<(), DeskError> {
         let done = {
-            let mut desk = self.map.lock(&self.rt);
-            let done = cut_if_long(&mut desk, name, size);
-            desk.forget_log();
-            done
+            let mut files = self.map.lock(&self.rt);
+            files.cut(name, size)
         };
         self.counted(done)
     }
 
     fn rename(&mut self, from: &str, to: &str) -> Result<(), DeskError> {
         let done = {
-            let mut desk = self.map.lock(&self.rt);
-            let done = desk.rename(from, to);
-            desk.forget_log();
-            done
+            let mut files = self.map.lock(&self.rt);
+            files.rename(from, to)
         };
         self.counted(done)
     }
 
     fn remove(&mut self, name: &str) -> Result<(), DeskError> {
         let done = {
-            let mut desk = self.map.lock(&self.rt);
-            let done = desk.remove(name);
-            desk.forget_log();
-            done
+            let mut files = self.map.lock(&self.rt);
+            files.remove(name)
         };
         self.counted(done)
     }
 
     fn sync(&mut self, name: &str) -> Result<(), DeskError> {
         let done = {
-            let mut desk = self.map.lock(&self.rt);
-            desk.sync(name)
+            let mut files = self.map.lock(&self.rt);
+            files.sync(name)
         };
         self.counted(done)
     }

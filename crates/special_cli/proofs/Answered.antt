@@ -13,7 +13,7 @@ use Rattle.journal_model.specs.Output.{answer_in, answers_in}
 use Rattle.host_core.specs.Steps.{are_all_claimed}
 use Rattle.lone_work.specs.Works.{TaskDone, claimed_task, claims_in}
 use Rattle.run_tasks.specs.Runs.{answer_for, answer_of}
-use Rattle.run_tasks.specs.Answering.{AreAllAnswered}
+use Rattle.run_answers.specs.Answering.{AreAllAnswered}
 
 any_map : {X Y : Type 0} (p : Y → Bool) (f : X → Y) (xs : List X) → list_any p (map f xs) ≡ list_any (λ x. p (f x)) xs
 any_map p f [] = refl

@@ -13,7 +13,7 @@ use Rattle.journal_model.proofs.Looks.{same_number}
 use Rattle.journal_model.specs.Output.{answer_line}
 use Rattle.info_run.specs.Infos.{info_lines, is_informed}
 use Rattle.special_cli.specs.declared.end.End.{End}
-use Rattle.special_cli.specs.declared.end.End.TheVariants.{Usage, Shown, Refused, Memory, Answered, Informed, BadKept, KeptTooLarge, FileFailed, InputFailed, SetUp, NotSetUp, Done, Audited}
+use Rattle.special_cli.specs.declared.end.End.TheVariants.{Usage, Shown, Refused, Memory, Answered, Informed, BadKept, KeptTooLarge, FileFailed, InputFailed, SetUp, NotSetUp, Done, Audited, Rehearsed}
 use Rattle.cli_words.specs.declared.refusals.Reason.{Reason}
 use Rattle.cli_words.specs.declared.command.Page.{Page}
 use Rattle.ann_outside.specs.Files.{Files}
@@ -43,11 +43,19 @@ use Rattle.child_end.specs.Outsides.{HaveMade}
 use Rattle.cli_words.specs.Refusals.{reason_refused, refusal_if, unless}
 use Rattle.special_cli.proofs.Checked.{unstarted}
 use Rattle.special_cli.proofs.Few.{few_done}
+use Rattle.special_cli.proofs.Rehearsed.{few_rehearsed, nothing_rehearsed}
+use Rattle.special_cli.specs.Rehearsals.{HasRehearsed, end_of_rehearsal, rehearsal_text}
+use Rattle.special_cli.specs.Audits.{found_status}
+use Rattle.rehearse_plan.specs.Tallies.{count_of}
+use Rattle.rehearse_plan.specs.declared.tally.Word.TheVariants.{Other}
+use Rattle.rehearse_run.specs.declared.made.RehearsalEnd.{RehearsalEnd}
+use Rattle.rehearse_run.specs.declared.made.RehearsalEnd.TheVariants as M
+use Rattle.cli_words.specs.Ranges.{HasRanges}
 use Rattle.special_cli.proofs.Informed.{nothing_informed}
 use Rattle.special_cli.proofs.Leaving.{leaves_as, leaves_nothing}
 use Rattle.special_cli.specs.Tells.{Flow, IsSilent, IsWritten, IsPrintedOr, IsSaidThen, IsUnkeptTold, IsToldOf, answer_lines, answers_status}
 use Rattle.cli_words.specs.declared.command.Command.{Command}
-use Rattle.cli_words.specs.declared.command.Command.TheVariants.{Check, Info, Init, Run, Audit as AuditWord, Show}
+use Rattle.cli_words.specs.declared.command.Command.TheVariants.{Check, Info, Init, Run, Audit as AuditWord, Rehearse, Show}
 
 -- ---- the statuses
 
@@ -70,6 +78,7 @@ wanted_of (Done written) = 0 ∷ 1 ∷ 7 ∷ 6 ∷ []
 wanted_of (SetUp written) = 0 ∷ 6 ∷ []
 wanted_of (NotSetUp answer) = 1 ∷ 7 ∷ []
 wanted_of (Audited found) = 0 ∷ 1 ∷ 7 ∷ []
+wanted_of (Rehearsed found) = 0 ∷ 1 ∷ 7 ∷ []
 
 -- it is one of these, or 5 behind a write that failed
 EndsWith : List ℕ → ℕ → Flow → Flow → Type 0
@@ -105,6 +114,16 @@ on_unkept : (journal : List Entry) (answers : List Answer) (cause : List ℕ) (s
 on_unkept journal answers cause status out err (inl both) = on_both (0 ∷ 1 ∷ 7 ∷ 6 ∷ []) _ cause status out err refl both
 on_unkept journal answers cause status out err (inr said) = on_err (0 ∷ 1 ∷ 7 ∷ 6 ∷ []) 7 _ status out err refl said.0
 
+rehearsed_with : (answers : List Answer) (found : Audit) (status : ℕ) (out err : Flow) (b : Bool) → (count_of Other answers == 0) ≡ b
+    → IsPrintedOr (cond (count_of Other answers == 0) (found_status found) 1) (rehearsal_text answers found) status out err → EndsWith (0 ∷ 1 ∷ 7 ∷ []) status out err
+rehearsed_with answers found status out err b e told =
+    go b found (subst (λ (x : Bool). IsPrintedOr (cond x (found_status found) 1) (rehearsal_text answers found) status out err) e told)
+  where
+    go : (b : Bool) (f : Audit) → IsPrintedOr (cond b (found_status f) 1) (rehearsal_text answers found) status out err → EndsWith (0 ∷ 1 ∷ 7 ∷ []) status out err
+    go true Legal t = on_either [] true _ status out err t
+    go true (Wrong entry kind) t = on_either [] false _ status out err t
+    go false f t = on_either [] false _ status out err t
+
 ends_with : (left : Left) (status : ℕ) (out err : Flow) (end : End) → IsToldOf left status out err end → EndsWith (wanted_of end) status out err
 unfolding wanted_of
 ends_with left status out err Usage told = on_err (2 ∷ []) 2 _ status out err refl told.0
@@ -129,6 +148,8 @@ ends_with left status out err (NotSetUp answer) (inl said) = on_out (1 ∷ 7 ∷
 ends_with left status out err (NotSetUp answer) (inr said) = on_err (1 ∷ 7 ∷ []) 7 _ status out err refl said.0
 ends_with left status out err (Audited Legal) told = on_either [] true _ status out err told
 ends_with left status out err (Audited (Wrong entry kind)) told = on_either [] false _ status out err told
+ends_with left status out err (Rehearsed Legal) told = rehearsed_with left.answers Legal status out err (count_of Other left.answers == 0) refl told
+ends_with left status out err (Rehearsed (Wrong entry kind)) told = rehearsed_with left.answers (Wrong entry kind) status out err (count_of Other left.answers == 0) refl told
 
 -- another status isn't met
 apart : {A : Type 0} (ws : List ℕ) (status k : ℕ) (out err : Flow) → EndsWith ws status out err → (5 == k) ≡ false → list_any (λ w. w == k) ws ≡ false → status ≡ k → A
@@ -159,6 +180,7 @@ none_five (Done written) = refl
 none_five (SetUp written) = refl
 none_five (NotSetUp answer) = refl
 none_five (Audited found) = refl
+none_five (Rehearsed found) = refl
 
 or_seven : (ws : List ℕ) (status : ℕ) (out err : Flow) → EndsWith ws status out err → EndsWith (7 ∷ ws) status out err
 unfolding EndsWith
@@ -301,6 +323,13 @@ audit_wanted (Err (A.Cut line)) = refl
 audit_wanted (Err A.Failed) = refl
 audit_wanted (Err A.NoMemory) = refl
 
+-- ---- rehearse
+
+rehearsal_wanted : (end : RehearsalEnd) → NeitherIn (wanted_of (end_of_rehearsal end))
+unfolding wanted_of NeitherIn
+rehearsal_wanted M.Memory = (refl, refl)
+rehearsal_wanted (M.Done found) = (refl, refl)
+
 -- ---- the objects
 
 made_none : (xs : Option (List Made)) → HaveMade xs xs []
@@ -416,7 +445,7 @@ module _ (clock : Option ℕ) (before : OutsideValue) (input : InputFlow) (left 
     words = λ none. two_five_seven status out err (ends_as Usage h.end_is);
     refused = λ s. apart (7 ∷ 2 ∷ []) status 3 out err (ends_as Usage h.end_is) refl refl s;
     key = λ some. never some;
-    early = λ none. h.idle;
+    early = λ none other. h.idle;
     output = output;
     checked = tt;
     told = tt;
@@ -425,6 +454,7 @@ module _ (clock : Option ℕ) (before : OutsideValue) (input : InputFlow) (left 
     init = tt;
     run = tt;
     audit = λ same. other_words None refl same;
+    rehearsal = tt;
     wires = tt;
     starts = tt;
     faults = tt;
@@ -438,7 +468,7 @@ module _ (clock : Option ℕ) (before : OutsideValue) (input : InputFlow) (left 
     words = λ none. some_none (Show page) none;
     refused = λ s. apart (7 ∷ 0 ∷ []) status 3 out err (ends_as (Shown page) h.end_is) refl refl s;
     key = λ some. never some;
-    early = λ none. h.idle;
+    early = λ none other. h.idle;
     output = output;
     checked = tt;
     told = tt;
@@ -447,6 +477,7 @@ module _ (clock : Option ℕ) (before : OutsideValue) (input : InputFlow) (left 
     init = tt;
     run = tt;
     audit = λ same. other_words (Some (Show page)) refl same;
+    rehearsal = tt;
     wires = tt;
     starts = tt;
     faults = tt;
@@ -465,7 +496,7 @@ module _ (clock : Option ℕ) (before : OutsideValue) (input : InputFlow) (left 
             words = λ no. some_none (Check program key) no;
             refused = λ s. apart (wanted_of end) status 3 out err ends refl none.1 s;
             key = λ some. no_reason (reason_refused key) e some;
-            early = λ no. run_at_all (reason_refused key) program e no;
+            early = λ no other. run_at_all (reason_refused key) program e no;
             output = output;
             checked = if_fit _ (reason_refused key) (program, key) e h.checked;
             told = if_fit _ (reason_refused key) (program, key) e (check_told left status out err end h.ends told);
@@ -474,6 +505,7 @@ module _ (clock : Option ℕ) (before : OutsideValue) (input : InputFlow) (left 
             init = tt;
             run = tt;
             audit = λ same. other_words (Some (Check program key)) refl same;
+            rehearsal = tt;
             wires = if_fit _ (reason_refused key) program e h.objects.wired;
             starts = if_fit _ (reason_refused key) program e (started left status out err end program before told h.objects.started);
             faults = if_fit _ (reason_refused key) program e h.objects.faults;
@@ -486,7 +518,7 @@ module _ (clock : Option ℕ) (before : OutsideValue) (input : InputFlow) (left 
             words = λ no. some_none (Check program key) no;
             refused = λ s. inl (some_reason (reason_refused key) reason e);
             key = λ some. three_five_seven status out err refused_so;
-            early = λ none. h.idle;
+            early = λ none other. h.idle;
             output = output;
             checked = if_unfit _ (reason_refused key) (program, key) reason e;
             told = if_unfit _ (reason_refused key) (program, key) reason e;
@@ -495,6 +527,7 @@ module _ (clock : Option ℕ) (before : OutsideValue) (input : InputFlow) (left 
             init = tt;
             run = tt;
             audit = λ same. other_words (Some (Check program key)) refl same;
+            rehearsal = tt;
             wires = if_unfit _ (reason_refused key) program reason e;
             starts = if_unfit _ (reason_refused key) program reason e;
             faults = if_unfit _ (reason_refused key) program reason e;
@@ -513,7 +546,7 @@ module _ (clock : Option ℕ) (before : OutsideValue) (input : InputFlow) (left 
             words = λ no. some_none (Info program key) no;
             refused = λ s. apart (wanted_of end) status 3 out err ends refl none.1 s;
             key = λ some. no_reason (refusal_if key) e some;
-            early = λ no. run_at_all (refusal_if key) program e no;
+            early = λ no other. run_at_all (refusal_if key) program e no;
             output = output;
             checked = tt;
             told = tt;
@@ -522,6 +555,7 @@ module _ (clock : Option ℕ) (before : OutsideValue) (input : InputFlow) (left 
             init = tt;
             run = tt;
             audit = λ same. other_words (Some (Info program key)) refl same;
+            rehearsal = tt;
             wires = if_fit _ (refusal_if key) program e h.objects.wired;
             starts = if_fit _ (refusal_if key) program e (started left status out err end program before told h.objects.started);
             faults = if_fit _ (refusal_if key) program e h.objects.faults;
@@ -534,7 +568,7 @@ module _ (clock : Option ℕ) (before : OutsideValue) (input : InputFlow) (left 
             words = λ no. some_none (Info program key) no;
             refused = λ s. inl (some_reason (refusal_if key) reason e);
             key = λ some. three_five_seven status out err refused_so;
-            early = λ none. h.idle;
+            early = λ none other. h.idle;
             output = output;
             checked = tt;
             told = tt;
@@ -543,6 +577,7 @@ module _ (clock : Option ℕ) (before : OutsideValue) (input : InputFlow) (left 
             init = tt;
             run = tt;
             audit = λ same. other_words (Some (Info program key)) refl same;
+            rehearsal = tt;
             wires = if_unfit _ (refusal_if key) program reason e;
             starts = if_unfit _ (refusal_if key) program reason e;
             faults = if_unfit _ (refusal_if key) program reason e;
@@ -559,7 +594,7 @@ module _ (clock : Option ℕ) (before : OutsideValue) (input : InputFlow) (left 
         words = λ no. some_none (Init words) no;
         refused = λ s. apart (wanted_of end) status 3 out err ends refl none.1 s;
         key = λ some. never some;
-        early = λ no. some_none words.program no;
+        early = λ no other. some_none words.program no;
         output = output;
         checked = tt;
         told = tt;
@@ -568,6 +603,7 @@ module _ (clock : Option ℕ) (before : OutsideValue) (input : InputFlow) (left 
         init = (end, h, told);
         run = tt;
         audit = λ same. other_words (Some (Init words)) refl same;
+        rehearsal = tt;
         wires = objects.wired;
         starts = started left status out err end words.program before told objects.started;
         faults = objects.faults;
@@ -594,7 +630,7 @@ module _ (clock : Option ℕ) (before : OutsideValue) (input : InputFlow) (left 
         words = λ no. some_none (Run words) no;
         refused = λ s. inr (inl refl);
         key = λ some. never some;
-        early = λ no. some_none words.program no;
+        early = λ no other. some_none words.program no;
         output = output;
         checked = tt;
         told = tt;
@@ -603,6 +639,7 @@ module _ (clock : Option ℕ) (before : OutsideValue) (input : InputFlow) (left 
         init = tt;
         run = (e, h, subst (λ (x : End). IsToldOf left status out err x) same told);
         audit = λ same. other_words (Some (Run words)) refl same;
+        rehearsal = tt;
         wires = objects.wired;
         starts = started left status out err end words.program before told objects.started;
         faults = objects.faults;
@@ -623,7 +660,7 @@ module _ (clock : Option ℕ) (before : OutsideValue) (input : InputFlow) (left 
     words = λ no. some_none AuditWord no;
     refused = λ s. inr (inr refl);
     key = λ some. never some;
-    early = λ none. h.idle;
+    early = λ none other. h.idle;
     output = output;
     checked = tt;
     told = tt;
@@ -631,12 +668,38 @@ module _ (clock : Option ℕ) (before : OutsideValue) (input : InputFlow) (left 
     info_told = tt;
     init = tt;
     run = tt;
+    rehearsal = tt;
     audit = λ same. (h.outcome, h.audit, h.idle, subst (λ (x : End). IsToldOf left status out err x) h.end_is told);
     wires = tt;
     starts = tt;
     faults = tt;
     desks = idle_desks h.idle;
   }
+
+  called_rehearsal : (seed tasks : ℕ) → IsUnread input × HasRehearsed seed tasks before whole → Called (Some (Rehearse seed tasks))
+  unfolding wanted_of NeitherIn
+  called_rehearsal seed tasks (unread, h) =
+      let none : NeitherIn (wanted_of end) = subst (λ (x : End). NeitherIn (wanted_of x)) (sym h.end_is) (rehearsal_wanted h.end) in
+      record {
+        usage = λ s. apart (wanted_of end) status 2 out err ends refl none.0 s;
+        words = λ no. some_none (Rehearse seed tasks) no;
+        refused = λ s. apart (wanted_of end) status 3 out err ends refl none.1 s;
+        key = λ some. never some;
+        early = λ no other. some_none {X = ℕ × ℕ} (seed, tasks) other;
+        output = output;
+        checked = tt;
+        told = tt;
+        informed = tt;
+        info_told = tt;
+        init = tt;
+        run = tt;
+        audit = λ same. other_words (Some (Rehearse seed tasks)) refl same;
+        rehearsal = (h.end, h.made, h.untouched, unread, subst (λ (x : End). IsToldOf left status out err x) h.end_is told);
+        wires = tt;
+        starts = tt;
+        faults = tt;
+        desks = made_still before.made left.outside.made left.tables (ap (λ (o : OutsideValue). o.made) h.untouched.outside) h.untouched.tables;
+      }
 
   called_left : (wish : Option Command) → Runs clock before input wish whole → Called wish
   called_left None h = called_unknown h
@@ -646,6 +709,7 @@ module _ (clock : Option ℕ) (before : OutsideValue) (input : InputFlow) (left 
   called_left (Some (Init words)) h = called_init words h
   called_left (Some (Run words)) h = called_run words h
   called_left (Some AuditWord) h = called_audit h
+  called_left (Some (Rehearse seed tasks)) h = called_rehearsal seed tasks h
 
 pub called : (clock : Option ℕ) (before : OutsideValue) (input : InputFlow) (wish : Option Command) (ran : RanValue) (left : Left) (status : ℕ) (out err : Flow) → left ≡ ran.left → Runs clock before input wish ran
     → IsToldOf ran.left status out err ran.end → IsCalled clock before input wish out err status left
@@ -666,23 +730,24 @@ answered_few left Answered (answer, is) = let e : length left.answers ≡ 1 = ap
 answered_few left Memory none = none_few left none
 answered_few left end ends = absurd ends
 
-pub few : (clock : Option ℕ) (before : OutsideValue) (input : InputFlow) (wish : Option Command) (ran : RanValue) → Runs clock before input wish ran → length ran.left.answers ≤ 65536
-few clock before input None ran h = none_few ran.left h.idle.answers
-few clock before input (Some (Show page)) ran h = none_few ran.left h.idle.answers
-few clock before input (Some (Check program key)) ran h = go (reason_refused key) h
+pub few : (clock : Option ℕ) (before : OutsideValue) (input : InputFlow) (wish : Option Command) (ran : RanValue) → IfSome wish HasRanges → Runs clock before input wish ran → length ran.left.answers ≤ 65536
+few clock before input None ran ranges h = none_few ran.left h.idle.answers
+few clock before input (Some (Show page)) ran ranges h = none_few ran.left h.idle.answers
+few clock before input (Some (Check program key)) ran ranges h = go (reason_refused key) h
   where
     go : (r : Option Reason) → UnlessRefused r before ran (HasChecked clock program key before ran) → length ran.left.answers ≤ 65536
     go None h = answered_few ran.left ran.end h.ends
     go (Some reason) h = none_few ran.left h.idle.answers
-few clock before input (Some (Info program key)) ran h = go (refusal_if key) h
+few clock before input (Some (Info program key)) ran ranges h = go (refusal_if key) h
   where
     go : (r : Option Reason) → UnlessRefused r before ran (HasInformed program key before ran) → length ran.left.answers ≤ 65536
     go None h = none_few ran.left h.none
     go (Some reason) h = none_few ran.left h.idle.answers
-few clock before input (Some (Init words)) ran (inl h) = none_few ran.left h.1.answers
-few clock before input (Some (Init words)) ran (inr h) = none_few ran.left h.none
-few clock before input (Some (Run words)) ran (end, h, same) = few_done words clock before input ran.left.outside (made_in ran.left end) h
-few clock before input (Some AuditWord) ran h = none_few ran.left h.idle.answers
+few clock before input (Some (Init words)) ran ranges (inl h) = none_few ran.left h.1.answers
+few clock before input (Some (Init words)) ran ranges (inr h) = none_few ran.left h.none
+few clock before input (Some (Run words)) ran ranges (end, h, same) = few_done words clock before input ran.left.outside (made_in ran.left end) h
+few clock before input (Some AuditWord) ran ranges h = none_few ran.left h.idle.answers
+few clock before input (Some (Rehearse seed tasks)) ran ranges h = few_rehearsed seed tasks ran.left.journal ran.left.answers h.1.end ranges.2 h.1.made
 
 -- ---- no memory was found for the words
 
@@ -725,3 +790,4 @@ runs_nothing clock before input (Some (Init words)) ran e idle unread = inl (e, 
 runs_nothing clock before input (Some (Run words)) ran e idle unread =
     (R.Memory, inl (refl, record { outside = idle.outside; unread = unread; journal = idle.journal; answers = idle.answers; wires = idle.wires; tables = idle.tables }), e)
 runs_nothing clock before input (Some AuditWord) ran e idle unread = nothing_audited before input ran e idle unread
+runs_nothing clock before input (Some (Rehearse seed tasks)) ran e idle unread = (unread, nothing_rehearsed seed tasks before ran e idle)

@@ -11,8 +11,8 @@ use Rattle.uuid.proofs.RoundTrips.{parses_hyphenated}
 use Rattle.chunk_log.specs.ChunkLines.{IsWrittenUuid}
 use Rattle.cli_words.proofs.Ranging.{run_uuid}
 use Rattle.cli_words.specs.Settings.{settings_in}
-use Rattle.cli_words.specs.Values.{is_word_of_command, uuid_in}
-use Rattle.cli_words.specs.Words.{check_of, command_of, info_of, init_of, init_with, is_help, of_command, page_alone, page_of, run_of}
+use Rattle.cli_words.specs.Values.{is_word_of_command, padded_number_in, uuid_in}
+use Rattle.cli_words.specs.Words.{check_of, command_of, info_of, init_of, init_with, is_help, of_command, page_alone, page_of, most_rehearsed, most_seed, rehearse_of, rehearse_with, run_of}
 use Rattle.cli_words.specs.declared.command.Command.{Command}
 use Rattle.cli_words.specs.declared.command.Command.TheVariants.{Run, Audit, Show}
 use Rattle.cli_words.specs.declared.command.Page.{Page}
@@ -133,6 +133,17 @@ run_written words = go (run_of words) (run_uuid words)
     go None h = tt
     go (Some run) (text, e) = subst (λ (o : Option (List ℕ)). IfSome o IsWrittenUuid) e (written text)
 
+rehearse_written : (words : List (List ℕ)) → HasWrittenUuid (rehearse_of words)
+rehearse_written [] = tt
+rehearse_written (seed ∷ []) = tt
+rehearse_written (seed ∷ tasks ∷ []) = go (padded_number_in 0 most_seed seed) (padded_number_in 1 most_rehearsed tasks)
+  where
+    go : (s t : Option ℕ) → HasWrittenUuid (rehearse_with s t)
+    go (Some s) (Some t) = tt
+    go (Some s) None = tt
+    go None t = tt
+rehearse_written (seed ∷ tasks ∷ more ∷ words) = tt
+
 pub command_written : (words : List (List ℕ)) → HasWrittenUuid (command_of words)
 command_written [] = tt
 command_written (word ∷ []) = either_written (bytes_eq word (codes "audit")) (Some Audit) (option_map Show (page_alone word)) tt (show_written (page_alone word))
@@ -143,7 +154,8 @@ command_written (word ∷ next ∷ words) =
     (either_written (bytes_eq word (codes "check")) (check_of rest) _ (check_written rest)
     (either_written (bytes_eq word (codes "info")) (info_of rest) _ (info_written rest)
     (either_written (bytes_eq word (codes "init")) (init_of rest) _ (init_written rest)
-    (either_written (bytes_eq word (codes "run")) (option_map Run (run_of (word ∷ rest))) None (run_written (word ∷ rest)) tt))))
+    (either_written (bytes_eq word (codes "run")) (option_map Run (run_of (word ∷ rest))) _ (run_written (word ∷ rest))
+    (either_written (bytes_eq word (codes "rehearse")) (rehearse_of rest) None (rehearse_written rest) tt)))))
     tt)
 
 pub words_written : (words : List (List ℕ)) (command : Option Command) → command ≡ command_of words → HasWrittenUuid command

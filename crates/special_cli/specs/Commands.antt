@@ -15,10 +15,11 @@ use Rattle.child_end.specs.Programs.{Leaves}
 use Rattle.special_cli.specs.Setups.{HasSetUp}
 use Rattle.special_cli.specs.Doings.{HasRun}
 use Rattle.special_cli.specs.Audits.{HasAudited}
-use Rattle.run_tasks.specs.Inputs.{InputFlow}
+use Rattle.special_cli.specs.Rehearsals.{HasRehearsed}
+use Rattle.run_tasks.specs.Inputs.{InputFlow, IsUnread}
 use Rattle.cli_words.specs.Refusals.{reason_refused, refusal_if}
 use Rattle.cli_words.specs.declared.command.Command.{Command}
-use Rattle.cli_words.specs.declared.command.Command.TheVariants.{Check, Info, Init, Run, Audit, Show}
+use Rattle.cli_words.specs.declared.command.Command.TheVariants.{Check, Info, Init, Run, Audit, Rehearse, Show}
 
 -- nothing came of it but what is to be told: this, or want of memory
 pub record ComesToNothing (before : OutsideValue) (ran : RanValue) (end : End) : Type 0 where
@@ -88,3 +89,4 @@ Runs clock before input (Some (Info program key)) ran = UnlessRefused (refusal_i
 Runs clock before input (Some (Init words)) ran = HasSetUp words before ran
 Runs clock before input (Some (Run words)) ran = HasRun words clock before input ran
 Runs clock before input (Some Audit) ran = HasAudited before input ran
+Runs clock before input (Some (Rehearse seed tasks)) ran = IsUnread input × HasRehearsed seed tasks before ran

@@ -7,6 +7,7 @@ pub mod Informs
 pub mod Left
 pub mod Objects
 pub mod Openings
+pub mod Rehearsals
 pub mod Sayings
 pub mod Interviews
 pub mod Meetings

@@ -1,5 +1,5 @@
 // The command `check`: a run of one task, over one child that is started once.
-ghost use Rattle.std.specs.Prelude.{◌≡◌, ◌≤◌, [], None, IfOk, IsErr, MatchResult, map, vec_capacity, false};
+ghost use Rattle.std.specs.Prelude.{◌≡◌, ◌≤◌, ℕ, List, [], Option, None, IfOk, IfSome, IsErr, MatchResult, map, vec_capacity, false};
 ghost use Rattle.ann_key.specs.KeyRefs.{text_of};
 ghost use Rattle.annex_model.specs.Lines.{has_newline};
 ghost use Rattle.cli_words.specs.Refusals.{reason_refused};
@@ -9,6 +9,8 @@ ghost use Rattle.lone_work.specs.Works.{AreTasks, DeskTells};
 ghost use Rattle.lone_rounds.specs.Rounds.{EndsClosed, RanAlone};
 ghost use Rattle.run_tasks.specs.Runs.{AreAnswers};
 ghost use Rattle.special_cli.specs.declared.end.End.TheVariants.{Answered, Memory};
+ghost use Rattle.special_cli.specs.Endings.{check_setup};
+ghost use Rattle.special_cli.specs.Openings.{check_opening};
 ghost use Rattle.special_cli.specs.Commands.{HasChecked, IsPrepared, UnlessRefused};
 
 use crate::end::End;
@@ -22,7 +24,7 @@ use host_core::Core;
 use journal_model::Answer;
 use link_roles::Wire;
 use lone_rounds::{Plan, run_alone};
-use run_tasks::answers_of;
+use run_answers::answers_of;
 use std::alloc::Global;
 use task_run::Setup;
 use task_text::{Task, Tasks};
@@ -59,26 +61,43 @@ where
     }
 }
 
-// The core of a check, its task, and how it is to be run.
+// The core of a check and its task.
 #[tactic(auto, using(crate::proofs::Checked::check_begins))]
-fn prepare(alloc: Global, program: &str, key: KeyRef<'_>, stamp: u64) -> Result<Ready, NoMemory>
+fn begin(alloc: Global, key: KeyRef<'_>, stamp: u64) -> Result<(Core, Tasks), NoMemory>
     requires fit { reason_refused (text_of key) ≡ None }
-    ensures { IfOk result (IsPrepared program.now (text_of key.entry) stamp) }
+    ensures opening { IfOk result (λ b. b.0.opening ≡ check_opening (text_of key.entry) stamp) }
+    ensures empty { IfOk result (λ b. b.0.journal ≡ []) }
+    ensures tasks { IfOk result (λ b. b.1 ≡ b.0.opening.tasks) }
 {
     let opening = check_opening(alloc, key, stamp)?;
     let tasks = opening.tasks.copy(alloc)?;
+    Ok((Core::new(alloc, opening)?, tasks))
+}
+
+// How a check is to be run.
+fn plan_of(alloc: Global, program: &str, stamp: u64) -> Result<Plan, NoMemory>
+    ensures { IfOk result (λ plan. plan ≡ record { program = program.now; starts = 1; offers = false; setup = check_setup stamp }) }
+{
     let setup = Setup {
         work: Text::copy(alloc, ".")?,
         stamp,
         chunk: 0,
     };
-    let plan = Plan {
+    Ok(Plan {
         program: Text::copy(alloc, program)?,
         starts: 1,
         offers: false,
         setup,
-    };
-    let core = Core::new(alloc, opening)?;
+    })
+}
+
+// The core of a check, its task, and how it is to be run.
+fn prepare(alloc: Global, program: &str, key: KeyRef<'_>, stamp: u64) -> Result<Ready, NoMemory>
+    requires fit { reason_refused (text_of key) ≡ None }
+    ensures { IfOk result (IsPrepared program.now (text_of key.entry) stamp) }
+{
+    let plan = plan_of(alloc, program, stamp)?;
+    let (core, tasks) = begin(alloc, key, stamp)?;
     Ok(Ready { core, tasks, plan })
 }
 
@@ -123,6 +142,45 @@ fn ended(alloc: Global, answered: Result<Vec<Answer>, NoMemory>) -> (Vec<Answer>
     }
 }
 
+// The run of a check that is ready, with room for its one wire.
+fn check_ready<P: Programs, K: Desks>(
+    alloc: Global,
+    ready: Ready,
+    wires: Vec<Wire<P::Inlet, P::Outlet>>,
+    outside: Outside<P, K>,
+) -> Ran<P, K>
+where
+    P::Inlet: Drop,
+    P::Outlet: Drop,
+    K::Desk: Drop,
+    requires ready { (program : List ℕ) × (key : List ℕ) × (stamp : ℕ) × IsPrepared program key stamp ready }
+    requires room { 1 ≤ vec_capacity wires }
+    requires none { wires.items ≡ [] }
+    ensures { (clock : Option ℕ) (program key : List ℕ) (stamp : ℕ) → IfSome clock (λ n. stamp ≡ n) → IsPrepared program key stamp ready → HasChecked clock program key outside result }
+{
+    let Ready {
+        mut core,
+        tasks,
+        plan,
+    } = ready;
+    let Outside {
+        mut programs,
+        desks,
+    } = outside;
+    let mut wires = wires;
+    let tasks = tasks.view();
+    let answered = do_task(alloc, &plan, tasks, &mut core, &mut programs, &mut wires);
+    let (answers, end) = ended(alloc, answered);
+    Ran {
+        outside: Outside { programs, desks },
+        journal: journal_of(core),
+        answers,
+        wires,
+        tables: Vec::new(alloc),
+        end,
+    }
+}
+
 // The run of a check whose key is fit.
 fn check_key<P: Programs, K: Desks, C: Clock>(
     alloc: Global,
@@ -139,30 +197,11 @@ where
     ensures { HasChecked (C.answer clock.old) program.now (text_of key.entry) outside result }
 {
     let stamp = clock.now();
-    let Ok(ready) = prepare(alloc, program, key, stamp) else {
+    let Ok(wires) = Vec::with_capacity(alloc, 1) else {
         return Ran::nothing(alloc, outside, End::Memory);
     };
-    let Ok(mut wires) = Vec::with_capacity(alloc, 1) else {
-        return Ran::nothing(alloc, outside, End::Memory);
-    };
-    let Ready {
-        mut core,
-        tasks,
-        plan,
-    } = ready;
-    let Outside {
-        mut programs,
-        desks,
-    } = outside;
-    let tasks = tasks.view();
-    let answered = do_task(alloc, &plan, tasks, &mut core, &mut programs, &mut wires);
-    let (answers, end) = ended(alloc, answered);
-    Ran {
-        outside: Outside { programs, desks },
-        journal: journal_of(core),
-        answers,
-        wires,
-        tables: Vec::new(alloc),
-        end,
+    match prepare(alloc, program, key, stamp) {
+        Ok(ready) => check_ready(alloc, ready, wires, outside),
+        Err(NoMemory) => Ran::nothing(alloc, outside, End::Memory),
     }
 }

@@ -35,4 +35,6 @@ pub(crate) enum End {
     NotSetUp(Answer),
     /// What was found of the journal of the input.
     Audited(Audit),
+    /// The answers of a rehearsal were counted, and this was found of its journal.
+    Rehearsed(Audit),
 }

@@ -1,7 +1,7 @@
 // The command `info`: what one child says of itself.
 mod interview;
 
-ghost use Rattle.std.specs.Prelude.{◌≡◌, None, Some, IfOk, MatchResult, option_map};
+ghost use Rattle.std.specs.Prelude.{◌≡◌, ◌≤◌, [], None, Some, IfOk, MatchResult, option_map, vec_capacity};
 ghost use Rattle.ann_key.specs.KeyRefs.{text_of};
 ghost use Rattle.cli_words.specs.Refusals.{reason_refused, refusal_if};
 ghost use Rattle.special_cli.specs.Commands.{HasInformed, IsReady, UnlessRefused};
@@ -15,6 +15,7 @@ use ann_key::{Key, KeyRef, NoMemory, Text};
 use ann_outside::{Desks, Programs};
 use cli_words::refusal;
 use host_core::Core;
+use link_roles::Wire;
 use std::alloc::Global;
 
 // What an info is made with.
@@ -96,6 +97,48 @@ fn ended(asked: Result<(), NoMemory>, key: Option<Key>) -> End
     }
 }
 
+// The run of an info that is ready, with room for its one wire.
+fn info_ready<P: Programs, K: Desks>(
+    alloc: Global,
+    program: &str,
+    key: Option<KeyRef<'_>>,
+    ready: Ready,
+    wires: Vec<Wire<P::Inlet, P::Outlet>>,
+    outside: Outside<P, K>,
+) -> Ran<P, K>
+where
+    P::Inlet: Drop,
+    P::Outlet: Drop,
+    K::Desk: Drop,
+    requires key { refusal_if (option_map text_of key) ≡ None }
+    requires ready { IsReady (option_map text_of key) ready }
+    requires room { 1 ≤ vec_capacity wires }
+    requires none { wires.items ≡ [] }
+    ensures { HasInformed program.now (option_map text_of key.entry) outside result }
+{
+    let Ready {
+        mut core,
+        key: told,
+    } = ready;
+    let Outside {
+        mut programs,
+        desks,
+    } = outside;
+    let mut wires = wires;
+    let asked = interview::inform(alloc, program, key, &mut programs, &mut core, &mut wires);
+    let end = ended(asked, told);
+    let answers = Vec::new(alloc);
+    let tables = Vec::new(alloc);
+    Ran {
+        outside: Outside { programs, desks },
+        journal: journal_of(core),
+        answers,
+        wires,
+        tables,
+        end,
+    }
+}
+
 // The run of an info whose key, where it has one, is fit.
 fn info_key<P: Programs, K: Desks>(
     alloc: Global,
@@ -110,30 +153,11 @@ where
     requires key { refusal_if (option_map text_of key) ≡ None }
     ensures { HasInformed program.now (option_map text_of key.entry) outside result }
 {
-    let Ok(ready) = prepare(alloc, key) else {
+    let Ok(wires) = Vec::with_capacity(alloc, 1) else {
         return Ran::nothing(alloc, outside, End::Memory);
     };
-    let Ok(mut wires) = Vec::with_capacity(alloc, 1) else {
-        return Ran::nothing(alloc, outside, End::Memory);
-    };
-    let Ready {
-        mut core,
-        key: told,
-    } = ready;
-    let Outside {
-        mut programs,
-        desks,
-    } = outside;
-    let asked = interview::inform(alloc, program, key, &mut programs, &mut core, &mut wires);
-    let end = ended(asked, told);
-    let answers = Vec::new(alloc);
-    let tables = Vec::new(alloc);
-    Ran {
-        outside: Outside { programs, desks },
-        journal: journal_of(core),
-        answers,
-        wires,
-        tables,
-        end,
+    match prepare(alloc, key) {
+        Ok(ready) => info_ready(alloc, program, key, ready, wires, outside),
+        Err(NoMemory) => Ran::nothing(alloc, outside, End::Memory),
     }
 }

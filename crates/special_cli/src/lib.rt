@@ -11,6 +11,7 @@ mod meeting;
 mod openings;
 mod outside;
 mod ran;
+mod rehearsal;
 mod run;
 mod saying;
 mod telling;

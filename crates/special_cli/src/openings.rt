@@ -23,9 +23,9 @@ pub(super) fn info_opening(alloc: Global) -> Result<Opening, NoMemory>
     })
 }
 
-/// What a check of one key begins with: its one task, and the stamp.
-pub(super) fn check_opening(alloc: Global, key: KeyRef<'_>, stamp: u64) -> Result<Opening, NoMemory>
-    ensures { IfOk result (λ o. o ≡ check_opening (text_of key.entry) stamp) }
+// The one task of a check.
+fn check_tasks(alloc: Global, key: KeyRef<'_>) -> Result<Tasks, NoMemory>
+    ensures { IfOk result (λ tasks. tasks ≡ (check_opening (text_of key.entry) 0).tasks) }
 {
     let task = Task {
         work: Work::Check,
@@ -34,11 +34,19 @@ pub(super) fn check_opening(alloc: Global, key: KeyRef<'_>, stamp: u64) -> Resul
     };
     let mut list = Vec::new(alloc);
     list.push(task)?;
+    Ok(Tasks::new(list))
+}
+
+/// What a check of one key begins with: its one task, and the stamp.
+pub(super) fn check_opening(alloc: Global, key: KeyRef<'_>, stamp: u64) -> Result<Opening, NoMemory>
+    ensures { IfOk result (λ o. o ≡ check_opening (text_of key.entry) stamp) }
+{
+    let identity = nobody(alloc)?;
     Ok(Opening {
-        tasks: Tasks::new(list),
+        tasks: check_tasks(alloc, key)?,
         registers: Registers::new(alloc),
         notes: NoteBook::new(alloc),
-        identity: nobody(alloc)?,
+        identity,
         stamp,
     })
 }

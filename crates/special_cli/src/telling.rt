@@ -14,6 +14,7 @@ ghost use Rattle.special_cli.specs.Tells.{flow, IsDoneTold, IsEndTold, IsSetUpTo
 use crate::closing::Closing;
 use crate::end::End;
 use crate::ran::Ran;
+use crate::rehearsal::rehearsal_saying;
 use crate::saying::{Saying, Words};
 use ann_key::{Bytes, Key, KeyRef, NoMemory};
 use ann_outside::{Desks, Programs, Sink};
@@ -79,6 +80,7 @@ fn saying_of(alloc: Global, end: &End, journal: &Journal, answers: &[Answer]) ->
         End::Done(written) => done_saying(alloc, journal, answers, *written),
         End::NotSetUp(answer) => Saying::on_out(print_line(alloc, answer, journal), 1),
         End::Audited(found) => Saying::on_out(found_line(alloc, *found), found_status(*found)),
+        End::Rehearsed(found) => rehearsal_saying(alloc, answers, *found),
     }
 }
 
@@ -178,8 +180,8 @@ fn print_line(alloc: Global, answer: &Answer, journal: &Journal) -> Result<Bytes
     Ok(Bytes::from_vec(text))
 }
 
-// What was found of a journal, as a line.
-fn found_line(alloc: Global, found: Audit) -> Result<Bytes, NoMemory>
+/// What was found of a journal, as a line.
+pub(crate) fn found_line(alloc: Global, found: Audit) -> Result<Bytes, NoMemory>
     ensures { IfOk result (λ line. line ≡ found_line found) }
 {
     match found {
@@ -191,7 +193,8 @@ fn found_line(alloc: Global, found: Audit) -> Result<Bytes, NoMemory>
     }
 }
 
-fn found_status(found: Audit) -> u8
+/// The status that goes with it.
+pub(crate) fn found_status(found: Audit) -> u8
     ensures { result ≡ found_status found }
 {
     match found {

@@ -15,6 +15,7 @@ use crate::info::info;
 use crate::init::init;
 use crate::outside::Outside;
 use crate::ran::Ran;
+use crate::rehearsal::rehearse_tasks;
 use crate::run::run;
 use crate::telling::tell;
 use ann_key::NoMemory;
@@ -115,6 +116,9 @@ where
         Some(Command::Init(words)) => init(alloc, words, outside),
         Some(Command::Run(words)) => run(rt, alloc, words, outside, input, clock),
         Some(Command::Audit) => audit(alloc, outside, input),
+        Some(Command::Rehearse { seed, tasks }) => {
+            rehearse_tasks(rt, alloc, *seed, *tasks, outside)
+        }
         None => Ran::nothing(alloc, outside, End::Usage),
     }
 }

@@ -5,3 +5,4 @@
 pub mod audit_laws;
 pub mod info_laws;
 pub mod laws;
+pub mod rehearsal_laws;

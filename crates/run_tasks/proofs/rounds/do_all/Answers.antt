@@ -4,8 +4,8 @@ use Rattle.journal_model.specs.declared.opening.Opening.{Opening}
 use Rattle.child_end.specs.Outsides.{table_value}
 use Rattle.lone_rounds.specs.Rounds.{IsWhole}
 use Rattle.lone_work.specs.Works.{AreTasks, desk_tells}
-use Rattle.run_tasks.specs.Answering.{AreAllAnswered}
-use Rattle.run_tasks.proofs.Answered.{all_answered}
+use Rattle.run_answers.specs.Answering.{AreAllAnswered}
+use Rattle.run_answers.proofs.Answered.{all_answered}
 use Rattle.run_tasks.proofs.Begun.{all_tasks}
 use Rattle.run_tasks.proofs.Crews.{tells_tables}
 use Rattle.run_tasks.proofs.Leaving.{leaves_named, ok_err}

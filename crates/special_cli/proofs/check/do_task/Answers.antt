@@ -1,6 +1,6 @@
 use Rattle.std.proofs.Common.{sym, subst}
 use Rattle.journal_model.specs.declared.opening.Opening.{Opening}
-use Rattle.run_tasks.specs.Answering.{AreAllAnswered}
+use Rattle.run_answers.specs.Answering.{AreAllAnswered}
 use Rattle.special_cli.proofs.Answered.{all_answered}
 use Rattle.special_cli.proofs.Checked.{ran_nothing, silent}
 use Rattle.special_cli.proofs.check.do_task.Goals as goal

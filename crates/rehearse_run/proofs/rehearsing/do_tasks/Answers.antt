@@ -1,0 +1,23 @@
+use Rattle.std.proofs.Common.{◌∙◌, sym, subst}
+use Rattle.lone_work.specs.Works.{AreTasks}
+use Rattle.rehearse_run.proofs.Faultless.{faultless}
+use Rattle.rehearse_run.proofs.Running.{all_tasks, has_run, quiet_wires, run_of}
+use Rattle.rehearse_run.proofs.rehearsing.do_tasks.Goals as goal
+
+pub run_jobs-bench-requires-clause-tasks : goal.run_jobs-bench-requires-clause-tasks
+run_jobs-bench-requires-clause-tasks g c κs within =
+    let same = c.view.ensures ∙ c.requires.ready.tasks_are in
+    (sym same, subst AreTasks (sym same) (all_tasks c.args.ready.core.opening.tasks c.requires.may.tasks))
+
+pub returns-clause-ran : goal.returns-clause-ran
+returns-clause-ran g c =
+    let o = c.args.ready.core.opening in
+    let journal = c.run_jobs-bench.result.0.core.journal in
+    let ran = c.run_jobs-bench.ensures.ran in
+    let leaves = c.run_jobs-bench.ensures.leaves in
+    let plan = c.args.ready.plan in
+    has_run o journal c.run_jobs-bench.result.1
+    (run_of o plan.setup plan.offers plan.starts journal _ _ c.requires.ready.setup_is c.requires.ready.offers c.requires.ready.starts c.requires.fresh
+    (faultless o journal _ _ (g.P.Programs.faults c.args.programs.now) (g.P.Programs.faults c.run_jobs-bench.new.programs) ran.legal leaves.wired
+    (quiet_wires _ _ _ _ _ _ _ _ _ c.requires.sound.1 c.requires.sound.2 c.run_jobs-bench.new.wires.items) leaves.faults (c.requires.sound.0 c.args.programs.now) (c.requires.sound.0 c.run_jobs-bench.new.programs))
+    ran) c.run_jobs-bench.ensures.whole

@@ -1,0 +1,6 @@
+// The answers of a run's tasks, as its journal has them.
+#![tactic(auto)]
+
+mod answers;
+
+pub use answers::answers_of;
