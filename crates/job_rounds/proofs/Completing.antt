@@ -1,5 +1,5 @@
 -- Where no desk counted a fault and each task found what it should, each answer in the journal is a success, or says that no memory was found.
-use Rattle.std.proofs.Common.{◌≡◌, ◌∙◌, ◌⊎◌, inl, inr, ℕ, zero, suc, ◌+◌, ◌-◌, ◌^◌, ◌≤◌, ◌<◌, ◌==◌, Bool, true, false, cond, List, [], ◌∷◌, ◌++◌, length, append_assoc, refl, sym, ap, subst, arith, Some, None, Option, Ok}
+use Rattle.std.proofs.Common.{◌≡◌, ◌∙◌, ◌⊎◌, inl, inr, ℕ, zero, suc, ◌+◌, ◌-◌, ◌^◌, ◌≤◌, ◌<◌, ◌==◌, Bool, true, false, cond, List, [], ◌∷◌, ◌++◌, length, refl, sym, ap, subst, arith, Some, None, Option, Ok}
 use Rattle.std.specs.Prelude.{◌||◌, All, is_some, map, min}
 use Rattle.std.specs.List.{list_all, list_any, cons_option}
 use Rattle.std.proofs.lemmas.Bool.Decides.{nat_tests}
@@ -29,8 +29,8 @@ use Rattle.task_laws.specs.RunWell.{AreAskedWell}
 use Rattle.task_laws.specs.WentWell.{IsFoundWell, IsSuccess, is_asked_well, is_called_well}
 use Rattle.task_laws.proofs.RunsWell.{one_succeeds, run_asks}
 use Rattle.task_laws.proofs.WellTasks.{well_unless_refused}
-use Rattle.job_rounds.specs.Completeness.{AreAnsweredWell, DesksFound, FindsWell, JobsComplete}
-use Rattle.job_rounds.specs.Desks.{AreDone, DesksDid, HasDesk, HaveDesks, IsDone, WorkerRun, claimed_for, claims_for, desk_of}
+use Rattle.job_rounds.specs.Completeness.{DesksFound, FindsWell, JobsComplete}
+use Rattle.job_rounds.specs.Desks.{AreDone, DesksDid, HasDesk, HaveDesks, IsDone, claimed_for, claims_for, desk_of}
 use Rattle.job_rounds.proofs.NoneUnserved.{none_unserved}
 use Rattle.job_rounds.proofs.RoundDid.{Stands, answered_once, only_one}
 

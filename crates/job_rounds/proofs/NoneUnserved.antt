@@ -1,7 +1,7 @@
 -- Where all goes well with the children, no task is claimed without one.
-use Rattle.std.proofs.Common.{◌≡◌, ◌∙◌, ℕ, ◌<◌, ◌==◌, Bool, true, false, not, List, [], ◌∷◌, ◌++◌, append_assoc, length, refl, sym, ap, subst, arith, Some, None, Option}
+use Rattle.std.proofs.Common.{◌≡◌, ◌∙◌, ℕ, ◌==◌, Bool, true, false, not, List, [], ◌∷◌, ◌++◌, append_assoc, length, refl, sym, ap, subst, arith, Some, None, Option}
 use Rattle.std.specs.Prelude.{◌&&◌, ◌||◌, cond, is_some, option_and_then, find, filter}
-use Rattle.std.specs.List.{cons_option, list_all, list_any}
+use Rattle.std.specs.List.{cons_option, list_any}
 use Rattle.std.proofs.lemmas.Bool.{and_parts, or_parts}
 use Rattle.journal_model.specs.declared.answer.Answer.{Answer}
 use Rattle.journal_model.specs.declared.verdict.Verdict.{Verdict}
@@ -10,7 +10,7 @@ use Rattle.journal_model.specs.declared.verdict.Why.TheVariants.{Closed}
 use Rattle.journal_model.specs.declared.entry.What.{What}
 use Rattle.journal_model.specs.declared.entry.What.TheVariants.{Claim, Start, NoStart, Mute, End, Verdict as Settled, Answer as Answered}
 use Rattle.journal_model.specs.declared.entry.Entry.{Entry}
-use Rattle.journal_model.specs.Journal.{any, each_of, first_of, ends, mutes, is_mute, verdict_in, verdict_of, end_why, why_of}
+use Rattle.journal_model.specs.Journal.{any, each_of, first_of, ends, mutes, is_mute, verdict_in, end_why, why_of}
 use Rattle.journal_model.specs.Legality.{count, is_prepared}
 use Rattle.journal_model.specs.Shares.{is_closed}
 use Rattle.journal_model.proofs.Looks.{any-append}
@@ -20,7 +20,7 @@ use Rattle.lone_rounds.specs.Rounds.{ZeroAnswers, start_untaken}
 use Rattle.task_laws.specs.LoneWell.{ChildrenWell, is_muting, is_no_start, is_refusal, is_unclosed_end}
 use Rattle.task_laws.proofs.NoZero.{none_without_child}
 use Rattle.pool_starts.specs.Slots.{are_spent, is_first_start, is_lost, is_pool_spent, spends}
-use Rattle.job_rounds.specs.Unserved.{IsUnserved, UnservedAnswers}
+use Rattle.job_rounds.specs.Unserved.{UnservedAnswers}
 use Rattle.job_rounds.specs.JobsWell.{NoneUnserved}
 
 -- ---- of the entries before a place

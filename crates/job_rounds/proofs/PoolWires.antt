@@ -1,11 +1,10 @@
 -- What a pool leaves of its objects: a wire for each child, in the order of their starts, and the starts that were told.
-use Rattle.std.proofs.Common.{◌≡◌, ◌⊎◌, ℕ, ◌+◌, ◌<◌, ◌≤◌, List, [], ◌∷◌, ◌++◌, refl, sym, ap, subst, ◌∙◌, append-nil, Bool, true, false, ◌==◌, Some, None, Option, arith, inl, inr}
-use Rattle.std.specs.Prelude.{◌||◌, All}
+use Rattle.std.proofs.Common.{◌≡◌, ◌⊎◌, ℕ, ◌+◌, ◌<◌, ◌≤◌, List, [], ◌∷◌, ◌++◌, refl, sym, ap, subst, ◌∙◌, append-nil, Bool, false, ◌==◌, Some, None, Option, arith, inl, inr}
+use Rattle.std.specs.Prelude.{All}
 use Rattle.std.specs.List.{list_any}
 use Rattle.std.proofs.lemmas.List.Elements.{All-head, All-tail}
 use Rattle.ann_outside.specs.Causes.{Stays}
 use Rattle.ann_outside.specs.Starts.{Starts}
-use Rattle.journal_model.specs.declared.entry.What.{What}
 use Rattle.journal_model.specs.declared.entry.Entry.{Entry}
 use Rattle.journal_model.specs.Halves.{EarValue, MouthValue}
 use Rattle.journal_model.specs.Journal.{any}

@@ -1,6 +1,6 @@
 -- Entries that are made at a post, along the journal.
-use Rattle.std.proofs.Common.{◌≡◌, ℕ, ◌<◌, List, [], ◌∷◌, ◌++◌, refl, sym, ap, subst, append_assoc, append-nil, Bool, true, false, ◌==◌, arith, ◌∙◌}
-use Rattle.std.specs.Prelude.{◌&&◌, ◌-◌, not, nat_lt, All}
+use Rattle.std.proofs.Common.{◌≡◌, ℕ, List, [], ◌∷◌, ◌++◌, refl, sym, ap, subst, append_assoc, append-nil, true, false, ◌==◌, arith, ◌∙◌}
+use Rattle.std.specs.Prelude.{◌-◌, not, nat_lt, All}
 use Rattle.std.specs.List.{list_all, list_any, range_with_len}
 use Rattle.std.proofs.lemmas.Bool.Decides.{nat_tests}
 use Rattle.journal_model.specs.declared.entry.What.{What}
@@ -12,7 +12,7 @@ use Rattle.gathering.specs.Laws.{children_of}
 use Rattle.gathering.specs.Posts.{makes, pool_crew, serves, tagged_crew}
 use Rattle.gathering.specs.Rounds.{LinkValue}
 use Rattle.lone_rounds.specs.Starting.{is_any_start}
-use Rattle.job_rounds.specs.Posts.{AllPosted, IsPosted, post_over}
+use Rattle.job_rounds.specs.Posts.{AllPosted, post_over}
 use Rattle.job_rounds.proofs.PoolPosts.{Posted, are_posted, at_place, posted}
 use Rattle.job_rounds.proofs.RoundDid.{in_range}
 

@@ -1,5 +1,5 @@
 -- The laws of a run by many workers.
-use Rattle.std.proofs.Common.{◌≡◌, ℕ, ◌+◌, ◌<◌, List, [], ◌∷◌, ◌++◌, refl, Bool, true, false, Some, None, Option, inl, inr}
+use Rattle.std.proofs.Common.{◌≡◌, ℕ, ◌+◌, ◌<◌, List, [], ◌∷◌, ◌++◌, refl, true, Some, None, Option, inl, inr}
 use Rattle.std.specs.Prelude.{All, is_some}
 use Rattle.std.proofs.lemmas.List.Elements.{All-cons, All-head, All-nil, All-tail}
 use Rattle.ann_key.specs.Keys.{Parts, key_reading}
@@ -15,7 +15,7 @@ use Rattle.task_laws.proofs.Retrieving.{keeps_stored}
 use Rattle.task_laws.proofs.RunsWell.{one_succeeds}
 use Rattle.job_rounds.specs.Desks.{AreDone, DesksDid, IsDone}
 use Rattle.job_rounds.specs.JobsKeep.{JobsKeep}
-use Rattle.job_rounds.specs.JobsWell.{JobsSucceed, JobsWentWell, all_done}
+use Rattle.job_rounds.specs.JobsWell.{JobsSucceed, all_done}
 use Rattle.job_rounds.proofs.NoneUnserved.{none_unserved}
 
 module _ (o : Opening) (setup : Setup) (limit : ℕ) (journal : List Entry) where
