@@ -1,0 +1,14 @@
+mod MayBegin
+mod Fronts
+mod Answering
+mod Told
+mod Serving
+mod Stopping
+mod Adding
+mod Greeting
+mod Begun
+mod Preparing
+mod Prepared
+mod Passing
+mod Everywhere
+mod Keeping
