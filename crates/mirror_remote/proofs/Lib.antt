@@ -1,6 +1,7 @@
 mod MayBegin
 mod Fronts
 mod Answering
+mod Calls
 mod Told
 mod Serving
 mod Stopping
@@ -9,6 +10,7 @@ mod Greeting
 mod Begun
 mod Preparing
 mod Prepared
+mod Settled
 mod Passing
 mod Everywhere
 mod Keeping

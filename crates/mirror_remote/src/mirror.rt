@@ -142,6 +142,7 @@ where
     P::Stub: Drop,
     requires empty { (mirror.old.children ≡ []) × (mirror.old.logs ≡ []) }
     ensures begins { Begins plans.now mirror.old mirror.new result }
+    ensures sound { IsSoundMirror mirror.new }
     ensures line { IfOk result (λ said. IsTrue (is_line_said said)) }
 {
     if plans.is_empty() {
@@ -223,10 +224,12 @@ where
         ensures rest { (self.new.logs ≡ self.old.logs) × (self.new.programs ≡ self.old.programs) }
         ensures sound { IsSoundMirror self.new }
     {
+        let key = Key::copy(self.alloc, key)?;
+        let file = Text::copy(self.alloc, file)?;
         let request = Request::Transfer {
             store: true,
-            key: Key::copy(self.alloc, key)?,
-            file: Text::copy(self.alloc, file)?,
+            key,
+            file,
         };
         ask_all(self.alloc, &mut self.children, &request)
     }
@@ -240,10 +243,12 @@ where
         ensures rest { (self.new.logs ≡ self.old.logs) × (self.new.programs ≡ self.old.programs) }
         ensures sound { IsSoundMirror self.new }
     {
+        let key = Key::copy(self.alloc, key)?;
+        let file = Text::copy(self.alloc, file)?;
         let request = Request::Transfer {
             store: false,
-            key: Key::copy(self.alloc, key)?,
-            file: Text::copy(self.alloc, file)?,
+            key,
+            file,
         };
         ask_any(self.alloc, &mut self.children, &request)
     }
@@ -256,9 +261,8 @@ where
         ensures rest { (self.new.logs ≡ self.old.logs) × (self.new.programs ≡ self.old.programs) }
         ensures sound { IsSoundMirror self.new }
     {
-        let request = Request::CheckPresent {
-            key: Key::copy(self.alloc, key)?,
-        };
+        let key = Key::copy(self.alloc, key)?;
+        let request = Request::CheckPresent { key };
         ask_check(self.alloc, &mut self.children, &request)
     }
 
@@ -270,9 +274,8 @@ where
         ensures rest { (self.new.logs ≡ self.old.logs) × (self.new.programs ≡ self.old.programs) }
         ensures sound { IsSoundMirror self.new }
     {
-        let request = Request::Remove {
-            key: Key::copy(self.alloc, key)?,
-        };
+        let key = Key::copy(self.alloc, key)?;
+        let request = Request::Remove { key };
         ask_all(self.alloc, &mut self.children, &request)
     }
 }
