@@ -29,8 +29,17 @@ def files(room):
 def case_what_is_installed_is_all_taken_away_again(room):
     need("make")
     plain = room.script("plain", "exit 0\n")
-    expect(make("install", room, f"ANNEX_REMOTE_PLAIN={plain}").status, 0, "an install")
-    programs = ["annex-remote-dir", "annex-remote-plain", "annex-special", "git-annex-remote-milgroez", "special"]
+    mirror = room.script("mirror", "exit 0\n")
+    expect(make("install", room, f"ANNEX_REMOTE_PLAIN={plain}", f"ANNEX_REMOTE_MIRROR={mirror}").status, 0, "an install")
+    programs = [
+        "annex-remote-dir",
+        "annex-remote-mirror",
+        "annex-remote-plain",
+        "annex-special",
+        "git-annex-remote-milgroez",
+        "git-annex-remote-milgroez-mirror",
+        "special",
+    ]
     share = [
         "bash-completion/completions/annex-special",
         "bash-completion/completions/special",
@@ -49,10 +58,11 @@ def case_what_is_installed_is_all_taken_away_again(room):
     expect(files(room), ["usr/bin/other"], "what is left")
 
 
-def case_the_plain_program_is_left_out_where_it_was_not_built(room):
+@table([("annex-remote-plain", "ANNEX_REMOTE_PLAIN", "plain"), ("annex-remote-mirror", "ANNEX_REMOTE_MIRROR", "mirror")])
+def a_program_that_was_not_built_is_left_out(room, variable, word):
     need("make")
-    expect(make("install", room, f"ANNEX_REMOTE_PLAIN={room.path('missing')}").status, 0, "an install")
-    require("usr/bin/annex-remote-plain" not in files(room), "it is there")
+    expect(make("install", room, f"{variable}={room.path('missing')}").status, 0, "an install")
+    require(not any(word in name for name in files(room)), "it is there")
 
 
 def case_an_install_twice_is_an_install(room):
