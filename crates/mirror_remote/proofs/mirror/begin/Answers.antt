@@ -29,7 +29,6 @@ returns-in_err-stopped-clause-begins g c =
     (cut_begins c.args.plans.now c.args.mirror.now c.args.mirror.now c.from_residual-in_err-stopped.result p.0 p.1
     (cut_none c.args.plans.now c.args.mirror.now c.args.mirror.now (empties_same c.args.mirror.now c.requires.empty.0 c.requires.empty.1)))
 
-
 pub returns-then-is_empty-clause-sound : goal.returns-then-is_empty-clause-sound
 returns-then-is_empty-clause-sound g c =
     kept_sound (record { programs = (programs_value (g.P.Programs.starts c.mirror.inside.programs) (g.P.Programs.faults c.mirror.inside.programs)); children = c.mirror.inside.children.items; logs = c.mirror.inside.stopped.logs }) c.mirror.inside.stopped.spare c.mirror.invariant
@@ -63,7 +62,7 @@ returns-in-Ready-clause-sound g c =
 
 pub stop_all-requires-clause-linked : goal.stop_all-requires-clause-linked
 stop_all-requires-clause-linked g c =
-  to_linked c.args.plans.now c.in_ok-stopped.stopped (fresh_for c.args.plans.now c.in_ok-stopped.stopped c.len-2.result c.in_ok-stopped.ensures c.len-2.ensures) (programs_value (g.P.Programs.starts c.mirror.inside.programs) (g.P.Programs.faults c.mirror.inside.programs)) (programs_value (g.P.Programs.starts c.begin_all.new.programs) (g.P.Programs.faults c.begin_all.new.programs)) c.begin_all.new.children.items c.in-Unready.number c.in-Unready.ensures.begins
+    to_linked c.args.plans.now c.in_ok-stopped.stopped (fresh_for c.args.plans.now c.in_ok-stopped.stopped c.len-2.result c.in_ok-stopped.ensures c.len-2.ensures) (programs_value (g.P.Programs.starts c.mirror.inside.programs) (g.P.Programs.faults c.mirror.inside.programs)) (programs_value (g.P.Programs.starts c.begin_all.new.programs) (g.P.Programs.faults c.begin_all.new.programs)) c.begin_all.new.children.items c.in-Unready.number c.in-Unready.ensures.begins
 
 pub stop_all-requires-clause-room : goal.stop_all-requires-clause-room
 stop_all-requires-clause-room g c =
@@ -90,7 +89,7 @@ returns-in-Unready-clause-sound g c =
 
 pub stop_all-requires-in-Unstarted-clause-linked : goal.stop_all-requires-in-Unstarted-clause-linked
 stop_all-requires-in-Unstarted-clause-linked g c =
-  up_to_linked c.args.plans.now c.in_ok-stopped.stopped (fresh_for c.args.plans.now c.in_ok-stopped.stopped c.len-2.result c.in_ok-stopped.ensures c.len-2.ensures) (programs_value (g.P.Programs.starts c.mirror.inside.programs) (g.P.Programs.faults c.mirror.inside.programs)) (programs_value (g.P.Programs.starts c.begin_all.new.programs) (g.P.Programs.faults c.begin_all.new.programs)) c.begin_all.new.children.items c.in-Unstarted.number c.in-Unstarted.core c.in-Unstarted.ensures.begins
+    up_to_linked c.args.plans.now c.in_ok-stopped.stopped (fresh_for c.args.plans.now c.in_ok-stopped.stopped c.len-2.result c.in_ok-stopped.ensures c.len-2.ensures) (programs_value (g.P.Programs.starts c.mirror.inside.programs) (g.P.Programs.faults c.mirror.inside.programs)) (programs_value (g.P.Programs.starts c.begin_all.new.programs) (g.P.Programs.faults c.begin_all.new.programs)) c.begin_all.new.children.items c.in-Unstarted.number c.in-Unstarted.core c.in-Unstarted.ensures.begins
 
 pub stop_all-requires-in-Unstarted-clause-room : goal.stop_all-requires-in-Unstarted-clause-room
 stop_all-requires-in-Unstarted-clause-room g c =
@@ -125,11 +124,11 @@ returns-in-Unstarted-clause-sound g c =
 
 pub stop_all-requires-in-NoMemory-clause-linked : goal.stop_all-requires-in-NoMemory-clause-linked
 stop_all-requires-in-NoMemory-clause-linked g c =
-  some_linked c.args.plans.now c.in_ok-stopped.stopped (fresh_for c.args.plans.now c.in_ok-stopped.stopped c.len-2.result c.in_ok-stopped.ensures c.len-2.ensures) (programs_value (g.P.Programs.starts c.mirror.inside.programs) (g.P.Programs.faults c.mirror.inside.programs)) (programs_value (g.P.Programs.starts c.begin_all.new.programs) (g.P.Programs.faults c.begin_all.new.programs)) c.begin_all.new.children.items c.in-NoMemory.ensures.begins
+    some_linked c.args.plans.now c.in_ok-stopped.stopped (fresh_for c.args.plans.now c.in_ok-stopped.stopped c.len-2.result c.in_ok-stopped.ensures c.len-2.ensures) (programs_value (g.P.Programs.starts c.mirror.inside.programs) (g.P.Programs.faults c.mirror.inside.programs)) (programs_value (g.P.Programs.starts c.begin_all.new.programs) (g.P.Programs.faults c.begin_all.new.programs)) c.begin_all.new.children.items c.in-NoMemory.ensures.begins
 
 pub stop_all-requires-in-NoMemory-clause-room : goal.stop_all-requires-in-NoMemory-clause-room
 stop_all-requires-in-NoMemory-clause-room g c =
-    some_room c.args.plans.now c.in_ok-stopped.stopped (fresh_for c.args.plans.now c.in_ok-stopped.stopped c.len-2.result c.in_ok-stopped.ensures c.len-2.ensures) (programs_value (g.P.Programs.starts c.mirror.inside.programs) (g.P.Programs.faults c.mirror.inside.programs)) (programs_value (g.P.Programs.starts c.begin_all.new.programs) (g.P.Programs.faults c.begin_all.new.programs)) c.begin_all.new.children.items  c.in-NoMemory.ensures.begins
+    some_room c.args.plans.now c.in_ok-stopped.stopped (fresh_for c.args.plans.now c.in_ok-stopped.stopped c.len-2.result c.in_ok-stopped.ensures c.len-2.ensures) (programs_value (g.P.Programs.starts c.mirror.inside.programs) (g.P.Programs.faults c.mirror.inside.programs)) (programs_value (g.P.Programs.starts c.begin_all.new.programs) (g.P.Programs.faults c.begin_all.new.programs)) c.begin_all.new.children.items c.in-NoMemory.ensures.begins
 
 pub invariant_of-mirror-in-NoMemory : goal.invariant_of-mirror-in-NoMemory
 invariant_of-mirror-in-NoMemory g c =
