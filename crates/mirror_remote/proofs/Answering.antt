@@ -1,9 +1,10 @@
 -- What a call says of the children that it asked.
-use Rattle.std.proofs.Common.{◌≡◌, ◌∙◌, ℕ, suc, ◌<◌, List, [], ◌∷◌, ◌++◌, refl, sym, ap, Bool, true, false, not, length, slice_index_or, arith}
+use Rattle.std.proofs.Common.{◌≡◌, ◌∙◌, ◌==◌, ℕ, zero, suc, ◌<◌, List, [], ◌∷◌, ◌++◌, refl, sym, ap, Bool, true, false, not, length, slice_index_or, arith}
 use Rattle.std.specs.Prelude.{if◌then◌else◌, codes, Result, Ok, Err, IfOk}
 use Rattle.ann_key.specs.declared.bytes.NoMemory.{NoMemory}
 use Rattle.annex_model.specs.Messages.{HostMessage}
 use Rattle.journal_model.specs.declared.verdict.Verdict.{Verdict}
+use Rattle.journal_model.proofs.Looks.{same_number}
 use Rattle.kit_core.specs.declared.call.Said.{Said}
 use Rattle.kit_core.specs.declared.call.Said.TheVariants.{Yes, No}
 use Rattle.mirror_remote.specs.Children.{ChildValue}
@@ -68,3 +69,16 @@ module _ (q : HostMessage) (old new : List ChildValue) (at : ℕ) (v : Verdict) 
         over (λ v. not (is_done v)) q retrieve_said old new said some
         (answers_any q old new at v a said (h ∙ ap (λ (b : Bool). if b then Yes else failure (codes "no mirror gave it")) (sym fails)))
     any_refused (Err e) fails h = (a.before ++ v ∷ [], a.asked)
+
+-- ---- whether there is a child
+
+-- a list that isn't empty by its count
+pub some_left : (b : Bool) (n m : ℕ) → b ≡ false → b ≡ (n == 0) → n ≡ m → 0 < m
+some_left true n m fails is same = absurd cc
+some_left false zero m fails is same = absurd cc
+some_left false (suc n) m fails is same = omega (arith, same)
+
+-- and one that is
+pub none_left : (b : Bool) (n m : ℕ) → b ≡ true → b ≡ (n == 0) → n ≡ m → m ≡ 0
+none_left true n m holds is same = sym same ∙ same_number n 0 (sym is)
+none_left false n m holds is same = absurd cc
