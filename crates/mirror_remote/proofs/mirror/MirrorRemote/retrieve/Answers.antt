@@ -1,11 +1,11 @@
-use Rattle.std.proofs.Common.{ap, not}
+use Rattle.std.proofs.Common.{ap, refl, subst, not, false}
 use Rattle.std.proofs.lemmas.Result.{err_from_is_err_and}
 use Rattle.ann_key.specs.KeyRefs.{text_of}
 use Rattle.annex_model.specs.Messages.{Transfer}
-use Rattle.mirror_remote.specs.Mirrors.{MirrorValue}
+use Rattle.mirror_remote.specs.Mirrors.{IsSoundMirror, MirrorValue}
 use Rattle.mirror_remote.specs.Rule.{is_done, retrieve_said}
 use Rattle.mirror_remote.proofs.Calls.{nobody_asked, ruled, transfer_mirrored, transfer_same}
-use Rattle.mirror_remote.proofs.Keeping.{kept_by_rule}
+use Rattle.mirror_remote.proofs.Keeping.{kept_by_rule, sound_mirror}
 use Rattle.mirror_remote.proofs.Stopping.{sound_children}
 use Rattle.mirror_remote.proofs.mirror.MirrorRemote.retrieve.Goals as goal
 
@@ -15,19 +15,19 @@ ask_any-requires-clause-mirrored g c =
 
 pub returns-in_err-key-clause-rule : goal.returns-in_err-key-clause-rule
 returns-in_err-key-clause-rule g c =
-    let p = err_from_is_err_and c.from_residual-in_err-key.result c.from_residual-in_err-key.ensures.1 in
-    nobody_asked (λ v. not (is_done v)) (Transfer false (text_of c.args.key) c.args.file.now) retrieve_said c.args.self.now c.self.inside.children.items (ap (λ (m : MirrorValue). m.children) c.self.view_is) c.from_residual-in_err-key.result p.0 p.1
+    let p = err_from_is_err_and c.from_residual.result c.from_residual.ensures.1 in
+    nobody_asked (λ v. not (is_done v)) (Transfer false (text_of c.args.key) c.args.file.now) retrieve_said c.args.self.now c.args.self.now.children refl c.from_residual.result p.0 p.1
 
 pub returns-in_err-key-clause-sound : goal.returns-in_err-key-clause-sound
-returns-in_err-key-clause-sound g c = record { children = sound_children c.self.inside.children.items c.self.invariant.0; logs = c.self.invariant.3 }
+returns-in_err-key-clause-sound g c = subst IsSoundMirror c.self.view_is (sound_mirror _ c.self.invariant.0 c.self.invariant.3)
 
 pub returns-in_err-file-clause-rule : goal.returns-in_err-file-clause-rule
 returns-in_err-file-clause-rule g c =
     let p = err_from_is_err_and c.from_residual-in_err-file.result c.from_residual-in_err-file.ensures.1 in
-    nobody_asked (λ v. not (is_done v)) (Transfer false (text_of c.args.key) c.args.file.now) retrieve_said c.args.self.now c.self.inside.children.items (ap (λ (m : MirrorValue). m.children) c.self.view_is) c.from_residual-in_err-file.result p.0 p.1
+    nobody_asked (λ v. not (is_done v)) (Transfer false (text_of c.args.key) c.args.file.now) retrieve_said c.args.self.now c.args.self.now.children refl c.from_residual-in_err-file.result p.0 p.1
 
 pub returns-in_err-file-clause-sound : goal.returns-in_err-file-clause-sound
-returns-in_err-file-clause-sound g c = record { children = sound_children c.self.inside.children.items c.self.invariant.0; logs = c.self.invariant.3 }
+returns-in_err-file-clause-sound g c = subst IsSoundMirror c.self.view_is (sound_mirror _ c.self.invariant.0 c.self.invariant.3)
 
 pub invariant_of-self : goal.invariant_of-self
 invariant_of-self g c =
