@@ -209,7 +209,8 @@ where
         ensures sound { IsSoundMirror self.new }
     {
         give_up(self);
-        match read_plans(self.alloc, values.view())? {
+        let asked = read_plans(self.alloc, values.view())?;
+        match asked {
             Plans::Bad(number) => mirror_failure(self.alloc, number, b"bad setting"),
             Plans::Asked(plans) => begin(self, &plans),
         }
