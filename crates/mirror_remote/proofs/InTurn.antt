@@ -5,8 +5,8 @@ use Rattle.ann_outside.specs.Causes.{AddsOne, Rose}
 use Rattle.host_core.specs.CoreValue.{CoreValue}
 use Rattle.child_end.specs.Programs.{AddsAll, ProgramsValue}
 use Rattle.mirror_plan.specs.declared.plan.Plan.{Plan}
-use Rattle.mirror_remote.specs.Children.{ChildValue, AreServing, IsServing}
-use Rattle.mirror_remote.specs.Mirrors.{AreReadyAs, IsReadyAs, IsUnready, starts_of}
+use Rattle.mirror_remote.specs.Children.{ChildValue, IsServing}
+use Rattle.mirror_remote.specs.Mirrors.{IsReadyAs, IsUnready, starts_of}
 use Rattle.mirror_remote.specs.Beginnings.{AreGreetedAs, BegunAll, BegunSome, BegunTo, BegunUpTo, HasNotStarted, IsGreetedAs, MayHaveStarted, Stands}
 use Rattle.mirror_remote.proofs.Begun.{adds_both, adds_none, adds_one, adds_stays, greeted_next, plan_at_place, ready_next, rose_later, serving_next, starts_next, take_next}
 
@@ -54,7 +54,7 @@ module _ (plans : List Plan) (i : ℕ) (p : Plan) (cs : List ChildValue) (before
     starts = started one;
   }
 
-  -- it ended for want of memory
+  -- it ended because memory ran out
   pub starved_some : (c : ChildValue) (cs' : List ChildValue) → cs' ≡ cs ++ c ∷ [] → IsGreetedAs p c → AddsOne mid.starts after.starts (p.program, true) → BegunSome plans before after cs'
   starved_some c cs' e g one = record {
     front = take i plans ++ p ∷ [];
