@@ -1,6 +1,8 @@
 -- The journals that a mirror lends: those of its children, or those of its logs.
-use Rattle.std.proofs.Common.{◌≡◌, ◌⊎◌, inl, inr, ◌==◌, ℕ, zero, suc, ◌<◌, ◌≤◌, List, [], ◌∷◌, ◌++◌, refl, sym, ap, subst, Bool, true, false, Option, Some, None, length, map, slice_index_or, arith}
+use Rattle.std.proofs.Common.{◌≡◌, ◌∙◌, ◌⊎◌, inl, inr, ◌==◌, ℕ, zero, suc, ◌<◌, ◌≤◌, List, [], ◌∷◌, ◌++◌, refl, sym, ap, subst, Bool, true, false, Option, Some, None, length, map, slice_index_or, arith}
 use Rattle.std.specs.List.{slice_get}
+use Rattle.std.proofs.lemmas.Bool.{eqb-true}
+use Rattle.std.proofs.lemmas.List.{nil_from_length}
 use Rattle.journal_model.specs.declared.entry.Entry.{Entry}
 use Rattle.child_end.specs.Programs.{ProgramsValue}
 use Rattle.mirror_remote.specs.Children.{ChildValue, LogValue}
@@ -8,12 +10,11 @@ use Rattle.mirror_remote.specs.Mirrors.{MirrorValue, journals_of}
 
 -- whether there are children
 pub no_children : (cs : List ChildValue) (count : ℕ) (b : Bool) → count ≡ length cs → b ≡ (count == 0) → b ≡ true → cs ≡ []
-no_children [] count b len is yes = refl
-no_children (c ∷ cs) count b len is yes = let no : b ≡ false = subst (λ (k : ℕ). b ≡ (k == 0)) len is in absurd cc
+no_children cs count b len is none = nil_from_length cs (sym len ∙ eqb-true count 0 (sym is ∙ none))
 
 pub some_children : (cs : List ChildValue) (count : ℕ) (b : Bool) → count ≡ length cs → b ≡ (count == 0) → b ≡ false → 0 < length cs
-some_children [] count b len is no = let yes : b ≡ true = subst (λ (k : ℕ). b ≡ (k == 0)) len is in absurd cc
-some_children (c ∷ cs) count b len is no = omega arith
+some_children [] count b len is some = let none : b ≡ true = subst (λ (k : ℕ). b ≡ (k == 0)) len is in absurd cc
+some_children (c ∷ cs) count b len is some = omega arith
 
 no_logs : (cs : List ChildValue) (logs : List LogValue) → (cs ≡ []) ⊎ (logs ≡ []) → 0 < length cs → logs ≡ []
 no_logs cs logs (inl none) some = absurd (let e : length cs ≡ 0 = ap (λ (xs : List ChildValue). length xs) none in omega (arith, e, some))

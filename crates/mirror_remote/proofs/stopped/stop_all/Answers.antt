@@ -7,11 +7,11 @@ use Rattle.mirror_remote.proofs.Stopping.{stops_next}
 use Rattle.mirror_remote.proofs.stopped.stop_all.Goals as goal
 
 pub stop-requires-clause-linked : goal.stop-requires-clause-linked
-stop-requires-clause-linked g c =
+stop-requires-clause-linked g c κs within =
     next_linked c.args.children.items c.loop-child.yielded _ _ c.in-Some.child c.requires.linked c.loop-child.invariant.all c.in-Some.ensures.steps.0
 
 pub stop-requires-clause-room : goal.stop-requires-clause-room
-stop-requires-clause-room g c =
+stop-requires-clause-room g c κs within =
     next_room c.args.children.items c.loop-child.yielded _ _ c.in-Some.child c.args.stopped.now c.loop-child.stopped c.requires.room c.loop-child.invariant.all c.in-Some.ensures.steps.0 c.loop-child.invariant.stops
 
 pub loop-child-preserved : goal.loop-child-preserved

@@ -8,7 +8,7 @@ use Rattle.mirror_remote.proofs.Stopping.{linked_serving}
 use Rattle.mirror_remote.proofs.mirror.MirrorRemote.finish.Goals as goal
 
 pub stop_all-requires-clause-linked : goal.stop_all-requires-clause-linked
-stop_all-requires-clause-linked g c = linked_serving c.self.inside.children.items c.self.invariant.0
+stop_all-requires-clause-linked g c κs within = linked_serving c.self.inside.children.items c.self.invariant.0
 
 pub returns : goal.returns
 returns g c =
@@ -17,9 +17,9 @@ returns g c =
     let m : MirrorValue = record { programs = programs_value (g.P.Programs.starts i.programs) (g.P.Programs.faults i.programs); children = i.children.items; logs = i.stopped.logs } in
     let e : EndedValue = record {
       programs = programs_value (g.P.Programs.starts c.stop_all.new.programs) (g.P.Programs.faults c.stop_all.new.programs);
-      journals = map (λ j. j.entries) c.finish.result.0.items;
-      wires = map value c.finish.result.1.items;
+      journals = map (λ j. j.entries) c.finish-journals.result.0.items;
+      wires = map value c.finish-journals.result.1.items;
     } in
     subst (λ (x : MirrorValue). Finishes x e) c.self.view_is
-    (finishes m e i.stopped c.stop_all.new.stopped refl c.stop_all.ensures.stops c.finish.ensures.journals c.finish.ensures.sound
-    (subst (AreWired c.stop_all.new.stopped.logs) (sym c.finish.ensures.wires) c.finish.ensures.wired) c.stop_all.ensures.starts c.stop_all.ensures.later)
+    (finishes m e i.stopped c.stop_all.new.stopped refl c.stop_all.ensures.stops c.finish-journals.ensures.journals c.finish-journals.ensures.sound
+    (subst (AreWired c.stop_all.new.stopped.logs) (sym c.finish-journals.ensures.wires) c.finish-journals.ensures.wired) c.stop_all.ensures.starts c.stop_all.ensures.later)
