@@ -3,6 +3,7 @@
 import os
 import time
 
+from annexed import Annex, contents
 from harness import ANNEX_REMOTE_DIR, TOP, UUID, Done, as_bytes, expect, finish, limits, require, table
 
 MIRROR = os.path.abspath(os.environ.get("ANNEX_REMOTE_MIRROR") or TOP / "crates/remote_mirror_bin/out/remote_mirror_bin")
@@ -294,6 +295,27 @@ def case_a_folder_that_is_gone_is_told_by_check(room):
     tasks(room, ["check WORM-s7--a"], "absent")
     tasks(room, ["get WORM-s7--a g"], "got")
     expect(room.text("g"), "content", "the other still gives it")
+
+
+@limits(600)
+def case_git_annex_copies_to_a_mirror_and_gets_it_back(room):
+    annex = Annex(room)
+    os.symlink(MIRROR, room.path("bin/git-annex-remote-mirror"))
+    folders = [room.mkdir(name) for name in ("one", "two")]
+    settings = [f"mirror{n}={ANNEX_REMOTE_DIR} directory={folder}" for n, folder in enumerate(folders, 1)]
+    annex.well("git", "annex", "initremote", "-q", "both", "type=external", "externaltype=mirror", "encryption=none", *settings)
+    files = contents(20, [1000, 70000])
+    annex.add(files)
+    annex.well("git", "annex", "copy", "-q", "--to", "both")
+    expect([stored_in(room, name) for name in ("one", "two")], [20, 20], "what each holds")
+    annex.well("git", "annex", "fsck", "-q", "--from", "both")
+    annex.well("git", "annex", "drop", "-q", ".")
+    annex.well("git", "annex", "get", "-q", ".")
+    annex.well("git", "annex", "fsck", "-q")
+    expect(annex.present(), sorted(files), "what is here")
+    gone = next(os.path.join(path, name) for path, _, names in os.walk(folders[1]) for name in names)
+    os.remove(gone)
+    require(annex.run("git", "annex", "fsck", "-q", "--fast", "--from", "both").status == 1, "a content that one of the two lost isn't found")
 
 
 def case_its_words(room):

@@ -97,3 +97,14 @@ journal_at s cores wires spare n c view within here = subst (λ (x : StoppedValu
 pub journal_past : (s : StoppedValue) (cores : List CoreValue) (wires : List WireValue) (spare n : ℕ) → record { logs = map log_of cores; wires = wires; spare = spare } ≡ s → length cores ≤ n
     → None ≡ slice_get (map (λ (l : LogValue). l.journal) s.logs) n
 journal_past s cores wires spare n view past = subst (λ (x : StoppedValue). None ≡ slice_get (map (λ (l : LogValue). l.journal) x.logs) n) view (no_core cores n past)
+
+-- of a child that was stopped
+pub stopped_kept : (c : ChildValue) (core : CoreValue) (cores more : List CoreValue) (wires wires' : List WireValue) → IsLinked c → more ≡ cores ++ core ∷ [] → core.opening ≡ c.opening → Closes 0 c.ear.child c.journal core.journal
+    → Legal core.opening core.journal → LoneWired core.journal c.ear c.mouth → IsLaid c.ear c.mouth wires wires' → (n n' w w' j k k' kw kw' kj spare : ℕ) → 0 < spare → n' ≡ n + 1 → k' ≡ k → w' ≡ w + 1 → kw' ≡ kw
+    → Keeps cores wires n w j k kw kj spare → Keeps more wires' n' w' j k' kw' kj (spare - 1)
+stopped_kept c core cores more wires wires' linked e opening closes legal wired laid n n' w w' j k k' kw kw' kj spare some len capacity len_wires capacity_wires h =
+    (stopped_sound c core cores more wires wires' linked e opening closes legal wired laid h.0, stopped_wired c core cores more wires wires' linked e opening closes legal wired laid h.1,
+    (let was : n + spare ≤ k = h.2 in omega (arith, was, some, len, capacity)),
+    (let was : w + spare ≤ kw = h.3 in omega (arith, was, some, len_wires, capacity_wires)),
+    (let was : n + spare ≤ kj = h.4 in omega (arith, was, some, len)),
+    h.5)

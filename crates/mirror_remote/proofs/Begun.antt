@@ -213,3 +213,11 @@ asked_more (p ∷ ps) x = (refl, asked_more ps x)
 pub asked_next : (ps : List Plan) (p : Plan) (b : Bool) → AreAskedFor (ps ++ p ∷ []) (starts_of ps ++ (p.program, b) ∷ [])
 asked_next [] p b = (refl, tt)
 asked_next (q ∷ ps) p b = (refl, asked_next ps p b)
+
+-- the program that was asked for is the plan's
+pub adds_of : (a b : Option Starts) (program asked : List ℕ) (gave : Bool) → asked ≡ program → AddsOne a b (asked, gave) → AddsOne a b (program, gave)
+adds_of a b program asked gave e h = subst (λ (p : List ℕ). AddsOne a b (p, gave)) e h
+
+pub may_adds : (a b : Option Starts) (program asked : List ℕ) → asked ≡ program → Stays a b ⊎ ((gave : Bool) × AddsOne a b (asked, gave)) → Stays a b ⊎ ((gave : Bool) × AddsOne a b (program, gave))
+may_adds a b program asked e (inl h) = inl h
+may_adds a b program asked e (inr (gave, h)) = inr (gave, adds_of a b program asked gave e h)

@@ -6,8 +6,10 @@ mod Told
 mod Serving
 mod Stopping
 mod Adding
+mod Lending
 mod Greeting
 mod Begun
+mod InTurn
 mod Preparing
 mod Prepared
 mod Settled

@@ -29,7 +29,7 @@ pub record ChildValue : Type 0 where
 abbrev pub child_value : ℕ → CoreValue → EarValue → MouthValue → ChildValue
 child_value number core ear mouth = record { number = number; opening = core.opening; journal = core.journal; ear = ear; mouth = mouth }
 
--- The journal is legal. It begins with the start of child 1, which is not offered ASYNC; behind it stand its lines and requests alone, all of them the
+-- The journal is legal. It begins with the start of child 1, which is not offered ASYNC; after it stand its lines and requests alone, all of them the
 -- main thread's. The link is wired to it, and no job is open.
 pub record IsLinked (c : ChildValue) : Type 0 where
   pub legal : Legal c.opening c.journal
@@ -97,7 +97,7 @@ abbrev pub IsUnwired : LogValue → Type 0
 IsUnwired l = IsSound l.opening l.journal × (came l.journal ≡ None ∷ [])
 
 -- The child was closed in its journal, where it had not ended, and nothing else was done there. Its halves are closed, and were laid
--- behind the other wires.
+-- after the other wires.
 pub record Stops (c : ChildValue) (old new : StoppedValue) : Type 0 where
   pub log : LogValue
   pub wire : WireValue

@@ -19,7 +19,7 @@ pub(crate) enum Begun<I: Sink, O: Source, S> {
     Ready(Child<I, O, S>),
     /// It isn't ready.
     Unready(Child<I, O, S>),
-    /// It ended for want of memory.
+    /// It ended because memory ran out.
     Starved(Child<I, O, S>),
     /// Its program couldn't be started.
     Unstarted(Core),
