@@ -3,7 +3,7 @@
 #     make install [PREFIX=/usr/local] [DESTDIR=]
 #     make uninstall [PREFIX=/usr/local] [DESTDIR=]
 #
-# A program that was built elsewhere is named by SPECIAL, ANNEX_REMOTE_DIR or ANNEX_REMOTE_PLAIN.
+# A program that was built elsewhere is named by SPECIAL, ANNEX_REMOTE_DIR, ANNEX_REMOTE_PLAIN or ANNEX_REMOTE_MIRROR.
 
 PREFIX ?= /usr/local
 prefix ?= $(PREFIX)
@@ -21,9 +21,10 @@ INSTALL_DATA ?= $(INSTALL) -m 644
 SPECIAL ?= crates/special_bin/out/special_bin
 ANNEX_REMOTE_DIR ?= crates/remote_dir_bin/out/remote_dir_bin
 ANNEX_REMOTE_PLAIN ?= crates/remote_plain_bin/out/remote_plain_bin
+ANNEX_REMOTE_MIRROR ?= crates/remote_mirror_bin/out/remote_mirror_bin
 
-# git-annex starts git-annex-remote-milgroez for a remote with externaltype=milgroez.
-PROGRAMS = special annex-remote-dir git-annex-remote-milgroez annex-remote-plain annex-special
+# git-annex starts git-annex-remote-NAME for a remote with externaltype=NAME.
+PROGRAMS = special annex-remote-dir git-annex-remote-milgroez annex-remote-plain annex-remote-mirror git-annex-remote-mirror annex-special
 PAGES = special.1 annex-remote-dir.1 annex-special.1
 FOLDERS = $(bindir) $(mandir)/man1 $(bashdir) $(zshdir) $(fishdir)
 
@@ -43,6 +44,10 @@ install:
 	ln -sf annex-remote-dir "$(DESTDIR)$(bindir)/git-annex-remote-milgroez"
 	if test -x "$(ANNEX_REMOTE_PLAIN)"; then \
 	  $(INSTALL_PROGRAM) "$(ANNEX_REMOTE_PLAIN)" "$(DESTDIR)$(bindir)/annex-remote-plain"; \
+	fi
+	if test -x "$(ANNEX_REMOTE_MIRROR)"; then \
+	  $(INSTALL_PROGRAM) "$(ANNEX_REMOTE_MIRROR)" "$(DESTDIR)$(bindir)/annex-remote-mirror" && \
+	  ln -sf annex-remote-mirror "$(DESTDIR)$(bindir)/git-annex-remote-mirror"; \
 	fi
 	$(INSTALL_PROGRAM) contrib/annex-special "$(DESTDIR)$(bindir)/annex-special"
 	for page in $(PAGES); do $(INSTALL_DATA) "man/$$page" "$(DESTDIR)$(mandir)/man1" || exit 1; done

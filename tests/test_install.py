@@ -29,8 +29,8 @@ def files(room):
 def case_what_is_installed_is_all_taken_away_again(room):
     need("make")
     plain = room.script("plain", "exit 0\n")
-    expect(make("install", room, f"ANNEX_REMOTE_PLAIN={plain}").status, 0, "an install")
-    programs = ["annex-remote-dir", "annex-remote-plain", "annex-special", "git-annex-remote-milgroez", "special"]
+    expect(make("install", room, f"ANNEX_REMOTE_PLAIN={plain}", f"ANNEX_REMOTE_MIRROR={plain}").status, 0, "an install")
+    programs = ["annex-remote-dir", "annex-remote-mirror", "annex-remote-plain", "annex-special", "git-annex-remote-milgroez", "git-annex-remote-mirror", "special"]
     share = [
         "bash-completion/completions/annex-special",
         "bash-completion/completions/special",
@@ -49,10 +49,12 @@ def case_what_is_installed_is_all_taken_away_again(room):
     expect(files(room), ["usr/bin/other"], "what is left")
 
 
-def case_the_plain_program_is_left_out_where_it_was_not_built(room):
+def case_a_program_that_was_not_built_is_left_out(room):
     need("make")
-    expect(make("install", room, f"ANNEX_REMOTE_PLAIN={room.path('missing')}").status, 0, "an install")
-    require("usr/bin/annex-remote-plain" not in files(room), "it is there")
+    missing = room.path("missing")
+    expect(make("install", room, f"ANNEX_REMOTE_PLAIN={missing}", f"ANNEX_REMOTE_MIRROR={missing}").status, 0, "an install")
+    for name in ("annex-remote-plain", "annex-remote-mirror", "git-annex-remote-mirror"):
+        require(f"usr/bin/{name}" not in files(room), f"{name} is there")
 
 
 def case_an_install_twice_is_an_install(room):

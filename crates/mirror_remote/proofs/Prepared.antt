@@ -1,0 +1,154 @@
+-- What preparing says, by what became of the children.
+use Rattle.std.proofs.Common.{◌≡◌, ◌⊎◌, inl, inr, ◌∙◌, ℕ, suc, ◌≤◌, ◌<◌, List, [], ◌∷◌, ◌++◌, refl, sym, ap, subst, Bool, true, false, Option, Some, None, append-nil, length, arith}
+use Rattle.std.specs.Prelude.{codes, Result, Ok, Err, IfOk}
+use Rattle.ann_key.specs.declared.bytes.NoMemory.{NoMemory}
+use Rattle.ann_outside.specs.Causes.{Rose, Stays}
+use Rattle.ann_outside.specs.Starts.{Starts}
+use Rattle.host_core.specs.CoreValue.{CoreValue}
+use Rattle.child_end.specs.Programs.{AddsAll, ProgramsValue}
+use Rattle.kit_core.specs.declared.call.Said.{Said}
+use Rattle.kit_core.specs.declared.call.Said.TheVariants.{Yes}
+use Rattle.mirror_plan.specs.declared.plan.Plan.{Plan}
+use Rattle.mirror_plan.specs.Settings.{first_bad, plans_in}
+use Rattle.mirror_remote.specs.Children.{log_of, ChildValue, LogValue, StoppedValue, StopsAll}
+use Rattle.mirror_remote.specs.Rule.{failure, mirror_failure}
+use Rattle.mirror_remote.specs.Mirrors.{starts_of, AreAllReady, AreLeftAs, Begins, BeginsTo, Empties, IsCutShort, IsStuck, IsUnreadyAs, IsUnstartedAs, MirrorValue, Prepares, PreparesTo}
+use Rattle.mirror_remote.specs.Beginnings.{BegunUpTo}
+use Rattle.mirror_remote.proofs.Begun.{adds_stays, rose_later, stays_adds, stays_both, stopped_as}
+use Rattle.mirror_remote.proofs.Preparing.{stuck_cut}
+
+rose_on : (a b c : ℕ) → Rose a b → b ≤ c → Rose a c
+rose_on a b c h k = omega (arith, h, k)
+
+stays_refl : {A : Type 0} (a : Option A) → Stays a a
+stays_refl None = tt
+stays_refl (Some x) = refl
+
+-- the program of some plan couldn't be started, and all others were stopped
+pub stuck_up_to : (plans : List Plan) (n : ℕ) (core : CoreValue) (old new : MirrorValue) (mid : ProgramsValue) (cs : List ChildValue) (before after : StoppedValue) → before.logs ≡ [] → new.children ≡ []
+    → StopsAll cs before after → new.logs ≡ after.logs ++ log_of core ∷ [] → Stays mid.starts new.programs.starts → mid.faults ≤ new.programs.faults
+    → BegunUpTo plans n core old.programs mid cs → IsStuck plans n old new
+stuck_up_to plans n core old new mid cs before after fresh none stops logs stays later b =
+    let front = stopped_as b.front cs before after b.stands.greeted stops in
+    record {
+      front = b.front;
+      plan = b.plan;
+      back = b.stands.back;
+      are = b.stands.are;
+      number = b.number;
+      none = none;
+      before = front.0;
+      log = log_of core;
+      logs = logs ∙ ap (λ (l : List LogValue). l ++ log_of core ∷ []) (front.1 ∙ ap (λ (l : List LogValue). l ++ front.0) fresh);
+      stopped = front.2;
+      came = inr (
+        record { opening = b.none.opening; only = b.none.only },
+        rose_on old.programs.faults mid.faults new.programs.faults b.rose later,
+        adds_stays old.programs.starts mid.starts new.programs.starts (starts_of b.front ++ (b.plan.program, false) ∷ []) b.starts stays);
+    }
+
+-- nothing was begun
+pub cut_none : (plans : List Plan) (old new : MirrorValue) → Empties old new → IsCutShort plans old new
+cut_none plans old new e = record {
+  front = [];
+  back = plans;
+  are = refl;
+  none = e.children;
+  left = subst (λ (ls : List LogValue). AreLeftAs [] ls) (sym e.logs) tt;
+  told = [];
+  asked = tt;
+  starts = adds old.programs.starts new.programs.starts e.starts;
+}
+  where
+    adds : (a b : Option Starts) → Stays a b → AddsAll a b []
+    adds None None h = tt
+    adds None (Some ys) h = absurd h
+    adds (Some xs) None h = absurd h
+    adds (Some xs) (Some ys) h = h ∙ sym (append-nil xs)
+
+pub empties_same : (m : MirrorValue) → m.children ≡ [] → m.logs ≡ [] → Empties m m
+empties_same m children logs = record { children = children; logs = logs; starts = stays_refl m.programs.starts; later = omega arith }
+
+-- ---- what is said of it
+
+-- there is no plan
+pub none_begins : (plans : List Plan) (m : MirrorValue) (r : Result Said NoMemory) → length plans ≡ 0 → m.children ≡ [] → m.logs ≡ [] → IfOk r (λ said. said ≡ failure (codes "no mirrors")) → Begins plans m m r
+none_begins [] m (Ok said) none children logs h = (empties_same m children logs, h)
+none_begins [] m (Err e) none children logs h = cut_none [] m m (empties_same m children logs)
+none_begins (p ∷ ps) m r none children logs h = absurd (let bad : suc (length ps) ≡ 0 = none in omega (arith, bad))
+
+pub ready_begins : (plans : List Plan) (old new : MirrorValue) → 0 < length plans → AreAllReady plans old new → Begins plans old new (Ok Yes)
+ready_begins [] old new some a = absurd (omega (arith, some))
+ready_begins (p ∷ ps) old new some a = inl (a, refl)
+
+pub stuck_begins : (plans : List Plan) (n : ℕ) (old new : MirrorValue) (r : Result Said NoMemory) → 0 < length plans → IsStuck plans n old new → IfOk r (λ said. said ≡ mirror_failure n (codes "not ready")) → Begins plans old new r
+stuck_begins [] n old new r some s h = absurd (omega (arith, some))
+stuck_begins (p ∷ ps) n old new (Ok said) some s h = inr (n, s, h)
+stuck_begins (p ∷ ps) n old new (Err e) some s h = stuck_cut (p ∷ ps) n old new s
+
+-- ---- after the children of before were stopped
+
+module _ (plans : List Plan) (old mid new : MirrorValue) (e : Empties old mid) where
+  empties_after : Empties mid new → Empties old new
+  empties_after f = record {
+    children = f.children;
+    logs = f.logs;
+    starts = stays_both old.programs.starts mid.programs.starts new.programs.starts e.starts f.starts;
+    later = let a = e.later in let b = f.later in omega (arith, a, b);
+  }
+
+  ready_after : AreAllReady plans mid new → AreAllReady plans old new
+  ready_after a = record { ready = a.ready; none = a.none; starts = stays_adds old.programs.starts mid.programs.starts new.programs.starts (starts_of plans) e.starts a.starts }
+
+  stuck_after : (n : ℕ) → IsStuck plans n mid new → IsStuck plans n old new
+  stuck_after n s = record {
+    front = s.front;
+    plan = s.plan;
+    back = s.back;
+    are = s.are;
+    number = s.number;
+    none = s.none;
+    before = s.before;
+    log = s.log;
+    logs = s.logs;
+    stopped = s.stopped;
+    came = came s.came;
+  }
+    where
+      came : (IsUnreadyAs s.plan s.log × AddsAll mid.programs.starts new.programs.starts (starts_of (s.front ++ s.plan ∷ [])))
+          ⊎ (IsUnstartedAs s.plan s.log × Rose mid.programs.faults new.programs.faults × AddsAll mid.programs.starts new.programs.starts (starts_of s.front ++ (s.plan.program, false) ∷ []))
+          → (IsUnreadyAs s.plan s.log × AddsAll old.programs.starts new.programs.starts (starts_of (s.front ++ s.plan ∷ [])))
+          ⊎ (IsUnstartedAs s.plan s.log × Rose old.programs.faults new.programs.faults × AddsAll old.programs.starts new.programs.starts (starts_of s.front ++ (s.plan.program, false) ∷ []))
+      came (inl (u, adds)) = inl (u, stays_adds old.programs.starts mid.programs.starts new.programs.starts (starts_of (s.front ++ s.plan ∷ [])) e.starts adds)
+      came (inr (u, rose, adds)) = inr (
+        u,
+        rose_later old.programs.faults mid.programs.faults new.programs.faults e.later rose,
+        stays_adds old.programs.starts mid.programs.starts new.programs.starts (starts_of s.front ++ (s.plan.program, false) ∷ []) e.starts adds)
+
+  cut_after : IsCutShort plans mid new → IsCutShort plans old new
+  cut_after c = record {
+    front = c.front;
+    back = c.back;
+    are = c.are;
+    none = c.none;
+    left = c.left;
+    told = c.told;
+    asked = c.asked;
+    starts = stays_adds old.programs.starts mid.programs.starts new.programs.starts c.told e.starts c.starts;
+  }
+
+begins_after : (plans : List Plan) (old mid new : MirrorValue) (said : Said) → Empties old mid → BeginsTo plans mid new said → BeginsTo plans old new said
+begins_after [] old mid new said e (f, is) = (empties_after [] old mid new e f, is)
+begins_after (p ∷ ps) old mid new said e (inl (a, is)) = inl (ready_after (p ∷ ps) old mid new e a, is)
+begins_after (p ∷ ps) old mid new said e (inr (n, s, is)) = inr (n, stuck_after (p ∷ ps) old mid new e n s, is)
+
+-- no value is bad
+pub prepares_good : (values : List (List ℕ)) (plans : List Plan) (old mid new : MirrorValue) (r : Result Said NoMemory) → Empties old mid → first_bad values ≡ None → plans ≡ plans_in values → Begins plans mid new r → Prepares values old new r
+prepares_good values plans old mid new (Ok said) e good are b =
+    subst (λ (o : Option ℕ). PreparesTo o (plans_in values) old new said) (sym good) (subst (λ (ps : List Plan). BeginsTo ps old new said) are (begins_after plans old mid new said e b))
+prepares_good values plans old mid new (Err x) e good are b = subst (λ (ps : List Plan). IsCutShort ps old new) are (cut_after plans old mid new e b)
+
+-- this value is the first bad one
+pub prepares_bad : (values : List (List ℕ)) (n : ℕ) (old new : MirrorValue) (r : Result Said NoMemory) → Empties old new → first_bad values ≡ Some n → IfOk r (λ said. said ≡ mirror_failure n (codes "bad setting")) → Prepares values old new r
+prepares_bad values n old new (Ok said) e bad h = subst (λ (o : Option ℕ). PreparesTo o (plans_in values) old new said) (sym bad) (e, h)
+prepares_bad values n old new (Err x) e bad h = cut_none (plans_in values) old new e

@@ -1,0 +1,15 @@
+// A mirror: a special remote that keeps each content in up to eight other remotes, whose programs it starts and talks to as a host.
+// https://git-annex.branchable.com/design/external_special_remote_protocol/
+#![tactic(auto)]
+
+mod asking;
+mod beginning;
+mod child;
+mod describing;
+pub mod laws;
+mod mirror;
+mod opening;
+mod saying;
+mod stopped;
+
+pub use mirror::{Ended, MirrorRemote};
