@@ -7,15 +7,16 @@ use Rattle.hall.specs.declared.view.Link.{Link}
 use Rattle.hall.specs.Log.{flat, NotBy, groups_by, Allowed, Legal as LegalLog}
 use Rattle.hall.specs.Passes.{HasAllOf, HasClosed, IsPassOf, seen_of}
 use Rattle.hall.proofs.Logs.{seen-more, legal-after, legal-before, groups_by-append, get-from_all}
-use Rattle.kit_async_core.specs.declared.setup.Setup.{Setup}
-use Rattle.kit_async_core.specs.declared.entry.Entry.{Entry}
-use Rattle.kit_async_core.specs.Events.{IsMadeBy, MayStep}
-use Rattle.kit_async_core.specs.Lines.{KitHall, KitPass, heard_line, heard_lines}
-use Rattle.kit_async_core.specs.Standings.{standing}
-use Rattle.kit_async_core.specs.Legality.{is_legal, Legal, IsFinished}
+use Rattle.kit_async_model.specs.declared.setup.Setup.{Setup}
+use Rattle.kit_async_model.specs.declared.entry.Entry.{Entry}
+use Rattle.kit_async_model.specs.Events.{IsMadeBy, MayStep}
+use Rattle.kit_async_model.specs.Lines.{heard_line, heard_lines}
+use Rattle.kit_async_core.specs.Halls.{KitHall, KitPass}
+use Rattle.kit_async_model.specs.Standings.{standing}
+use Rattle.kit_async_model.specs.Legality.{is_legal, Legal, IsFinished}
 use Rattle.kit_async_core.proofs.KitHalls.{legal_log, halls_stay_legal}
 use Rattle.kit_async_core.proofs.Listening.{none_log}
-use Rattle.kit_async_core.proofs.Overs.{finished_stays}
+use Rattle.kit_async_model.proofs.Overs.{finished_stays}
 
 -- no group of a number
 not_by : (n : ℕ) (ks : List (Link Entry)) → groups_by n ks ≡ [] → NotBy n ks
@@ -26,7 +27,7 @@ not_by n (k ∷ ks) h = go (k.by == n) refl h (not_by n ks)
     go true e h r = absurd cc
     go false e h r = (λ z. (let bad : false ≡ true = sym e ∙ eq-eqb k.by n z in absurd cc), r h)
 
--- the links that stand behind those that the pass has seen, none of which is its own
+-- the links that stand after those that the pass has seen, none of which is its own
 record Behind (log : List (Link Entry)) (p : KitPass) : Type 0 where
   more : List (Link Entry)
   whole : p.links ++ more ≡ log
@@ -45,14 +46,31 @@ final_is h passes final fixed p closed b begins =
     closed.is ∙ ap (λ (l : List (Link Entry)). h.start ++ flat l) (sym b.whole) ∙ seen-more h.start p.links b.more
     ∙ ap (λ (s : List Entry). (s ++ flat p.links) ++ flat b.more) (sym begins)
 
+-- What stands at the end is what the pass has seen, and then what others made.
+pub record Outgrown (h : KitHall) (final : List Entry) (p : KitPass) : Type 0 where
+  pub more : List (Link Entry)
+  pub whole : final ≡ seen_of p ++ flat more
+  pub legal : LegalLog (Allowed IsMadeBy MayStep) h.fixed (seen_of p) more
+  pub others : NotBy p.number more
+
+pub outgrown : (h : KitHall) (passes : List KitPass) (final : List Entry) (fixed : Setup) (i : ℕ) (p : KitPass) → HasClosed IsMadeBy MayStep h passes final fixed
+    → slice_get passes i ≡ Some p → IsPassOf h p → Outgrown h final p
+outgrown h passes final fixed i p closed there ours =
+    let b = behind closed.log p (get-from_all (HasAllOf closed.log) passes closed.each i p there) in
+    let all = subst (λ (l : List (Link Entry)). LegalLog (Allowed IsMadeBy MayStep) h.fixed h.start l) (sym b.whole) closed.legal in
+    record {
+      more = b.more;
+      whole = final_is h passes final fixed p closed b ours.2;
+      legal = subst (λ (s : List Entry). LegalLog (Allowed IsMadeBy MayStep) h.fixed (s ++ flat p.links) b.more) (sym ours.2) (legal-after (Allowed IsMadeBy MayStep) h.fixed h.start p.links b.more all);
+      others = b.others;
+    }
+
 pub final_heard : (h : KitHall) (passes : List KitPass) (final : List Entry) (fixed : Setup) (i : ℕ) (p : KitPass) → HasClosed IsMadeBy MayStep h passes final fixed
     → slice_get passes i ≡ Some p → IsPassOf h p → p.number ≡ 1 → heard_lines final ≡ heard_lines (seen_of p)
 final_heard h passes final fixed i p closed there ours one =
-    let b = behind closed.log p (get-from_all (HasAllOf closed.log) passes closed.each i p there) in
-    let grown = legal-after (Allowed IsMadeBy MayStep) h.fixed h.start p.links b.more
-    (subst (λ (l : List (Link Entry)). LegalLog (Allowed IsMadeBy MayStep) h.fixed h.start l) (sym b.whole) closed.legal) in
-    let none : heard_lines (flat b.more) ≡ [] = none_log h.fixed (h.start ++ flat p.links) b.more grown (subst (λ (n : ℕ). NotBy n b.more) one b.others) in
-    ap heard_lines (final_is h passes final fixed p closed b ours.2) ∙ filter_map-append heard_line (seen_of p) (flat b.more)
+    let o = outgrown h passes final fixed i p closed there ours in
+    let none : heard_lines (flat o.more) ≡ [] = none_log h.fixed (seen_of p) o.more o.legal (subst (λ (n : ℕ). NotBy n o.more) one o.others) in
+    ap heard_lines o.whole ∙ filter_map-append heard_line (seen_of p) (flat o.more)
     ∙ ap (λ (xs : List (List ℕ)). heard_lines (seen_of p) ++ xs) none ∙ append-nil (heard_lines (seen_of p))
 
 -- what a pass has seen to be finished is finished in the end
