@@ -14,6 +14,7 @@ use host_core::Core;
 use journal_desk::{JournalWritten, write_journal};
 use journal_model::Answer;
 use keep_desk::{KeptWritten, write_kept};
+use run_answers::answers_of;
 use std::alloc::Global;
 
 /// The answers of a run, and how it ended.

@@ -3,6 +3,7 @@ ghost use Rattle.std.specs.Prelude.{◌≡◌, ◌≤◌, ℕ, List, [], Option,
 ghost use Rattle.ann_key.specs.KeyRefs.{text_of};
 ghost use Rattle.annex_model.specs.Lines.{has_newline};
 ghost use Rattle.cli_words.specs.Refusals.{reason_refused};
+ghost use Rattle.journal_model.specs.Beginnings.{MayBegin};
 ghost use Rattle.child_end.specs.Programs.{Leaves, programs_value};
 ghost use Rattle.child_end.specs.Wires.{wire_value};
 ghost use Rattle.lone_work.specs.Works.{AreTasks, DeskTells};
@@ -68,10 +69,12 @@ fn begin(alloc: Global, key: KeyRef<'_>, stamp: u64) -> Result<(Core, Tasks), No
     ensures opening { IfOk result (λ b. b.0.opening ≡ check_opening (text_of key.entry) stamp) }
     ensures empty { IfOk result (λ b. b.0.journal ≡ []) }
     ensures tasks { IfOk result (λ b. b.1 ≡ b.0.opening.tasks) }
+    ensures may { IfOk result (λ b. MayBegin b.0.opening) }
 {
     let opening = check_opening(alloc, key, stamp)?;
     let tasks = opening.tasks.copy(alloc)?;
-    Ok((Core::new(alloc, opening)?, tasks))
+    let core = Core::new(alloc, opening)?;
+    Ok((core, tasks))
 }
 
 // How a check is to be run.
@@ -94,7 +97,8 @@ fn plan_of(alloc: Global, program: &str, stamp: u64) -> Result<Plan, NoMemory>
 // The core of a check, its task, and how it is to be run.
 fn prepare(alloc: Global, program: &str, key: KeyRef<'_>, stamp: u64) -> Result<Ready, NoMemory>
     requires fit { reason_refused (text_of key) ≡ None }
-    ensures { IfOk result (IsPrepared program.now (text_of key.entry) stamp) }
+    ensures prepared { IfOk result (IsPrepared program.now (text_of key.entry) stamp) }
+    ensures may { IfOk result (λ r. MayBegin r.core.opening) }
 {
     let plan = plan_of(alloc, program, stamp)?;
     let (core, tasks) = begin(alloc, key, stamp)?;
@@ -154,6 +158,7 @@ where
     P::Outlet: Drop,
     K::Desk: Drop,
     requires ready { (program : List ℕ) × (key : List ℕ) × (stamp : ℕ) × IsPrepared program key stamp ready }
+    requires may { MayBegin ready.core.opening }
     requires room { 1 ≤ vec_capacity wires }
     requires none { wires.items ≡ [] }
     ensures { (clock : Option ℕ) (program key : List ℕ) (stamp : ℕ) → IfSome clock (λ n. stamp ≡ n) → IsPrepared program key stamp ready → HasChecked clock program key outside result }

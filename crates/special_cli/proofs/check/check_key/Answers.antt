@@ -9,7 +9,7 @@ pub returns-in-Err : goal.returns-in-Err
 returns-in-Err g c = nothing_checked (g.C.Clock.answer c.args.clock.now) c.args.program.now (text_of c.args.key) c.args.outside c.nothing-in-Err.result c.nothing-in-Err.ensures.end c.nothing-in-Err.ensures.idle
 
 pub check_ready-requires-clause-ready : goal.check_ready-requires-clause-ready
-check_ready-requires-clause-ready g c = (c.args.program.now, text_of c.args.key, c.now-stamp.result, c.in-Ok.ensures)
+check_ready-requires-clause-ready g c = λ κs lives. (c.args.program.now, text_of c.args.key, c.now-stamp.result, c.in-Ok-prepare.ensures.prepared)
 
-pub returns-in-Ok : goal.returns-in-Ok
-returns-in-Ok g c = c.check_ready.ensures (g.C.Clock.answer c.args.clock.now) c.args.program.now (text_of c.args.key) c.now-stamp.result c.now-stamp.ensures.told c.in-Ok.ensures
+pub returns-in-Ok-prepare : goal.returns-in-Ok-prepare
+returns-in-Ok-prepare g c = c.check_ready.ensures (g.C.Clock.answer c.args.clock.now) c.args.program.now (text_of c.args.key) c.now-stamp.result c.now-stamp.ensures.told c.in-Ok-prepare.ensures.prepared

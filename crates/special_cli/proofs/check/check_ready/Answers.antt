@@ -1,7 +1,14 @@
-use Rattle.std.proofs.Common.{map, ap, sym}
+use Rattle.std.proofs.Common.{◌∙◌, map, ap, sym, subst}
+use Rattle.lone_work.specs.Works.{AreTasks}
+use Rattle.run_tasks.proofs.Begun.{all_tasks}
 use Rattle.child_end.specs.Outsides.{OutsideValue}
 use Rattle.special_cli.proofs.Checked.{has_checked}
 use Rattle.special_cli.proofs.check.check_ready.Goals as goal
+
+pub do_task-answered-requires-clause-tasks : goal.do_task-answered-requires-clause-tasks
+do_task-answered-requires-clause-tasks g c = λ κs lives.
+    let same = c.view-tasks.ensures ∙ c.requires.ready.3.tasks in
+    (sym same, subst AreTasks (sym same) (all_tasks c.args.ready.core.opening.tasks c.requires.may.tasks))
 
 pub returns : goal.returns
 returns g c clock program key stamp at is =
