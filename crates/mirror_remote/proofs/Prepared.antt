@@ -44,7 +44,8 @@ stuck_up_to plans n core old new mid cs before after fresh none stops logs stays
       came = inr (
         record { opening = b.none.opening; only = b.none.only },
         rose_on old.programs.faults mid.faults new.programs.faults b.rose later,
-        adds_stays old.programs.starts mid.starts new.programs.starts (starts_of b.front ++ (b.plan.program, false) ∷ []) b.starts stays);
+        adds_stays old.programs.starts mid.starts new.programs.starts (starts_of b.front ++ (b.plan.program, false) ∷ []) b.starts stays,
+      );
     }
 
 -- nothing was begun
@@ -123,7 +124,8 @@ module _ (plans : List Plan) (old mid new : MirrorValue) (e : Empties old mid) w
       came (inr (u, rose, adds)) = inr (
         u,
         rose_later old.programs.faults mid.programs.faults new.programs.faults e.later rose,
-        stays_adds old.programs.starts mid.programs.starts new.programs.starts (starts_of s.front ++ (s.plan.program, false) ∷ []) e.starts adds)
+        stays_adds old.programs.starts mid.programs.starts new.programs.starts (starts_of s.front ++ (s.plan.program, false) ∷ []) e.starts adds,
+      )
 
   cut_after : IsCutShort plans mid new → IsCutShort plans old new
   cut_after c = record {
