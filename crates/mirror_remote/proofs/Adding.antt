@@ -76,12 +76,14 @@ Keeps cores wires n w j k kw kj spare =
 
 pub unstarted_kept : (cores more : List CoreValue) (core : CoreValue) (wires : List WireValue) (n n' w j k k' kw kj spare : ℕ) → more ≡ cores ++ core ∷ [] → IsUnwired (log_of core)
     → 0 < spare → n' ≡ n + 1 → k' ≡ k → Keeps cores wires n w j k kw kj spare → Keeps more wires n' w j k' kw kj (spare - 1)
-unstarted_kept cores more core wires n n' w j k k' kw kj spare e u some len capacity h =
-    (unstarted_sound cores more core e u h.0, unstarted_wired cores more core e u wires h.1,
-    (let was : n + spare ≤ k = h.2 in omega (arith, was, some, len, capacity)),
-    (let was : w + spare ≤ kw = h.3 in omega (arith, was)),
-    (let was : n + spare ≤ kj = h.4 in omega (arith, was, some, len)),
-    h.5)
+unstarted_kept cores more core wires n n' w j k k' kw kj spare e u some len capacity h = (
+  unstarted_sound cores more core e u h.0,
+  unstarted_wired cores more core e u wires h.1,
+  (let was : n + spare ≤ k = h.2 in omega (arith, was, some, len, capacity)),
+  (let was : w + spare ≤ kw = h.3 in omega (arith, was)),
+  (let was : n + spare ≤ kj = h.4 in omega (arith, was, some, len)),
+  h.5,
+)
 
 -- there were no journals, so they are those of the cores
 pub finished_journals : {J : Type 0} (f : J → List Entry) (js : List J) (cores : List CoreValue) (new : List (List Entry)) (wires : List WireValue) (n w j k kw kj spare : ℕ)
@@ -102,9 +104,11 @@ journal_past s cores wires spare n view past = subst (λ (x : StoppedValue). Non
 pub stopped_kept : (c : ChildValue) (core : CoreValue) (cores more : List CoreValue) (wires wires' : List WireValue) → IsLinked c → more ≡ cores ++ core ∷ [] → core.opening ≡ c.opening → Closes 0 c.ear.child c.journal core.journal
     → Legal core.opening core.journal → LoneWired core.journal c.ear c.mouth → IsLaid c.ear c.mouth wires wires' → (n n' w w' j k k' kw kw' kj spare : ℕ) → 0 < spare → n' ≡ n + 1 → k' ≡ k → w' ≡ w + 1 → kw' ≡ kw
     → Keeps cores wires n w j k kw kj spare → Keeps more wires' n' w' j k' kw' kj (spare - 1)
-stopped_kept c core cores more wires wires' linked e opening closes legal wired laid n n' w w' j k k' kw kw' kj spare some len capacity len_wires capacity_wires h =
-    (stopped_sound c core cores more wires wires' linked e opening closes legal wired laid h.0, stopped_wired c core cores more wires wires' linked e opening closes legal wired laid h.1,
-    (let was : n + spare ≤ k = h.2 in omega (arith, was, some, len, capacity)),
-    (let was : w + spare ≤ kw = h.3 in omega (arith, was, some, len_wires, capacity_wires)),
-    (let was : n + spare ≤ kj = h.4 in omega (arith, was, some, len)),
-    h.5)
+stopped_kept c core cores more wires wires' linked e opening closes legal wired laid n n' w w' j k k' kw kw' kj spare some len capacity len_wires capacity_wires h = (
+  stopped_sound c core cores more wires wires' linked e opening closes legal wired laid h.0,
+  stopped_wired c core cores more wires wires' linked e opening closes legal wired laid h.1,
+  (let was : n + spare ≤ k = h.2 in omega (arith, was, some, len, capacity)),
+  (let was : w + spare ≤ kw = h.3 in omega (arith, was, some, len_wires, capacity_wires)),
+  (let was : n + spare ≤ kj = h.4 in omega (arith, was, some, len)),
+  h.5,
+)

@@ -18,8 +18,8 @@ loop-plan-preserved g c =
     let b = c.in-Ready.ensures.begins in
     record {
       begun = one_begun c.args.plans.now c.loop-plan.plan-index c.plan-item.result c.loop-plan.children.items
-    (programs_value (g.P.Programs.starts c.args.programs.now) (g.P.Programs.faults c.args.programs.now)) (programs_value (g.P.Programs.starts c.loop-plan.programs) (g.P.Programs.faults c.loop-plan.programs)) (programs_value (g.P.Programs.starts c.begin.new.programs) (g.P.Programs.faults c.begin.new.programs))
-    a.begun (omega arith) c.plan-item.is c.in-Ready.child c.push_reserved.new.self.items c.push_reserved.ensures.items b.0 b.1 b.2 b.3;
+          (programs_value (g.P.Programs.starts c.args.programs.now) (g.P.Programs.faults c.args.programs.now)) (programs_value (g.P.Programs.starts c.loop-plan.programs) (g.P.Programs.faults c.loop-plan.programs)) (programs_value (g.P.Programs.starts c.begin.new.programs) (g.P.Programs.faults c.begin.new.programs))
+          a.begun (omega arith) c.plan-item.is c.in-Ready.child c.push_reserved.new.self.items c.push_reserved.ensures.items b.0 b.1 b.2 b.3;
       later = (let was = a.later in let now = c.in-Ready.ensures.later in omega (arith, was, now));
       many = (let was = a.many in let len = c.push_reserved.ensures.len in omega (arith, was, len));
       room = c.push_reserved.ensures.capacity ∙ a.room;
