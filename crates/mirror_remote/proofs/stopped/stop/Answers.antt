@@ -1,4 +1,4 @@
-use Rattle.std.proofs.Common.{◌<◌, ◌-◌, ◌+◌, ◌≡◌, sym, subst, map, vec_capacity, vec_len, arith}
+use Rattle.std.proofs.Common.{◌<◌, ◌-◌, sym, subst, map, vec_capacity, vec_len, arith}
 use Rattle.child_end.specs.Wires.{wire_value}
 use Rattle.mirror_remote.specs.Children.{ChildValue, IsLinked, StoppedValue, Stops, child_value, log_of}
 use Rattle.mirror_remote.proofs.Adding.{stopped_kept, stops}

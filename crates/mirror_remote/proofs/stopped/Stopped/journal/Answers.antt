@@ -1,4 +1,4 @@
-use Rattle.std.proofs.Common.{◌≡◌, ◌∙◌, ◌<◌, ◌≤◌, Some, List, ap, length, map, arith}
+use Rattle.std.proofs.Common.{◌∙◌, ◌<◌, ◌≤◌, Some, List, ap, length, map, arith}
 use Rattle.journal_model.specs.declared.entry.Entry.{Entry}
 use Rattle.child_end.specs.Wires.{wire_value}
 use Rattle.mirror_remote.proofs.Adding.{journal_at, journal_past}
