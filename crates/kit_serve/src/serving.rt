@@ -61,8 +61,8 @@ fn hear<V: Voice, W: Mouth>(voice: &mut V, sink: &mut W, line: &[u8]) -> Result<
     }
 }
 
-// One read. Room is taken before it for all that it may give, so that no byte is lost.
-fn fill<S: Ear>(splitter: &mut Splitter, source: &mut S) -> Result<(), End>
+/// One read. Room is taken before it for all that it may give, so that no byte is lost.
+pub fn fill<S: Ear>(splitter: &mut Splitter, source: &mut S) -> Result<(), End>
     requires { S.is_open source.old ≡ true }
     ensures reads { ReadsOn (S.given source.old) (S.given source.new) splitter.old.bytes splitter.new.bytes result }
     ensures once { ReadsOnce (S.rooms source.old) (S.rooms source.new) }

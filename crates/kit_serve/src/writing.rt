@@ -7,8 +7,8 @@ use crate::streams::Mouth;
 use ann_outside::{Failed, Sink, write_all};
 use kit_core::Lines;
 
-// Writes the line and its byte 10. After `Failed` the sink has taken the first bytes of them.
-fn write_line<W: Sink>(sink: &mut W, line: &[u8]) -> Result<(), Failed>
+/// Writes the line and its byte 10. After `Failed` the sink has taken the first bytes of them.
+pub fn write_line<W: Sink>(sink: &mut W, line: &[u8]) -> Result<(), Failed>
     requires { W.is_open sink.old ≡ true }
     ensures ok { OnOk result (Appends (W.taken sink.old) (W.taken sink.new) (line.now ++ 10 ∷ [])) }
     ensures prefix { (n : ℕ) × Appends (W.taken sink.old) (W.taken sink.new) (take n (line.now ++ 10 ∷ [])) }

@@ -1,0 +1,107 @@
+use ann_key::{Bytes, NoMemory};
+use kit_async_core::{Event, KitCore, READER, Reply, Setup, WRITER};
+use kit_core::{Asked, Said, Values};
+use std::alloc::Global;
+use std::test::Fail;
+
+// Two remotes with one setting.
+fn begun(alloc: Global) -> Result<KitCore, NoMemory> {
+    let mut settings = Vec::new(alloc);
+    settings.push(Bytes::copy(alloc, b"directory")?)?;
+    let settings = Values::new(settings);
+    KitCore::new(
+        alloc,
+        Setup {
+            settings,
+            remotes: 2,
+        },
+    )
+}
+
+fn hear(alloc: Global, core: &mut KitCore, line: &[u8]) -> Result<Reply, NoMemory> {
+    core.step(READER, Event::Hear(Bytes::copy(alloc, line)?))
+}
+
+// Writes all that was said, each line with its byte 10.
+fn write_all(core: &mut KitCore, out: &mut Vec<u8>) -> Result<(), NoMemory> {
+    for _ in 0..100 {
+        let Reply::Line(line) = core.step(WRITER, Event::Next)? else {
+            return Ok(());
+        };
+        out.extend_from_slice(line.view())?;
+        out.push(b'\n')?;
+        core.step(WRITER, Event::Wrote)?;
+    }
+    Ok(())
+}
+
+// A host that tags its lines, and both remotes ready.
+fn ready(alloc: Global) -> Result<KitCore, NoMemory> {
+    let mut core = begun(alloc)?;
+    hear(alloc, &mut core, b"EXTENSIONS INFO ASYNC")?;
+    hear(alloc, &mut core, b"J 1 PREPARE")?;
+    hear(alloc, &mut core, b"J 1 VALUE d")?;
+    core.step(3, Event::Called(Said::Yes))?;
+    core.step(4, Event::Called(Said::Yes))?;
+    Ok(core)
+}
+
+#[test]
+fn two_checks_cross(rt: HostRuntime) -> Result<(), Fail> {
+    let alloc = rt.alloc();
+    let mut core = ready(alloc)?;
+    hear(alloc, &mut core, b"J 2 CHECKPRESENT WORM--a")?;
+    hear(alloc, &mut core, b"J 3 CHECKPRESENT WORM--b")?;
+    for by in 3..5u32 {
+        let reply = core.step(by, Event::Take)?;
+        assert!(rt; matches!(reply, Reply::Work(Asked::Check(_))));
+    }
+    core.step(4, Event::Called(Said::Yes))?;
+    core.step(3, Event::Called(Said::No))?;
+    let mut out = Vec::new(alloc);
+    write_all(&mut core, &mut out)?;
+    assert_eq!(rt;
+        out.as_slice(),
+        b"VERSION 1\nEXTENSIONS ASYNC\nJ 1 GETCONFIG directory\nJ 1 PREPARE-SUCCESS\n\
+          J 3 CHECKPRESENT-SUCCESS WORM--b\nJ 2 CHECKPRESENT-FAILURE WORM--a\n"
+            .as_slice()
+    );
+    core.step(READER, Event::Close)?;
+    let reply = core.step(WRITER, Event::Next)?;
+    assert!(rt; matches!(reply, Reply::Over));
+    Ok(())
+}
+
+#[test]
+fn requests_on_one_key_wait_for_each_other(rt: HostRuntime) -> Result<(), Fail> {
+    let alloc = rt.alloc();
+    let mut core = ready(alloc)?;
+    hear(alloc, &mut core, b"J 2 CHECKPRESENT WORM--a")?;
+    hear(alloc, &mut core, b"J 3 REMOVE WORM--a")?;
+    let reply = core.step(4, Event::Take)?;
+    assert!(rt; matches!(reply, Reply::Work(Asked::Check(_))));
+    let reply = core.step(3, Event::Take)?;
+    assert!(rt; matches!(reply, Reply::Wait));
+    core.step(4, Event::Called(Said::Yes))?;
+    let reply = core.step(3, Event::Take)?;
+    assert!(rt; matches!(reply, Reply::Work(Asked::Remove(_))));
+    Ok(())
+}
+
+#[test]
+fn nothing_follows_what_is_unexpected(rt: HostRuntime) -> Result<(), Fail> {
+    let alloc = rt.alloc();
+    let mut core = begun(alloc)?;
+    hear(alloc, &mut core, b"EXTENSIONS ASYNC")?;
+    let reply = hear(alloc, &mut core, b"J 5 VALUE x")?;
+    assert!(rt; matches!(reply, Reply::Last));
+    let reply = hear(alloc, &mut core, b"J 6 PREPARE")?;
+    assert!(rt; matches!(reply, Reply::Over));
+    let mut out = Vec::new(alloc);
+    write_all(&mut core, &mut out)?;
+    assert_eq!(rt;
+        out.as_slice(),
+        b"VERSION 1\nEXTENSIONS ASYNC\nERROR unexpected message\n".as_slice()
+    );
+    Ok(())
+}

@@ -1,0 +1,4 @@
+pub mod Groups
+pub mod Readers
+pub mod Workers
+pub mod Writers

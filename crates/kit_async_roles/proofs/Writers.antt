@@ -1,0 +1,318 @@
+-- One turn of a writer, and many.
+use Rattle.std.proofs.Common.{◌≡◌, ◌≢◌, ◌⊎◌, inl, inr, ℕ, zero, suc, ◌+◌, ◌<◌, ◌≤◌, List, [], ◌∷◌, ◌++◌, refl, sym, ap, subst, ◌∙◌, append_assoc, append-nil, length, take, drop, Bool, true, false, Some, None, Option, slice_get, arith}
+use Rattle.std.specs.Prelude.{All}
+use Rattle.std.specs.Io.KnownBytes.{Appends}
+use Rattle.std.proofs.lemmas.List.{take-append-le}
+use Rattle.std.proofs.lemmas.List.Elements.{filter_map-append, All-head, All-tail}
+use Rattle.ann_outside.specs.Causes.{StaysUntold}
+use Rattle.ann_outside.proofs.Telling.{appends_both}
+use Rattle.annex_model.specs.Lines.{text}
+use Rattle.hall.specs.declared.view.Link.{Link}
+use Rattle.hall.specs.Log.{flat, NotBy, Allowed, Legal as LegalLog}
+use Rattle.hall.specs.Passes.{seen_of}
+use Rattle.kit_serve.specs.Turns.{Half, Leaves}
+use Rattle.kit_serve.proofs.Talks.{leaves_both}
+use Rattle.kit_serve.proofs.Texts.{text-append}
+use Rattle.kit_async_core.specs.declared.setup.Setup.{Setup}
+use Rattle.kit_async_core.specs.declared.entry.Entry.{Entry}
+use Rattle.kit_async_core.specs.declared.entry.Entry.TheVariants.{Heard, Take, Call, Say, Wrote, Close, Lack}
+use Rattle.kit_async_core.specs.declared.event.Event.{Event}
+use Rattle.kit_async_core.specs.declared.event.Event.TheVariants.{Next, Wrote as Written, Break}
+use Rattle.kit_async_core.specs.declared.event.Reply.{Reply}
+use Rattle.kit_async_core.specs.declared.event.Reply.TheVariants.{Done, Last, Wait, Over, Odd, Unsaid, Broken, Work, Line}
+use Rattle.kit_async_core.specs.Events.{IsMadeBy, MayStep, IsStepped, IsBrokenOff, IsUnsaid, is_call, can_break, waiting, next_reply, wrote_step, step_of}
+use Rattle.kit_async_core.specs.Legality.{Legal, is_legal, is_done}
+use Rattle.kit_async_core.specs.Lines.{KitHall, KitPass, count_wrotes, is_wrote, said_line, said_lines}
+use Rattle.kit_async_core.specs.Standings.{standing}
+use Rattle.kit_async_core.proofs.Unwritten.{unwritten_are}
+use Rattle.kit_async_roles.specs.declared.why.Why.{Why}
+use Rattle.kit_async_roles.specs.declared.why.Why.TheVariants.{WriteFault, Memory, Eof, ReadFault, Long}
+use Rattle.kit_async_roles.specs.Passes.{Stands, Enters}
+use Rattle.kit_async_roles.specs.Writing.{MouthValue, written_lines, IsNextLine, IsFaltered, IsWritten, Writes, WriterRan}
+use Rattle.kit_async_roles.proofs.Groups.{before_own, stands_on}
+
+-- ---- counts
+
+count-append : (xs ys : List Entry) → count_wrotes (xs ++ ys) ≡ count_wrotes xs + count_wrotes ys
+count-append [] ys = refl
+count-append (e ∷ xs) ys = go (is_wrote e) refl (count-append xs ys)
+  where
+    go : (b : Bool) → is_wrote e ≡ b → count_wrotes (xs ++ ys) ≡ count_wrotes xs + count_wrotes ys → count_wrotes (e ∷ xs ++ ys) ≡ count_wrotes (e ∷ xs) + count_wrotes ys
+    go true k more = rw (k, more) (omega arith)
+    go false k more = rw (k, more) refl
+
+-- ---- of others
+
+unwrote : (by : ℕ) → by ≢ 2 → (e : Entry) → IsMadeBy by e → is_wrote e ≡ false
+unwrote by other (Heard line) made = refl
+unwrote by other (Take job remote) made = refl
+unwrote by other (Call job remote said) made = refl
+unwrote by other (Say job line) made = refl
+unwrote by other Wrote made = absurd (other made)
+unwrote by other Close made = refl
+unwrote by other Lack made = refl
+
+none_group : (by : ℕ) → by ≢ 2 → (group : List Entry) → All (IsMadeBy by) group → count_wrotes group ≡ 0
+none_group by other [] made = refl
+none_group by other (e ∷ group) made =
+    rw (unwrote by other e (All-head (IsMadeBy by) e group made)) (none_group by other group (All-tail (IsMadeBy by) e group made))
+
+pub none_log : (setup : Setup) (past : List Entry) (ks : List (Link Entry)) → LegalLog (Allowed IsMadeBy MayStep) setup past ks → NotBy 2 ks → count_wrotes (flat ks) ≡ 0
+none_log setup past [] h n = refl
+none_log setup past (k ∷ ks) h n =
+    count-append k.group (flat ks)
+    ∙ (rw (none_group k.by n.0 k.group h.0.2.0, none_log setup (past ++ k.group) ks h.1 n.1) refl)
+
+-- ---- lists
+
+taken_front : (k : ℕ) (xs ys : List (List ℕ)) → k ≤ length xs → take (k + 0) (xs ++ ys) ≡ take k xs
+taken_front k xs ys few = let same : k + 0 ≡ k = omega arith in rw same (take-append-le k xs ys few)
+
+get_front : (k : ℕ) (xs ys : List (List ℕ)) (x : List ℕ) → slice_get xs k ≡ Some x → slice_get (xs ++ ys) k ≡ Some x
+get_front k [] ys x g = cc
+get_front zero (z ∷ xs) ys x g = g
+get_front (suc k) (z ∷ xs) ys x g = get_front k xs ys x g
+
+get_dropped : (k : ℕ) (xs more : List (List ℕ)) (x : List ℕ) → x ∷ more ≡ drop k xs → slice_get xs k ≡ Some x
+get_dropped zero [] more x e = cc
+get_dropped zero (z ∷ xs) more x e = cc
+get_dropped (suc k) [] more x e = cc
+get_dropped (suc k) (z ∷ xs) more x e = get_dropped k xs more x e
+
+dropped_some : (k : ℕ) (xs : List (List ℕ)) (x : List ℕ) → slice_get xs k ≡ Some x → (more : List (List ℕ)) × (drop k xs ≡ x ∷ more)
+dropped_some k [] x g = cc
+dropped_some zero (z ∷ xs) x g = (xs, cc)
+dropped_some (suc k) (z ∷ xs) x g = dropped_some k xs x g
+
+take_one_more : (k : ℕ) (xs ys : List (List ℕ)) (x : List ℕ) → slice_get xs k ≡ Some x → take (k + 1) (xs ++ ys) ≡ take k xs ++ x ∷ []
+take_one_more k [] ys x g = cc
+take_one_more zero (z ∷ xs) ys x g = cc
+take_one_more (suc k) (z ∷ xs) ys x g = ap (λ (ls : List (List ℕ)). z ∷ ls) (take_one_more k xs ys x g)
+
+-- ---- journals
+
+said-append : (xs ys : List Entry) → said_lines (xs ++ ys) ≡ said_lines xs ++ said_lines ys
+said-append xs ys = filter_map-append said_line xs ys
+
+same_count : (past rest : List Entry) → count_wrotes rest ≡ 0 → count_wrotes (past ++ rest) ≡ count_wrotes past + 0
+same_count past rest none = count-append past rest ∙ ap (λ (n : ℕ). count_wrotes past + n) none
+
+-- where nobody wrote, the same lines are written
+pub written_stays : (setup : Setup) (past rest : List Entry) → is_legal setup past ≡ true → count_wrotes rest ≡ 0 → written_lines (past ++ rest) ≡ written_lines past
+written_stays setup past rest legal none =
+    ap (λ (n : ℕ). take n (said_lines (past ++ rest))) (same_count past rest none)
+    ∙ ap (λ (ls : List (List ℕ)). take (count_wrotes past + 0) ls) (said-append past rest)
+    ∙ taken_front (count_wrotes past) (said_lines past) (said_lines rest) (unwritten_are setup past legal).1
+
+-- and the same line is the next
+pub next_stays : (past rest : List Entry) (line : List ℕ) → count_wrotes rest ≡ 0 → IsNextLine past line → IsNextLine (past ++ rest) line
+next_stays past rest line none next =
+    let zero_more : count_wrotes past + 0 ≡ count_wrotes past = omega arith in
+    ap (λ (n : ℕ). slice_get (said_lines (past ++ rest)) n) (same_count past rest none ∙ zero_more)
+    ∙ ap (λ (ls : List (List ℕ)). slice_get ls (count_wrotes past)) (said-append past rest)
+    ∙ get_front (count_wrotes past) (said_lines past) (said_lines rest) line next
+
+-- the next line is written
+wrote_one : (past : List Entry) (line : List ℕ) → IsNextLine past line → written_lines (past ++ Wrote ∷ []) ≡ written_lines past ++ line ∷ []
+wrote_one past line next =
+    ap (λ (n : ℕ). take n (said_lines (past ++ Wrote ∷ []))) (count-append past (Wrote ∷ []))
+    ∙ ap (λ (ls : List (List ℕ)). take (count_wrotes past + 1) ls) (said-append past (Wrote ∷ []))
+    ∙ take_one_more (count_wrotes past) (said_lines past) [] line next
+
+-- ---- the steps
+
+-- of any event in which it writes nothing
+pub wrote_nothing : (h : KitHall) (p q : KitPass) (event : Event) (reply : Reply) → Stands h 2 p → (e : Enters h p q event reply) → count_wrotes e.group ≡ 0
+    → written_lines (seen_of q) ≡ written_lines (seen_of p)
+wrote_nothing h p q event reply s e none =
+    let others = subst (λ (n : ℕ). NotBy n e.between) s.number_is e.others in
+    let between : count_wrotes (flat e.between) ≡ 0 = none_log h.fixed (seen_of p) e.between e.between_legal others in
+    ap written_lines e.seen
+    ∙ written_stays h.fixed (seen_of p ++ flat e.between) e.group (before_own h p q event reply s.legal e).follow none
+    ∙ written_stays h.fixed (seen_of p) (flat e.between) s.legal.follow between
+
+own_step : (h : KitHall) (p q : KitPass) (event : Event) (reply : Reply) → Stands h 2 p → (e : Enters h p q event reply)
+    → MayStep h.fixed (seen_of p ++ flat e.between) 2 event e.group reply
+own_step h p q event reply s e = subst (λ (n : ℕ). MayStep h.fixed (seen_of p ++ flat e.between) n event e.group reply) s.number_is e.own.1
+
+-- it breaks the kit off
+break_group : (h : KitHall) (p q : KitPass) (reply : Reply) → Stands h 2 p → (e : Enters h p q Break reply) → e.group ≡ []
+break_group h p q reply s e = go (own_step h p q Break reply s e).step
+  where
+    go : IsStepped (step_of h.fixed (seen_of p ++ flat e.between) 2 Break) e.group reply
+        ⊎ (IsBrokenOff Break e.group reply ⊎ ((is_call Break ≡ true) × IsUnsaid (step_of h.fixed (seen_of p ++ flat e.between) 2 Break) e.group reply)) → e.group ≡ []
+    go (inl k) = k.group_is
+    go (inr (inl b)) = b.group_is
+    go (inr (inr u)) = let bad : false ≡ true = u.0 in absurd cc
+
+pub broke : (h : KitHall) (p q : KitPass) → Stands h 2 p → ((reply : Reply) × Enters h p q Break reply) → written_lines (seen_of q) ≡ written_lines (seen_of p)
+broke h p q s e = wrote_nothing h p q Break e.0 s e.1 (ap count_wrotes (break_group h p q e.0 s e.1))
+
+-- and the next line stays the next
+pub broke_next : (h : KitHall) (p q : KitPass) (line : List ℕ) → Stands h 2 p → ((reply : Reply) × Enters h p q Break reply) → IsNextLine (seen_of p) line → IsNextLine (seen_of q) line
+broke_next h p q line s e next =
+    let k = e.1 in
+    let others : count_wrotes (flat k.between) ≡ 0 = none_log h.fixed (seen_of p) k.between k.between_legal (subst (λ (n : ℕ). NotBy n k.between) s.number_is k.others) in
+    let past : List Entry = seen_of p ++ flat k.between in
+    let same : seen_of q ≡ past = k.seen ∙ ap (λ (g : List Entry). past ++ g) (break_group h p q e.0 s k) ∙ append-nil past in
+    subst (λ (j : List Entry). IsNextLine j line) (sym same) (next_stays (seen_of p) (flat k.between) line others next)
+
+-- it asks for the next line
+next_group : (h : KitHall) (p q : KitPass) (reply : Reply) → Stands h 2 p → (e : Enters h p q Next reply) → e.group ≡ []
+next_group h p q reply s e = go (own_step h p q Next reply s e).step
+  where
+    go : IsStepped (step_of h.fixed (seen_of p ++ flat e.between) 2 Next) e.group reply
+        ⊎ (IsBrokenOff Next e.group reply ⊎ ((is_call Next ≡ true) × IsUnsaid (step_of h.fixed (seen_of p ++ flat e.between) 2 Next) e.group reply)) → e.group ≡ []
+    go (inl k) = k.group_is
+    go (inr (inl b)) = b.group_is
+    go (inr (inr u)) = let bad : false ≡ true = u.0 in absurd cc
+
+pub asked_next : (h : KitHall) (p q : KitPass) (reply : Reply) → Stands h 2 p → Enters h p q Next reply → written_lines (seen_of q) ≡ written_lines (seen_of p)
+asked_next h p q reply s e = wrote_nothing h p q Next reply s e (ap count_wrotes (next_group h p q reply s e))
+
+no_line : (done : Bool) (line : List ℕ) → Line line ≡ waiting done → ⊥
+no_line true line e = cc
+no_line false line e = cc
+
+line_first : (done : Bool) (lines : List (List ℕ)) (line : List ℕ) → Line line ≡ next_reply done lines → (more : List (List ℕ)) × (lines ≡ line ∷ more)
+line_first done [] line e = absurd (no_line done line e)
+line_first done (l ∷ lines) line e = (lines, (let same : line ≡ l = cc in ap (λ (x : List ℕ). x ∷ lines) (sym same)))
+
+-- the line that it is given is the next one
+pub given_next : (h : KitHall) (p q : KitPass) (line : List ℕ) → Stands h 2 p → Enters h p q Next (Line line) → IsNextLine (seen_of q) line
+given_next h p q line s e = go (own_step h p q Next (Line line) s e).step
+  where
+    past : List Entry
+    past = seen_of p ++ flat e.between
+
+    same : seen_of q ≡ past
+    same = e.seen ∙ ap (λ (g : List Entry). past ++ g) (next_group h p q (Line line) s e) ∙ append-nil past
+
+    found : ((more : List (List ℕ)) × ((standing h.fixed past).unwritten ≡ line ∷ more)) → IsNextLine (seen_of q) line
+    found m =
+        subst (λ (j : List Entry). IsNextLine j line) (sym same)
+        (get_dropped (count_wrotes past) (said_lines past) m.0 line (sym m.1 ∙ (unwritten_are h.fixed past (before_own h p q Next (Line line) s.legal e).follow).0))
+
+    go : IsStepped (step_of h.fixed past 2 Next) e.group (Line line)
+        ⊎ (IsBrokenOff Next e.group (Line line) ⊎ ((is_call Next ≡ true) × IsUnsaid (step_of h.fixed past 2 Next) e.group (Line line))) → IsNextLine (seen_of q) line
+    go (inl k) = found (line_first (is_done h.fixed (standing h.fixed past)) (standing h.fixed past).unwritten line k.reply_is)
+    go (inr (inl b)) = let bad : Line line ≡ Broken = b.reply_is in absurd cc
+    go (inr (inr u)) = let bad : false ≡ true = u.0 in absurd cc
+
+-- it tells that the next line is written
+pub told_wrote : (h : KitHall) (p q : KitPass) (reply : Reply) (line : List ℕ) → Stands h 2 p → Enters h p q Written reply → IsNextLine (seen_of p) line
+    → written_lines (seen_of q) ≡ written_lines (seen_of p) ++ line ∷ []
+told_wrote h p q reply line s e next = go (own_step h p q Written reply s e).step
+  where
+    past : List Entry
+    past = seen_of p ++ flat e.between
+
+    others : count_wrotes (flat e.between) ≡ 0
+    others = none_log h.fixed (seen_of p) e.between e.between_legal (subst (λ (n : ℕ). NotBy n e.between) s.number_is e.others)
+
+    there : IsNextLine past line
+    there = next_stays (seen_of p) (flat e.between) line others next
+
+    some : (more : List (List ℕ)) × ((standing h.fixed past).unwritten ≡ line ∷ more)
+    some =
+        let d = dropped_some (count_wrotes past) (said_lines past) line there in
+        (d.0, (unwritten_are h.fixed past (before_own h p q Written reply s.legal e).follow).0 ∙ d.1)
+
+    group_is : e.group ≡ (step_of h.fixed past 2 Written).group → e.group ≡ Wrote ∷ []
+    group_is k = k ∙ ap (λ (ls : List (List ℕ)). (wrote_step ls).group) some.1
+
+    wrote : e.group ≡ Wrote ∷ [] → written_lines (seen_of q) ≡ written_lines (seen_of p) ++ line ∷ []
+    wrote k =
+        ap written_lines (e.seen ∙ ap (λ (g : List Entry). past ++ g) k)
+        ∙ wrote_one past line there
+        ∙ ap (λ (ls : List (List ℕ)). ls ++ line ∷ []) (written_stays h.fixed (seen_of p) (flat e.between) s.legal.follow others)
+
+    go : IsStepped (step_of h.fixed past 2 Written) e.group reply
+        ⊎ (IsBrokenOff Written e.group reply ⊎ ((is_call Written ≡ true) × IsUnsaid (step_of h.fixed past 2 Written) e.group reply))
+        → written_lines (seen_of q) ≡ written_lines (seen_of p) ++ line ∷ []
+    go (inl k) = wrote (group_is k.group_is)
+    go (inr (inl b)) = let bad : false ≡ true = b.may in absurd cc
+    go (inr (inr u)) = let bad : false ≡ true = u.0 in absurd cc
+
+-- ---- turns
+
+still : (x : Half) (fault : Type 0) → x.is_open ≡ true → (fault → ⊥) → Leaves x x fault
+still x fault o none = record { later = omega arith; cause = λ f. absurd (none f); quiet = λ _. refl; opened = o; number = refl }
+
+-- a reason that says nothing of the sink
+abbrev pub IsCalm : Option Why → Type 0
+IsCalm (Some WriteFault) = ⊥
+IsCalm why = Unit {0}
+
+calm_fault : (why : Option Why) → IsCalm why → why ≡ Some WriteFault → ⊥
+calm_fault None c e = cc
+calm_fault (Some Eof) c e = cc
+calm_fault (Some ReadFault) c e = cc
+calm_fault (Some Long) c e = cc
+calm_fault (Some WriteFault) c e = c
+calm_fault (Some Memory) c e = cc
+
+calm_written : (why : Option Why) (journal : List Entry) (bytes : List ℕ) → IsCalm why → bytes ≡ text (written_lines journal) → IsWritten why journal bytes
+calm_written None journal bytes c e = e
+calm_written (Some Eof) journal bytes c e = e
+calm_written (Some ReadFault) journal bytes c e = e
+calm_written (Some Long) journal bytes c e = e
+calm_written (Some WriteFault) journal bytes c e = absurd c
+calm_written (Some Memory) journal bytes c e = e
+
+-- nothing was written
+pub ran_calm : (h : KitHall) (p q : KitPass) (m : MouthValue) (why : Option Why) → Stands h 2 p → Stands h p.number q → m.half.is_open ≡ true → IsCalm why
+    → written_lines (seen_of q) ≡ written_lines (seen_of p) → WriterRan h p q m m why
+ran_calm h p q m why s t o calm same = record {
+  stands = stands_on h 2 p q s t;
+  writes = λ begun w. record {
+      bytes = w.bytes;
+      took = w.took;
+      silent = w.silent;
+      written = calm_written why (seen_of q) w.bytes calm (w.written ∙ ap text (sym same));
+    };
+  sink = still m.half (why ≡ Some WriteFault) o (calm_fault why calm);
+}
+
+-- the next line was written, and told so
+pub ran_wrote : (h : KitHall) (p q : KitPass) (m w : MouthValue) (line : List ℕ) → Stands h 2 p → Stands h p.number q
+    → written_lines (seen_of q) ≡ written_lines (seen_of p) ++ line ∷ [] → Appends m.taken w.taken (line ++ 10 ∷ []) → StaysUntold m.taken w.taken
+    → Leaves m.half w.half (None ≡ Some WriteFault) → WriterRan h p q m w None
+ran_wrote h p q m w line s t more took untold sink = record {
+  stands = stands_on h 2 p q s t;
+  writes = λ begun k. record {
+      bytes = k.bytes ++ (line ++ 10 ∷ []);
+      took = appends_both begun m.taken w.taken k.bytes (line ++ 10 ∷ []) k.took took;
+      silent = λ none. untold (k.silent none);
+      written = ap (λ (x : List ℕ). x ++ (line ++ 10 ∷ [])) k.written ∙ sym (text-append (written_lines (seen_of p)) (line ∷ [])) ∙ ap text (sym more);
+    };
+  sink = sink;
+}
+
+-- writing failed
+pub ran_falters : (h : KitHall) (p q : KitPass) (m w : MouthValue) (line : List ℕ) → Stands h 2 p → Stands h p.number q
+    → written_lines (seen_of q) ≡ written_lines (seen_of p) → IsNextLine (seen_of q) line → ((n : ℕ) × Appends m.taken w.taken (take n (line ++ 10 ∷ []))) → StaysUntold m.taken w.taken
+    → Leaves m.half w.half (Some WriteFault ≡ Some WriteFault) → WriterRan h p q m w (Some WriteFault)
+ran_falters h p q m w line s t same next took untold sink = record {
+  stands = stands_on h 2 p q s t;
+  writes = λ begun k. record {
+      bytes = k.bytes ++ take took.0 (line ++ 10 ∷ []);
+      took = appends_both begun m.taken w.taken k.bytes (take took.0 (line ++ 10 ∷ [])) k.took took.1;
+      silent = λ none. untold (k.silent none);
+      written = record { line = line; n = took.0; next = next; are = ap (λ (x : List ℕ). x ++ take took.0 (line ++ 10 ∷ [])) (k.written ∙ ap text (sym same)) };
+    };
+  sink = sink;
+}
+
+quiet_sink : (x y : Half) → Leaves x y (None ≡ Some WriteFault) → Leaves x y ⊥
+quiet_sink x y l = record { later = l.later; cause = λ f. absurd f; quiet = λ _. l.quiet (λ (bad : None ≡ Some WriteFault). absurd cc); opened = l.opened; number = l.number }
+
+pub wrote_both : (h : KitHall) (p q r : KitPass) (m w v : MouthValue) (why : Option Why) → WriterRan h p q m w None → WriterRan h q r w v why → WriterRan h p r m v why
+wrote_both h p q r m w v why a b = record {
+  stands = b.stands;
+  writes = λ begun k. b.writes begun (a.writes begun k);
+  sink = leaves_both m.half w.half v.half (why ≡ Some WriteFault) (quiet_sink m.half w.half a.sink) b.sink;
+}
+
+pub wrote_none : (h : KitHall) (p : KitPass) (m : MouthValue) → Stands h 2 p → m.half.is_open ≡ true → WriterRan h p p m m None
+wrote_none h p m s o = record { stands = s; writes = λ begun k. k; sink = still m.half (None ≡ Some WriteFault) o (λ (bad : None ≡ Some WriteFault). absurd cc) }

@@ -1,0 +1,13 @@
+use Rattle.std.proofs.Common.{◌≡◌, None}
+use Rattle.kit_async_roles.specs.Passes.{half_of}
+use Rattle.kit_async_roles.specs.Writing.{WriterRan, mouth_of}
+use Rattle.kit_async_roles.proofs.writer.speak.Given as goal
+
+abbrev pub invariant-loop : goal.invariant-loop
+invariant-loop g l = record {
+  can : (goal.iterator-loop g).can_next l.iterator';
+  finite : (goal.iterator-loop g).is_finite l.iterator';
+  ran : WriterRan l.hall l.initial.pass l.pass
+      (mouth_of (g.W.Sink.taken l.initial.sink) (half_of (g.W.Sink.faults l.initial.sink) (g.W.Sink.is_open l.initial.sink) (g.W.Sink.number l.initial.sink)))
+      (mouth_of (g.W.Sink.taken l.sink) (half_of (g.W.Sink.faults l.sink) (g.W.Sink.is_open l.sink) (g.W.Sink.number l.sink))) None;
+}

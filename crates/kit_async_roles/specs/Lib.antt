@@ -1,0 +1,4 @@
+pub mod Passes
+pub mod Reading
+pub mod Writing
+pub mod Calling

@@ -1,0 +1,34 @@
+-- What a pass of a kit's hall is to the role that holds it.
+use Rattle.std.specs.Prelude.{ℕ, ◌≡◌, Bool, Option, Some, None}
+use Rattle.kit_serve.specs.Turns.{Half}
+use Rattle.hall.specs.Passes.{IsPassOf, HasEntered, seen_of}
+use Rattle.kit_async_core.specs.declared.event.Event.{Event}
+use Rattle.kit_async_core.specs.declared.event.Reply.{Reply}
+use Rattle.kit_async_core.specs.Events.{IsMadeBy, MayStep}
+use Rattle.kit_async_core.specs.Legality.{Legal}
+use Rattle.kit_async_core.specs.Lines.{KitHall, KitPass}
+use Rattle.kit_async_roles.specs.declared.why.Why.{Why}
+use Rattle.kit_async_roles.specs.declared.turn.Turn.{Turn}
+use Rattle.kit_async_roles.specs.declared.turn.Turn.TheVariants.{Went, Rests, Over}
+
+-- it is the hall's, has that number, and what it has seen is legal
+pub record Stands (h : KitHall) (number : ℕ) (p : KitPass) : Type 0 where
+  pub pass : IsPassOf h p
+  pub number_is : p.number ≡ number
+  pub legal : Legal h.fixed (seen_of p)
+
+-- it told the core that, and the core answered so
+abbrev pub Enters : KitHall → KitPass → KitPass → Event → Reply → Type 0
+Enters h p q event reply = HasEntered IsMadeBy MayStep h p q event reply
+
+-- ---- turns
+
+-- why the role ended by itself, if it did
+abbrev pub why_of : Turn → Option Why
+why_of Went = None
+why_of Rests = None
+why_of (Over why) = why
+
+-- what is seen of a source or a sink beside its bytes
+abbrev pub half_of : ℕ → Bool → Option ℕ → Half
+half_of faults is_open number = record { faults = faults; is_open = is_open; number = number }

@@ -1,0 +1,55 @@
+// One turn of a role: the same whether it has a thread of its own or not.
+ghost use Rattle.std.specs.Prelude.{◌≡◌, true, Some, IfSome, IfNone, IsSome};
+ghost use Rattle.kit_async_core.specs.declared.event.Event.TheVariants.{Break};
+ghost use Rattle.kit_async_core.specs.declared.event.Reply.{Reply};
+ghost use Rattle.kit_async_core.specs.Events.{takes_no_memory};
+ghost use Rattle.kit_async_roles.specs.Passes.{Stands, Enters};
+ghost use Rattle.kit_async_roles.specs.declared.turn.Turn.TheVariants.{Over};
+
+use crate::why::Why;
+use hall::{Hall, Pass};
+use kit_async_core::{Event, KitCore, Reply};
+use std::sync::Wait;
+
+/// What came of a turn.
+#[derive(Clone, Copy)]
+pub enum Turn {
+    /// Something was done, and more may be.
+    Went,
+    /// There is nothing to do now.
+    Rests,
+    /// There is nothing to do any more; for this reason, where the role itself has one.
+    Over(Option<Why>),
+}
+
+/// What the core answers, where it answers; None where no memory was found.
+pub(crate) fn enter<R: Wait>(
+    rt: &R,
+    hall: &Hall<KitCore>,
+    pass: &mut Pass<KitCore>,
+    event: Event,
+) -> Option<Reply>
+    requires { Stands hall.now pass.old.number pass.old }
+    ensures stands { Stands hall.now pass.old.number pass.new }
+    ensures some { IfSome result (Enters hall.now pass.old pass.new event) }
+    ensures none { IfNone result (pass.new ≡ pass.old) }
+    ensures free { takes_no_memory event ≡ true → IsSome result }
+{
+    hall.enter(rt, pass, event).ok()
+}
+
+/// The role ends for this reason, and the kit is broken off.
+pub(crate) fn stop_for<R: Wait>(
+    rt: &R,
+    hall: &Hall<KitCore>,
+    pass: &mut Pass<KitCore>,
+    why: Why,
+) -> Turn
+    requires { Stands hall.now pass.old.number pass.old }
+    ensures stands { Stands hall.now pass.old.number pass.new }
+    ensures broken { (reply : Reply) × Enters hall.now pass.old pass.new Break reply }
+    ensures over { result ≡ Over (Some why) }
+{
+    let _ = enter(rt, hall, pass, Event::Break);
+    Turn::Over(Some(why))
+}

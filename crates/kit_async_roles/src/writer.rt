@@ -1,0 +1,102 @@
+// What writes the lines that are said.
+ghost use Rattle.std.specs.Prelude.{◌≡◌, ◌++◌, ◌∷◌, [], ℕ, take, true, OnOk, IsErr};
+ghost use Rattle.std.specs.Io.KnownBytes.{Appends};
+ghost use Rattle.ann_outside.specs.Causes.{StaysUntold};
+ghost use Rattle.kit_serve.specs.Turns.{Leaves};
+ghost use Rattle.hall.specs.Passes.{seen_of};
+ghost use Rattle.kit_async_roles.specs.Passes.{Stands, half_of, why_of};
+ghost use Rattle.kit_async_roles.specs.Writing.{IsNextLine, WriterRan, mouth_of};
+
+use crate::turn::{Turn, enter, stop_for};
+use crate::why::Why;
+use ann_key::Bytes;
+use ann_outside::{Failed, Sink};
+use hall::{Hall, Pass};
+use kit_async_core::{Event, KitCore, Reply};
+use kit_serve::write_line;
+use std::sync::Wait;
+
+// Writes the line and hands it on. After `Failed` the sink has taken the first bytes of it.
+fn put<W: Sink>(sink: &mut W, line: &[u8]) -> Result<(), Failed>
+    requires { W.is_open sink.old ≡ true }
+    ensures ok { OnOk result (Appends (W.taken sink.old) (W.taken sink.new) (line.now ++ 10 ∷ [])) }
+    ensures prefix { (n : ℕ) × Appends (W.taken sink.old) (W.taken sink.new) (take n (line.now ++ 10 ∷ [])) }
+    ensures silent { StaysUntold (W.taken sink.old) (W.taken sink.new) }
+    ensures sink { Leaves (half_of (W.faults sink.old) (W.is_open sink.old) (W.number sink.old))
+        (half_of (W.faults sink.new) (W.is_open sink.new) (W.number sink.new)) (IsErr result) }
+{
+    write_line(sink, line)?;
+    sink.flush()
+}
+
+// Writes the line, and then tells the core that it is written.
+fn write<W: Sink, R: Wait>(
+    rt: &R,
+    hall: &Hall<KitCore>,
+    pass: &mut Pass<KitCore>,
+    sink: &mut W,
+    line: &Bytes,
+) -> Turn
+    requires stands { Stands hall.now 2 pass.old }
+    requires open { W.is_open sink.old ≡ true }
+    requires line { IsNextLine (seen_of pass.old) line.now }
+    ensures ran { WriterRan hall.now pass.old pass.new
+        (mouth_of (W.taken sink.old) (half_of (W.faults sink.old) (W.is_open sink.old) (W.number sink.old)))
+        (mouth_of (W.taken sink.new) (half_of (W.faults sink.new) (W.is_open sink.new) (W.number sink.new)))
+        (why_of result) }
+{
+    match put(sink, line.view()) {
+        Ok(()) => {
+            // There is room for it.
+            let _ = enter(rt, hall, pass, Event::Wrote);
+            Turn::Went
+        }
+        Err(Failed) => stop_for(rt, hall, pass, Why::WriteFault),
+    }
+}
+
+/// Writes the next line, if one is said.
+pub fn write_turn<W: Sink, R: Wait>(
+    rt: &R,
+    hall: &Hall<KitCore>,
+    pass: &mut Pass<KitCore>,
+    sink: &mut W,
+) -> Turn
+    requires stands { Stands hall.now 2 pass.old }
+    requires open { W.is_open sink.old ≡ true }
+    ensures ran { WriterRan hall.now pass.old pass.new
+        (mouth_of (W.taken sink.old) (half_of (W.faults sink.old) (W.is_open sink.old) (W.number sink.old)))
+        (mouth_of (W.taken sink.new) (half_of (W.faults sink.new) (W.is_open sink.new) (W.number sink.new)))
+        (why_of result) }
+{
+    match enter(rt, hall, pass, Event::Next) {
+        Some(Reply::Line(line)) => write(rt, hall, pass, sink, &line),
+        Some(Reply::Wait) => Turn::Rests,
+        Some(_) => Turn::Over(None),
+        None => stop_for(rt, hall, pass, Why::Memory),
+    }
+}
+
+/// Takes turns until there is nothing more to write, and tells why, where it ended by itself.
+pub fn speak<W: Sink, R: Wait>(
+    rt: &R,
+    hall: &Hall<KitCore>,
+    pass: &mut Pass<KitCore>,
+    sink: &mut W,
+) -> Option<Why>
+    requires stands { Stands hall.now 2 pass.old }
+    requires open { W.is_open sink.old ≡ true }
+    ensures ran { WriterRan hall.now pass.old pass.new
+        (mouth_of (W.taken sink.old) (half_of (W.faults sink.old) (W.is_open sink.old) (W.number sink.old)))
+        (mouth_of (W.taken sink.new) (half_of (W.faults sink.new) (W.is_open sink.new) (W.number sink.new)))
+        result }
+{
+    for _ in rt.forever() {
+        match write_turn(rt, hall, pass, sink) {
+            Turn::Went => {}
+            Turn::Rests => hall.rest(rt, pass),
+            Turn::Over(why) => return why,
+        }
+    }
+    unreachable!()
+}
