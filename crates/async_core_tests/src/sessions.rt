@@ -1,5 +1,6 @@
 use ann_key::{Bytes, NoMemory};
-use kit_async_core::{Event, KitCore, READER, Reply, Setup, WRITER};
+use kit_async_core::{KitCore, READER, WRITER};
+use kit_async_model::{Event, Reply, Setup};
 use kit_core::{Asked, Said, Values};
 use std::alloc::Global;
 use std::test::Fail;

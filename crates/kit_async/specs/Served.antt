@@ -6,17 +6,17 @@ use Rattle.ann_outside.specs.Causes.{StaysUntold}
 use Rattle.annex_model.specs.Lines.{text, has_newline, Cut}
 use Rattle.kit_core.specs.declared.call.Call.{Call as RemoteCall}
 use Rattle.kit_serve.specs.Limits.{longest_line, is_short, next_line}
-use Rattle.kit_async_core.specs.declared.setup.Setup.{Setup}
+use Rattle.kit_async_model.specs.declared.setup.Setup.{Setup}
 use Rattle.kit_async.specs.declared.why.Why.{Why}
 use Rattle.kit_async.specs.declared.why.Why.TheVariants.{Eof, ReadFault, WriteFault, Bad, Memory}
-use Rattle.kit_async_core.specs.declared.entry.Entry.{Entry}
-use Rattle.kit_async_core.specs.declared.entry.Entry.TheVariants.{Heard, Take, Call, Say, Wrote, Close, Lack}
+use Rattle.kit_async_model.specs.declared.entry.Entry.{Entry}
+use Rattle.kit_async_model.specs.declared.entry.Entry.TheVariants.{Heard, Take, Call, Say, Wrote, Close, Lack}
 use Rattle.kit_async.specs.declared.lent.KitEntry.{KitEntry}
 use Rattle.kit_async.specs.declared.lent.KitEntry.TheVariants.{Heard as HeardShown, Take as TakeShown, Call as CallShown, Say as SayShown, Wrote as WroteShown, Close as CloseShown, Lack as LackShown, Stop as StopShown}
-use Rattle.kit_async_core.specs.Callings.{calls_of}
-use Rattle.kit_async_core.specs.Legality.{is_legal, is_lack, IsFinished}
-use Rattle.kit_async_core.specs.Lines.{heard_lines}
-use Rattle.kit_async_core.specs.Standings.{standing}
+use Rattle.kit_async_model.specs.Callings.{calls_of}
+use Rattle.kit_async_model.specs.Legality.{is_legal, is_lack, IsFinished}
+use Rattle.kit_async_model.specs.Lines.{heard_lines}
+use Rattle.kit_async_model.specs.Standings.{standing}
 use Rattle.kit_async_roles.specs.Writing.{IsFaltered, written_lines}
 
 -- ---- the end

@@ -2,7 +2,7 @@
 ghost use Rattle.std.specs.Prelude.{◌≡◌, ◌+◌, [], length};
 ghost use Rattle.kit_async.specs.Served.{IsEntryAt};
 
-use kit_async_core::Entries;
+use kit_async_model::Entries;
 use crate::lent::{KitEntry, shown};
 use crate::why::Why;
 use std::alloc::Global;

@@ -2,7 +2,7 @@
 ghost use Rattle.std.specs.Prelude.{◌≡◌, Some};
 ghost use Rattle.kit_async.specs.Served.{entry_shown};
 
-use kit_async_core::Entry;
+use kit_async_model::Entry;
 use crate::why::Why;
 use kit_core::Said;
 

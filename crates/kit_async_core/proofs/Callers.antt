@@ -10,26 +10,26 @@ use Rattle.kit_core.specs.declared.call.Asked.{Asked}
 use Rattle.kit_core.specs.declared.call.Call.{Call as RemoteCall}
 use Rattle.kit_core.specs.Calls.{is_line_said}
 use Rattle.kit_core.specs.Kits.{asked_by}
-use Rattle.kit_async_core.specs.declared.setup.Setup.{Setup}
-use Rattle.kit_async_core.specs.declared.job.Job.{Job}
-use Rattle.kit_async_core.specs.declared.entry.Entry.{Entry}
-use Rattle.kit_async_core.specs.declared.entry.Entry.TheVariants.{Heard, Take, Call, Say, Wrote, Close, Lack}
-use Rattle.kit_async_core.specs.declared.event.Event.{Event}
-use Rattle.kit_async_core.specs.declared.event.Event.TheVariants.{Hear, Take as TakeUp, Called, Next, Wrote as Written, Close as Deafen, Break}
-use Rattle.kit_async_core.specs.declared.event.Reply.{Reply}
-use Rattle.kit_async_core.specs.declared.event.Reply.TheVariants.{Done, Last, Wait, Over, Odd, Unsaid, Broken, Work, Line}
-use Rattle.kit_async_core.specs.Jobs.{is_making_ready, is_awaiting, is_for_any, is_number, is_worked_by, is_first_of_key, has_number, job_of, with_job, due_in}
-use Rattle.kit_async_core.specs.Legality.{Legal, is_idle, is_free, is_turn_of, is_called, is_done}
-use Rattle.kit_async_core.specs.Standings.{Standing, with_taken, after, standing}
-use Rattle.kit_async_core.specs.Events.{IsMadeBy, MayStep, Stepped, IsStepped, IsBrokenOff, IsUnsaid, is_call, only, waiting, due_said, work_by, work_in, first_free, free_step, turn_step, take_step, called_then, called_step, call_step, if_it_is, is_of_remote, remote_of, step_of}
-use Rattle.kit_async_core.specs.Lines.{KitHall, KitPass}
-use Rattle.kit_async_core.specs.Books.{AreApart}
-use Rattle.kit_async_core.specs.Callings.{call_with, call_for, call_of, calls_from, calls_of, IsAsked}
-use Rattle.kit_async_core.proofs.Apart.{standing_apart}
-use Rattle.kit_async_core.proofs.Fronts.{both, standing_append}
+use Rattle.kit_async_model.specs.declared.setup.Setup.{Setup}
+use Rattle.kit_async_model.specs.declared.job.Job.{Job}
+use Rattle.kit_async_model.specs.declared.entry.Entry.{Entry}
+use Rattle.kit_async_model.specs.declared.entry.Entry.TheVariants.{Heard, Take, Call, Say, Wrote, Close, Lack}
+use Rattle.kit_async_model.specs.declared.event.Event.{Event}
+use Rattle.kit_async_model.specs.declared.event.Event.TheVariants.{Hear, Take as TakeUp, Called, Next, Wrote as Written, Close as Deafen, Break}
+use Rattle.kit_async_model.specs.declared.event.Reply.{Reply}
+use Rattle.kit_async_model.specs.declared.event.Reply.TheVariants.{Done, Last, Wait, Over, Odd, Unsaid, Broken, Work, Line}
+use Rattle.kit_async_model.specs.Jobs.{is_making_ready, is_awaiting, is_for_any, is_number, is_worked_by, is_first_of_key, has_number, job_of, with_job, due_in}
+use Rattle.kit_async_model.specs.Legality.{Legal, is_idle, is_free, is_turn_of, is_called, is_done}
+use Rattle.kit_async_model.specs.Standings.{Standing, with_taken, after, standing}
+use Rattle.kit_async_model.specs.Events.{IsMadeBy, MayStep, Stepped, IsStepped, IsBrokenOff, IsUnsaid, is_call, only, waiting, due_said, work_by, work_in, first_free, free_step, turn_step, take_step, called_then, called_step, call_step, if_it_is, is_of_remote, remote_of, step_of}
+use Rattle.kit_async_core.specs.Halls.{KitHall, KitPass}
+use Rattle.kit_async_model.specs.Books.{AreApart}
+use Rattle.kit_async_model.specs.Callings.{call_with, call_for, call_of, calls_from, calls_of, IsAsked}
+use Rattle.kit_async_model.proofs.Apart.{standing_apart}
+use Rattle.kit_async_model.proofs.Fronts.{both, standing_append}
 use Rattle.kit_async_core.proofs.KitHalls.{legal_log}
-use Rattle.kit_async_core.proofs.Places.{neither, passes_of}
-use Rattle.kit_async_core.proofs.Askings.{Busy, InTurn, FirstReady, at_work, at_turn, standing_first, busy_called, not_idle, work_called, found_same, found_any, found_not, only_job, apart_head, same_number, never, decided}
+use Rattle.kit_async_model.proofs.Places.{neither, passes_of}
+use Rattle.kit_async_model.proofs.Askings.{Busy, InTurn, FirstReady, at_work, at_turn, standing_first, busy_called, not_idle, work_called, found_same, found_any, found_not, only_job, apart_head, same_number, never, decided}
 use Rattle.kit_async_core.proofs.Lasting.{log_lasts, uncalled_log, calls_of-append}
 
 -- ---- what a remote is to be called for
@@ -72,7 +72,7 @@ busy_of setup r jobs job f one = go (is_making_ready job) refl (passes_of (is_ca
         let busy : is_idle jobs r ≡ false = ap not (found_any (is_called setup jobs r) (is_worked_by r) jobs job f w) in
         inl (sym (found_same (is_called setup jobs r) (at_work r) (work_called setup jobs r busy) jobs) ∙ f)
 
--- it stays so behind the groups of others
+-- it stays so after the groups of others
 asked_lasts : (h : KitHall) (p q : KitPass) (event : Event) (reply : Reply) (r : ℕ) (job : Job) → p.number ≡ r + 3 → Legal h.fixed (seen_of p) → (e : HasEntered IsMadeBy MayStep h p q event reply)
     → find (is_called h.fixed (standing h.fixed (seen_of p)).jobs r) (standing h.fixed (seen_of p)).jobs ≡ Some job
     → Busy h.fixed r (standing h.fixed (seen_of p ++ flat e.between)).jobs job

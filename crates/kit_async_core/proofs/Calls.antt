@@ -7,19 +7,19 @@ use Rattle.std.proofs.lemmas.Option.{slice_get_within}
 use Rattle.ann_key.specs.declared.bytes.NoMemory.{NoMemory}
 use Rattle.kit_core.specs.declared.call.Said.{Said}
 use Rattle.kit_core.specs.Calls.{is_line_said}
-use Rattle.kit_async_core.specs.declared.setup.Setup.{Setup}
-use Rattle.kit_async_core.specs.declared.job.Job.{Job}
-use Rattle.kit_async_core.specs.declared.entry.Entry.{Entry}
-use Rattle.kit_async_core.specs.declared.entry.Entry.TheVariants.{Take, Call, Say, Lack}
-use Rattle.kit_async_core.specs.declared.event.Reply.{Reply}
-use Rattle.kit_async_core.specs.declared.event.Reply.TheVariants.{Done, Odd, Unsaid}
-use Rattle.kit_async_core.specs.Jobs.{is_making_ready, is_awaiting, is_worked_by, settles, prepares, final_in, job_line, job_of, with_job, without_job}
-use Rattle.kit_async_core.specs.Standings.{Standing, with_taken, with_call, answer_due, called_in, said_line, said_in, after}
-use Rattle.kit_async_core.specs.Legality.{is_idle, is_free, is_turn_of, is_called, is_done}
-use Rattle.kit_async_core.specs.Events.{Stepped, waiting, due_said, work_in, first_free, free_step, turn_step, take_step, called_then, called_step, call_step, IsUnsaid}
-use Rattle.kit_async_core.specs.Books.{IsAsBefore, AnswerKept, AnswerBegun, BookValue, AreApart, most_calls, calls_owed, room_owed, Took, Lacked, IsCalledAt, CallNoted}
-use Rattle.kit_async_core.proofs.Fronts.{both}
-use Rattle.kit_async_core.proofs.Places.{Found, found_place, found_none, read_is, job_there, job_changed, change_there, removal_there, removal_changed, calls_set, calls_remove, passes_of}
+use Rattle.kit_async_model.specs.declared.setup.Setup.{Setup}
+use Rattle.kit_async_model.specs.declared.job.Job.{Job}
+use Rattle.kit_async_model.specs.declared.entry.Entry.{Entry}
+use Rattle.kit_async_model.specs.declared.entry.Entry.TheVariants.{Take, Call, Say, Lack}
+use Rattle.kit_async_model.specs.declared.event.Reply.{Reply}
+use Rattle.kit_async_model.specs.declared.event.Reply.TheVariants.{Done, Odd, Unsaid}
+use Rattle.kit_async_model.specs.Jobs.{is_making_ready, is_awaiting, is_worked_by, settles, prepares, final_in, job_line, job_of, with_job, without_job}
+use Rattle.kit_async_model.specs.Standings.{Standing, with_taken, with_call, answer_due, called_in, said_line, said_in, after}
+use Rattle.kit_async_model.specs.Legality.{is_idle, is_free, is_turn_of, is_called, is_done}
+use Rattle.kit_async_model.specs.Events.{Stepped, waiting, due_said, work_in, first_free, free_step, turn_step, take_step, called_then, called_step, call_step, IsUnsaid}
+use Rattle.kit_async_model.specs.Books.{IsAsBefore, AnswerKept, AnswerBegun, BookValue, AreApart, most_calls, calls_owed, room_owed, Took, Lacked, IsCalledAt, CallNoted}
+use Rattle.kit_async_model.proofs.Fronts.{both}
+use Rattle.kit_async_model.proofs.Places.{Found, found_place, found_none, read_is, job_there, job_changed, change_there, removal_there, removal_changed, calls_set, calls_remove, passes_of}
 
 -- ---- who may be called
 
@@ -95,7 +95,7 @@ same_job : (setup : Setup) (old new : BookValue) (remote : ℕ) (said : Said) (p
     → (n : CallNoted setup old new remote said place) → n.job ≡ k.job
 same_job setup old new remote said place k n = let both_are : Some n.job ≡ Some k.job = sym n.there ∙ k.there in cc
 
--- behind a call the due line, if there is one
+-- after a call the due line, if there is one
 called_took : (setup : Setup) (old new : BookValue) (remote : ℕ) (said : Said) (job : Job) (t : Standing) (due : Option (ℕ × List ℕ))
     → call_step setup old.stands remote said ≡ called_then (after setup old.stands (Call job.number remote said)) (Call job.number remote said)
     → after setup old.stands (Call job.number remote said) ≡ t → t.due ≡ due

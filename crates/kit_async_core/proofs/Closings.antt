@@ -7,15 +7,16 @@ use Rattle.hall.specs.declared.view.Link.{Link}
 use Rattle.hall.specs.Log.{flat, NotBy, groups_by, Allowed, Legal as LegalLog}
 use Rattle.hall.specs.Passes.{HasAllOf, HasClosed, IsPassOf, seen_of}
 use Rattle.hall.proofs.Logs.{seen-more, legal-after, legal-before, groups_by-append, get-from_all}
-use Rattle.kit_async_core.specs.declared.setup.Setup.{Setup}
-use Rattle.kit_async_core.specs.declared.entry.Entry.{Entry}
-use Rattle.kit_async_core.specs.Events.{IsMadeBy, MayStep}
-use Rattle.kit_async_core.specs.Lines.{KitHall, KitPass, heard_line, heard_lines}
-use Rattle.kit_async_core.specs.Standings.{standing}
-use Rattle.kit_async_core.specs.Legality.{is_legal, Legal, IsFinished}
+use Rattle.kit_async_model.specs.declared.setup.Setup.{Setup}
+use Rattle.kit_async_model.specs.declared.entry.Entry.{Entry}
+use Rattle.kit_async_model.specs.Events.{IsMadeBy, MayStep}
+use Rattle.kit_async_model.specs.Lines.{heard_line, heard_lines}
+use Rattle.kit_async_core.specs.Halls.{KitHall, KitPass}
+use Rattle.kit_async_model.specs.Standings.{standing}
+use Rattle.kit_async_model.specs.Legality.{is_legal, Legal, IsFinished}
 use Rattle.kit_async_core.proofs.KitHalls.{legal_log, halls_stay_legal}
 use Rattle.kit_async_core.proofs.Listening.{none_log}
-use Rattle.kit_async_core.proofs.Overs.{finished_stays}
+use Rattle.kit_async_model.proofs.Overs.{finished_stays}
 
 -- no group of a number
 not_by : (n : ℕ) (ks : List (Link Entry)) → groups_by n ks ≡ [] → NotBy n ks
@@ -26,7 +27,7 @@ not_by n (k ∷ ks) h = go (k.by == n) refl h (not_by n ks)
     go true e h r = absurd cc
     go false e h r = (λ z. (let bad : false ≡ true = sym e ∙ eq-eqb k.by n z in absurd cc), r h)
 
--- the links that stand behind those that the pass has seen, none of which is its own
+-- the links that stand after those that the pass has seen, none of which is its own
 record Behind (log : List (Link Entry)) (p : KitPass) : Type 0 where
   more : List (Link Entry)
   whole : p.links ++ more ≡ log

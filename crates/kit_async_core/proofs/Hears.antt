@@ -5,23 +5,23 @@ use Rattle.std.specs.List.{list_any}
 use Rattle.annex_model.specs.Messages.{Getconfig, host_reading, remote_line}
 use Rattle.annex_model.specs.Messages.{HostMessage, AskExtensions, Prepare, Initremote, Transfer, Checkpresent, Remove, Listconfigs, Getcost, Getavailability, Getinfo, Whereis, Value, Creds, HostError}
 use Rattle.kit_core.specs.Kits.{is_readying}
-use Rattle.kit_async_core.specs.declared.setup.Setup.{Setup}
-use Rattle.kit_async_core.specs.declared.job.Job.{Job}
-use Rattle.kit_async_core.specs.declared.entry.Entry.{Entry}
-use Rattle.kit_async_core.specs.declared.entry.Entry.TheVariants.{Heard, Say}
-use Rattle.kit_async_core.specs.declared.event.Reply.{Reply}
-use Rattle.kit_async_core.specs.declared.event.Reply.TheVariants.{Done, Last}
-use Rattle.kit_async_core.specs.declared.hearing.Hearing.{Hearing}
-use Rattle.kit_async_core.specs.declared.hearing.Hearing.TheVariants.{Foul, Unexpected, Aside, Asks, Replies}
-use Rattle.kit_async_core.specs.Jobs.{request_of, request_due, line_by, is_making_ready, is_awaiting, line_in, job_line, has_number, job_of, with_job, without_job}
-use Rattle.kit_async_core.specs.Hearings.{text_in, hearing_of, value_told}
-use Rattle.kit_async_core.specs.Standings.{Standing, unexpected_line, starts_tags, new_job, with_value, due_of_job, due_of, with_request, with_told, said_line, said_in, heard_as, after}
-use Rattle.kit_async_core.specs.Legality.{may_hear, holds_back}
-use Rattle.kit_async_core.specs.Events.{Stepped, due_said, heard_reply, heard_step, hear_step}
-use Rattle.kit_async_core.specs.Books.{BookValue, AreApart, most_calls, calls_owed, room_owed, Took, IsRequest, IsValue}
-use Rattle.kit_async_core.proofs.Fronts.{both}
-use Rattle.kit_async_core.proofs.Places.{found_none, found_place, read_is, equal, job_last, removal_last, job_there, job_changed, change_there, calls_append, calls_set}
-use Rattle.kit_async_core.proofs.Apart.{asks_new, replies_awaited}
+use Rattle.kit_async_model.specs.declared.setup.Setup.{Setup}
+use Rattle.kit_async_model.specs.declared.job.Job.{Job}
+use Rattle.kit_async_model.specs.declared.entry.Entry.{Entry}
+use Rattle.kit_async_model.specs.declared.entry.Entry.TheVariants.{Heard, Say}
+use Rattle.kit_async_model.specs.declared.event.Reply.{Reply}
+use Rattle.kit_async_model.specs.declared.event.Reply.TheVariants.{Done, Last}
+use Rattle.kit_async_model.specs.declared.hearing.Hearing.{Hearing}
+use Rattle.kit_async_model.specs.declared.hearing.Hearing.TheVariants.{Foul, Unexpected, Aside, Asks, Replies}
+use Rattle.kit_async_model.specs.Jobs.{request_of, request_due, line_by, is_making_ready, is_awaiting, line_in, job_line, has_number, job_of, with_job, without_job}
+use Rattle.kit_async_model.specs.Hearings.{text_in, hearing_of, value_told}
+use Rattle.kit_async_model.specs.Standings.{Standing, unexpected_line, starts_tags, new_job, with_value, due_of_job, due_of, with_request, with_told, said_line, said_in, heard_as, after}
+use Rattle.kit_async_model.specs.Legality.{may_hear, holds_back}
+use Rattle.kit_async_model.specs.Events.{Stepped, due_said, heard_reply, heard_step, hear_step}
+use Rattle.kit_async_model.specs.Books.{BookValue, AreApart, most_calls, calls_owed, room_owed, Took, IsRequest, IsValue}
+use Rattle.kit_async_model.proofs.Fronts.{both}
+use Rattle.kit_async_model.proofs.Places.{found_none, found_place, read_is, equal, job_last, removal_last, job_there, job_changed, change_there, calls_append, calls_set}
+use Rattle.kit_async_model.proofs.Apart.{asks_new, replies_awaited}
 
 not_true : (b : Bool) → not b ≡ true → b ≡ false
 not_true true h = absurd cc
@@ -35,7 +35,7 @@ live setup s m =
 
 -- ---- any line
 
--- the standing behind the line, what is due there, and all that is said of it
+-- the standing after the line, what is due there, and all that is said of it
 record After (setup : Setup) (s : Standing) (line : List ℕ) (t : Standing) (due : Option (ℕ × List ℕ)) : Type 0 where
   may : may_hear setup s ≡ true
   after_is : after setup s (Heard line) ≡ t
@@ -147,7 +147,7 @@ begin_took setup old new line job m is silent j s r =
     let e : room_owed setup new.stands ≡ 3 * calls_owed setup (old.stands.jobs ++ job ∷ []) + length old.stands.unwritten = ap (room_owed setup) s in
     omega (arith, e, k, r, calls_append setup old.stands.jobs job, fresh_calls setup old.stands line job is))
 
--- what stands behind a line that is said for a new job
+-- what stands after a line that is said for a new job
 said_new : (setup : Setup) (s : Standing) (line : List ℕ) (job : Job) (said : List ℕ) → IsRequest setup s line job
     → said_in setup (said_line (with_request setup s job) said) (job_of (with_request setup s job).jobs job.number) ≡ said_in setup (said_line (with_request setup s job) said) (Some job)
 said_new setup s line job said is =

@@ -3,11 +3,11 @@ use Rattle.std.proofs.Common.{◌≡◌, List, [], ◌∷◌, ◌++◌, refl, sy
 use Rattle.hall.specs.declared.view.Link.{Link}
 use Rattle.hall.specs.Log.{flat, Allowed, Legal as LegalLog}
 use Rattle.hall.specs.Passes.{HasClosed}
-use Rattle.kit_async_core.specs.declared.setup.Setup.{Setup}
-use Rattle.kit_async_core.specs.declared.entry.Entry.{Entry}
-use Rattle.kit_async_core.specs.Events.{IsMadeBy, MayStep}
-use Rattle.kit_async_core.specs.Legality.{Legal}
-use Rattle.kit_async_core.specs.Lines.{KitHall, KitPass}
+use Rattle.kit_async_model.specs.declared.setup.Setup.{Setup}
+use Rattle.kit_async_model.specs.declared.entry.Entry.{Entry}
+use Rattle.kit_async_model.specs.Events.{IsMadeBy, MayStep}
+use Rattle.kit_async_model.specs.Legality.{Legal}
+use Rattle.kit_async_core.specs.Halls.{KitHall, KitPass}
 
 pub legal_log : (setup : Setup) (past : List Entry) (ks : List (Link Entry)) → LegalLog (Allowed IsMadeBy MayStep) setup past ks → Legal setup past → Legal setup (past ++ flat ks)
 legal_log setup past [] h l = subst (Legal setup) (sym (append-nil past)) l

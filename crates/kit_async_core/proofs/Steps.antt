@@ -5,23 +5,23 @@ use Rattle.std.proofs.lemmas.List.{append-nil}
 use Rattle.std.proofs.lemmas.List.Elements.{All-nil, All-cons}
 use Rattle.ann_key.specs.declared.bytes.NoMemory.{NoMemory}
 use Rattle.kit_core.specs.declared.call.Said.{Said}
-use Rattle.kit_async_core.specs.declared.setup.Setup.{Setup}
-use Rattle.kit_async_core.specs.declared.job.Job.{Job}
-use Rattle.kit_async_core.specs.declared.entry.Entry.{Entry}
-use Rattle.kit_async_core.specs.declared.entry.Entry.TheVariants.{Lack}
-use Rattle.kit_async_core.specs.declared.event.Event.{Event}
-use Rattle.kit_async_core.specs.declared.event.Event.TheVariants.{Hear, Take, Called, Next, Wrote, Close, Break}
-use Rattle.kit_async_core.specs.declared.event.Reply.{Reply}
-use Rattle.kit_async_core.specs.declared.event.Reply.TheVariants.{Broken}
-use Rattle.kit_async_core.specs.Standings.{Standing, after, standing}
-use Rattle.kit_async_core.specs.Legality.{Legal}
-use Rattle.kit_async_core.specs.Events.{IsMadeBy, Stepped, event_step, step_of, is_call, can_break, IsUnsaid, IsBrokenOff, MayStep}
-use Rattle.kit_async_core.specs.Books.{BookValue, AreApart, room_owed, Took, Lacked, TookEvent, IsAsBefore, IsBook}
-use Rattle.kit_async_core.proofs.Fronts.{standing_append}
-use Rattle.kit_async_core.proofs.Apart.{standing_apart}
-use Rattle.kit_async_core.proofs.Making.{steps_are_made, lacks_are_made}
-use Rattle.kit_async_core.proofs.Stepping.{steps_are_legal}
-use Rattle.kit_async_core.proofs.Lacking.{unsaid_is_legal}
+use Rattle.kit_async_model.specs.declared.setup.Setup.{Setup}
+use Rattle.kit_async_model.specs.declared.job.Job.{Job}
+use Rattle.kit_async_model.specs.declared.entry.Entry.{Entry}
+use Rattle.kit_async_model.specs.declared.entry.Entry.TheVariants.{Lack}
+use Rattle.kit_async_model.specs.declared.event.Event.{Event}
+use Rattle.kit_async_model.specs.declared.event.Event.TheVariants.{Hear, Take, Called, Next, Wrote, Close, Break}
+use Rattle.kit_async_model.specs.declared.event.Reply.{Reply}
+use Rattle.kit_async_model.specs.declared.event.Reply.TheVariants.{Broken}
+use Rattle.kit_async_model.specs.Standings.{Standing, after, standing}
+use Rattle.kit_async_model.specs.Legality.{Legal}
+use Rattle.kit_async_model.specs.Events.{IsMadeBy, Stepped, event_step, step_of, is_call, can_break, IsUnsaid, IsBrokenOff, MayStep}
+use Rattle.kit_async_model.specs.Books.{BookValue, AreApart, room_owed, Took, Lacked, TookEvent, IsAsBefore, IsBook}
+use Rattle.kit_async_model.proofs.Fronts.{standing_append}
+use Rattle.kit_async_model.proofs.Apart.{standing_apart}
+use Rattle.kit_async_model.proofs.Making.{steps_are_made, lacks_are_made}
+use Rattle.kit_async_model.proofs.Stepping.{steps_are_legal}
+use Rattle.kit_async_model.proofs.Lacking.{unsaid_is_legal}
 
 -- ---- the book
 
@@ -32,7 +32,7 @@ book_apart setup book b = subst (λ (s : Standing). AreApart s.jobs) (sym b.stan
 step_is : (setup : Setup) (book : BookValue) (by : ℕ) (event : Event) → IsBook setup book → event_step setup book.stands by event ≡ step_of setup book.journal by event
 step_is setup book by event b = ap (λ (s : Standing). event_step setup s by event) b.stands
 
--- how it stands behind a group
+-- how it stands after a group
 stands_on : (setup : Setup) (old new : BookValue) (group : List Entry) → IsBook setup old → new.journal ≡ old.journal ++ group → new.stands ≡ fold (after setup) old.stands group
     → new.stands ≡ standing setup new.journal
 stands_on setup old new group b j s =

@@ -1,66 +1,27 @@
--- What holds of every legal journal, and of every hall of a kit's core.
-use Rattle.std.specs.Prelude.{ℕ, ◌≡◌, ◌≤◌, ◌+◌, All, drop, length, Bool, true, false, List, [], ◌∷◌, ◌++◌, slice_get, Option, Some, None}
-use Rattle.std.specs.List.{list_any}
+-- What holds of every hall of a kit's core.
+use Rattle.std.specs.Prelude.{ℕ, ◌≡◌, ◌+◌, true, List, [], ◌∷◌, ◌++◌, slice_get, Some}
 use Rattle.kit_core.specs.declared.call.Said.{Said}
 use Rattle.kit_core.specs.declared.call.Asked.{Asked}
 use Rattle.kit_core.specs.Calls.{is_line_said}
 use Rattle.hall.specs.Passes.{HasClosed, HasEntered, IsPassOf, seen_of}
-use Rattle.kit_async_core.specs.declared.setup.Setup.{Setup}
-use Rattle.kit_async_core.specs.declared.entry.Entry.{Entry}
-use Rattle.kit_async_core.specs.declared.entry.Entry.TheVariants.{Heard, Take, Call, Say, Wrote, Close, Lack}
-use Rattle.kit_async_core.specs.declared.event.Event.{Event}
-use Rattle.kit_async_core.specs.declared.event.Event.TheVariants.{Take as TakeUp, Called}
-use Rattle.kit_async_core.specs.Events.{IsMadeBy, MayStep, step_of}
-use Rattle.kit_async_core.specs.Callings.{IsAsked, calls_of}
-use Rattle.kit_async_core.specs.Legality.{is_legal, Legal, IsFinished}
-use Rattle.kit_async_core.specs.declared.event.Reply.{Reply}
-use Rattle.kit_async_core.specs.declared.event.Reply.TheVariants.{Work}
-use Rattle.kit_async_core.specs.Lines.{KitHall, KitPass, heard_lines, hears, count_wrotes, said_lines}
-use Rattle.kit_async_core.specs.Standings.{standing}
-
--- a line of the host or of the kit
-abbrev pub is_spoken : Entry → Bool
-is_spoken (Heard line) = true
-is_spoken (Say job line) = true
-is_spoken entry = false
-
--- the front of a legal journal is legal
-abbrev pub FrontsAreLegal : Type 0
-FrontsAreLegal = (setup : Setup) (past rest : List Entry) → is_legal setup (past ++ rest) ≡ true → is_legal setup past ≡ true
-
--- once a kit is over, and what is due is said, nothing more is heard or said
-abbrev pub OverIsLast : Type 0
-OverIsLast =
-    (setup : Setup) (past rest : List Entry) → is_legal setup (past ++ rest) ≡ true
-    → (standing setup past).over ≡ true → (standing setup past).due ≡ None → list_any is_spoken rest ≡ false
-
--- once nothing more can come and all is written, it stays so, and nothing more is heard or said
-abbrev pub FinishedStays : Type 0
-FinishedStays =
-    (setup : Setup) (past rest : List Entry) → is_legal setup (past ++ rest) ≡ true
-    → IsFinished setup (standing setup past) → (standing setup past).due ≡ None
-    → IsFinished setup (standing setup (past ++ rest)) × (list_any is_spoken rest ≡ false)
-
--- each step of a core leaves its journal legal
-abbrev pub StepsAreLegal : Type 0
-StepsAreLegal =
-    (setup : Setup) (past : List Entry) (by : ℕ) (event : Event) → Legal setup past → Legal setup (past ++ (step_of setup past by event).group)
-
--- and makes what its number may make
-abbrev pub StepsAreMade : Type 0
-StepsAreMade = (setup : Setup) (past : List Entry) (by : ℕ) (event : Event) → All (IsMadeBy by) (step_of setup past by event).group
+use Rattle.kit_async_model.specs.declared.setup.Setup.{Setup}
+use Rattle.kit_async_model.specs.declared.entry.Entry.{Entry}
+use Rattle.kit_async_model.specs.declared.event.Event.{Event}
+use Rattle.kit_async_model.specs.declared.event.Event.TheVariants.{Take as TakeUp, Called}
+use Rattle.kit_async_model.specs.declared.event.Reply.{Reply}
+use Rattle.kit_async_model.specs.declared.event.Reply.TheVariants.{Work}
+use Rattle.kit_async_model.specs.Events.{IsMadeBy, MayStep}
+use Rattle.kit_async_model.specs.Callings.{IsAsked, calls_of}
+use Rattle.kit_async_model.specs.Legality.{Legal, IsFinished}
+use Rattle.kit_async_model.specs.Lines.{heard_lines, hears}
+use Rattle.kit_async_model.specs.Standings.{standing}
+use Rattle.kit_async_core.specs.Halls.{KitHall, KitPass}
 
 -- however many passes step a core in whatever turns, its journal is legal when the hall is closed
 abbrev pub HallsStayLegal : Type 0
 HallsStayLegal =
     (h : KitHall) (passes : List KitPass) (final : List Entry) (fixed : Setup) → HasClosed IsMadeBy MayStep h passes final fixed
     → Legal h.fixed h.start → Legal h.fixed final × (fixed ≡ h.fixed)
-
--- what is not written yet is what was said behind the lines that are, and no more are written than were said
-abbrev pub UnwrittenAre : Type 0
-UnwrittenAre =
-    (setup : Setup) (journal : List Entry) → is_legal setup journal ≡ true
-    → ((standing setup journal).unwritten ≡ drop (count_wrotes journal) (said_lines journal)) × (count_wrotes journal ≤ length (said_lines journal))
 
 -- What a pass has seen to be finished is so when the hall is closed: so once the writer has nothing more to write, nothing is left to
 -- be written, nor to be said.

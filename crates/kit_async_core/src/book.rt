@@ -1,18 +1,14 @@
 // A journal that is being written, and how a kit stands after it.
 ghost use Rattle.std.specs.Prelude.{◌≡◌, ◌≤◌, ◌∷◌, [], IfOk, OnErr, None, codes};
-ghost use Rattle.kit_async_core.specs.declared.entry.Entry.TheVariants.{Say};
-ghost use Rattle.kit_async_core.specs.Standings.{opening};
-ghost use Rattle.kit_async_core.specs.Legality.{may_hear, is_done};
-ghost use Rattle.kit_async_core.specs.Events.{waiting, next_reply, wrote_step, close_step};
-ghost use Rattle.kit_async_core.specs.Books.{Took, IsAsBefore, room_owed};
+ghost use Rattle.kit_async_model.specs.declared.entry.Entry.TheVariants.{Say};
+ghost use Rattle.kit_async_model.specs.Standings.{opening};
+ghost use Rattle.kit_async_model.specs.Legality.{may_hear, is_done};
+ghost use Rattle.kit_async_model.specs.Events.{waiting, next_reply, wrote_step, close_step};
+ghost use Rattle.kit_async_model.specs.Books.{Took, IsAsBefore, room_owed};
 
-use crate::entries::Entries;
-use crate::entry::Entry;
-use crate::event::Reply;
-use crate::job::Job;
-use crate::jobs::{all_await, hold_back};
-use crate::setup::Setup;
 use ann_key::{Bytes, NoMemory};
+use kit_async_model::jobs::{all_await, hold_back};
+use kit_async_model::{Entries, Entry, Job, Reply, Setup};
 use std::alloc::Global;
 use std::marker::Model;
 
@@ -32,7 +28,7 @@ pub(crate) struct Book {
 
 impl Model for Book {
     ghost use Rattle.std.specs.Prelude.{None};
-    ghost use Rattle.kit_async_core.specs.Books.{BookValue};
+    ghost use Rattle.kit_async_model.specs.Books.{BookValue};
 
     ghost Value = { BookValue };
 

@@ -3,22 +3,10 @@
 #![tactic(auto)]
 
 mod book;
-mod due;
-mod entries;
-mod entry;
-mod event;
 mod hear;
-mod hearing;
-mod job;
-mod jobs;
 pub mod laws;
 mod machine;
-mod setup;
 mod shared;
 mod work;
 
-pub use entries::Entries;
-pub use entry::Entry;
-pub use event::{Event, Reply};
 pub use machine::{KitCore, READER, WRITER};
-pub use setup::Setup;

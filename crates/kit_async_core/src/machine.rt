@@ -1,19 +1,16 @@
 // What the threads of a kit share: the journal, and how the kit stands after it.
 ghost use Rattle.std.specs.Prelude.{◌≡◌, ◌≤◌, ◌||◌, ◌++◌, ◌∷◌, [], List, All, IfOk, IsOk, OnErr, Some, None, if◌then◌else◌, true, false, codes, length};
 ghost use Rattle.std.specs.List.{list_any};
-ghost use Rattle.kit_async_core.specs.declared.entry.Entry.{Entry};
-ghost use Rattle.kit_async_core.specs.declared.entry.Entry.TheVariants.{Say};
-ghost use Rattle.kit_async_core.specs.Books.{AreApart, IsAsBefore, TookEvent, room_owed};
-ghost use Rattle.kit_async_core.specs.Events.{MayStep, IsMadeBy, can_break, takes_no_memory, is_break, is_of_remote, remote_of};
-ghost use Rattle.kit_async_core.specs.Legality.{Legal, is_finished, is_lack};
-ghost use Rattle.kit_async_core.specs.Standings.{standing};
+ghost use Rattle.kit_async_model.specs.declared.entry.Entry.{Entry};
+ghost use Rattle.kit_async_model.specs.declared.entry.Entry.TheVariants.{Say};
+ghost use Rattle.kit_async_model.specs.Books.{AreApart, IsAsBefore, TookEvent, room_owed};
+ghost use Rattle.kit_async_model.specs.Events.{MayStep, IsMadeBy, can_break, takes_no_memory, is_break, is_of_remote, remote_of};
+ghost use Rattle.kit_async_model.specs.Legality.{Legal, is_finished, is_lack};
+ghost use Rattle.kit_async_model.specs.Standings.{standing};
 
 use crate::book::Book;
-use crate::entries::Entries;
-use crate::entry::Entry;
-use crate::event::{Event, Reply};
-use crate::setup::Setup;
 use ann_key::{Bytes, NoMemory};
+use kit_async_model::{Entries, Entry, Event, Reply, Setup};
 use std::alloc::Global;
 use std::marker::Model;
 
@@ -113,7 +110,7 @@ pub struct KitCore {
 
 impl Model for KitCore {
     ghost use Rattle.std.specs.Prelude.{◌≡◌, ◌≤◌};
-    ghost use Rattle.kit_async_core.specs.Books.{CoreValue, IsBook};
+    ghost use Rattle.kit_async_model.specs.Books.{CoreValue, IsBook};
 
     ghost Value = { CoreValue };
 

@@ -1,15 +1,13 @@
 // The core as the value of a hall, which many threads enter.
 ghost use Rattle.std.specs.Prelude.{◌≡◌};
 
-use crate::entry::Entry;
-use crate::event::{Event, Reply};
 use crate::machine::KitCore;
-use crate::setup::Setup;
 use ann_key::NoMemory;
 use hall::Held;
+use kit_async_model::{Entry, Event, Reply, Setup};
 
 impl Held for KitCore {
-    ghost use Rattle.kit_async_core.specs.Events.{MayStep, IsMadeBy, IsFree};
+    ghost use Rattle.kit_async_model.specs.Events.{MayStep, IsMadeBy, IsFree};
 
     type Op = Event;
 

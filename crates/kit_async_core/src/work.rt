@@ -1,20 +1,17 @@
 // The steps of a remote: what it takes up, and what it says.
 ghost use Rattle.std.specs.Prelude.{◌≡◌, ◌⊎◌, ◌<◌, ◌≤◌, ◌+◌, ◌^◌, ◌||◌, IfOk, IfSome, OnErr, false, true, not, ◌&&◌, length, slice_get};
 ghost use Rattle.kit_core.specs.Calls.{is_line_said};
-ghost use Rattle.kit_async_core.specs.Books.{Took, Lacked, IsAsBefore, AreApart, room_owed, IsCalledAt, CallNoted, AnswerBegun};
-ghost use Rattle.kit_async_core.specs.Legality.{is_idle};
-ghost use Rattle.kit_async_core.specs.Events.{take_step, call_step, work_in};
-ghost use Rattle.kit_async_core.specs.Jobs.{final_in, job_line, prepares, settles};
-ghost use Rattle.kit_async_core.specs.Standings.{with_call};
+ghost use Rattle.kit_async_model.specs.Books.{Took, Lacked, IsAsBefore, AreApart, room_owed, IsCalledAt, CallNoted, AnswerBegun};
+ghost use Rattle.kit_async_model.specs.Legality.{is_idle};
+ghost use Rattle.kit_async_model.specs.Events.{take_step, call_step, work_in};
+ghost use Rattle.kit_async_model.specs.Jobs.{final_in, job_line, prepares, settles};
+ghost use Rattle.kit_async_model.specs.Standings.{with_call};
 
 use crate::book::{Book, waiting};
-use crate::due::job_line;
-use crate::entry::Entry;
-use crate::event::Reply;
-use crate::job::Job;
-use crate::jobs::{called, first_free, is_idle, turn_of};
-use crate::setup::Setup;
 use ann_key::{Bytes, NoMemory};
+use kit_async_model::due::job_line;
+use kit_async_model::jobs::{called, first_free, is_idle, turn_of};
+use kit_async_model::{Entry, Job, Reply, Setup};
 use kit_core::Said;
 use std::alloc::Global;
 

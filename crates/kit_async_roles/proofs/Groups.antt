@@ -4,13 +4,13 @@ use Rattle.std.specs.Option.{IsSome}
 use Rattle.hall.specs.declared.view.Link.{Link}
 use Rattle.hall.specs.Log.{flat, NotBy, Allowed, Legal as LegalLog}
 use Rattle.hall.specs.Passes.{IsPassOf, HasEntered, seen_of}
-use Rattle.kit_async_core.specs.declared.setup.Setup.{Setup}
-use Rattle.kit_async_core.specs.declared.entry.Entry.{Entry}
-use Rattle.kit_async_core.specs.declared.event.Event.{Event}
-use Rattle.kit_async_core.specs.declared.event.Reply.{Reply}
-use Rattle.kit_async_core.specs.Events.{IsMadeBy, MayStep}
-use Rattle.kit_async_core.specs.Legality.{Legal}
-use Rattle.kit_async_core.specs.Lines.{KitHall, KitPass}
+use Rattle.kit_async_model.specs.declared.setup.Setup.{Setup}
+use Rattle.kit_async_model.specs.declared.entry.Entry.{Entry}
+use Rattle.kit_async_model.specs.declared.event.Event.{Event}
+use Rattle.kit_async_model.specs.declared.event.Reply.{Reply}
+use Rattle.kit_async_model.specs.Events.{IsMadeBy, MayStep}
+use Rattle.kit_async_model.specs.Legality.{Legal}
+use Rattle.kit_async_core.specs.Halls.{KitHall, KitPass}
 use Rattle.kit_async_core.proofs.KitHalls.{legal_log}
 use Rattle.kit_async_roles.specs.Passes.{Stands, Enters}
 

@@ -14,12 +14,13 @@ use Rattle.kit_serve.specs.Turns.{Half, IsSpent, Leaves, ReadsOn, end_of}
 use Rattle.kit_serve.specs.declared.end.End.{End}
 use Rattle.kit_serve.specs.declared.end.End.TheVariants.{Eof as EndEof, ReadFault as EndReadFault}
 use Rattle.kit_serve.proofs.Talks.{short_line, leaves_as, leaves_both}
-use Rattle.kit_async_core.specs.declared.entry.Entry.{Entry}
-use Rattle.kit_async_core.specs.declared.event.Event.{Event}
-use Rattle.kit_async_core.specs.declared.event.Event.TheVariants.{Hear, Close as Deafen, Break}
-use Rattle.kit_async_core.specs.declared.event.Reply.{Reply}
-use Rattle.kit_async_core.specs.declared.event.Reply.TheVariants.{Done, Last, Wait, Over, Odd, Unsaid, Broken, Work, Line}
-use Rattle.kit_async_core.specs.Lines.{KitHall, KitPass, heard_lines, hears}
+use Rattle.kit_async_model.specs.declared.entry.Entry.{Entry}
+use Rattle.kit_async_model.specs.declared.event.Event.{Event}
+use Rattle.kit_async_model.specs.declared.event.Event.TheVariants.{Hear, Close as Deafen, Break}
+use Rattle.kit_async_model.specs.declared.event.Reply.{Reply}
+use Rattle.kit_async_model.specs.declared.event.Reply.TheVariants.{Done, Last, Wait, Over, Odd, Unsaid, Broken, Work, Line}
+use Rattle.kit_async_model.specs.Lines.{heard_lines, hears}
+use Rattle.kit_async_core.specs.Halls.{KitHall, KitPass}
 use Rattle.kit_async_core.proofs.Listening.{reader_hears}
 use Rattle.kit_async_roles.specs.declared.why.Why.{Why}
 use Rattle.kit_async_roles.specs.declared.why.Why.TheVariants.{Eof, ReadFault, Long, Memory}

@@ -6,13 +6,13 @@ use Rattle.kit_core.specs.declared.call.Said.{Said}
 use Rattle.kit_core.specs.declared.call.Call.{Call}
 use Rattle.kit_core.specs.declared.call.Asked.{Asked}
 use Rattle.kit_core.specs.Calls.{called, is_line_said}
-use Rattle.kit_async_core.specs.declared.event.Event.{Event}
-use Rattle.kit_async_core.specs.declared.event.Event.TheVariants.{Take as TakeUp, Called, Break}
-use Rattle.kit_async_core.specs.declared.event.Reply.{Reply}
-use Rattle.kit_async_core.specs.declared.event.Reply.TheVariants.{Work}
-use Rattle.kit_async_core.specs.Callings.{calls_of, IsAsked}
-use Rattle.kit_async_core.specs.Lines.{KitHall, KitPass}
-use Rattle.kit_async_core.specs.Standings.{standing}
+use Rattle.kit_async_model.specs.declared.event.Event.{Event}
+use Rattle.kit_async_model.specs.declared.event.Event.TheVariants.{Take as TakeUp, Called, Break}
+use Rattle.kit_async_model.specs.declared.event.Reply.{Reply}
+use Rattle.kit_async_model.specs.declared.event.Reply.TheVariants.{Work}
+use Rattle.kit_async_model.specs.Callings.{calls_of, IsAsked}
+use Rattle.kit_async_core.specs.Halls.{KitHall, KitPass}
+use Rattle.kit_async_model.specs.Standings.{standing}
 use Rattle.kit_async_core.proofs.Callers.{takes_asked, calls_noted, takes_no_call, breaks_no_call}
 use Rattle.kit_async_roles.specs.Passes.{Stands, Enters}
 use Rattle.kit_async_roles.specs.Calling.{HandValue, Works, WorkerRan}

@@ -13,18 +13,19 @@ use Rattle.hall.specs.Passes.{seen_of}
 use Rattle.kit_serve.specs.Turns.{Half, Leaves}
 use Rattle.kit_serve.proofs.Talks.{leaves_both}
 use Rattle.kit_serve.proofs.Texts.{text-append}
-use Rattle.kit_async_core.specs.declared.setup.Setup.{Setup}
-use Rattle.kit_async_core.specs.declared.entry.Entry.{Entry}
-use Rattle.kit_async_core.specs.declared.entry.Entry.TheVariants.{Heard, Take, Call, Say, Wrote, Close, Lack}
-use Rattle.kit_async_core.specs.declared.event.Event.{Event}
-use Rattle.kit_async_core.specs.declared.event.Event.TheVariants.{Next, Wrote as Written, Break}
-use Rattle.kit_async_core.specs.declared.event.Reply.{Reply}
-use Rattle.kit_async_core.specs.declared.event.Reply.TheVariants.{Done, Last, Wait, Over, Odd, Unsaid, Broken, Work, Line}
-use Rattle.kit_async_core.specs.Events.{IsMadeBy, MayStep, IsStepped, IsBrokenOff, IsUnsaid, is_call, can_break, waiting, next_reply, wrote_step, step_of}
-use Rattle.kit_async_core.specs.Legality.{Legal, is_legal, is_done}
-use Rattle.kit_async_core.specs.Lines.{KitHall, KitPass, count_wrotes, is_wrote, said_line, said_lines}
-use Rattle.kit_async_core.specs.Standings.{standing}
-use Rattle.kit_async_core.proofs.Unwritten.{unwritten_are}
+use Rattle.kit_async_model.specs.declared.setup.Setup.{Setup}
+use Rattle.kit_async_model.specs.declared.entry.Entry.{Entry}
+use Rattle.kit_async_model.specs.declared.entry.Entry.TheVariants.{Heard, Take, Call, Say, Wrote, Close, Lack}
+use Rattle.kit_async_model.specs.declared.event.Event.{Event}
+use Rattle.kit_async_model.specs.declared.event.Event.TheVariants.{Next, Wrote as Written, Break}
+use Rattle.kit_async_model.specs.declared.event.Reply.{Reply}
+use Rattle.kit_async_model.specs.declared.event.Reply.TheVariants.{Done, Last, Wait, Over, Odd, Unsaid, Broken, Work, Line}
+use Rattle.kit_async_model.specs.Events.{IsMadeBy, MayStep, IsStepped, IsBrokenOff, IsUnsaid, is_call, can_break, waiting, next_reply, wrote_step, step_of}
+use Rattle.kit_async_model.specs.Legality.{Legal, is_legal, is_done}
+use Rattle.kit_async_model.specs.Lines.{count_wrotes, is_wrote, said_line, said_lines}
+use Rattle.kit_async_core.specs.Halls.{KitHall, KitPass}
+use Rattle.kit_async_model.specs.Standings.{standing}
+use Rattle.kit_async_model.proofs.Unwritten.{unwritten_are}
 use Rattle.kit_async_roles.specs.declared.why.Why.{Why}
 use Rattle.kit_async_roles.specs.declared.why.Why.TheVariants.{WriteFault, Memory, Eof, ReadFault, Long}
 use Rattle.kit_async_roles.specs.Passes.{Stands, Enters}
@@ -266,11 +267,11 @@ pub ran_calm : (h : KitHall) (p q : KitPass) (m : MouthValue) (why : Option Why)
 ran_calm h p q m why s t o calm same = record {
   stands = stands_on h 2 p q s t;
   writes = λ begun w. record {
-      bytes = w.bytes;
-      took = w.took;
-      silent = w.silent;
-      written = calm_written why (seen_of q) w.bytes calm (w.written ∙ ap text (sym same));
-    };
+    bytes = w.bytes;
+    took = w.took;
+    silent = w.silent;
+    written = calm_written why (seen_of q) w.bytes calm (w.written ∙ ap text (sym same));
+  };
   sink = still m.half (why ≡ Some WriteFault) o (calm_fault why calm);
 }
 
@@ -281,11 +282,11 @@ pub ran_wrote : (h : KitHall) (p q : KitPass) (m w : MouthValue) (line : List �
 ran_wrote h p q m w line s t more took untold sink = record {
   stands = stands_on h 2 p q s t;
   writes = λ begun k. record {
-      bytes = k.bytes ++ (line ++ 10 ∷ []);
-      took = appends_both begun m.taken w.taken k.bytes (line ++ 10 ∷ []) k.took took;
-      silent = λ none. untold (k.silent none);
-      written = ap (λ (x : List ℕ). x ++ (line ++ 10 ∷ [])) k.written ∙ sym (text-append (written_lines (seen_of p)) (line ∷ [])) ∙ ap text (sym more);
-    };
+    bytes = k.bytes ++ (line ++ 10 ∷ []);
+    took = appends_both begun m.taken w.taken k.bytes (line ++ 10 ∷ []) k.took took;
+    silent = λ none. untold (k.silent none);
+    written = ap (λ (x : List ℕ). x ++ (line ++ 10 ∷ [])) k.written ∙ sym (text-append (written_lines (seen_of p)) (line ∷ [])) ∙ ap text (sym more);
+  };
   sink = sink;
 }
 
@@ -296,11 +297,11 @@ pub ran_falters : (h : KitHall) (p q : KitPass) (m w : MouthValue) (line : List 
 ran_falters h p q m w line s t same next took untold sink = record {
   stands = stands_on h 2 p q s t;
   writes = λ begun k. record {
-      bytes = k.bytes ++ take took.0 (line ++ 10 ∷ []);
-      took = appends_both begun m.taken w.taken k.bytes (take took.0 (line ++ 10 ∷ [])) k.took took.1;
-      silent = λ none. untold (k.silent none);
-      written = record { line = line; n = took.0; next = next; are = ap (λ (x : List ℕ). x ++ take took.0 (line ++ 10 ∷ [])) (k.written ∙ ap text (sym same)) };
-    };
+    bytes = k.bytes ++ take took.0 (line ++ 10 ∷ []);
+    took = appends_both begun m.taken w.taken k.bytes (take took.0 (line ++ 10 ∷ [])) k.took took.1;
+    silent = λ none. untold (k.silent none);
+    written = record { line = line; n = took.0; next = next; are = ap (λ (x : List ℕ). x ++ take took.0 (line ++ 10 ∷ [])) (k.written ∙ ap text (sym same)) };
+  };
   sink = sink;
 }
 

@@ -7,10 +7,10 @@ use Rattle.kit_core.specs.declared.call.Call.{Call}
 use Rattle.kit_core.specs.declared.call.Asked.{Asked}
 use Rattle.kit_core.specs.declared.call.Asked.TheVariants.{Prepare, Store, Retrieve, Check, Remove}
 use Rattle.kit_core.specs.Calls.{are_lines}
-use Rattle.kit_async_core.specs.Callings.{calls_of}
-use Rattle.kit_async_core.specs.declared.setup.Setup.{Setup}
-use Rattle.kit_async_core.specs.declared.entry.Entry.{Entry}
-use Rattle.kit_async_core.specs.Lines.{KitHall, KitPass}
+use Rattle.kit_async_model.specs.Callings.{calls_of}
+use Rattle.kit_async_model.specs.declared.setup.Setup.{Setup}
+use Rattle.kit_async_model.specs.declared.entry.Entry.{Entry}
+use Rattle.kit_async_core.specs.Halls.{KitHall, KitPass}
 use Rattle.kit_async_roles.specs.Passes.{Stands}
 
 -- what is seen of a remote

@@ -2,11 +2,11 @@
 use Rattle.std.specs.Prelude.{ℕ, ◌≡◌, Bool, Option, Some, None}
 use Rattle.kit_serve.specs.Turns.{Half}
 use Rattle.hall.specs.Passes.{IsPassOf, HasEntered, seen_of}
-use Rattle.kit_async_core.specs.declared.event.Event.{Event}
-use Rattle.kit_async_core.specs.declared.event.Reply.{Reply}
-use Rattle.kit_async_core.specs.Events.{IsMadeBy, MayStep}
-use Rattle.kit_async_core.specs.Legality.{Legal}
-use Rattle.kit_async_core.specs.Lines.{KitHall, KitPass}
+use Rattle.kit_async_model.specs.declared.event.Event.{Event}
+use Rattle.kit_async_model.specs.declared.event.Reply.{Reply}
+use Rattle.kit_async_model.specs.Events.{IsMadeBy, MayStep}
+use Rattle.kit_async_model.specs.Legality.{Legal}
+use Rattle.kit_async_core.specs.Halls.{KitHall, KitPass}
 use Rattle.kit_async_roles.specs.declared.why.Why.{Why}
 use Rattle.kit_async_roles.specs.declared.turn.Turn.{Turn}
 use Rattle.kit_async_roles.specs.declared.turn.Turn.TheVariants.{Went, Rests, Over}

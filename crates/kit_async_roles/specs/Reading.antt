@@ -8,10 +8,11 @@ use Rattle.hall.specs.Passes.{seen_of}
 use Rattle.wire_line.specs.HeldBytes.{first_line, has_line}
 use Rattle.kit_serve.specs.Limits.{longest_line, is_short, next_line}
 use Rattle.kit_serve.specs.Turns.{Half, Leaves}
-use Rattle.kit_async_core.specs.declared.entry.Entry.{Entry}
-use Rattle.kit_async_core.specs.declared.event.Reply.{Reply}
-use Rattle.kit_async_core.specs.declared.event.Reply.TheVariants.{Done, Last}
-use Rattle.kit_async_core.specs.Lines.{KitHall, KitPass, heard_lines}
+use Rattle.kit_async_model.specs.declared.entry.Entry.{Entry}
+use Rattle.kit_async_model.specs.declared.event.Reply.{Reply}
+use Rattle.kit_async_model.specs.declared.event.Reply.TheVariants.{Done, Last}
+use Rattle.kit_async_model.specs.Lines.{heard_lines}
+use Rattle.kit_async_core.specs.Halls.{KitHall, KitPass}
 use Rattle.kit_async_roles.specs.declared.why.Why.{Why}
 use Rattle.kit_async_roles.specs.declared.why.Why.TheVariants.{Eof, ReadFault, Long}
 use Rattle.kit_async_roles.specs.declared.why.Why.TheVariants.{Memory}

@@ -5,8 +5,9 @@ use Rattle.ann_outside.specs.Causes.{StaysUntold}
 use Rattle.annex_model.specs.Lines.{text}
 use Rattle.hall.specs.Passes.{seen_of}
 use Rattle.kit_serve.specs.Turns.{Half, Leaves}
-use Rattle.kit_async_core.specs.declared.entry.Entry.{Entry}
-use Rattle.kit_async_core.specs.Lines.{KitHall, KitPass, count_wrotes, said_lines}
+use Rattle.kit_async_model.specs.declared.entry.Entry.{Entry}
+use Rattle.kit_async_model.specs.Lines.{count_wrotes, said_lines}
+use Rattle.kit_async_core.specs.Halls.{KitHall, KitPass}
 use Rattle.kit_async_roles.specs.declared.why.Why.{Why}
 use Rattle.kit_async_roles.specs.declared.why.Why.TheVariants.{WriteFault}
 use Rattle.kit_async_roles.specs.Passes.{Stands}

@@ -1,14 +1,15 @@
 // One turn of a role: the same whether it has a thread of its own or not.
 ghost use Rattle.std.specs.Prelude.{◌≡◌, true, Some, IfSome, IfNone, IsSome};
-ghost use Rattle.kit_async_core.specs.declared.event.Event.TheVariants.{Break};
-ghost use Rattle.kit_async_core.specs.declared.event.Reply.{Reply};
-ghost use Rattle.kit_async_core.specs.Events.{takes_no_memory};
+ghost use Rattle.kit_async_model.specs.declared.event.Event.TheVariants.{Break};
+ghost use Rattle.kit_async_model.specs.declared.event.Reply.{Reply};
+ghost use Rattle.kit_async_model.specs.Events.{takes_no_memory};
 ghost use Rattle.kit_async_roles.specs.Passes.{Stands, Enters};
 ghost use Rattle.kit_async_roles.specs.declared.turn.Turn.TheVariants.{Over};
 
 use crate::why::Why;
 use hall::{Hall, Pass};
-use kit_async_core::{Event, KitCore, Reply};
+use kit_async_core::KitCore;
+use kit_async_model::{Event, Reply};
 use std::sync::Wait;
 
 /// What came of a turn.

@@ -5,10 +5,10 @@ ghost use Rattle.annex_model.specs.Lines.{has_newline};
 ghost use Rattle.annex_model.specs.Messages.{is_sent_key};
 ghost use Rattle.hall.specs.Passes.{seen_of};
 ghost use Rattle.kit_core.specs.Calls.{are_lines, called, is_line_said};
-ghost use Rattle.kit_async_core.specs.declared.event.Event.TheVariants.{Called};
-ghost use Rattle.kit_async_core.specs.declared.event.Reply.{Reply};
-ghost use Rattle.kit_async_core.specs.Callings.{IsAsked};
-ghost use Rattle.kit_async_core.specs.Standings.{standing};
+ghost use Rattle.kit_async_model.specs.declared.event.Event.TheVariants.{Called};
+ghost use Rattle.kit_async_model.specs.declared.event.Reply.{Reply};
+ghost use Rattle.kit_async_model.specs.Callings.{IsAsked};
+ghost use Rattle.kit_async_model.specs.Standings.{standing};
 ghost use Rattle.kit_async_roles.specs.Passes.{Enters, Stands};
 ghost use Rattle.kit_async_roles.specs.Calling.{WorkerRan, can_be_asked, hand_of};
 
@@ -16,7 +16,8 @@ use crate::turn::{Turn, enter, stop_for};
 use crate::why::Why;
 use ann_key::{Bytes, Key, NoMemory};
 use hall::{Hall, Pass};
-use kit_async_core::{Event, KitCore, Reply};
+use kit_async_core::KitCore;
+use kit_async_model::{Event, Reply};
 use kit_core::{Asked, Remote, Said};
 use std::sync::Wait;
 
@@ -128,7 +129,9 @@ pub fn work_turn<K: Remote, R: Wait>(
     ensures ran { WorkerRan hall.now number pass.old pass.new (hand_of (K.calls remote.old) (K.settings remote.old)) (hand_of (K.calls remote.new) (K.settings remote.new)) }
 {
     match enter(rt, hall, pass, Event::Take) {
-        Some(Reply::Work(asked)) if can_be_asked(&asked) => work(rt, hall, pass, number, remote, &asked),
+        Some(Reply::Work(asked)) if can_be_asked(&asked) => work(
+            rt, hall, pass, number, remote, &asked,
+        ),
         // A line that spells a message asks for nothing else.
         Some(Reply::Work(_)) => stop_for(rt, hall, pass, Why::Memory),
         Some(Reply::Wait) => Turn::Rests,

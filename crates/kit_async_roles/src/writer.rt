@@ -12,7 +12,8 @@ use crate::why::Why;
 use ann_key::Bytes;
 use ann_outside::{Failed, Sink};
 use hall::{Hall, Pass};
-use kit_async_core::{Event, KitCore, Reply};
+use kit_async_core::KitCore;
+use kit_async_model::{Event, Reply};
 use kit_serve::write_line;
 use std::sync::Wait;
 

@@ -1,5 +1,5 @@
 use Rattle.kit_async_core.proofs.Closings.{final_finished}
-use Rattle.kit_async_core.proofs.Overs.{finished_stays}
+use Rattle.kit_async_model.proofs.Overs.{finished_stays}
 use Rattle.kit_async_core.proofs.laws.finished_stays.Goals as goal
 
 pub returns-clause-journal : goal.returns-clause-journal

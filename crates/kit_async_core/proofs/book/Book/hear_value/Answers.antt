@@ -1,10 +1,10 @@
 use Rattle.std.proofs.Common.{◌≡◌, ◌∙◌, ◌++◌, ◌∷◌, [], List, ℕ, None, Some, Option, sym, ap, subst, length, get_or, rules}
 use Rattle.std.specs.Prelude.{position, slice_get, option_map}
 use Rattle.annex_model.specs.Messages.{Getconfig, host_reading, remote_line}
-use Rattle.kit_async_core.specs.declared.job.Job.{Job}
-use Rattle.kit_async_core.specs.Books.{BookValue}
-use Rattle.kit_async_core.specs.Hearings.{text_in, value_told}
-use Rattle.kit_async_core.specs.Jobs.{has_number, job_line}
+use Rattle.kit_async_model.specs.declared.job.Job.{Job}
+use Rattle.kit_async_model.specs.Books.{BookValue}
+use Rattle.kit_async_model.specs.Hearings.{text_in, value_told}
+use Rattle.kit_async_model.specs.Jobs.{has_number, job_line}
 use Rattle.kit_async_core.proofs.Hears.{never_none, is_value, more_said}
 use Rattle.kit_async_core.proofs.book.Book.hear_value.Goals as goal
 

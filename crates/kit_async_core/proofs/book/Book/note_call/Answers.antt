@@ -1,11 +1,11 @@
 use Rattle.std.proofs.Common.{◌≡◌, ◌∙◌, ◌++◌, ◌∷◌, ◌+◌, ◌<◌, [], List, ℕ, None, Some, Option, Bool, sym, ap, subst, refl, length, get_or, arith}
 use Rattle.std.specs.Prelude.{◌||◌, set, slice_get}
-use Rattle.kit_async_core.specs.declared.entry.Entry.TheVariants.{Call}
-use Rattle.kit_async_core.specs.declared.job.Job.{Job}
-use Rattle.kit_async_core.specs.Books.{BookValue, most_calls}
-use Rattle.kit_async_core.specs.Jobs.{prepares, settles}
-use Rattle.kit_async_core.specs.Standings.{Standing, with_call}
-use Rattle.kit_async_core.proofs.Places.{read_is}
+use Rattle.kit_async_model.specs.declared.entry.Entry.TheVariants.{Call}
+use Rattle.kit_async_model.specs.declared.job.Job.{Job}
+use Rattle.kit_async_model.specs.Books.{BookValue, most_calls}
+use Rattle.kit_async_model.specs.Jobs.{prepares, settles}
+use Rattle.kit_async_model.specs.Standings.{Standing, with_call}
+use Rattle.kit_async_model.proofs.Places.{read_is}
 use Rattle.kit_async_core.proofs.book.Book.note_call.Goals as goal
 
 pub note_in-requires : goal.note_in-requires

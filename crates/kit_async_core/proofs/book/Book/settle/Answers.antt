@@ -1,13 +1,13 @@
 use Rattle.std.proofs.Common.{◌≡◌, ◌∙◌, inl, inr, ◌++◌, ◌∷◌, ◌+◌, ◌<◌, ◌≤◌, [], List, ℕ, None, Some, Option, Bool, true, sym, ap, subst, refl, length, get_or, arith}
 use Rattle.std.specs.Prelude.{slice_get, IfSome, remove}
-use Rattle.kit_async_core.specs.declared.entry.Entry.{Entry}
-use Rattle.kit_async_core.specs.declared.entry.Entry.TheVariants.{Say, Lack}
-use Rattle.kit_async_core.specs.declared.job.Job.{Job}
-use Rattle.kit_async_core.specs.Books.{BookValue}
-use Rattle.kit_async_core.specs.Jobs.{settles}
-use Rattle.kit_async_core.specs.Standings.{Standing}
+use Rattle.kit_async_model.specs.declared.entry.Entry.{Entry}
+use Rattle.kit_async_model.specs.declared.entry.Entry.TheVariants.{Say, Lack}
+use Rattle.kit_async_model.specs.declared.job.Job.{Job}
+use Rattle.kit_async_model.specs.Books.{BookValue}
+use Rattle.kit_async_model.specs.Jobs.{settles}
+use Rattle.kit_async_model.specs.Standings.{Standing}
 use Rattle.kit_async_core.proofs.Calls.{begun_is, some_room, still_within, answered_settles, lacking_settles}
-use Rattle.kit_async_core.proofs.Places.{read_is}
+use Rattle.kit_async_model.proofs.Places.{read_is}
 use Rattle.kit_async_core.proofs.book.Book.settle.Goals as goal
 
 pub note_call-requires-clause-room : goal.note_call-requires-clause-room

@@ -1,8 +1,0 @@
--- A journal that is being written.
-use Rattle.std.specs.Prelude.{ℕ, List}
-use Rattle.kit_async_core.specs.declared.entry.Entry.{Entry}
-
--- its entries, and how many more have room
-pub record EntriesValue : Type 0 where
-  pub entries : List Entry
-  pub room : ℕ

@@ -1,0 +1,11 @@
+pub mod Apart
+pub mod Askings
+pub mod Dues
+pub mod Fronts
+pub mod Lacking
+pub mod Making
+pub mod Overs
+pub mod Places
+pub mod Smalls
+pub mod Stepping
+pub mod Unwritten

@@ -1,0 +1,13 @@
+pub mod Books
+pub mod Callings
+pub mod Entries
+pub mod Events
+pub mod Hearings
+pub mod Jobs
+pub mod Laws
+pub mod Legality
+pub mod Lines
+pub mod Meanings
+pub mod Rows
+pub mod Standings
+pub mod Views

@@ -1,0 +1,125 @@
+-- What the lines and the calls of one job mean: what a kit that serves one job at a time says to its request.
+use Rattle.std.specs.Prelude.{ℕ, ◌≡◌, ◌⊎◌, ◌+◌, ◌==◌, ◌&&◌, Bool, true, false, if◌then◌else◌, List, [], ◌∷◌, ◌++◌, length, option_map, Option, Some, None, IsTrue}
+use Rattle.std.specs.List.{list_all}
+use Rattle.annex_model.specs.Messages.{HostMessage, Value, Getconfig, host_reading, remote_line}
+use Rattle.annex_model.specs.Tags.{untag, without_tag}
+use Rattle.kit_core.specs.declared.call.Said.{Said}
+use Rattle.kit_core.specs.Kits.{Due, Silence, Line, Asks, is_readying, is_yes, final_line}
+use Rattle.kit_async_model.specs.declared.setup.Setup.{Setup}
+use Rattle.kit_async_model.specs.declared.entry.Entry.{Entry}
+use Rattle.kit_async_model.specs.declared.entry.Entry.TheVariants.{Heard, Take, Call, Say, Wrote, Close}
+use Rattle.kit_async_model.specs.declared.hearing.Hearing.{Hearing}
+use Rattle.kit_async_model.specs.declared.hearing.Hearing.TheVariants.{Foul, Unexpected, Aside, Asks as AsksJob, Replies}
+use Rattle.kit_async_model.specs.Jobs.{request_due, job_of}
+use Rattle.kit_async_model.specs.Hearings.{text_in, is_open, hearing_of}
+use Rattle.kit_async_model.specs.Standings.{Standing, after, standing}
+use Rattle.kit_async_model.specs.Legality.{is_legal}
+
+-- ---- the lines of a job, and its calls
+
+-- a message of the host, a line that is said, both without a tag; or a call of a remote
+pub data Item : Type 0 where
+  Told : (message : Option HostMessage) → Item
+  Says : (line : List ℕ) → Item
+  Calls : (remote : ℕ) (said : Said) → Item
+
+abbrev pub said_text : ℕ → List ℕ → List ℕ
+said_text number line = if number == 0 then line else without_tag line (untag line)
+
+abbrev pub told_item : List ℕ → Hearing → Option (ℕ × Item)
+told_item text (AsksJob number) = Some (number, Told (host_reading text))
+told_item text (Replies number) = Some (number, Told (host_reading text))
+told_item text hearing = None
+
+abbrev pub said_item : Standing → ℕ → List ℕ → Option (ℕ × Item)
+said_item s job line = if is_open (job_of s.jobs job) && (if s.over then false else true) then Some (job, Says (said_text job line)) else None
+
+-- What an entry is to which job. A line that ended the kit belongs to none, nor do the version and the last words.
+abbrev pub item_of : Setup → Standing → Entry → Option (ℕ × Item)
+item_of setup s (Heard line) = told_item (text_in s.tagged line) (hearing_of setup s.jobs s.tagged line)
+item_of setup s (Call job remote said) = Some (job, Calls remote said)
+item_of setup s (Say job line) = said_item s job line
+item_of setup s entry = None
+
+abbrev pub of_job : ℕ → Option (ℕ × Item) → List Item
+of_job number None = []
+of_job number (Some item) = if item.0 == number then item.1 ∷ [] else []
+
+abbrev pub asks_for : ℕ → Hearing → Bool
+asks_for number (AsksJob n) = n == number
+asks_for number hearing = false
+
+-- the entry is a request with the number: a new job
+abbrev pub begins_job : Setup → Standing → ℕ → Entry → Bool
+begins_job setup s number (Heard line) = asks_for number (hearing_of setup s.jobs s.tagged line)
+begins_job setup s number entry = false
+
+-- the items of the number's job, up to its next
+abbrev pub items_until : Setup → Standing → ℕ → List Entry → List Item
+items_until setup s number [] = []
+items_until setup s number (entry ∷ rest) =
+    if begins_job setup s number entry then []
+    else of_job number (item_of setup s entry) ++ items_until setup (after setup s entry) number rest
+
+-- the items of the job that the line begins, which was heard after the past
+abbrev pub job_items : Setup → List Entry → List ℕ → ℕ → List Entry → List Item
+job_items setup past line number rest =
+    Told (host_reading (text_in (standing setup past).tagged line))
+    ∷ items_until setup (after setup (standing setup past) (Heard line)) number rest
+
+-- ---- what they may be
+
+-- each setting is asked for, and its value told
+abbrev pub asked_values : List (List ℕ) → List (List ℕ) → List Item
+asked_values [] values = []
+asked_values (name ∷ names) [] = []
+asked_values (name ∷ names) (value ∷ values) = Says (remote_line (Getconfig name)) ∷ Told (Some (Value value)) ∷ asked_values names values
+
+-- one remote after the other was called, from this one on
+abbrev pub calls_from : ℕ → List Said → List Item
+calls_from remote [] = []
+calls_from remote (said ∷ more) = Calls remote said ∷ calls_from (remote + 1) more
+
+-- PREPARE and INITREMOTE: with all values, the remotes are called in order, until one doesn't say Yes.
+pub record IsReadied (setup : Setup) (request : HostMessage) (items : List Item) : Type 0 where
+  pub values : List (List ℕ)
+  pub firsts : List Said
+  pub last : Said
+  pub all : length values ≡ length setup.settings
+  pub agree : IsTrue (list_all is_yes firsts)
+  pub ends : (is_yes last ≡ false) ⊎ (length firsts + 1 ≡ setup.remotes)
+  pub are : items ≡ Told (Some request) ∷ asked_values setup.settings values ++ calls_from 0 (firsts ++ last ∷ []) ++ Says (remote_line (final_line (Some request) last)) ∷ []
+
+-- a request for a key: one call of one remote, and the line for what it said
+pub record IsWorked (request : HostMessage) (items : List Item) : Type 0 where
+  pub remote : ℕ
+  pub said : Said
+  pub are : items ≡ Told (Some request) ∷ Calls remote said ∷ Says (remote_line (final_line (Some request) said)) ∷ []
+
+abbrev pub IsByDue : Due → HostMessage → List Item → Type 0
+IsByDue Silence request items = ⊥
+IsByDue (Line line) request items = items ≡ Told (Some request) ∷ Says (remote_line line) ∷ []
+IsByDue (Asks asked) request items = IsWorked request items
+
+abbrev pub IsSettledBy : Bool → Setup → Bool → HostMessage → List Item → Type 0
+IsSettledBy true setup prepared request items = IsReadied setup request items
+IsSettledBy false setup prepared request items = IsByDue (request_due None [] prepared (Some request)) request items
+
+-- the items of a settled job, whose request was heard when the kit was prepared or not
+abbrev pub IsSettled : Setup → Bool → HostMessage → List Item → Type 0
+IsSettled setup prepared request items = IsSettledBy (is_readying (Some request)) setup prepared request items
+
+-- of a job that isn't settled they go on to such ones
+abbrev pub IsMeant : Setup → Bool → HostMessage → List Item → Type 0
+IsMeant setup prepared request items = (more : List Item) × IsSettled setup prepared request (items ++ more)
+
+-- ---- what is to be shown of a legal journal
+
+-- each job of it is as it is meant to be
+abbrev pub JobsAreMeant : Type 0
+JobsAreMeant =
+    (setup : Setup) (past rest : List Entry) (line : List ℕ) (number : ℕ) (request : HostMessage)
+    → is_legal setup (past ++ Heard line ∷ rest) ≡ true
+    → hearing_of setup (standing setup past).jobs (standing setup past).tagged line ≡ AsksJob number
+    → host_reading (text_in (standing setup past).tagged line) ≡ Some request
+    → IsMeant setup (standing setup past).prepared request (job_items setup past line number rest)

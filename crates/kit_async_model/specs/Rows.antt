@@ -1,0 +1,69 @@
+-- Worked journals of a kit, each of which is legal or isn't.
+use Rattle.std.specs.Prelude.{ℕ, List, [], ◌∷◌, ◌++◌, codes}
+use Rattle.kit_core.specs.declared.call.Said.{Said}
+use Rattle.kit_core.specs.declared.call.Said.TheVariants.{Yes, No, Failure}
+use Rattle.kit_async_model.specs.declared.setup.Setup.{Setup}
+use Rattle.kit_async_model.specs.declared.entry.Entry.{Entry}
+use Rattle.kit_async_model.specs.declared.entry.Entry.TheVariants.{Heard, Take, Call, Say, Wrote, Close}
+
+-- two remotes with one setting, and one without any
+abbrev pub two : Setup
+two = record { settings = codes "directory" ∷ []; remotes = 2 }
+
+abbrev pub bare : Setup
+bare = record { settings = []; remotes = 1 }
+
+abbrev pub version : Entry
+version = Say 0 (codes "VERSION 1")
+
+abbrev pub error : Entry
+error = Say 0 (codes "ERROR unexpected message")
+
+-- ---- a host that tags its lines
+
+abbrev pub tagging : List Entry
+tagging = version ∷ Heard (codes "EXTENSIONS INFO ASYNC") ∷ Say 0 (codes "EXTENSIONS ASYNC") ∷ []
+
+-- it waits for the value
+abbrev pub asking : List Entry
+asking = tagging ++ Heard (codes "J 1 PREPARE") ∷ Say 1 (codes "J 1 GETCONFIG directory") ∷ []
+
+-- the value came, and the remotes get ready
+abbrev pub readying : List Entry
+readying = asking ++ Heard (codes "J 1 VALUE d") ∷ []
+
+-- both said Yes
+abbrev pub ready : List Entry
+ready = readying ++ Call 1 0 Yes ∷ Call 1 1 Yes ∷ Say 1 (codes "J 1 PREPARE-SUCCESS") ∷ []
+
+abbrev pub check_a : Entry
+check_a = Heard (codes "J 2 CHECKPRESENT WORM--a")
+
+abbrev pub check_b : Entry
+check_b = Heard (codes "J 3 CHECKPRESENT WORM--b")
+
+abbrev pub absent_a : Entry
+absent_a = Say 2 (codes "J 2 CHECKPRESENT-FAILURE WORM--a")
+
+abbrev pub present_b : Entry
+present_b = Say 3 (codes "J 3 CHECKPRESENT-SUCCESS WORM--b")
+
+-- two checks at once, of which the later is answered first
+abbrev pub crossed : List Entry
+crossed = ready ++ check_a ∷ check_b ∷ Take 2 0 ∷ Take 3 1 ∷ Call 3 1 Yes ∷ present_b ∷ Call 2 0 No ∷ absent_a ∷ []
+
+-- both are written, and no more is heard
+abbrev pub whole : List Entry
+whole = crossed ++ Close ∷ Wrote ∷ Wrote ∷ Wrote ∷ Wrote ∷ Wrote ∷ Wrote ∷ []
+
+-- ---- a host that doesn't
+
+-- each request is answered before the next is heard
+abbrev pub plain : List Entry
+plain =
+    version ∷ Heard (codes "EXTENSIONS INFO") ∷ Say 0 (codes "EXTENSIONS ")
+    ∷ Heard (codes "PREPARE") ∷ Say 0 (codes "GETCONFIG directory") ∷ Heard (codes "VALUE d")
+    ∷ Call 0 0 Yes ∷ Call 0 1 Yes ∷ Say 0 (codes "PREPARE-SUCCESS") ∷ []
+
+abbrev pub plain_check : Entry
+plain_check = Heard (codes "CHECKPRESENT WORM--a")

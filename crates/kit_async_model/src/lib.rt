@@ -1,0 +1,20 @@
+//! The journal of a kit that serves several jobs at once to a host that tags its lines (ASYNC): which journals it may have, and what its
+//! open jobs are, by what was heard, called and said. No journal is written here.
+//! <https://git-annex.branchable.com/design/external_special_remote_protocol/async_appendix/>
+#![tactic(auto)]
+
+pub mod due;
+mod entries;
+mod entry;
+mod event;
+pub mod hearing;
+mod job;
+pub mod jobs;
+pub mod laws;
+mod setup;
+
+pub use entries::Entries;
+pub use entry::Entry;
+pub use event::{Event, Reply};
+pub use job::Job;
+pub use setup::Setup;
