@@ -2,9 +2,9 @@
 ghost use Rattle.std.specs.Prelude.{◌≡◌, ◌+◌, [], length};
 ghost use Rattle.kit_async.specs.Served.{IsEntryAt};
 
-use kit_async_model::Entries;
 use crate::lent::{KitEntry, shown};
 use crate::why::Why;
+use kit_async_model::Entries;
 use std::alloc::Global;
 use std::marker::Model;
 

@@ -2,8 +2,8 @@
 ghost use Rattle.std.specs.Prelude.{◌≡◌, Some};
 ghost use Rattle.kit_async.specs.Served.{entry_shown};
 
-use kit_async_model::Entry;
 use crate::why::Why;
+use kit_async_model::Entry;
 use kit_core::Said;
 
 /// An entry of a kit's journal, lent. [`Entry`] has what each means.

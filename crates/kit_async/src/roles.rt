@@ -142,7 +142,14 @@ impl<'a, S: Source, R: Wait> Reader<'a, S, R> {
     /// One turn, by the thread that calls it, and whether something was done.
     pub(crate) fn turn(&mut self) -> bool {
         let (rt, alloc, hall) = (self.rt, self.alloc, self.hall);
-        match read_turn(rt, alloc, hall, &mut self.pass, &mut self.source, &mut self.splitter) {
+        match read_turn(
+            rt,
+            alloc,
+            hall,
+            &mut self.pass,
+            &mut self.source,
+            &mut self.splitter,
+        ) {
             Turn::Went => true,
             Turn::Rests => false,
             Turn::Over(why) => {
@@ -173,6 +180,9 @@ impl<'a, K: Remote, R: Wait> Worker<'a, K, R> {
     /// One turn, by the thread that calls it, and whether something was done.
     pub(crate) fn turn(&mut self) -> bool {
         let (rt, hall, number) = (self.rt, self.hall, self.number);
-        matches!(work_turn(rt, hall, &mut self.pass, number, &mut self.remote), Turn::Went)
+        matches!(
+            work_turn(rt, hall, &mut self.pass, number, &mut self.remote),
+            Turn::Went
+        )
     }
 }
