@@ -1,6 +1,6 @@
 -- What a pass has seen, once it told the core something.
-use Rattle.std.proofs.Common.{◌≡◌, ◌≢◌, ◌⊎◌, inl, inr, ℕ, ◌+◌, List, [], ◌∷◌, ◌++◌, refl, sym, ap, subst, ◌∙◌, Bool, true, false, Some, None, Option, Result, Ok, Err, IfOk, OnErr, IfSome}
-use Rattle.std.specs.Option.{IsSome}
+use Rattle.std.proofs.Common.{◌≡◌, ◌≢◌, ◌⊎◌, inl, inr, ℕ, ◌+◌, List, [], ◌∷◌, ◌++◌, refl, sym, ap, subst, ◌∙◌, Bool, true, false, Some, None, Option, Result, Ok, Err, IfOk, OnErr, IfSome, IfNone, IsSome}
+use Rattle.std.specs.Result.{result_ok}
 use Rattle.hall.specs.declared.view.Link.{Link}
 use Rattle.hall.specs.Log.{flat, NotBy, Allowed, Legal as LegalLog}
 use Rattle.hall.specs.Passes.{IsPassOf, HasEntered, seen_of}
@@ -42,3 +42,13 @@ entered_stands h p q event (Err e) s own ok err = stands_still h p.number p q s 
 pub answered : (h : KitHall) (p q : KitPass) (event : Event) (o : Option Reply) → IsSome o → IfSome o (Enters h p q event) → (reply : Reply) × Enters h p q event reply
 answered h p q event None some e = cc
 answered h p q event (Some reply) some e = (reply, e)
+
+-- ---- what is left of a result
+
+pub ok_some : {A E : Type 0} (o : Option A) (result : Result A E) (P : A → Type 0) → o ≡ result_ok result → IfOk result P → IfSome o P
+ok_some {A = A} o (Ok x) P e k = subst (λ (p : Option A). IfSome p P) (sym e) k
+ok_some {A = A} o (Err x) P e k = subst (λ (p : Option A). IfSome p P) (sym e) tt
+
+pub ok_none : {A E : Type 0} (o : Option A) (result : Result A E) (P : Type 0) → o ≡ result_ok result → OnErr result P → IfNone o P
+ok_none {A = A} o (Ok x) P e k = subst (λ (p : Option A). IfNone p P) (sym e) tt
+ok_none {A = A} o (Err x) P e k = subst (λ (p : Option A). IfNone p P) (sym e) k

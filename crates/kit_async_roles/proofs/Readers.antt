@@ -28,7 +28,7 @@ use Rattle.kit_async_roles.specs.declared.turn.Turn.{Turn}
 use Rattle.kit_async_roles.specs.declared.turn.Turn.TheVariants.{Went, Over as TurnOver}
 use Rattle.kit_async_roles.specs.Passes.{Stands, Enters, why_of}
 use Rattle.kit_async_roles.specs.Reading.{EarValue, Hears, IsQuiet, Reads, ReadingEnds, ReaderRan, ear_of, is_taken}
-use Rattle.kit_async_roles.proofs.Groups.{stands_on}
+use Rattle.kit_async_roles.proofs.Groups.{stands_on, stands_still}
 
 -- ---- what was heard
 
@@ -219,3 +219,27 @@ ran_both h p q r e f g why a b = record {
 
 pub ran_none : (h : KitHall) (p : KitPass) (e : EarValue) → Stands h 1 p → e.half.is_open ≡ true → ReaderRan h p p e e None
 ran_none h p e s o = record { stands = s; reads = λ begun r. r; source = still e.half (None ≡ Some ReadFault) o (λ (bad : None ≡ Some ReadFault). absurd cc); ends = tt }
+
+-- ---- the functions
+
+-- no memory was found for what it told, and the kit was broken off
+pub untold : (h : KitHall) (p q v : KitPass) (held : List ℕ) → Stands h 1 p → q ≡ p → Stands h q.number v → ((reply : Reply) × Enters h q v Break reply) → Hears h p v held held
+untold h p q v held s same t e = subst (λ (x : KitPass). Hears h x v held held) same (broken h q v held (stands_still h 1 p q s same) t e)
+
+-- it ends because no memory was found
+pub quiet_stop : (turn : Turn) → turn ≡ TurnOver (Some Memory) → IsQuiet (why_of turn)
+quiet_stop turn e = inr (ap why_of e)
+
+pub ran_stopped : (h : KitHall) (p q : KitPass) (given left : Option (List ℕ)) (half : Half) (held : List ℕ) (turn : Turn) → Hears h p q held held → half.is_open ≡ true
+    → turn ≡ TurnOver (Some Memory) → ReaderRan h p q (ear_of given left half held) (ear_of given left half held) (why_of turn)
+ran_stopped h p q given left half held turn k o e = ran_quiet h p q given left half held held (why_of turn) k o (quiet_stop turn e)
+
+-- a read that ended otherwise
+pub not_fault : {T : Type 0} (result : Result T End) (end : End) → result ≡ Err end → (end ≡ EndReadFault → ⊥) → end_of result ≡ Some EndReadFault → ⊥
+not_fault {T = T} result end is none f =
+    let same : Some end ≡ Some EndReadFault = sym (ap (λ (x : Result T End). end_of x) is) ∙ f in
+    let bad : end ≡ EndReadFault = cc in none bad
+
+pub read_on : {T : Type 0} (result : Result T End) (x : T) → result ≡ Ok x → end_of result ≡ Some EndReadFault → ⊥
+read_on {T = T} result x is f =
+    let bad : None ≡ Some EndReadFault = sym (ap (λ (r : Result T End). end_of r) is) ∙ f in absurd cc

@@ -16,7 +16,7 @@ use Rattle.kit_async_model.specs.Standings.{standing}
 use Rattle.kit_async_core.proofs.Callers.{takes_asked, calls_noted, takes_no_call, breaks_no_call}
 use Rattle.kit_async_roles.specs.Passes.{Stands, Enters}
 use Rattle.kit_async_roles.specs.Calling.{HandValue, Works, WorkerRan}
-use Rattle.kit_async_roles.proofs.Groups.{stands_on}
+use Rattle.kit_async_roles.proofs.Groups.{stands_on, stands_still}
 
 -- ---- the parts
 
@@ -69,3 +69,13 @@ told_work h r p q asked s e = (takes_asked h p q r asked s.number_is s.legal e).
 pub ran_took : (h : KitHall) (r : ℕ) (p q v : KitPass) (reply : Reply) (a b : HandValue) → Stands h (r + 3) p → Stands h p.number q → Enters h p q TakeUp reply → WorkerRan h r q v a b
     → WorkerRan h r p v a b
 ran_took h r p q v reply a b s t e x = ran_both h r p q v a a b (ran_waits h r p q reply a s t e) x
+
+-- ---- the functions
+
+-- no memory was found to take anything up, and the kit was broken off
+pub ran_untold : (h : KitHall) (r : ℕ) (p q v : KitPass) (a : HandValue) → Stands h (r + 3) p → q ≡ p → Stands h q.number v → ((reply : Reply) × Enters h q v Break reply) → WorkerRan h r p v a a
+ran_untold h r p q v a s same t e = subst (λ (x : KitPass). WorkerRan h r x v a a) same (ran_broken h r q v a a (stands_still h (r + 3) p q s same) t e refl refl)
+
+-- it was called, and the kit was broken off
+pub ran_and_broke : (h : KitHall) (r : ℕ) (p q v : KitPass) (a b : HandValue) → WorkerRan h r p q a b → Stands h q.number v → ((reply : Reply) × Enters h q v Break reply) → WorkerRan h r p v a b
+ran_and_broke h r p q v a b x t e = ran_both h r p q v a b b x (ran_broken h r q v b b x.stands t e refl refl)

@@ -1,17 +1,17 @@
 -- One turn of a writer, and many.
-use Rattle.std.proofs.Common.{◌≡◌, ◌≢◌, ◌⊎◌, inl, inr, ℕ, zero, suc, ◌+◌, ◌<◌, ◌≤◌, List, [], ◌∷◌, ◌++◌, refl, sym, ap, subst, ◌∙◌, append_assoc, append-nil, length, take, drop, Bool, true, false, Some, None, Option, slice_get, arith}
+use Rattle.std.proofs.Common.{◌≡◌, ◌≢◌, ◌⊎◌, inl, inr, ℕ, zero, suc, ◌+◌, ◌<◌, ◌≤◌, List, [], ◌∷◌, ◌++◌, refl, sym, ap, subst, ◌∙◌, append_assoc, append-nil, length, take, drop, Bool, true, false, Some, None, Option, Result, Ok, Err, IsErr, slice_get, arith}
 use Rattle.std.specs.Prelude.{All}
 use Rattle.std.specs.Io.KnownBytes.{Appends}
 use Rattle.std.proofs.lemmas.List.{take-append-le}
 use Rattle.std.proofs.lemmas.List.Elements.{filter_map-append, All-head, All-tail}
-use Rattle.ann_outside.specs.Causes.{StaysUntold}
+use Rattle.ann_outside.specs.Causes.{HasCause, Rose, StaysUntold}
 use Rattle.ann_outside.proofs.Telling.{appends_both}
 use Rattle.annex_model.specs.Lines.{text}
 use Rattle.hall.specs.declared.view.Link.{Link}
 use Rattle.hall.specs.Log.{flat, NotBy, Allowed, Legal as LegalLog}
 use Rattle.hall.specs.Passes.{seen_of}
 use Rattle.kit_serve.specs.Turns.{Half, Leaves}
-use Rattle.kit_serve.proofs.Talks.{leaves_both}
+use Rattle.kit_serve.proofs.Talks.{leaves_as, leaves_both}
 use Rattle.kit_serve.proofs.Texts.{text-append}
 use Rattle.kit_async_model.specs.declared.setup.Setup.{Setup}
 use Rattle.kit_async_model.specs.declared.entry.Entry.{Entry}
@@ -28,9 +28,11 @@ use Rattle.kit_async_model.specs.Standings.{standing}
 use Rattle.kit_async_model.proofs.Unwritten.{unwritten_are}
 use Rattle.kit_async_roles.specs.declared.why.Why.{Why}
 use Rattle.kit_async_roles.specs.declared.why.Why.TheVariants.{WriteFault, Memory, Eof, ReadFault, Long}
-use Rattle.kit_async_roles.specs.Passes.{Stands, Enters}
+use Rattle.kit_async_roles.specs.declared.turn.Turn.{Turn}
+use Rattle.kit_async_roles.specs.declared.turn.Turn.TheVariants.{Over as TurnOver}
+use Rattle.kit_async_roles.specs.Passes.{Stands, Enters, why_of}
 use Rattle.kit_async_roles.specs.Writing.{MouthValue, written_lines, IsNextLine, IsFaltered, IsWritten, Writes, WriterRan}
-use Rattle.kit_async_roles.proofs.Groups.{before_own, stands_on}
+use Rattle.kit_async_roles.proofs.Groups.{before_own, stands_on, stands_still}
 
 -- ---- counts
 
@@ -317,3 +319,73 @@ wrote_both h p q r m w v why a b = record {
 
 pub wrote_none : (h : KitHall) (p : KitPass) (m : MouthValue) → Stands h 2 p → m.half.is_open ≡ true → WriterRan h p p m m None
 wrote_none h p m s o = record { stands = s; writes = λ begun k. k; sink = still m.half (None ≡ Some WriteFault) o (λ (bad : None ≡ Some WriteFault). absurd cc) }
+
+-- ---- the functions
+
+-- all was taken, and then handed on or not
+pub flushed_leaves : {T E : Type 0} (old mid new : Half) (result : Result T E) → mid.faults ≡ old.faults → HasCause mid.faults new.faults result → new.is_open ≡ true
+    → new.number ≡ mid.number → mid.number ≡ old.number → Leaves old new (IsErr result)
+flushed_leaves old mid new (Ok x) same c o n m = record {
+  later = omega (arith, c.later, same);
+  cause = λ (bad : false ≡ true). absurd cc;
+  quiet = λ _. c.done ∙ same;
+  opened = o;
+  number = n ∙ m;
+}
+flushed_leaves old mid new (Err e) same c o n m = record {
+  later = omega (arith, c.later, same);
+  cause = λ _. subst (λ (k : ℕ). Rose k new.faults) same c.failed;
+  quiet = λ no. absurd (no refl);
+  opened = o;
+  number = n ∙ m;
+}
+
+-- it wasn't all taken
+pub failed_leaves : (old new : Half) (fault : Type 0) → fault → old.faults ≤ new.faults → Rose old.faults new.faults → new.is_open ≡ true → new.number ≡ old.number → Leaves old new fault
+failed_leaves old new fault f later rose o n = record { later = later; cause = λ _. rose; quiet = λ no. absurd (no f); opened = o; number = n }
+
+-- a fault that came, by another word
+pub leaves_for : (old new : Half) (fault fault' : Type 0) → Leaves old new fault → fault → fault' → Leaves old new fault'
+leaves_for old new fault fault' l f f' = record { later = l.later; cause = λ _. l.cause f; quiet = λ no. absurd (no f'); opened = l.opened; number = l.number }
+
+not_error : {T E : Type 0} (result : Result T E) (x : T) → result ≡ Ok x → IsErr result → ⊥
+not_error (Ok y) x is f = cc
+not_error (Err e) x is f = cc
+
+-- the next line was written whole, and told so
+pub ran_put : {T E : Type 0} (h : KitHall) (p q : KitPass) (m w : MouthValue) (line : List ℕ) (result : Result T E) (x : T) → Stands h 2 p → Stands h p.number q
+    → ((reply : Reply) × Enters h p q Written reply) → IsNextLine (seen_of p) line → result ≡ Ok x → Appends m.taken w.taken (line ++ 10 ∷ []) → StaysUntold m.taken w.taken
+    → Leaves m.half w.half (IsErr result) → WriterRan h p q m w None
+ran_put h p q m w line result x s t e next is took untold sink =
+    ran_wrote h p q m w line s t (told_wrote h p q e.0 line s e.1 next) took untold
+    (leaves_as m.half w.half (IsErr result) (None ≡ Some WriteFault) sink (not_error result x is) (λ (bad : None ≡ Some WriteFault). absurd cc))
+
+is_error : {T E : Type 0} (result : Result T E) (x : E) → result ≡ Err x → IsErr result
+is_error (Ok y) x is = cc
+is_error (Err e) x is = refl
+
+-- writing failed, and the kit was broken off
+pub ran_failed : {T E : Type 0} (h : KitHall) (p q : KitPass) (m w : MouthValue) (line : List ℕ) (result : Result T E) (x : E) (turn : Turn) → Stands h 2 p → Stands h p.number q
+    → ((reply : Reply) × Enters h p q Break reply) → IsNextLine (seen_of p) line → result ≡ Err x → ((n : ℕ) × Appends m.taken w.taken (take n (line ++ 10 ∷ []))) → StaysUntold m.taken w.taken
+    → Leaves m.half w.half (IsErr result) → turn ≡ TurnOver (Some WriteFault) → WriterRan h p q m w (why_of turn)
+ran_failed h p q m w line result x turn s t e next is took untold sink over =
+    subst (λ (u : Turn). WriterRan h p q m w (why_of u)) (sym over)
+    (ran_falters h p q m w line s t (broke h p q s e) (broke_next h p q line s e next) took untold
+    (leaves_for m.half w.half (IsErr result) (Some WriteFault ≡ Some WriteFault) sink (is_error result x is) refl))
+
+-- it was given a line, and did that with it
+pub wrote_given : (h : KitHall) (p q r : KitPass) (reply : Reply) (m w : MouthValue) (why : Option Why) → Stands h 2 p → Stands h p.number q → Enters h p q Next reply → m.half.is_open ≡ true
+    → WriterRan h q r m w why → WriterRan h p r m w why
+wrote_given h p q r reply m w why s t e o x = wrote_both h p q r m m w why (ran_calm h p q m None s t o tt (asked_next h p q reply s e)) x
+
+-- there was none
+pub wrote_idle : (h : KitHall) (p q : KitPass) (reply : Reply) (m : MouthValue) → Stands h 2 p → Stands h p.number q → Enters h p q Next reply → m.half.is_open ≡ true → WriterRan h p q m m None
+wrote_idle h p q reply m s t e o = ran_calm h p q m None s t o tt (asked_next h p q reply s e)
+
+-- no memory was found for it, and the kit was broken off
+pub wrote_untold : (h : KitHall) (p q v : KitPass) (m : MouthValue) (turn : Turn) → Stands h 2 p → q ≡ p → Stands h q.number v → ((reply : Reply) × Enters h q v Break reply) → m.half.is_open ≡ true
+    → turn ≡ TurnOver (Some Memory) → WriterRan h p v m m (why_of turn)
+wrote_untold h p q v m turn s same t e o over =
+    let still_there = stands_still h 2 p q s same in
+    subst (λ (x : KitPass). WriterRan h x v m m (why_of turn)) same
+    (subst (λ (u : Turn). WriterRan h q v m m (why_of u)) (sym over) (ran_calm h q v m (Some Memory) still_there t o tt (broke h q v still_there e)))
