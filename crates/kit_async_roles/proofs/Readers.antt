@@ -243,3 +243,7 @@ not_fault {T = T} result end is none f =
 pub read_on : {T : Type 0} (result : Result T End) (x : T) → result ≡ Ok x → end_of result ≡ Some EndReadFault → ⊥
 read_on {T = T} result x is f =
     let bad : None ≡ Some EndReadFault = sym (ap (λ (r : Result T End). end_of r) is) ∙ f in absurd cc
+
+-- a rest changes nothing
+pub ran_rested : (h : KitHall) (p q r : KitPass) (e f : EarValue) → ReaderRan h p q e f None → r ≡ q → ReaderRan h p r e f None
+ran_rested h p q r e f a same = subst (λ (x : KitPass). ReaderRan h p x e f None) (sym same) a

@@ -79,3 +79,7 @@ ran_untold h r p q v a s same t e = subst (λ (x : KitPass). WorkerRan h r x v a
 -- it was called, and the kit was broken off
 pub ran_and_broke : (h : KitHall) (r : ℕ) (p q v : KitPass) (a b : HandValue) → WorkerRan h r p q a b → Stands h q.number v → ((reply : Reply) × Enters h q v Break reply) → WorkerRan h r p v a b
 ran_and_broke h r p q v a b x t e = ran_both h r p q v a b b x (ran_broken h r q v b b x.stands t e refl refl)
+
+-- a rest changes nothing
+pub ran_rested : (h : KitHall) (r : ℕ) (p q v : KitPass) (a b : HandValue) → WorkerRan h r p q a b → v ≡ q → WorkerRan h r p v a b
+ran_rested h r p q v a b x same = subst (λ (y : KitPass). WorkerRan h r p y a b) (sym same) x

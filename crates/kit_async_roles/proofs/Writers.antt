@@ -389,3 +389,7 @@ wrote_untold h p q v m turn s same t e o over =
     let still_there = stands_still h 2 p q s same in
     subst (λ (x : KitPass). WriterRan h x v m m (why_of turn)) same
     (subst (λ (u : Turn). WriterRan h q v m m (why_of u)) (sym over) (ran_calm h q v m (Some Memory) still_there t o tt (broke h q v still_there e)))
+
+-- a rest changes nothing
+pub wrote_rested : (h : KitHall) (p q r : KitPass) (m w : MouthValue) → WriterRan h p q m w None → r ≡ q → WriterRan h p r m w None
+wrote_rested h p q r m w a same = subst (λ (x : KitPass). WriterRan h p x m w None) (sym same) a

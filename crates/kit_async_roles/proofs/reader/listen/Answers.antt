@@ -1,17 +1,28 @@
-use Rattle.std.proofs.Common.{None, subst, sym}
-use Rattle.kit_async_core.specs.Halls.{KitPass}
-use Rattle.kit_async_roles.specs.Passes.{half_of}
-use Rattle.kit_async_roles.specs.Reading.{ReaderRan, ear_of}
-use Rattle.kit_async_roles.proofs.Readers.{ran_both, ran_none}
+use Rattle.kit_async_roles.proofs.Readers.{ran_both, ran_none, ran_rested}
 use Rattle.kit_async_roles.proofs.reader.listen.Goals as goal
 
 pub loop-init : goal.loop-init
-loop-init g c = record {
+loop-init g c = record { can = tt; finite = tt; limit = c.requires.limit; ran = ran_none _ _ _ c.requires.stands c.requires.open }
+
+pub read_turn-requires-clause-stands : goal.read_turn-requires-clause-stands
+read_turn-requires-clause-stands g c = c.loop.invariant.ran.stands
+
+pub read_turn-requires-clause-open : goal.read_turn-requires-clause-open
+read_turn-requires-clause-open g c = c.loop.invariant.ran.source.opened
+
+pub rest-requires : goal.rest-requires
+rest-requires g c = c.in-Rests.ensures.ran.stands.pass
+
+pub loop-preserved-in-Went : goal.loop-preserved-in-Went
+loop-preserved-in-Went g c = record { can = tt; finite = tt; limit = c.in-Went.ensures.limit; ran = ran_both _ _ _ _ _ _ _ _ c.loop.invariant.ran c.in-Went.ensures.ran }
+
+pub loop-preserved : goal.loop-preserved
+loop-preserved g c = record {
   can = tt;
   finite = tt;
-  limit = c.requires.limit;
-  ran =
-      ran_none c.args.hall.now c.args.pass.now
-      (ear_of (g.S.Source.given c.args.source.now) (g.S.Source.left c.args.source.now) (half_of (g.S.Source.faults c.args.source.now) (g.S.Source.is_open c.args.source.now) (g.S.Source.number c.args.source.now)) c.args.splitter.now.bytes)
-      c.requires.stands c.requires.open;
+  limit = c.in-Rests.ensures.limit;
+  ran = ran_rested _ _ _ _ _ _ (ran_both _ _ _ _ _ _ _ _ c.loop.invariant.ran c.in-Rests.ensures.ran) c.rest.ensures;
 }
+
+pub returns-in-Over-clause-ran : goal.returns-in-Over-clause-ran
+returns-in-Over-clause-ran g c = ran_both _ _ _ _ _ _ _ _ c.loop.invariant.ran c.in-Over.ensures.ran

@@ -1,0 +1,20 @@
+use Rattle.kit_async_roles.proofs.Workers.{ran_both, ran_none, ran_rested}
+use Rattle.kit_async_roles.proofs.worker.toil.Goals as goal
+
+pub loop-init : goal.loop-init
+loop-init g c = record { can = tt; finite = tt; ran = ran_none _ _ _ _ c.requires }
+
+pub work_turn-requires : goal.work_turn-requires
+work_turn-requires g c = c.loop.invariant.ran.stands
+
+pub rest-requires : goal.rest-requires
+rest-requires g c = c.in-Rests.ensures.stands.pass
+
+pub loop-preserved-in-Went : goal.loop-preserved-in-Went
+loop-preserved-in-Went g c = record { can = tt; finite = tt; ran = ran_both _ _ _ _ _ _ _ _ c.loop.invariant.ran c.in-Went.ensures }
+
+pub loop-preserved : goal.loop-preserved
+loop-preserved g c = record { can = tt; finite = tt; ran = ran_rested _ _ _ _ _ _ _ (ran_both _ _ _ _ _ _ _ _ c.loop.invariant.ran c.in-Rests.ensures) c.rest.ensures }
+
+pub returns-in-Over : goal.returns-in-Over
+returns-in-Over g c = ran_both _ _ _ _ _ _ _ _ c.loop.invariant.ran c.in-Over.ensures

@@ -1,0 +1,6 @@
+use Rattle.std.proofs.Common.{refl}
+use Rattle.kit_async_roles.proofs.Writers.{failed_leaves, flushed_leaves}
+use Rattle.kit_async_roles.proofs.writer.put.Goals as goal
+
+pub returns-clause-sink : goal.returns-clause-sink
+returns-clause-sink g c = flushed_leaves _ _ _ c.flush.result c.in_ok-write_line.ensures.done c.flush.ensures.cause c.flush.ensures.open c.flush.ensures.number c.write_line.ensures.number
