@@ -99,7 +99,7 @@ impl Job {
     }
 
     /// Whether any one remote may take it up.
-    pub fn is_for_any(&self, setup: &Setup) -> bool
+    pub(crate) fn is_for_any(&self, setup: &Setup) -> bool
         ensures { result ≡ is_for_any setup.now self.now }
     {
         !self.is_making_ready() && matches!(self.due(setup), Due::Call)

@@ -24,7 +24,7 @@ pub enum Hearing {
 }
 
 // The number and the message of the line, where it has what it must.
-pub fn part(tagged: bool, line: &[u8]) -> Option<(u64, &[u8])>
+pub(crate) fn part(tagged: bool, line: &[u8]) -> Option<(u64, &[u8])>
     ensures { option_map (λ t. (t.0, t.1.now)) result ≡ parted tagged line.now }
 {
     if !tagged {

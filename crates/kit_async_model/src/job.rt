@@ -66,14 +66,14 @@ impl Job {
         read_host(self.text.view())
     }
 
-    pub fn is_making_ready(&self) -> bool
+    pub(crate) fn is_making_ready(&self) -> bool
         ensures { result ≡ is_making_ready self.now }
     {
         is_readying(self.request())
     }
 
     /// The setting whose value comes next.
-    pub fn next_name<'a>(&self, setup: &'a Setup) -> Option<&'a [u8]>
+    pub(crate) fn next_name<'a>(&self, setup: &'a Setup) -> Option<&'a [u8]>
         ensures { option_copied result ≡ next_name setup.now self.now }
     {
         setup.name(self.values.len())
@@ -86,7 +86,7 @@ impl Job {
     }
 
     /// The key that it names, if a remote works on it.
-    pub fn key(&self) -> Option<KeyRef<'_>>
+    pub(crate) fn key(&self) -> Option<KeyRef<'_>>
         ensures { option_map text_of result ≡ key_in (request_of self.now) }
     {
         match self.request() {
@@ -98,7 +98,7 @@ impl Job {
     }
 
     /// Whether that remote took it up, and hasn't answered yet.
-    pub fn is_worked_by(&self, remote: u32) -> bool
+    pub(crate) fn is_worked_by(&self, remote: u32) -> bool
         ensures { result ≡ is_worked_by remote self.now }
     {
         self.taken == Some(remote) && self.calls == 0

@@ -14,7 +14,7 @@ fn has_number(job: &Job, number: u64) -> bool
 }
 
 /// The open job of that number.
-pub fn job_of(jobs: &[Job], number: u64) -> Option<&Job>
+pub(crate) fn job_of(jobs: &[Job], number: u64) -> Option<&Job>
     ensures { option_copied result ≡ job_of jobs.now number }
 {
     jobs.iter().find(|job| has_number(job, number))
