@@ -46,14 +46,31 @@ final_is h passes final fixed p closed b begins =
     closed.is ∙ ap (λ (l : List (Link Entry)). h.start ++ flat l) (sym b.whole) ∙ seen-more h.start p.links b.more
     ∙ ap (λ (s : List Entry). (s ++ flat p.links) ++ flat b.more) (sym begins)
 
+-- What stands at the end is what the pass has seen, and then what others made.
+pub record Outgrown (h : KitHall) (final : List Entry) (p : KitPass) : Type 0 where
+  pub more : List (Link Entry)
+  pub whole : final ≡ seen_of p ++ flat more
+  pub legal : LegalLog (Allowed IsMadeBy MayStep) h.fixed (seen_of p) more
+  pub others : NotBy p.number more
+
+pub outgrown : (h : KitHall) (passes : List KitPass) (final : List Entry) (fixed : Setup) (i : ℕ) (p : KitPass) → HasClosed IsMadeBy MayStep h passes final fixed
+    → slice_get passes i ≡ Some p → IsPassOf h p → Outgrown h final p
+outgrown h passes final fixed i p closed there ours =
+    let b = behind closed.log p (get-from_all (HasAllOf closed.log) passes closed.each i p there) in
+    let all = subst (λ (l : List (Link Entry)). LegalLog (Allowed IsMadeBy MayStep) h.fixed h.start l) (sym b.whole) closed.legal in
+    record {
+      more = b.more;
+      whole = final_is h passes final fixed p closed b ours.2;
+      legal = subst (λ (s : List Entry). LegalLog (Allowed IsMadeBy MayStep) h.fixed (s ++ flat p.links) b.more) (sym ours.2) (legal-after (Allowed IsMadeBy MayStep) h.fixed h.start p.links b.more all);
+      others = b.others;
+    }
+
 pub final_heard : (h : KitHall) (passes : List KitPass) (final : List Entry) (fixed : Setup) (i : ℕ) (p : KitPass) → HasClosed IsMadeBy MayStep h passes final fixed
     → slice_get passes i ≡ Some p → IsPassOf h p → p.number ≡ 1 → heard_lines final ≡ heard_lines (seen_of p)
 final_heard h passes final fixed i p closed there ours one =
-    let b = behind closed.log p (get-from_all (HasAllOf closed.log) passes closed.each i p there) in
-    let grown = legal-after (Allowed IsMadeBy MayStep) h.fixed h.start p.links b.more
-    (subst (λ (l : List (Link Entry)). LegalLog (Allowed IsMadeBy MayStep) h.fixed h.start l) (sym b.whole) closed.legal) in
-    let none : heard_lines (flat b.more) ≡ [] = none_log h.fixed (h.start ++ flat p.links) b.more grown (subst (λ (n : ℕ). NotBy n b.more) one b.others) in
-    ap heard_lines (final_is h passes final fixed p closed b ours.2) ∙ filter_map-append heard_line (seen_of p) (flat b.more)
+    let o = outgrown h passes final fixed i p closed there ours in
+    let none : heard_lines (flat o.more) ≡ [] = none_log h.fixed (seen_of p) o.more o.legal (subst (λ (n : ℕ). NotBy n o.more) one o.others) in
+    ap heard_lines o.whole ∙ filter_map-append heard_line (seen_of p) (flat o.more)
     ∙ ap (λ (xs : List (List ℕ)). heard_lines (seen_of p) ++ xs) none ∙ append-nil (heard_lines (seen_of p))
 
 -- what a pass has seen to be finished is finished in the end

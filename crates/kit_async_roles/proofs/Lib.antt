@@ -1,3 +1,4 @@
+pub mod Ends
 pub mod Groups
 pub mod Readers
 pub mod Workers

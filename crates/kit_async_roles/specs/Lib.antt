@@ -1,4 +1,5 @@
+pub mod Calling
+pub mod Ends
 pub mod Passes
 pub mod Reading
 pub mod Writing
-pub mod Calling

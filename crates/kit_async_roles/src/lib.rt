@@ -2,6 +2,7 @@
 //! hall of a kit's core, whatever the others do.
 #![tactic(auto)]
 
+pub mod laws;
 mod reader;
 mod turn;
 mod why;

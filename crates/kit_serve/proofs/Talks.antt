@@ -308,7 +308,7 @@ turns_end spoke over foul lacks begun old new voice held turns live all t =
     late : (n : ℕ) → turns ≤ n → 2 ^ 64 - 1 ≤ n
     late n more = omega arith
 
-appends_nothing : (told : Option (List ℕ)) → Appends told told []
+pub appends_nothing : (told : Option (List ℕ)) → Appends told told []
 appends_nothing None = tt
 appends_nothing (Some xs) = sym (append-nil xs)
 
