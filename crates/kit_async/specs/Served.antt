@@ -65,7 +65,7 @@ abbrev pub why_shown : KitEntry → Option Why
 why_shown (StopShown why) = Some why
 why_shown entry = None
 
--- what is lent of a place: an entry; behind the last, why it stopped; and then nothing
+-- what is lent of a place: an entry; after the last, why it stopped; and then nothing
 abbrev pub IsEntryAt : JournalValue → ℕ → Option KitEntry → Type 0
 IsEntryAt journal at None = length journal.entries < at
 IsEntryAt journal at (Some entry) =

@@ -4,6 +4,7 @@
 
 mod alone;
 mod journal;
+pub mod laws;
 mod lent;
 mod roles;
 mod serving;
