@@ -34,14 +34,14 @@ version_legal setup journal is = subst (Legal setup) (sym is) (record { follow =
 
 -- ---- the remotes
 
-gained : (h : KitHall) (passes : List KitPass) (final : List Entry) (n : ℕ) (as bs : List HandValue) → h.start ≡ Say 0 (codes "VERSION 1") ∷ [] → AllWorked h passes final n as bs
-    → Gained h.fixed final n (calls_told as) (calls_told bs)
+gained : (h : KitHall) (passes : List KitPass) (final : List Entry) (n : ℕ) (olds news : List HandValue) → h.start ≡ Say 0 (codes "VERSION 1") ∷ [] → AllWorked h passes final n olds news
+    → Gained h.fixed final n (calls_told olds) (calls_told news)
 gained h passes final n [] [] begins all = tt
-gained h passes final n [] (b ∷ bs) begins all = absurd all
-gained h passes final n (a ∷ as) [] begins all = absurd all
-gained h passes final n (a ∷ as) (b ∷ bs) begins all = (
+gained h passes final n [] (b ∷ news) begins all = absurd all
+gained h passes final n (a ∷ olds) [] begins all = absurd all
+gained h passes final n (a ∷ olds) (b ∷ news) begins all = (
   workers_end h passes final all.0.begun all.0.pass n a b all.0.ends all.0.ran (ap (calls_of h.fixed n) begins),
-  gained h passes final (n + 1) as bs begins all.1,
+  gained h passes final (n + 1) olds news begins all.1,
 )
 
 -- ---- what was written
@@ -114,10 +114,10 @@ module _ (setup : Setup) (journal : List Entry) (f : EarValue) where
 
 -- ---- all
 
-pub roles_serve : (h : KitHall) (passes : List KitPass) (final : List Entry) (e f : EarValue) (m w : MouthValue) (as bs : List HandValue) (read wrote : Option RoleWhy)
-    → h.start ≡ Say 0 (codes "VERSION 1") ∷ [] → e.held ≡ [] → ReaderDid h passes final e f read → WriterDid h passes final m w wrote → AllWorked h passes final 0 as bs
-    → Serves h.fixed (tells_of e m as) (tells_of f w bs) (record { entries = final; why = why_of h.fixed final read wrote })
-roles_serve h passes final e f m w as bs read wrote begins empty r x all =
+pub roles_serve : (h : KitHall) (passes : List KitPass) (final : List Entry) (e f : EarValue) (m w : MouthValue) (olds news : List HandValue) (read wrote : Option RoleWhy)
+    → h.start ≡ Say 0 (codes "VERSION 1") ∷ [] → e.held ≡ [] → ReaderDid h passes final e f read → WriterDid h passes final m w wrote → AllWorked h passes final 0 olds news
+    → Serves h.fixed (tells_of e m olds) (tells_of f w news) (record { entries = final; why = why_of h.fixed final read wrote })
+roles_serve h passes final e f m w olds news read wrote begins empty r x all =
     let legal = (halls_stay_legal h passes final r.ends.fixed r.ends.closed (version_legal h.fixed h.start begins)).0 in
     let reads = readers_end h passes final r.begun r.pass e f read r.ends r.ran (ap heard_lines begins) empty in
     let writes = writers_end h passes final x.begun x.pass m w wrote x.ends x.ran (ap written_lines begins) in
@@ -133,6 +133,6 @@ roles_serve h passes final e f m w as bs read wrote begins empty r x all =
       short = reads.short;
       took = (writes.took, writes.silent);
       written = written read wrote (is_finished h.fixed s) s.over (list_any is_lack final) final writes.bytes writes.written;
-      gained = gained h passes final 0 as bs begins all;
+      gained = gained h passes final 0 olds news begins all;
       ended = ended h.fixed final f read wrote (is_finished h.fixed s) s.over (list_any is_lack final) refl refl refl r.ran.ends;
     }

@@ -66,9 +66,9 @@ pub record WorkerDid (h : KitHall) (passes : List KitPass) (final : List Entry) 
 
 abbrev pub AllWorked : KitHall → List KitPass → List Entry → ℕ → List HandValue → List HandValue → Type 0
 AllWorked h passes final n [] [] = Unit {0}
-AllWorked h passes final n [] (b ∷ bs) = ⊥
-AllWorked h passes final n (a ∷ as) [] = ⊥
-AllWorked h passes final n (a ∷ as) (b ∷ bs) = WorkerDid h passes final n a b × AllWorked h passes final (n + 1) as bs
+AllWorked h passes final n [] (b ∷ news) = ⊥
+AllWorked h passes final n (a ∷ olds) [] = ⊥
+AllWorked h passes final n (a ∷ olds) (b ∷ news) = WorkerDid h passes final n a b × AllWorked h passes final (n + 1) olds news
 
 abbrev pub calls_told : List HandValue → List (Option (List Call))
 calls_told hands = map (λ hand. hand.calls) hands
@@ -79,7 +79,7 @@ tells_of e m hands = record { given = e.given; left = e.left; taken = m.taken; c
 -- Where each role did what it promises of its own pass, the kit served as it promises.
 abbrev pub RolesServe : Type 0
 RolesServe =
-    (h : KitHall) (passes : List KitPass) (final : List Entry) (e f : EarValue) (m w : MouthValue) (as bs : List HandValue) (read wrote : Option RoleWhy)
+    (h : KitHall) (passes : List KitPass) (final : List Entry) (e f : EarValue) (m w : MouthValue) (olds news : List HandValue) (read wrote : Option RoleWhy)
     → h.start ≡ Say 0 (codes "VERSION 1") ∷ [] → e.held ≡ [] → ReaderDid h passes final e f read → WriterDid h passes final m w wrote
-    → AllWorked h passes final 0 as bs
-    → Serves h.fixed (tells_of e m as) (tells_of f w bs) (record { entries = final; why = why_of h.fixed final read wrote })
+    → AllWorked h passes final 0 olds news
+    → Serves h.fixed (tells_of e m olds) (tells_of f w news) (record { entries = final; why = why_of h.fixed final read wrote })
