@@ -3,6 +3,7 @@ use Rattle.std.proofs.Common.{◌≡◌, ◌⊎◌, inl, inr, ℕ, ◌+◌, ◌<
 use Rattle.std.specs.Prelude.{option_map}
 use Rattle.std.specs.List.{list_any, list_all}
 use Rattle.annex_model.specs.Lines.{text, has_newline}
+use Rattle.hall.specs.Passes.{HasClosed}
 use Rattle.kit_core.specs.declared.call.Call.{Call}
 use Rattle.kit_serve.specs.Limits.{longest_line, next_line}
 use Rattle.kit_async_model.specs.declared.entry.Entry.{Entry}
@@ -14,6 +15,7 @@ use Rattle.kit_async_model.specs.Jobs.{is_awaiting}
 use Rattle.kit_async_model.specs.Lines.{heard_lines}
 use Rattle.kit_async_model.specs.Standings.{Standing, standing}
 use Rattle.kit_async_model.proofs.Fronts.{both}
+use Rattle.kit_async_model.specs.Events.{IsMadeBy, MayStep}
 use Rattle.kit_async_core.specs.Halls.{KitHall, KitPass}
 use Rattle.kit_async_core.proofs.KitHalls.{halls_stay_legal}
 use Rattle.kit_async_roles.specs.declared.why.Why.{Why as RoleWhy}
@@ -24,7 +26,7 @@ use Rattle.kit_async_roles.specs.Writing.{MouthValue, IsFaltered, IsWritten, wri
 use Rattle.kit_async_roles.proofs.Ends.{readers_end, workers_end, writers_end}
 use Rattle.kit_async.specs.declared.why.Why.{Why}
 use Rattle.kit_async.specs.declared.why.Why.TheVariants.{Eof, ReadFault, WriteFault, Bad, Memory}
-use Rattle.kit_async.specs.Endings.{AllWorked, ReaderDid, WriterDid, calls_told, tells_of, why_by, why_of, why_read, why_rest}
+use Rattle.kit_async.specs.Endings.{AllWorked, ReaderDid, WriterDid, calls_told, tells_of, why_by, why_stopped, why_read, why_rest}
 use Rattle.kit_async.specs.Served.{Gained, IsEnd, IsWrittenBy, Serves}
 
 -- ---- the begin
@@ -34,14 +36,14 @@ version_legal setup journal is = subst (Legal setup) (sym is) (record { follow =
 
 -- ---- the remotes
 
-gained : (h : KitHall) (passes : List KitPass) (final : List Entry) (n : ℕ) (olds news : List HandValue) → h.start ≡ Say 0 (codes "VERSION 1") ∷ [] → AllWorked h passes final n olds news
+gained : (h : KitHall) (passes : List KitPass) (final : List Entry) (fixed : Setup) (n : ℕ) (olds news : List HandValue) → HasClosed IsMadeBy MayStep h passes final fixed → h.start ≡ Say 0 (codes "VERSION 1") ∷ [] → AllWorked h passes n olds news
     → Gained h.fixed final n (calls_told olds) (calls_told news)
-gained h passes final n [] [] begins all = tt
-gained h passes final n [] (b ∷ news) begins all = absurd all
-gained h passes final n (a ∷ olds) [] begins all = absurd all
-gained h passes final n (a ∷ olds) (b ∷ news) begins all = (
-  workers_end h passes final all.0.begun all.0.pass n a b all.0.ends all.0.ran (ap (calls_of h.fixed n) begins),
-  gained h passes final (n + 1) olds news begins all.1,
+gained h passes final fixed n [] [] closed begins all = tt
+gained h passes final fixed n [] (b ∷ news) closed begins all = absurd all
+gained h passes final fixed n (a ∷ olds) [] closed begins all = absurd all
+gained h passes final fixed n (a ∷ olds) (b ∷ news) closed begins all = (
+  workers_end h passes final fixed all.0.begun all.0.pass n a b closed all.0.among all.0.ran (ap (calls_of h.fixed n) begins),
+  gained h passes final fixed (n + 1) olds news closed begins all.1,
 )
 
 -- ---- what was written
@@ -114,13 +116,13 @@ module _ (setup : Setup) (journal : List Entry) (f : EarValue) where
 
 -- ---- all
 
-pub roles_serve : (h : KitHall) (passes : List KitPass) (final : List Entry) (e f : EarValue) (m w : MouthValue) (olds news : List HandValue) (read wrote : Option RoleWhy)
-    → h.start ≡ Say 0 (codes "VERSION 1") ∷ [] → e.held ≡ [] → ReaderDid h passes final e f read → WriterDid h passes final m w wrote → AllWorked h passes final 0 olds news
-    → Serves h.fixed (tells_of e m olds) (tells_of f w news) (record { entries = final; why = why_of h.fixed final read wrote })
-roles_serve h passes final e f m w olds news read wrote begins empty r x all =
-    let legal = (halls_stay_legal h passes final r.ends.fixed r.ends.closed (version_legal h.fixed h.start begins)).0 in
-    let reads = readers_end h passes final r.begun r.pass e f read r.ends r.ran (ap heard_lines begins) empty in
-    let writes = writers_end h passes final x.begun x.pass m w wrote x.ends x.ran (ap written_lines begins) in
+pub roles_serve : (h : KitHall) (passes : List KitPass) (final : List Entry) (fixed : Setup) (e f : EarValue) (m w : MouthValue) (olds news : List HandValue) (read wrote : Option RoleWhy)
+    → HasClosed IsMadeBy MayStep h passes final fixed → h.start ≡ Say 0 (codes "VERSION 1") ∷ [] → e.held ≡ [] → ReaderDid h passes e f read → WriterDid h passes m w wrote → AllWorked h passes 0 olds news
+    → Serves h.fixed (tells_of e m olds) (tells_of f w news) (record { entries = final; why = why_stopped h.fixed final read wrote })
+roles_serve h passes final fixed e f m w olds news read wrote closed begins empty r x all =
+    let legal = (halls_stay_legal h passes final fixed closed (version_legal h.fixed h.start begins)).0 in
+    let reads = readers_end h passes final fixed r.begun r.pass e f read closed r.among r.ran (ap heard_lines begins) empty in
+    let writes = writers_end h passes final fixed x.begun x.pass m w wrote closed x.among x.ran (ap written_lines begins) in
     let s : Standing = standing h.fixed final in
     record {
       given = reads.bytes;
@@ -133,6 +135,6 @@ roles_serve h passes final e f m w olds news read wrote begins empty r x all =
       short = reads.short;
       took = (writes.took, writes.silent);
       written = written read wrote (is_finished h.fixed s) s.over (list_any is_lack final) final writes.bytes writes.written;
-      gained = gained h passes final 0 olds news begins all;
+      gained = gained h passes final fixed 0 olds news closed begins all;
       ended = ended h.fixed final f read wrote (is_finished h.fixed s) s.over (list_any is_lack final) refl refl refl r.ran.ends;
     }

@@ -4,12 +4,14 @@ use Rattle.std.specs.Prelude.{option_map}
 use Rattle.std.specs.List.{list_all}
 use Rattle.annex_model.specs.Lines.{text, Cut}
 use Rattle.hall.specs.Log.{flat, NotBy}
-use Rattle.hall.specs.Passes.{seen_of}
+use Rattle.hall.specs.Passes.{HasClosed, seen_of}
 use Rattle.kit_core.specs.declared.call.Call.{Call}
 use Rattle.kit_serve.specs.Limits.{is_short}
 use Rattle.kit_serve.proofs.Talks.{appends_nothing}
 use Rattle.kit_async_model.specs.declared.entry.Entry.{Entry}
+use Rattle.kit_async_model.specs.declared.setup.Setup.{Setup}
 use Rattle.kit_async_model.specs.Callings.{calls_of}
+use Rattle.kit_async_model.specs.Events.{IsMadeBy, MayStep}
 use Rattle.kit_async_model.specs.Lines.{heard_lines}
 use Rattle.kit_async_core.specs.Halls.{KitHall, KitPass}
 use Rattle.kit_async_core.proofs.Closings.{Outgrown, final_heard, outgrown}
@@ -17,7 +19,7 @@ use Rattle.kit_async_core.proofs.Lasting.{uncalled_log}
 use Rattle.kit_async_roles.specs.declared.why.Why.{Why}
 use Rattle.kit_async_roles.specs.declared.why.Why.TheVariants.{Eof, ReadFault, Long, WriteFault, Memory}
 use Rattle.kit_async_roles.specs.Calling.{HandValue, Works, WorkerRan}
-use Rattle.kit_async_roles.specs.Ends.{Ends}
+use Rattle.kit_async_roles.specs.Ends.{IsAmong}
 use Rattle.kit_async_roles.specs.Reading.{EarValue, Reads, ReaderRan}
 use Rattle.kit_async_roles.specs.Writing.{MouthValue, IsFaltered, IsNextLine, IsWritten, Writes, WriterRan, written_lines}
 use Rattle.kit_async_roles.proofs.Writers.{next_stays, none_log, written_stays}
@@ -33,10 +35,10 @@ nothing_read journal e none empty = record {
   short = ap (λ (ls : List (List ℕ)). list_all is_short ls) none;
 }
 
-pub readers_end : (h : KitHall) (passes : List KitPass) (final : List Entry) (begun p : KitPass) (e f : EarValue) (why : Option Why) → Ends h passes final begun p
+pub readers_end : (h : KitHall) (passes : List KitPass) (final : List Entry) (fixed : Setup) (begun p : KitPass) (e f : EarValue) (why : Option Why) → HasClosed IsMadeBy MayStep h passes final fixed → IsAmong h passes begun p
     → ReaderRan h begun p e f why → heard_lines h.start ≡ [] → e.held ≡ [] → Reads e.given final f
-readers_end h passes final begun p e f why k ran none empty =
-    let same : heard_lines final ≡ heard_lines (seen_of p) = final_heard h passes final k.fixed k.place p k.closed k.there ran.stands.pass ran.stands.number_is in
+readers_end h passes final fixed begun p e f why closed k ran none empty =
+    let same : heard_lines final ≡ heard_lines (seen_of p) = final_heard h passes final fixed k.place p closed k.there ran.stands.pass ran.stands.number_is in
     let r = ran.reads e.given (nothing_read (seen_of begun) e (ap heard_lines k.fresh ∙ none) empty) in
     record {
       bytes = r.bytes;
@@ -69,10 +71,10 @@ written_on (Some Long) past final bytes same next e = e ∙ ap text (sym same)
 written_on (Some WriteFault) past final bytes same next e = faltered_on past final bytes same next e
 written_on (Some Memory) past final bytes same next e = e ∙ ap text (sym same)
 
-pub writers_end : (h : KitHall) (passes : List KitPass) (final : List Entry) (begun p : KitPass) (m w : MouthValue) (why : Option Why) → Ends h passes final begun p
+pub writers_end : (h : KitHall) (passes : List KitPass) (final : List Entry) (fixed : Setup) (begun p : KitPass) (m w : MouthValue) (why : Option Why) → HasClosed IsMadeBy MayStep h passes final fixed → IsAmong h passes begun p
     → WriterRan h begun p m w why → written_lines h.start ≡ [] → Writes m.taken why final w
-writers_end h passes final begun p m w why k ran none =
-    let o = outgrown h passes final k.fixed k.place p k.closed k.there ran.stands.pass in
+writers_end h passes final fixed begun p m w why closed k ran none =
+    let o = outgrown h passes final fixed k.place p closed k.there ran.stands.pass in
     let others = none_log h.fixed (seen_of p) o.more o.legal (subst (λ (n : ℕ). NotBy n o.more) ran.stands.number_is o.others) in
     let r = ran.writes m.taken (nothing_written (seen_of begun) m (ap written_lines k.fresh ∙ none)) in
     record {
@@ -90,10 +92,10 @@ as_it_was : (calls : Option (List Call)) → calls ≡ option_map (λ (told : Li
 as_it_was None = refl
 as_it_was (Some told) = ap (λ (cs : List Call). Some cs) (sym (append-nil told))
 
-pub workers_end : (h : KitHall) (passes : List KitPass) (final : List Entry) (begun p : KitPass) (remote : ℕ) (a b : HandValue) → Ends h passes final begun p
+pub workers_end : (h : KitHall) (passes : List KitPass) (final : List Entry) (fixed : Setup) (begun p : KitPass) (remote : ℕ) (a b : HandValue) → HasClosed IsMadeBy MayStep h passes final fixed → IsAmong h passes begun p
     → WorkerRan h remote begun p a b → calls_of h.fixed remote h.start ≡ [] → Works a.calls h.fixed remote final b
-workers_end h passes final begun p remote a b k ran none =
-    let o = outgrown h passes final k.fixed k.place p k.closed k.there ran.stands.pass in
+workers_end h passes final fixed begun p remote a b closed k ran none =
+    let o = outgrown h passes final fixed k.place p closed k.there ran.stands.pass in
     let same = uncalled_log h.fixed remote (seen_of p) o.more o.legal (subst (λ (n : ℕ). NotBy n o.more) ran.stands.number_is o.others) in
     let uncalled : calls_of h.fixed remote (seen_of begun) ≡ [] = ap (calls_of h.fixed remote) k.fresh ∙ none in
     ran.works a.calls (as_it_was a.calls ∙ ap (λ (cs : List Call). option_map (λ (told : List Call). told ++ cs) a.calls) (sym uncalled))

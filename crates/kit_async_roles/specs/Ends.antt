@@ -12,10 +12,8 @@ use Rattle.kit_async_roles.specs.Calling.{HandValue, Works, WorkerRan}
 use Rattle.kit_async_roles.specs.Reading.{EarValue, Reads, ReaderRan}
 use Rattle.kit_async_roles.specs.Writing.{MouthValue, Writes, WriterRan, written_lines}
 
--- the hall was closed with this pass, which had seen its begin alone when the role began
-pub record Ends (h : KitHall) (passes : List KitPass) (final : List Entry) (begun p : KitPass) : Type 0 where
-  pub fixed : Setup
-  pub closed : HasClosed IsMadeBy MayStep h passes final fixed
+-- the pass is among these, and when the role began it had seen the hall's begin alone
+pub record IsAmong (h : KitHall) (passes : List KitPass) (begun p : KitPass) : Type 0 where
   pub place : ℕ
   pub there : slice_get passes place ≡ Some p
   pub fresh : seen_of begun ≡ h.start
@@ -23,17 +21,17 @@ pub record Ends (h : KitHall) (passes : List KitPass) (final : List Entry) (begu
 -- what the source gave is the lines of the journal that were heard, none of them too long, and what is held
 abbrev pub ReadersEnd : Type 0
 ReadersEnd =
-    (h : KitHall) (passes : List KitPass) (final : List Entry) (begun p : KitPass) (e f : EarValue) (why : Option Why) → Ends h passes final begun p
+    (h : KitHall) (passes : List KitPass) (final : List Entry) (fixed : Setup) (begun p : KitPass) (e f : EarValue) (why : Option Why) → HasClosed IsMadeBy MayStep h passes final fixed → IsAmong h passes begun p
     → ReaderRan h begun p e f why → heard_lines h.start ≡ [] → e.held ≡ [] → Reads e.given final f
 
 -- what the sink took is the text of the journal's lines that are written; where writing failed, the first bytes of the next come after it
 abbrev pub WritersEnd : Type 0
 WritersEnd =
-    (h : KitHall) (passes : List KitPass) (final : List Entry) (begun p : KitPass) (m w : MouthValue) (why : Option Why) → Ends h passes final begun p
+    (h : KitHall) (passes : List KitPass) (final : List Entry) (fixed : Setup) (begun p : KitPass) (m w : MouthValue) (why : Option Why) → HasClosed IsMadeBy MayStep h passes final fixed → IsAmong h passes begun p
     → WriterRan h begun p m w why → written_lines h.start ≡ [] → Writes m.taken why final w
 
 -- the remote had the calls that the journal has of it, and no others
 abbrev pub WorkersEnd : Type 0
 WorkersEnd =
-    (h : KitHall) (passes : List KitPass) (final : List Entry) (begun p : KitPass) (remote : ℕ) (a b : HandValue) → Ends h passes final begun p
+    (h : KitHall) (passes : List KitPass) (final : List Entry) (fixed : Setup) (begun p : KitPass) (remote : ℕ) (a b : HandValue) → HasClosed IsMadeBy MayStep h passes final fixed → IsAmong h passes begun p
     → WorkerRan h remote begun p a b → calls_of h.fixed remote h.start ≡ [] → Works a.calls h.fixed remote final b
