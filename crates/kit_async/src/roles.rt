@@ -1,9 +1,17 @@
 // The roles of a kit, each with its pass, in a thread or not.
+ghost use Rattle.std.specs.Prelude.{◌≡◌, ◌+◌, true};
+ghost use Rattle.kit_serve.specs.Limits.{longest_line};
+ghost use Rattle.kit_async_roles.specs.Calling.{WorkerRan, hand_of};
+ghost use Rattle.kit_async_roles.specs.Passes.{Stands, half_of};
+ghost use Rattle.kit_async_roles.specs.Reading.{ear_of};
+ghost use Rattle.kit_async_roles.specs.Writing.{mouth_of};
+ghost use Rattle.kit_async.specs.Turns.{ReaderWent, WriterWent};
+
 use ann_outside::{Sink, Source};
 use crew_round::Role;
 use hall::{Hall, Pass};
 use kit_async_core::KitCore;
-use kit_async_roles::{Turn, Why, listen, read_turn, speak, toil, work_turn, write_turn};
+use kit_async_roles::{Why, listen, read_turn, speak, toil, work_turn, write_turn};
 use kit_core::Remote;
 use std::alloc::Global;
 use std::sync::Wait;
@@ -24,16 +32,12 @@ pub(crate) struct Reader<'a, S: Source, R: Wait> {
 impl<'a, S: Source, R: Wait> Role for Reader<'a, S, R> {
     ghost use Rattle.std.specs.Prelude.{◌≡◌, true};
     ghost use Rattle.kit_serve.specs.Limits.{longest_line};
-    ghost use Rattle.kit_serve.specs.Turns.{Half};
-    ghost use Rattle.kit_async_roles.specs.Passes.{Stands};
-    ghost use Rattle.kit_async_roles.specs.Reading.{EarValue, ReaderRan};
+    ghost use Rattle.kit_async_roles.specs.Passes.{Stands, half_of};
+    ghost use Rattle.kit_async_roles.specs.Reading.{ReaderRan, ear_of};
 
     ghost can_run = { λ s. Stands s.hall.now 1 s.pass × (S.is_open s.source ≡ true) × (s.splitter.limit ≡ longest_line) };
 
-    ghost ran = { λ a b. ReaderRan a.hall.now a.pass b.pass
-        (record { given = S.given a.source; left = S.left a.source; half = record { faults = S.faults a.source; is_open = S.is_open a.source; number = S.number a.source }; held = a.splitter.bytes })
-        (record { given = S.given b.source; left = S.left b.source; half = record { faults = S.faults b.source; is_open = S.is_open b.source; number = S.number b.source }; held = b.splitter.bytes })
-        b.why };
+    ghost ran = { λ a b. ReaderRan a.hall.now a.pass b.pass (ear_of (S.given a.source) (S.left a.source) (half_of (S.faults a.source) (S.is_open a.source) (S.number a.source)) a.splitter.bytes) (ear_of (S.given b.source) (S.left b.source) (half_of (S.faults b.source) (S.is_open b.source) (S.number b.source)) b.splitter.bytes) b.why };
 
     fn run(self) -> Self {
         let Reader {
@@ -58,6 +62,31 @@ impl<'a, S: Source, R: Wait> Role for Reader<'a, S, R> {
     }
 }
 
+impl<'a, S: Source, R: Wait> Reader<'a, S, R> {
+    /// One turn, by the thread that calls it, and whether something was done. Nothing is, once it ended by itself.
+    pub(crate) fn turn(&mut self) -> bool
+        requires can { Stands self.old.hall.now 1 self.old.pass × (S.is_open self.old.source ≡ true) × (self.old.splitter.limit ≡ longest_line) }
+        ensures went { ReaderWent self.old.hall.now self.old.pass self.new.pass (ear_of (S.given self.old.source) (S.left self.old.source) (half_of (S.faults self.old.source) (S.is_open self.old.source) (S.number self.old.source)) self.old.splitter.bytes) (ear_of (S.given self.new.source) (S.left self.new.source) (half_of (S.faults self.new.source) (S.is_open self.new.source) (S.number self.new.source)) self.new.splitter.bytes) self.old.why self.new.why }
+        ensures can { Stands self.new.hall.now 1 self.new.pass × (S.is_open self.new.source ≡ true) × (self.new.splitter.limit ≡ longest_line) }
+        ensures hall { self.new.hall.now ≡ self.old.hall.now }
+    {
+        if self.why.is_some() {
+            return false;
+        }
+        let (rt, alloc, hall) = (self.rt, self.alloc, self.hall);
+        let turn = read_turn(
+            rt,
+            alloc,
+            hall,
+            &mut self.pass,
+            &mut self.source,
+            &mut self.splitter,
+        );
+        self.why = turn.why();
+        turn.went()
+    }
+}
+
 /// What writes, and why it ended by itself, if it did.
 #[derive(Drop)]
 pub(crate) struct Writer<'a, W: Sink, R: Wait> {
@@ -70,16 +99,12 @@ pub(crate) struct Writer<'a, W: Sink, R: Wait> {
 
 impl<'a, W: Sink, R: Wait> Role for Writer<'a, W, R> {
     ghost use Rattle.std.specs.Prelude.{◌≡◌, true};
-    ghost use Rattle.kit_serve.specs.Turns.{Half};
-    ghost use Rattle.kit_async_roles.specs.Passes.{Stands};
-    ghost use Rattle.kit_async_roles.specs.Writing.{MouthValue, WriterRan};
+    ghost use Rattle.kit_async_roles.specs.Passes.{Stands, half_of};
+    ghost use Rattle.kit_async_roles.specs.Writing.{WriterRan, mouth_of};
 
     ghost can_run = { λ s. Stands s.hall.now 2 s.pass × (W.is_open s.sink ≡ true) };
 
-    ghost ran = { λ a b. WriterRan a.hall.now a.pass b.pass
-        (record { taken = W.taken a.sink; half = record { faults = W.faults a.sink; is_open = W.is_open a.sink; number = W.number a.sink } })
-        (record { taken = W.taken b.sink; half = record { faults = W.faults b.sink; is_open = W.is_open b.sink; number = W.number b.sink } })
-        b.why };
+    ghost ran = { λ a b. WriterRan a.hall.now a.pass b.pass (mouth_of (W.taken a.sink) (half_of (W.faults a.sink) (W.is_open a.sink) (W.number a.sink))) (mouth_of (W.taken b.sink) (half_of (W.faults b.sink) (W.is_open b.sink) (W.number b.sink))) b.why };
 
     fn run(self) -> Self {
         let Writer {
@@ -100,6 +125,24 @@ impl<'a, W: Sink, R: Wait> Role for Writer<'a, W, R> {
     }
 }
 
+impl<'a, W: Sink, R: Wait> Writer<'a, W, R> {
+    /// One turn, by the thread that calls it, and whether something was done. Nothing is, once it ended by itself.
+    pub(crate) fn turn(&mut self) -> bool
+        requires can { Stands self.old.hall.now 2 self.old.pass × (W.is_open self.old.sink ≡ true) }
+        ensures went { WriterWent self.old.hall.now self.old.pass self.new.pass (mouth_of (W.taken self.old.sink) (half_of (W.faults self.old.sink) (W.is_open self.old.sink) (W.number self.old.sink))) (mouth_of (W.taken self.new.sink) (half_of (W.faults self.new.sink) (W.is_open self.new.sink) (W.number self.new.sink))) self.old.why self.new.why }
+        ensures can { Stands self.new.hall.now 2 self.new.pass × (W.is_open self.new.sink ≡ true) }
+        ensures hall { self.new.hall.now ≡ self.old.hall.now }
+    {
+        if self.why.is_some() {
+            return false;
+        }
+        let (rt, hall) = (self.rt, self.hall);
+        let turn = write_turn(rt, hall, &mut self.pass, &mut self.sink);
+        self.why = turn.why();
+        turn.went()
+    }
+}
+
 /// What calls the remote of that number.
 #[derive(Drop)]
 pub(crate) struct Worker<'a, K: Remote, R: Wait> {
@@ -113,11 +156,11 @@ pub(crate) struct Worker<'a, K: Remote, R: Wait> {
 impl<'a, K: Remote, R: Wait> Role for Worker<'a, K, R> {
     ghost use Rattle.std.specs.Prelude.{◌≡◌, ◌+◌};
     ghost use Rattle.kit_async_roles.specs.Passes.{Stands};
-    ghost use Rattle.kit_async_roles.specs.Calling.{HandValue, WorkerRan};
+    ghost use Rattle.kit_async_roles.specs.Calling.{WorkerRan, hand_of};
 
     ghost can_run = { λ s. Stands s.hall.now (s.number + 3) s.pass };
 
-    ghost ran = { λ a b. WorkerRan a.hall.now a.number a.pass b.pass (record { calls = K.calls a.remote; settings = K.settings a.remote }) (record { calls = K.calls b.remote; settings = K.settings b.remote }) × (b.number ≡ a.number) };
+    ghost ran = { λ a b. WorkerRan a.hall.now a.number a.pass b.pass (hand_of (K.calls a.remote) (K.settings a.remote)) (hand_of (K.calls b.remote) (K.settings b.remote)) × (b.hall.now ≡ a.hall.now) × (b.number ≡ a.number) };
 
     fn run(self) -> Self {
         let Worker {
@@ -138,51 +181,14 @@ impl<'a, K: Remote, R: Wait> Role for Worker<'a, K, R> {
     }
 }
 
-impl<'a, S: Source, R: Wait> Reader<'a, S, R> {
-    /// One turn, by the thread that calls it, and whether something was done.
-    pub(crate) fn turn(&mut self) -> bool {
-        let (rt, alloc, hall) = (self.rt, self.alloc, self.hall);
-        match read_turn(
-            rt,
-            alloc,
-            hall,
-            &mut self.pass,
-            &mut self.source,
-            &mut self.splitter,
-        ) {
-            Turn::Went => true,
-            Turn::Rests => false,
-            Turn::Over(why) => {
-                self.why = why;
-                false
-            }
-        }
-    }
-}
-
-impl<'a, W: Sink, R: Wait> Writer<'a, W, R> {
-    /// One turn, by the thread that calls it, and whether something was done.
-    pub(crate) fn turn(&mut self) -> bool {
-        let (rt, hall) = (self.rt, self.hall);
-        match write_turn(rt, hall, &mut self.pass, &mut self.sink) {
-            Turn::Went => true,
-            Turn::Rests => false,
-            Turn::Over(None) => false,
-            Turn::Over(why) => {
-                self.why = why;
-                false
-            }
-        }
-    }
-}
-
 impl<'a, K: Remote, R: Wait> Worker<'a, K, R> {
     /// One turn, by the thread that calls it, and whether something was done.
-    pub(crate) fn turn(&mut self) -> bool {
+    pub(crate) fn turn(&mut self) -> bool
+        requires can { Stands self.old.hall.now (self.old.number + 3) self.old.pass }
+        ensures ran { WorkerRan self.old.hall.now self.old.number self.old.pass self.new.pass (hand_of (K.calls self.old.remote) (K.settings self.old.remote)) (hand_of (K.calls self.new.remote) (K.settings self.new.remote)) }
+        ensures same { (self.new.hall.now ≡ self.old.hall.now) × (self.new.number ≡ self.old.number) }
+    {
         let (rt, hall, number) = (self.rt, self.hall, self.number);
-        matches!(
-            work_turn(rt, hall, &mut self.pass, number, &mut self.remote),
-            Turn::Went
-        )
+        work_turn(rt, hall, &mut self.pass, number, &mut self.remote).went()
     }
 }

@@ -3,7 +3,7 @@ ghost use Rattle.std.specs.Prelude.{◌≡◌, true, Some, IfSome, IfNone, IsSom
 ghost use Rattle.kit_async_model.specs.declared.event.Event.TheVariants.{Break};
 ghost use Rattle.kit_async_model.specs.declared.event.Reply.{Reply};
 ghost use Rattle.kit_async_model.specs.Events.{takes_no_memory};
-ghost use Rattle.kit_async_roles.specs.Passes.{Stands, Enters};
+ghost use Rattle.kit_async_roles.specs.Passes.{Stands, Enters, why_of};
 ghost use Rattle.kit_async_roles.specs.declared.turn.Turn.TheVariants.{Over};
 
 use crate::why::Why;
@@ -21,6 +21,23 @@ pub enum Turn {
     Rests,
     /// There is nothing to do any more; for this reason, where the role itself has one.
     Over(Option<Why>),
+}
+
+impl Turn {
+    /// Why the role ended by itself, if it did.
+    pub fn why(self) -> Option<Why>
+        ensures { result ≡ why_of self }
+    {
+        match self {
+            Turn::Over(why) => why,
+            Turn::Went | Turn::Rests => None,
+        }
+    }
+
+    /// Whether something was done, and more may be.
+    pub fn went(self) -> bool {
+        matches!(self, Turn::Went)
+    }
 }
 
 /// What the core answers, where it answers; None where no memory was found.
