@@ -1,11 +1,11 @@
 // The roles of a kit, each with its pass, in a thread or not.
 ghost use Rattle.std.specs.Prelude.{◌≡◌, ◌+◌, true};
 ghost use Rattle.kit_serve.specs.Limits.{longest_line};
-ghost use Rattle.kit_async_roles.specs.Calling.{WorkerRan, hand_of};
+ghost use Rattle.kit_async_roles.specs.Calling.{hand_of};
 ghost use Rattle.kit_async_roles.specs.Passes.{Stands, half_of};
 ghost use Rattle.kit_async_roles.specs.Reading.{ear_of};
 ghost use Rattle.kit_async_roles.specs.Writing.{mouth_of};
-ghost use Rattle.kit_async.specs.Turns.{ReaderWent, WriterWent};
+ghost use Rattle.kit_async.specs.Turns.{ReaderWent, WorkerWent, WriterWent};
 
 use ann_outside::{Sink, Source};
 use crew_round::Role;
@@ -156,11 +156,12 @@ pub(crate) struct Worker<'a, K: Remote, R: Wait> {
 impl<'a, K: Remote, R: Wait> Role for Worker<'a, K, R> {
     ghost use Rattle.std.specs.Prelude.{◌≡◌, ◌+◌};
     ghost use Rattle.kit_async_roles.specs.Passes.{Stands};
-    ghost use Rattle.kit_async_roles.specs.Calling.{WorkerRan, hand_of};
+    ghost use Rattle.kit_async_roles.specs.Calling.{hand_of};
+    ghost use Rattle.kit_async.specs.Turns.{WorkerWent};
 
     ghost can_run = { λ s. Stands s.hall.now (s.number + 3) s.pass };
 
-    ghost ran = { λ a b. WorkerRan a.hall.now a.number a.pass b.pass (hand_of (K.calls a.remote) (K.settings a.remote)) (hand_of (K.calls b.remote) (K.settings b.remote)) × (b.hall.now ≡ a.hall.now) × (b.number ≡ a.number) };
+    ghost ran = { λ a b. WorkerWent a.hall.now a.number a.pass (hand_of (K.calls a.remote) (K.settings a.remote)) b.hall.now b.number b.pass (hand_of (K.calls b.remote) (K.settings b.remote)) };
 
     fn run(self) -> Self {
         let Worker {
@@ -184,9 +185,8 @@ impl<'a, K: Remote, R: Wait> Role for Worker<'a, K, R> {
 impl<'a, K: Remote, R: Wait> Worker<'a, K, R> {
     /// One turn, by the thread that calls it, and whether something was done.
     pub(crate) fn turn(&mut self) -> bool
-        requires can { Stands self.old.hall.now (self.old.number + 3) self.old.pass }
-        ensures ran { WorkerRan self.old.hall.now self.old.number self.old.pass self.new.pass (hand_of (K.calls self.old.remote) (K.settings self.old.remote)) (hand_of (K.calls self.new.remote) (K.settings self.new.remote)) }
-        ensures same { (self.new.hall.now ≡ self.old.hall.now) × (self.new.number ≡ self.old.number) }
+        requires { Stands self.old.hall.now (self.old.number + 3) self.old.pass }
+        ensures { WorkerWent self.old.hall.now self.old.number self.old.pass (hand_of (K.calls self.old.remote) (K.settings self.old.remote)) self.new.hall.now self.new.number self.new.pass (hand_of (K.calls self.new.remote) (K.settings self.new.remote)) }
     {
         let (rt, hall, number) = (self.rt, self.hall, self.number);
         work_turn(rt, hall, &mut self.pass, number, &mut self.remote).went()

@@ -1,6 +1,7 @@
 // Serves remotes to a host, several jobs at once.
 ghost use Rattle.std.specs.Prelude.{◌≡◌, ◌<◌, ◌≤◌, [], true, map, IfSome, vec_len, vec_capacity};
 ghost use Rattle.ann_outside.specs.Causes.{Rose};
+ghost use Rattle.kit_async.specs.Endings.{why_stopped};
 ghost use Rattle.kit_async.specs.Served.{Serves, setup_of, status_of};
 
 use crate::alone::serve_alone;
@@ -8,7 +9,7 @@ use crate::journal::KitJournal;
 use crate::roles::{Reader, Worker, Writer};
 use crate::why::Why;
 use ann_outside::{Sink, Source};
-use crew_round::{Crew, Room, run_whole_crew};
+use crew_round::{Crew, Room, any_ran, run_whole_crew};
 use hall::{Hall, Pass};
 use kit_async_core::KitCore;
 use kit_async_model::Setup;
@@ -66,7 +67,9 @@ struct RoleEnds {
 }
 
 // Why a kit stopped: a failed write counts before all, and then the kit has to be finished; where it isn't, memory was wanting.
-fn why_of(ends: RoleEnds, core: &KitCore) -> Why {
+fn why_of(ends: RoleEnds, core: &KitCore) -> Why
+    ensures { result ≡ why_stopped core.now.setup core.now.journal ends.read ends.wrote }
+{
     if matches!(ends.wrote, Some(RoleWhy::WriteFault)) {
         return Why::WriteFault;
     }
@@ -204,7 +207,7 @@ fn play<
         mouth,
         workers,
     } = run_whole_crew(rt, room, most, crew);
-    let ran = ear.has_run();
+    let ran = ear.has_run() || mouth.has_run() || any_ran(&workers);
     let mut reader = ear.role();
     let mut writer = mouth.role();
     for back in workers {

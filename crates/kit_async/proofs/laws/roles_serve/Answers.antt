@@ -1,4 +1,4 @@
-use Rattle.kit_async.proofs.Serving.{roles_serve}
+use Rattle.kit_async.proofs.Gathered.{roles_serve}
 use Rattle.kit_async.proofs.laws.roles_serve.Goals as goal
 
 pub returns : goal.returns

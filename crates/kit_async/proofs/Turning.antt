@@ -1,0 +1,62 @@
+-- Workers that take turns, place by place.
+use Rattle.std.proofs.Common.{◌≡◌, ℕ, zero, suc, ◌+◌, List, [], ◌∷◌, refl, sym, subst, ◌∙◌, set, Some, slice_get}
+use Rattle.std.specs.Prelude.{All}
+use Rattle.std.proofs.lemmas.List.Elements.{All-nil, All-cons, All-head, All-tail}
+use Rattle.gathering.specs.Pairs.{Pairwise}
+use Rattle.kit_async_core.specs.Halls.{KitHall, KitPass}
+use Rattle.kit_async_roles.specs.Calling.{HandValue, WorkerRan}
+use Rattle.kit_async_roles.specs.Passes.{Stands}
+use Rattle.kit_async_roles.proofs.Workers.{ran_both, ran_none}
+use Rattle.kit_async.specs.Turns.{WorkerWent}
+
+module _ {W : Type 0} (hall : W → KitHall) (number : W → ℕ) (pass : W → KitPass) (hand : W → HandValue) where
+  abbrev pub Goes : W → W → Type 0
+  Goes w v = WorkerWent (hall w) (number w) (pass w) (hand w) (hall v) (number v) (pass v) (hand v)
+
+  abbrev pub Can : W → Type 0
+  Can w = Stands (hall w) (number w + 3) (pass w)
+
+  went_none : (w : W) → Can w → Goes w w
+  went_none w c = (ran_none (hall w) (number w) (pass w) (hand w) c, refl, refl)
+
+  went_both : (w v u : W) → Goes w v → Goes v u → Goes w u
+  went_both w v u a b =
+      let there : WorkerRan (hall w) (number v) (pass v) (pass u) (hand v) (hand u) = subst (λ (h : KitHall). WorkerRan h (number v) (pass v) (pass u) (hand v) (hand u)) a.1 b.0 in
+      let same : WorkerRan (hall w) (number w) (pass v) (pass u) (hand v) (hand u) = subst (λ (n : ℕ). WorkerRan (hall w) n (pass v) (pass u) (hand v) (hand u)) a.2 there in
+      (ran_both (hall w) (number w) (pass w) (pass v) (pass u) (hand w) (hand v) (hand u) a.0 same, b.1 ∙ a.1, b.2 ∙ a.2)
+
+  can_still : (w v : W) → Goes w v → Can v
+  can_still w v a =
+      subst (λ (n : ℕ). Stands (hall v) (n + 3) (pass v)) (sym a.2) (subst (λ (h : KitHall). Stands h (number w + 3) (pass v)) (sym a.1) a.0.stands)
+
+  pub all_none : (ws : List W) → All Can ws → Pairwise Goes ws ws
+  all_none [] all = tt
+  all_none (w ∷ ws) all = (went_none w (All-head Can w ws all), all_none ws (All-tail Can w ws all))
+
+  pub all_both : (ws vs us : List W) → Pairwise Goes ws vs → Pairwise Goes vs us → Pairwise Goes ws us
+  all_both [] [] [] a b = tt
+  all_both [] [] (u ∷ us) a b = absurd b
+  all_both [] (v ∷ vs) us a b = absurd a
+  all_both (w ∷ ws) [] us a b = absurd a
+  all_both (w ∷ ws) (v ∷ vs) [] a b = absurd b
+  all_both (w ∷ ws) (v ∷ vs) (u ∷ us) a b = (went_both w v u a.0 b.0, all_both ws vs us a.1 b.1)
+
+  pub all_can : (ws vs : List W) → Pairwise Goes ws vs → All Can vs
+  all_can [] [] a = All-nil Can
+  all_can [] (v ∷ vs) a = absurd a
+  all_can (w ∷ ws) [] a = absurd a
+  all_can (w ∷ ws) (v ∷ vs) a = All-cons Can v vs (can_still w v a.0) (all_can ws vs a.1)
+
+  pub one_can : (ws vs : List W) (i : ℕ) (v : W) → Pairwise Goes ws vs → slice_get vs i ≡ Some v → Can v
+  one_can [] [] i v a there = cc
+  one_can [] (x ∷ vs) i v a there = absurd a
+  one_can (w ∷ ws) [] i v a there = absurd a
+  one_can (w ∷ ws) (x ∷ vs) zero v a there = let same : x ≡ v = cc in subst Can same (can_still w x a.0)
+  one_can (w ∷ ws) (x ∷ vs) (suc i) v a there = one_can ws vs i v a.1 there
+
+  pub one_goes : (ws vs : List W) (i : ℕ) (v u : W) → Pairwise Goes ws vs → slice_get vs i ≡ Some v → Goes v u → Pairwise Goes ws (set vs i u)
+  one_goes [] [] i v u a there b = cc
+  one_goes [] (x ∷ vs) i v u a there b = absurd a
+  one_goes (w ∷ ws) [] i v u a there b = absurd a
+  one_goes (w ∷ ws) (x ∷ vs) zero v u a there b = let same : x ≡ v = cc in (went_both w v u (subst (Goes w) same a.0) b, a.1)
+  one_goes (w ∷ ws) (x ∷ vs) (suc i) v u a there b = (a.0, one_goes ws vs i v u a.1 there b)
