@@ -3,9 +3,11 @@
 #![tactic(auto)]
 
 mod alone;
+mod dealt;
 mod journal;
 pub mod laws;
 mod lent;
+mod played;
 mod roles;
 mod serving;
 mod why;
