@@ -1,2 +1,3 @@
 pub mod Gathered
+pub mod Playing
 pub mod Turning
