@@ -1,21 +1,25 @@
 -- One turn of who calls a remote, and many.
-use Rattle.std.proofs.Common.{◌≡◌, ℕ, ◌+◌, List, [], ◌∷◌, ◌++◌, refl, sym, ap, subst, ◌∙◌, append_assoc, Bool, true, false, Some, None, Option, Result, Ok, Err}
+use Rattle.std.proofs.Common.{◌≡◌, ℕ, ◌+◌, ◌&&◌, not, List, [], ◌∷◌, ◌++◌, refl, sym, ap, subst, ◌∙◌, append_assoc, Bool, true, false, Some, None, Option, Result, Ok, Err}
 use Rattle.std.specs.Prelude.{option_map}
+use Rattle.annex_model.specs.Lines.{has_newline}
+use Rattle.annex_model.specs.Messages.{is_sent_key}
 use Rattle.hall.specs.Passes.{seen_of}
 use Rattle.kit_core.specs.declared.call.Said.{Said}
 use Rattle.kit_core.specs.declared.call.Call.{Call}
 use Rattle.kit_core.specs.declared.call.Asked.{Asked}
-use Rattle.kit_core.specs.Calls.{called, is_line_said}
+use Rattle.kit_core.specs.declared.call.Asked.TheVariants.{Prepare, Store, Retrieve, Check, Remove}
+use Rattle.kit_core.specs.Calls.{are_lines, called, is_line_said}
 use Rattle.kit_async_model.specs.declared.event.Event.{Event}
 use Rattle.kit_async_model.specs.declared.event.Event.TheVariants.{Take as TakeUp, Called, Break}
 use Rattle.kit_async_model.specs.declared.event.Reply.{Reply}
 use Rattle.kit_async_model.specs.declared.event.Reply.TheVariants.{Work}
 use Rattle.kit_async_model.specs.Callings.{calls_of, IsAsked}
+use Rattle.kit_async_model.proofs.Fronts.{both}
 use Rattle.kit_async_core.specs.Halls.{KitHall, KitPass}
 use Rattle.kit_async_model.specs.Standings.{standing}
 use Rattle.kit_async_core.proofs.Callers.{takes_asked, calls_noted, takes_no_call, breaks_no_call}
 use Rattle.kit_async_roles.specs.Passes.{Stands, Enters}
-use Rattle.kit_async_roles.specs.Calling.{HandValue, Works, WorkerRan}
+use Rattle.kit_async_roles.specs.Calling.{HandValue, Works, WorkerRan, can_be_asked}
 use Rattle.kit_async_roles.proofs.Groups.{stands_on, stands_still}
 
 -- ---- the parts
@@ -83,3 +87,20 @@ ran_and_broke h r p q v a b x t e = ran_both h r p q v a b b x (ran_broken h r q
 -- a rest changes nothing
 pub ran_rested : (h : KitHall) (r : ℕ) (p q v : KitPass) (a b : HandValue) → WorkerRan h r p q a b → v ≡ q → WorkerRan h r p v a b
 ran_rested h r p q v a b x same = subst (λ (y : KitPass). WorkerRan h r p y a b) (sym same) x
+
+-- ---- what a remote may be asked for
+
+pub may_prepare : (asked : Asked) (values : List (List ℕ)) → can_be_asked asked ≡ true → asked ≡ Prepare values → are_lines values ≡ true
+may_prepare asked values can is = subst (λ (a : Asked). can_be_asked a ≡ true) is can
+
+pub may_store : (asked : Asked) (key file : List ℕ) → can_be_asked asked ≡ true → asked ≡ Store key file → (is_sent_key key ≡ true) × (not (has_newline file) ≡ true)
+may_store asked key file can is = both (is_sent_key key) (not (has_newline file)) (subst (λ (a : Asked). can_be_asked a ≡ true) is can)
+
+pub may_retrieve : (asked : Asked) (key file : List ℕ) → can_be_asked asked ≡ true → asked ≡ Retrieve key file → (is_sent_key key ≡ true) × (not (has_newline file) ≡ true)
+may_retrieve asked key file can is = both (is_sent_key key) (not (has_newline file)) (subst (λ (a : Asked). can_be_asked a ≡ true) is can)
+
+pub may_check : (asked : Asked) (key : List ℕ) → can_be_asked asked ≡ true → asked ≡ Check key → is_sent_key key ≡ true
+may_check asked key can is = subst (λ (a : Asked). can_be_asked a ≡ true) is can
+
+pub may_remove : (asked : Asked) (key : List ℕ) → can_be_asked asked ≡ true → asked ≡ Remove key → is_sent_key key ≡ true
+may_remove asked key can is = subst (λ (a : Asked). can_be_asked a ≡ true) is can
