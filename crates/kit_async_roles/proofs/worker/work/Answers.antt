@@ -11,7 +11,7 @@ tell-requires g c = numbered _ _ _ c.requires.stands
 
 pub returns-then-tell : goal.returns-then-tell
 returns-then-tell g c =
-    ran_called _ _ _ _ _ _ _ c.requires.stands c.tell.ensures.stands c.requires.asked.1 c.in-Ok.ensures.text c.tell.ensures.told c.in-Ok.ensures.calls c.in-Ok.ensures.settings
+    ran_called _ _ _ _ _ _ _ _ c.requires.stands c.tell.ensures.stands c.requires.asked.1 c.in-Ok.ensures.text c.tell.ensures.told c.in-Ok.ensures.calls c.in-Ok.ensures.settings
 
 pub stop_for-requires : goal.stop_for-requires
 stop_for-requires g c = ?
@@ -19,7 +19,7 @@ stop_for-requires g c = ?
 pub returns-else-tell : goal.returns-else-tell
 returns-else-tell g c =
     ran_and_broke _ _ _ _ _ _ _
-    (ran_called _ _ _ _ _ _ _ c.requires.stands c.tell.ensures.stands c.requires.asked.1 c.in-Ok.ensures.text c.tell.ensures.told c.in-Ok.ensures.calls c.in-Ok.ensures.settings)
+    (ran_called _ _ _ _ _ _ _ _ c.requires.stands c.tell.ensures.stands c.requires.asked.1 c.in-Ok.ensures.text c.tell.ensures.told c.in-Ok.ensures.calls c.in-Ok.ensures.settings)
     c.stop_for.ensures.stands c.stop_for.ensures.broken
 
 pub stop_for-requires-2 : goal.stop_for-requires-2
