@@ -1,13 +1,22 @@
 -- Workers that take turns, place by place.
-use Rattle.std.proofs.Common.{◌≡◌, ℕ, zero, suc, ◌+◌, List, [], ◌∷◌, refl, sym, subst, ◌∙◌, set, Some, slice_get}
+use Rattle.std.proofs.Common.{◌≡◌, ℕ, zero, suc, ◌+◌, List, [], ◌∷◌, map, refl, sym, subst, ◌∙◌, set, Some, slice_get}
 use Rattle.std.specs.Prelude.{All}
 use Rattle.std.proofs.lemmas.List.Elements.{All-nil, All-cons, All-head, All-tail}
+use Rattle.crew_round.specs.declared.back.Back.{Back}
+use Rattle.crew_round.specs.declared.back.Back.TheVariants.{Stayed, Ran}
+use Rattle.crew_round.specs.Back.{CameBack}
+use Rattle.crew_round.specs.BackRole.{role_of}
 use Rattle.gathering.specs.Pairs.{Pairwise}
 use Rattle.kit_async_core.specs.Halls.{KitHall, KitPass}
 use Rattle.kit_async_roles.specs.Calling.{HandValue, WorkerRan}
 use Rattle.kit_async_roles.specs.Passes.{Stands}
 use Rattle.kit_async_roles.proofs.Workers.{ran_both, ran_none}
 use Rattle.kit_async.specs.Turns.{WorkerWent}
+
+-- what holds of a role, and of what a run leaves of it, holds of what came back
+pub came_as : {E : Type 0} (ran : E → E → Type 0) (P : E → Type 0) (a : E) (b : Back E) → CameBack ran a b → P a → ((x : E) → ran a x → P x) → P (role_of b)
+came_as ran P a (Stayed x) same here leaves = subst P (sym same) here
+came_as ran P a (Ran x) r here leaves = leaves x r
 
 module _ {W : Type 0} (hall : W → KitHall) (number : W → ℕ) (pass : W → KitPass) (hand : W → HandValue) where
   abbrev pub Goes : W → W → Type 0
@@ -60,3 +69,10 @@ module _ {W : Type 0} (hall : W → KitHall) (number : W → ℕ) (pass : W → 
   one_goes (w ∷ ws) [] i v u a there b = absurd a
   one_goes (w ∷ ws) (x ∷ vs) zero v u a there b = let same : x ≡ v = cc in (went_both w v u (subst (Goes w) same a.0) b, a.1)
   one_goes (w ∷ ws) (x ∷ vs) (suc i) v u a there b = (a.0, one_goes ws vs i v u a.1 there b)
+
+  pub all_came : (ws : List W) (bs : List (Back W)) → All Can ws → Pairwise (CameBack Goes) ws bs → Pairwise Goes ws (map role_of bs)
+  all_came [] [] can all = tt
+  all_came [] (b ∷ bs) can all = absurd all
+  all_came (w ∷ ws) [] can all = absurd all
+  all_came (w ∷ ws) (b ∷ bs) can all =
+      (came_as Goes (Goes w) w b all.0 (went_none w (All-head Can w ws can)) (λ x r. r), all_came ws bs (All-tail Can w ws can) all.1)

@@ -10,7 +10,7 @@ ghost use Rattle.kit_async_roles.specs.Reading.{ReaderRan, ear_of};
 ghost use Rattle.kit_async_roles.specs.Writing.{WriterRan, mouth_of};
 ghost use Rattle.kit_async.specs.Dealt.{AreFresh, AreNumbered};
 ghost use Rattle.kit_async.specs.Endings.{AllWorked, ReaderDid, WriterDid};
-ghost use Rattle.kit_async.specs.Turns.{WorkerWent};
+ghost use Rattle.kit_async.specs.Turns.{ReaderWent, WorkerWent, WriterWent};
 
 use crate::alone::serve_alone;
 use crate::dealt::{Site, deal, take_back};
@@ -134,6 +134,25 @@ fn workers_of<'a, K: Remote + Drop, R: Wait>(
     workers
 }
 
+// Where nobody ran, the calling thread takes all turns.
+fn serve_unless<'a, K: Remote, S: Source, W: Sink, R: Wait>(
+    ran: bool,
+    reader: &mut Reader<'a, S, R>,
+    writer: &mut Writer<'a, W, R>,
+    workers: &mut [Worker<'a, K, R>],
+)
+    requires reader { Stands reader.old.hall.now 1 reader.old.pass × (S.is_open reader.old.source ≡ true) × (reader.old.splitter.limit ≡ longest_line) }
+    requires writer { Stands writer.old.hall.now 2 writer.old.pass × (W.is_open writer.old.sink ≡ true) }
+    requires workers { All (λ w. Stands w.hall.now (w.number + 3) w.pass) workers.old }
+    ensures read { ReaderWent reader.old.hall.now reader.old.pass reader.new.pass (ear_of (S.given reader.old.source) (S.left reader.old.source) (half_of (S.faults reader.old.source) (S.is_open reader.old.source) (S.number reader.old.source)) reader.old.splitter.bytes) (ear_of (S.given reader.new.source) (S.left reader.new.source) (half_of (S.faults reader.new.source) (S.is_open reader.new.source) (S.number reader.new.source)) reader.new.splitter.bytes) reader.old.why reader.new.why }
+    ensures wrote { WriterWent writer.old.hall.now writer.old.pass writer.new.pass (mouth_of (W.taken writer.old.sink) (half_of (W.faults writer.old.sink) (W.is_open writer.old.sink) (W.number writer.old.sink))) (mouth_of (W.taken writer.new.sink) (half_of (W.faults writer.new.sink) (W.is_open writer.new.sink) (W.number writer.new.sink))) writer.old.why writer.new.why }
+    ensures workers { Pairwise (λ w v. WorkerWent w.hall.now w.number w.pass (hand_of (K.calls w.remote) (K.settings w.remote)) v.hall.now v.number v.pass (hand_of (K.calls v.remote) (K.settings v.remote))) workers.old workers.new }
+{
+    if !ran {
+        serve_alone(reader, writer, workers);
+    }
+}
+
 // Runs the roles, each in a thread of its own where all can have one; else the calling thread takes all their turns.
 fn run<
     'a,
@@ -166,9 +185,7 @@ fn run<
     let mut ear = ear.role();
     let mut mouth = mouth.role();
     let mut workers = workers_of(workers, backs);
-    if !ran {
-        serve_alone(&mut ear, &mut mouth, workers.as_mut_slice());
-    }
+    serve_unless(ran, &mut ear, &mut mouth, workers.as_mut_slice());
     Crew {
         ear,
         mouth,

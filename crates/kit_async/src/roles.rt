@@ -37,7 +37,7 @@ impl<'a, S: Source, R: Wait> Role for Reader<'a, S, R> {
 
     ghost can_run = { λ s. Stands s.hall.now 1 s.pass × (S.is_open s.source ≡ true) × (s.splitter.limit ≡ longest_line) };
 
-    ghost ran = { λ a b. ReaderRan a.hall.now a.pass b.pass (ear_of (S.given a.source) (S.left a.source) (half_of (S.faults a.source) (S.is_open a.source) (S.number a.source)) a.splitter.bytes) (ear_of (S.given b.source) (S.left b.source) (half_of (S.faults b.source) (S.is_open b.source) (S.number b.source)) b.splitter.bytes) b.why };
+    ghost ran = { λ a b. ReaderRan a.hall.now a.pass b.pass (ear_of (S.given a.source) (S.left a.source) (half_of (S.faults a.source) (S.is_open a.source) (S.number a.source)) a.splitter.bytes) (ear_of (S.given b.source) (S.left b.source) (half_of (S.faults b.source) (S.is_open b.source) (S.number b.source)) b.splitter.bytes) b.why × (b.hall.now ≡ a.hall.now) × (b.splitter.limit ≡ longest_line) };
 
     fn run(self) -> Self {
         let Reader {
@@ -104,7 +104,7 @@ impl<'a, W: Sink, R: Wait> Role for Writer<'a, W, R> {
 
     ghost can_run = { λ s. Stands s.hall.now 2 s.pass × (W.is_open s.sink ≡ true) };
 
-    ghost ran = { λ a b. WriterRan a.hall.now a.pass b.pass (mouth_of (W.taken a.sink) (half_of (W.faults a.sink) (W.is_open a.sink) (W.number a.sink))) (mouth_of (W.taken b.sink) (half_of (W.faults b.sink) (W.is_open b.sink) (W.number b.sink))) b.why };
+    ghost ran = { λ a b. WriterRan a.hall.now a.pass b.pass (mouth_of (W.taken a.sink) (half_of (W.faults a.sink) (W.is_open a.sink) (W.number a.sink))) (mouth_of (W.taken b.sink) (half_of (W.faults b.sink) (W.is_open b.sink) (W.number b.sink))) b.why × (b.hall.now ≡ a.hall.now) };
 
     fn run(self) -> Self {
         let Writer {
