@@ -12,7 +12,7 @@ use Rattle.wire_line.specs.HeldBytes.{first_line, has_line, TakesLine}
 use Rattle.kit_serve.specs.Limits.{longest_line, is_short, next_line}
 use Rattle.kit_serve.specs.Turns.{Half, IsSpent, Leaves, ReadsOn, end_of}
 use Rattle.kit_serve.specs.declared.end.End.{End}
-use Rattle.kit_serve.specs.declared.end.End.TheVariants.{Eof as EndEof, ReadFault as EndReadFault}
+use Rattle.kit_serve.specs.declared.end.End.TheVariants.{Eof as EndEof, ReadFault as EndReadFault, Bad as EndBad, WriteFault as EndWriteFault, Memory as EndMemory}
 use Rattle.kit_serve.proofs.Talks.{short_line, leaves_as, leaves_both}
 use Rattle.kit_async_model.specs.declared.entry.Entry.{Entry}
 use Rattle.kit_async_model.specs.declared.event.Event.{Event}
@@ -27,7 +27,7 @@ use Rattle.kit_async_roles.specs.declared.why.Why.TheVariants.{Eof, ReadFault, L
 use Rattle.kit_async_roles.specs.declared.turn.Turn.{Turn}
 use Rattle.kit_async_roles.specs.declared.turn.Turn.TheVariants.{Went, Over as TurnOver}
 use Rattle.kit_async_roles.specs.Passes.{Stands, Enters, why_of}
-use Rattle.kit_async_roles.specs.Reading.{EarValue, Hears, IsQuiet, Reads, ReadingEnds, ReaderRan, ear_of, is_taken}
+use Rattle.kit_async_roles.specs.Reading.{EarValue, Hears, IsQuiet, Reads, ReadingEnds, ReaderRan, ear_of, is_taken, why_ended}
 use Rattle.kit_async_roles.proofs.Groups.{stands_on, stands_still}
 
 -- ---- what was heard
@@ -234,15 +234,31 @@ pub ran_stopped : (h : KitHall) (p q : KitPass) (given left : Option (List ℕ))
     → turn ≡ TurnOver (Some Memory) → ReaderRan h p q (ear_of given left half held) (ear_of given left half held) (why_of turn)
 ran_stopped h p q given left half held turn k o e = ran_quiet h p q given left half held held (why_of turn) k o (quiet_stop turn e)
 
+pub read_on : {T : Type 0} (result : Result T End) (x : T) → result ≡ Ok x → end_of result ≡ Some EndReadFault → ⊥
+read_on {T = T} result x is f =
+    let bad : None ≡ Some EndReadFault = sym (ap (λ (r : Result T End). end_of r) is) ∙ f in absurd cc
+
 -- a read that ended otherwise
-pub not_fault : {T : Type 0} (result : Result T End) (end : End) → result ≡ Err end → (end ≡ EndReadFault → ⊥) → end_of result ≡ Some EndReadFault → ⊥
+not_fault : {T : Type 0} (result : Result T End) (end : End) → result ≡ Err end → (end ≡ EndReadFault → ⊥) → end_of result ≡ Some EndReadFault → ⊥
 not_fault {T = T} result end is none f =
     let same : Some end ≡ Some EndReadFault = sym (ap (λ (x : Result T End). end_of x) is) ∙ f in
     let bad : end ≡ EndReadFault = cc in none bad
 
-pub read_on : {T : Type 0} (result : Result T End) (x : T) → result ≡ Ok x → end_of result ≡ Some EndReadFault → ⊥
-read_on {T = T} result x is f =
-    let bad : None ≡ Some EndReadFault = sym (ap (λ (r : Result T End). end_of r) is) ∙ f in absurd cc
+-- no more was read
+pub ran_ended : {T : Type 0} (h : KitHall) (p q : KitPass) (given given' left left' : Option (List ℕ)) (half half' : Half) (held held' : List ℕ) (result : Result T End) (end : End) (turn : Turn)
+    → ((held : List ℕ) → Hears h p q held held) → turn ≡ TurnOver (Some (why_ended end)) → result ≡ Err end → ReadsOn given given' held held' result
+    → Leaves half half' (end_of result ≡ Some EndReadFault) → held' ≡ held → has_newline held ≡ false → IsSpent (end_of result) left'
+    → ReaderRan h p q (ear_of given left half held) (ear_of given' left' half' held') (why_of turn)
+ran_ended h p q given given' left left' half half' held held' result EndEof turn k e is r l same none spent =
+    ran_eof h p q given given' left left' half half' held held' result turn k e is r l same none spent
+ran_ended h p q given given' left left' half half' held held' result EndReadFault turn k e is r l same none spent =
+    ran_fault h p q given given' left left' half half' held held' result turn k e is r l same none
+ran_ended h p q given given' left left' half half' held held' result EndBad turn k e is r l same none spent =
+    ran_memory h p q given given' left left' half half' held held' result turn (k held') e r l (not_fault result EndBad is (λ (bad : EndBad ≡ EndReadFault). absurd cc))
+ran_ended h p q given given' left left' half half' held held' result EndWriteFault turn k e is r l same none spent =
+    ran_memory h p q given given' left left' half half' held held' result turn (k held') e r l (not_fault result EndWriteFault is (λ (bad : EndWriteFault ≡ EndReadFault). absurd cc))
+ran_ended h p q given given' left left' half half' held held' result EndMemory turn k e is r l same none spent =
+    ran_memory h p q given given' left left' half half' held held' result turn (k held') e r l (not_fault result EndMemory is (λ (bad : EndMemory ≡ EndReadFault). absurd cc))
 
 -- a rest changes nothing
 pub ran_rested : (h : KitHall) (p q r : KitPass) (e f : EarValue) → ReaderRan h p q e f None → r ≡ q → ReaderRan h p r e f None

@@ -37,7 +37,7 @@ use Rattle.kit_async_roles.proofs.Groups.{before_own, stands_on, stands_still}
 -- ---- counts
 
 count-append : (xs ys : List Entry) → count_wrotes (xs ++ ys) ≡ count_wrotes xs + count_wrotes ys
-count-append [] ys = refl
+count-append [] ys = omega arith
 count-append (e ∷ xs) ys = go (is_wrote e) refl (count-append xs ys)
   where
     go : (b : Bool) → is_wrote e ≡ b → count_wrotes (xs ++ ys) ≡ count_wrotes xs + count_wrotes ys → count_wrotes (e ∷ xs ++ ys) ≡ count_wrotes (e ∷ xs) + count_wrotes ys
@@ -90,7 +90,9 @@ dropped_some (suc k) (z ∷ xs) x g = dropped_some k xs x g
 take_one_more : (k : ℕ) (xs ys : List (List ℕ)) (x : List ℕ) → slice_get xs k ≡ Some x → take (k + 1) (xs ++ ys) ≡ take k xs ++ x ∷ []
 take_one_more k [] ys x g = cc
 take_one_more zero (z ∷ xs) ys x g = cc
-take_one_more (suc k) (z ∷ xs) ys x g = ap (λ (ls : List (List ℕ)). z ∷ ls) (take_one_more k xs ys x g)
+take_one_more (suc k) (z ∷ xs) ys x g =
+    let more : suc k + 1 ≡ suc (k + 1) = omega arith in
+    ap (λ (n : ℕ). take n (z ∷ (xs ++ ys))) more ∙ ap (λ (ls : List (List ℕ)). z ∷ ls) (take_one_more k xs ys x g)
 
 -- ---- journals
 

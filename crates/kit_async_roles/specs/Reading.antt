@@ -7,6 +7,8 @@ use Rattle.annex_model.specs.Lines.{has_newline, Cut}
 use Rattle.hall.specs.Passes.{seen_of}
 use Rattle.wire_line.specs.HeldBytes.{first_line, has_line}
 use Rattle.kit_serve.specs.Limits.{longest_line, is_short, next_line}
+use Rattle.kit_serve.specs.declared.end.End.{End}
+use Rattle.kit_serve.specs.declared.end.End.TheVariants.{Eof as EndEof, ReadFault as EndReadFault}
 use Rattle.kit_serve.specs.Turns.{Half, Leaves}
 use Rattle.kit_async_model.specs.declared.entry.Entry.{Entry}
 use Rattle.kit_async_model.specs.declared.event.Reply.{Reply}
@@ -73,6 +75,12 @@ ReadingEnds (Some Eof) ear = (has_newline ear.held ≡ false) × IfSome ear.left
 ReadingEnds (Some ReadFault) ear = has_newline ear.held ≡ false
 ReadingEnds (Some Long) ear = longest_line < length (next_line ear.held)
 ReadingEnds why ear = Unit {0}
+
+-- why no more is read, by what a read came to
+abbrev pub why_ended : End → Why
+why_ended EndEof = Eof
+why_ended EndReadFault = ReadFault
+why_ended end = Memory
 
 -- it read and told the core what it read, and ended for this reason, if it ended for one
 pub record ReaderRan (h : KitHall) (p q : KitPass) (e f : EarValue) (why : Option Why) : Type 0 where

@@ -5,7 +5,7 @@ ghost use Rattle.wire_line.specs.HeldBytes.{first_line, has_line, TakesLine};
 ghost use Rattle.kit_serve.specs.Limits.{longest_line};
 ghost use Rattle.kit_async_roles.specs.Passes.{Stands, half_of, why_of};
 ghost use Rattle.kit_async_roles.specs.declared.turn.Turn.TheVariants.{Over};
-ghost use Rattle.kit_async_roles.specs.Reading.{Hears, IsFirst, IsQuiet, ReaderRan, ear_of, is_taken};
+ghost use Rattle.kit_async_roles.specs.Reading.{Hears, IsFirst, IsQuiet, ReaderRan, ear_of, is_taken, why_ended};
 
 use crate::turn::{Turn, enter, stop_for};
 use crate::why::Why;
@@ -99,9 +99,22 @@ fn close<R: Wait>(rt: &R, hall: &Hall<KitCore>, pass: &mut Pass<KitCore>, why: W
     ensures heard { (held : List ℕ) → Hears hall.now pass.old pass.new held held }
     ensures ends { result ≡ Over (Some why) }
 {
-    match enter(rt, hall, pass, Event::Close) {
-        Some(_) => Turn::Over(Some(why)),
-        None => stop_for(rt, hall, pass, why),
+    let Some(_reply) = enter(rt, hall, pass, Event::Close) else {
+        return stop_for(rt, hall, pass, why);
+    };
+    Turn::Over(Some(why))
+}
+
+// No more is read, for what a read came to.
+fn end_read<R: Wait>(rt: &R, hall: &Hall<KitCore>, pass: &mut Pass<KitCore>, end: End) -> Turn
+    requires { Stands hall.now 1 pass.old }
+    ensures heard { (held : List ℕ) → Hears hall.now pass.old pass.new held held }
+    ensures ends { result ≡ Over (Some (why_ended end)) }
+{
+    match end {
+        End::Eof => close(rt, hall, pass, Why::Eof),
+        End::ReadFault => close(rt, hall, pass, Why::ReadFault),
+        End::Bad | End::WriteFault | End::Memory => stop_for(rt, hall, pass, Why::Memory),
     }
 }
 
@@ -125,9 +138,7 @@ fn read<S: Source, R: Wait>(
 {
     match fill(splitter, source) {
         Ok(()) => Turn::Went,
-        Err(End::Eof) => close(rt, hall, pass, Why::Eof),
-        Err(End::ReadFault) => close(rt, hall, pass, Why::ReadFault),
-        Err(_) => stop_for(rt, hall, pass, Why::Memory),
+        Err(end) => end_read(rt, hall, pass, end),
     }
 }
 

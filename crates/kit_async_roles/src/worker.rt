@@ -117,6 +117,26 @@ fn work<K: Remote, R: Wait>(
     }
 }
 
+// Calls the remote for what was taken up. A line that spells a message asks for nothing that a remote may not be asked for.
+fn undertake<K: Remote, R: Wait>(
+    rt: &R,
+    hall: &Hall<KitCore>,
+    pass: &mut Pass<KitCore>,
+    number: u32,
+    remote: &mut K,
+    asked: &Asked,
+) -> Turn
+    requires stands { Stands hall.now (number + 3) pass.old }
+    requires asked { IsAsked hall.now.fixed (standing hall.now.fixed (seen_of pass.old)) number asked.now }
+    ensures ran { WorkerRan hall.now number pass.old pass.new (hand_of (K.calls remote.old) (K.settings remote.old)) (hand_of (K.calls remote.new) (K.settings remote.new)) }
+{
+    if can_be_asked(asked) {
+        work(rt, hall, pass, number, remote, asked)
+    } else {
+        stop_for(rt, hall, pass, Why::Memory)
+    }
+}
+
 /// Takes up a request, and calls the remote of that number for it.
 pub fn work_turn<K: Remote, R: Wait>(
     rt: &R,
@@ -129,11 +149,7 @@ pub fn work_turn<K: Remote, R: Wait>(
     ensures ran { WorkerRan hall.now number pass.old pass.new (hand_of (K.calls remote.old) (K.settings remote.old)) (hand_of (K.calls remote.new) (K.settings remote.new)) }
 {
     match enter(rt, hall, pass, Event::Take) {
-        Some(Reply::Work(asked)) if can_be_asked(&asked) => work(
-            rt, hall, pass, number, remote, &asked,
-        ),
-        // A line that spells a message asks for nothing else.
-        Some(Reply::Work(_)) => stop_for(rt, hall, pass, Why::Memory),
+        Some(Reply::Work(asked)) => undertake(rt, hall, pass, number, remote, &asked),
         Some(Reply::Wait) => Turn::Rests,
         Some(_) => Turn::Over(None),
         None => stop_for(rt, hall, pass, Why::Memory),

@@ -5,12 +5,12 @@ use Rattle.kit_async_roles.proofs.reader.close.Goals as goal
 pub enter-requires : goal.enter-requires
 enter-requires g c = numbered c.args.hall.now 1 c.args.pass.now c.requires
 
-pub returns-in-Some-clause-heard : goal.returns-in-Some-clause-heard
-returns-in-Some-clause-heard g c = λ held. closed c.args.hall.now c.args.pass.now c.enter.new.pass c.in-Some.field-0 held c.requires c.enter.ensures.stands c.in-Some.ensures.some
+pub returns-clause-heard : goal.returns-clause-heard
+returns-clause-heard g c = λ held. closed c.args.hall.now c.args.pass.now c.enter.new.pass c.in-Some._reply held c.requires c.enter.ensures.stands c.in-Some.ensures.some
 
 pub stop_for-requires : goal.stop_for-requires
 stop_for-requires g c = numbered c.args.hall.now 1 c.enter.new.pass (stands_on c.args.hall.now 1 c.args.pass.now c.enter.new.pass c.requires c.enter.ensures.stands)
 
-pub returns-in-None-clause-heard : goal.returns-in-None-clause-heard
-returns-in-None-clause-heard g c = λ held.
-    untold c.args.hall.now c.args.pass.now c.enter.new.pass c.stop_for.new.pass held c.requires c.in-None.ensures.none c.stop_for.ensures.stands c.stop_for.ensures.broken
+pub returns-in_default-clause-heard : goal.returns-in_default-clause-heard
+returns-in_default-clause-heard g c = λ held.
+    untold c.args.hall.now c.args.pass.now c.enter.new.pass c.stop_for.new.pass held c.requires c.in_default.ensures.none c.stop_for.ensures.stands c.stop_for.ensures.broken

@@ -3,8 +3,8 @@ use Rattle.wire_line.specs.HeldBytes.{has_line}
 use Rattle.kit_serve.proofs.Talks.{long_line, no_line}
 use Rattle.kit_async_roles.proofs.reader.first_of.Goals as goal
 
-pub returns-in_ok-line : goal.returns-in_ok-line
-returns-in_ok-line c =
+pub returns-in_ok-line-in-Line : goal.returns-in_ok-line-in-Line
+returns-in_ok-line-in-Line c =
     let held = c.args.splitter.now.bytes in
     (subst (λ (n : ℕ). IsTrue (has_line n held)) c.requires c.in-Line.ensures.next.0, c.in_ok-line.ensures ∙ c.in-Line.ensures.next.1)
 

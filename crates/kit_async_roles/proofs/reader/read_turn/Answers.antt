@@ -1,4 +1,6 @@
+use Rattle.std.proofs.Common.{subst}
 use Rattle.kit_async_roles.specs.Passes.{half_of, why_of}
+use Rattle.kit_async_roles.specs.Reading.{IsFirst}
 use Rattle.kit_async_roles.proofs.Groups.{numbered}
 use Rattle.kit_async_roles.proofs.Readers.{broken, ran_long, ran_quiet, ran_stopped}
 use Rattle.kit_async_roles.proofs.reader.read_turn.Goals as goal
@@ -14,7 +16,7 @@ pub returns-in-Ok-Long-clause-ran : goal.returns-in-Ok-Long-clause-ran
 returns-in-Ok-Long-clause-ran g c =
     let s = g.S.Source in
     ran_long c.args.hall.now c.args.pass.now c.close.new.pass (s.given c.args.source.now) (s.left c.args.source.now)
-    (half_of (s.faults c.args.source.now) (s.is_open c.args.source.now) (s.number c.args.source.now)) c.args.splitter.now.bytes c.close.result c.close.ensures.heard c.requires.open c.close.ensures.ends c.in-Ok-Long.ensures
+    (half_of (s.faults c.args.source.now) (s.is_open c.args.source.now) (s.number c.args.source.now)) c.args.splitter.now.bytes c.close.result c.close.ensures.heard c.requires.open c.close.ensures.ends (subst (IsFirst c.args.splitter.now.bytes) c.in-Ok-Long.field-0-is c.in-Ok-Long.ensures)
 
 pub stop_for-requires : goal.stop_for-requires
 stop_for-requires g c = numbered c.args.hall.now 1 c.args.pass.now c.requires.stands

@@ -1,5 +1,4 @@
-use Rattle.std.proofs.Common.{ap, ◌∙◌}
-use Rattle.kit_async_roles.proofs.Groups.{numbered}
+use Rattle.kit_async_roles.proofs.Groups.{numbered, stands_on}
 use Rattle.kit_async_roles.proofs.Workers.{ran_and_broke, ran_broken, ran_called}
 use Rattle.kit_async_roles.proofs.worker.work.Goals as goal
 
@@ -10,20 +9,23 @@ pub tell-requires : goal.tell-requires
 tell-requires g c = numbered _ _ _ c.requires.stands
 
 pub returns-then-tell : goal.returns-then-tell
-returns-then-tell g c =
-    ran_called _ _ _ _ _ _ _ _ c.requires.stands c.tell.ensures.stands c.requires.asked.1 c.in-Ok.ensures.text c.tell.ensures.told c.in-Ok.ensures.calls c.in-Ok.ensures.settings
+returns-then-tell g c = record {
+  ran = ran_called _ _ _ _ _ _ _ _ c.requires.stands c.tell.ensures.stands c.requires.asked.1 c.in-Ok.ensures.text c.tell.ensures.told c.in-Ok.ensures.calls c.in-Ok.ensures.settings;
+}
 
 pub stop_for-requires : goal.stop_for-requires
-stop_for-requires g c = ?
+stop_for-requires g c = numbered _ _ _ (stands_on _ _ _ _ c.requires.stands c.tell.ensures.stands)
 
 pub returns-else-tell : goal.returns-else-tell
-returns-else-tell g c =
-    ran_and_broke _ _ _ _ _ _ _
-    (ran_called _ _ _ _ _ _ _ _ c.requires.stands c.tell.ensures.stands c.requires.asked.1 c.in-Ok.ensures.text c.tell.ensures.told c.in-Ok.ensures.calls c.in-Ok.ensures.settings)
-    c.stop_for.ensures.stands c.stop_for.ensures.broken
+returns-else-tell g c = record {
+  ran =
+      ran_and_broke _ _ _ _ _ _ _
+      (ran_called _ _ _ _ _ _ _ _ c.requires.stands c.tell.ensures.stands c.requires.asked.1 c.in-Ok.ensures.text c.tell.ensures.told c.in-Ok.ensures.calls c.in-Ok.ensures.settings)
+      c.stop_for.ensures.stands c.stop_for.ensures.broken;
+}
 
-pub stop_for-requires-2 : goal.stop_for-requires-2
-stop_for-requires-2 g c = numbered _ _ _ c.requires.stands
+pub stop_for-requires-in-Err : goal.stop_for-requires-in-Err
+stop_for-requires-in-Err g c = numbered _ _ _ c.requires.stands
 
 pub returns-in-Err : goal.returns-in-Err
-returns-in-Err g c = ran_broken _ _ _ _ _ _ c.requires.stands c.stop_for-2.ensures.stands c.stop_for-2.ensures.broken c.in-Err.ensures.calls c.in-Err.ensures.settings
+returns-in-Err g c = record { ran = ran_broken _ _ _ _ _ _ c.requires.stands c.stop_for-in-Err.ensures.stands c.stop_for-in-Err.ensures.broken c.in-Err.ensures.calls c.in-Err.ensures.settings }
