@@ -105,16 +105,27 @@ fn close<R: Wait>(rt: &R, hall: &Hall<KitCore>, pass: &mut Pass<KitCore>, why: W
     Turn::Over(Some(why))
 }
 
+// Why no more is read, by what a read came to.
+fn why_ended(end: End) -> Why
+    ensures { result ≡ why_ended end }
+{
+    match end {
+        End::Eof => Why::Eof,
+        End::ReadFault => Why::ReadFault,
+        End::Bad | End::WriteFault | End::Memory => Why::Memory,
+    }
+}
+
 // No more is read, for what a read came to.
 fn end_read<R: Wait>(rt: &R, hall: &Hall<KitCore>, pass: &mut Pass<KitCore>, end: End) -> Turn
     requires { Stands hall.now 1 pass.old }
     ensures heard { (held : List ℕ) → Hears hall.now pass.old pass.new held held }
     ensures ends { result ≡ Over (Some (why_ended end)) }
 {
-    match end {
-        End::Eof => close(rt, hall, pass, Why::Eof),
-        End::ReadFault => close(rt, hall, pass, Why::ReadFault),
-        End::Bad | End::WriteFault | End::Memory => stop_for(rt, hall, pass, Why::Memory),
+    let why = why_ended(end);
+    match why {
+        Why::Memory => stop_for(rt, hall, pass, why),
+        _ => close(rt, hall, pass, why),
     }
 }
 

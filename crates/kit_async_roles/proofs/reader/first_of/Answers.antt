@@ -6,7 +6,7 @@ use Rattle.kit_async_roles.proofs.reader.first_of.Goals as goal
 pub returns-in_ok-line-in-Line : goal.returns-in_ok-line-in-Line
 returns-in_ok-line-in-Line c =
     let held = c.args.splitter.now.bytes in
-    (subst (λ (n : ℕ). IsTrue (has_line n held)) c.requires c.in-Line.ensures.next.0, c.in_ok-line.ensures ∙ c.in-Line.ensures.next.1)
+    (subst (λ (n : ℕ). IsTrue (has_line n held)) c.requires c.in-Line.ensures.next.0, c.in_ok-line-in-Line.ensures ∙ c.in-Line.ensures.next.1)
 
 pub returns-in-Long : goal.returns-in-Long
 returns-in-Long c =

@@ -1,4 +1,5 @@
-use Rattle.std.proofs.Common.{refl}
+use Rattle.std.proofs.Common.{ℕ, List, [], ◌∷◌, ◌++◌, refl, subst, take}
+use Rattle.std.specs.Io.KnownBytes.{Appends}
 use Rattle.kit_async_model.specs.declared.event.Event.TheVariants.{Wrote}
 use Rattle.kit_async_roles.proofs.Groups.{answered, numbered}
 use Rattle.kit_async_roles.proofs.Writers.{ran_failed, ran_put}
@@ -8,18 +9,22 @@ pub enter-requires : goal.enter-requires
 enter-requires g c = numbered _ _ _ c.requires.stands
 
 pub returns-in-Ok : goal.returns-in-Ok
-returns-in-Ok g c = record {
-  ran =
-      ran_put _ _ _ _ _ _ c.put.result _ c.requires.stands c.enter.ensures.stands (answered _ _ _ Wrote c.enter.result (c.enter.ensures.free refl) c.enter.ensures.some)
-      c.requires.line c.in-Ok.is c.in-Ok.ensures.ok c.put.ensures.silent c.put.ensures.sink;
-}
+returns-in-Ok g c =
+    let took = subst (λ (l : List ℕ). Appends (g.W.Sink.taken c.args.sink.now) (g.W.Sink.taken c.put.new.sink) (l ++ 10 ∷ [])) c.view.ensures c.in-Ok.ensures.ok in
+    record {
+      ran =
+          ran_put _ _ _ _ _ _ c.put.result _ c.requires.stands c.enter.ensures.stands (answered _ _ _ Wrote c.enter.result (c.enter.ensures.free refl) c.enter.ensures.some)
+          c.requires.line c.in-Ok.is took c.put.ensures.silent c.put.ensures.sink;
+    }
 
 pub stop_for-requires : goal.stop_for-requires
 stop_for-requires g c = numbered _ _ _ c.requires.stands
 
 pub returns-in-Err : goal.returns-in-Err
-returns-in-Err g c = record {
-  ran =
-      ran_failed _ _ _ _ _ _ c.put.result _ c.stop_for.result c.requires.stands c.stop_for.ensures.stands c.stop_for.ensures.broken
-      c.requires.line c.in-Err.is c.put.ensures.prefix c.put.ensures.silent c.put.ensures.sink c.stop_for.ensures.over;
-}
+returns-in-Err g c =
+    let took = subst (λ (l : List ℕ). (n : ℕ) × Appends (g.W.Sink.taken c.args.sink.now) (g.W.Sink.taken c.put.new.sink) (take n (l ++ 10 ∷ []))) c.view.ensures c.put.ensures.prefix in
+    record {
+      ran =
+          ran_failed _ _ _ _ _ _ c.put.result _ c.stop_for.result c.requires.stands c.stop_for.ensures.stands c.stop_for.ensures.broken
+          c.requires.line c.in-Err.is took c.put.ensures.silent c.put.ensures.sink c.stop_for.ensures.over;
+    }

@@ -28,4 +28,4 @@ pub stop_for-requires : goal.stop_for-requires
 stop_for-requires g c = numbered _ _ _ (stands_on _ _ _ _ c.requires.stands c.enter.ensures.stands)
 
 pub returns : goal.returns
-returns g c = ?
+returns g c = record { ran = wrote_untold _ _ _ _ _ _ c.requires.stands c.in-None.ensures.none c.stop_for.ensures.stands c.stop_for.ensures.broken c.requires.open c.stop_for.ensures.over }
