@@ -85,7 +85,7 @@ closed_by false true all h o = refl
 closed_by false false all h o = absurd cc
 
 module _ (setup : Setup) (journal : List Entry) (f : EarValue) where
-  s : Standing
+  abbrev s : Standing
   s = standing setup journal
 
   read_ended : (read : Option RoleWhy) → IsFinished setup s → s.over ≡ false → s.closed ≡ true → ReadingEnds read f → IsEnd (why_read read) setup journal f.held f.left
