@@ -1,5 +1,5 @@
 -- Workers that take turns, place by place.
-use Rattle.std.proofs.Common.{◌≡◌, ℕ, zero, suc, ◌+◌, List, [], ◌∷◌, map, refl, sym, subst, ◌∙◌, set, Some, slice_get}
+use Rattle.std.proofs.Common.{◌≡◌, ℕ, zero, suc, ◌+◌, List, [], ◌∷◌, map, refl, sym, subst, ◌∙◌, set, Some, Option, slice_get}
 use Rattle.std.specs.Prelude.{All}
 use Rattle.std.proofs.lemmas.List.Elements.{All-nil, All-cons, All-head, All-tail}
 use Rattle.crew_round.specs.declared.back.Back.{Back}
@@ -11,7 +11,17 @@ use Rattle.kit_async_core.specs.Halls.{KitHall, KitPass}
 use Rattle.kit_async_roles.specs.Calling.{HandValue, WorkerRan}
 use Rattle.kit_async_roles.specs.Passes.{Stands}
 use Rattle.kit_async_roles.proofs.Workers.{ran_both, ran_none}
-use Rattle.kit_async.specs.Turns.{WorkerWent}
+use Rattle.kit_async_roles.specs.declared.why.Why.{Why}
+use Rattle.kit_async_roles.specs.Reading.{EarValue}
+use Rattle.kit_async_roles.specs.Writing.{MouthValue}
+use Rattle.kit_async.specs.Turns.{ReaderWent, WorkerWent, WriterWent}
+
+-- one turn more, in the same hall
+pub reader_on : (h k : KitHall) (p q r : KitPass) (e f g : EarValue) (a b c : Option Why) → k ≡ h → ReaderWent h p q e f a b → ReaderWent k q r f g b c → ReaderWent h p r e g a c
+reader_on h k p q r e f g a b c same x y = λ begun ear ran. subst (λ (l : KitHall). ReaderWent l q r f g b c) same y begun ear (x begun ear ran)
+
+pub writer_on : (h k : KitHall) (p q r : KitPass) (m w v : MouthValue) (a b c : Option Why) → k ≡ h → WriterWent h p q m w a b → WriterWent k q r w v b c → WriterWent h p r m v a c
+writer_on h k p q r m w v a b c same x y = λ begun mouth ran. subst (λ (l : KitHall). WriterWent l q r w v b c) same y begun mouth (x begun mouth ran)
 
 -- what holds of a role, and of what a run leaves of it, holds of what came back
 pub came_as : {E : Type 0} (ran : E → E → Type 0) (P : E → Type 0) (a : E) (b : Back E) → CameBack ran a b → P a → ((x : E) → ran a x → P x) → P (role_of b)

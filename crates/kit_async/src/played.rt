@@ -126,7 +126,7 @@ fn workers_of<'a, K: Remote + Drop, R: Wait>(
 ) -> Workers<'a, K, R>
     requires empty { workers.items ≡ [] }
     requires room { vec_len backs ≤ vec_capacity workers }
-    ensures { result.items ≡ map role_of backs.items }
+    ensures { result.items ≡ map role_of backs.entry.items }
 {
     for back in backs {
         workers.push_reserved(back.role());
@@ -172,9 +172,9 @@ fn run<
     requires reader { Stands crew.ear.hall.now 1 crew.ear.pass × (S.is_open crew.ear.source ≡ true) × (crew.ear.splitter.limit ≡ longest_line) × (crew.ear.why ≡ None) }
     requires writer { Stands crew.mouth.hall.now 2 crew.mouth.pass × (W.is_open crew.mouth.sink ≡ true) × (crew.mouth.why ≡ None) }
     requires workers { All (λ w. Stands w.hall.now (w.number + 3) w.pass) crew.workers.items }
-    ensures read { ReaderRan crew.ear.hall.now crew.ear.pass result.ear.pass (ear_of (S.given crew.ear.source) (S.left crew.ear.source) (half_of (S.faults crew.ear.source) (S.is_open crew.ear.source) (S.number crew.ear.source)) crew.ear.splitter.bytes) (ear_of (S.given result.ear.source) (S.left result.ear.source) (half_of (S.faults result.ear.source) (S.is_open result.ear.source) (S.number result.ear.source)) result.ear.splitter.bytes) result.ear.why }
-    ensures wrote { WriterRan crew.mouth.hall.now crew.mouth.pass result.mouth.pass (mouth_of (W.taken crew.mouth.sink) (half_of (W.faults crew.mouth.sink) (W.is_open crew.mouth.sink) (W.number crew.mouth.sink))) (mouth_of (W.taken result.mouth.sink) (half_of (W.faults result.mouth.sink) (W.is_open result.mouth.sink) (W.number result.mouth.sink))) result.mouth.why }
-    ensures worked { Pairwise (λ w v. WorkerWent w.hall.now w.number w.pass (hand_of (K.calls w.remote) (K.settings w.remote)) v.hall.now v.number v.pass (hand_of (K.calls v.remote) (K.settings v.remote))) crew.workers.items result.workers.items }
+    ensures read { ReaderRan crew.entry.ear.hall.now crew.entry.ear.pass result.ear.pass (ear_of (S.given crew.entry.ear.source) (S.left crew.entry.ear.source) (half_of (S.faults crew.entry.ear.source) (S.is_open crew.entry.ear.source) (S.number crew.entry.ear.source)) crew.entry.ear.splitter.bytes) (ear_of (S.given result.ear.source) (S.left result.ear.source) (half_of (S.faults result.ear.source) (S.is_open result.ear.source) (S.number result.ear.source)) result.ear.splitter.bytes) result.ear.why }
+    ensures wrote { WriterRan crew.entry.mouth.hall.now crew.entry.mouth.pass result.mouth.pass (mouth_of (W.taken crew.entry.mouth.sink) (half_of (W.faults crew.entry.mouth.sink) (W.is_open crew.entry.mouth.sink) (W.number crew.entry.mouth.sink))) (mouth_of (W.taken result.mouth.sink) (half_of (W.faults result.mouth.sink) (W.is_open result.mouth.sink) (W.number result.mouth.sink))) result.mouth.why }
+    ensures worked { Pairwise (λ w v. WorkerWent w.hall.now w.number w.pass (hand_of (K.calls w.remote) (K.settings w.remote)) v.hall.now v.number v.pass (hand_of (K.calls v.remote) (K.settings v.remote))) crew.entry.workers.items result.workers.items }
 {
     let Crew {
         ear,
@@ -200,9 +200,9 @@ fn gather<'a, K: Remote + Drop, S: Source + Drop, W: Sink + Drop, R: Wait>(
 ) -> (Kit<K, S, W>, RoleEnds)
     requires none { (rest.passes.items ≡ []) × (rest.remotes.items ≡ []) }
     requires rooms { (2 + vec_len crew.workers ≤ vec_capacity rest.passes) × (vec_len crew.workers ≤ vec_capacity rest.remotes) }
-    ensures passes { result.0.passes.items ≡ crew.ear.pass ∷ crew.mouth.pass ∷ map (λ w. w.pass) (reverse crew.workers.items) }
-    ensures remotes { result.0.remotes.items ≡ map (λ w. w.remote) (reverse crew.workers.items) }
-    ensures ends { (result.0.source ≡ crew.ear.source) × (result.0.sink ≡ crew.mouth.sink) × (result.1.read ≡ crew.ear.why) × (result.1.wrote ≡ crew.mouth.why) }
+    ensures passes { result.0.passes.items ≡ crew.entry.ear.pass ∷ crew.entry.mouth.pass ∷ map (λ w. w.pass) (reverse crew.entry.workers.items) }
+    ensures remotes { result.0.remotes.items ≡ map (λ w. w.remote) (reverse crew.entry.workers.items) }
+    ensures ends { (result.0.source ≡ crew.entry.ear.source) × (result.0.sink ≡ crew.entry.mouth.sink) × (result.1.read ≡ crew.entry.ear.why) × (result.1.wrote ≡ crew.entry.mouth.why) }
 {
     let Rest {
         mut passes,
