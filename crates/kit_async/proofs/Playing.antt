@@ -8,7 +8,7 @@ use Rattle.gathering.specs.Pairs.{Pairwise}
 use Rattle.hall.specs.Log.{flat}
 use Rattle.hall.specs.declared.view.Link.{Link}
 use Rattle.hall.specs.Passes.{IsPassOf, seen_of}
-use Rattle.crew_rounds.proofs.Places.{all_reverse}
+use Rattle.crew_round.proofs.Dealing.{all_reverse}
 use Rattle.kit_async_model.specs.declared.entry.Entry.{Entry}
 use Rattle.kit_async_core.specs.Halls.{KitHall, KitPass}
 use Rattle.kit_async_roles.specs.Calling.{HandValue, WorkerRan}

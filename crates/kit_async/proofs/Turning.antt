@@ -12,8 +12,8 @@ use Rattle.kit_async_roles.specs.Calling.{HandValue, WorkerRan}
 use Rattle.kit_async_roles.specs.Passes.{Stands}
 use Rattle.kit_async_roles.proofs.Workers.{ran_both, ran_none}
 use Rattle.kit_async_roles.specs.declared.why.Why.{Why}
-use Rattle.kit_async_roles.specs.Reading.{EarValue}
-use Rattle.kit_async_roles.specs.Writing.{MouthValue}
+use Rattle.kit_async_roles.specs.Reading.{EarValue, ReaderRan}
+use Rattle.kit_async_roles.specs.Writing.{MouthValue, WriterRan}
 use Rattle.kit_async.specs.Turns.{ReaderWent, WorkerWent, WriterWent}
 
 -- one turn more, in the same hall
@@ -22,6 +22,13 @@ reader_on h k p q r e f g a b c same x y = λ begun ear ran. subst (λ (l : KitH
 
 pub writer_on : (h k : KitHall) (p q r : KitPass) (m w v : MouthValue) (a b c : Option Why) → k ≡ h → WriterWent h p q m w a b → WriterWent k q r w v b c → WriterWent h p r m v a c
 writer_on h k p q r m w v a b c same x y = λ begun mouth ran. subst (λ (l : KitHall). WriterWent l q r w v b c) same y begun mouth (x begun mouth ran)
+
+-- what it did before, and then one turn more
+pub reader_then : (h k : KitHall) (p q r : KitPass) (e f g : EarValue) (a b : Option Why) → k ≡ h → ReaderRan h p q e f a → ReaderWent k q r f g a b → ReaderRan h p r e g b
+reader_then h k p q r e f g a b same ran y = subst (λ (l : KitHall). ReaderWent l q r f g a b) same y p e ran
+
+pub writer_then : (h k : KitHall) (p q r : KitPass) (m w v : MouthValue) (a b : Option Why) → k ≡ h → WriterRan h p q m w a → WriterWent k q r w v a b → WriterRan h p r m v b
+writer_then h k p q r m w v a b same ran y = subst (λ (l : KitHall). WriterWent l q r w v a b) same y p m ran
 
 -- what holds of a role, and of what a run leaves of it, holds of what came back
 pub came_as : {E : Type 0} (ran : E → E → Type 0) (P : E → Type 0) (a : E) (b : Back E) → CameBack ran a b → P a → ((x : E) → ran a x → P x) → P (role_of b)
