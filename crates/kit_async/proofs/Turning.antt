@@ -1,6 +1,7 @@
 -- Workers that take turns, place by place.
-use Rattle.std.proofs.Common.{◌≡◌, ℕ, zero, suc, ◌+◌, List, [], ◌∷◌, map, refl, sym, subst, ◌∙◌, set, Some, Option, slice_get}
+use Rattle.std.proofs.Common.{◌≡◌, ℕ, zero, suc, ◌+◌, List, [], ◌∷◌, map, refl, sym, subst, ◌∙◌, set, Some, Option, slice_get, ◌++◌, take, drop, length, arith}
 use Rattle.std.specs.Prelude.{All}
+use Rattle.std.proofs.lemmas.List.{take-append-le, take_all}
 use Rattle.std.proofs.lemmas.List.Elements.{All-nil, All-cons, All-head, All-tail}
 use Rattle.crew_round.specs.declared.back.Back.{Back}
 use Rattle.crew_round.specs.declared.back.Back.TheVariants.{Stayed, Ran}
@@ -29,6 +30,10 @@ reader_then h k p q r e f g a b same ran y = subst (λ (l : KitHall). ReaderWent
 
 pub writer_then : (h k : KitHall) (p q r : KitPass) (m w v : MouthValue) (a b : Option Why) → k ≡ h → WriterRan h p q m w a → WriterWent k q r w v a b → WriterRan h p r m v b
 writer_then h k p q r m w v a b same ran y = subst (λ (l : KitHall). WriterWent l q r w v a b) same y p m ran
+
+-- a list whose places were all written
+pub back_whole : {A : Type 0} (xs ys : List A) (n : ℕ) → n ≡ length xs → length ys ≡ length xs → take n (ys ++ drop (length ys) xs) ≡ ys
+back_whole xs ys n is long = take-append-le n ys (drop (length ys) xs) (omega arith) ∙ take_all n ys (omega arith)
 
 -- what holds of a role, and of what a run leaves of it, holds of what came back
 pub came_as : {E : Type 0} (ran : E → E → Type 0) (P : E → Type 0) (a : E) (b : Back E) → CameBack ran a b → P a → ((x : E) → ran a x → P x) → P (role_of b)
