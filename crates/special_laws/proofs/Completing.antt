@@ -1,14 +1,13 @@
 -- How a run ends that went well from outside.
 use Rattle.std.proofs.Common.{◌≡◌, ◌∙◌, ◌⊎◌, inl, inr, ℕ, zero, suc, ◌+◌, ◌-◌, ◌≤◌, ◌==◌, Bool, true, false, cond, List, [], ◌∷◌, ◌++◌, length, refl, sym, ap, subst, arith, Some, None, Option, Ok}
-use Rattle.std.specs.Prelude.{◌&&◌, ◌||◌, not, All, is_some, map, slice_get, Result}
+use Rattle.std.specs.Prelude.{◌&&◌, ◌||◌, not, All, is_some, map, slice_get}
 use Rattle.std.proofs.lemmas.Bool.{and_parts}
 use Rattle.std.proofs.lemmas.List.Elements.{All-head, All-tail}
 use Rattle.std.specs.List.{list_all, list_any, cons_option, range_with_len}
 use Rattle.ann_key.specs.Keys.{is_key, is_sendable, key_reading}
-use Rattle.ann_key.specs.declared.bytes.NoMemory.{NoMemory}
 use Rattle.ann_outside.specs.Causes.{Rose}
 use Rattle.ann_outside.specs.Files.{Files, WhereTold}
-use Rattle.child_end.specs.Outsides.{OutsideValue, TableValue}
+use Rattle.child_end.specs.Outsides.{TableValue}
 use Rattle.cli_words.specs.Texts.{memory_line}
 use Rattle.cli_words.specs.declared.command.RunWords.{RunWords}
 use Rattle.job_rounds.specs.Completeness.{AreAnsweredWell}
@@ -16,25 +15,24 @@ use Rattle.job_rounds.proofs.Completing.{jobs_complete}
 use Rattle.journal_desk.specs.declared.writing.JournalWritten.{JournalWritten}
 use Rattle.journal_desk.specs.declared.writing.JournalWritten.TheVariants as J
 use Rattle.journal_model.specs.declared.answer.Answer.{Answer}
-use Rattle.journal_model.specs.declared.answer.Answer.TheVariants.{Memory as MemoryAnswer}
 use Rattle.journal_model.specs.declared.entry.What.{What}
 use Rattle.journal_model.specs.declared.entry.What.TheVariants.{Answer as Answered}
 use Rattle.journal_model.specs.declared.entry.Entry.{Entry}
 use Rattle.journal_model.specs.declared.opening.Opening.{Opening}
 use Rattle.journal_model.specs.Journal.{each_of, first_of}
 use Rattle.journal_model.specs.Legality.{task_of}
-use Rattle.journal_model.proofs.Looks.{same_number}
+use Rattle.journal_model.proofs.Looks.{differ, same_number}
 use Rattle.keep_desk.specs.declared.writing.KeptWritten.{KeptWritten}
 use Rattle.keep_desk.specs.declared.writing.KeptWritten.TheVariants as W
 use Rattle.run_tasks.specs.Inputs.{InputFlow}
-use Rattle.run_tasks.specs.Runs.{AreWritten, HasFailed, IsAtDesk, IsIdle, IsJournaled, IsKept, IsWholeRun, answer_for, answer_of, told_of}
+use Rattle.run_tasks.specs.Runs.{AreWritten, HasFailed, IsJournaled, IsKept, IsWholeRun, answer_for, answer_of, told_of}
 use Rattle.run_tasks.specs.declared.made.RunEnd.{RunEnd}
 use Rattle.run_tasks.specs.declared.made.RunEnd.TheVariants.{BadKept, KeptTooLarge, FileFailed, InputFailed, Refused, Memory, Done}
 use Rattle.special_cli.specs.Doings.{end_of, made_in}
 use Rattle.special_cli.specs.Endings.{is_well}
 use Rattle.special_cli.specs.Left.{Left}
 use Rattle.special_cli.specs.Tells.{Flow, IsMemoryTold, IsToldOf, IsWritten, answers_status}
-use Rattle.special_laws.specs.Completeness.{AreAllWell, EndsWell, HasCompleted, IdleLacksMemory, IsKeptQuiet, IsQuiet, RunCompletes, WentWell, says_memory}
+use Rattle.special_laws.specs.Completeness.{AreAllWell, EndsWell, HasCompleted, IdleLacksMemory, IsKeptQuiet, IsQuiet, RunCompletes, says_memory}
 use Rattle.task_laws.specs.LoneWell.{AreKeysRead}
 use Rattle.task_laws.specs.WentWell.{IsSuccess, success_of}
 use Rattle.task_text.specs.TaskLines.{IsTask, has_chunk}
@@ -99,7 +97,7 @@ module _ (words : RunWords) (told : Option Files) (table : TableValue) (o : Open
       fault (inr r) = absurd (quiet.missing (kept_told mid kept r.0) (rises mid.counts.missing table.counts.missing r.1))
 
       go : (name : Option (List ℕ)) → IsJournaled (record words { journal = name }) mid table o journal (Ok J.Fault) → ⊥
-      go None k = absurd (let bad : Ok {E = NoMemory} J.Fault ≡ Ok J.Done = k.0 in cc)
+      go None k = absurd (let bad = k.0 in cc)
       go (Some name) k = fault (k.1.fault refl)
 
   never_failed : AreWritten words told table o journal W.Fault → ⊥
@@ -121,23 +119,24 @@ record Stands (journal : List Entry) (w : What) : Type 0 where
 
 answer_stands : (t : ℕ) (answer : Answer) (journal : List Entry) → answer_of journal t ≡ Some answer → Stands journal (Answered t answer)
 answer_stands t answer [] h = absurd (let bad : None ≡ Some answer = h in cc)
-answer_stands t answer (e ∷ journal) h = by_what e.what refl h
+answer_stands t answer (e ∷ journal) h = by_what e.what refl h (answer_stands t answer journal)
   where
-    later : answer_of journal t ≡ Some answer → Stands (e ∷ journal) (Answered t answer)
-    later k = let s = answer_stands t answer journal k in record { front = e ∷ s.front; by = s.by; rest = s.rest; is = ap (λ (l : List Entry). e ∷ l) s.is }
+    behind : Stands journal (Answered t answer) → Stands (e ∷ journal) (Answered t answer)
+    behind s = record { front = e ∷ s.front; by = s.by; rest = s.rest; is = ap (λ (l : List Entry). e ∷ l) s.is }
 
     here : (task : ℕ) (given : Answer) → e.what ≡ Answered task given → task ≡ t → given ≡ answer → Stands (e ∷ journal) (Answered t answer)
     here task given is at same =
         let what : e.what ≡ Answered t answer = is ∙ ap (λ (n : ℕ). Answered n given) at ∙ ap (Answered t) same in
         record { front = []; by = e.by; rest = journal; is = ap (λ (w : What). record { by = e.by; what = w } ∷ journal) what }
 
-    by_what : (w : What) → e.what ≡ w → first_of (cons_option (answer_for t w) (each_of (answer_for t) journal)) ≡ Some answer → Stands (e ∷ journal) (Answered t answer)
-    by_what (Answered task given) is k = by_test (task == t) refl k
+    by_what : (w : What) → e.what ≡ w → first_of (cons_option (answer_for t w) (each_of (answer_for t) journal)) ≡ Some answer → (answer_of journal t ≡ Some answer → Stands journal (Answered t answer))
+        → Stands (e ∷ journal) (Answered t answer)
+    by_what (Answered task given) is k more = by_test (task == t) refl k
       where
         by_test : (b : Bool) → (task == t) ≡ b → first_of (cons_option (cond {A = Option Answer} b (Some given) None) (each_of (answer_for t) journal)) ≡ Some answer → Stands (e ∷ journal) (Answered t answer)
         by_test true at j = here task given is (same_number task t at) (let one : Some given ≡ Some answer = j in cc)
-        by_test false at j = later j
-    by_what w is k = later k
+        by_test false at j = behind (more j)
+    by_what w is k more = behind (more k)
 
 all_well : (journal : List Entry) (tasks : List Task) (answers : List Answer) (k : ℕ) → map (λ answer. Some answer) answers ≡ map (answer_of journal) (range_with_len k (length tasks))
     → ((i : ℕ) (task : Task) (answer : Answer) → slice_get tasks i ≡ Some task → answer_of journal (k + i) ≡ Some answer → IsSuccess task.work answer) → AreAllWell tasks answers
@@ -196,13 +195,14 @@ status_so status answers is (inr memory) = by_test (list_all is_well answers) re
 
 -- ---- the run
 
+task_is : (o : Opening) (t i : ℕ) → t ≡ i + 1 → task_of o t ≡ slice_get o.tasks i
+task_is o t i same =
+    let off : (t == 0) ≡ false = differ t 0 (λ e. absurd (let bad : ⊥ = omega (arith, same, e) in bad)) in
+    let at : t - 1 ≡ i = omega (arith, same) in
+    ap (λ (b : Bool). cond {A = Option Task} b None (slice_get o.tasks (t - 1))) off ∙ ap (slice_get o.tasks) at
+
 task_at : (o : Opening) (tasks : List Task) (i : ℕ) (task : Task) → o.tasks ≡ tasks → slice_get tasks i ≡ Some task → task_of o (1 + i) ≡ Some task
-task_at o tasks i task same is = at i (let e : suc i - 1 ≡ i = omega arith in e)
-  where
-    at : (j : ℕ) → suc i - 1 ≡ j → task_of o (1 + i) ≡ Some task
-    at j e =
-        let is_i : suc i - 1 ≡ i = omega arith in
-        ap (slice_get o.tasks) is_i ∙ ap (λ (ts : List Task). slice_get ts i) same ∙ is
+task_at o tasks i task same is = task_is o (1 + i) i (omega arith) ∙ ap (λ (ts : List Task). slice_get ts i) same ∙ is
 
 all_at : {X : Type 0} (P : X → Type 0) (xs : List X) (i : ℕ) (x : X) → All P xs → slice_get xs i ≡ Some x → P x
 all_at P [] i x all h = absurd (let bad : None ≡ Some x = h in cc)
@@ -215,8 +215,7 @@ key_is_read task is = (and_parts (is_key task.key) (is_sendable task.key && not 
 keys_are_read : (o : Opening) (tasks : List Task) → o.tasks ≡ tasks → All IsTask tasks → AreKeysRead o
 keys_are_read o tasks same all zero task h = absurd cc
 keys_are_read o tasks same all (suc i) task h =
-    let at : suc i - 1 ≡ i = omega arith in
-    let is : slice_get tasks i ≡ Some task = ap (λ (ts : List Task). slice_get ts i) (sym same) ∙ ap (slice_get o.tasks) (sym at) ∙ h in
+    let is : slice_get tasks i ≡ Some task = ap (λ (ts : List Task). slice_get ts i) (sym same) ∙ sym (task_is o (suc i) i (omega arith)) ∙ h in
     key_is_read task (all_at IsTask tasks i task all is)
 
 module _ (words : RunWords) (clock : Option ℕ) (input : InputFlow) (status : ℕ) (out err : Flow) (left : Left) (quiet : IsQuiet input out err) where
