@@ -14,7 +14,7 @@ use ann_outside::{Clock, Desks, Sink, write_all};
 use dir_remote::{DirRemote, is_mark};
 use kit_serve::serve_described;
 use std::alloc::Global;
-use std::io::Stdout;
+use std::io::{ErrorKind, Stdout};
 use std::process::ExitCode;
 use std::rt::Env;
 use std::{env, process};
@@ -54,8 +54,10 @@ fn wish_of(words: &[String]) -> Wish {
 
 // The words behind the program's own name. Words that aren't UTF-8 are none that it knows; None is want of memory.
 fn read_wish<R: Env + AllocGlobal>(rt: &R) -> Option<Wish> {
-    let Ok(args) = env::args(rt) else {
-        return Some(Wish::Refused);
+    let args = match env::args(rt) {
+        Ok(args) => args,
+        Err(error) if error.kind() == ErrorKind::OutOfMemory => return None,
+        Err(_) => return Some(Wish::Refused),
     };
     let mut words = Vec::new(rt.alloc());
     for word in args.skip(1) {

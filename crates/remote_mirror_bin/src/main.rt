@@ -12,7 +12,7 @@ use ann_outside::{Sink, write_all};
 use kit_serve::{Served, serve_described};
 use mirrored::Mirrored;
 use std::env;
-use std::io::Stdout;
+use std::io::{ErrorKind, Stdout};
 use std::process::ExitCode;
 use std::rt::Env;
 
@@ -50,8 +50,10 @@ fn wish_of(words: &[String]) -> Wish {
 
 // The words after the program's own name. Words that aren't UTF-8 are none that it knows. None: out of memory.
 fn read_wish<R: Env + AllocGlobal>(rt: &R) -> Option<Wish> {
-    let Ok(args) = env::args(rt) else {
-        return Some(Wish::Refused);
+    let args = match env::args(rt) {
+        Ok(args) => args,
+        Err(error) if error.kind() == ErrorKind::OutOfMemory => return None,
+        Err(_) => return Some(Wish::Refused),
     };
     let mut words = Vec::new(rt.alloc());
     for word in args.skip(1) {

@@ -4,6 +4,7 @@
 use ann_os::{OsClock, OsDesks, OsErrors, OsInput, OsOutput, OsPrograms};
 use special_cli::special;
 use std::env;
+use std::io::ErrorKind;
 use std::process::ExitCode;
 use std::rt::Env;
 
@@ -11,8 +12,10 @@ use std::rt::Env;
 // memory.
 fn words_of<R: Env + AllocGlobal>(rt: &R) -> Option<Vec<String>> {
     let mut words = Vec::new(rt.alloc());
-    let Ok(args) = env::args(rt) else {
-        return Some(words);
+    let args = match env::args(rt) {
+        Ok(args) => args,
+        Err(error) if error.kind() == ErrorKind::OutOfMemory => return None,
+        Err(_) => return Some(words),
     };
     for word in args.skip(1) {
         if words.push(word).is_err() {
