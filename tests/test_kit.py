@@ -86,6 +86,9 @@ ANSWERS = [
      UNSUPPORTED + IS_READY + UNSUPPORTED + "CHECKPRESENT-FAILURE WORM--a\n", 0),
     ("a question about exports, and one about a URL", "EXPORTSUPPORTED\nCLAIMURL http://x/\nGETCOST\n",
      UNSUPPORTED * 2 + "COST 100\n", 0),
+    ("a name to export to, and requests about it", "EXPORT a b.txt\nTRANSFEREXPORT STORE WORM--a a file\n"
+     "EXPORT a b.txt\nCHECKPRESENTEXPORT WORM--a\nEXPORT\nREMOVEEXPORT WORM--a\nEXPORT a\nRENAMEEXPORT WORM--a c d\n",
+     UNSUPPORTED * 4, 0),
 ]
 
 UNEXPECTED = "ERROR unexpected message\n"
@@ -96,6 +99,7 @@ OUT_OF_PLACE = [
     ("a request in place of a value", "PREPARE\nGETCOST\n", "GETCONFIG directory\n" + UNEXPECTED, 1),
     ("to get ready in place of a value", "PREPARE\nPREPARE\n", "GETCONFIG directory\n" + UNEXPECTED, 1),
     ("credentials in place of a value", "PREPARE\nCREDS user word\n", "GETCONFIG directory\n" + UNEXPECTED, 1),
+    ("a name to export to in place of a value", "PREPARE\nEXPORT a\n", "GETCONFIG directory\n" + UNEXPECTED, 1),
     ("an error in place of a value", "PREPARE\nERROR no such setting\n", "GETCONFIG directory\n", 1),
     ("an error", "ERROR\nGETCOST\n", "", 1),
     ("credentials without a name", "PREPARE\nCREDS\n", "GETCONFIG directory\n", 1),

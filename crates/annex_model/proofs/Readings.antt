@@ -3,8 +3,8 @@ use Rattle.std.proofs.Common.{◌≡◌, ℕ, List, ◌++◌, refl, sym, ap, ◌
 use Rattle.std.specs.Prelude.{codes}
 use Rattle.std.specs.Option.{option_or}
 use Rattle.annex_model.specs.Messages.{by_rows, opening_rows, aside_rows, task_rows, about_rows, host_rows, SpelledBy, Param, IsAskable, IsSayable, fields_text, host_line, remote_line, RemoteSpells, HostSpells, remote_row, host_row, remote_reading, remote_by_word, host_reading, word_of, field_of, is_word}
-use Rattle.annex_model.specs.Messages.{RemoteMessage, Version, Extensions, UnsupportedRequest, Error, Progress, Debug, Info, Dirhash, DirhashLower, Getconfig, Setconfig, Getcreds, Setcreds, Getuuid, Getgitdir, Getgitremotename, Getwanted, Setwanted, Getstate, Setstate, Seturlpresent, Seturlmissing, Geturls, PrepareSuccess, PrepareFailure, InitremoteSuccess, InitremoteFailure, TransferSuccess, TransferFailure, CheckpresentSuccess, CheckpresentFailure, CheckpresentUnknown, RemoveSuccess, RemoveFailure, Config, Configend, Cost, Availability, Infofield, Infovalue, Infoend, WhereisSuccess, WhereisFailure}
-use Rattle.annex_model.specs.Messages.{HostMessage, AskExtensions, Prepare, Initremote, Transfer, Checkpresent, Remove, Listconfigs, Getcost, Getavailability, Getinfo, Whereis, Value, Creds, HostError}
+use Rattle.annex_model.specs.Messages.{RemoteMessage, Version, Extensions, UnsupportedRequest, Error, Progress, Debug, Info, Dirhash, DirhashLower, Getconfig, Setconfig, Getcreds, Setcreds, Getuuid, Getgitdir, Getgitremotename, Getwanted, Setwanted, Getstate, Setstate, Seturlpresent, Seturlmissing, Geturls, PrepareSuccess, PrepareFailure, InitremoteSuccess, InitremoteFailure, TransferSuccess, TransferFailure, CheckpresentSuccess, CheckpresentFailure, CheckpresentUnknown, RemoveSuccess, RemoveFailure, Config, Configend, Cost, Availability, Infofield, Infovalue, Infoend, WhereisSuccess, WhereisFailure, ExportsupportedSuccess, ExportsupportedFailure, RenameexportSuccess, RenameexportFailure}
+use Rattle.annex_model.specs.Messages.{HostMessage, AskExtensions, Prepare, Initremote, Transfer, Checkpresent, Remove, Listconfigs, Getcost, Getavailability, Getinfo, Whereis, Exportsupported, Export, Transferexport, Checkpresentexport, Removeexport, Renameexport, Value, Creds, HostError}
 use Rattle.annex_model.proofs.Parts.{word_before, field_behind}
 use Rattle.annex_model.proofs.Shapes.{Reads, bare_reads, number_reads, key_reads, rest_reads, scope_reads, word_rest_reads, words_rest_reads, key_rest_reads, transfer_reads, transfer_rest_reads}
 use Rattle.annex_model.proofs.Rows.{Fills, AllOwn, bare_own, number_own, key_own, rest_own, scope_own, word_rest_own, words_rest_own, key_rest_own, transfer_own, transfer_rest_own, rows_fill}
@@ -72,6 +72,10 @@ read_of_spelled (Infovalue value) line s = remote_line_read (codes "INFOVALUE") 
 read_of_spelled Infoend line s = remote_line_read (codes "INFOEND") refl s.1 (bare_reads s.0 s.2) (λ f e. rw e refl)
 read_of_spelled (WhereisSuccess text) line s = remote_line_read (codes "WHEREIS-SUCCESS") refl s.1 (rest_reads text s.0 s.2) (λ f e. rw e refl)
 read_of_spelled WhereisFailure line s = remote_line_read (codes "WHEREIS-FAILURE") refl s.1 (bare_reads s.0 s.2) (λ f e. rw e refl)
+read_of_spelled ExportsupportedSuccess line s = remote_line_read (codes "EXPORTSUPPORTED-SUCCESS") refl s.1 (bare_reads s.0 s.2) (λ f e. rw e refl)
+read_of_spelled ExportsupportedFailure line s = remote_line_read (codes "EXPORTSUPPORTED-FAILURE") refl s.1 (bare_reads s.0 s.2) (λ f e. rw e refl)
+read_of_spelled (RenameexportSuccess key) line s = remote_line_read (codes "RENAMEEXPORT-SUCCESS") refl s.1 (key_reads key s.0 s.2) (λ f e. rw e refl)
+read_of_spelled (RenameexportFailure key) line s = remote_line_read (codes "RENAMEEXPORT-FAILURE") refl s.1 (key_reads key s.0 s.2) (λ f e. rw e refl)
 
 pub host_of_spelled : (m : HostMessage) (line : List ℕ) → HostSpells m line → host_reading line ≡ Some m
 host_of_spelled (AskExtensions names) line s = host_line_read (codes "EXTENSIONS") refl s.1 (rest_reads names s.0 s.2) (λ f e. rw e refl)
@@ -85,6 +89,12 @@ host_of_spelled Getcost line s = host_line_read (codes "GETCOST") refl s.1 (bare
 host_of_spelled Getavailability line s = host_line_read (codes "GETAVAILABILITY") refl s.1 (bare_reads s.0 s.2) (λ f e. rw e refl)
 host_of_spelled Getinfo line s = host_line_read (codes "GETINFO") refl s.1 (bare_reads s.0 s.2) (λ f e. rw e refl)
 host_of_spelled (Whereis key) line s = host_line_read (codes "WHEREIS") refl s.1 (key_reads key s.0 s.2) (λ f e. rw e refl)
+host_of_spelled Exportsupported line s = host_line_read (codes "EXPORTSUPPORTED") refl s.1 (bare_reads s.0 s.2) (λ f e. rw e refl)
+host_of_spelled (Export name) line s = host_line_read (codes "EXPORT") refl s.1 (rest_reads name s.0 s.2) (λ f e. rw e refl)
+host_of_spelled (Transferexport store key file) line s = host_line_read (codes "TRANSFEREXPORT") refl s.1 (transfer_rest_reads store key file s.0 s.2) (λ f e. rw e refl)
+host_of_spelled (Checkpresentexport key) line s = host_line_read (codes "CHECKPRESENTEXPORT") refl s.1 (key_reads key s.0 s.2) (λ f e. rw e refl)
+host_of_spelled (Removeexport key) line s = host_line_read (codes "REMOVEEXPORT") refl s.1 (key_reads key s.0 s.2) (λ f e. rw e refl)
+host_of_spelled (Renameexport key onto) line s = host_line_read (codes "RENAMEEXPORT") refl s.1 (key_rest_reads key onto s.0 s.2) (λ f e. rw e refl)
 host_of_spelled (Value value) line s = host_line_read (codes "VALUE") refl s.1 (rest_reads value s.0 s.2) (λ f e. rw e refl)
 host_of_spelled (Creds user password) line s = host_line_read (codes "CREDS") refl s.1 (word_rest_reads user password s.0 s.2) (λ f e. rw e refl)
 host_of_spelled (HostError text) line s = host_line_read (codes "ERROR") refl s.1 (rest_reads text s.0 s.2) (λ f e. rw e refl)
@@ -210,7 +220,19 @@ about_own = (
               bare_own remote_row Infoend (codes "INFOEND") refl,
               (
                 rest_own remote_row WhereisSuccess (codes "WHEREIS-SUCCESS") (λ rest. refl),
-                (bare_own remote_row WhereisFailure (codes "WHEREIS-FAILURE") refl, tt),
+                (
+                  bare_own remote_row WhereisFailure (codes "WHEREIS-FAILURE") refl,
+                  (
+                    bare_own remote_row ExportsupportedSuccess (codes "EXPORTSUPPORTED-SUCCESS") refl,
+                    (
+                      bare_own remote_row ExportsupportedFailure (codes "EXPORTSUPPORTED-FAILURE") refl,
+                      (
+                        key_own remote_row RenameexportSuccess (codes "RENAMEEXPORT-SUCCESS") (λ key. refl),
+                        (key_own remote_row RenameexportFailure (codes "RENAMEEXPORT-FAILURE") (λ key. refl), tt),
+                      ),
+                    ),
+                  ),
+                ),
               ),
             ),
           ),
@@ -244,10 +266,28 @@ host_own = (
                     (
                       key_own host_row Whereis (codes "WHEREIS") (λ key. refl),
                       (
-                        rest_own host_row Value (codes "VALUE") (λ rest. refl),
+                        bare_own host_row Exportsupported (codes "EXPORTSUPPORTED") refl,
                         (
-                          word_rest_own host_row Creds (codes "CREDS") (λ word rest. refl),
-                          (rest_own host_row HostError (codes "ERROR") (λ rest. refl), tt),
+                          rest_own host_row Export (codes "EXPORT") (λ rest. refl),
+                          (
+                            transfer_rest_own host_row Transferexport (codes "TRANSFEREXPORT") (λ store key rest. refl),
+                            (
+                              key_own host_row Checkpresentexport (codes "CHECKPRESENTEXPORT") (λ key. refl),
+                              (
+                                key_own host_row Removeexport (codes "REMOVEEXPORT") (λ key. refl),
+                                (
+                                  key_rest_own host_row Renameexport (codes "RENAMEEXPORT") (λ key rest. refl),
+                                  (
+                                    rest_own host_row Value (codes "VALUE") (λ rest. refl),
+                                    (
+                                      word_rest_own host_row Creds (codes "CREDS") (λ word rest. refl),
+                                      (rest_own host_row HostError (codes "ERROR") (λ rest. refl), tt),
+                                    ),
+                                  ),
+                                ),
+                              ),
+                            ),
+                          ),
                         ),
                       ),
                     ),

@@ -58,6 +58,10 @@ pub data RemoteMessage : Type 0 where
   Infoend : RemoteMessage
   WhereisSuccess : (text : List ℕ) → RemoteMessage
   WhereisFailure : RemoteMessage
+  ExportsupportedSuccess : RemoteMessage
+  ExportsupportedFailure : RemoteMessage
+  RenameexportSuccess : (key : List ℕ) → RemoteMessage
+  RenameexportFailure : (key : List ℕ) → RemoteMessage
 
 pub data HostMessage : Type 0 where
   AskExtensions : (names : List ℕ) → HostMessage
@@ -71,6 +75,13 @@ pub data HostMessage : Type 0 where
   Getavailability : HostMessage
   Getinfo : HostMessage
   Whereis : (key : List ℕ) → HostMessage
+  -- of exports: EXPORT says the name that the next request is about
+  Exportsupported : HostMessage
+  Export : (name : List ℕ) → HostMessage
+  Transferexport : (store : Bool) (key file : List ℕ) → HostMessage
+  Checkpresentexport : (key : List ℕ) → HostMessage
+  Removeexport : (key : List ℕ) → HostMessage
+  Renameexport : (key onto : List ℕ) → HostMessage
   -- replies
   Value : (value : List ℕ) → HostMessage
   Creds : (user password : List ℕ) → HostMessage
@@ -131,6 +142,10 @@ remote_row (Infovalue value) = (codes "INFOVALUE", Rest value ∷ [])
 remote_row Infoend = (codes "INFOEND", [])
 remote_row (WhereisSuccess text) = (codes "WHEREIS-SUCCESS", Rest text ∷ [])
 remote_row WhereisFailure = (codes "WHEREIS-FAILURE", [])
+remote_row ExportsupportedSuccess = (codes "EXPORTSUPPORTED-SUCCESS", [])
+remote_row ExportsupportedFailure = (codes "EXPORTSUPPORTED-FAILURE", [])
+remote_row (RenameexportSuccess key) = (codes "RENAMEEXPORT-SUCCESS", Key key ∷ [])
+remote_row (RenameexportFailure key) = (codes "RENAMEEXPORT-FAILURE", Key key ∷ [])
 
 abbrev pub host_row : HostMessage → List ℕ × List Param
 host_row (AskExtensions names) = (codes "EXTENSIONS", Rest names ∷ [])
@@ -144,6 +159,12 @@ host_row Getcost = (codes "GETCOST", [])
 host_row Getavailability = (codes "GETAVAILABILITY", [])
 host_row Getinfo = (codes "GETINFO", [])
 host_row (Whereis key) = (codes "WHEREIS", Key key ∷ [])
+host_row Exportsupported = (codes "EXPORTSUPPORTED", [])
+host_row (Export name) = (codes "EXPORT", Rest name ∷ [])
+host_row (Transferexport store key file) = (codes "TRANSFEREXPORT", Direction store ∷ Key key ∷ Rest file ∷ [])
+host_row (Checkpresentexport key) = (codes "CHECKPRESENTEXPORT", Key key ∷ [])
+host_row (Removeexport key) = (codes "REMOVEEXPORT", Key key ∷ [])
+host_row (Renameexport key onto) = (codes "RENAMEEXPORT", Key key ∷ Rest onto ∷ [])
 host_row (Value value) = (codes "VALUE", Rest value ∷ [])
 host_row (Creds user password) = (codes "CREDS", Word user ∷ Rest password ∷ [])
 host_row (HostError text) = (codes "ERROR", Rest text ∷ [])
@@ -415,7 +436,7 @@ task_rows =
     ∷ key_rest_row (codes "REMOVE-FAILURE") RemoveFailure
     ∷ []
 
--- the lines that answer a request about the remote itself
+-- the lines that answer a request about the remote itself, and those of exports
 abbrev pub about_rows : List (Row RemoteMessage)
 about_rows =
     word_rest_row (codes "CONFIG") Config
@@ -427,6 +448,10 @@ about_rows =
     ∷ bare_row (codes "INFOEND") Infoend
     ∷ rest_row (codes "WHEREIS-SUCCESS") WhereisSuccess
     ∷ bare_row (codes "WHEREIS-FAILURE") WhereisFailure
+    ∷ bare_row (codes "EXPORTSUPPORTED-SUCCESS") ExportsupportedSuccess
+    ∷ bare_row (codes "EXPORTSUPPORTED-FAILURE") ExportsupportedFailure
+    ∷ key_row (codes "RENAMEEXPORT-SUCCESS") RenameexportSuccess
+    ∷ key_row (codes "RENAMEEXPORT-FAILURE") RenameexportFailure
     ∷ []
 
 abbrev pub host_rows : List (Row HostMessage)
@@ -442,6 +467,12 @@ host_rows =
     ∷ bare_row (codes "GETAVAILABILITY") Getavailability
     ∷ bare_row (codes "GETINFO") Getinfo
     ∷ key_row (codes "WHEREIS") Whereis
+    ∷ bare_row (codes "EXPORTSUPPORTED") Exportsupported
+    ∷ rest_row (codes "EXPORT") Export
+    ∷ transfer_rest_row (codes "TRANSFEREXPORT") Transferexport
+    ∷ key_row (codes "CHECKPRESENTEXPORT") Checkpresentexport
+    ∷ key_row (codes "REMOVEEXPORT") Removeexport
+    ∷ key_rest_row (codes "RENAMEEXPORT") Renameexport
     ∷ rest_row (codes "VALUE") Value
     ∷ word_rest_row (codes "CREDS") Creds
     ∷ rest_row (codes "ERROR") HostError

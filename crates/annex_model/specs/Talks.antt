@@ -4,7 +4,7 @@ use Rattle.std.specs.Prelude.{ℕ, ◌≡◌, ◌&&◌, not, Bool, true, false, 
 use Rattle.std.specs.List.{flat_map, last_or, list_all}
 use Rattle.annex_model.specs.declared.final_line.Final.{Final}
 use Rattle.annex_model.specs.declared.final_line.Final.TheVariants.{Done, Failed, Absent, Unknown, Unsupported}
-use Rattle.annex_model.specs.Messages.{RemoteMessage, Extensions, UnsupportedRequest, Progress, Debug, Info, Dirhash, DirhashLower, Getconfig, Setconfig, Getcreds, Setcreds, Getuuid, Getgitdir, Getgitremotename, Getwanted, Setwanted, Getstate, Setstate, Seturlpresent, Seturlmissing, Geturls, PrepareSuccess, PrepareFailure, InitremoteSuccess, InitremoteFailure, TransferSuccess, TransferFailure, CheckpresentSuccess, CheckpresentFailure, CheckpresentUnknown, RemoveSuccess, RemoveFailure, Config, Configend, Cost, Availability, Infofield, Infovalue, Infoend, WhereisSuccess, WhereisFailure, HostMessage, AskExtensions, Prepare, Initremote, Transfer, Checkpresent, Remove, Listconfigs, Getcost, Getavailability, Getinfo, Whereis, remote_reading, host_line}
+use Rattle.annex_model.specs.Messages.{RemoteMessage, Extensions, UnsupportedRequest, Progress, Debug, Info, Dirhash, DirhashLower, Getconfig, Setconfig, Getcreds, Setcreds, Getuuid, Getgitdir, Getgitremotename, Getwanted, Setwanted, Getstate, Setstate, Seturlpresent, Seturlmissing, Geturls, PrepareSuccess, PrepareFailure, InitremoteSuccess, InitremoteFailure, TransferSuccess, TransferFailure, CheckpresentSuccess, CheckpresentFailure, CheckpresentUnknown, RemoveSuccess, RemoveFailure, Config, Configend, Cost, Availability, Infofield, Infovalue, Infoend, WhereisSuccess, WhereisFailure, ExportsupportedSuccess, ExportsupportedFailure, RenameexportSuccess, RenameexportFailure, HostMessage, AskExtensions, Prepare, Initremote, Transfer, Checkpresent, Remove, Listconfigs, Getcost, Getavailability, Getinfo, Whereis, Exportsupported, Transferexport, Checkpresentexport, Removeexport, Renameexport, remote_reading, host_line}
 
 -- who says a line
 pub data Side : Type 0 where
@@ -73,6 +73,17 @@ one_line Getcost (Cost number) = Some Done
 one_line Getavailability (Availability global) = Some Done
 one_line (Whereis key) (WhereisSuccess text) = Some Done
 one_line (Whereis key) WhereisFailure = Some Absent
+one_line Exportsupported ExportsupportedSuccess = Some Done
+one_line Exportsupported ExportsupportedFailure = Some Absent
+one_line (Transferexport store key file) (TransferSuccess s k) = if is_same s store && bytes_eq k key then Some Done else None
+one_line (Transferexport store key file) (TransferFailure s k text) = if is_same s store && bytes_eq k key then Some Failed else None
+one_line (Checkpresentexport key) (CheckpresentSuccess k) = if bytes_eq k key then Some Done else None
+one_line (Checkpresentexport key) (CheckpresentFailure k) = if bytes_eq k key then Some Absent else None
+one_line (Checkpresentexport key) (CheckpresentUnknown k text) = if bytes_eq k key then Some Unknown else None
+one_line (Removeexport key) (RemoveSuccess k) = if bytes_eq k key then Some Done else None
+one_line (Removeexport key) (RemoveFailure k text) = if bytes_eq k key then Some Failed else None
+one_line (Renameexport key onto) (RenameexportSuccess k) = if bytes_eq k key then Some Done else None
+one_line (Renameexport key onto) (RenameexportFailure k) = if bytes_eq k key then Some Failed else None
 one_line q m = None
 
 -- an answer is one line, or a list of configs, or a list of pairs of infos

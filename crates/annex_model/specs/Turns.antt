@@ -3,7 +3,7 @@
 use Rattle.std.specs.Prelude.{ℕ, ◌==◌, nat_lt, Bool, false}
 use Rattle.annex_model.specs.declared.turn.Turn.{Turn}
 use Rattle.annex_model.specs.declared.turn.Turn.TheVariants.{First, Second, Later, Never}
-use Rattle.annex_model.specs.Messages.{HostMessage, AskExtensions, Prepare, Initremote, Transfer, Checkpresent, Remove, Listconfigs, Getcost, Getavailability, Getinfo, Whereis, Value, Creds, HostError}
+use Rattle.annex_model.specs.Messages.{HostMessage, AskExtensions, Prepare, Initremote, Transfer, Checkpresent, Remove, Listconfigs, Getcost, Getavailability, Getinfo, Whereis, Exportsupported, Export, Transferexport, Checkpresentexport, Removeexport, Renameexport, Value, Creds, HostError}
 
 abbrev pub turn_of : HostMessage → Turn
 turn_of (AskExtensions names) = First
@@ -17,6 +17,13 @@ turn_of Getcost = Later
 turn_of Getavailability = Later
 turn_of Getinfo = Later
 turn_of (Whereis key) = Later
+-- no job of a host asks about exports yet
+turn_of Exportsupported = Never
+turn_of (Export name) = Never
+turn_of (Transferexport store key file) = Never
+turn_of (Checkpresentexport key) = Never
+turn_of (Removeexport key) = Never
+turn_of (Renameexport key onto) = Never
 turn_of (Value value) = Never
 turn_of (Creds user password) = Never
 turn_of (HostError text) = Never

@@ -1,7 +1,7 @@
 // Laws over the definitions, each the contract of a function with nothing to do.
 ghost use Rattle.std.specs.Prelude.{◌≡◌, ◌↔◌, ℕ, List, Some, None, true, false, codes, [], ◌∷◌};
 ghost use Rattle.annex_model.specs.declared.final_line.Final.TheVariants.{Done, Failed, Absent, Unknown, Unsupported};
-ghost use Rattle.annex_model.specs.Messages.{RemoteMessage, HostMessage, RemoteSpells, HostSpells, remote_reading, remote_line, host_reading, host_line, text_in, IsAskable, IsSayable, Version, Extensions, UnsupportedRequest, Progress, Setconfig, Setcreds, PrepareSuccess, PrepareFailure, TransferSuccess, TransferFailure, CheckpresentSuccess, CheckpresentUnknown, Config, Configend, Availability, Infofield, Infovalue, Infoend, WhereisFailure, Prepare, Transfer, Checkpresent, Listconfigs, Getinfo, Whereis, Value};
+ghost use Rattle.annex_model.specs.Messages.{RemoteMessage, HostMessage, RemoteSpells, HostSpells, remote_reading, remote_line, host_reading, host_line, text_in, IsAskable, IsSayable, Version, Extensions, UnsupportedRequest, Progress, Setconfig, Setcreds, PrepareSuccess, PrepareFailure, TransferSuccess, TransferFailure, CheckpresentSuccess, CheckpresentUnknown, Config, Configend, Availability, Infofield, Infovalue, Infoend, WhereisFailure, Prepare, Transfer, Checkpresent, Listconfigs, Getinfo, Whereis, Exportsupported, Export, Transferexport, Checkpresentexport, Renameexport, ExportsupportedSuccess, ExportsupportedFailure, RenameexportSuccess, RenameexportFailure, RemoveSuccess, Removeexport, Value};
 ghost use Rattle.annex_model.specs.Tags.{Tagged, untag};
 ghost use Rattle.annex_model.specs.Talks.{final_of, awaits};
 ghost use Rattle.annex_model.specs.Laws.{TalksAreFronts, FrontsTalk, FoulCannotFollow};
@@ -64,6 +64,13 @@ pub fn worked_lines()
     ensures value { remote_reading (codes "INFOVALUE") ≡ Some (Infovalue []) }
     ensures no_cost { remote_reading (codes "COST") ≡ None }
     ensures transfer { host_reading (codes "TRANSFER STORE WORM--a a file") ≡ Some (Transfer true (codes "WORM--a") (codes "a file")) }
+    ensures export { host_reading (codes "EXPORT docs/a b.txt") ≡ Some (Export (codes "docs/a b.txt")) }
+    ensures no_export_name { host_reading (codes "EXPORT") ≡ Some (Export []) }
+    ensures exported { host_reading (codes "TRANSFEREXPORT STORE WORM--a f") ≡ Some (Transferexport true (codes "WORM--a") (codes "f")) }
+    ensures renaming { host_reading (codes "RENAMEEXPORT WORM--a new name") ≡ Some (Renameexport (codes "WORM--a") (codes "new name")) }
+    ensures asked_for_exports { host_reading (codes "EXPORTSUPPORTED x") ≡ None }
+    ensures renamed { remote_reading (codes "RENAMEEXPORT-SUCCESS WORM--a") ≡ Some (RenameexportSuccess (codes "WORM--a")) }
+    ensures renamed_with_text { remote_reading (codes "RENAMEEXPORT-FAILURE WORM--a no disk") ≡ None }
     ensures text_of_failure { text_in (TransferFailure false (codes "WORM--a") (codes "no disk")) ≡ codes "no disk" }
     ensures text_of_success { text_in (CheckpresentSuccess (codes "WORM--a")) ≡ [] }
     ensures tag { untag (codes "J 07 PREPARE-SUCCESS") ≡ Some (7, codes "PREPARE-SUCCESS") }
@@ -94,5 +101,15 @@ pub fn worked_answers()
     ensures unsupported { final_of Getinfo (Some UnsupportedRequest ∷ []) ≡ Some Unsupported }
     ensures unsupported_late { (final_of Listconfigs (Some (Config (codes "a") []) ∷ Some UnsupportedRequest ∷ []) ≡ None) × (awaits Listconfigs (Some (Config (codes "a") []) ∷ Some UnsupportedRequest ∷ []) ≡ false) }
     ensures whereis { final_of (Whereis (codes "WORM--a")) (Some WhereisFailure ∷ []) ≡ Some Absent }
+    ensures exports { final_of Exportsupported (Some ExportsupportedSuccess ∷ []) ≡ Some Done }
+    ensures no_exports { final_of Exportsupported (Some ExportsupportedFailure ∷ []) ≡ Some Absent }
+    ensures exported { final_of (Transferexport true (codes "WORM--a") (codes "f")) (Some (TransferSuccess true (codes "WORM--a")) ∷ []) ≡ Some Done }
+    ensures export_retrieved { final_of (Transferexport true (codes "WORM--a") (codes "f")) (Some (TransferSuccess false (codes "WORM--a")) ∷ []) ≡ None }
+    ensures export_unknown { final_of (Checkpresentexport (codes "WORM--a")) (Some (CheckpresentUnknown (codes "WORM--a") []) ∷ []) ≡ Some Unknown }
+    ensures export_removed { final_of (Removeexport (codes "WORM--a")) (Some (RemoveSuccess (codes "WORM--a")) ∷ []) ≡ Some Done }
+    ensures renamed { final_of (Renameexport (codes "WORM--a") (codes "n")) (Some (RenameexportSuccess (codes "WORM--a")) ∷ []) ≡ Some Done }
+    ensures unrenamed { final_of (Renameexport (codes "WORM--a") (codes "n")) (Some (RenameexportFailure (codes "WORM--a")) ∷ []) ≡ Some Failed }
+    ensures another_renamed { final_of (Renameexport (codes "WORM--a") (codes "n")) (Some (RenameexportSuccess (codes "WORM--b")) ∷ []) ≡ None }
+    ensures nothing_said_to_a_name { final_of (Export (codes "n")) (Some (RenameexportSuccess (codes "n")) ∷ []) ≡ None }
     ensures reply { final_of (Value (codes "x")) (Some PrepareSuccess ∷ []) ≡ None }
 {}

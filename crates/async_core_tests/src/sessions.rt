@@ -3,6 +3,7 @@ use kit_async_core::{KitCore, READER, WRITER};
 use kit_async_model::{Event, Reply, Setup};
 use kit_core::{Asked, Said, Values};
 use std::alloc::Global;
+use std::process::Abort;
 use std::test::Fail;
 
 // Two remotes with one setting.
@@ -36,23 +37,19 @@ fn write_all(core: &mut KitCore, out: &mut Vec<u8>) -> Result<(), NoMemory> {
     Ok(())
 }
 
-// A host that tags its lines, and both remotes ready.
-fn ready(alloc: Global) -> Result<KitCore, NoMemory> {
-    let mut core = begun(alloc)?;
-    hear(alloc, &mut core, b"EXTENSIONS INFO ASYNC")?;
-    hear(alloc, &mut core, b"J 1 PREPARE")?;
-    hear(alloc, &mut core, b"J 1 VALUE d")?;
+// A host tags its lines, and both remotes get ready.
+fn get_ready(alloc: Global, core: &mut KitCore) -> Result<(), NoMemory> {
+    hear(alloc, core, b"EXTENSIONS INFO ASYNC")?;
+    hear(alloc, core, b"J 1 PREPARE")?;
+    hear(alloc, core, b"J 1 VALUE d")?;
     core.step(3, Event::Called(Said::Yes))?;
     core.step(4, Event::Called(Said::Yes))?;
-    Ok(core)
+    Ok(())
 }
 
-#[test]
-fn two_checks_cross(rt: HostRuntime) -> Result<(), Fail> {
-    let alloc = rt.alloc();
-    let mut core = ready(alloc)?;
-    hear(alloc, &mut core, b"J 2 CHECKPRESENT WORM--a")?;
-    hear(alloc, &mut core, b"J 3 CHECKPRESENT WORM--b")?;
+fn cross(rt: &impl Abort, alloc: Global, core: &mut KitCore) -> Result<(), Fail> {
+    hear(alloc, core, b"J 2 CHECKPRESENT WORM--a")?;
+    hear(alloc, core, b"J 3 CHECKPRESENT WORM--b")?;
     for by in 3..5u32 {
         let reply = core.step(by, Event::Take)?;
         assert!(rt; matches!(reply, Reply::Work(Asked::Check(_))));
@@ -60,7 +57,7 @@ fn two_checks_cross(rt: HostRuntime) -> Result<(), Fail> {
     core.step(4, Event::Called(Said::Yes))?;
     core.step(3, Event::Called(Said::No))?;
     let mut out = Vec::new(alloc);
-    write_all(&mut core, &mut out)?;
+    write_all(core, &mut out)?;
     assert_eq!(rt;
         out.as_slice(),
         b"VERSION 1\nEXTENSIONS ASYNC\nJ 1 GETCONFIG directory\nJ 1 PREPARE-SUCCESS\n\
@@ -74,11 +71,15 @@ fn two_checks_cross(rt: HostRuntime) -> Result<(), Fail> {
 }
 
 #[test]
-fn requests_on_one_key_wait_for_each_other(rt: HostRuntime) -> Result<(), Fail> {
-    let alloc = rt.alloc();
-    let mut core = ready(alloc)?;
-    hear(alloc, &mut core, b"J 2 CHECKPRESENT WORM--a")?;
-    hear(alloc, &mut core, b"J 3 REMOVE WORM--a")?;
+fn two_checks_cross(rt: HostRuntime) -> Result<(), Fail> {
+    let mut core = begun(rt.alloc())?;
+    get_ready(rt.alloc(), &mut core)?;
+    cross(&rt, rt.alloc(), &mut core)
+}
+
+fn wait_for_the_key(rt: &impl Abort, alloc: Global, core: &mut KitCore) -> Result<(), Fail> {
+    hear(alloc, core, b"J 2 CHECKPRESENT WORM--a")?;
+    hear(alloc, core, b"J 3 REMOVE WORM--a")?;
     let reply = core.step(4, Event::Take)?;
     assert!(rt; matches!(reply, Reply::Work(Asked::Check(_))));
     let reply = core.step(3, Event::Take)?;
@@ -90,19 +91,30 @@ fn requests_on_one_key_wait_for_each_other(rt: HostRuntime) -> Result<(), Fail> 
 }
 
 #[test]
-fn nothing_follows_what_is_unexpected(rt: HostRuntime) -> Result<(), Fail> {
-    let alloc = rt.alloc();
-    let mut core = begun(alloc)?;
-    hear(alloc, &mut core, b"EXTENSIONS ASYNC")?;
-    let reply = hear(alloc, &mut core, b"J 5 VALUE x")?;
+fn requests_on_one_key_wait_for_each_other(rt: HostRuntime) -> Result<(), Fail> {
+    let mut core = begun(rt.alloc())?;
+    get_ready(rt.alloc(), &mut core)?;
+    wait_for_the_key(&rt, rt.alloc(), &mut core)
+}
+
+fn say_nothing_more(rt: &impl Abort, alloc: Global, core: &mut KitCore) -> Result<(), Fail> {
+    hear(alloc, core, b"EXTENSIONS ASYNC")?;
+    let reply = hear(alloc, core, b"J 5 VALUE x")?;
     assert!(rt; matches!(reply, Reply::Last));
-    let reply = hear(alloc, &mut core, b"J 6 PREPARE")?;
+    let reply = hear(alloc, core, b"J 6 PREPARE")?;
     assert!(rt; matches!(reply, Reply::Over));
     let mut out = Vec::new(alloc);
-    write_all(&mut core, &mut out)?;
+    write_all(core, &mut out)?;
     assert_eq!(rt;
         out.as_slice(),
         b"VERSION 1\nEXTENSIONS ASYNC\nERROR unexpected message\n".as_slice()
     );
     Ok(())
+}
+
+// Each session borrows its core: a function that owns one and returns early takes long to check.
+#[test]
+fn nothing_follows_what_is_unexpected(rt: HostRuntime) -> Result<(), Fail> {
+    let mut core = begun(rt.alloc())?;
+    say_nothing_more(&rt, rt.alloc(), &mut core)
 }

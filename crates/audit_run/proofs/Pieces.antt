@@ -6,7 +6,7 @@ use Rattle.journal_look.specs.declared.journal.Journal.{Journal}
 use Rattle.journal_model.specs.declared.opening.Opening.{Opening}
 use Rattle.journal_audit.specs.Audits.{IsAudit}
 use Rattle.journal_audit.specs.declared.found.Audit.{Audit}
-use Rattle.audit_run.specs.Inputs.{passes, ComesTo}
+use Rattle.audit_run.specs.Inputs.{passes, AuditComesTo}
 use Rattle.audit_run.specs.Intakes.{IsWithin, IsPast, Took}
 use Rattle.audit_run.specs.Reads.{IsCounted, IsRead}
 use Rattle.audit_run.specs.Steps.{Comes, Holds, IsStep}
@@ -93,13 +93,13 @@ all_of P bytes None left' k c e h = tt
 all_of P bytes (Some all) None k c e h = absurd c
 all_of P bytes (Some all) (Some rest) k c e h = subst P (sym c) (h rest e)
 
-faulted : (limits : Limits) (bytes : List ℕ) (fault : AuditError) → Comes limits bytes (Err fault) → ComesTo limits bytes (Err fault)
+faulted : (limits : Limits) (bytes : List ℕ) (fault : AuditError) → Comes limits bytes (Err fault) → AuditComesTo limits bytes (Err fault)
 faulted limits bytes (Entry line) h = h
 faulted limits bytes (Cut line) h = h
 faulted limits bytes Failed h = absurd h
 faulted limits bytes NoMemory h = tt
 
-found : (limits : Limits) (bytes : List ℕ) (opening : Opening) (journal : Journal) (audit : Audit) → Comes limits bytes (Ok (opening, journal)) → IsAudit opening journal.entries audit → ComesTo limits bytes (Ok audit)
+found : (limits : Limits) (bytes : List ℕ) (opening : Opening) (journal : Journal) (audit : Audit) → Comes limits bytes (Ok (opening, journal)) → IsAudit opening journal.entries audit → AuditComesTo limits bytes (Ok audit)
 found limits bytes opening journal audit h a = record { opening = opening; journal = journal.entries; within = h.0; text = h.1; audit = a }
 
 module _ (limits : Limits) (bytes : List ℕ) (left left' : Option (List ℕ)) (k : Intake) (t : Took limits bytes k) (e : k.past ≡ false → IsAtEnd left') where
@@ -109,12 +109,12 @@ module _ (limits : Limits) (bytes : List ℕ) (left left' : Option (List ℕ)) (
   fault_read Failed h = tt
   fault_read NoMemory h = tt
 
-  pub fault_told : (fault : AuditError) → Consumes left left' bytes → ComesAll limits bytes k (Err fault) → IfSome left (λ all. ComesTo limits all (Err fault))
-  fault_told fault c h = all_of (λ all. ComesTo limits all (Err fault)) bytes left left' k c e (λ more m. faulted limits (bytes ++ more) fault (h more m))
+  pub fault_told : (fault : AuditError) → Consumes left left' bytes → ComesAll limits bytes k (Err fault) → IfSome left (λ all. AuditComesTo limits all (Err fault))
+  fault_told fault c h = all_of (λ all. AuditComesTo limits all (Err fault)) bytes left left' k c e (λ more m. faulted limits (bytes ++ more) fault (h more m))
 
   module _ (opening : Opening) (journal : Journal) (audit : Audit) (h : ComesAll limits bytes k (Ok (opening, journal))) (a : IsAudit opening journal.entries audit) where
     pub found_read : IsRead limits bytes left' (Ok audit)
     found_read = (found limits bytes opening journal audit (exactly limits bytes k (Ok (opening, journal)) h) a, at_end limits bytes left' k t e)
 
-    pub found_told : Consumes left left' bytes → IfSome left (λ all. ComesTo limits all (Ok audit))
-    found_told c = all_of (λ all. ComesTo limits all (Ok audit)) bytes left left' k c e (λ more m. found limits (bytes ++ more) opening journal audit (h more m) a)
+    pub found_told : Consumes left left' bytes → IfSome left (λ all. AuditComesTo limits all (Ok audit))
+    found_told c = all_of (λ all. AuditComesTo limits all (Ok audit)) bytes left left' k c e (λ more m. found limits (bytes ++ more) opening journal audit (h more m) a)

@@ -31,7 +31,7 @@ refused_on lines more past number b = record {
   count = b.count;
 }
 
--- the line behind lines that begin a text, where a limit is passed in it
+-- the line after lines that begin a text, where a limit is passed in it
 pub refused_behind : (lines : List (List ℕ)) (number : ℕ) → Begins lines → number ≡ length lines + 1 → IsRefused lines true number
 refused_behind lines number begins count =
     record { before = lines; rest = []; whole = sym (append-nil lines); begins = begins; stops = refl; count = count }

@@ -44,7 +44,7 @@ pub record IsTextOf (opening : Opening) (journal : List Entry) (lines : List (Li
   pub opening_is : IsOpeningOf opening told
   pub journal_is : journal ≡ told.entries
 
--- behind lines that begin a text stands one with which they don't any more; or none, but a limit is passed
+-- after lines that begin a text stands one with which they don't any more; or none, but a limit is passed
 abbrev pub Stops : List (List ℕ) → List (List ℕ) → Bool → Type 0
 Stops before [] past = past ≡ true
 Stops before (line ∷ more) past = Begins (before ++ line ∷ []) → ⊥
@@ -75,8 +75,8 @@ pub record IsFound (limits : Limits) (bytes : List ℕ) (found : Audit) : Type 0
   pub audit : IsAudit opening journal found
 
 -- what an input comes to; nothing is said of it where a read failed or memory was wanting
-abbrev pub ComesTo : Limits → List ℕ → Result Audit AuditError → Type 0
-ComesTo limits bytes (Ok found) = IsFound limits bytes found
-ComesTo limits bytes (Err (BadEntry line)) = IsRefused (lines_within limits bytes) (passes limits bytes) line
-ComesTo limits bytes (Err (Cut line)) = (passes limits bytes ≡ false) × IsUnfinished (lines_of true bytes) line
-ComesTo limits bytes (Err fault) = Unit {0}
+abbrev pub AuditComesTo : Limits → List ℕ → Result Audit AuditError → Type 0
+AuditComesTo limits bytes (Ok found) = IsFound limits bytes found
+AuditComesTo limits bytes (Err (BadEntry line)) = IsRefused (lines_within limits bytes) (passes limits bytes) line
+AuditComesTo limits bytes (Err (Cut line)) = (passes limits bytes ≡ false) × IsUnfinished (lines_of true bytes) line
+AuditComesTo limits bytes (Err fault) = Unit {0}

@@ -3,7 +3,7 @@ use Rattle.std.specs.Prelude.{ℕ, ◌≡◌, false, List, Option, Result, Ok, E
 use Rattle.std.specs.Io.KnownBytes.{IsAtEnd}
 use Rattle.ann_outside.specs.Causes.{Rose}
 use Rattle.journal_audit.specs.declared.found.Audit.{Audit}
-use Rattle.audit_run.specs.Inputs.{passes, ComesTo}
+use Rattle.audit_run.specs.Inputs.{passes, AuditComesTo}
 use Rattle.audit_run.specs.declared.limits.Limits.{Limits}
 use Rattle.audit_run.specs.declared.error.AuditError.{AuditError}
 use Rattle.audit_run.specs.declared.error.AuditError.TheVariants.{Entry, Cut, Failed, NoMemory}
@@ -21,4 +21,4 @@ IsCounted before now (Err NoMemory) = now ≡ before
 abbrev pub IsRead : Limits → List ℕ → Option (List ℕ) → Result Audit AuditError → Type 0
 IsRead limits bytes left (Err Failed) = Unit {0}
 IsRead limits bytes left (Err NoMemory) = Unit {0}
-IsRead limits bytes left result = ComesTo limits bytes result × (passes limits bytes ≡ false → IsAtEnd left)
+IsRead limits bytes left result = AuditComesTo limits bytes result × (passes limits bytes ≡ false → IsAtEnd left)

@@ -13,7 +13,7 @@ use Rattle.audit_run.specs.declared.error.AuditError.TheVariants.{Entry, Cut, Fa
 
 -- ---- lines
 
--- one of the lines is refused, or the one behind them, in which a limit is passed
+-- one of the lines is refused, or the one after them, in which a limit is passed
 abbrev pub IsRefusedBehind : List (List ℕ) → Option ℕ → Type 0
 IsRefusedBehind lines None = ⊥
 IsRefusedBehind lines (Some number) = IsRefused lines true number

@@ -78,7 +78,7 @@ impl Intake {
         self.lines.refuse(self.number);
     }
 
-    /// The opening and the journal of the input, where it has ended or passed a limit. What may stand behind that doesn't count.
+    /// The opening and the journal of the input, where it has ended or passed a limit. What may stand after that doesn't count.
     pub(crate) fn finish(mut self) -> Result<(Opening, Journal), AuditError>
         ensures { (limits : AnyLimits) (bytes more : List ℕ) → Took limits bytes self → (self.past ≡ false → more ≡ []) → Comes limits (bytes ++ more) result }
     {

@@ -4,7 +4,7 @@ ghost use Rattle.journal_audit.specs.Audits.{IsAudit};
 ghost use Rattle.journal_model.specs.Beginnings.{MayBegin};
 ghost use Rattle.ann_outside.specs.Causes.{StaysUntold};
 ghost use Rattle.task_input.specs.Reads.{HasGiven};
-ghost use Rattle.audit_run.specs.Inputs.{ComesTo};
+ghost use Rattle.audit_run.specs.Inputs.{AuditComesTo};
 ghost use Rattle.audit_run.specs.Reads.{IsCounted, IsRead};
 ghost use Rattle.audit_run.specs.Steps.{Holds, IsStep};
 
@@ -29,7 +29,7 @@ pub fn audit_input<S: Source>(
 ) -> Result<Audit, AuditError>
     requires { S.is_open source.old ≡ true }
     ensures input { (bytes : List ℕ) × HasGiven (S.given source.old) (S.given source.new) (S.left source.old) (S.left source.new) bytes × IsRead limits.now bytes (S.left source.new) result }
-    ensures told { IfSome (S.left source.old) (λ all. ComesTo limits.now all result) }
+    ensures told { IfSome (S.left source.old) (λ all. AuditComesTo limits.now all result) }
     ensures faults { IsCounted (S.faults source.old) (S.faults source.new) result }
     ensures silent { StaysUntold (S.given source.old) (S.given source.new) × StaysUntold (S.left source.old) (S.left source.new) }
     ensures open { S.is_open source.new ≡ true }

@@ -106,6 +106,6 @@ pub record IsLeft (ear : EarValue) (mouth : MouthValue) (wire : WireValue) : Typ
   pub closed : (wire.is_inlet_open ≡ false) × (wire.is_outlet_open ≡ false)
   pub rest : wire.rest ≡ ear.held
 
--- such a wire was laid behind the others
+-- such a wire was laid after the others
 abbrev pub IsLaid : EarValue → MouthValue → List WireValue → List WireValue → Type 0
 IsLaid ear mouth old new = (wire : WireValue) × (new ≡ old ++ wire ∷ []) × IsLeft ear mouth wire

@@ -42,7 +42,7 @@ pub fn close_child<I: Sink, O: Source>(link: &Lone<I, O>, core: &mut Core)
     close_over(link, &mut door);
 }
 
-/// Closes the link's halves, keeps them as a wire behind the others, and waits for the program to end.
+/// Closes the link's halves, keeps them as a wire after the others, and waits for the program to end.
 pub fn finish<P: Programs>(
     programs: &mut P,
     link: Lone<P::Inlet, P::Outlet>,

@@ -90,7 +90,7 @@ none_left old new c (k ∷ ks) keep h = go (is_settled old c k) refl h (none_lef
 
 -- ---- an idle child
 
--- a child without an open job has none behind entries that ask it nothing
+-- a child without an open job has none after entries that ask it nothing
 pub idle_on : (old more : List Entry) (c : ℕ) → asked_jobs more c ≡ [] → open_jobs old c ≡ [] → open_jobs (old ++ more) c ≡ []
 idle_on old more c none idle =
     ap (filter (λ (k : ℕ). not (is_settled (old ++ more) c k)))

@@ -52,7 +52,7 @@ count_before c (e ∷ xs) ys h = go (loses c e.what) (count_before c xs ys h)
     go true r = ap suc r
     go false r = r
 
--- a stretch behind which nothing is new lost none
+-- a stretch after which nothing is new lost none
 pub unlost_more : (c : ℕ) (old new more : List Entry) → new ≡ old ++ more → any (loses c) new ≡ any (loses c) old → any (loses c) old ≡ false → any (loses c) more ≡ false
 unlost_more c old new more is same_losses none =
     sym (ap (λ (b : Bool). b || any (loses c) more) none) ∙ sym (any-append (loses c) old more) ∙ ap (any (loses c)) (sym is) ∙ same_losses ∙ none

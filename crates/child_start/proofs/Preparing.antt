@@ -108,7 +108,7 @@ second_prepares c (e ∷ more) own second =
         by_child false e h = absurd (let bad : false ≡ true = ap (λ (b : Bool). b && (task == 0 && is_greeting_line job line)) (sym e) ∙ o in cc)
     go w o s r = r s
 
--- ---- behind EXTENSIONS
+-- ---- after EXTENSIONS
 
 module _ (old mid : List Entry) (c : ℕ) (none : asked_jobs old c ≡ []) where
   first_job : next_job old c ≡ 0
@@ -202,7 +202,7 @@ module _ (old mid : List Entry) (c : ℕ) (none : asked_jobs old c ≡ []) where
       unrefused = ap (λ (ks : List ℕ). is_refusal (verdict_of new c (length ks))) (sym one_job) ∙ a.unrefused;
     }
 
--- ---- before and behind both
+-- ---- before and after both
 
 -- the child has said its version
 pub may_ask_first : {n : ℕ} (old mid : List Entry) (c d : ℕ) (offer : Bool) → d ≡ c → HasBegun old c offer → GoesOn n c old mid → said_version mid c ≡ true → MayAsk mid d offer
@@ -285,7 +285,7 @@ prepares_as mode journal c d b r e f p = subst (λ (x : RequestOutcome). Prepare
 pub greets_as : {mode : Mode} (old new : List Entry) (c d : ℕ) → d ≡ c → GreetsOn mode old new d → GreetsOn mode old new c
 greets_as {mode} old new c d e g = subst (λ (k : ℕ). GreetsOn mode old new k) e g
 
--- behind the version stands the rest of the greeting
+-- after the version stands the rest of the greeting
 pub greets_heard : {mode : Mode} {n : ℕ} (old mid new last : List Entry) (c d : ℕ) (offer : Bool) → n ≡ 0 → d ≡ c → HasBegun old c offer → GoesOn n c old mid → GreetsOn mode mid new d → last ≡ new → GreetsOn mode old last c
 greets_heard {mode} old mid new last c d offer first e h g more l =
     let heard : GreetsOn mode old mid c = greets_goes old mid c first g (unasked_idle old c h.jobs) in

@@ -48,7 +48,7 @@ abbrev pub loses : ℕ → What → Bool
 loses c (Lost child task) = child == c
 loses c w = false
 
--- the child was started in that slot, and behind its start stands its greeting alone, the main thread's own, with each of its
+-- the child was started in that slot, and after its start stands its greeting alone, the main thread's own, with each of its
 -- jobs settled, and at most one request lost
 pub record GreetedFor (mode : Mode) (old new : List Entry) (slot : ℕ) (offer : Bool) (c : ℕ) : Type 0 where
   pub next : c ≡ count is_start old + 1

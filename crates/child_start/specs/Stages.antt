@@ -36,7 +36,7 @@ is_greeting Prepare = true
 is_greeting Initremote = true
 is_greeting q = false
 
--- what a child is asked behind its extensions
+-- what a child is asked after its extensions
 abbrev pub last_request : Mode → HostMessage
 last_request Serve = Prepare
 last_request Init = Initremote
@@ -132,11 +132,11 @@ Prepares mode journal c Done = IsReadyFor mode journal c
 Prepares mode journal c (Refused verdict) = IsRefused journal c verdict
 Prepares mode journal c Gone = IsGoneUnready journal c
 
-abbrev pub ComesTo : Mode → List Entry → ℕ → Came → Type 0
-ComesTo mode journal c Prepared = IsReadyFor mode journal c
-ComesTo mode journal c (RefusedToPrepare verdict) = IsRefused journal c verdict
-ComesTo mode journal c (Over why) = HasEnded journal c why
-ComesTo mode journal c Mute = IsUnsent journal c
+abbrev pub GreetingComesTo : Mode → List Entry → ℕ → Came → Type 0
+GreetingComesTo mode journal c Prepared = IsReadyFor mode journal c
+GreetingComesTo mode journal c (RefusedToPrepare verdict) = IsRefused journal c verdict
+GreetingComesTo mode journal c (Over why) = HasEnded journal c why
+GreetingComesTo mode journal c Mute = IsUnsent journal c
 
 -- what a greeting says of the child, which was started
 abbrev pub TellsOf : {I O S : Type 0} {sinks : SinkGhosts I} {sources : SourceGhosts O} → Mode → List Entry → ℕ → Greeting I O S sinks sources → Type 0

@@ -7,7 +7,7 @@ use link_roles::Lone;
 pub enum Mode {
     /// To serve: it is asked PREPARE.
     Serve,
-    /// To be set up: it is asked INITREMOTE, and nothing behind it.
+    /// To be set up: it is asked INITREMOTE, and nothing after it.
     Init,
 }
 

@@ -9,7 +9,7 @@ ghost use Rattle.link_roles.specs.Doors.{IsSameDoor};
 ghost use Rattle.child_start.specs.Cores.{IsSameCore};
 ghost use Rattle.child_start.specs.declared.greeting.Mode.{Mode};
 ghost use Rattle.child_start.specs.Greetings.{TellsFor, IfHasLink, StartsOnce, AreNumbered};
-ghost use Rattle.child_start.specs.Stages.{asked_as, child_of, is_asked_for, last_request, HasBegun, IsMain, MayAsk, MayGreet, GreetsOn, AsksNext, Prepares, ComesTo, TellsOf};
+ghost use Rattle.child_start.specs.Stages.{asked_as, child_of, is_asked_for, last_request, HasBegun, IsMain, MayAsk, MayGreet, GreetsOn, AsksNext, Prepares, GreetingComesTo, TellsOf};
 
 use crate::greeting::{Greeting, Mode};
 use ann_key::NoMemory;
@@ -71,7 +71,7 @@ fn ask_one<I: Sink, O: Source, D: Door>(
     }
 }
 
-// What a child is asked behind its extensions.
+// What a child is asked after its extensions.
 fn last_request(mode: Mode) -> Request
     ensures { message_of result ≡ last_request mode }
 {
@@ -114,7 +114,7 @@ fn hear_and_ask<I: Sink, O: Source, D: Door>(
     requires legal { Legal (D.opening door.old) (D.seen door.old) }
     requires begun { HasBegun (D.seen door.old) link.old.ear.child offer }
     ensures on { GreetsOn mode (D.seen door.old) (D.seen door.new) link.old.ear.child }
-    ensures comes { ComesTo mode (D.seen door.new) link.old.ear.child result }
+    ensures comes { GreetingComesTo mode (D.seen door.new) link.old.ear.child result }
     ensures link { KeepsLink (D.seen door.old) (D.seen door.new) link.old.ear link.new.ear link.old.mouth link.new.mouth }
     ensures door { IsSameDoor D.opening D.number D.seen D.alone D.loans D.home door.old door.new }
 {
@@ -141,7 +141,7 @@ fn greet_link<I: Sink, O: Source>(
     requires legal { Legal core.old.opening core.old.journal }
     requires begun { HasBegun core.old.journal link.old.ear.child offer }
     ensures on { GreetsOn mode core.old.journal core.new.journal link.old.ear.child }
-    ensures comes { ComesTo mode core.new.journal link.old.ear.child result }
+    ensures comes { GreetingComesTo mode core.new.journal link.old.ear.child result }
     ensures link { KeepsLink core.old.journal core.new.journal link.old.ear link.new.ear link.old.mouth link.new.mouth }
     ensures core { IsSameCore core.old core.new }
 {
@@ -191,7 +191,7 @@ fn child_of(reply: Reply) -> Option<u32>
     }
 }
 
-// Tells the core of a child that was started, and answers its number. None is want of memory.
+// Tells the core of a child that was started, and answers its number. None: out of memory.
 fn note_start(core: &mut Core, slot: u32, offer: bool) -> Option<u32>
     requires few { count is_start core.old.journal < 4294967295 }
     ensures started { MatchOption result (core.new.journal ≡ core.old.journal) (λ child. (child ≡ count is_start core.old.journal + 1) × (core.new.journal ≡ core.old.journal ++ record { by = 0; what = Start child slot offer } ∷ [])) }

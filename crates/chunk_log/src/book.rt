@@ -16,6 +16,7 @@ use std::marker::Model;
 /// The lines that count: of each key, UUID and chunk size the newest one, at a tie the one that was added last.
 #[derive(Drop)]
 pub struct NoteBook {
+    alloc: Global,
     notes: Vec<Note>,
 }
 
@@ -42,28 +43,30 @@ impl NoteBook {
         ensures { result ≡ [] }
     {
         NoteBook {
+            alloc,
             notes: Vec::new(alloc),
         }
     }
 
     /// Adds a line of a key.
-    pub fn add(&mut self, alloc: Global, key: KeyRef<'_>, line: ChunkLine) -> Result<(), NoMemory>
+    pub fn add(&mut self, key: KeyRef<'_>, line: ChunkLine) -> Result<(), NoMemory>
         requires key { list_any is_space (text_of key) ≡ true → ⊥ }
         requires line { IsWritable line }
         ensures inserted { OnOk result (self.new ≡ inserted (record { key = text_of key.entry; line = line }) self.old) }
         ensures counts { OnOk result ((key' uuid : List ℕ) (chunk : ℕ) → counting self.new key' uuid chunk ≡ counting (self.old ++ record { key = text_of key.entry; line = line } ∷ []) key' uuid chunk) }
         ensures err { OnErr result (self.new ≡ self.old) }
     {
-        let key = Key::copy(alloc, key)?;
+        let key = Key::copy(self.alloc, key)?;
         insert(&mut self.notes, Note { key, line })
     }
 
     /// An equal book.
-    pub fn copy(&self, alloc: Global) -> Result<NoteBook, NoMemory>
+    pub fn copy(&self) -> Result<NoteBook, NoMemory>
         ensures { IfOk result (λ book. book ≡ self.now) }
     {
+        let alloc = self.alloc;
         let notes = copies(alloc, &self.notes)?;
-        Ok(NoteBook { notes })
+        Ok(NoteBook { alloc, notes })
     }
 
     /// How many lines there are. It takes no memory.
@@ -89,9 +92,9 @@ impl NoteBook {
     }
 
     /// The layouts in which the remote has chunks of the key: the newest first, then the largest chunks.
-    pub fn current(&self, alloc: Global, key: KeyRef<'_>, uuid: &str) -> Result<Layouts, NoMemory>
+    pub fn current(&self, key: KeyRef<'_>, uuid: &str) -> Result<Layouts, NoMemory>
         ensures { IfOk result (λ layouts. layouts ≡ layouts_of self.now (text_of key.entry) uuid.now) }
     {
-        current(alloc, &self.notes, key.text(), uuid.as_bytes())
+        current(self.alloc, &self.notes, key.text(), uuid.as_bytes())
     }
 }

@@ -102,5 +102,5 @@ fn pairs(alloc: Global, ranks: &[Standing]) -> Result<Layouts, NoMemory>
     for one in ranks {
         items.push((one.chunk, one.count))?;
     }
-    Ok(Layouts::from_vec(items))
+    Ok(Layouts::new(items))
 }

@@ -1,7 +1,6 @@
 // The layouts in which a remote has chunks of a key.
-ghost use Rattle.std.specs.Prelude.{◌≡◌, []};
+ghost use Rattle.std.specs.Prelude.{◌≡◌};
 
-use std::alloc::Global;
 use std::marker::Model;
 
 /// Pairs of a chunk size and a number of chunks.
@@ -19,17 +18,8 @@ impl Model for Layouts {
 }
 
 impl Layouts {
-    /// No layout. It takes no memory.
-    pub fn new(alloc: Global) -> Layouts
-        ensures { result ≡ [] }
-    {
-        Layouts {
-            items: Vec::new(alloc),
-        }
-    }
-
     /// The pairs of the vector. It takes no memory.
-    pub fn from_vec(items: Vec<(u64, u64)>) -> Layouts
+    pub fn new(items: Vec<(u64, u64)>) -> Layouts
         ensures { result ≡ items.items }
     {
         Layouts { items }

@@ -1,10 +1,10 @@
-// Requests, each from its command word in lower case and what stands behind it.
+// Requests, each from its command word in lower case and what stands after it.
 use crate::words;
 use ann_key::{Key, KeyRef, NoMemory, Text};
 use std::alloc::Global;
 use talk_serial::Request;
 
-/// The request. Its key stands behind the word; the file of a transfer is `f`.
+/// The request. Its key stands after the word; the file of a transfer is `f`.
 pub(crate) fn request(alloc: Global, text: &str) -> Result<Option<Request>, NoMemory> {
     let (word, rest) = words::cut(text);
     if let Some(request) = keyless(word, rest) {

@@ -7,7 +7,7 @@ use super::back::Back;
 use super::gate::Gate;
 use super::role::Role;
 use super::room::Room;
-use super::slot::{begin, begin_all, end, end_all};
+use super::slot::{Slot, begin, begin_all, end, end_all};
 use std::marker::{Send, Sync};
 use std::sync::Wait;
 use std::thread;
@@ -19,6 +19,15 @@ pub struct Crew<A, B, C> {
     pub ear: A,
     pub mouth: B,
     pub workers: Vec<C>,
+}
+
+// Whether the round can go on with these workers: some have a thread, or all where the crew has to be whole.
+fn are_enough<C: Role>(whole: bool, workers: &[Slot<C>]) -> bool {
+    if whole {
+        workers.iter().all(|slot| slot.is_started())
+    } else {
+        workers.iter().any(|slot| slot.is_started())
+    }
 }
 
 fn within<
@@ -33,6 +42,7 @@ fn within<
     rt: &'s R,
     gate: &'s Gate,
     most: usize,
+    whole: bool,
     crew: Crew<A, B, C>,
     room: Room<C>,
 ) -> Crew<Back<A>, Back<B>, Back<C>>
@@ -52,15 +62,45 @@ fn within<
     let ear = begin(scope, rt, gate, 0, most, ear);
     let mouth = begin(scope, rt, gate, 1, most, mouth);
     let workers = begin_all(scope, rt, gate, 2, most, workers, slots);
-    let begins = ear.is_started()
-        && mouth.is_started()
-        && workers.iter().any(|slot| slot.is_started());
+    let begins = ear.is_started() && mouth.is_started() && are_enough(whole, &workers);
     gate.open(rt, begins);
     Crew {
         workers: end_all(rt, workers, backs),
         mouth: end(rt, mouth),
         ear: end(rt, ear),
     }
+}
+
+// Runs the roles, in a crew that has to be whole or not.
+fn run_roles<
+    A: Role + Send + Drop,
+    B: Role + Send + Drop,
+    C: Role + Send + Drop,
+    R: Threads + Wait + Sync,
+>(
+    rt: &R,
+    room: Room<C>,
+    most: usize,
+    whole: bool,
+    crew: Crew<A, B, C>,
+) -> Crew<Back<A>, Back<B>, Back<C>>
+    requires few { vec_len crew.workers < 1000 }
+    requires can { A.can_run crew.ear × B.can_run crew.mouth × All C.can_run crew.workers.items }
+    requires room { vec_len crew.workers ≤ room }
+    ensures ear { CameBack A.ran crew.ear result.ear }
+    ensures mouth { CameBack B.ran crew.mouth result.mouth }
+    ensures workers { AllCameBack C.ran crew.workers.items result.workers.items }
+{
+    let gate = Gate::new();
+    let gate = &gate;
+    thread::scope(
+        thread::scope_env(),
+        rt,
+        move |scope| -> Crew<Back<A>, Back<B>, Back<C>>
+            requires { A.can_run crew.ear × B.can_run crew.mouth × All C.can_run crew.workers.items × (vec_len crew.workers < 1000) × (vec_len crew.workers ≤ room) }
+            ensures { CameBack A.ran crew.ear result.ear × CameBack B.ran crew.mouth result.mouth × AllCameBack C.ran crew.workers.items result.workers.items }
+        { within(scope, rt, gate, most, whole, crew, room) },
+    )
 }
 
 /// Runs the roles, each in a thread of its own, of which it tries to start `most`, in room that was taken before. None of them
@@ -78,14 +118,22 @@ pub fn run_crew<
     ensures mouth { CameBack B.ran crew.mouth result.mouth }
     ensures workers { AllCameBack C.ran crew.workers.items result.workers.items }
 {
-    let gate = Gate::new();
-    let gate = &gate;
-    thread::scope(
-        thread::scope_env(),
-        rt,
-        move |scope| -> Crew<Back<A>, Back<B>, Back<C>>
-            requires { A.can_run crew.ear × B.can_run crew.mouth × All C.can_run crew.workers.items × (vec_len crew.workers < 1000) × (vec_len crew.workers ≤ room) }
-            ensures { CameBack A.ran crew.ear result.ear × CameBack B.ran crew.mouth result.mouth × AllCameBack C.ran crew.workers.items result.workers.items }
-        { within(scope, rt, gate, most, crew, room) },
-    )
+    run_roles(rt, room, most, false, crew)
+}
+
+/// The same where none takes a step unless each of them has a thread: for roles that wait for one another.
+pub fn run_whole_crew<
+    A: Role + Send + Drop,
+    B: Role + Send + Drop,
+    C: Role + Send + Drop,
+    R: Threads + Wait + Sync,
+>(rt: &R, room: Room<C>, most: usize, crew: Crew<A, B, C>) -> Crew<Back<A>, Back<B>, Back<C>>
+    requires few { vec_len crew.workers < 1000 }
+    requires can { A.can_run crew.ear × B.can_run crew.mouth × All C.can_run crew.workers.items }
+    requires room { vec_len crew.workers ≤ room }
+    ensures ear { CameBack A.ran crew.ear result.ear }
+    ensures mouth { CameBack B.ran crew.mouth result.mouth }
+    ensures workers { AllCameBack C.ran crew.workers.items result.workers.items }
+{
+    run_roles(rt, room, most, true, crew)
 }

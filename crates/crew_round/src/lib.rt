@@ -11,7 +11,7 @@ mod room;
 mod slot;
 
 pub use back::{Back, any_ran};
-pub use crew::{Crew, run_crew};
+pub use crew::{Crew, run_crew, run_whole_crew};
 pub use pool::run_workers;
 pub use role::{RanFrom, Role};
 pub use room::Room;

@@ -37,7 +37,8 @@ use Rattle.crew_rounds.specs.Settled.{HasGivenUp, Settles}
 use Rattle.crew_rounds.specs.Tagged.{AreFresh, CrewLeft, HasThrough, TaggedCan, link_of}
 use Rattle.crew_rounds.proofs.Backs.{EarBack, MouthBack, ear_back, mouth_back, manned_all, manned_own, tells_of, through_one}
 use Rattle.crew_rounds.proofs.Ending.{ender_keeps}
-use Rattle.crew_rounds.proofs.Places.{all_reverse, any_reverse, map_map, pairwise_length, pairwise_reverse, roles_order, stayed_same}
+use Rattle.crew_round.proofs.Dealing.{all_reverse, map_map, pairwise_length, pairwise_reverse}
+use Rattle.crew_rounds.proofs.Places.{any_reverse, roles_order, stayed_same}
 
 module _ {A B W K : Type 0} (ep : A → CorePass) (ee : A → EarValue) (mp : B → CorePass) (me : B → MouthValue) (wp : W → CorePass) (wd : W → K) (tells : K → DeskTells)
     (eran : A → A → Type 0) (mran : B → B → Type 0) (wran : W → W → Type 0) (h : HallValue Entry Opening) (setup : Setup) (Placed : W → Type 0)

@@ -1,4 +1,4 @@
--- Lists that are related place by place, from their last element on.
+-- What came back of roles, from the last on.
 use Rattle.std.proofs.Common.{◌≡◌, List, [], ◌∷◌, ◌++◌, map, Bool, true, false, refl, sym, ap, subst, ◌∙◌, suc, length}
 use Rattle.std.specs.Prelude.{◌||◌, All, reverse}
 use Rattle.std.specs.List.{list_any}
@@ -9,33 +9,9 @@ use Rattle.crew_round.specs.declared.back.Back.{Back}
 use Rattle.crew_round.specs.declared.back.Back.TheVariants.{Stayed, Ran}
 use Rattle.crew_round.specs.Back.{CameBack}
 use Rattle.crew_round.specs.BackRole.{has_run, role_of}
-use Rattle.crew_round.proofs.Pairs.{pairwise-snoc}
 use Rattle.crew_rounds.specs.Backs.{roles_of}
-use Rattle.crew_rounds.proofs.Dealing.{all_snoc}
+use Rattle.crew_round.proofs.Dealing.{map_map, reverse_cons}
 use Rattle.gathering.specs.Pairs.{Pairwise}
-
-pub reverse_cons : {A : Type 0} (x : A) (xs : List A) → reverse (x ∷ xs) ≡ reverse xs ++ x ∷ []
-reverse_cons x xs = reverse-append (x ∷ []) xs
-
-pub pairwise_reverse : {A B : Type 0} (R : A → B → Type 0) (xs : List A) (ys : List B) → Pairwise R xs ys → Pairwise R (reverse xs) (reverse ys)
-pairwise_reverse R [] [] all = tt
-pairwise_reverse R [] (y ∷ ys) all = absurd all
-pairwise_reverse R (x ∷ xs) [] all = absurd all
-pairwise_reverse {A} {B} R (x ∷ xs) (y ∷ ys) all =
-    subst (λ (l : List A). Pairwise R l (reverse (y ∷ ys))) (sym (reverse_cons x xs))
-    (subst (λ (l : List B). Pairwise R (reverse xs ++ x ∷ []) l) (sym (reverse_cons y ys))
-    (pairwise-snoc R (reverse xs) (reverse ys) x y (pairwise_reverse R xs ys all.1) all.0))
-
-pub pairwise_length : {A B : Type 0} (R : A → B → Type 0) (xs : List A) (ys : List B) → Pairwise R xs ys → length xs ≡ length ys
-pairwise_length R [] [] all = refl
-pairwise_length R [] (y ∷ ys) all = absurd all
-pairwise_length R (x ∷ xs) [] all = absurd all
-pairwise_length R (x ∷ xs) (y ∷ ys) all = ap suc (pairwise_length R xs ys all.1)
-
-pub all_reverse : {A : Type 0} (P : A → Type 0) (xs : List A) → All P xs → All P (reverse xs)
-all_reverse P [] all = All-nil P
-all_reverse P (x ∷ xs) all =
-    subst (All P) (sym (reverse_cons x xs)) (all_snoc P (reverse xs) x (all_reverse P xs (All-tail P x xs all)) (All-head P x xs all))
 
 or_swap : (a b : Bool) → (a || (b || false)) ≡ (b || a)
 or_swap true true = refl
@@ -47,10 +23,6 @@ pub any_reverse : {A : Type 0} (f : A → Bool) (xs : List A) → list_any f (re
 any_reverse f [] = refl
 any_reverse f (x ∷ xs) =
     ap (list_any f) (reverse_cons x xs) ∙ list_any-append f (reverse xs) (x ∷ []) ∙ or_swap (list_any f (reverse xs)) (f x) ∙ ap (λ (b : Bool). f x || b) (any_reverse f xs)
-
-pub map_map : {A B C : Type 0} (f : A → B) (g : B → C) (xs : List A) → map g (map f xs) ≡ map (λ x. g (f x)) xs
-map_map f g [] = refl
-map_map f g (x ∷ xs) = ap (λ l. g (f x) ∷ l) (map_map f g xs)
 
 map_reverse : {A B : Type 0} (f : A → B) (xs : List A) → map f (reverse xs) ≡ reverse (map f xs)
 map_reverse f [] = refl

@@ -17,5 +17,5 @@ IfKept NoMemory P = P
 IfKept NoThreads P = P
 
 -- the link and the desks are as before
-abbrev pub IsAsBefore : {K : Type 0} → EarValue → EarValue → MouthValue → MouthValue → List K → List K → Type 0
-IsAsBefore ear ear' mouth mouth' desks desks' = ((ear' ≡ ear) × (mouth' ≡ mouth)) × (desks' ≡ desks)
+abbrev pub LinkStays : {K : Type 0} → EarValue → EarValue → MouthValue → MouthValue → List K → List K → Type 0
+LinkStays ear ear' mouth mouth' desks desks' = ((ear' ≡ ear) × (mouth' ≡ mouth)) × (desks' ≡ desks)

@@ -10,7 +10,7 @@ use Rattle.link_roles.specs.Doors.{Ends}
 use Rattle.crew_rounds.specs.declared.outcome.Outcome.{Outcome}
 use Rattle.crew_rounds.specs.declared.outcome.Outcome.TheVariants.{Done, NoMemory, NoThreads}
 
--- the pass ended the child for want of memory, or found it ended
+-- the pass ended the child for lack of memory, or found it ended
 pub record HasGivenUp (h : HallValue Entry Opening) (c : ℕ) (p q : CorePass) : Type 0 where
   pub pass : IsPassOf h q
   pub number : q.number ≡ p.number

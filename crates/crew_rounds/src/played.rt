@@ -4,7 +4,7 @@ ghost use Rattle.annex_model.specs.Lines.{has_newline};
 ghost use Rattle.std.specs.List.{list_any};
 ghost use Rattle.crew_round.specs.BackRole.{has_run, role_of};
 ghost use Rattle.crew_rounds.specs.Backs.{roles_of};
-ghost use Rattle.crew_rounds.specs.Outcomes.{IfDone, IfKept, IsAsBefore};
+ghost use Rattle.crew_rounds.specs.Outcomes.{IfDone, IfKept, LinkStays};
 ghost use Rattle.crew_rounds.specs.Settled.{Settles};
 ghost use Rattle.crew_rounds.specs.Tagged.{AreFresh, CrewLeft, TaggedCan, link_of};
 ghost use Rattle.hall.specs.Passes.{IsPassOf, seen_of};
@@ -161,7 +161,7 @@ fn gather<'a, I: Sink, O: Source, K: Desk + Drop, R: Wait>(
     }
 }
 
-// Ends the child by the main thread's pass, for want of memory.
+// Ends the child by the main thread's pass, for lack of memory.
 fn give_up<R: Wait>(rt: &R, hall: &Hall<Core>, pass: &mut Pass<Core>, child: u32)
     requires pass { IsPassOf hall.now pass.old }
     requires started { is_started (seen_of pass.old) child ≡ true }
@@ -209,7 +209,7 @@ pub(crate) fn play<
     requires folder { has_newline site.now.setup.now.work ≡ false }
     ensures own { All (IsPassOf site.now.hall.now) result.0.passes.items × (length result.0.passes.items ≡ length kit.passes.items) }
     ensures left { IfDone result.1 (CrewLeft site.now.hall.now site.now.setup.now kit.link.ear.child (link_of result.0.link.ear result.0.link.mouth) result.0.passes.items (map (λ k. desk_tells (K.log k) (K.counts k)) kit.desks.items) (map (λ k. desk_tells (K.log k) (K.counts k)) result.0.desks.items)) }
-    ensures kept { IfKept result.1 ((result.0.passes.items ≡ kit.passes.items) × IsAsBefore kit.link.ear result.0.link.ear kit.link.mouth result.0.link.mouth kit.desks.items result.0.desks.items) }
+    ensures kept { IfKept result.1 ((result.0.passes.items ≡ kit.passes.items) × LinkStays kit.link.ear result.0.link.ear kit.link.mouth result.0.link.mouth kit.desks.items result.0.desks.items) }
     ensures same { IsSameLink kit.link.ear result.0.link.ear kit.link.mouth result.0.link.mouth }
 {
     let Some((room, workers)) = rooms(site.alloc, kit.desks.len()) else {

@@ -25,7 +25,7 @@ use Rattle.lone_work.specs.AtTasks.{AtTask}
 use Rattle.lone_work.proofs.Pairs.{passed}
 use Rattle.gathering.proofs.Laboring.{prepared_lasts, started_lasts}
 use Rattle.lone_work.proofs.Claiming.{free_unclaimed}
-use Rattle.crew_work.specs.Crews.{Begun, CanServe, HasClaimed, claimed_of}
+use Rattle.crew_work.specs.Crews.{CrewBegun, CanServe, HasClaimed, claimed_of}
 
 pub can_on : {o : Opening} {c : ℕ} (old more : List Entry) {new : List Entry} → new ≡ old ++ more → Legal o new → CanServe o c old → CanServe o c new
 can_on {o} {c} old more is legal can = record {
@@ -50,7 +50,7 @@ module _ (o : Opening) (n c : ℕ) (past : List Entry) (can : CanServe o c past)
   unopened : has_open_job past t ≡ false
   unopened = ap (list_any (λ (q : ℕ × ℕ). is_open past q.0 q.1)) (no_jobs_in t past none)
 
-  abbrev begins : Begun o n c t (past ++ entry n (Claim t c) ∷ [])
+  abbrev begins : CrewBegun o n c t (past ++ entry n (Claim t c) ∷ [])
   begins = record {
     past = past;
     is = refl;
@@ -95,7 +95,7 @@ module _ {o : Opening} {n : ℕ} {a : Bool} (c : ℕ) {old new : List Entry} {re
       by_least there_still (Some t) least is =
           let is_new : new ≡ p ++ entry n (Claim t c) ∷ [] = grown (claim o p n c (Some t)) is in
           subst (λ (x : Reply). HasClaimed o n a c old new (claimed_of x)) (sym (said (claim o p n c (Some t)) is))
-          (subst (λ (x : List Entry). (b : Begun o n c t x) × Passed n a old b.past) (sym is_new) (begins o n c p there t least (subst (Legal o) is_new legal), m.passed))
+          (subst (λ (x : List Entry). (b : CrewBegun o n c t x) × Passed n a old b.past) (sym is_new) (begins o n c p there t least (subst (Legal o) is_new legal), m.passed))
       by_least there_still None least is = by_all (are_all_claimed o p) refl
         where
           by_all : (b : Bool) → are_all_claimed o p ≡ b → HasClaimed o n a c old new (claimed_of reply)

@@ -142,7 +142,7 @@ module _ {owns : Bool} {n : ℕ} {a : Bool} {c : ℕ} where
       answered = each_none never answer_in (never_gives answer_in) n s.others (others_make never n s.others s.apart);
     }
 
-    -- behind others, an entry that a worker makes, and that isn't the child's
+    -- after others, an entry that a worker makes, and that isn't the child's
     pub did_make : {x p y : List Entry} (w : What) → Passed n a x p → y ≡ p ++ entry n w ∷ [] → works c w ≡ true → is_of_child c w ≡ false
         → Did owns n a c x y (X x) (X y) (cons_option (claimed_task w) []) (cons_option (answer_in w) [])
     did_make {x} {p} {y} w s is works_so apart = record {

@@ -31,7 +31,7 @@ use Rattle.task_run.specs.Ran.{Ran, HasTaskCauses, answered, behind_more}
 use Rattle.lone_work.specs.Works.{CausedInTurn, DeskTells, TaskDone, all_calls}
 use Rattle.lone_work.proofs.Working.{fewer_left, filter_fewer}
 use Rattle.gathering.specs.Tasks.{IsThrough}
-use Rattle.crew_work.specs.Crews.{AllRan, Begun, CanServe, Did, Does, MayHaveMore, RanSo, Worked, answers_of, by_task, tasks_of}
+use Rattle.crew_work.specs.Crews.{AllRan, CrewBegun, CanServe, Did, CrewDoes, MayHaveMore, RanSo, Worked, answers_of, by_task, tasks_of}
 use Rattle.crew_work.proofs.Claiming.{can_on}
 use Rattle.crew_work.proofs.Doing.{did_both, did_make, did_pass, did_run, task_serves}
 use Rattle.crew_work.proofs.Running.{none_bounds, ran_so, ran_stays, server_bounds}
@@ -63,7 +63,7 @@ module _ (o : Opening) (setup : Setup) (n c : ℕ) where
   all_stay past more [] legal h = tt
   all_stay past more (r ∷ runs) legal h = (ran_stays o setup r.calls n c r.task r.answer past more legal h.0, all_stay past more runs legal h.1)
 
--- want of memory is an answer that no refusal of the desk gives
+-- running out of memory is an answer that no refusal of the desk gives
 causes_answered : (old new : Counts) (result : Result Answer NoMemory) → HasTaskCauses old new result → HasTaskCauses old new (Ok (answered result))
 causes_answered old new (Ok answer) h = h
 causes_answered old new (Err e) h = record {
@@ -86,10 +86,10 @@ named P {o} {p} {n} {m} {a} {b} {c} {d} {x} {y} eo en ea ec ex h =
 module _ (o : Opening) (setup : Setup) (owns : Bool) (n : ℕ) (a : Bool) (c t : ℕ) (task : Task) (begun ran new : List Entry) (desk desk' : DeskTells)
     (result : Result Answer NoMemory) (answer : Answer) (P : Type 0) (X : List Entry → Type 0)
     (stays : (past more : List Entry) → any (is_of_child c) more ≡ false → X past → X (past ++ more)) where
-  pub does : (b : Begun o n c t begun) → task_of o t ≡ Some task → answer ≡ answered result → AtTask o n t ran
+  pub does : (b : CrewBegun o n c t begun) → task_of o t ≡ Some task → answer ≡ answered result → AtTask o n t ran
       → (m : Moved n a (by_task owns c t) (is_of_child c) begun ran P (X ran))
       → Ran task t setup (known_layouts o begun t) (askings begun t) (askings ran t) (notings begun t) (notings ran t) desk.log desk'.log result → HasTaskCauses desk.counts desk'.counts result
-      → Appended o n a ran new (Answered t answer) (AtTask o n t) → Does o setup owns n a c t begun new P (X new) desk desk'
+      → Appended o n a ran new (Answered t answer) (AtTask o n t) → CrewDoes o setup owns n a c t begun new P (X new) desk desk'
   does b there is at m r causes g = record {
     answer = answer;
     calls = r.calls;
@@ -142,7 +142,7 @@ module _ (o : Opening) (setup : Setup) (owns : Bool) (n : ℕ) (a : Bool) (c t :
           (subst (λ (x : Answer). TaskRun task t setup (known_layouts o begun t) r.asked r.calls r.noted x) (sym is) r.run)
           (subst (λ (x : List Entry). has_open_job x t ≡ false) came still.at.shut) one
 
-  pub can_again : Begun o n c t begun → Moved n a (by_task owns c t) (is_of_child c) begun ran P (X ran) → Appended o n a ran new (Answered t answer) (AtTask o n t) → Legal o new → CanServe o c new
+  pub can_again : CrewBegun o n c t begun → Moved n a (by_task owns c t) (is_of_child c) begun ran P (X ran) → Appended o n a ran new (Answered t answer) (AtTask o n t) → Legal o new → CanServe o c new
   can_again b m g legal =
       let one : List Entry = entry n (Answered t answer) ∷ [] in
       can_on begun ((m.more ++ g.passed.others) ++ one)
@@ -156,8 +156,8 @@ module _ (o : Opening) (setup : Setup) (owns : Bool) (n : ℕ) (a : Bool) (c : �
     pub worked_still : (old new : List Entry) (desk : DeskTells) → Passed n a old new → Worked o setup owns n a c old new (X old) (X new) desk desk
     worked_still old new desk s = record { done = []; did = did_pass X stays s; ran = tt; log_is = gained_nothing desk.log; caused = refl }
 
-    pub worked_one : (t : ℕ) (old begun new : List Entry) (Q : Type 0) (desk desk' : DeskTells) → (b : Begun o n c t begun) → Passed n a old b.past
-        → Does o setup owns n a c t begun new (X begun) Q desk desk' → Worked o setup owns n a c old new (X old) Q desk desk'
+    pub worked_one : (t : ℕ) (old begun new : List Entry) (Q : Type 0) (desk desk' : DeskTells) → (b : CrewBegun o n c t begun) → Passed n a old b.past
+        → CrewDoes o setup owns n a c t begun new (X begun) Q desk desk' → Worked o setup owns n a c old new (X old) Q desk desk'
     worked_one t old begun new Q desk desk' b s d = record {
       done = record { task = t; calls = d.calls; answer = d.answer; counts = desk'.counts } ∷ [];
       did = did_both (did_make X stays (Claim t c) s b.is (same c) refl) d.did;
@@ -196,8 +196,8 @@ more_as o z ec h = subst (λ (e : ℕ). MayHaveMore o z e) ec h
 pub can_as : {o p : Opening} {c d : ℕ} {z : List Entry} → p ≡ o → d ≡ c → CanServe o c z → CanServe p d z
 can_as {o} {p} {c} {d} {z} eo ec t = subst (λ (q : Opening). CanServe q d z) (sym eo) (subst (λ (e : ℕ). CanServe o e z) (sym ec) t)
 
-pub claims_as : {o : Opening} {n c d t : ℕ} {a : Bool} {x z : List Entry} → d ≡ c → (b : Begun o n d t z) × Passed n a x b.past → (b : Begun o n c t z) × Passed n a x b.past
-claims_as {o} {n} {c} {d} {t} {a} {x} {z} ec h = subst (λ (e : ℕ). (b : Begun o n e t z) × Passed n a x b.past) ec h
+pub claims_as : {o : Opening} {n c d t : ℕ} {a : Bool} {x z : List Entry} → d ≡ c → (b : CrewBegun o n d t z) × Passed n a x b.past → (b : CrewBegun o n c t z) × Passed n a x b.past
+claims_as {o} {n} {c} {d} {t} {a} {x} {z} ec h = subst (λ (e : ℕ). (b : CrewBegun o n e t z) × Passed n a x b.past) ec h
 
 pub legal_as : {o p : Opening} {z : List Entry} → p ≡ o → Legal p z → Legal o z
 legal_as {z = z} eo l = subst (λ (q : Opening). Legal q z) eo l
@@ -208,7 +208,7 @@ given_as {o} {p} {n} {k} {a} {b} {t} {x} {y} answer eo en ea g =
     subst (λ (q : Opening). Appended q n a x y (Answered t answer) (AtTask q n t)) eo
     (subst (λ (m : ℕ). Appended p m a x y (Answered t answer) (AtTask p m t)) en (subst (λ (l : Bool). Appended p k l x y (Answered t answer) (AtTask p k t)) ea g))
 
--- what stays behind entries that aren't the child's
+-- what stays after entries that aren't the child's
 pub stays_as : (X : List Entry → Type 0) (c d : ℕ) → d ≡ c → ((past more : List Entry) → any (is_of_child d) more ≡ false → X past → X (past ++ more))
     → (past more : List Entry) → any (is_of_child c) more ≡ false → X past → X (past ++ more)
 stays_as X c d ec f past more none x = f past more (ap (λ (e : ℕ). any (is_of_child e) more) ec ∙ none) x
@@ -227,7 +227,7 @@ can_seen {o} {p} {c} {y} {z} eo is t = subst (λ (q : Opening). CanServe q c z) 
 -- ---- fewer tasks are left
 
 -- a task that is claimed after entries of others
-pub fewer_behind : (o : Opening) {n c t : ℕ} {a : Bool} (old mid new more : List Entry) (b : Begun o n c t mid) → Passed n a old b.past → new ≡ mid ++ more
+pub fewer_behind : (o : Opening) {n c t : ℕ} {a : Bool} (old mid new more : List Entry) (b : CrewBegun o n c t mid) → Passed n a old b.past → new ≡ mid ++ more
     → length (unclaimed o new) < length (unclaimed o old)
 fewer_behind o {n} {c} {t} old mid new more b p is =
     let less : length (unclaimed o new) < length (unclaimed o b.past) = fewer_left o b.past new more n c t b.least (is ∙ ap (λ (x : List Entry). x ++ more) b.is) in

@@ -50,7 +50,7 @@ claimed_of WaitReply = Wait
 claimed_of reply = Over
 
 -- the least free task was just claimed for the child, by a number that holds it now, and nothing else was made of it
-pub record Begun (o : Opening) (number c t : ℕ) (seen : List Entry) : Type 0 where
+pub record CrewBegun (o : Opening) (number c t : ℕ) (seen : List Entry) : Type 0 where
   pub past : List Entry
   pub is : seen ≡ past ++ record { by = number; what = Claim t c } ∷ []
   pub least : least_free o past ≡ Some t
@@ -62,9 +62,9 @@ pub record Begun (o : Opening) (number c t : ℕ) (seen : List Entry) : Type 0 w
 abbrev pub MayHaveMore : Opening → List Entry → ℕ → Type 0
 MayHaveMore o past c = (are_all_claimed o past ≡ false) × (is_gone past c ≡ false)
 
--- Behind entries of others a task was claimed; or nothing was done, and there is nothing to do for now, or nothing more.
+-- After entries of others a task was claimed; or nothing was done, and there is nothing to do for now, or nothing more.
 abbrev pub HasClaimed : Opening → ℕ → Bool → ℕ → List Entry → List Entry → Claimed → Type 0
-HasClaimed o number alone c old new (Task t) = (b : Begun o number c t new) × Passed number alone old b.past
+HasClaimed o number alone c old new (Task t) = (b : CrewBegun o number c t new) × Passed number alone old b.past
 HasClaimed o number alone c old new Wait = Passed number alone old new × MayHaveMore o new c
 HasClaimed o number alone c old new Over = Passed number alone old new × IsThrough o new c
 
@@ -127,7 +127,7 @@ pub record Worked (o : Opening) (setup : Setup) (owns : Bool) (number : ℕ) (al
   pub caused : CausedInTurn desk.counts done desk'.counts
 
 -- one task: it was asked and noted for, and answered as it ran
-pub record Does (o : Opening) (setup : Setup) (owns : Bool) (number : ℕ) (alone : Bool) (c t : ℕ) (old new : List Entry) (Before After : Type 0) (desk desk' : DeskTells) : Type 0 where
+pub record CrewDoes (o : Opening) (setup : Setup) (owns : Bool) (number : ℕ) (alone : Bool) (c t : ℕ) (old new : List Entry) (Before After : Type 0) (desk desk' : DeskTells) : Type 0 where
   pub answer : Answer
   pub calls : List Call
   pub did : Did owns number alone c old new Before After [] ((t, answer) ∷ [])

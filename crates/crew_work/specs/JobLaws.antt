@@ -1,4 +1,4 @@
--- Asking goes on: without a call, and by one call behind another.
+-- Asking goes on: without a call, and by one call after another.
 use Rattle.std.specs.Prelude.{ℕ, ◌≡◌, Bool, List}
 use Rattle.std.proofs.Common.{refl, sym, subst, ◌∙◌}
 use Rattle.journal_model.specs.declared.entry.Entry.{Entry}

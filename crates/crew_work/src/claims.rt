@@ -13,7 +13,7 @@ use link_roles::Door;
 // What a claim came to.
 pub(crate) enum Claimed {
     Task(u32),
-    // Others hold what is left, and there may be more to do behind them.
+    // Others hold what is left, and there may be more to do after them.
     Wait,
     // There is nothing more to do for the child.
     Over,

@@ -4,7 +4,7 @@ ghost use Rattle.annex_model.specs.Lines.{has_newline};
 ghost use Rattle.task_run.specs.Ran.{answered};
 ghost use Rattle.link_roles.specs.Doors.{IsSameDoor};
 ghost use Rattle.lone_work.specs.Works.{AreTasks, desk_tells};
-ghost use Rattle.crew_work.specs.Crews.{Begun, CanServe, Does};
+ghost use Rattle.crew_work.specs.Crews.{CrewBegun, CanServe, CrewDoes};
 
 use crate::claims::give;
 use crate::way::Way;
@@ -47,8 +47,8 @@ pub(crate) fn do_task<W: Way, D: Door, K: Desk>(
     requires shared { D.alone door.old ≡ false }
     requires tasks { ((D.opening door.old).tasks ≡ tasks.now) × AreTasks tasks.now }
     requires folder { has_newline setup.now.work ≡ false }
-    requires begun { Begun (D.opening door.old) (D.number door.old) (W.serves way.old) number (D.seen door.old) }
-    ensures does { Does (D.opening door.old) setup.now (W.owns way.old) (D.number door.old) (D.alone door.old) (W.serves way.old) number (D.seen door.old) (D.seen door.new) (W.wired way.old (D.seen door.old)) (W.wired way.new (D.seen door.new)) (desk_tells (K.log desk.old) (K.counts desk.old)) (desk_tells (K.log desk.new) (K.counts desk.new)) }
+    requires begun { CrewBegun (D.opening door.old) (D.number door.old) (W.serves way.old) number (D.seen door.old) }
+    ensures does { CrewDoes (D.opening door.old) setup.now (W.owns way.old) (D.number door.old) (D.alone door.old) (W.serves way.old) number (D.seen door.old) (D.seen door.new) (W.wired way.old (D.seen door.old)) (W.wired way.new (D.seen door.new)) (desk_tells (K.log desk.old) (K.counts desk.old)) (desk_tells (K.log desk.new) (K.counts desk.new)) }
     ensures can { CanServe (D.opening door.new) (W.serves way.new) (D.seen door.new) }
     ensures way { (W.serves way.new ≡ W.serves way.old) × (W.owns way.new ≡ W.owns way.old) × W.same way.old way.new }
     ensures door { IsSameDoor D.opening D.number D.seen D.alone D.loans D.home door.old door.new }

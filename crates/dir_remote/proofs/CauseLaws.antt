@@ -70,7 +70,7 @@ calm_copy clears a b NoMemory h which ne = elim which [ inl c ↦ h.calm c (λ q
 pub calm_same : (clears : Bool) (a b : Counts) (outcome : Outcome) → b ≡ a → IsCalm clears a b outcome
 calm_same clears a b outcome same which ne = ap (λ (x : Counts). x.faults) same
 
--- a copy behind a call that left the counts as they were
+-- a copy after a call that left the counts as they were
 pub behind : (clears : Bool) (a b c : Counts) (result : Result (Unit {0}) DeskError) → b ≡ a → HasCopyCauses clears b c result → HasCopyCauses clears a c result
 behind clears a b c result same h = let P : Counts → Type 0 = λ x. HasCopyCauses clears x c result in subst P same h
 
@@ -80,7 +80,7 @@ calm_refused clears a b Failed h l which ne = absurd (ne refl)
 calm_refused clears a b Missing h l which ne = l.missing refl
 calm_refused clears a b NoMemory h l which ne = ap (λ (x : Counts). x.faults) (h.no_memory refl)
 
--- a call behind a copy, and then what clearing away counted
+-- a call after a copy, and then what clearing away counted
 pub calm_cleared : (clears : Bool) (a b c d : Counts) (e : DeskError) → b ≡ a → HasCauses {T = Unit {0}} b c (Err e) → LeavesOther {T = Unit {0}} b c (Err e)
     → (clears ≡ false → d ≡ c) → IsCalm clears a d (refusal_of e)
 calm_cleared clears a b c d e same h o calm which ne =

@@ -28,7 +28,7 @@ slash_before (x ∷ front) file = by_test (x == 47) (slash_before front file)
     by_test true e = refl
     by_test false e = e
 
--- what stands behind the last slash, and what stands before it
+-- what stands after the last slash, and what stands before it
 last_slash : (a b f g : List ℕ) → list_any is_slash f ≡ false → list_any is_slash g ≡ false → a ++ 47 ∷ f ≡ b ++ 47 ∷ g → (a ≡ b) × (f ≡ g)
 last_slash [] [] f g clean clean' e = (refl, cc)
 last_slash [] (y ∷ b) f g clean clean' e =

@@ -66,7 +66,7 @@ causes_broken a b c e same h =
     of_error : (x y : DeskError) → ◌≡◌ {A = Result (Unit {0}) DeskError} (Err x) (Err y) → x ≡ y
     of_error x y q = cc
 
--- a call behind one that left the counts as they were
+-- a call after one that left the counts as they were
 pub causes_behind : {T : Type 0} (a b c : Counts) (e : DeskError) → b ≡ a → HasCauses {T = T} b c (Err e) → HasOutcomeCauses a c (refusal_of e)
 causes_behind {T} a b c e same h =
     let P : Counts → Type 0 = λ x. HasCauses {T = T} x c (Err e) in

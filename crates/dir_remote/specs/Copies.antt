@@ -6,7 +6,7 @@ use Rattle.ann_outside.specs.Files.{Files, content, OthersStay}
 use Rattle.ann_outside.specs.declared.file_desk.DeskError.{DeskError}
 use Rattle.ann_outside.specs.declared.file_desk.DeskError.TheVariants.{Failed, Missing, NoMemory}
 
--- Bytes of one file, from a place on, were put behind those of the other; none are the file's end.
+-- Bytes of one file, from a place on, were put after those of the other; none are the file's end.
 abbrev pub PieceDoes : List ℕ → List ℕ → ℕ → Result ℕ DeskError → Files → Files → Type 0
 PieceDoes from to at (Ok n) old new =
     (content from old ≢ None)

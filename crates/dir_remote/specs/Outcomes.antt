@@ -12,7 +12,7 @@ use Rattle.kit_core.specs.declared.call.Said.TheVariants.{Yes, No, Failure}
 use Rattle.dir_remote.specs.declared.outcome.Outcome.{Outcome}
 use Rattle.dir_remote.specs.declared.outcome.Outcome.TheVariants.{Done, NotThere, NotPrepared, NoDirectory, NotText, DiskFailed, NoSuchFile, NoMemory}
 
--- the word for it; there is none for want of memory
+-- the word for it; there is none for lack of memory
 abbrev pub word_of : Outcome → Option Said
 word_of Done = Some Yes
 word_of NotThere = Some No

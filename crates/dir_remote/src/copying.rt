@@ -12,7 +12,7 @@ use std::alloc::Global;
 
 const STEP: usize = 65_536;
 
-// Puts bytes of the one file, from a place on, behind those of the other, and answers how many. None are the file's end.
+// Puts bytes of the one file, from a place on, after those of the other, and answers how many. None are the file's end.
 fn copy_piece<D: Desk>(
     desk: &mut D,
     from: &str,

@@ -77,7 +77,7 @@ pub fn content_place(alloc: Global, directory: &str, key: KeyRef<'_>) -> Result<
     }
 }
 
-// The name of a file behind the mark, where there is one.
+// The name of a file after the mark, where there is one.
 fn marked_name(alloc: Global, mark: &Option<Text>, file: &str) -> Result<Text, NoMemory>
     ensures { IfOk result (λ name. name ≡ marked mark.now file.now) }
 {

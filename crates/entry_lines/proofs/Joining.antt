@@ -1,4 +1,4 @@
--- Fields that are put one behind the other.
+-- Fields that are put one after the other.
 use Rattle.std.proofs.Common.{◌≡◌, ℕ, List, [], ◌∷◌, ◌++◌, refl, sym, ap, ◌∙◌, append_assoc}
 use Rattle.entry_lines.specs.Fields.{followed}
 

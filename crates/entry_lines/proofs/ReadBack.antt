@@ -14,7 +14,7 @@ use Rattle.entry_lines.specs.Whys.{why_fields, why_at, why_rows, IsWhy}
 use Rattle.entry_lines.proofs.DigestBack.{digest_back}
 use Rattle.entry_lines.proofs.FirstFields.{is_field, first_back, rest_back, number_back}
 
--- a word, and what is read behind it
+-- a word, and what is read after it
 pub worded : {M : Type 0} (read : List ℕ → List ℕ → Option M) (word : List ℕ) (fields : List (List ℕ)) → is_field word ≡ true
     → read (first_of (spaced (word ∷ fields))) (rest_of (spaced (word ∷ fields))) ≡ read word (spaced fields)
 worded read word fields h = ap (λ (w : List ℕ). read w (rest_of (spaced (word ∷ fields)))) (first_back word fields h) ∙ ap (read word) (rest_back word fields h)

@@ -9,7 +9,7 @@ use Rattle.ann_digest.specs.Digests.{digest_bytes}
 use Rattle.ann_digest.specs.declared.digest.Digest.{Digest}
 use Rattle.ann_digest.proofs.Zeros.{get_or-zeros}
 
--- these bytes, which are at most 64, and zeros behind them
+-- these bytes, which are at most 64, and zeros after them
 abbrev pub padded : List ℕ → List ℕ
 padded given = given ++ drop (length given) (replicate 64 0)
 

@@ -3,12 +3,12 @@ use Rattle.std.specs.Prelude.{ℕ, ◌==◌, ◌^◌, Bool, if◌then◌else◌,
 use Rattle.std.specs.List.{before_first, after_first}
 use Rattle.chunk_log.specs.ChunkLines.{number_in}
 
--- each behind a space
+-- each after a space
 abbrev pub followed : List (List ℕ) → List ℕ
 followed [] = []
 followed (field ∷ fields) = 32 ∷ field ++ followed fields
 
--- the first, and each other behind a space
+-- the first, and each other after a space
 abbrev pub spaced : List (List ℕ) → List ℕ
 spaced [] = []
 spaced (field ∷ fields) = field ++ followed fields
@@ -57,6 +57,6 @@ by_rows (r ∷ rs) word text = if bytes_eq word r.word then r.read text else by_
 abbrev pub word_row : {M : Type 0} → List ℕ → M → Row M
 word_row word m = record { word = word; read = λ text. Some m }
 
--- a number of 64 bits behind it
+-- a number of 64 bits after it
 abbrev pub number_row : {M : Type 0} → List ℕ → (ℕ → M) → Row M
 number_row word make = record { word = word; read = λ text. option_map make (number_at text) }

@@ -10,7 +10,7 @@ use ann_key::NoMemory;
 use journal_model::Answer;
 use std::alloc::Global;
 
-/// Puts the answer behind the line.
+/// Puts the answer after the line.
 pub(crate) fn push_answer(
     alloc: Global,
     line: &mut Vec<u8>,

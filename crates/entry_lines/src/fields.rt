@@ -1,4 +1,4 @@
-// The fields of a line: those that it begins with, read, and those that are put behind it.
+// The fields of a line: those that it begins with, read, and those that are put after it.
 ghost use Rattle.std.specs.Prelude.{◌≡◌, ◌≤◌, ◌∷◌, ◌++◌, [], length, true, OnOk, decimal};
 ghost use Rattle.std.specs.List.{list_all, position_or_len};
 ghost use Rattle.ann_key.specs.Numbers.{is_digit, value_of};
@@ -24,7 +24,7 @@ pub(crate) fn first_of(text: &[u8]) -> &[u8]
     &text[..before_space(text)]
 }
 
-/// What stands behind the first space.
+/// What stands after the first space.
 pub(crate) fn rest_of(text: &[u8]) -> &[u8]
     ensures { result.now ≡ rest_of text.now }
 {
@@ -117,7 +117,7 @@ pub(crate) fn numbers_at(text: &[u8]) -> Option<(u32, u64)>
 
 // ---- printing
 
-/// Puts a field behind the line.
+/// Puts a field after the line.
 pub(crate) fn push_field(line: &mut Vec<u8>, field: &[u8]) -> Result<(), NoMemory>
     ensures { OnOk result (line.new.items ≡ line.old.items ++ followed (field.now ∷ [])) }
 {
@@ -126,7 +126,7 @@ pub(crate) fn push_field(line: &mut Vec<u8>, field: &[u8]) -> Result<(), NoMemor
     Ok(())
 }
 
-/// Puts a number behind it.
+/// Puts a number after it.
 pub(crate) fn push_number(alloc: Global, line: &mut Vec<u8>, n: u64) -> Result<(), NoMemory>
     ensures { OnOk result (line.new.items ≡ line.old.items ++ followed (decimal n ∷ [])) }
 {
@@ -134,7 +134,7 @@ pub(crate) fn push_number(alloc: Global, line: &mut Vec<u8>, n: u64) -> Result<(
     push_field(line, digits.as_bytes())
 }
 
-/// Puts a word and a number behind it.
+/// Puts a word and a number after it.
 pub(crate) fn push_one(
     alloc: Global,
     line: &mut Vec<u8>,
@@ -147,7 +147,7 @@ pub(crate) fn push_one(
     push_number(alloc, line, n)
 }
 
-/// Puts a word and two numbers behind it.
+/// Puts a word and two numbers after it.
 pub(crate) fn push_two(
     alloc: Global,
     line: &mut Vec<u8>,
@@ -161,7 +161,7 @@ pub(crate) fn push_two(
     push_number(alloc, line, second)
 }
 
-/// Puts a word and three numbers behind it.
+/// Puts a word and three numbers after it.
 pub(crate) fn push_three(
     alloc: Global,
     line: &mut Vec<u8>,

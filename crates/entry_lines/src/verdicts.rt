@@ -9,7 +9,7 @@ use ann_key::NoMemory;
 use journal_model::Verdict;
 use std::alloc::Global;
 
-/// Puts the verdict behind the line.
+/// Puts the verdict after the line.
 pub(crate) fn push_verdict(
     alloc: Global,
     line: &mut Vec<u8>,

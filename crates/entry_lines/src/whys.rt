@@ -8,7 +8,7 @@ use ann_key::NoMemory;
 use journal_model::Why;
 use std::alloc::Global;
 
-/// Puts the reason behind the line.
+/// Puts the reason after the line.
 pub(crate) fn push_why(alloc: Global, line: &mut Vec<u8>, why: Why) -> Result<(), NoMemory>
     ensures { OnOk result (line.new.items ≡ line.old.items ++ followed (why_fields why)) }
 {

@@ -24,7 +24,7 @@ pub fn text_of(alloc: Global, journal: &Journal) -> Result<String, NoMemory> {
     Ok(text)
 }
 
-// A word, numbers, and what stands behind them.
+// A word, numbers, and what stands after them.
 fn told(
     alloc: Global,
     word: &str,

@@ -21,7 +21,7 @@ use Rattle.host_core.specs.Mays.{MayStep, IsMadeBy}
 use Rattle.host_core.specs.Steps.{Step, step_of, claim, only, append, gone, is_gone, are_all_claimed}
 use Rattle.journal_model.specs.Makers.{is_of_task, is_taken_by}
 use Rattle.gathering.specs.Tasks.{Lasts}
-use Rattle.gathering.specs.Workers.{Free, Busy, Begun, Entered, ClaimGives}
+use Rattle.gathering.specs.Workers.{Free, Busy, WorkBegun, Entered, ClaimGives}
 use Rattle.journal_model.proofs.Testing.{or_right}
 use Rattle.gathering.proofs.Halls.{legal_log, signed_log, others_log}
 use Rattle.journal_model.proofs.Working.{find_holds, tasks_kept, jobs_stay_closed, no_jobs_in}
@@ -118,7 +118,7 @@ module _ (o : Opening) (means : ℕ → ℕ → List Entry → Type 0) (stays : 
           positive = claimed_positive o ((start ++ now) ++ one) longer t
               (any-append (claims t) (start ++ now) one ∙ or_right (is_claimed (start ++ now) t) (is_claimed one t) (rw (same t) refl))
 
-          begun : Begun o means n c t start (now ++ one)
+          begun : WorkBegun o means n c t start (now ++ one)
           begun = record {
             busy = claim_begins o means stays n c start t now longer fresh free;
             past = start ++ now;

@@ -64,9 +64,9 @@ not_by n (k ∷ ks) h = go (k.by == n) refl h (not_by n ks)
     go true e h r = absurd cc
     go false e h r = (λ z. (let bad : false ≡ true = sym e ∙ eq-eqb k.by n z in absurd cc), r h)
 
--- ---- what a pass has seen, and what came behind it
+-- ---- what a pass has seen, and what came after it
 
--- behind what the pass has seen stand entries of others alone
+-- after what the pass has seen stand entries of others alone
 pub record Saw (o : Opening) (start rest : List Entry) (p : CorePass) : Type 0 where
   pub later : List Entry
   pub legal : Legal o (seen_of p)

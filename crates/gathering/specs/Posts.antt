@@ -13,7 +13,7 @@ works c (Answered task answer) = true
 works c (Noted task chunk count) = true
 works c _ = false
 
--- who ends a child for want of memory, where a round can't go on
+-- who ends a child for lack of memory, where a round can't go on
 abbrev pub gives_up : ℕ → What → Bool
 gives_up c (End child why) = child == c && is_memory why
 gives_up c (Settled child job verdict) = child == c
@@ -47,7 +47,7 @@ makes (Mouth c) w = by_mouth c w
 makes (Worker c) w = works c w
 makes (Lone c) w = serves c w
 
--- over one tagged child: the main thread's pass may end the child for want of memory alone; then come the ear's, the mouth's
+-- over one tagged child: the main thread's pass may end the child for lack of memory alone; then come the ear's, the mouth's
 -- and the workers'
 abbrev pub tagged_crew : ℕ → ℕ → Post
 tagged_crew c n = if nat_lt n 2 then Ender c else if n == 2 then Ear c else if n == 3 then Mouth c else Worker c

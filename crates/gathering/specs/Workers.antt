@@ -35,7 +35,7 @@ pub record Busy (o : Opening) (means : ℕ → ℕ → List Entry → Type 0) (n
   pub unanswered : is_answered (start ++ more) t ≡ false
 
 -- it has just claimed the task: nothing stands of it but the claim
-pub record Begun (o : Opening) (means : ℕ → ℕ → List Entry → Type 0) (n c t : ℕ) (start more : List Entry) : Type 0 where
+pub record WorkBegun (o : Opening) (means : ℕ → ℕ → List Entry → Type 0) (n c t : ℕ) (start more : List Entry) : Type 0 where
   pub busy : Busy o means n c t start more
   pub past : List Entry
   pub claim : start ++ more ≡ past ++ record { by = n; what = Claim t c } ∷ []
@@ -43,7 +43,7 @@ pub record Begun (o : Opening) (means : ℕ → ℕ → List Entry → Type 0) (
 
 -- ---- one entry into the hall of a core
 
--- Others have made entries behind those that were seen, which keep a journal legal, and then the core did one step at the event.
+-- Others have made entries after those that were seen, which keep a journal legal, and then the core did one step at the event.
 pub record Entered (o : Opening) (number : ℕ) (old new : List Entry) (event : Event) (reply : Reply) : Type 0 where
   pub others : List Entry
   pub group : List Entry
@@ -54,6 +54,6 @@ pub record Entered (o : Opening) (number : ℕ) (old new : List Entry) (event : 
 
 -- what a claim for its child gives a free worker
 abbrev pub ClaimGives : Opening → (ℕ → ℕ → List Entry → Type 0) → ℕ → ℕ → List Entry → List Entry → Reply → Type 0
-ClaimGives o means n c start more (Task task) = Begun o means n c task start more
+ClaimGives o means n c start more (Task task) = WorkBegun o means n c task start more
 ClaimGives o means n c start more Wait = Free o means n c start more
 ClaimGives o means n c start more reply = Free o means n c start more × IsThrough o (start ++ more) c

@@ -8,7 +8,7 @@ ghost use Rattle.gathering.specs.Posts.{makes, tagged_crew, pool_crew, alone_cre
 ghost use Rattle.gathering.specs.Rounds.{IsAtRest};
 ghost use Rattle.gathering.specs.Laws.{MayBeginTagged};
 
-/// Behind the greeting of a tagged child a round may begin, and not while a task is busy.
+/// After the greeting of a tagged child a round may begin, and not while a task is busy.
 pub fn greeted_may_begin()
     ensures legal { Legal two_checks (take 10 tagged_greeting) }
     ensures begins { MayBeginTagged (take 10 tagged_greeting) 1 }

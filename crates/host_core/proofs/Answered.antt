@@ -38,7 +38,7 @@ map_twice : (past : List Entry) (c j : ℕ) (lines : List (List ℕ)) → map (�
 map_twice past c j [] = refl
 map_twice past c j (l ∷ ls) = ap (λ (ws : List What). Put c j (on_wire past c j l) ∷ ws) (map_twice past c j ls)
 
--- what the registers give is what is owed behind the journal
+-- what the registers give is what is owed after the journal
 pub replies_due : (o : Opening) (past : List Entry) (registers : RegisterFile) (c j : ℕ) (m : RemoteMessage) (said wired : List (List ℕ)) → IsServed o past registers
     → said ≡ replies_by (values_of registers o.identity) m → wired ≡ map (on_wire past c j) said
     → map (λ line. Put c j line) wired ≡ replying past c j (replies o past m)

@@ -6,7 +6,7 @@ use Rattle.std.proofs.lemmas.Slice.Eq.{bytes_eq-Decides}
 use Rattle.journal_model.specs.declared.verdict.Why.{Why}
 use Rattle.journal_model.specs.declared.verdict.Why.TheVariants.{Full}
 use Rattle.annex_model.specs.Lines.{has_newline}
-use Rattle.annex_model.specs.Messages.{HostMessage, AskExtensions, Prepare, Initremote, Transfer, Checkpresent, Remove, Listconfigs, Getcost, Getavailability, Getinfo, Whereis, Value, Creds, HostError, host_line, host_reading, is_askable}
+use Rattle.annex_model.specs.Messages.{HostMessage, AskExtensions, Prepare, Initremote, Transfer, Checkpresent, Remove, Listconfigs, Getcost, Getavailability, Getinfo, Whereis, Exportsupported, Export, Transferexport, Checkpresentexport, Removeexport, Renameexport, Value, Creds, HostError, host_line, host_reading, is_askable}
 use Rattle.journal_model.specs.declared.entry.What.{What}
 use Rattle.journal_model.specs.declared.entry.What.TheVariants.{Claim, Start, NoStart, Ask, Put, Sent, Mute, Got, End, Verdict as Settled, Lost, Answer as Answered, Note as Noted}
 use Rattle.journal_model.specs.declared.entry.Entry.{Entry}
@@ -72,6 +72,12 @@ requested past c job Getcost h = (GetCost, refl)
 requested past c job Getavailability h = (GetAvailability, refl)
 requested past c job Getinfo h = (GetInfo, refl)
 requested past c job (Whereis key) h = (WhereIs key, refl)
+requested past c job Exportsupported h = absurd cc
+requested past c job (Export name) h = absurd cc
+requested past c job (Transferexport store key file) h = absurd cc
+requested past c job (Checkpresentexport key) h = absurd cc
+requested past c job (Removeexport key) h = absurd cc
+requested past c job (Renameexport key onto) h = absurd cc
 requested past c job (Value value) h = absurd cc
 requested past c job (Creds user password) h = absurd cc
 requested past c job (HostError text) h = absurd cc

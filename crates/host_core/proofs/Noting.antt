@@ -66,7 +66,7 @@ with_notes-append : (ms : List Note) (book : List Note) (ns : List Note) → wit
 with_notes-append [] book ns = refl
 with_notes-append (m ∷ ms) book ns = with_notes-append ms (inserted m book) ns
 
--- the book behind a group is the one before it, with what the group notes
+-- the book after a group is the one before it, with what the group notes
 pub notes_grow : (o : Opening) (past grown : List Entry) (before after : List Note) (by : ℕ) (what : Option What) (due : Due) → before ≡ notes_after o past
     → after ≡ with_notes before (cons_option (noted_in o what) []) → grown ≡ past ++ group_made past by what due → after ≡ notes_after o grown
 notes_grow o past grown before after by what due was is more =

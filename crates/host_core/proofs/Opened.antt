@@ -8,7 +8,7 @@ use Rattle.journal_model.specs.declared.verdict.Verdict.{Verdict}
 use Rattle.journal_model.specs.declared.verdict.Verdict.TheVariants.{Ended, Unsent}
 use Rattle.annex_model.specs.Extensions.{names_of}
 use Rattle.annex_model.specs.Lines.{has_newline}
-use Rattle.annex_model.specs.Messages.{RemoteMessage, HostMessage, AskExtensions, Transfer, Value, Creds, HostError, host_reading, host_line}
+use Rattle.annex_model.specs.Messages.{RemoteMessage, HostMessage, AskExtensions, Transfer, Exportsupported, Export, Transferexport, Checkpresentexport, Removeexport, Renameexport, Value, Creds, HostError, host_reading, host_line}
 use Rattle.annex_model.specs.Talks.{Item, Host, Talking, is_aside, awaits, said}
 use Rattle.journal_model.specs.declared.opening.Opening.{Opening}
 use Rattle.journal_model.specs.declared.entry.What.{What}
@@ -66,6 +66,12 @@ turn_asks past c job (AskExtensions names) h =
 turn_asks past c job (Transfer store key file) h =
     let t = both (nat_lt 1 job) (is_text file) h in
     (both (is_utf8 file) (not (has_newline file)) t.1).0
+turn_asks past c job Exportsupported h = absurd cc
+turn_asks past c job (Export name) h = absurd cc
+turn_asks past c job (Transferexport store key file) h = absurd cc
+turn_asks past c job (Checkpresentexport key) h = absurd cc
+turn_asks past c job (Removeexport key) h = absurd cc
+turn_asks past c job (Renameexport key onto) h = absurd cc
 turn_asks past c job (Value value) h = absurd cc
 turn_asks past c job (Creds user password) h = absurd cc
 turn_asks past c job (HostError text) h = absurd cc

@@ -1,4 +1,4 @@
--- What a group sets is what stands in its first line, where replies are due behind it.
+-- What a group sets is what stands in its first line, where replies are due after it.
 use Rattle.std.proofs.Common.{◌≡◌, ◌∙◌, ℕ, ◌<◌, List, [], ◌∷◌, ◌++◌, refl, sym, ap, subst, Bool, true, false, not, cond, Option, Some, None, length, map, append-nil, inl, inr}
 use Rattle.std.specs.Prelude.{◌&&◌, ◌==◌, ◌^◌, fold, filter, IsTrue}
 use Rattle.annex_model.specs.Lines.{has_newline}
@@ -251,7 +251,7 @@ set_all-append : (ms : List RemoteMessage) (r : RegisterFile) (ks : List RemoteM
 set_all-append [] r ks = refl
 set_all-append (m ∷ ms) r ks = set_all-append ms (set_by r m) ks
 
--- the registers behind a group are those before it, with what the group sets
+-- the registers after a group are those before it, with what the group sets
 pub registers_grow : (o : Opening) (past grown : List Entry) (before after : RegisterFile) (x : Option RemoteMessage)
     → before ≡ registers_after o past → after ≡ set_by_all before (cons_option x []) → settings grown ≡ settings past ++ cons_option x [] → after ≡ registers_after o grown
 registers_grow o past grown before after x was is sets =

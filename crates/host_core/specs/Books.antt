@@ -1,4 +1,4 @@
--- The book of notes behind a journal, and what a group notes in it.
+-- The book of notes after a journal, and what a group notes in it.
 use Rattle.std.specs.Prelude.{ℕ, ◌≡◌, ◌<◌, Bool, true, false, List, Option, Some, None, IsTrue}
 use Rattle.chunk_log.specs.declared.note.Note.{Note}
 use Rattle.chunk_log.specs.NoteBooks.{in_order}
@@ -13,7 +13,7 @@ use Rattle.journal_model.specs.Notes.{noted, with_notes}
 abbrev pub notes_after : Opening → List Entry → List Note
 notes_after o past = with_notes o.notes (each_of (noted o) past)
 
--- this is the book behind the journal, and the one that the run began with is in order
+-- this is the book after the journal, and the one that the run began with is in order
 pub record IsNoted (o : Opening) (past : List Entry) (notes : List Note) : Type 0 where
   pub given : notes ≡ notes_after o past
   pub order : IsTrue (in_order o.notes)

@@ -10,7 +10,7 @@ use Rattle.host_core.specs.Steps.{step_of, told, takes_no_memory}
 -- the group and the reply are the event's, of a core that is shut or not, and what stands then is legal
 pub record MayStep (o : Opening) (past : List Entry) (by : ℕ) (event : Event) (group : List Entry) (reply : Reply) : Type 0 where
   pub shut : Bool
-  pub reply_is : reply ≡ told shut event (step_of o past by event).reply
+  pub reply_is : reply ≡ told past shut event (step_of o past by event).reply
   pub group_is : group ≡ (step_of o past by event).group
   pub legal : Legal o (past ++ group)
 

@@ -32,7 +32,7 @@ dues past (EndOf child why) = ending past child why
 dues past (EndedJobs child why) = ended_jobs past child why
 dues past (UnsentJobs child) = unsent_verdicts past child
 
--- the first entry with what is due behind it
+-- the first entry with what is due after it
 abbrev pub group_made : List Entry → ℕ → Option What → Due → List Entry
 group_made past by None due = []
 group_made past by (Some w) due = made_by by (w ∷ dues past due)

@@ -1,4 +1,4 @@
--- What a line that is served sets, and the registers behind a journal.
+-- What a line that is served sets, and the registers after a journal.
 use Rattle.std.specs.Prelude.{ℕ, ◌≡◌, ◌&&◌, not, Bool, true, false, if◌then◌else◌, List, Option, Some, None, IsTrue}
 use Rattle.annex_model.specs.Lines.{has_newline}
 use Rattle.annex_model.specs.Messages.{RemoteMessage, remote_reading}
@@ -16,11 +16,11 @@ use Rattle.journal_model.specs.Registers.{settings, if_setting}
 use Rattle.host_core.specs.declared.due.Due.{Due}
 use Rattle.host_core.specs.declared.due.Due.TheVariants.{Replies}
 
--- what the registers hold behind the journal: what they held at first, with each setting in turn
+-- what the registers hold after the journal: what they held at first, with each setting in turn
 abbrev pub registers_after : Opening → List Entry → RegisterFile
 registers_after o journal = set_by_all o.registers (settings journal)
 
--- these are the registers behind the journal, and all that they and the identity hold can be said on a line
+-- these are the registers after the journal, and all that they and the identity hold can be said on a line
 pub record IsServed (o : Opening) (journal : List Entry) (registers : RegisterFile) : Type 0 where
   pub given : registers ≡ registers_after o journal
   pub kept : IsKept o.registers
@@ -65,7 +65,7 @@ set_in_first past (Some w) = set_in_line past w
 abbrev pub set_in : List Entry → Option What → Due → Option RemoteMessage
 set_in past what due = if is_reply due then set_in_first past what else None
 
--- replies are due behind a line that is served, and behind no other
+-- replies are due after a line that is served, and after no other
 abbrev pub is_due_reply : List Entry → What → Due → Type 0
 is_due_reply past (Got child line) due = is_reply due ≡ serves past child (addressed past child line)
 is_due_reply past w due = Unit {0}

@@ -204,19 +204,24 @@ step_of o past by (NoteEvent task chunk count) = if may_add_note o past by task 
 step_of o past by (LayoutsEvent task) = if is_claimed_by past by task then layouts_for o past (task_of o task) else odd
 step_of o past by (Shut on) = if nat_le by 1 then only Done else odd
 
--- ---- a core that was shut: those that would wait for a child are told that it is over
+-- ---- a core that was shut: those that would wait for a child are told that it is over, unless a line of it is awaited
 
 abbrev pub unless_shut : Bool → Reply → Reply
 unless_shut shut Wait = if shut then Over else Wait
 unless_shut shut reply = reply
 
--- what is answered by a core that is shut or not
-abbrev pub told : Bool → Event → Reply → Reply
-told shut (Listen child) reply = unless_shut shut reply
-told shut (Fetch child) reply = unless_shut shut reply
-told shut _ reply = reply
+-- whether a core that is shut or not has nothing more to do about the event's child
+abbrev pub shut_for : List Entry → Bool → Event → Bool
+shut_for past shut (Fetch child) = shut && not (is_awaited past child)
+shut_for past shut event = shut
 
--- whether the core is shut behind the event
+-- what is answered by a core that is shut or not: Over in place of Wait, and to Fetch exactly where Listen is answered so
+abbrev pub told : List Entry → Bool → Event → Reply → Reply
+told past shut (Listen child) reply = unless_shut (shut_for past shut (Listen child)) reply
+told past shut (Fetch child) reply = unless_shut (shut_for past shut (Fetch child)) reply
+told past shut _ reply = reply
+
+-- whether the core is shut after the event
 abbrev pub shut_by : ℕ → Event → Bool → Bool
 shut_by by (Shut on) shut = if nat_le by 1 then on else shut
 shut_by by _ shut = shut

@@ -22,7 +22,7 @@ use std::alloc::Global;
 use talk_serial::Heard;
 use wire_msg::{RemoteMsg, read_remote};
 
-/// What is due behind an entry, in few words.
+/// What is due after an entry, in few words.
 #[derive(Drop)]
 pub enum Due {
     Nothing,
@@ -104,7 +104,7 @@ fn is_passed(journal: &Journal, child: u32, job: Option<u64>, message: &RemoteMs
     is_talk(message) && (!is_tagged(journal, child) || was_open(journal, child, job))
 }
 
-/// What is due behind a message that is for no open job.
+/// What is due after a message that is for no open job.
 fn after_late(journal: &Journal, child: u32, job: Option<u64>, message: &RemoteMsg<'_>) -> Due
     ensures due { dues journal.now.entries result ≡ after_late journal.now.entries child job (remote_shown message.now) }
     ensures late { is_reply result ≡ false }
@@ -116,7 +116,7 @@ fn after_late(journal: &Journal, child: u32, job: Option<u64>, message: &RemoteM
     }
 }
 
-/// What is due behind a message that is so to an open job. An aside is answered.
+/// What is due after a message that is so to an open job. An aside is answered.
 fn after_hearing(
     alloc: Global,
     past: Past<'_>,

@@ -27,7 +27,7 @@ fn room_for(what: &What) -> usize
     }
 }
 
-/// How much room the entries need that are due behind it, if that can be told.
+/// How much room the entries need that are due after it, if that can be told.
 fn due_room(due: &Due) -> Option<usize>
     ensures { SomeIff result (due_room due.now < 2 ^ 64) (due_room due.now) }
 {
@@ -184,7 +184,7 @@ fn push_dues(journal: &mut Journal, past: Past, by: u32, due: Due)
     }
 }
 
-/// The first entry with what is due behind it. It takes no memory.
+/// The first entry with what is due after it. It takes no memory.
 pub(super) fn push_group(journal: &mut Journal, by: u32, what: Option<What>, due: Due)
     requires { length journal.old.entries + length (group_made journal.old.entries by what due) ≤ journal.old.room }
     ensures entries { journal.new.entries ≡ journal.old.entries ++ group_made journal.old.entries by what due }

@@ -68,10 +68,10 @@ fn note(
     ensures err { OnErr result (notes.new ≡ notes.old) }
 {
     let line = line_of(alloc, opening, task, chunk, count)?;
-    notes.add(alloc, task.key.view(), line)
+    notes.add(task.key.view(), line)
 }
 
-/// Takes the note of a group's first entry into the book, where it is one. After want of memory the book is as before.
+/// Takes the note of a group's first entry into the book, where it is one. Where memory runs out the book is as before.
 #[tactic(auto, using(journal_model::proofs::Beginning::key_spaceless))]
 fn note_by_group(
     alloc: Global,
@@ -94,7 +94,7 @@ fn note_by_group(
     }
 }
 
-/// Sets and notes what the first entry of a group sets or notes. After want of memory all is as before.
+/// Sets and notes what the first entry of a group sets or notes. Where memory runs out all is as before.
 pub(super) fn keep_group(
     alloc: Global,
     registers: &mut Registers,

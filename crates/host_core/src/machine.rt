@@ -21,7 +21,7 @@ use reg_file::Registers;
 use std::alloc::Global;
 use std::marker::Model;
 
-/// The core of a run: what it began with, the journal so far, which is legal, and the registers and the notes behind it; and
+/// The core of a run: what it began with, the journal so far, which is legal, and the registers and the notes after it; and
 /// whether it is shut. It keeps room for all that can come of the entries so far.
 #[derive(Drop)]
 pub struct Core {
@@ -74,9 +74,9 @@ impl Core {
     }
 
     /// One event, told by that number. What takes memory is taken in an order such that nothing has to be undone: the replies, then
-    /// room, then what is set or noted. So after want of memory the core is as before.
+    /// room, then what is set or noted. So after running out of memory the core is as before.
     pub fn step(&mut self, by: u32, event: Event) -> Result<Reply, NoMemory>
-        ensures reply { IfOk result (λ reply. reply ≡ told self.old.shut event (step_of self.old.opening self.old.journal by event).reply) }
+        ensures reply { IfOk result (λ reply. reply ≡ told self.old.journal self.old.shut event (step_of self.old.opening self.old.journal by event).reply) }
         ensures journal { OnOk result (self.new.journal ≡ self.old.journal ++ (step_of self.old.opening self.old.journal by event).group) }
         ensures made { OnOk result (All (IsMadeBy by) (step_of self.old.opening self.old.journal by event).group) }
         ensures shut { OnOk result (self.new.shut ≡ shut_by by event self.old.shut) }
@@ -90,6 +90,7 @@ impl Core {
         ensures err { OnErr result (self.new ≡ self.old) }
     {
         let waits = moves::is_waiting(&event);
+        let over = moves::shut_for(&self.journal, &event, self.shut);
         let shut = moves::shut_by(by, &event, self.shut);
         let past = Past {
             opening: &self.opening,
@@ -110,7 +111,7 @@ impl Core {
             &step.due,
         )?;
         group::push_group(&mut self.journal, by, step.what, step.due);
-        let reply = moves::told(waits, self.shut, step.reply);
+        let reply = moves::told(waits, over, step.reply);
         self.shut = shut;
         Ok(reply)
     }
@@ -120,7 +121,8 @@ impl Core {
         ensures { self.new ≡ self.old }
     {
         if let Ok(reply) = answer {
-            self.waits.heed(&self.opening, &self.journal, turn, reply);
+            self.waits
+                .heed(&self.opening, &self.journal, self.shut, turn, reply);
         }
     }
 
@@ -136,7 +138,7 @@ impl Core {
         &self.journal
     }
 
-    /// The registers behind the journal. It takes no memory.
+    /// The registers after the journal. It takes no memory.
     pub fn registers(&self) -> &Registers
         ensures value { result.now ≡ self.now.registers }
         ensures given { self.now.registers ≡ registers_after self.now.opening self.now.journal }
@@ -144,7 +146,7 @@ impl Core {
         &self.registers
     }
 
-    /// The lines of chunk logs that count behind the journal. It takes no memory.
+    /// The lines of chunk logs that count after the journal. It takes no memory.
     pub fn notes(&self) -> &NoteBook
         ensures value { result.now ≡ self.now.notes }
         ensures given { self.now.notes ≡ notes_after self.now.opening self.now.journal }
@@ -194,6 +196,6 @@ fn begun(alloc: Global, opening: &Opening) -> Result<(Journal, Registers, NoteBo
     let mut journal = Journal::new(alloc);
     journal.take_room(2 * opening.tasks.view().len())?;
     let registers = opening.registers.copy()?;
-    let notes = opening.notes.copy(alloc)?;
+    let notes = opening.notes.copy()?;
     Ok((journal, registers, notes))
 }

@@ -1,15 +1,16 @@
 // What each event appends, and what is answered, found before anything is changed.
-ghost use Rattle.std.specs.Prelude.{◌≡◌, ◌≤◌, length, IfOk, true, false, Some, None, IsOk, ℕ, Bool, if◌then◌else◌};
+ghost use Rattle.std.specs.Prelude.{◌≡◌, ◌≤◌, length, IfOk, true, false, Some, None, IsOk, ℕ, Bool, List, if◌then◌else◌};
 ghost use Rattle.annex_model.specs.Messages.{host_line, is_askable};
 ghost use Rattle.journal_model.specs.Limits.{most_tasks};
 ghost use Rattle.journal_model.specs.Journal.{on_wire};
 ghost use Rattle.journal_model.specs.Legality.{Legal, least_free};
 ghost use Rattle.talk_serial.specs.Requests.{message_of};
-ghost use Rattle.host_core.specs.Steps.{is_free, step_of, claim, is_gone, gone, may_end, may_answer, may_add_note, told, unless_shut, shut_by, is_awaited, is_idle, listening, resting, next_line};
+ghost use Rattle.host_core.specs.Steps.{is_free, step_of, claim, is_gone, gone, may_end, may_answer, may_add_note, told, unless_shut, shut_by, shut_for, is_awaited, is_idle, listening, resting, next_line};
 ghost use Rattle.host_core.specs.Books.{IsNoted};
 ghost use Rattle.host_core.specs.Moves.{IsStep};
 ghost use Rattle.host_core.specs.Settings.{IsServed, IsDueReply};
 ghost use Rattle.journal_model.specs.declared.verdict.Why.TheVariants.{Full};
+ghost use Rattle.journal_model.specs.declared.entry.Entry.{Entry};
 ghost use Rattle.journal_model.specs.declared.entry.What.TheVariants.{End};
 ghost use Rattle.host_core.specs.declared.event.Reply.{Reply};
 ghost use Rattle.host_core.specs.declared.event.Reply.TheVariants.{Gone};
@@ -31,7 +32,7 @@ use std::alloc::Global;
 use talk_serial::Request;
 use wire_msg::write_host;
 
-/// The answer to an event, the entry that it appends first, if it appends one, and what is due behind that.
+/// The answer to an event, the entry that it appends first, if it appends one, and what is due after that.
 #[derive(Drop)]
 pub struct Move {
     pub reply: Reply,
@@ -421,7 +422,7 @@ fn note(opening: &Opening, journal: &Journal, by: u32, task: u32, chunk: u64, co
 }
 
 /// The layouts in which the remote is known to have the task's key.
-fn layouts(alloc: Global, past: Past<'_>, by: u32, task: u32) -> Result<Move, NoMemory>
+fn layouts(past: Past<'_>, by: u32, task: u32) -> Result<Move, NoMemory>
     requires { IsNoted past.opening.now past.journal.now.entries past.notes.now }
     ensures step { IfOk result (IsStep past.entry.journal.now.entries by (step_of past.entry.opening.now past.entry.journal.now.entries by (Event.Layouts task))) }
     ensures reply { IfOk result (λ m. IsDueReply past.entry.journal.now.entries m.what m.due) }
@@ -434,7 +435,7 @@ fn layouts(alloc: Global, past: Past<'_>, by: u32, task: u32) -> Result<Move, No
         return Ok(only(Reply::Odd));
     };
     let uuid = past.opening.identity.uuid.view();
-    let layouts = past.notes.current(alloc, task.key.view(), uuid)?;
+    let layouts = past.notes.current(task.key.view(), uuid)?;
     Ok(only(Reply::Layouts(layouts)))
 }
 
@@ -449,7 +450,7 @@ fn shut(opening: &Opening, journal: &Journal, by: u32, on: bool) -> Move
     }
 }
 
-/// Whether the core is shut behind the event.
+/// Whether the core is shut after the event.
 pub(super) fn shut_by(by: u32, event: &Event, shut: bool) -> bool
     ensures { result ≡ shut_by by event.now shut }
 {
@@ -459,9 +460,19 @@ pub(super) fn shut_by(by: u32, event: &Event, shut: bool) -> bool
     }
 }
 
+/// Whether a core that is shut or not has nothing more to do about the event's child.
+pub(super) fn shut_for(journal: &Journal, event: &Event, shut: bool) -> bool
+    ensures { result ≡ shut_for journal.now.entries shut event.now }
+{
+    match event {
+        Event::Fetch { child } => shut && !is_awaited(journal, *child),
+        _ => shut,
+    }
+}
+
 /// Whether the event asks what there is to do about a child.
 pub(super) fn is_waiting(event: &Event) -> bool
-    ensures { (shut : Bool) (reply : Reply) → told shut event.now reply ≡ (if result then unless_shut shut reply else reply) }
+    ensures { (past : List Entry) (shut : Bool) (reply : Reply) → told past shut event.now reply ≡ (if result then unless_shut (shut_for past shut event.now) reply else reply) }
 {
     matches!(event, Event::Listen { .. } | Event::Fetch { .. })
 }
@@ -512,7 +523,7 @@ pub(super) fn move_of(
         Event::Mute { child } => mute(opening, journal, by, child),
         Event::Answer { task, answer } => answer_task(opening, journal, by, task, answer),
         Event::Note { task, chunk, count } => note(opening, journal, by, task, chunk, count),
-        Event::Layouts { task } => layouts(alloc, past, by, task)?,
+        Event::Layouts { task } => layouts(past, by, task)?,
         Event::Shut { on } => shut(opening, journal, by, on),
     };
     Ok(step)

@@ -21,7 +21,7 @@ use reg_file::Registers;
 use std::alloc::Global;
 use wire_msg::{RemoteMsg, read_remote};
 
-/// What stands so far: what the run began with, the journal, and the registers and the notes behind it.
+/// What stands so far: what the run began with, the journal, and the registers and the notes after it.
 #[derive(Clone, Copy)]
 pub struct Past<'a> {
     pub opening: &'a Opening,
@@ -91,7 +91,7 @@ fn set_by_line(
     set_by_text(registers, text)
 }
 
-/// Sets what the first entry of a group sets, where replies are due behind it. After want of memory the registers are as before.
+/// Sets what the first entry of a group sets, where replies are due after it. Where memory runs out the registers are as before.
 pub(super) fn set_by_group(
     registers: &mut Registers,
     journal: &Journal,

@@ -197,7 +197,14 @@ impl Waits {
     }
 
     /// Notes whom the event of that turn concerns, after it, and whether its number waits.
-    pub(super) fn heed(&mut self, opening: &Opening, journal: &Journal, turn: Turn, reply: &Reply)
+    pub(super) fn heed(
+        &mut self,
+        opening: &Opening,
+        journal: &Journal,
+        shut: bool,
+        turn: Turn,
+        reply: &Reply,
+    )
         requires { length opening.now.tasks ≤ most_tasks }
     {
         self.bells = 0;
@@ -206,7 +213,9 @@ impl Waits {
         for at in turn.from..journal.len() {
             if let Some(entry) = journal.entry(at) {
                 self.heed_entry(entry.what);
-                is_last = is_last || may_be_last(entry.what) && are_all_claimed(opening, journal);
+                is_last = is_last
+                    || shut
+                    || may_be_last(entry.what) && are_all_claimed(opening, journal);
             }
         }
         let waits = matches!(reply, Reply::Wait);

@@ -8,7 +8,7 @@ use Rattle.journal_model.specs.declared.entry.Entry.{Entry}
 use Rattle.journal_model.specs.Parts.{item_of, part_from, part, item_at, part_by_places}
 use Rattle.host_core.proofs.Replaying.{said-append}
 
--- ---- what stands before a place, at it, and behind it
+-- ---- what stands before a place, at it, and after it
 
 get_behind : {X : Type 0} (xs : List X) (x : X) (ys : List X) → slice_get (xs ++ x ∷ ys) (length xs) ≡ Some x
 get_behind [] x ys = refl

@@ -30,7 +30,7 @@ line_to c _ = None
 abbrev pub asked_lines : List Entry → ℕ → List (List ℕ)
 asked_lines journal c = each_of (line_to c) journal
 
--- Behind old stand such entries alone, the main thread's own. They ask these questions in order, and leave no job of c open. At
+-- After old stand such entries alone, the main thread's own. They ask these questions in order, and leave no job of c open. At
 -- most one request was lost.
 pub record Asks (asked : List HostMessage) (old new : List Entry) (c : ℕ) : Type 0 where
   pub more : List Entry

@@ -28,7 +28,7 @@ foul_cost =
     ∷ by_main (Settled 1 3 (Ended (Foul 17)))
     ∷ []
 
--- the child ends behind its configs, and the next request is not asked
+-- the child ends after its configs, and the next request is not asked
 abbrev pub ended_early : List Entry
 ended_early = greeting ++ configs ++ by_main (End 1 Eof) ∷ []
 

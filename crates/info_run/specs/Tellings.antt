@@ -11,7 +11,7 @@ use Rattle.info_run.specs.declared.telling.InfoText.{InfoText}
 abbrev pub HasPrinted : List (List ℕ) → InfoText → InfoText → Type 0
 HasPrinted lines before after = after.printed.items ≡ before.printed.items ++ text lines
 
--- with these messages told, the lines of all that comes behind them complete the same text
+-- with these messages told, the lines of all that comes after them complete the same text
 abbrev pub HasTold : HostMessage → List (Option RemoteMessage) → InfoText → InfoText → Type 0
 HasTold q ms before after =
     (rest : List (Option RemoteMessage))

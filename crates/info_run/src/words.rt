@@ -8,7 +8,7 @@ use journal_look::{Journal, line_at};
 use journal_model::Why;
 use wire_msg::{read_remote, text_of, untag};
 
-/// Words that are always the same, and those of the child behind them.
+/// Words that are always the same, and those of the child after them.
 #[derive(Clone, Copy)]
 pub(super) struct Words<'a> {
     pub(super) fixed: &'a [u8],

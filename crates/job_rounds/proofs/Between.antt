@@ -87,7 +87,7 @@ jobs_begin o setup may limit journal desks whole none = subst (λ (j : List Entr
   shut = λ c. refl;
 }
 
--- ---- what stands behind a start
+-- ---- what stands after a start
 
 first_counts : (old : List Entry) (offer : Bool) (first : What) → IsStart old offer first → is_first_start first ≡ true
 first_counts old offer first (inl e) = ap is_first_start e

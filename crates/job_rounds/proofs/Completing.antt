@@ -30,7 +30,7 @@ use Rattle.task_laws.specs.WentWell.{IsFoundWell, IsSuccess, is_asked_well, is_c
 use Rattle.task_laws.proofs.RunsWell.{one_succeeds, run_asks}
 use Rattle.task_laws.proofs.WellTasks.{well_unless_refused}
 use Rattle.job_rounds.specs.Completeness.{DesksFound, FindsWell, JobsComplete}
-use Rattle.job_rounds.specs.Desks.{AreDone, DesksDid, HasDesk, HaveDesks, IsDone, claimed_for, claims_for, desk_of}
+use Rattle.job_rounds.specs.Desks.{AreDone, DesksDid, HasDesk, HaveDesks, IsTaskDone, claimed_for, claims_for, desk_of}
 use Rattle.job_rounds.proofs.NoneUnserved.{none_unserved}
 use Rattle.job_rounds.proofs.RoundDid.{Stands, answered_once, only_one}
 
@@ -109,7 +109,7 @@ claim_found n past (e ∷ xs) t h k = by_what e.what refl h.0 k (claim_found n (
 module _ (o : Opening) (setup : Setup) (limit : ℕ) (journal : List Entry) (starts : 0 < limit) (keys : AreKeysRead o) (children : ChildrenWell journal) (asked : AreAskedWell o journal) where
   module _ (old new : Counts) (quiet : Rose old.faults new.faults → ⊥) where
     one_found : (r : TaskDone) (before : Counts) → Later old before → HasTaskCauses before r.counts (Ok r.answer) → Later r.counts new → FindsWell o setup journal old new r
-        → IsDone o setup limit journal r → IsDoneWell o r
+        → IsTaskDone o setup limit journal r → IsDoneWell o r
     one_found r before early causes late finds (inr z) = absurd (none_unserved limit journal r.task starts children r.answer z.0)
     one_found r before early causes late finds (inl c) = by_key (key_reading c.run.task.key) refl (keys r.task c.run.task c.run.is)
       where
@@ -162,7 +162,7 @@ module _ (o : Opening) (setup : Setup) (limit : ℕ) (journal : List Entry) (sta
   record Did (t : ℕ) : Type 0 where
     r : TaskDone
     task_is : r.task ≡ t
-    done : IsDone o setup limit journal r
+    done : IsTaskDone o setup limit journal r
     well : IsDoneWell o r
 
   done_among : (t : ℕ) (rs : List TaskDone) → AreDone o setup limit journal rs → All (IsDoneWell o) rs → list_any (λ u. u == t) (map (λ (r : TaskDone). r.task) rs) ≡ true → Did t
@@ -232,7 +232,7 @@ jobs_complete o setup may limit journal desks desks' ran well front rest by t an
         let high = found.few in
         desks_among o setup limit journal well.starts well.keys well.children well.asked [] journal 1 desks desks' ran.did well.found t found.desk (omega (arith, low)) (omega (arith, high)) found.claimed
 
-    by_done : (d : Did o setup limit journal well.starts well.keys well.children well.asked t) → IsDone o setup limit journal d.r → IsSuccess task.work answer
+    by_done : (d : Did o setup limit journal well.starts well.keys well.children well.asked t) → IsTaskDone o setup limit journal d.r → IsSuccess task.work answer
     by_done d (inr z) = absurd (none_unserved limit journal d.r.task well.starts well.children d.r.answer z.0)
     by_done d (inl c) =
         let given : Stands journal (Answered t c.run.run.answer) = subst (λ (n : ℕ). Stands journal (Answered n c.run.run.answer)) d.task_is (run_stands journal d.r.task c.run.run) in

@@ -17,7 +17,7 @@ use Rattle.lone_rounds.specs.Starting.{is_any_start}
 use Rattle.lone_rounds.specs.Rounds.{HasRun}
 use Rattle.lone_rounds.specs.Stints.{AllHaveRun, TasksDone}
 use Rattle.lone_rounds.proofs.Runs.{calls_both, caused_both, gained_more, gained_nothing, tasks_both}
-use Rattle.job_rounds.specs.Desks.{AreDone, DeskDid, DesksDid, HasDesk, HaveDesks, IsDone, WorkerRun, claimed_for, claims_for, desk_of}
+use Rattle.job_rounds.specs.Desks.{AreDone, DeskDid, DesksDid, HasDesk, HaveDesks, IsTaskDone, WorkerRun, claimed_for, claims_for, desk_of}
 use Rattle.job_rounds.proofs.Unserved.{unserved_lasts, zero_unserved}
 
 -- ---- what is claimed for a desk
@@ -110,7 +110,7 @@ module _ (o : Opening) (setup : Setup) (limit : ℕ) where
       let after = run_lasts o setup r.calls h.number h.run.run.child r.task r.answer past more legal rest before in
       record { number = h.number; run = after.run; child = subst (λ (c : ℕ). 0 < c) (sym after.child) h.child; answer = after.answer_is }
 
-  done_lasts : (past more : List Entry) (r : TaskDone) → Legal o past → ((t : ℕ) → is_busy past t ≡ false) → IsDone o setup limit past r → IsDone o setup limit (past ++ more) r
+  done_lasts : (past more : List Entry) (r : TaskDone) → Legal o past → ((t : ℕ) → is_busy past t ≡ false) → IsTaskDone o setup limit past r → IsTaskDone o setup limit (past ++ more) r
   done_lasts past more r legal rest (inl h) = inl (worker_lasts past more r legal rest h)
   done_lasts past more r legal rest (inr z) = inr (unserved_lasts limit past more r.task r.answer z.0, z.1)
 
@@ -123,7 +123,7 @@ module _ (o : Opening) (setup : Setup) (limit : ℕ) where
   all_both journal (r ∷ xs) ys h k = (h.0, all_both journal xs ys h.1 k)
 
   -- what the main thread did over one child at a time, in a run that could make more starts
-  main_done : (more : ℕ) (journal : List Entry) (r : TaskDone) → count is_any_start journal < more → HasRun o setup more journal r → IsDone o setup limit journal r
+  main_done : (more : ℕ) (journal : List Entry) (r : TaskDone) → count is_any_start journal < more → HasRun o setup more journal r → IsTaskDone o setup limit journal r
   main_done more journal r fewer (inl h) = inl (record { number = 0; run = h.run; child = h.child; answer = h.answer })
   main_done more journal r fewer (inr z) = inr (zero_unserved limit more journal r.task r.answer fewer z.0, z.1)
 
@@ -198,7 +198,7 @@ module _ (o : Opening) (setup : Setup) (limit : ℕ) where
     caused = t.caused;
   }
 
--- as many desks before as behind
+-- as many desks before as after
 pub desks_as_many : (o : Opening) (setup : Setup) (limit : ℕ) (journal past xs : List Entry) (k : ℕ) (cs bs : List DeskTells) → DesksDid o setup limit journal past xs k cs bs → length cs ≡ length bs
 desks_as_many o setup limit journal past xs k [] [] s = refl
 desks_as_many o setup limit journal past xs k [] (b ∷ bs) s = absurd s

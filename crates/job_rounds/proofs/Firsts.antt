@@ -19,7 +19,7 @@ use Rattle.lone_rounds.specs.Stints.{ear_of, main_entry, mouth_of}
 use Rattle.lone_rounds.proofs.Leaving.{rose_still, stays_none}
 use Rattle.job_rounds.specs.Pools.{IsLinkLeft, LeavesPool}
 use Rattle.job_rounds.specs.Servings.{FirstServed}
-use Rattle.job_rounds.specs.Starts.{LacksMemory, OneJobStart, StartsAll}
+use Rattle.job_rounds.specs.Starts.{RunLacksMemory, OneJobStart, StartsAll}
 use Rattle.job_rounds.proofs.PoolStretch.{Asked, all_told, asked_so, its_objects, none_started, pool_start}
 use Rattle.job_rounds.proofs.Rounding.{served_start}
 
@@ -79,7 +79,7 @@ module _ (o : Opening) (setup : Setup) (limit : ℕ) (offer tagged : Bool) (old 
       → OneJobStart o setup limit offer (offer && tagged) true program old new desks desks' before last wires wires'
   first_ok whole e none f = made none (subst (λ (b : Bool). FirstServed W o setup limit program g new desks desks' b ear mouth mid last wires wires') e f)
 
-  lacking : FirstServed W o setup limit program g new desks desks' false ear mouth mid last wires wires' → LacksMemory o setup limit offer program old new desks desks' before last wires wires'
+  lacking : FirstServed W o setup limit program g new desks desks' false ear mouth mid last wires wires' → RunLacksMemory o setup limit offer program old new desks desks' before last wires wires'
   lacking (inl (serves, few, l)) =
       let a : Asked program [] mid last = asked_so W program [] mid last l.started in
       inr (
@@ -100,7 +100,7 @@ module _ (o : Opening) (setup : Setup) (limit : ℕ) (offer tagged : Bool) (old 
         a.asked,
       )
 
-  pub first_err : (whole : Bool) → whole ≡ false → FirstServed W o setup limit program g new desks desks' whole ear mouth mid last wires wires' → LacksMemory o setup limit offer program old new desks desks' before last wires wires'
+  pub first_err : (whole : Bool) → whole ≡ false → FirstServed W o setup limit program g new desks desks' whole ear mouth mid last wires wires' → RunLacksMemory o setup limit offer program old new desks desks' before last wires wires'
   first_err whole e f = lacking (subst (λ (b : Bool). FirstServed W o setup limit program g new desks desks' b ear mouth mid last wires wires') e f)
 
 -- an answer that is Ok is no Err

@@ -37,7 +37,7 @@ of_start None new x (Some n) a h = tt
 of_start (Some xs) None x (Some n) a h = absurd a
 of_start (Some xs) (Some ys) x (Some n) a h = h ∙ ap (λ (zs : Starts). length zs) a ∙ length-append xs (x ∷ [])
 
--- a start behind those that were told
+-- a start after those that were told
 shifted : (old mid : Option Starts) (told_so : Starts) (k at : ℕ) (n : Option ℕ) → AddsAll old mid told_so → length told_so ≡ k → IsOfStart mid at n → IsOfStart old (at + k) n
 shifted old mid told_so k at None a e h = tt
 shifted None mid told_so k at (Some n) a e h = tt
@@ -81,7 +81,7 @@ as_many program (e ∷ journal) = go e.what (as_many program journal)
 
 -- ---- one start alone
 
--- the same, where nothing was started behind it
+-- the same, where nothing was started after it
 pub one_all : {program : List ℕ} {journal : List Entry} {first : What} {before after : ProgramsValue} {wires wires' : List WireValue} (later : List Entry) → any is_any_start later ≡ false
     → StartsOne program journal first before after wires wires' → StartsAll program journal (main_entry first ∷ later) before after wires wires'
 one_all {program} {journal} {first} {before} {after} {wires} {wires'} later none s = record {
@@ -99,7 +99,7 @@ one_all {program} {journal} {first} {before} {after} {wires} {wires'} later none
 
 -- ---- all that is kept
 
--- behind one start of slot 0 more, and those of its pool
+-- after one start of slot 0 more, and those of its pool
 pub kept_more : {program : List ℕ} {old : List Entry} {start before : ProgramsValue} {wires : List WireValue} (k : Kept program old start before wires) → AreUpTo (count is_start old) (came old) → (new tail : List Entry) (after : ProgramsValue)
     (wires' : List WireValue) → new ≡ old ++ tail → ((d : ℕ) → d ≤ count is_start old → any (is_of_child d) tail ≡ false) → StartsAll program new tail before after wires wires' → Kept program new start after wires'
 kept_more {program} {old} {start} {before} {wires} k up_to new tail after wires' is apart s = record {

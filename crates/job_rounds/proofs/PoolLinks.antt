@@ -74,7 +74,7 @@ others_differ l links distinct = go links (λ i c h. differ l.ear.child c (λ z.
     go [] f = All-nil (λ (x : LinkValue). (l.ear.child == x.ear.child) ≡ false)
     go (x ∷ xs) f = All-cons (λ (y : LinkValue). (l.ear.child == y.ear.child) ≡ false) x xs (f zero x.ear.child refl) (go xs (λ i c h. f (suc i) c h))
 
--- The first link is held behind its child's closing, and the others still.
+-- The first link is held after its child's closing, and the others still.
 pub first_held : (o : Opening) (setup : Setup) (g mid : List Entry) (l l' : LinkValue) (links : List LinkValue) (desk desk' : DeskTells) → PoolCan o g (l ∷ links) → All (λ (x : LinkValue). x.mouth.child ≡ x.ear.child) links
     → HasServed o setup l.ear.child g mid desk desk' → KeepsLink g mid l.ear l'.ear l.mouth l'.mouth → All (λ (x : LinkValue). IsHeld mid x.ear x.mouth) (l' ∷ links)
 first_held o setup g mid l l' links desk desk' can one s keeps =
@@ -175,7 +175,7 @@ module _ {W S L : Type 0} (value : W → WireValue) (seat : S → SeatValue) (li
 
 -- ---- desks that are taken and put back
 
--- the last of the others was taken, behind those before it
+-- the last of the others was taken, after those before it
 pub taken_more : {X : Type 0} (all old new used used' : List X) (x : X) → old ≡ new ++ x ∷ [] → used' ≡ used ++ x ∷ [] → all ≡ old ++ reverse used → all ≡ new ++ reverse used'
 taken_more all old new used used' x popped pushed e =
     e ∙ ap (λ l. l ++ reverse used) popped ∙ append_assoc new (x ∷ []) (reverse used) ∙ ap (λ l. new ++ l) (sym (reverse-append used (x ∷ []))) ∙ ap (λ l. new ++ reverse l) (sym pushed)
@@ -192,7 +192,7 @@ put_more all used used' old new x popped pushed e =
 
 -- ---- children that are closed in turn
 
--- behind closings the next child may be closed
+-- after closings the next child may be closed
 pub closing_may : (cs : List ℕ) (old cur : List Entry) (c : ℕ) → ClosesAll cs old cur → IsAtRest old → is_started old c ≡ true → (is_started cur c ≡ true) × (may_stop cur c Closed ≡ true)
 closing_may cs old cur c closed calm started =
     let k : Closings cs old cur = closings cs old cur closed in

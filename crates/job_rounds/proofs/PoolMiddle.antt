@@ -126,7 +126,7 @@ two_jobs o seen c legal ready = go (nat_lt 1 (length (asked_jobs seen c))) refl
 
 -- ---- what is done
 
--- Behind g, where the links are first's and the others', which begin with child `first`.
+-- After g, where the links are first's and the others', which begin with child `first`.
 pub record Middle (o : Opening) (setup : Setup) (limit first : ℕ) (links : List LinkValue) (g mid : List Entry) (desks desks' : List DeskTells) (whole : Bool) : Type 0 where
   pub rest : List Entry
   pub is : mid ≡ g ++ rest
@@ -164,7 +164,7 @@ middle_none o setup limit first links g desks legal calm = record {
 
 -- ---- the desks that no worker has
 
--- a number behind those of the round makes nothing
+-- a number after those of the round makes nothing
 numbered_none : (many n : ℕ) (xs : List Entry) → 1 + many < n → list_all (λ (e : Entry). list_any (λ (m : ℕ). m == e.by) (range_with_len 1 (1 + many))) xs ≡ true → made_by_number n xs ≡ []
 numbered_none many n [] far h = refl
 numbered_none many n (e ∷ xs) far h =
@@ -191,7 +191,7 @@ module _ (o : Opening) (setup : Setup) (limit : ℕ) (journal past xs : List Ent
 
 -- ---- a round
 
--- entries behind g without a start
+-- entries after g without a start
 abbrev Behind : List Entry → List Entry → Type 0
 Behind g past = (more : List Entry) × (past ≡ g ++ more) × (any is_any_start more ≡ false)
 
@@ -309,7 +309,7 @@ worker_ends : (c : ℕ) (w : What) → by_worker c w ≡ true → is_unclosed_en
 worker_ends c (End child why) h = link_unclosed c (End child why) h
 worker_ends c w h = refl
 
--- ended behind g, by entries of which none closes a child
+-- ended after g, by entries of which none closes a child
 still_unclosed : (g more : List Entry) (c : ℕ) → list_all (λ (e : Entry). is_unclosed_end e.what) more ≡ true → (why_of g c ≡ Some Closed → ⊥) → why_of (g ++ more) c ≡ Some Closed → ⊥
 still_unclosed g more c ends before after = go (why_of g c) refl (sym (why_of-append g more c) ∙ after)
   where
@@ -336,7 +336,7 @@ served_part {o} {setup} {c} {g} {mid} legal ready s =
           (worker_part c s.worked.more s.worked.only s.worked.own (late_from o c g s.worked.more legal (subst (Legal o) s.worked.is s.can.legal) (two_jobs o g c legal ready))) (closing_part c k.tail k.one);
     }
 
--- all is at rest behind it
+-- all is at rest after it
 pub served_calm : {o : Opening} {setup : Setup} {c : ℕ} {g mid : List Entry} {desk desk' : DeskTells} → Legal o g → IsAtRest g → is_prepared g c ≡ true → HasServed o setup c g mid desk desk' → IsAtRest mid
 served_calm {o} {setup} {c} {g} {mid} legal calm ready s =
     let k : Closing c s.mid mid = closing c s.mid mid s.closes in

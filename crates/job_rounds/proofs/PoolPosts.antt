@@ -83,7 +83,7 @@ serves_within first c (Answered task answer) le h = refl
 serves_within first c (Noted task chunk count) le h = refl
 serves_within first c w le h = absurd cc
 
--- a request behind the first two is a task's
+-- a request after the first two is a task's
 pub serves_asks : (c n : ℕ) (w : What) → 0 < n → serves c w ≡ true → late c w ≡ true → (not (asks_none w) || n == 0) ≡ true → is_of_run w ≡ true
 serves_asks c n (Ask child job task line) some h l m =
     go (child == c) (job == 0) (job == 1) (task == 0) (asks_for Serve line) (n == 0) h (differ n 0 (λ z. absurd (let bad : ⊥ = omega (arith, z, some) in bad))) l m

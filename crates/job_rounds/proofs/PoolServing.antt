@@ -83,13 +83,13 @@ still_started o g rest mid ls ms can same is =
     same_each (λ (c : ℕ). is_started mid c ≡ true) ls ms same
     (All-weaker (MayServe o g) (λ (l : LinkValue). is_started mid l.ear.child ≡ true) (λ l h. ap (λ (j : List Entry). is_started j l.ear.child) is ∙ started_then g rest l.ear.child h.serves.started) ls can.each)
 
--- the links are held still, behind closings
+-- the links are held still, after closings
 pub held_then : {L : Type 0} (link : L → LinkValue) → ((z : L) → (link z).mouth.child ≡ (link z).ear.child) → (cs : List ℕ) (old new : List Entry) → ClosesAll cs old new → (xs : List L)
     → All (λ (z : L). IsHeld old (link z).ear (link z).mouth) xs → All (λ (z : L). IsHeld new (link z).ear (link z).mouth) xs
 held_then {L} link one cs old new closed xs h =
     All-weaker (λ (z : L). IsHeld old (link z).ear (link z).mouth) (λ (z : L). IsHeld new (link z).ear (link z).mouth) (λ z k. closes_held cs old new (link z).ear (link z).mouth (one z) closed k) xs h
 
--- ---- behind the main thread's work
+-- ---- after the main thread's work
 
 module _ (o : Opening) (setup : Setup) (g mid : List Entry) (desks desks' : List DeskTells) where
   served_behind : (ls : List LinkValue) → PoolCan o g ls → ServesFirst o setup ls g mid desks desks' → (rest : List Entry) × (mid ≡ g ++ rest)
@@ -109,7 +109,7 @@ module _ (o : Opening) (setup : Setup) (g mid : List Entry) (desks desks' : List
   pub alone_links : (new : List Entry) (ls ms : List LinkValue) → (Legal o g → Legal o mid) → ServesFirst o setup ls g mid desks desks' → AreSameLinks ls ms → ClosesAll (children_of ms) mid new → ServesLinks o setup g new ls ms desks desks'
   alone_links new ls ms legal s same closed = record { mid = mid; legal = legal; done = inr s; closes = subst (λ (cs : List ℕ). ClosesAll cs mid new) (same_children ls ms same) closed }
 
--- ---- behind a round
+-- ---- after a round
 
 module _ (o : Opening) (setup : Setup) (g mid : List Entry) (ls ms : List LinkValue) (desks desks' : List DeskTells) (r : RoundsPool o setup g mid ls ms desks desks') where
   pub rounds_calm : IsAtRest mid
@@ -130,7 +130,7 @@ module _ (o : Opening) (setup : Setup) (g mid : List Entry) (ls ms : List LinkVa
 
 -- ---- the desks of a round
 
--- the first desks had the round, and the others stand behind them again
+-- the first desks had the round, and the others stand after them again
 pub round_beside : {K : Type 0} (tells : K → DeskTells) (o : Opening) (setup : Setup) (g mid : List Entry) (ls ms : List LinkValue) (all used used' back others : List K) (m : ℕ) → length used ≡ length ls → m ≡ length ls
     → all ≡ used ++ others → back ≡ used' ++ others → GoesOn g mid (λ rest. PoolLeaves o setup (range_with_len 1 (1 + m)) g rest ls ms (map tells used) (map tells used'))
     → RoundsPool o setup g mid ls ms (map tells all) (map tells back)

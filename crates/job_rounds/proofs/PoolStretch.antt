@@ -1,4 +1,4 @@
--- A child of slot 0 that takes no tags: a pool is started behind it and does tasks, and all are closed.
+-- A child of slot 0 that takes no tags: a pool is started after it and does tasks, and all are closed.
 use Rattle.std.proofs.Common.{◌≡◌, ◌⊎◌, ℕ, ◌+◌, ◌<◌, ◌≤◌, List, [], ◌∷◌, ◌++◌, refl, sym, ap, subst, ◌∙◌, append_assoc, append-nil, length, Bool, true, false, not, ◌==◌, cond, Some, None, Option, arith, inl, inr}
 use Rattle.std.specs.Prelude.{◌&&◌, ◌||◌, filter, nat_le, option_and_then, option_map}
 use Rattle.std.specs.List.{cons_option, last_or, list_all, list_any}
@@ -63,7 +63,7 @@ last_from o (t ∷ ts) x ns = last_from (Some t) ts x ns
 abbrev Comes : List Entry → Turn → Type 0
 Comes xs y = (last_or (Some y) (each_of turn_of xs) ≡ Some y) ⊎ (last_or (Some y) (each_of turn_of xs) ≡ Some None)
 
--- behind it there stand claims alone
+-- after it there stand claims alone
 pool_turns : (n : ℕ) (x : Turn) (xs : List Entry) → list_all (λ (e : Entry). in_pool n e.what) xs ≡ true → (last_or (Some x) (each_of turn_of xs) ≡ Some x) ⊎ (last_or (Some x) (each_of turn_of xs) ≡ Some None)
 pool_turns n x [] h = inl refl
 pool_turns n x (e ∷ xs) h =
@@ -187,7 +187,7 @@ module _ (o : Opening) (old g : List Entry) (offer : Bool) (c : ℕ) (greeted : 
   in_its_pool : list_all (λ (e : Entry). in_pool c e.what) greeted.more ≡ true
   in_its_pool = all_in (in_stint c) (in_pool c) (stint_pool c) greeted.more (greeting_stint c old g offer greeted)
 
-  -- a pool may be gathered behind it
+  -- a pool may be gathered after it
   pub greeted_slot : last_slot g ≡ 0
   greeted_slot = ap last_slot greeted.grown ∙ new_slot old greeted.more c offer (each_none slot_of (is_of_greeting c) (unslotted c) greeted.more greeted.own)
 
@@ -320,7 +320,7 @@ module _ (program : List ℕ) (new tail others : List Entry) (c : ℕ) (before m
     later_faults = (let a = l.later_faults in omega (arith, le, a, same));
   }
 
--- behind the start there stand entries that start nothing, and then others
+-- after the start there stand entries that start nothing, and then others
 module _ (program : List ℕ) (new more others : List Entry) (c : ℕ) (offer : Bool) (before mid : ProgramsValue) (ear : EarValue) (mouth : MouthValue) (adds : AddsOne before.starts mid.starts (program, true)) (le : before.faults ≤ mid.faults)
     (numbered : AreNumbered mid.starts ear mouth) (is_child : ear.child ≡ c) (none : any is_any_start more ≡ false) where
   pub its_objects : (W : Type 0) (last after : ProgramsValue) (wires wires' : List WireValue) → LeavesPool W program new others ear mouth mid last wires wires' → AddsAll mid.starts after.starts (told program others) → after.faults ≡ last.faults

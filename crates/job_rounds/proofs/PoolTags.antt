@@ -159,7 +159,7 @@ later_untagged o old more c legal far none =
 
 -- ---- children have their numbers in turn
 
--- the numbers behind n, in turn, where a start gave a child
+-- the numbers after n, in turn, where a start gave a child
 abbrev pub Ascends : ℕ → List (Option ℕ) → Type 0
 Ascends n [] = Unit {0}
 Ascends n (None ∷ cs) = Ascends n cs

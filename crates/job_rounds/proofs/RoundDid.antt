@@ -46,7 +46,7 @@ use Rattle.lone_rounds.proofs.Tests.{count-append, count_none}
 use Rattle.crew_work.specs.Crews.{answers_by, answers_of, calls_of, claims_by, tasks_of}
 use Rattle.crew_rounds.specs.Crewing.{DeskDid as CrewDid, DesksDid as CrewDesks, calls_from}
 use Rattle.crew_rounds.specs.TaggedRounds.{TaggedLeaves}
-use Rattle.job_rounds.specs.Desks.{AreDone, DeskDid, DesksDid, HasDesk, HaveDesks, IsDone, claimed_for, claims_for, desk_of}
+use Rattle.job_rounds.specs.Desks.{AreDone, DeskDid, DesksDid, HasDesk, HaveDesks, IsTaskDone, claimed_for, claims_for, desk_of}
 
 -- ---- an entry that stands among others
 
@@ -251,7 +251,7 @@ post_asks c n (Ask child job task line) h l m =
     go false b d z x y e f k i = absurd cc
 post_asks c n w h l m = refl
 
--- behind the child's first two jobs each request is a task's
+-- after the child's first two jobs each request is a task's
 pub round_asks : (o : Opening) (c : ℕ) (numbers : List ℕ) (start rest : List Entry) → Legal o start → 2 ≤ length (asked_jobs start c) → Rounded o (tagged_crew c) numbers start rest
     → list_all (λ e. is_of_run e.what) rest ≡ true
 round_asks o c numbers start rest legal two r =
@@ -515,7 +515,7 @@ abbrev answer_given : Answer → What → Answer
 answer_given d (Answered task answer) = answer
 answer_given d w = d
 
--- Of any round, where its workers have the numbers behind `shift`: each task that was claimed is done, by its desk.
+-- Of any round, where its workers have the numbers after `shift`: each task that was claimed is done, by its desk.
 module _ (o : Opening) (setup : Setup) (limit shift : ℕ) (start rest : List Entry) (dones : List (List TaskDone)) (whole : Legal o (start ++ rest))
     (stands : (t : ℕ) → is_claimed rest t ≡ true → (c : ℕ) × (0 < c) × Stands rest (Claim t c)) (claimed_so : (k : ℕ) → claims_for k start rest ≡ claims_by (k + shift) rest)
     (ran : (t n : ℕ) → is_taken_by rest n t ≡ true → JournalRun o setup (calls_from (1 + shift) dones n t) n t (start ++ rest)) where
@@ -551,7 +551,7 @@ module _ (o : Opening) (setup : Setup) (limit shift : ℕ) (start rest : List En
 
   -- each task of a desk's list is done
   module _ (n : ℕ) (done : List TaskDone) (told : (t : ℕ) → calls_from (1 + shift) dones n t ≡ calls_of done t) (claimed : claims_by n rest ≡ tasks_of done) (answered : answers_by n rest ≡ answers_of done) where
-    one_done : (pre post : List TaskDone) (r : TaskDone) → done ≡ pre ++ r ∷ post → IsDone o setup limit journal r
+    one_done : (pre post : List TaskDone) (r : TaskDone) → done ≡ pre ++ r ∷ post → IsTaskDone o setup limit journal r
     one_done pre post r place = inl (record { number = n; run = run; child = tells.0; answer = tells.1 })
       where
         tasks : claims_by n rest ≡ tasks_of (pre ++ r ∷ post)

@@ -1,4 +1,4 @@
--- Starts in their slots: what stands behind a start of slot 0, and what each place of it says of the turn.
+-- Starts in their slots: what stands after a start of slot 0, and what each place of it says of the turn.
 use Rattle.std.proofs.Common.{◌≡◌, ◌⊎◌, ℕ, zero, suc, ◌<◌, ◌≤◌, List, [], ◌∷◌, ◌++◌, refl, sym, ap, subst, ◌∙◌, append_assoc, append-nil, length, Bool, true, false, not, ◌==◌, Some, None, Option, cond, arith, inl, inr}
 use Rattle.std.specs.Prelude.{◌&&◌, ◌||◌, nat_le, option_and_then, unwrap_or}
 use Rattle.std.specs.List.{cons_option, last_or, list_all, list_any}
@@ -22,7 +22,7 @@ use Rattle.lone_rounds.proofs.Tests.{each_none, each_without}
 use Rattle.pool_starts.specs.Slots.{AllInTurn, IsInSlot, IsManned, StandsInTurn, begins_by_start, first_in, has_pool, in_pool, is_first_start, is_ready_pool, is_unclaimed_since, last_slot, offers_tags, slot_of}
 use Rattle.pool_starts.proofs.SlotLaws.{filled_on, first_same, last_first, none_first, pool_of as pool_is}
 
--- ---- what stands behind a start of slot 0
+-- ---- what stands after a start of slot 0
 
 -- at least this number
 at_least : (n child : ℕ) → nat_le n child ≡ true → n ≤ child
@@ -140,26 +140,26 @@ last_behind x init (t ∷ ts) = last_behind x (Some t) ts
 abbrev flat : Option (Option ℕ) → Option ℕ
 flat o = option_and_then (λ child. child) o
 
--- what the last of them says, where those behind the start say nothing
+-- what the last of them says, where those after the start say nothing
 last_of_start : {X : Type 0} (f : What → Option X) (w : What) (x : X) (old later : List Entry) → f w ≡ Some x → each_of f later ≡ [] → last_or None (each_of f (old ++ main_entry w ∷ later)) ≡ Some x
 last_of_start f w x old later is none =
     ap (last_or None) (each_of-append f old (main_entry w ∷ later) ∙ ap (λ (l : List _). each_of f old ++ l) (ap (λ (o : Option _). cons_option o (each_of f later)) is ∙ ap (λ (l : List _). x ∷ l) none))
     ∙ last_behind x None (each_of f old)
 
--- behind a child of slot 0 it is told by that child
+-- after a child of slot 0 it is told by that child
 pub pool_of : (old later : List Entry) (c n : ℕ) (offer : Bool) → list_all (λ (e : Entry). in_pool n e.what) later ≡ true
     → has_pool (old ++ main_entry (Start c 0 offer) ∷ later) ≡ is_ready_untagged (old ++ main_entry (Start c 0 offer) ∷ later) c
 pool_of old later c n offer within =
     ap (λ (o : Option (Option ℕ)). is_ready_pool (old ++ main_entry (Start c 0 offer) ∷ later) (flat o))
     (last_of_start first_in (Start c 0 offer) (Some c) old later refl (each_none first_in (in_pool n) (λ w h. no_first_in w (first_none n w h)) later within))
 
--- behind a start of slot 0 that gave no child there is none
+-- after a start of slot 0 that gave no child there is none
 pub pool_failed : (old later : List Entry) → any is_any_start later ≡ false → has_pool (old ++ main_entry (NoStart 0) ∷ later) ≡ false
 pool_failed old later none =
     ap (λ (o : Option (Option ℕ)). is_ready_pool (old ++ main_entry (NoStart 0) ∷ later) (flat o))
     (last_of_start first_in (NoStart 0) None old later refl (each_without first_in is_first_start no_first_in later (none_first later none)))
 
--- behind a start in slot 0, where nothing was started or claimed since
+-- after a start in slot 0, where nothing was started or claimed since
 pub new_slot : (old later : List Entry) (c : ℕ) (offer : Bool) → each_of slot_of later ≡ [] → last_slot (old ++ main_entry (Start c 0 offer) ∷ later) ≡ 0
 new_slot old later c offer none = ap (λ (o : Option ℕ). unwrap_or o 0) (last_of_start slot_of (Start c 0 offer) 0 old later refl none)
 

@@ -97,7 +97,7 @@ pool_spent past n (e ∷ xs) h =
     go (Start child slot offer) k = or_left (not (slot == 0)) (is_pool_spent ((past ++ e ∷ []) ++ front xs) child (children (front xs))) (both (nat_le n child) (not (slot == 0)) k).1
     go w k = refl
 
--- a start behind which none is of slot 0
+-- a start after which none is of slot 0
 last_spends : (old new later : List Entry) (child slot : ℕ) (offer : Bool) → new ≡ old ++ main_entry (Start child slot offer) ∷ later → any is_first_start later ≡ false → is_pool_spent new child (children later) ≡ true
     → spends (old ++ main_entry (Start child slot offer) ∷ []) (Start child slot offer) later ≡ true
 last_spends old new later child slot offer is none h =

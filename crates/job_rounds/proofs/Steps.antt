@@ -9,7 +9,7 @@ use Rattle.child_end.specs.Wires.{WireValue}
 use Rattle.task_run.specs.declared.setup.Setup.{Setup}
 use Rattle.lone_work.specs.Works.{DeskTells}
 use Rattle.lone_rounds.specs.Stints.{Kept, MayHaveAsked}
-use Rattle.job_rounds.specs.Starts.{JobsBetween, LacksMemory, OneJobStart}
+use Rattle.job_rounds.specs.Starts.{JobsBetween, RunLacksMemory, OneJobStart}
 use Rattle.job_rounds.proofs.Between.{between_kept, earlier_apart, few_of, jobs_next, tail}
 use Rattle.job_rounds.proofs.Objects.{kept_kept, kept_more}
 
@@ -28,7 +28,7 @@ next_job_start o p setup may limit made offer next whole program old new desks0 
 
 -- no memory was found: the run so far
 pub broken_started : (o p : Opening) (setup : Setup) (may : Bool) (limit made : ℕ) (offer : Bool) (program : List ℕ) (old new : List Entry) (desks0 desks desks' : List DeskTells) (before after : ProgramsValue) (wires wires' : List WireValue)
-    → p ≡ o → JobsBetween o setup may limit made offer old desks0 desks true → LacksMemory p setup limit offer program old new desks desks' before after wires wires' → Legal o new → made < limit
+    → p ≡ o → JobsBetween o setup may limit made offer old desks0 desks true → RunLacksMemory p setup limit offer program old new desks desks' before after wires wires' → Legal o new → made < limit
     → (all : ℕ) × (last : Bool) × (whole : Bool) × JobsBetween o setup may limit all last new desks0 desks' whole × (all ≤ limit) × Unit {0}
 broken_started o p setup may limit made offer program old new desks0 desks desks' before after wires wires' same_opening b (inl n) legal below =
     (made, offer, true, between_kept new desks' n.journal n.desks_are b, omega (arith, below), tt)
@@ -40,7 +40,7 @@ broken_started o p setup may limit made offer program old new desks0 desks desks
 
 -- and its objects
 pub broken_kept : (o p : Opening) (setup : Setup) (may : Bool) (limit made : ℕ) (offer : Bool) (program : List ℕ) (old new : List Entry) (desks0 desks desks' : List DeskTells) (start before after : ProgramsValue) (wires wires' : List WireValue)
-    → p ≡ o → JobsBetween o setup may limit made offer old desks0 desks true → Kept program old start before wires → LacksMemory p setup limit offer program old new desks desks' before after wires wires'
+    → p ≡ o → JobsBetween o setup may limit made offer old desks0 desks true → Kept program old start before wires → RunLacksMemory p setup limit offer program old new desks desks' before after wires wires'
     → (mid : ProgramsValue) × Kept program new start mid wires' × MayHaveAsked program mid after
 broken_kept o p setup may limit made offer program old new desks0 desks desks' start before after wires wires' same_opening b k (inl n) = (before, kept_kept new wires' n.journal n.wires_are k, n.asked)
 broken_kept o p setup may limit made offer program old new desks0 desks desks' start before after wires wires' same_opening b k (inr (next, mid, one, asked)) =

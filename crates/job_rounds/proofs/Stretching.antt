@@ -72,7 +72,7 @@ start_takes old offer first (inr e) = ap claimed_task e
 start_shut : (old : List Entry) (offer : Bool) (first : What) → IsStart old offer first → AreShut old → AreShut (old ++ main_entry first ∷ [])
 start_shut old offer first is shut d = idle_on old (main_entry first ∷ []) d (rw (start_asks old offer first d is) refl) (shut d)
 
--- behind a start, entries of its child
+-- after a start, entries of its child
 pub start_shuts : (old new later : List Entry) (offer : Bool) (first : What) (c : ℕ) → IsStart old offer first → new ≡ old ++ main_entry first ∷ later
     → list_all (λ (e : Entry). in_stint c e.what) later ≡ true → (AreShut old → open_jobs new c ≡ []) → AreShut old → AreShut new
 start_shuts old new later offer first c start is within idle shut =
@@ -81,16 +81,16 @@ start_shuts old new later offer first c start is within idle shut =
     whole : new ≡ (old ++ main_entry first ∷ []) ++ later
     whole = is ∙ sym (append_assoc old (main_entry first ∷ []) later)
 
--- ---- what stands behind it
+-- ---- what stands after it
 
--- what stands behind the start, where the journal has both
+-- what stands after the start, where the journal has both
 pub behind_first : (old later more new : List Entry) (first : What) → new ≡ old ++ main_entry first ∷ later → new ≡ old ++ main_entry first ∷ more → later ≡ more
 behind_first old later more new first is so = tails (append_cancel_left old (main_entry first ∷ later) (main_entry first ∷ more) (sym is ∙ so))
   where
     tails : main_entry first ∷ later ≡ main_entry first ∷ more → later ≡ more
     tails e = cc
 
--- what stands behind the start starts nothing and claims nothing for a child, and no pool serves
+-- what stands after the start starts nothing and claims nothing for a child, and no pool serves
 pub record QuietStretch (old new : List Entry) (first : What) : Type 0 where
   pub more : List Entry
   pub is : new ≡ old ++ main_entry first ∷ more

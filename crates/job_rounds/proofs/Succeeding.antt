@@ -13,7 +13,7 @@ use Rattle.task_laws.specs.RunWell.{AreAskedWell}
 use Rattle.task_laws.proofs.OneStore.{keeps_stored_content}
 use Rattle.task_laws.proofs.Retrieving.{keeps_stored}
 use Rattle.task_laws.proofs.RunsWell.{one_succeeds}
-use Rattle.job_rounds.specs.Desks.{AreDone, DesksDid, IsDone}
+use Rattle.job_rounds.specs.Desks.{AreDone, DesksDid, IsTaskDone}
 use Rattle.job_rounds.specs.JobsKeep.{JobsKeep}
 use Rattle.job_rounds.specs.JobsWell.{JobsSucceed, all_done}
 use Rattle.job_rounds.proofs.NoneUnserved.{none_unserved}
@@ -23,7 +23,7 @@ module _ (o : Opening) (setup : Setup) (limit : ℕ) (journal : List Entry) wher
   Well r = (number : ℕ) → IsDeskWell o setup journal number r.task r.calls
 
   module _ (starts : 0 < limit) (keys : AreKeysRead o) (children : ChildrenWell journal) (asked : AreAskedWell o journal) where
-    one_well : (r : TaskDone) → Well r → IsDone o setup limit journal r → IsDoneWell o r
+    one_well : (r : TaskDone) → Well r → IsTaskDone o setup limit journal r → IsDoneWell o r
     one_well r desk (inr z) = absurd (none_unserved limit journal r.task starts children r.answer z.0)
     one_well r desk (inl c) = by_key (key_reading c.run.task.key) refl (keys r.task c.run.task c.run.is)
       where

@@ -14,17 +14,17 @@ use Rattle.job_rounds.specs.Unserved.{IsUnserved}
 
 -- ---- which desk
 
--- The desk, from 1, of a number that claims a task for the child behind past. The main thread works with the first. In a round over a
+-- The desk, from 1, of a number that claims a task for the child after past. The main thread works with the first. In a round over a
 -- child that takes tags the workers have the numbers from 4 on, in one over children that don't, the numbers from 2 on.
 abbrev pub desk_of : List Entry → ℕ → ℕ → ℕ
 desk_of past by child = if nat_lt by 2 then 1 else if is_tagged past child then by - 3 else by - 1
 
--- the task that the entry behind past claims for the kth desk
+-- the task that the entry after past claims for the kth desk
 abbrev pub claimed_for : ℕ → List Entry → ℕ → What → Option ℕ
 claimed_for k past by (Claim task child) = if desk_of past by child == k then Some task else None
 claimed_for k past by w = None
 
--- the tasks that are claimed for it among the entries, which stand behind past, in order
+-- the tasks that are claimed for it among the entries, which stand after past, in order
 abbrev pub claims_for : ℕ → List Entry → List Entry → List ℕ
 claims_for k past [] = []
 claims_for k past (e ∷ rest) = cons_option (claimed_for k past e.by e.what) (claims_for k (past ++ e ∷ []) rest)
@@ -34,7 +34,7 @@ abbrev pub HasDesk : ℕ → List Entry → ℕ → What → Type 0
 HasDesk n past by (Claim task child) = (0 < desk_of past by child) × (desk_of past by child ≤ n)
 HasDesk n past by w = Unit {0}
 
--- so it is for each task that the entries claim, which stand behind past
+-- so it is for each task that the entries claim, which stand after past
 abbrev pub HaveDesks : ℕ → List Entry → List Entry → Type 0
 HaveDesks n past [] = Unit {0}
 HaveDesks n past (e ∷ rest) = HasDesk n past e.by e.what × HaveDesks n (past ++ e ∷ []) rest
@@ -49,16 +49,16 @@ pub record WorkerRun (o : Opening) (setup : Setup) (journal : List Entry) (r : T
   pub answer : run.run.answer ≡ r.answer
 
 -- over a child, or without one, by the main thread and without a call of its desk
-abbrev pub IsDone : Opening → Setup → ℕ → List Entry → TaskDone → Type 0
-IsDone o setup limit journal r = WorkerRun o setup journal r ⊎ (IsUnserved limit journal r.task r.answer × (r.calls ≡ []))
+abbrev pub IsTaskDone : Opening → Setup → ℕ → List Entry → TaskDone → Type 0
+IsTaskDone o setup limit journal r = WorkerRun o setup journal r ⊎ (IsUnserved limit journal r.task r.answer × (r.calls ≡ []))
 
 abbrev pub AreDone : Opening → Setup → ℕ → List Entry → List TaskDone → Type 0
 AreDone o setup limit journal [] = Unit {0}
-AreDone o setup limit journal (r ∷ rs) = IsDone o setup limit journal r × AreDone o setup limit journal rs
+AreDone o setup limit journal (r ∷ rs) = IsTaskDone o setup limit journal r × AreDone o setup limit journal rs
 
 -- ---- what a desk did
 
--- Each task that the entries behind past claim for the kth desk has its run in the journal, and the desk made the calls of these runs,
+-- Each task that the entries after past claim for the kth desk has its run in the journal, and the desk made the calls of these runs,
 -- in the order of their claims, and no others.
 pub record DeskDid (o : Opening) (setup : Setup) (limit : ℕ) (journal past entries : List Entry) (k : ℕ) (desk desk' : DeskTells) : Type 0 where
   pub done : List TaskDone

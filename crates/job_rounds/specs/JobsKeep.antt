@@ -11,7 +11,7 @@ use Rattle.task_laws.specs.Faithful.{IsFaithful, Told, sent}
 use Rattle.task_laws.specs.Kept.{Keeps}
 use Rattle.task_laws.specs.Retrieval.{GotStored, KeepsContent, StoredInChunks}
 
--- With a faithful remote, a get that began afresh and is answered Got keeps what the STOREs of its keys sent, one behind the other; and
+-- With a faithful remote, a get that began afresh and is answered Got keeps what the STOREs of its keys sent, one after the other; and
 -- where one task stored all chunks of its last layout, the content of that task's file.
 pub record JobsKeep (o : Opening) (setup : Setup) (journal : List Entry) : Type 0 where
   pub stored : (told : Told) (number t : ℕ) (key : Parts) (stores : List Request) → IsFaithful o setup told journal → (got : GotStored o setup told journal number t key stores)

@@ -15,7 +15,7 @@ use Rattle.job_rounds.specs.Unserved.{IsUnserved}
 abbrev pub NoneUnserved : Type 0
 NoneUnserved = (limit : ℕ) (journal : List Entry) (t : ℕ) → 0 < limit → ChildrenWell journal → (answer : Answer) → IsUnserved limit journal t answer → ⊥
 
--- what all desks did, one behind the other
+-- what all desks did, one after the other
 abbrev pub all_done : (o : Opening) (setup : Setup) (limit : ℕ) (journal past entries : List Entry) (k : ℕ) (desks desks' : List DeskTells) → DesksDid o setup limit journal past entries k desks desks' → List TaskDone
 all_done o setup limit journal past entries k [] [] did = []
 all_done o setup limit journal past entries k [] (e ∷ es) did = []
@@ -32,7 +32,7 @@ pub record JobsWentWell (o : Opening) (setup : Setup) (limit : ℕ) (journal : L
   pub asked : AreAskedWell o journal
   pub desks : All (λ (r : TaskDone). (number : ℕ) → IsDeskWell o setup journal number r.task r.calls) done
 
--- Then each of the tasks that these desks did is answered by its success, or by want of memory.
+-- Then each of the tasks that these desks did is answered by its success, or says that memory ran out.
 abbrev pub JobsSucceed : Opening → Setup → ℕ → List Entry → List Entry → List Entry → ℕ → List DeskTells → List DeskTells → Type 0
 JobsSucceed o setup limit journal past entries k desks desks' =
     (did : DesksDid o setup limit journal past entries k desks desks') → JobsWentWell o setup limit journal (all_done o setup limit journal past entries k desks desks' did)

@@ -55,6 +55,6 @@ AreSettled (OverBy own ∷ seats) links (wire ∷ wires) = (wire ≡ own) × Are
 AreSettled (Serves ∷ seats) (l ∷ links) (wire ∷ wires) = IsLeft l.ear l.mouth wire × AreSettled seats links wires
 AreSettled _ _ _ = ⊥
 
--- such wires were laid behind the others
+-- such wires were laid after the others
 abbrev pub AreLaid : List SeatValue → List LinkValue → List WireValue → List WireValue → Type 0
 AreLaid seats links old new = (wires : List WireValue) × (new ≡ old ++ wires) × AreSettled seats links wires

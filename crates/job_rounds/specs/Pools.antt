@@ -1,4 +1,4 @@
--- What is done behind a child of slot 0 that is ready and takes no tags, where a run has several desks: a pool is gathered, serves and is
+-- What is done after a child of slot 0 that is ready and takes no tags, where a run has several desks: a pool is gathered, serves and is
 -- closed.
 use Rattle.std.specs.Prelude.{ℕ, ◌≡◌, ◌⊎◌, ◌≤◌, Bool, true, false, List, ◌∷◌, ◌++◌, length}
 use Rattle.std.specs.List.{list_all, list_any}
@@ -20,7 +20,7 @@ use Rattle.pool_starts.specs.Slots.{AllInTurn, IsManned, in_pool, is_lost, offer
 use Rattle.job_rounds.specs.Desks.{DesksDid, HaveDesks}
 use Rattle.job_rounds.specs.Posts.{AllPosted}
 
--- Behind old, where child c of slot 0 is ready, there stand only starts in other slots, in turn, none offering ASYNC, and what was made of
+-- After old, where child c of slot 0 is ready, there stand only starts in other slots, in turn, none offering ASYNC, and what was made of
 -- c and of their children. All is at rest, and each of these children has ended. Each task that was claimed has its desk's run. Where the
 -- pool was whole, one of its ready children is lost, or all tasks are claimed, and each slot had its start as far as there are tasks.
 pub record ServesPool (o : Opening) (setup : Setup) (limit c : ℕ) (old new : List Entry) (desks desks' : List DeskTells) (whole : Bool) : Type 0 where
@@ -47,7 +47,7 @@ pub record IsLinkLeft (journal : List Entry) (ear : EarValue) (mouth : MouthValu
   pub numbers : (wire.inlet_number ≡ mouth.number) × (wire.outlet_number ≡ ear.number)
   pub closed : (wire.is_inlet_open ≡ false) × (wire.is_outlet_open ≡ false)
 
--- Of the objects: behind the wires there stand that of the child of slot 0 and, in the order of their starts, those of the pool's other
+-- Of the objects: after the wires there stand that of the child of slot 0 and, in the order of their starts, those of the pool's other
 -- children; the programs were asked for what `later` says; a fault was counted for each start that failed.
 pub record LeavesPool (wanted : Type 0) (program : List ℕ) (new later : List Entry) (ear : EarValue) (mouth : MouthValue) (before after : ProgramsValue) (wires wires' : List WireValue) : Type 0 where
   pub own : WireValue

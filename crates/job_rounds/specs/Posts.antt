@@ -14,7 +14,7 @@ post_over past c by = if is_tagged past c then tagged_crew c by else (if nat_lt 
 abbrev pub IsPosted : List Entry → ℕ → What → Type 0
 IsPosted past by w = 0 < by → (c : ℕ) × (makes (post_over past c by) w ≡ true)
 
--- so was each of the entries, which stand behind past
+-- so was each of the entries, which stand after past
 abbrev pub AllPosted : List Entry → List Entry → Type 0
 AllPosted past [] = Unit {0}
 AllPosted past (e ∷ rest) = IsPosted past e.by e.what × AllPosted (past ++ e ∷ []) rest

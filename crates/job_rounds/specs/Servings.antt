@@ -49,7 +49,7 @@ abbrev pub Serves : Opening → Setup → ℕ → List Entry → List Entry → 
 Serves o setup c old new desks desks' = ServesAlone o setup c old new desks desks' ⊎ ServesRound o setup c old new desks desks'
 
 -- Of the child of slot 0, and of the objects: with one desk, or where it takes tags, it was served so, and its wire was laid; else a pool
--- was gathered behind it.
+-- was gathered after it.
 abbrev pub FirstServed : Type 0 → Opening → Setup → ℕ → List ℕ → List Entry → List Entry → List DeskTells → List DeskTells → Bool → EarValue → MouthValue → ProgramsValue → ProgramsValue → List WireValue → List WireValue → Type 0
 FirstServed wanted o setup limit program old new desks desks' whole ear mouth before after wires wires' =
     (Serves o setup ear.child old new desks desks' × ((length desks ≡ 1) ⊎ (is_tagged old ear.child ≡ true)) × LeavesPool wanted program new [] ear mouth before after wires wires')

@@ -23,7 +23,7 @@ use Rattle.job_rounds.specs.Posts.{AllPosted}
 -- ---- one start of slot 0
 
 -- Where a task is left, the journal has one start of slot 0 more, and what followed it: claims and starts in other slots, in turn, none
--- offering ASYNC, and nothing of an earlier child. No task is busy behind it, no job is open, and its children have ended. Where it is
+-- offering ASYNC, and nothing of an earlier child. No task is busy after it, no job is open, and its children have ended. Where it is
 -- whole, the start is spent, or all tasks are claimed, and a pool had all its starts. `next` says whether ASYNC is offered from then on. Each task that was claimed is done, by its desk.
 pub record JobStretch (o : Opening) (setup : Setup) (limit : ℕ) (offer next : Bool) (first : What) (old new : List Entry) (desks desks' : List DeskTells) (whole : Bool) : Type 0 where
   pub left : are_all_claimed o old ≡ false
@@ -71,8 +71,8 @@ pub record NotStarted (program : List ℕ) (old new : List Entry) (desks desks' 
   pub asked : MayHaveAsked program before after
 
 -- No memory was found to start a child: of slot 0, and nothing was done; or of its pool, and the children that were started have ended.
-abbrev pub LacksMemory : Opening → Setup → ℕ → Bool → List ℕ → List Entry → List Entry → List DeskTells → List DeskTells → ProgramsValue → ProgramsValue → List WireValue → List WireValue → Type 0
-LacksMemory o setup limit offer program old new desks desks' before after wires wires' =
+abbrev pub RunLacksMemory : Opening → Setup → ℕ → Bool → List ℕ → List Entry → List Entry → List DeskTells → List DeskTells → ProgramsValue → ProgramsValue → List WireValue → List WireValue → Type 0
+RunLacksMemory o setup limit offer program old new desks desks' before after wires wires' =
     NotStarted program old new desks desks' before after wires wires'
     ⊎ ((next : Bool) × (mid : ProgramsValue) × OneJobStart o setup limit offer next false program old new desks desks' before mid wires wires' × MayHaveAsked program mid after)
 

@@ -14,7 +14,7 @@ pub fn none_unserved()
     ensures { NoneUnserved }
 {}
 
-/// Where all went well from outside, each task that was run is answered by its success, or by want of memory.
+/// Where all went well from outside, each task that was run is answered by its success, or says that memory ran out.
 pub fn jobs_succeed()
     ensures { (o : Opening) (setup : Setup) (limit : ℕ) (journal past entries : List Entry) (k : ℕ) (desks desks' : List DeskTells) → JobsSucceed o setup limit journal past entries k desks desks' }
 {}

@@ -1,4 +1,4 @@
-// What is done behind a child of slot 0 that is ready and takes no tags: a pool is gathered, does tasks and is closed.
+// What is done after a child of slot 0 that is ready and takes no tags: a pool is gathered, does tasks and is closed.
 ghost use Rattle.std.specs.Prelude.{◌≡◌, ◌≤◌, ◌<◌, ◌+◌, ◌++◌, [], All, IfErr, IfOk, IsErr, is_ok, map, reverse, vec_len, vec_capacity, false, true};
 ghost use Rattle.ann_outside.specs.Causes.{Stays};
 ghost use Rattle.annex_model.specs.Lines.{has_newline};
@@ -277,7 +277,7 @@ fn serve_links<
     (links, bench)
 }
 
-/// Behind a child of slot 0 that is ready and takes no tags, starts one more in each slot, lets those that are ready do tasks side by side,
+/// After a child of slot 0 that is ready and takes no tags, starts one more in each slot, lets those that are ready do tasks side by side,
 /// a worker for each in a thread of its own, and closes all. Where no round could begin, the main thread does tasks over the first.
 /// `NoMemory` is answered where no memory was found to start a child: then no task was done, and those that were started are closed.
 pub(crate) fn serve_pool<P: Programs, K: Desk + Send + Drop, R: Threads + Wait + Sync>(

@@ -6,7 +6,7 @@ ghost use Rattle.child_end.specs.Wires.{wire_value};
 ghost use Rattle.child_start.specs.Cores.{IsSameCore};
 ghost use Rattle.host_core.specs.Steps.{are_all_claimed};
 ghost use Rattle.job_rounds.specs.Servings.{CanBeServed, FirstServed};
-ghost use Rattle.job_rounds.specs.Starts.{JobsStarted, LacksMemory, OneJobStart};
+ghost use Rattle.job_rounds.specs.Starts.{JobsStarted, RunLacksMemory, OneJobStart};
 ghost use Rattle.journal_model.specs.Legality.{Legal, count, is_start};
 ghost use Rattle.gathering.specs.Rounds.{IsAtRest};
 ghost use Rattle.lone_rounds.specs.Stints.{KeptOr};
@@ -30,7 +30,7 @@ use std::sync::Wait;
 use std::thread::Threads;
 use task_text::Task;
 
-// Lets a child that is ready do tasks, and closes it. Where it takes no tags and there are several desks, a pool is gathered behind it.
+// Lets a child that is ready do tasks, and closes it. Where it takes no tags and there are several desks, a pool is gathered after it.
 fn serve_child<P: Programs, K: Desk + Send + Drop, R: Threads + Wait + Sync>(
     rt: &R,
     alloc: Global,
@@ -97,7 +97,7 @@ where
     requires room { vec_len wires.old + vec_len bench.desks ≤ vec_capacity wires.old }
     ensures starts { MatchResult result.1
         (λ next. OneJobStart bench.core.opening plan.now.setup plan.now.starts offer next true plan.now.program bench.core.journal result.0.core.journal (map (λ k. desk_tells (K.log k) (K.counts k)) bench.desks.items) (map (λ k. desk_tells (K.log k) (K.counts k)) result.0.desks.items) (programs_value (P.starts programs.old) (P.faults programs.old)) (programs_value (P.starts programs.new) (P.faults programs.new)) (map (wire_value P.Inlet.taken P.Inlet.faults P.Inlet.number P.Inlet.is_open P.Outlet.given P.Outlet.left P.Outlet.faults P.Outlet.number P.Outlet.is_open) wires.old.items) (map (wire_value P.Inlet.taken P.Inlet.faults P.Inlet.number P.Inlet.is_open P.Outlet.given P.Outlet.left P.Outlet.faults P.Outlet.number P.Outlet.is_open) wires.new.items))
-        (λ _. LacksMemory bench.core.opening plan.now.setup plan.now.starts offer plan.now.program bench.core.journal result.0.core.journal (map (λ k. desk_tells (K.log k) (K.counts k)) bench.desks.items) (map (λ k. desk_tells (K.log k) (K.counts k)) result.0.desks.items) (programs_value (P.starts programs.old) (P.faults programs.old)) (programs_value (P.starts programs.new) (P.faults programs.new)) (map (wire_value P.Inlet.taken P.Inlet.faults P.Inlet.number P.Inlet.is_open P.Outlet.given P.Outlet.left P.Outlet.faults P.Outlet.number P.Outlet.is_open) wires.old.items) (map (wire_value P.Inlet.taken P.Inlet.faults P.Inlet.number P.Inlet.is_open P.Outlet.given P.Outlet.left P.Outlet.faults P.Outlet.number P.Outlet.is_open) wires.new.items)) }
+        (λ _. RunLacksMemory bench.core.opening plan.now.setup plan.now.starts offer plan.now.program bench.core.journal result.0.core.journal (map (λ k. desk_tells (K.log k) (K.counts k)) bench.desks.items) (map (λ k. desk_tells (K.log k) (K.counts k)) result.0.desks.items) (programs_value (P.starts programs.old) (P.faults programs.old)) (programs_value (P.starts programs.new) (P.faults programs.new)) (map (wire_value P.Inlet.taken P.Inlet.faults P.Inlet.number P.Inlet.is_open P.Outlet.given P.Outlet.left P.Outlet.faults P.Outlet.number P.Outlet.is_open) wires.old.items) (map (wire_value P.Inlet.taken P.Inlet.faults P.Inlet.number P.Inlet.is_open P.Outlet.given P.Outlet.left P.Outlet.faults P.Outlet.number P.Outlet.is_open) wires.new.items)) }
     ensures room { (vec_len wires.new ≤ vec_len wires.old + vec_len bench.desks) × (vec_capacity wires.new ≡ vec_capacity wires.old) }
     ensures core { IsSameCore bench.core result.0.core }
     ensures desks { vec_len result.0.desks ≡ vec_len bench.desks }

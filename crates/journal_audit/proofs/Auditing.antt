@@ -79,7 +79,7 @@ one_audit o journal (Wrong a k) (Wrong b l) g h = (let same = wrongs o journal a
 
 -- ---- a journal that is made again, so far
 
--- what is said of the next entry behind any past holds behind those before its place
+-- what is said of the next entry after any past holds after those before its place
 pub next_here : (o p : Opening) (items before made : List Entry) (at : ℕ) (e : Entry) (said stands : Bool) → p ≡ o → at < length items
     → IsReplayed o (take at items) before
     → ((past : List Entry) → length past ≡ at → IsReplayed p past before → IsNext p past e made said)

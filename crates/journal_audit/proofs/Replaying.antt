@@ -45,7 +45,7 @@ seam_is past rest made d e is there = some_same d e (sym (place_seam past rest d
 
 -- ---- the next entry
 
--- behind one more entry, which may stand
+-- after one more entry, which may stand
 one_more : (o : Opening) (past : List Entry) (e : Entry) (owed made : List Entry) → owed_after o past ≡ owed → StandsFrom o [] [] past → MayStand o past owed e
     → made ≡ past ++ e ∷ still_owed o past owed e → IsReplayed o (past ++ e ∷ []) made
 one_more o past e owed made is stands may whole = record {

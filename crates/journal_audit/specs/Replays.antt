@@ -19,17 +19,17 @@ abbrev pub Suits : Opening → List Entry → What → Option Event → Type 0
 Suits o past w None = (by : ℕ) → may_come o past by w ≡ false
 Suits o past w (Some event) = (by : ℕ) → may_come o past by w ≡ true → (step_of o past by event).group ≡ group_of o past by w
 
--- behind past the core has made the entry with what it makes due, if it may come; and has made one group at most
+-- after past the core has made the entry with what it makes due, if it may come; and has made one group at most
 pub record IsTold (o : Opening) (past : List Entry) (e : Entry) (made : List Entry) : Type 0 where
   pub comes : may_come o past e.by e.what ≡ true → made ≡ past ++ group_of o past e.by e.what
   pub one : (made ≡ past) ⊎ ((w : What) × (may_come o past e.by w ≡ true) × (made ≡ past ++ group_of o past e.by w))
 
--- the core has made the entries of past, each of which may stand, and those that are due behind them
+-- the core has made the entries of past, each of which may stand, and those that are due after them
 pub record IsReplayed (o : Opening) (past made : List Entry) : Type 0 where
   pub stands : StandsFrom o [] [] past
   pub whole : made ≡ past ++ owed_after o past
 
--- the entry may stand behind past, and the core has made it too; or it may not
+-- the entry may stand after past, and the core has made it too; or it may not
 abbrev pub IsNext : Opening → List Entry → Entry → List Entry → Bool → Type 0
 IsNext o past e made true = IsReplayed o (past ++ e ∷ []) made
 IsNext o past e made false = MayStand o past (owed_after o past) e → ⊥

@@ -4,6 +4,6 @@ pub enum Audit {
     /// The journal is legal.
     Legal,
     /// The entry at this place is the first that may not stand, and is of this kind; or the journal has so many entries,
-    /// each of which may stand, and others are due behind them, where the kind is 0.
+    /// each of which may stand, and others are due after them, where the kind is 0.
     Wrong { entry: u64, kind: u8 },
 }

@@ -39,7 +39,7 @@ fn is_at(journal: &Journal, at: u64, entry: EntryRef<'_>) -> bool
     }
 }
 
-/// Whether the entry may stand at this place, behind entries that the core has made again, with what is due behind them.
+/// Whether the entry may stand at this place, after entries that the core has made again, with what is due after them.
 /// The entry is then made again too.
 fn may_stand(alloc: Global, core: &mut Core, at: u64, entry: EntryRef<'_>) -> Result<bool, NoMemory>
     ensures next { IfOk result (λ stands. (past : List Entry) → length past ≡ at → IsReplayed core.old.opening past core.old.journal → IsNext core.old.opening past (entry_shown entry.entry) core.new.journal stands) }

@@ -18,11 +18,11 @@ use Rattle.journal_lines.specs.JournalTexts.{journal_lines}
 use Rattle.journal_desk.specs.declared.writing.JournalWritten.{JournalWritten}
 use Rattle.journal_desk.specs.declared.writing.JournalWritten.TheVariants.{Done, Fault}
 
--- the text of a run: its lines, each with byte 10 behind it
+-- the text of a run: its lines, each with byte 10 after it
 abbrev pub journal_text : Opening → List Entry → List ℕ
 journal_text o journal = text (journal_lines o journal)
 
--- a line with byte 10 behind it
+-- a line with byte 10 after it
 abbrev pub with_end : List ℕ → List ℕ
 with_end line = line ++ 10 ∷ []
 

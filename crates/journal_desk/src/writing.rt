@@ -137,7 +137,7 @@ fn append_lines<D: Desk>(
     desk.append(name, piece.as_slice())
 }
 
-// Puts the line behind the piece. Where that would make it too long, the piece is added to the file, and the line is the next piece.
+// Puts the line after the piece. Where that would make it too long, the piece is added to the file, and the line is the next piece.
 fn take_up<D: Desk>(
     desk: &mut D,
     name: &str,

@@ -47,7 +47,7 @@ claimed_next past e t here are =
 pub claimed_not_free : (o : Opening) (entries : List Entry) (u : ℕ) → is_claimed entries u ≡ true → is_free o entries u ≡ false
 claimed_not_free o entries u h = rw h refl
 
--- what is false of the first numbers is found behind them
+-- what is false of the first numbers is found after them
 find_behind : (p : ℕ → Bool) (k a m : ℕ) → ((u : ℕ) → a ≤ u → u < a + k → p u ≡ false) → find p (range_with_len a (k + m)) ≡ find p (range_with_len (a + k) m)
 find_behind p zero a m none = let here : a + 0 ≡ a = omega arith in let less : 0 + m ≡ m = omega arith in rw (here, less) refl
 find_behind p (suc k) a m none =

@@ -52,7 +52,7 @@ jobs_on c jobs = filter_map (job_on c) jobs
 abbrev pub closed : ℕ → ℕ → List Open → List Open
 closed c j jobs = filter (λ x. not (is_this c j x)) jobs
 
--- the table behind one more entry, which stands at that place
+-- the table after one more entry, which stands at that place
 abbrev pub opened : ℕ → What → List Open → List Open
 opened at (Ask child job task line) jobs = jobs ++ record { child = child; job = job; task = task; at = at } ∷ []
 opened at (Settled child job verdict) jobs = closed child job jobs

@@ -185,7 +185,7 @@ pub fn may_ask(journal: &Journal, by: u32, task: u32, child: u32) -> bool
         && (is_tagged(journal, child) || has_no_open_job(journal, child))
 }
 
-/// The job asked at a place of the first n entries, where the child's end behind them settles it, or where its mute does.
+/// The job asked at a place of the first n entries, where the child's end after them settles it, or where its mute does.
 pub fn due_at(journal: &Journal, n: u64, at: u64, child: u32, unsent: bool) -> Option<u64>
     requires { n ≤ length journal.now.entries }
     ensures { result ≡ job_at journal.now.entries n at child unsent }

@@ -1,9 +1,10 @@
 -- An ear's half of a wire: what others leave of it, and how it goes on.
-use Rattle.std.proofs.Common.{◌≡◌, ℕ, ◌<◌, List, [], ◌∷◌, ◌++◌, refl, sym, ap, subst, ◌∙◌, Bool, true, false, not, cond, None, Some, Option, append-nil}
-use Rattle.std.specs.Prelude.{IfSome, ◌==◌, ◌&&◌, option_and_then, find}
+use Rattle.std.proofs.Common.{◌≡◌, ℕ, ◌<◌, ◌≤◌, length, arith, List, [], ◌∷◌, ◌++◌, refl, sym, ap, subst, ◌∙◌, Bool, true, false, not, cond, None, Some, Option, append-nil}
+use Rattle.std.specs.Prelude.{IfSome, ◌==◌, ◌&&◌, nat_le, option_and_then, find}
 use Rattle.std.specs.Option.{option_or}
 use Rattle.std.specs.List.{cons_option}
 use Rattle.std.specs.Io.KnownBytes.{Appends}
+use Rattle.std.proofs.lemmas.Bool.Decides.{nat_tests}
 use Rattle.annex_model.specs.Lines.{Cut}
 use Rattle.journal_model.specs.declared.verdict.Why.{Why}
 use Rattle.journal_model.specs.declared.verdict.Why.TheVariants.{Eof, ReadFault, LongLine, Memory}
@@ -11,12 +12,14 @@ use Rattle.journal_model.specs.declared.entry.What.{What}
 use Rattle.journal_model.specs.declared.entry.What.TheVariants.{Got, End}
 use Rattle.journal_model.specs.declared.entry.Entry.{Entry}
 use Rattle.journal_model.specs.Journal.{any, ends, end_why, line_from, is_ended, is_mute, why_of, got_lines}
-use Rattle.journal_model.specs.Wires.{RestFits, Wired, Caused, Took}
+use Rattle.journal_model.specs.Wires.{RestFits, Wired, Caused, Took, are_short, IsLittle}
+use Rattle.journal_model.specs.Limits.{longest_line}
 use Rattle.journal_model.specs.Shares.{is_memory, is_heard}
 use Rattle.journal_model.specs.Halves.{EarValue, EarWired, MouthValue, MouthWired}
 use Rattle.journal_model.proofs.Looks.{same, either_left, either_right, each_of-append, true_not_false}
+use Rattle.journal_model.proofs.Testing.{all-join}
 use Rattle.journal_model.proofs.Soft.{IsSoft, is_soft_why}
-use Rattle.journal_model.proofs.Linking.{why_of-append, why_alone, unended}
+use Rattle.journal_model.proofs.Linking.{got_more, why_of-append, why_alone, unended}
 
 -- ---- halves that tell
 
@@ -76,18 +79,18 @@ cause_on None (Some v) w n m e = let s : v ≡ w = some_same v w e in true_not_f
     some_same : (x y : Why) → Some x ≡ Some y → x ≡ y
     some_same x y e = cc
 
-got_more : (past more : List Entry) (c : ℕ) (gots : List (List ℕ)) → got_lines more c ≡ gots → got_lines (past ++ more) c ≡ got_lines past c ++ gots
-got_more past more c gots g = each_of-append (line_from c) past more ∙ ap (λ (x : List (List ℕ)). got_lines past c ++ x) g
-
 -- a stretch in which nothing is known of the child's output
 pub ear_apart : (past more : List Entry) (v : EarValue) → any (is_heard v.child) more ≡ false → EarWired past v → EarWired (past ++ more) v
 ear_apart past more v none h =
     let c = v.child in
     let only : MemoryOnly (why_of more c) = memory_only c more none in
     let ended : why_of (past ++ more) c ≡ option_or (why_of past c) (why_of more c) = why_of-append past more c in
+    let same : got_lines (past ++ more) c ≡ got_lines past c = got_more past more c [] (no_gots c more none) ∙ append-nil (got_lines past c) in
     record {
       heard = told_maps (λ read. Cut read (got_lines past c) v.held) (λ read. Cut read (got_lines (past ++ more) c) v.held) v.given
-          (λ read x. subst (λ (ls : List (List ℕ)). Cut read ls v.held) (sym (got_more past more c [] (no_gots c more none) ∙ append-nil (got_lines past c))) x) h.heard;
+          (λ read x. subst (λ (ls : List (List ℕ)). Cut read ls v.held) (sym same) x) h.heard;
+      short = ap are_short same ∙ h.short;
+      little = h.little;
       ended = subst (λ (o : Option Why). IfSome o (λ why. RestFits why v.held)) (sym ended) (fits_on (why_of past c) (why_of more c) v.held only h.ended);
       eof = λ e. h.eof (cause_on (why_of past c) (why_of more c) Eof refl only (sym ended ∙ e));
       fault = λ e. h.fault (cause_on (why_of past c) (why_of more c) ReadFault refl only (sym ended ∙ e));
@@ -107,11 +110,14 @@ soft_fits (Some w) rest h = tt
 
 -- a line was fed, and what it makes due stands behind it
 pub ear_got : (past due : List Entry) (by : ℕ) (line held : List ℕ) (v : EarValue) → IsSoft v.child due → is_ended past v.child ≡ false
+    → length line ≤ longest_line → length held ≤ length v.held
     → ((bytes : List ℕ) (lines : List (List ℕ)) → Cut bytes lines v.held → Cut bytes (lines ++ line ∷ []) held)
     → EarWired past v → EarWired (past ++ record { by = by; what = Got v.child line } ∷ due) (record v { held = held })
-ear_got past due by line held v soft live cut h = record {
+ear_got past due by line held v soft live fits fewer cut h = record {
   heard = told_maps (λ read. Cut read (got_lines past c) v.held) (λ read. Cut read (got_lines (past ++ more) c) held) v.given
       (λ read x. subst (λ (ls : List (List ℕ)). Cut read ls held) (sym (got_more past more c (line ∷ []) gots)) (cut read (got_lines past c) x)) h.heard;
+  short = ap are_short (got_more past more c (line ∷ []) gots) ∙ all-join (λ (l : List ℕ). nat_le (length l) longest_line) (got_lines past c) (line ∷ []) h.short (short_line (length line) fits);
+  little = omega (arith, fewer, h.little);
   ended = subst (λ (o : Option Why). IfSome o (λ why. RestFits why held)) (sym ended) (soft_fits (why_of due c) held soft.why);
   eof = λ e. absurd (hard Eof refl (soft.why Eof (sym ended ∙ e)));
   fault = λ e. absurd (hard ReadFault refl (soft.why ReadFault (sym ended ∙ e)));
@@ -122,6 +128,9 @@ ear_got past due by line held v soft live cut h = record {
 
     more : List Entry
     more = record { by = by; what = Got v.child line } ∷ due
+
+    short_line : (n : ℕ) → n ≤ longest_line → (nat_le n longest_line && true) ≡ true
+    short_line n h = let a : nat_le n longest_line ≡ true = grind (arith, nat_tests) in rw a refl
 
     gots : got_lines more c ≡ line ∷ []
     gots = rw (same c) (ap (λ (x : List (List ℕ)). line ∷ x) soft.got)
@@ -138,7 +147,9 @@ pub ear_stop : (past due : List Entry) (by : ℕ) (why : Why) (v : EarValue) →
     → EarWired past v → EarWired (past ++ record { by = by; what = End v.child why } ∷ due) v
 ear_stop past due by why v soft live fits eof fault h = record {
   heard = told_maps (λ read. Cut read (got_lines past c) v.held) (λ read. Cut read (got_lines (past ++ more) c) v.held) v.given
-      (λ read x. subst (λ (ls : List (List ℕ)). Cut read ls v.held) (sym (got_more past more c [] soft.got ∙ append-nil (got_lines past c))) x) h.heard;
+      (λ read x. subst (λ (ls : List (List ℕ)). Cut read ls v.held) (sym unheard) x) h.heard;
+  short = ap are_short unheard ∙ h.short;
+  little = h.little;
   ended = subst (λ (o : Option Why). IfSome o (λ w. RestFits w v.held)) (sym ended) fits;
   eof = λ e. eof (some_same why Eof (sym ended ∙ e));
   fault = λ e. fault (some_same why ReadFault (sym ended ∙ e));
@@ -150,6 +161,9 @@ ear_stop past due by why v soft live fits eof fault h = record {
     more : List Entry
     more = record { by = by; what = End v.child why } ∷ due
 
+    unheard : got_lines (past ++ more) c ≡ got_lines past c
+    unheard = got_more past more c [] soft.got ∙ append-nil (got_lines past c)
+
     ended : why_of (past ++ more) c ≡ Some why
     ended = why_alone past more c live ∙ (rw (same c, same c) refl)
 
@@ -158,14 +172,16 @@ ear_stop past due by why v soft live fits eof fault h = record {
 
 -- more was read of a child that hadn't ended
 pub ear_read : (past : List Entry) (piece : List ℕ) (v w : EarValue) → w ≡ record v { given = w.given; left = w.left; faults = w.faults; held = w.held }
-    → is_ended past v.child ≡ false → Appends v.given w.given piece → (v.given ≡ None → w.given ≡ None)
+    → is_ended past v.child ≡ false → Appends v.given w.given piece → (v.given ≡ None → w.given ≡ None) → IsLittle w.held
     → ((bytes : List ℕ) (lines : List (List ℕ)) → Cut bytes lines v.held → Cut (bytes ++ piece) lines w.held)
     → EarWired past v → EarWired past w
-ear_read past piece v w same live grows silent cut h =
+ear_read past piece v w same live grows silent little cut h =
     let none : why_of past v.child ≡ None = unended past v.child live in
     subst (EarWired past) (sym same) (record {
       heard = told_grows (λ read. Cut read (got_lines past v.child) v.held) (λ read. Cut read (got_lines past v.child) w.held) v.given w.given piece grows silent
           (λ read x. cut read (got_lines past v.child) x) h.heard;
+      short = h.short;
+      little = little;
       ended = subst (λ (o : Option Why). IfSome o (λ y. RestFits y w.held)) (sym none) tt;
       eof = λ e. none_some (why_of past v.child) Eof none e;
       fault = λ e. none_some (why_of past v.child) ReadFault none e;
@@ -178,6 +194,8 @@ pub ear_start : (journal : List Entry) (v : EarValue) → got_lines journal v.ch
 ear_start journal v gots none held given = record {
   heard = told_maps (λ read. read ≡ []) (λ read. Cut read (got_lines journal v.child) v.held) v.given
       (λ read e. subst (λ (ls : List (List ℕ)). Cut read ls v.held) (sym gots) (subst (λ (h : List ℕ). Cut read [] h) (sym held) (record { whole = e; apart = refl }))) given;
+  short = ap are_short gots;
+  little = omega (arith, ap (λ (h : List ℕ). length h) held);
   ended = subst (λ (o : Option Why). IfSome o (λ why. RestFits why v.held)) (sym none) tt;
   eof = λ e. none_some (why_of journal v.child) Eof none e;
   fault = λ e. none_some (why_of journal v.child) ReadFault none e;
@@ -189,6 +207,6 @@ ear_start journal v gots none held given = record {
 pub halves_wire : (journal : List Entry) (e : EarValue) (m : MouthValue) → m.child ≡ e.child → EarWired journal e → MouthWired journal m
     → Wired journal e.child e.given m.taken e.held × Caused journal e.child e.left e.faults m.faults
 halves_wire journal e m is h k = (
-  record { heard = h.heard; ended = h.ended; took = subst (λ (c : ℕ). IfSome m.taken (Took journal c)) is k.took },
+  record { heard = h.heard; short = h.short; little = h.little; ended = h.ended; took = subst (λ (c : ℕ). IfSome m.taken (Took journal c)) is k.took },
   record { eof = h.eof; read = h.fault; mute = subst (λ (c : ℕ). is_mute journal c ≡ true → 0 < m.faults) is k.fault },
 )

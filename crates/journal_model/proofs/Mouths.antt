@@ -15,6 +15,7 @@ use Rattle.journal_model.specs.Shares.{is_said}
 use Rattle.journal_model.specs.Halves.{MouthValue, MouthWired}
 use Rattle.journal_model.proofs.Looks.{same, either_left, either_right, each_of-append, any-append, true_not_false}
 use Rattle.journal_model.proofs.Soft.{IsSoft}
+use Rattle.journal_model.proofs.Linking.{sent_count, sent_count-append, text-append}
 use Rattle.journal_model.proofs.Ears.{told_maps, told_grows}
 
 abbrev pub Written : Type 0
@@ -23,20 +24,8 @@ Written = List (Option ℕ × List ℕ)
 abbrev pub written : List Entry → ℕ → Written
 written past c = each_of (writes c) past
 
-abbrev pub sent_count : List Entry → ℕ → ℕ
-sent_count past c = length (filter (λ e. sends c e.what) past)
-
 abbrev texts : Written → List (List ℕ)
 texts ws = map (λ w. w.1) ws
-
-sent_count-append : (xs ys : List Entry) (c : ℕ) → sent_count (xs ++ ys) c ≡ sent_count xs c + sent_count ys c
-sent_count-append xs ys c =
-    ap (λ (l : List Entry). length l) (filter-append (λ (e : Entry). sends c e.what) xs ys)
-    ∙ length-append (filter (λ (e : Entry). sends c e.what) xs) (filter (λ (e : Entry). sends c e.what) ys)
-
-text-append : (xs ys : List (List ℕ)) → text (xs ++ ys) ≡ text xs ++ text ys
-text-append [] ys = refl
-text-append (x ∷ xs) ys = ap (λ (zs : List ℕ). x ++ 10 ∷ zs) (text-append xs ys) ∙ sym (append_assoc x (10 ∷ text xs) (text ys))
 
 map-append : {X Y : Type 0} (f : X → Y) (xs ys : List X) → map f (xs ++ ys) ≡ map f xs ++ map f ys
 map-append f [] ys = refl

@@ -5,7 +5,7 @@ use Rattle.journal_model.specs.declared.verdict.Why.TheVariants.{Eof, ReadFault}
 use Rattle.annex_model.specs.Lines.{Cut}
 use Rattle.journal_model.specs.declared.entry.Entry.{Entry}
 use Rattle.journal_model.specs.Journal.{each_of, writes, sends, is_mute, why_of, got_lines}
-use Rattle.journal_model.specs.Wires.{RestFits, Took, is_heard_in_turn}
+use Rattle.journal_model.specs.Wires.{RestFits, Took, are_short, IsLittle, is_heard_in_turn}
 
 -- the child, what its outlet gave and has left, how often reading failed, the number of its start, and what was read and not fed
 pub record EarValue : Type 0 where
@@ -23,9 +23,12 @@ pub record MouthValue : Type 0 where
   pub faults : ℕ
   pub number : Option ℕ
 
--- What was read is the lines got from the child and then what is held. No end comes without its cause.
+-- What was read is the lines got from the child and then what is held. No line is longer than it may be, and little is held. No
+-- end comes without its cause.
 pub record EarWired (journal : List Entry) (ear : EarValue) : Type 0 where
   pub heard : IfSome ear.given (λ read. Cut read (got_lines journal ear.child) ear.held)
+  pub short : are_short (got_lines journal ear.child) ≡ true
+  pub little : IsLittle ear.held
   pub ended : IfSome (why_of journal ear.child) (λ why. RestFits why ear.held)
   pub eof : why_of journal ear.child ≡ Some Eof → IfSome ear.left (λ bytes. bytes ≡ [])
   pub fault : why_of journal ear.child ≡ Some ReadFault → 0 < ear.faults

@@ -3,7 +3,6 @@ pub mod Due
 pub mod Journal
 pub mod Legality
 pub mod Limits
-pub mod Links
 pub mod Makers
 pub mod NoteRows
 pub mod Notes

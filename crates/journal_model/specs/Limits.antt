@@ -5,6 +5,10 @@ use Rattle.std.specs.Prelude.{ℕ}
 abbrev pub longest_line : ℕ
 longest_line = 65536
 
+-- bytes that one read of a child's output takes
+abbrev pub most_read : ℕ
+most_read = 4096
+
 -- tasks of a run
 abbrev pub most_tasks : ℕ
 most_tasks = 65536

@@ -1,12 +1,13 @@
 -- What was read of a child and written to it.
-use Rattle.std.specs.Prelude.{ℕ, ◌≡◌, ◌+◌, ◌≤◌, ◌<◌, ◌&&◌, ◌||◌, not, Bool, true, List, [], ◌∷◌, ◌++◌, length, take, map, filter, Option, Some, IsTrue, IfSome}
+use Rattle.std.specs.Prelude.{ℕ, ◌≡◌, ◌+◌, ◌≤◌, nat_le, ◌<◌, ◌&&◌, ◌||◌, not, Bool, true, List, [], ◌∷◌, ◌++◌, length, take, map, filter, Option, Some, IsTrue, IfSome}
+use Rattle.std.specs.List.{list_all}
 use Rattle.journal_model.specs.declared.verdict.Why.{Why}
 use Rattle.journal_model.specs.declared.verdict.Why.TheVariants.{Eof, ReadFault, LongLine}
 use Rattle.annex_model.specs.Lines.{text, has_newline, Cut}
 use Rattle.journal_model.specs.declared.entry.Entry.{Entry}
 use Rattle.journal_model.specs.Journal.{each_of, writes, sends, unsent, is_mute, is_ended, why_of, got_lines, got_from, has_spoken, is_tagged, open_jobs}
 use Rattle.journal_model.specs.Legality.{is_empty}
-use Rattle.journal_model.specs.Limits.{longest_line}
+use Rattle.journal_model.specs.Limits.{longest_line, most_read}
 
 -- the lines written to c that a Sent covers
 abbrev pub sent_lines : List Entry → ℕ → List (List ℕ)
@@ -24,6 +25,14 @@ RestFits ReadFault rest = IsTrue (not (has_newline rest))
 RestFits LongLine rest = (longest_line + 1 ≤ length rest) × IsTrue (not (has_newline (take (longest_line + 1) rest)))
 RestFits _ rest = Unit {0}
 
+-- none of the lines is longer than a line may be
+abbrev pub are_short : List (List ℕ) → Bool
+are_short lines = list_all (λ line. nat_le (length line) longest_line) lines
+
+-- no more was read and not fed than a line may have and one read more
+abbrev pub IsLittle : List ℕ → Type 0
+IsLittle rest = length rest ≤ longest_line + most_read
+
 -- What was taken is the text of the sent lines, and behind an end or a mute the first bytes of the next line, which may be
 -- none or all of them.
 pub record Took (journal : List Entry) (c : ℕ) (taken : List ℕ) : Type 0 where
@@ -31,9 +40,12 @@ pub record Took (journal : List Entry) (c : ℕ) (taken : List ℕ) : Type 0 whe
   pub bytes : taken ≡ text (sent_lines journal c) ++ take begun (next_text (unsent journal c))
   pub whole : IsTrue (not (is_mute journal c || is_ended journal c)) → begun ≡ 0
 
--- What was read is the lines got from c and then the rest, and what was taken is what was sent, where the halves tell it.
+-- What was read is the lines got from c and then the rest, and what was taken is what was sent, where the halves tell it. No line
+-- is longer than it may be, and the rest is little.
 pub record Wired (journal : List Entry) (c : ℕ) (given taken : Option (List ℕ)) (rest : List ℕ) : Type 0 where
   pub heard : IfSome given (λ read. Cut read (got_lines journal c) rest)
+  pub short : are_short (got_lines journal c) ≡ true
+  pub little : IsLittle rest
   pub ended : IfSome (why_of journal c) (λ why. RestFits why rest)
   pub took : IfSome taken (Took journal c)
 

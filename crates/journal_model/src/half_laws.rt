@@ -1,5 +1,5 @@
 // Laws over a wire in two halves, each the contract of a function with nothing to do.
-ghost use Rattle.std.specs.Prelude.{◌≡◌, ◌++◌, ℕ, List, true, false};
+ghost use Rattle.std.specs.Prelude.{◌≡◌, ◌++◌, ◌<◌, ℕ, List, length, Option, Some, true, false};
 ghost use Rattle.journal_model.specs.declared.entry.Entry.{Entry};
 ghost use Rattle.journal_model.specs.declared.opening.Opening.{Opening};
 ghost use Rattle.journal_model.specs.Journal.{any, got_lines, has_spoken, is_ended, is_tagged};
@@ -23,6 +23,13 @@ pub fn halves_stay()
     ensures mouth { (past more : List Entry) (m : MouthValue) → any (is_said m.child) more ≡ false → MouthWired past m → MouthWired (past ++ more) m }
     ensures turn { (past more : List Entry) (c : ℕ) → any (is_of_child c) more ≡ false → is_heard_in_turn past c ≡ true → is_heard_in_turn (past ++ more) c ≡ true }
     ensures tagged { (past more : List Entry) (c : ℕ) → is_tagged past c ≡ true → is_heard_in_turn past c ≡ true → is_heard_in_turn (past ++ more) c ≡ true }
+{}
+
+/// What is read of one child has a bound: a journal that is full takes no line more, no line is longer than it may be, and little is
+/// read that is not taken as a line.
+pub fn reading_is_bounded()
+    ensures { (o : Opening) (journal : List Entry) (c : ℕ) (read : List ℕ) (taken : Option (List ℕ)) (rest : List ℕ) → Legal o journal
+        → Wired journal c (Some read) taken rest → length read < 1100000000 }
 {}
 
 /// In a legal journal a child that has spoken and hasn't ended said `VERSION 1` first.

@@ -45,7 +45,7 @@ impl Opening {
     {
         let tasks = self.tasks.copy(alloc)?;
         let registers = self.registers.copy()?;
-        let notes = self.notes.copy(alloc)?;
+        let notes = self.notes.copy()?;
         let identity = self.identity.copy(alloc)?;
         Ok(Opening {
             tasks,

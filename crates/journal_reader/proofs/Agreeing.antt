@@ -118,7 +118,7 @@ reads_same old (line ∷ lines) a b r s =
     let P : Reading → Type 0 = λ x. Reads x lines b in
     reads_same r.0 lines a b r.2 (subst P (sym same) s.2)
 
--- what stands behind some of the lines is read from where those led
+-- what stands after some of the lines is read from where those led
 pub reads_apart : (old : Reading) (xs ys : List (List ℕ)) (new : Reading) → Reads old (xs ++ ys) new → (between : Reading) × Reads old xs between × Reads between ys new
 reads_apart old [] ys new r = (old, refl, r)
 reads_apart old (x ∷ xs) ys new r = let rest = reads_apart r.0 xs ys new r.2 in (rest.0, (r.0, r.1, rest.1), rest.2)

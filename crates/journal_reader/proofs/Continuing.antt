@@ -1,4 +1,4 @@
--- Lines that were taken can be continued to a whole text, and a line that can't follow stands behind them in none.
+-- Lines that were taken can be continued to a whole text, and a line that can't follow stands after them in none.
 use Rattle.std.proofs.Common.{◌≡◌, ℕ, List, [], ◌∷◌, ◌++◌, map, length, refl, sym, ap, subst, ◌∙◌, arith, append_assoc}
 use Rattle.std.specs.Prelude.{codes, IsTrue}
 use Rattle.std.specs.Char.{encode_utf8}

@@ -52,7 +52,7 @@ keep_begin text e = let bytes : 107 ≡ 98 = ap first_byte e in absurd (omega (a
 pub task_keep : (text other : List ℕ) → worded (codes "task") text ≡ worded (codes "keep") other → ⊥
 task_keep text other e = let bytes : 116 ≡ 107 = ap first_byte e in absurd (omega (arith, bytes))
 
--- ---- the lines behind the stamp
+-- ---- the lines after the stamp
 module _ (t : Told) (line : List ℕ) where
   pub none_given : (line ≡ begin → ⊥) → ((text : List ℕ) → line ≡ worded (codes "task") text → ⊥) → ((text : List ℕ) → line ≡ worded (codes "keep") text → ⊥) → CannotGo Given t line
   none_given b k h place new (inl (inl g)) = b g.0

@@ -23,7 +23,7 @@ use Rattle.keep_text.specs.KeptLines.{KeptLine, Setting, Expression, State, Url,
 use Rattle.keep_text.specs.Orders.{rank, kept_cmp, fields_cmp, logs_cmp}
 use Rattle.keep_text.proofs.Chunked.{chunk_read}
 
--- ---- lines in order, one behind the other
+-- ---- lines in order, one after the other
 
 abbrev pub follows : Option KeptLine → KeptLine → Bool
 follows None k = true

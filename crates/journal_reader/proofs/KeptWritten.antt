@@ -189,7 +189,7 @@ joined : {X : Type 0} (xs ys zs : List X) → (xs ++ ys) ++ zs ≡ xs ++ (ys ++ 
 joined [] ys zs = refl
 joined (x ∷ xs) ys zs = ap (λ l. x ∷ l) (joined xs ys zs)
 
--- one more behind the last
+-- one more after the last
 one_behind : (before : List KeptLine) (a k : KeptLine) → AreInOrder (map line_of (before ++ a ∷ [])) → IsSaid a → IsSaid k → follows (Some a) k ≡ true → AreInOrder (map line_of ((before ++ a ∷ []) ++ k ∷ []))
 one_behind before a k h s t f =
     let first = map line_of (before ++ a ∷ []) in

@@ -1,4 +1,4 @@
--- What stands behind the word of a line.
+-- What stands after the word of a line.
 use Rattle.std.proofs.Common.{◌≡◌, ℕ, ◌<◌, ◌^◌, Bool, true, false, List, [], ◌∷◌, ◌++◌, Option, Some, None, Result, Ok, Err, IfOk, refl, sym, ap, ◌∙◌}
 use mathlib.Core.Bool.{true≢false}
 use Rattle.std.specs.Prelude.{MatchOption, IsTrue, codes, decimal, bytes_eq}
@@ -18,14 +18,14 @@ same_behind (w ∷ word) a b e = same_behind word a b (ap behind_one e)
 pub worded_same : (word a b : List ℕ) → worded word a ≡ worded word b → a ≡ b
 worded_same word a b e = ap behind_one (same_behind word (32 ∷ a) (32 ∷ b) e)
 
--- what stands behind the word, and then behind a space
+-- what stands after the word, and then after a space
 module _ {R : Type 0} (now : R → List ℕ) (word line rest : List ℕ) (is : line ≡ word ++ rest) where
   pub behind_both : (r : Option R) → MatchOption r ((text : List ℕ) → rest ≡ 32 ∷ text → ⊥) (λ f. rest ≡ 32 ∷ now f)
       → MatchOption r ((text : List ℕ) → line ≡ worded word text → ⊥) (λ f. line ≡ worded word (now f))
   behind_both None h = λ text e. h text (same_behind word rest (32 ∷ text) (sym is ∙ e))
   behind_both (Some f) h = is ∙ ap (λ (t : List ℕ). word ++ t) h
 
--- a text that is asked for, behind the word
+-- a text that is asked for, after the word
 module _ {R : Type 0} (now : R → List ℕ) (p : List ℕ → Bool) (word line text : List ℕ) (is : line ≡ worded word text) where
   pub texted : (r : Option R) → MatchOption r (p text ≡ false) (λ f. (now f ≡ text) × (p text ≡ true))
       → MatchOption r ((t : List ℕ) → line ≡ worded word t → IsTrue (p t) → ⊥) (λ f. (line ≡ worded word (now f)) × IsTrue (p (now f)))

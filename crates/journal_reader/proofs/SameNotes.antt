@@ -19,7 +19,7 @@ less Less h = refl
 less Equal h = absurd cc
 less Greater h = absurd cc
 
--- none of the notes behind one has its place
+-- none of the notes after one has its place
 absent : (key uuid : List ℕ) (chunk : ℕ) (x : Note) (xs : List Note) → list_all (is_before x) xs ≡ true → is_of key uuid chunk x ≡ true → filter (is_of key uuid chunk) xs ≡ []
 absent key uuid chunk x [] all own = refl
 absent key uuid chunk x (y ∷ ys) all own =
@@ -50,7 +50,7 @@ own_place x =
     both_true (bytes_eq x.key x.key && bytes_eq x.line.uuid x.line.uuid) (x.line.chunk == x.line.chunk)
     (both_true (bytes_eq x.key x.key) (bytes_eq x.line.uuid x.line.uuid) (itself x.key) (itself x.line.uuid)) (eq-eqb x.line.chunk x.line.chunk refl)
 
--- what stands before a note stands before those behind it
+-- what stands before a note stands before those after it
 before_all : (x y : Note) (ys : List Note) → place_cmp x y ≡ Less → list_all (is_before y) ys ≡ true → list_all (is_before x) ys ≡ true
 before_all x y [] e all = refl
 before_all x y (z ∷ zs) e all =

@@ -15,7 +15,7 @@ use Rattle.journal_reader.specs.Runs.{Reads, lines_told, IsSoFar}
 use Rattle.journal_reader.specs.declared.place.Place.{Place}
 use Rattle.journal_reader.specs.declared.place.Place.TheVariants.{Head, Uuid, Name, Gitdir, Stamp, Given, Entries, Over, Refused}
 
--- ---- one more behind some
+-- ---- one more after some
 module _ {X : Type 0} (P : X → Type 0) where
   own : (x y : X) → Some x ≡ Some y → P x → P y
   own x y e p = let same : x ≡ y = cc in subst P same p
@@ -38,7 +38,7 @@ module _ {X : Type 0} (f a k : List X) (x : X) where
   with_kept : f ++ (a ++ (k ++ x ∷ [])) ≡ (f ++ (a ++ k)) ++ x ∷ []
   with_kept = ap (λ (l : List X). f ++ l) (sym (append_assoc a k (x ∷ []))) ∙ sym (append_assoc f (a ++ k) (x ∷ []))
 
--- behind `begin`
+-- after `begin`
 with_entry : {X : Type 0} (f a k b : List X) (x : X) → f ++ (a ++ (k ++ (b ++ x ∷ []))) ≡ (f ++ (a ++ (k ++ b))) ++ x ∷ []
 with_entry f a k b x = ap (λ l. f ++ (a ++ l)) (sym (append_assoc k b (x ∷ []))) ∙ with_kept f a (k ++ b) x
 

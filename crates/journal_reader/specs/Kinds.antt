@@ -1,4 +1,4 @@
--- The kinds of lines behind the stamp.
+-- The kinds of lines after the stamp.
 use Rattle.std.specs.Prelude.{ℕ, ◌≡◌, List, codes}
 use Rattle.journal_lines.specs.JournalTexts.{worded, begin}
 use Rattle.journal_reader.specs.declared.kinds.Kind.{Kind}

@@ -24,7 +24,7 @@ nothing_told = record { uuid = []; name = []; gitdir = []; stamp = 0; tasks = []
 abbrev pub start : Reading
 start = record { place = Head; taken = 0; told = nothing_told }
 
--- ---- the lines behind the stamp
+-- ---- the lines after the stamp
 
 -- a task's line, where no kept line stands before it
 pub record TakesTask (t : Told) (line : List ℕ) (new : Told) : Type 0 where
@@ -49,7 +49,7 @@ pub record TakesEntry (t : Told) (line : List ℕ) (new : Told) : Type 0 where
 
 -- ---- each line
 
--- Where this is awaited behind what is told, the line may stand next; that is awaited then, and so much told.
+-- Where this is awaited after what is told, the line may stand next; that is awaited then, and so much told.
 abbrev pub Goes : Place → Told → List ℕ → Place → Told → Type 0
 Goes Head t line place new = (line ≡ head) × (place ≡ Uuid) × (new ≡ t)
 Goes Uuid t line place new = (line ≡ worded (codes "uuid") new.uuid) × IsTrue (is_uuid new.uuid) × (place ≡ Name) × (new ≡ record t { uuid = new.uuid })

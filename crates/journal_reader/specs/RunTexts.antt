@@ -34,7 +34,7 @@ is_behind (Some last) line = comes_before last line
 abbrev pub may_be_kept : List (List ℕ) → List ℕ → Bool
 may_be_kept kept line = is_kept line && is_behind (slice_get kept (length kept - 1)) line
 
--- each of them may stand behind those before it
+-- each of them may stand after those before it
 pub data AreInOrder : List (List ℕ) → Type 0 where
   NoneKept : AreInOrder []
   OneMore : (kept : List (List ℕ)) (line : List ℕ) → AreInOrder kept → may_be_kept kept line ≡ true → AreInOrder (kept ++ line ∷ [])

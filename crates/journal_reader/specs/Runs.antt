@@ -11,7 +11,7 @@ use Rattle.journal_reader.specs.RunTexts.{is_uuid, is_text, IsTold}
 use Rattle.journal_reader.specs.declared.place.Place.{Place}
 use Rattle.journal_reader.specs.declared.place.Place.TheVariants.{Head, Uuid, Name, Gitdir, Stamp, Given, Entries, Over, Refused}
 
--- each line was taken, one behind the other
+-- each line was taken, one after the other
 abbrev pub Reads : Reading → List (List ℕ) → Reading → Type 0
 Reads old [] new = new ≡ old
 Reads old (line ∷ lines) new = (next : Reading) × Follows old line next × Reads next lines new

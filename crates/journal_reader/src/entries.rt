@@ -41,7 +41,7 @@ impl Reader {
     }
 }
 
-// Whether the line is the last one behind so many entries.
+// Whether the line is the last one after so many entries.
 fn is_end(alloc: Global, line: &[u8], count: usize) -> Result<bool, NoMemory>
     ensures { IfOk result (λ b. b ≡ bytes_eq (end_line count) line.now) }
 {

@@ -7,7 +7,7 @@ pub enum JournalError {
     /// The first line that can't follow those before it, counted from 1.
     #[error("line {line} can't follow")]
     BadLine { line: u64 },
-    /// The last line is missing behind this many.
+    /// The last line is missing after this many.
     #[error("no end behind line {line}")]
     Cut { line: u64 },
     #[error("no memory")]

@@ -13,7 +13,7 @@ use std::alloc::Global;
 use std::str;
 use uuid::Uuid;
 
-/// What stands behind the word and a space.
+/// What stands after the word and a space.
 pub(crate) fn behind<'a>(line: &'a [u8], word: &[u8]) -> Option<&'a [u8]>
     ensures { MatchOption result ((text : List ℕ) → line.entry.now ≡ worded word.now text → ⊥) (λ text. line.entry.now ≡ worded word.now text.now) }
 {
@@ -45,7 +45,7 @@ pub(crate) fn has_newline(line: &[u8]) -> bool
     line.iter().any(|b| *b == b'\n')
 }
 
-/// The text behind the word, where it is UTF-8 on one line.
+/// The text after the word, where it is UTF-8 on one line.
 pub(crate) fn text_behind<'a>(line: &'a [u8], word: &[u8]) -> Option<&'a str>
     ensures { MatchOption result ((text : List ℕ) → line.entry.now ≡ worded word.now text → IsTrue (is_text text) → ⊥) (λ text. (line.entry.now ≡ worded word.now text.now) × IsTrue (is_text text.now)) }
 {
@@ -67,7 +67,7 @@ fn text_of(text: &[u8]) -> Option<&str>
     }
 }
 
-/// The UUID behind the word, in lower case with hyphens.
+/// The UUID after the word, in lower case with hyphens.
 pub(crate) fn uuid_behind(line: &[u8], word: &[u8]) -> Option<Uuid>
     ensures { MatchOption result ((text : List ℕ) → line.now ≡ worded word.now text → IsTrue (is_uuid text) → ⊥) (λ uuid. (line.now ≡ worded word.now (hyphenated_text lower uuid)) × IsTrue (is_uuid (hyphenated_text lower uuid))) }
 {

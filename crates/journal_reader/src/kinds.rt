@@ -1,9 +1,9 @@
-// The kinds of lines behind the stamp.
+// The kinds of lines after the stamp.
 ghost use Rattle.journal_reader.specs.Kinds.{IsKind};
 
 use crate::fields::behind;
 
-/// What a line behind the stamp is by its first word.
+/// What a line after the stamp is by its first word.
 #[derive(Clone, Copy)]
 pub(crate) enum Kind<'a> {
     Begin,

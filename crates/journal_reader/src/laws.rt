@@ -11,7 +11,7 @@ ghost use Rattle.journal_reader.specs.RunTexts.{Begins, IsTold};
 ghost use Rattle.journal_reader.specs.Runs.{IsOpeningOf, Reads};
 ghost use Rattle.journal_reader.specs.declared.place.Place.TheVariants as at;
 
-/// Lines that were taken one behind the other, up to the end, are the whole text of what they tell.
+/// Lines that were taken one after the other, up to the end, are the whole text of what they tell.
 pub fn what_is_taken_is_a_text()
     ensures told { (lines : List (List ℕ)) (r : Reading) → Reads start lines r → r.place ≡ at.Over → IsTold r.told }
     ensures lines { (lines : List (List ℕ)) (r : Reading) → Reads start lines r → r.place ≡ at.Over → told_lines r.told ≡ lines }
@@ -23,12 +23,12 @@ pub fn each_text_is_taken()
     ensures { (t : Told) → IsTold t → (n : ℕ) × Reads start (told_lines t) (record { place = at.Over; taken = n; told = t }) }
 {}
 
-/// Lines that were taken one behind the other begin a whole text.
+/// Lines that were taken one after the other begin a whole text.
 pub fn what_is_taken_begins_a_text()
     ensures { (lines : List (List ℕ)) (r : Reading) → Reads start lines r → Begins lines }
 {}
 
-/// A line that can't follow those that were taken stands behind them in no whole text.
+/// A line that can't follow those that were taken stands after them in no whole text.
 pub fn what_is_refused_is_in_no_text()
     ensures { (lines : List (List ℕ)) (r : Reading) (line : List ℕ) → Reads start lines r → CannotGo r.place r.told line → Begins (lines ++ line ∷ []) → ⊥ }
 {}

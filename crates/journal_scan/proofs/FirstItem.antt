@@ -12,7 +12,7 @@ use Rattle.journal_model.specs.Parts.{item_of, part_from, part, is_for, ends_at}
 use Rattle.journal_model.proofs.Looks.{unasked_closed, each_of-append, is_asked}
 use Rattle.journal_scan.specs.Looks.{is_hosts, hosts_line, first_text}
 
--- the text of the entry, where it stands behind before
+-- the text of the entry, where it stands after before
 abbrev text_of : ℕ → List Entry → Option Entry → Option (List ℕ)
 text_of c before None = None
 text_of c before (Some e) = Some (addressed before c (hosts_line e.what)).1

@@ -224,7 +224,7 @@ first_in : (es : List Entry) (o : Option Entry) → o ≡ first_of es
 first_in [] o h = rw h refl
 first_in (e ∷ es) o h = rw h (ap (λ (l : List ℕ). Some l) (sym (hosts_is e.what)))
 
--- the line that stands behind as many as were sent is the first unsent one
+-- the line that stands after as many as were sent is the first unsent one
 pub next_found : (past : List Entry) (c n : ℕ) (o : Option Entry) → n ≡ length (filter (λ e. sends c e.what) past) → o ≡ slice_get (filter (λ e. is_written c e.what) past) n
     → option_map (λ e. hosts_line e.what) o ≡ option_map (λ (w : Line). w.1) (first_of (unsent past c))
 next_found past c n o e h =

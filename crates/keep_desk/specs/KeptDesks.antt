@@ -29,16 +29,16 @@ IsKeptOf text (Ok Fault) = ⊥
 IsKeptOf text (Err e) = ⊤
 
 -- what a file that was read so comes to; a missing one hands on what an empty one does
-abbrev pub ComesTo : Result FileRead NoMemory → Result KeptRead NoMemory → Type 0
-ComesTo (Ok (F.Text text)) result = IsKeptOf text result
-ComesTo (Ok F.Missing) result = IsKeptOf [] result
-ComesTo (Ok F.TooLarge) result = result ≡ Ok TooLarge
-ComesTo (Ok F.Fault) result = result ≡ Ok Fault
-ComesTo (Err e) result = result ≡ Err e
+abbrev pub FileComesTo : Result FileRead NoMemory → Result KeptRead NoMemory → Type 0
+FileComesTo (Ok (F.Text text)) result = IsKeptOf text result
+FileComesTo (Ok F.Missing) result = IsKeptOf [] result
+FileComesTo (Ok F.TooLarge) result = result ≡ Ok TooLarge
+FileComesTo (Ok F.Fault) result = result ≡ Ok Fault
+FileComesTo (Err e) result = result ≡ Err e
 
 -- the file was read whole or as far as it may be, and this is what it comes to
 abbrev pub IsReadAs : Option (List Call) → Option (List Call) → List ℕ → Result KeptRead NoMemory → Type 0
-IsReadAs old new name result = (read : Result FileRead NoMemory) × IsReadBy old new name MOST_BYTES read × ComesTo read result
+IsReadAs old new name result = (read : Result FileRead NoMemory) × IsReadBy old new name MOST_BYTES read × FileComesTo read result
 
 -- the text of the file, which is empty where there is none
 abbrev pub text_at : List ℕ → Files → List ℕ

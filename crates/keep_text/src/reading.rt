@@ -118,7 +118,7 @@ fn take_chunks(
 {
     match read_line(alloc, log) {
         Ok(line) => {
-            notes.add(alloc, key, line)?;
+            notes.add(key, line)?;
             Ok(())
         }
         Err(ChunkError::NoMemory) => Err(KeepError::NoMemory),

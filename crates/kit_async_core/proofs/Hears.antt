@@ -3,7 +3,7 @@ use Rattle.std.proofs.Common.{◌≡◌, ℕ, ◌+◌, ◌*◌, ◌≤◌, List,
 use Rattle.std.specs.Prelude.{◌&&◌, ◌||◌, find, position, fold, set, slice_get, option_map, IfSome}
 use Rattle.std.specs.List.{list_any}
 use Rattle.annex_model.specs.Messages.{Getconfig, host_reading, remote_line}
-use Rattle.annex_model.specs.Messages.{HostMessage, AskExtensions, Prepare, Initremote, Transfer, Checkpresent, Remove, Listconfigs, Getcost, Getavailability, Getinfo, Whereis, Value, Creds, HostError}
+use Rattle.annex_model.specs.Messages.{HostMessage, AskExtensions, Prepare, Initremote, Transfer, Checkpresent, Remove, Listconfigs, Getcost, Getavailability, Getinfo, Whereis, Exportsupported, Export, Transferexport, Checkpresentexport, Removeexport, Renameexport, Value, Creds, HostError}
 use Rattle.kit_core.specs.Kits.{is_readying}
 use Rattle.kit_async_model.specs.declared.setup.Setup.{Setup}
 use Rattle.kit_async_model.specs.declared.job.Job.{Job}
@@ -227,6 +227,12 @@ ready_due next values prepared (Some Getcost) h = absurd cc
 ready_due next values prepared (Some Getavailability) h = absurd cc
 ready_due next values prepared (Some Getinfo) h = absurd cc
 ready_due next values prepared (Some (Whereis key)) h = absurd cc
+ready_due next values prepared (Some Exportsupported) h = absurd cc
+ready_due next values prepared (Some (Export name)) h = absurd cc
+ready_due next values prepared (Some (Transferexport store key file)) h = absurd cc
+ready_due next values prepared (Some (Checkpresentexport key)) h = absurd cc
+ready_due next values prepared (Some (Removeexport key)) h = absurd cc
+ready_due next values prepared (Some (Renameexport key onto)) h = absurd cc
 ready_due next values prepared (Some (Value value)) h = absurd cc
 ready_due next values prepared (Some (Creds user password)) h = absurd cc
 ready_due next values prepared (Some (HostError text)) h = absurd cc

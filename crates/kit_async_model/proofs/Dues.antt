@@ -3,7 +3,7 @@ use Rattle.std.proofs.Common.{◌≡◌, ◌⊎◌, inl, inr, ℕ, List, [], ◌
 use Rattle.std.specs.Prelude.{codes, is_some}
 use Rattle.std.specs.Str.{is_utf8}
 use Rattle.std.proofs.lemmas.Str.{IsUtf8-nil, is_utf8-from_IsUtf8}
-use Rattle.annex_model.specs.Messages.{RemoteMessage, remote_line, HostMessage, AskExtensions, Prepare, Initremote, Transfer, Checkpresent, Remove, Listconfigs, Getcost, Getavailability, Getinfo, Whereis, Value, Creds, HostError, IsAskable, IsSayable}
+use Rattle.annex_model.specs.Messages.{RemoteMessage, remote_line, HostMessage, AskExtensions, Prepare, Initremote, Transfer, Checkpresent, Remove, Listconfigs, Getcost, Getavailability, Getinfo, Whereis, Exportsupported, Export, Transferexport, Checkpresentexport, Removeexport, Renameexport, Value, Creds, HostError, IsAskable, IsSayable}
 use Rattle.wire_msg.specs.declared.remote.RemoteMsg.{RemoteMsg}
 use Rattle.wire_msg.specs.Shown.{remote_shown}
 use Rattle.kit_core.specs.declared.call.Said.TheVariants.{Failure}
@@ -34,6 +34,12 @@ unprepared Getcost h = absurd cc
 unprepared Getavailability h = absurd cc
 unprepared Getinfo h = absurd cc
 unprepared (Whereis key) h = absurd cc
+unprepared Exportsupported h = absurd cc
+unprepared (Export name) h = absurd cc
+unprepared (Transferexport store key file) h = absurd cc
+unprepared (Checkpresentexport key) h = absurd cc
+unprepared (Removeexport key) h = absurd cc
+unprepared (Renameexport key onto) h = absurd cc
 unprepared (Value value) h = absurd cc
 unprepared (Creds user password) h = absurd cc
 unprepared (HostError text) h = absurd cc
@@ -58,6 +64,12 @@ no_text Getcost h u = absurd cc
 no_text Getavailability h u = absurd cc
 no_text Getinfo h u = absurd cc
 no_text (Whereis key) h u = absurd cc
+no_text Exportsupported h u = absurd cc
+no_text (Export name) h u = absurd cc
+no_text (Transferexport store key file) h u = absurd cc
+no_text (Checkpresentexport key) h u = absurd cc
+no_text (Removeexport key) h u = absurd cc
+no_text (Renameexport key onto) h u = absurd cc
 no_text (Value value) h u = absurd cc
 no_text (Creds user password) h u = absurd cc
 no_text (HostError text) h u = absurd cc
@@ -84,6 +96,12 @@ worked Getcost h u = absurd cc
 worked Getavailability h u = absurd cc
 worked Getinfo h u = absurd cc
 worked (Whereis key) h u = absurd cc
+worked Exportsupported h u = absurd cc
+worked (Export name) h u = absurd cc
+worked (Transferexport store key file) h u = absurd cc
+worked (Checkpresentexport key) h u = absurd cc
+worked (Removeexport key) h u = absurd cc
+worked (Renameexport key onto) h u = absurd cc
 worked (Value value) h u = absurd cc
 worked (Creds user password) h u = absurd cc
 worked (HostError text) h u = absurd cc

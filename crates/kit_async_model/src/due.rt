@@ -93,7 +93,7 @@ impl Job {
                 b"",
             ),
             Some(HostMsg::Remove(key)) => for_key(HostMsg::Remove(key), self.prepared, b""),
-            Some(HostMsg::Creds(_, _) | HostMsg::Error(_)) => Due::Silence,
+            Some(HostMsg::Export(_) | HostMsg::Creds(_, _) | HostMsg::Error(_)) => Due::Silence,
             Some(_) => Due::Line(RemoteMsg::UnsupportedRequest),
         }
     }

@@ -4,7 +4,7 @@ use Rattle.std.specs.List.{last_or, after_last, list_all}
 use Rattle.std.specs.Str.{is_utf8}
 use Rattle.annex_model.specs.Lines.{has_newline}
 use Rattle.annex_model.specs.Messages.{RemoteMessage, Extensions, UnsupportedRequest, Error, Getconfig, PrepareSuccess, PrepareFailure, InitremoteSuccess, InitremoteFailure, TransferSuccess, TransferFailure, CheckpresentSuccess, CheckpresentFailure, CheckpresentUnknown, RemoveSuccess, RemoveFailure}
-use Rattle.annex_model.specs.Messages.{HostMessage, AskExtensions, Prepare, Initremote, Transfer, Checkpresent, Remove, Listconfigs, Getcost, Getavailability, Getinfo, Whereis, Value, Creds, HostError}
+use Rattle.annex_model.specs.Messages.{HostMessage, AskExtensions, Prepare, Initremote, Transfer, Checkpresent, Remove, Listconfigs, Getcost, Getavailability, Getinfo, Whereis, Exportsupported, Export, Transferexport, Checkpresentexport, Removeexport, Renameexport, Value, Creds, HostError}
 use Rattle.annex_model.specs.Messages.{Param, Key, Word, Rest, host_row, remote_line}
 use Rattle.kit_core.specs.declared.call.Said.{Said}
 use Rattle.kit_core.specs.declared.call.Said.TheVariants.{Yes, No, Failure}
@@ -177,6 +177,13 @@ work_due next values prepared Getcost = Line UnsupportedRequest
 work_due next values prepared Getavailability = Line UnsupportedRequest
 work_due next values prepared Getinfo = Line UnsupportedRequest
 work_due next values prepared (Whereis key) = Line UnsupportedRequest
+work_due next values prepared Exportsupported = Line UnsupportedRequest
+-- a name to which nothing is said
+work_due next values prepared (Export name) = Silence
+work_due next values prepared (Transferexport store key file) = Line UnsupportedRequest
+work_due next values prepared (Checkpresentexport key) = Line UnsupportedRequest
+work_due next values prepared (Removeexport key) = Line UnsupportedRequest
+work_due next values prepared (Renameexport key onto) = Line UnsupportedRequest
 work_due next values prepared (Creds user password) = Silence
 work_due next values prepared (HostError text) = Silence
 

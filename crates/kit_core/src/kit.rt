@@ -111,6 +111,15 @@ impl<R: Remote> Kit<R> {
         Ok(say)
     }
 
+    // Nothing is said to the message.
+    fn pass_over(&mut self) -> Lines
+        ensures nothing { result ≡ [] }
+        ensures stage { self.new ≡ record self.old { stage = Stage.Waiting } }
+    {
+        self.stage = Stage::Waiting;
+        silence(self.alloc)
+    }
+
     // The message can't stand here, and nothing more is said.
     fn unexpected(&self) -> Result<Lines, NoMemory>
         ensures line { IfOk result (λ say. say ≡ remote_line (Error (codes "unexpected message")) ∷ []) }
@@ -249,7 +258,13 @@ impl<R: Remote> Kit<R> {
             | HostMsg::Getcost
             | HostMsg::Getavailability
             | HostMsg::Getinfo
-            | HostMsg::Whereis(_) => self.say(RemoteMsg::UnsupportedRequest),
+            | HostMsg::Whereis(_)
+            | HostMsg::Exportsupported
+            | HostMsg::Transferexport(_, _, _)
+            | HostMsg::Checkpresentexport(_)
+            | HostMsg::Removeexport(_)
+            | HostMsg::Renameexport(_, _) => self.say(RemoteMsg::UnsupportedRequest),
+            HostMsg::Export(_) => Ok(self.pass_over()),
             HostMsg::Value(_) | HostMsg::Creds(_, _) => self.unexpected(),
             HostMsg::Error(_) => Ok(silence(self.alloc)),
         }

@@ -1,5 +1,5 @@
 -- What an ear does keeps it wired to the journal, and so does what others do.
-use Rattle.std.proofs.Common.{◌≡◌, ℕ, ◌<◌, List, [], ◌∷◌, ◌++◌, refl, sym, subst, Bool, true, false, inl, inr, map}
+use Rattle.std.proofs.Common.{◌≡◌, ℕ, ◌<◌, ◌≤◌, length, List, [], ◌∷◌, ◌++◌, refl, sym, subst, Bool, true, false, inl, inr, map}
 use Rattle.std.specs.Prelude.{IfSome}
 use Rattle.std.specs.List.{list_all}
 use Rattle.annex_model.specs.Lines.{Cut}
@@ -13,6 +13,7 @@ use Rattle.journal_model.specs.declared.entry.Entry.{Entry}
 use Rattle.journal_model.specs.declared.opening.Opening.{Opening}
 use Rattle.journal_model.specs.Journal.{any, is_ended, open_jobs}
 use Rattle.journal_model.specs.Due.{replying, due_by, due_by_got, ending, made_by}
+use Rattle.journal_model.specs.Limits.{longest_line}
 use Rattle.journal_model.specs.Wires.{RestFits}
 use Rattle.journal_model.proofs.Looks.{same}
 use Rattle.journal_model.proofs.Soft.{is_soft_why, soft_stretch, soft_got, soft_verdicts, got_cases}
@@ -69,12 +70,12 @@ module _ {n : ℕ} {a : Bool} {o : Opening} {old new : List Entry} where
       (soft_stretch v.child n (due_by o s.past (End v.child why)) (soft_verdicts v.child (Ended why) (open_jobs s.past v.child))) s.found fits eof fault (before v s.passed none h)))
 
   -- a line was fed
-  pub ear_takes : (line : List ℕ) (v w : EarValue) → w ≡ record v { held = w.held }
+  pub ear_takes : (line : List ℕ) (v w : EarValue) → w ≡ record v { held = w.held } → length line ≤ longest_line → length w.held ≤ length v.held
       → ((bytes : List ℕ) (lines : List (List ℕ)) → Cut bytes lines v.held → Cut bytes (lines ++ line ∷ []) w.held)
       → Appended o n a old new (Got v.child line) (λ past. is_ended past v.child ≡ false) → Moved n a (by_ear v.child) (is_heard v.child) old new (EarWired old v) (EarWired new w)
-  ear_takes line v w same cut s =
+  ear_takes line v w same fits fewer cut s =
       moved_by s (got_by_ear o s.past v.child line) (λ none h.
       subst (EarWired new) (sym same)
       (subst (λ (j : List Entry). EarWired j (record v { held = w.held })) (sym s.is)
       (ear_got s.past (made_by n (due_by_got o s.past v.child line)) n line w.held v
-      (soft_stretch v.child n (due_by_got o s.past v.child line) (soft_got o s.past v.child line)) s.found cut (before v s.passed none h))))
+      (soft_stretch v.child n (due_by_got o s.past v.child line) (soft_got o s.past v.child line)) s.found fits fewer cut (before v s.passed none h))))

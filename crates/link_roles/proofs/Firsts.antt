@@ -1,11 +1,14 @@
 -- What stands first, over the bytes that a link is seen to hold.
 use Rattle.std.proofs.Common.{◌≡◌, ℕ, ◌+◌, ◌≤◌, List, [], ◌∷◌, refl, sym, ap, subst, ◌∙◌, Bool, true, false, not, ◌==◌, cond, suc, take, length, arith}
 use Rattle.std.specs.List.{position_or_len}
+use Rattle.std.specs.Prelude.{IsTrue}
+use Rattle.std.proofs.lemmas.List.{length-take}
 use Rattle.std.proofs.Math.Seq.{take_all}
 use Rattle.annex_model.specs.Lines.{has_newline}
 use Rattle.wire_line.specs.declared.splitter.Next.{Next}
 use Rattle.wire_line.specs.HeldBytes.{has_line, first_line, TakesLine}
 use Rattle.wire_line.specs.Nexts.{IsNext}
+use Rattle.wire_line.proofs.Firsts.{end_of, ends_within}
 use Rattle.journal_model.specs.Limits.{longest_line}
 
 pub next_held : (limit : ℕ) (bytes held : List ℕ) (n : Next) → limit ≡ longest_line → bytes ≡ held → IsNext limit bytes n → IsNext longest_line held n
@@ -29,6 +32,13 @@ line_whole (b ∷ bs) = go (b == 10) refl (line_whole bs)
     go : (s : Bool) → (b == 10) ≡ s → has_newline (take n bs) ≡ false → has_newline (take (cond (not s) (1 + n) 0) (b ∷ bs)) ≡ false
     go true e r = refl
     go false e r = let k : 1 + n ≡ suc n = omega arith in rw (k, e) r
+
+-- a line that stands first is no longer than the limit
+pub line_short : (limit : ℕ) (bytes : List ℕ) → IsTrue (has_line limit bytes) → length (first_line bytes) ≤ limit
+line_short limit bytes h =
+    let cut : length (first_line bytes) ≡ _ = length-take (end_of bytes) bytes in
+    let within = ends_within limit bytes h in
+    omega (arith, cut, within.0)
 
 -- where fewer bytes than the limit are held and no line stands first, no line is in them
 pub no_line : (held : List ℕ) → not (has_line longest_line held) ≡ true → length held ≤ longest_line → not (has_newline held) ≡ true

@@ -14,7 +14,7 @@ use Rattle.host_core.specs.Steps.{group_of, is_awaited, unless_shut}
 use Rattle.link_roles.specs.declared.events.Listening.{Listening}
 use Rattle.link_roles.specs.declared.events.Listening.TheVariants.{Read as ToRead, Rest as ToRest, Over as IsOver}
 use Rattle.journal_model.specs.Due.{due_by}
-use Rattle.journal_model.specs.Wires.{RestFits, may_hear}
+use Rattle.journal_model.specs.Wires.{RestFits, IsLittle, may_hear}
 use Rattle.journal_model.proofs.Soft.{soft_stretch, soft_verdicts}
 use Rattle.journal_model.specs.Limits.{longest_line}
 use Rattle.wire_line.specs.HeldBytes.{has_line, first_line, TakesLine}
@@ -34,6 +34,7 @@ use Rattle.link_roles.specs.declared.ear.Heard.{Heard}
 use Rattle.link_roles.specs.declared.ear.Heard.TheVariants.{Fed as HeardLine, Read as HeardMore, Over as HeardOver}
 use Rattle.link_roles.specs.Hearings.{IsLong, by_long, Shorter, IsFeeding, IsHearing, IsNextFed, IsAllFed}
 use Rattle.link_roles.specs.Asks.{Grows}
+use Rattle.link_roles.proofs.Firsts.{line_short}
 use Rattle.link_roles.proofs.Roles.{moved_by, moved_on, moved_from, or_true, others_append}
 use Rattle.link_roles.proofs.Ears.{ear_ends, ear_takes, ending_by_ear, got_by_ear}
 use Rattle.journal_model.proofs.Ears.{ear_read}
@@ -90,25 +91,28 @@ module _ {n : ℕ} {a : Bool} (o : Opening) {old new : List Entry} (v : EarValue
   untaken line b t s = subst (λ (x : Bool). Takes o n a old new c line x) t s
 
   -- a line was fed
-  pub ear_fed : (w : EarValue) (line : List ℕ) (b : Bool) → b ≡ true → w ≡ record v { held = w.held } → line ≡ first_line v.held → TakesLine v.held (first_line v.held) w.held
+  pub ear_fed : (w : EarValue) (line : List ℕ) (b : Bool) → b ≡ true → w ≡ record v { held = w.held } → IsTrue (has_line longest_line v.held) × (line ≡ first_line v.held) → TakesLine v.held (first_line v.held) w.held
+      → length w.held < length v.held
       → Takes o n a old new c line b → Moved n a (by_ear v.child) (is_heard v.child) old new (EarWired old v) (EarWired new w)
-  ear_fed w line b t same e cut s = ear_takes line v w same (subst (λ (l : List ℕ). TakesLine v.held l w.held) (sym e) cut) (taken line b t s)
+  ear_fed w line b t same e cut fewer s =
+      ear_takes line v w same (omega (arith, ap (λ (l : List ℕ). length l) e.1, line_short longest_line v.held e.0)) (omega (arith, fewer))
+      (subst (λ (l : List ℕ). TakesLine v.held l w.held) (sym e.1) cut) (taken line b t s)
 
   pub turn_fed : (line : List ℕ) (b : Bool) → b ≡ true → Takes o n a old new c line b
       → Moved n a (by_ear v.child) (is_of_child v.child) old new ((may_hear old v.child ≡ true) × InTurn v.child old) (InTurn v.child new)
   turn_fed line b t s = let k = taken line b t s in turn_takes v.child line k (got_by_ear o k.past v.child line)
 
 -- more was read
-pub ear_filled : (past : List Entry) (v w : EarValue) → Fills v w → is_ended past v.child ≡ false → EarWired past v → EarWired past w
-ear_filled past v w f live h = ear_read past f.reads.piece v w f.same live f.reads.told f.reads.silent f.reads.cut h
+pub ear_filled : (past : List Entry) (v w : EarValue) → Fills v w → IsLittle w.held → is_ended past v.child ≡ false → EarWired past v → EarWired past w
+ear_filled past v w f little live h = ear_read past f.reads.piece v w f.same live f.reads.told f.reads.silent little f.reads.cut h
 
 -- and then the child ended
-pub ear_read_over : {n : ℕ} {a : Bool} {o : Opening} {old new : List Entry} (v w : EarValue) (c : ℕ) (why : Why) → c ≡ v.child → Fills v w → is_ended old v.child ≡ false
+pub ear_read_over : {n : ℕ} {a : Bool} {o : Opening} {old new : List Entry} (v w : EarValue) (c : ℕ) (why : Why) → c ≡ v.child → Fills v w → w.held ≡ v.held → length v.held ≤ longest_line → is_ended old v.child ≡ false
     → is_closed why ≡ false → RestFits why w.held → (why ≡ Eof → IfSome w.left (λ bytes. bytes ≡ [])) → (why ≡ ReadFault → 0 < w.faults)
     → Ends o n a old new c why → Moved n a (by_ear v.child) (is_heard v.child) old new (EarWired old v) (EarWired new w)
-ear_read_over {n} {a} {o} {old} {new} v w c why is f live kept fits eof fault s =
+ear_read_over {n} {a} {o} {old} {new} v w c why is f unread few live kept fits eof fault s =
     let e : w.child ≡ v.child = ap (λ (x : EarValue). x.child) f.same in
-    moved_from (ear_filled old v w f live)
+    moved_from (ear_filled old v w f (omega (arith, few, ap (λ (bs : List ℕ). length bs) unread)) live)
     (subst (λ (k : ℕ). Moved n a (by_ear k) (is_heard k) old new (EarWired old w) (EarWired new w)) e (ear_over w c (is ∙ sym e) why kept fits eof fault s))
 
 -- ---- what the core says, by other names
@@ -230,7 +234,7 @@ module _ (o : Opening) (n : ℕ) (a : Bool) (old new : List Entry) (v w : EarVal
       go true e k = k.1
       go false e k = (k.0, inr (over e))
 
--- lines were fed behind the first
+-- lines were fed after the first
 pub fed_all : (v w x : EarValue) (journal : List Entry) → Shorter v w → IsAllFed w x journal
     → IsTrue (has_line longest_line v.held) × (length x.held < length v.held) × IsAllFed v x journal
 fed_all v w x journal s t =

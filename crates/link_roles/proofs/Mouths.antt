@@ -43,7 +43,7 @@ end_by_mouth past c = rw (same c, verdicts_by_mouth c (Ended Memory) (open_jobs 
 pub mouth_on : {n : ℕ} {a : Bool} {old new : List Entry} {makes : What → Bool} (v : MouthValue) → Passed n a old new → Moved n a makes (is_said v.child) old new (MouthWired old v) (MouthWired new v)
 mouth_on {old = old} v s = moved_on s (λ none h. subst (λ (j : List Entry). MouthWired j v) (sym s.is) (mouth_apart old s.others v none h))
 
--- the child ended for want of memory
+-- the child ended for lack of memory
 pub mouth_ends : {n : ℕ} {a : Bool} {o : Opening} {old new : List Entry} (v : MouthValue) → Ends o n a old new v.child Memory
     → Moved n a (by_mouth v.child) (is_said v.child) old new (MouthWired old v) (MouthWired new v)
 mouth_ends v (inr s) = mouth_on v s.0

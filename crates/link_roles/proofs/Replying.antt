@@ -1,5 +1,5 @@
 -- What the events of roles find and leave, by the core's table.
-use Rattle.std.proofs.Common.{◌≡◌, ℕ, List, [], ◌∷◌, ◌++◌, refl, sym, ap, subst, ◌∙◌, Bool, true, false, not, cond, Some, None, Option, append-nil, inl, inr}
+use Rattle.std.proofs.Common.{◌≡◌, ℕ, List, [], ◌∷◌, ◌++◌, refl, sym, ap, subst, ◌∙◌, Bool, true, false, not, cond, if◌then◌else◌, Some, None, Option, append-nil, inl, inr}
 use Rattle.std.specs.Prelude.{◌&&◌, ◌||◌}
 use Rattle.journal_model.specs.declared.verdict.Why.{Why}
 use Rattle.journal_model.specs.declared.verdict.Why.TheVariants.{Eof, ReadFault, LongLine, Memory}
@@ -20,7 +20,7 @@ use Rattle.host_core.specs.declared.event.Event.{Event}
 use Rattle.host_core.specs.declared.event.Event.TheVariants.{Look, Lookup, Listen, Fetch, Got, Ask, Stop, Sent, Mute}
 use Rattle.host_core.specs.declared.event.Reply.{Reply}
 use Rattle.host_core.specs.declared.event.Reply.TheVariants.{Done, Over, Job, Read, Wait, Odd, Line}
-use Rattle.host_core.specs.Steps.{Step, step_of, told, only, odd, gone, is_gone, is_asked, is_awaited, is_idle, listening, resting, next_job, next_line, settled_so, group_of, may_request, may_end}
+use Rattle.host_core.specs.Steps.{Step, step_of, told, shut_for, only, odd, gone, is_gone, is_asked, is_awaited, is_idle, listening, resting, next_job, next_line, settled_so, group_of, may_request, may_end}
 use Rattle.link_roles.specs.Replies.{gone_why, is_done, settled_as, listening_of, fetched_of, asked_of}
 use Rattle.link_roles.specs.Events.{IsListening, IsFetched, IsAsked, Says, can_end}
 use Rattle.link_roles.specs.Doors.{Passed, Made, Appended, Ends, Sends, Mutes, Takes}
@@ -42,7 +42,7 @@ pub says_now : {o : Opening} {n : ℕ} {a : Bool} {old new : List Entry} {event 
     → ((past : List Entry) → (step_of o past n event).group ≡ []) → Says o n new event reply
 says_now {o} {n} {new = new} {event = event} m g =
     let e : new ≡ m.past = m.is ∙ ap (λ (x : List Entry). m.past ++ x) (g m.past) ∙ append-nil m.past in
-    (m.shut, m.reply_is ∙ ap (λ (j : List Entry). told m.shut event (step_of o j n event).reply) (sym e))
+    (m.shut, m.reply_is ∙ ap (λ (j : List Entry). told j m.shut event (step_of o j n event).reply) (sym e))
 
 pub look_none : (o : Opening) (n c : ℕ) (past : List Entry) → (step_of o past n (Look c)).group ≡ []
 look_none o n c past = go (is_started past c) (is_gone past c)
@@ -108,7 +108,7 @@ awaited_hears past c h = go (is_empty (open_jobs past c)) (has_spoken past c) (i
     go false true false h = refl
 
 pub heard_so : (o : Opening) (past : List Entry) (n c : ℕ) (shut : Bool) → is_started past c ≡ true → (reply : Reply)
-    → reply ≡ told shut (Listen c) (step_of o past n (Listen c)).reply → IsListening o n past c (listening_of reply)
+    → reply ≡ told past shut (Listen c) (step_of o past n (Listen c)).reply → IsListening o n past c (listening_of reply)
 heard_so o past n c shut started reply e =
     by_end (is_ended past c) refl
   where
@@ -132,19 +132,19 @@ heard_so o past n c shut started reply e =
     by_end false k = by_wait (is_awaited past c) k refl
 
 pub fetched_so : (o : Opening) (past : List Entry) (n c : ℕ) (shut : Bool) → is_started past c ≡ true → (reply : Reply)
-    → reply ≡ told shut (Fetch c) (step_of o past n (Fetch c)).reply → IsFetched o n past c (fetched_of reply)
+    → reply ≡ told past shut (Fetch c) (step_of o past n (Fetch c)).reply → IsFetched o n past c (fetched_of reply)
 fetched_so o past n c shut started reply e = by_gone (is_gone past c) refl
   where
     turn : (r : Reply) → reply ≡ r → IsFetched o n past c (fetched_of r) → IsFetched o n past c (fetched_of reply)
     turn r k h = subst (λ (x : Reply). IsFetched o n past c (fetched_of x)) (sym k) h
 
-    by_rest : (b s : Bool) → shut ≡ s → is_gone past c ≡ false → unsent past c ≡ [] → (not (is_awaited past c) && is_idle o past c) ≡ b → IsFetched o n past c (fetched_of reply)
+    by_rest : (b s : Bool) → shut_for past shut (Fetch c) ≡ s → is_gone past c ≡ false → unsent past c ≡ [] → resting o past c ≡ (if b then Over else Wait) → IsFetched o n past c (fetched_of reply)
     by_rest true s f g u i = let r : reply ≡ Over = e ∙ (rw (started, g, u, i) refl) in turn Over r (shut, sym r ∙ e)
     by_rest false true f g u i = let r : reply ≡ Over = e ∙ (rw (started, g, u, i, f) refl) in turn Over r (shut, sym r ∙ e)
     by_rest false false f g u i = let r : reply ≡ Wait = e ∙ (rw (started, g, u, i, f) refl) in turn Wait r (shut, sym r ∙ e)
 
     by_line : (ws : List (Option ℕ × List ℕ)) → unsent past c ≡ ws → is_gone past c ≡ false → IsFetched o n past c (fetched_of reply)
-    by_line [] u g = by_rest (not (is_awaited past c) && is_idle o past c) shut refl g u refl
+    by_line [] u g = by_rest (not (is_awaited past c) && is_idle o past c) (shut_for past shut (Fetch c)) refl g u refl
     by_line (w ∷ ws) u g =
         let r : reply ≡ Line (w.1 ++ 10 ∷ []) = e ∙ (rw (started, g, u) refl) in
         turn (Line (w.1 ++ 10 ∷ [])) r

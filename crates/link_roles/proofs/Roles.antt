@@ -121,7 +121,7 @@ moved_on {n} {a} {makes} {mine} s kept = record {
 pub moved_still : {n : ℕ} {a : Bool} {makes mine : What → Bool} {old new : List Entry} {Before After : Type 0} → new ≡ old → (Before → After) → Moved n a makes mine old new Before After
 moved_still {n} {a} {makes} {mine} {old} e kept = record { more = []; is = e ∙ sym (append-nil old); own = refl; lone = λ h. refl; kept = λ h. kept }
 
--- one thing behind another, by the same number
+-- one thing after another, by the same number
 pub moved_both : {n m : ℕ} {a b : Bool} {makes mine : What → Bool} {x y z : List Entry} {P Q R : Type 0} → m ≡ n → b ≡ a
     → Moved n a makes mine x y P Q → Moved m b makes mine y z Q R → Moved n a makes mine x z P R
 moved_both {n} {m} {a} {b} {makes} {mine} {x} {y} {z} {P} {Q} {R} en ea s t' =

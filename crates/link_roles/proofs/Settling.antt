@@ -1,4 +1,4 @@
--- Nothing is heard behind a verdict that a line gave, and nothing before all was written.
+-- Nothing is heard after a verdict that a line gave, and nothing before all was written.
 use Rattle.std.proofs.Common.{◌≡◌, ℕ, List, [], ◌∷◌, ◌++◌, refl, sym, ap, subst, ◌∙◌, Bool, true, false, not, cond, Some, None, Option, append_assoc, append-nil, inl, inr, length}
 use Rattle.std.specs.Prelude.{◌⊎◌, ◌==◌, ◌&&◌, ◌||◌, map, filter, drop}
 use Rattle.std.specs.List.{list_all, list_any}
@@ -322,7 +322,7 @@ pub waited_out : {n m : ℕ} {a b : Bool} {x y z : List Entry} {P : Type 0} (c d
 waited_out {n} {m} {a} {b} {x} {y} {z} c d j en ea ec s w t =
     moved_both en ea s (moved_from (λ h. (w, h)) (subst (λ (k : ℕ). HeardMoved m b y z k j (Waits k j y)) ec t))
 
--- one thing behind another, by the child's number under two names
+-- one thing after another, by the child's number under two names
 pub heard_then : {n m : ℕ} {a b : Bool} {x y z : List Entry} {P : Type 0} (c d j : ℕ) → m ≡ n → b ≡ a → d ≡ c → HeardMoved n a x y c j P → HeardMoved m b y z d j (HeardOut d j y)
     → HeardMoved n a x z c j P
 heard_then {n} {m} {a} {b} {x} {y} {z} c d j en ea ec s t = moved_both en ea s (subst (λ (k : ℕ). HeardMoved m b y z k j (HeardOut k j y)) ec t)

@@ -40,7 +40,7 @@ use Rattle.link_roles.proofs.Settling.{all_kinds, written_more, unsent_same, Unt
 abbrev pub Writes : ℕ → List Entry → Type 0
 Writes c journal = is_written_first journal c ≡ true
 
--- ---- behind more entries
+-- ---- after more entries
 
 and_assoc : (a b c : Bool) → ((a && b) && c) ≡ (a && (b && c))
 and_assoc true b c = refl

@@ -1,4 +1,4 @@
--- What a link does where nobody else steps the core: its entries stand directly behind what was seen.
+-- What a link does where nobody else steps the core: its entries stand directly after what was seen.
 use Rattle.std.specs.Prelude.{ℕ, ◌≡◌, ◌⊎◌, if◌then◌else◌, IsTrue, true, false, List, [], ◌∷◌, ◌++◌, Some}
 use Rattle.std.specs.List.{list_all}
 use Rattle.journal_model.specs.declared.verdict.Why.TheVariants.{Closed}

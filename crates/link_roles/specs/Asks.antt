@@ -57,7 +57,7 @@ pub record IsHeardOut (c job : ℕ) (verdict : Verdict) (journal : List Entry) :
   pub last : any (is_of_child c) rest ≡ false
   pub written : (unsent journal c ≡ []) ⊎ (is_mute journal c ≡ true)
 
--- where a line gave the job's verdict, nothing was heard behind it, and all was written
+-- where a line gave the job's verdict, nothing was heard after it, and all was written
 abbrev pub HeardOut : ℕ → ℕ → List Entry → Type 0
 HeardOut c job journal = (v : Verdict) → verdict_of journal c job ≡ Some v → is_by_line v ≡ true → IsHeardOut c job v journal
 

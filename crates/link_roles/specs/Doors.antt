@@ -21,21 +21,21 @@ pub record Passed (number : ℕ) (alone : Bool) (old new : List Entry) : Type 0 
   pub apart : are_others number others ≡ true
   pub none : alone ≡ true → others ≡ []
 
--- behind entries of others stands what the event appends there by this number, and the reply is the event's, of a core that is
+-- after entries of others stands what the event appends there by this number, and the reply is the event's, of a core that is
 -- shut or not
 pub record Made (o : Opening) (number : ℕ) (alone : Bool) (old new : List Entry) (event : Event) (reply : Reply) : Type 0 where
   pub past : List Entry
   pub passed : Passed number alone old past
   pub legal : Legal o old → Legal o past
   pub shut : Bool
-  pub reply_is : reply ≡ told shut event (step_of o past number event).reply
+  pub reply_is : reply ≡ told past shut event (step_of o past number event).reply
   pub is : new ≡ past ++ (step_of o past number event).group
 
 -- where no memory is found nothing is appended
 abbrev pub Stepped : Opening → ℕ → Bool → List Entry → List Entry → Event → Result Reply NoMemory → Type 0
 Stepped o number alone old new event result = MatchResult result (Made o number alone old new event) (λ _. Passed number alone old new)
 
--- behind entries of others stands the entry, with what it makes due, and at its place this was so
+-- after entries of others stands the entry, with what it makes due, and at its place this was so
 pub record Appended (o : Opening) (number : ℕ) (alone : Bool) (old new : List Entry) (w : What) (Found : List Entry → Type 0) : Type 0 where
   pub past : List Entry
   pub passed : Passed number alone old past

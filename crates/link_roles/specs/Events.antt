@@ -31,7 +31,7 @@ can_end why = false
 
 -- the core, shut or not, answers so where this is the journal
 abbrev pub Says : Opening → ℕ → List Entry → Event → Reply → Type 0
-Says o number journal event reply = (shut : Bool) × (reply ≡ told shut event (step_of o journal number event).reply)
+Says o number journal event reply = (shut : Bool) × (reply ≡ told journal shut event (step_of o journal number event).reply)
 
 abbrev pub IsListening : Opening → ℕ → List Entry → ℕ → Listening → Type 0
 IsListening o number journal c Read = (is_ended journal c ≡ false) × (may_hear journal c ≡ true)

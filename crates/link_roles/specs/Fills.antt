@@ -19,7 +19,7 @@ pub record ReadsOn (given given' : Option (List ℕ)) (held held' : List ℕ) : 
   pub silent : given ≡ None → given' ≡ None
   pub cut : TakesPiece held piece held'
 
--- at least a byte came behind what was held, and at most so many
+-- at least a byte came after what was held, and at most so many
 pub record GrowsBy (most : ℕ) (old new : List ℕ) : Type 0 where
   pub piece : List ℕ
   pub some : 0 < length piece

@@ -11,7 +11,7 @@ as_far_as_its_verdict = take 15 check_present
 abbrev pub unwritten : List Entry
 unwritten = take 12 check_present ++ drop 13 as_far_as_its_verdict
 
--- it was written only behind its answer
+-- it was written only after its answer
 abbrev pub written_late : List Entry
 written_late = unwritten ++ drop 12 (take 13 check_present)
 

@@ -66,7 +66,7 @@ impl<I: Sink, O: Source> Lone<I, O> {
         self.why_ended(door)
     }
 
-    /// Ends a child that hasn't ended, for want of memory.
+    /// Ends a child that hasn't ended, for lack of memory.
     pub fn give_up_alone<D: Door>(&mut self, door: &mut D)
         requires alone { D.alone door.old ≡ true }
         requires started { is_started (D.seen door.old) self.old.ear.child ≡ true }

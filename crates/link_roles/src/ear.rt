@@ -198,7 +198,7 @@ impl<O: Source> Ear<O> {
         }
     }
 
-    // Reads once, where no line stands first. At the end of the output, a fault or want of memory the child ends.
+    // Reads once, where no line stands first. At the end of the output, a fault, or where memory runs out, the child ends.
     fn read<D: Door>(&mut self, door: &mut D) -> Heard
         requires started { is_started (D.seen door.old) self.old.child ≡ true }
         requires live { is_ended (D.seen door.old) self.old.child ≡ false }

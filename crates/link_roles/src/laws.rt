@@ -20,7 +20,7 @@ pub fn heard_out_rows()
     ensures unwritten { IsHeardOut 1 2 (Done 13) unwritten → ⊥ }
 {}
 
-/// In the worked check each request was written before it was answered. It isn't so where one never was, or only behind its
+/// In the worked check each request was written before it was answered. It isn't so where one never was, or only after its
 /// answer; of a mute child nothing is said.
 pub fn written_first_rows()
     ensures whole { is_written_first check_present 1 ≡ true }

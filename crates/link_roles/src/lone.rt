@@ -165,7 +165,7 @@ impl<I: Sink, O: Source> Lone<I, O> {
         events::why_ended(door, child)
     }
 
-    /// Ends a child that hasn't ended, for want of memory.
+    /// Ends a child that hasn't ended, for lack of memory.
     pub fn give_up<D: Door>(&mut self, door: &mut D)
         requires started { is_started (D.seen door.old) self.old.ear.child ≡ true }
         ensures moved { LinkMoved (D.number door.old) (D.alone door.old) (D.seen door.old) (D.seen door.new) self.old.ear self.new.ear self.old.mouth self.new.mouth }
@@ -293,7 +293,7 @@ impl<I: Sink, O: Source> Lone<I, O> {
     }
 
     /// Asks one request, writes its line, and goes on until it is settled. Nothing is heard while a line is to be written, nor
-    /// behind the verdict. `NoMemory` comes only before it is asked; later want of memory ends the child.
+    /// after the verdict. `NoMemory` comes only before it is asked; later running out of memory ends the child.
     pub fn ask<D: Door>(
         &mut self,
         door: &mut D,

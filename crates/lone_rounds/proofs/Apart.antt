@@ -1,4 +1,4 @@
--- What stays of a child while nothing is made of it, and what stands behind a start in its stint.
+-- What stays of a child while nothing is made of it, and what stands after a start in its stint.
 use Rattle.std.proofs.Common.{◌≡◌, ℕ, List, [], ◌∷◌, ◌++◌, refl, ap, ◌∙◌, Bool, true, false, not, ◌==◌, Some, None, Option}
 use Rattle.std.specs.Prelude.{◌&&◌, ◌||◌, is_some, option_and_then}
 use Rattle.std.specs.List.{list_all}
@@ -25,7 +25,7 @@ use Rattle.lone_rounds.specs.Starting.{is_any_start, is_ready_untagged, is_spent
 use Rattle.lone_rounds.specs.Stints.{in_stint}
 use Rattle.lone_rounds.proofs.Tests.{or_false}
 
--- ---- behind a start
+-- ---- after a start
 
 pub no_start_in : (c : ℕ) (w : What) → in_stint c w ≡ true → is_any_start w ≡ false
 no_start_in c (Start child slot offer) h = absurd cc

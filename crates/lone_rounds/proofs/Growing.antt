@@ -62,7 +62,7 @@ says_start past offer first (inr e) = subst (SaysStart past offer) (sym e) recor
   up_to = tt;
 }
 
--- ---- what stands behind the start
+-- ---- what stands after the start
 
 module _ {o : Opening} {offer next : Bool} {first : What} {old new : List Entry} (s : Stretch o offer next first old new) where
   abbrev pub tail : List Entry

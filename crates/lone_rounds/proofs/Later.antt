@@ -1,4 +1,4 @@
--- Behind a greeting each job that is asked is one of a task, which is neither job 0 nor job 1.
+-- After a greeting each job that is asked is one of a task, which is neither job 0 nor job 1.
 use Rattle.std.proofs.Common.{◌≡◌, ℕ, ◌≤◌, List, [], ◌∷◌, ◌++◌, refl, sym, ap, subst, ◌∙◌, Bool, true, false, not, ◌==◌, cond, Some, None, Option, arith, length, length-append, append_assoc, append-nil}
 use Rattle.std.specs.Prelude.{◌&&◌, ◌||◌}
 use Rattle.std.specs.List.{list_all, cons_option}
@@ -73,7 +73,7 @@ module _ (o : Opening) (c : ℕ) (start : List Entry) where
     all = all-join (λ (x : Entry). late c x.what) g.more (e ∷ due_after o past e) g.all (rw (first_late past e.by e.what g.jobs may, due_late o past e.by c e.what) refl);
   }
 
-  -- behind two jobs of c
+  -- after two jobs of c
   pub late_from : (rest : List Entry) → Legal o start → Legal o (start ++ rest) → 2 ≤ length (asked_jobs start c) → list_all (λ (e : Entry). late c e.what) rest ≡ true
   late_from rest first whole two =
       let base : Goes c start start = record { jobs = two; more = []; is = sym (append-nil start); all = refl } in

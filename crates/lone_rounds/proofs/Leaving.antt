@@ -76,7 +76,7 @@ of_start None new x (Some n) a h = tt
 of_start (Some xs) None x (Some n) a h = absurd a
 of_start (Some xs) (Some ys) x (Some n) a h = h ∙ ap (λ (zs : Starts). length zs) a ∙ length-append xs (x ∷ [])
 
--- a start behind those that were told
+-- a start after those that were told
 shifted : (old mid : Option Starts) (told_so : Starts) (k : ℕ) (n : Option ℕ) → AddsAll old mid told_so → length told_so ≡ k → IsOfStart mid 1 n → IsOfStart old (k + 1) n
 shifted old mid told_so k None a e h = tt
 shifted None mid told_so k (Some n) a e h = tt
@@ -203,7 +203,7 @@ starts_none program journal before after wires wires' adds rose le same = record
 -- ---- all that is kept
 
 module _ {program : List ℕ} {old : List Entry} {start before : ProgramsValue} {wires : List WireValue} (k : Kept program old start before wires) (up_to : AreUpTo (count is_start old) (came old)) where
-  -- behind one start more
+  -- after one start more
   pub kept_next : (new : List Entry) (first : What) (later : List Entry) (after : ProgramsValue) (wires' : List WireValue) → new ≡ old ++ main_entry first ∷ later → any is_any_start later ≡ false
       → ((d : ℕ) → d ≤ count is_start old → any (is_of_child d) (main_entry first ∷ later) ≡ false) → StartsOne program new first before after wires wires' → Kept program new start after wires'
   kept_next new first later after wires' is none apart s = record {
@@ -251,7 +251,7 @@ module _ {program : List ℕ} {old : List Entry} {start before : ProgramsValue} 
           ∙ ap (λ (n : ℕ). count is_failed_start old + n)
           (count-append is_failed_start (main_entry first ∷ []) later ∙ (let none_failed = count_none is_failed_start later (any_narrower is_failed_start is_any_start failed_start_is later none) in omega (arith, none_failed)))
 
-  -- behind entries that start nothing and are of no child
+  -- after entries that start nothing and are of no child
   pub kept_still : (new more : List Entry) → new ≡ old ++ more → any is_any_start more ≡ false → ((d : ℕ) → any (is_of_child d) more ≡ false) → Kept program new start before wires
   kept_still new more is none apart = record {
     linked = subst (λ (cs : List (Option ℕ)). AreLinked start.starts new 0 cs wires) (sym came_new)

@@ -92,7 +92,7 @@ pub gained_more : (a b d : Option (List Call)) (xs ys : List Call) → Gained a 
 gained_more None b d xs ys h k = k ∙ ap (λ (o : Option (List Call)). option_map (λ (log : List Call). log ++ ys) o) h
 gained_more (Some calls) b d xs ys h k = k ∙ ap (λ (o : Option (List Call)). option_map (λ (log : List Call). log ++ ys) o) h ∙ ap (λ (l : List Call). Some l) (append_assoc calls xs ys)
 
--- ---- one stretch behind another
+-- ---- one stretch after another
 
 pub done_nothing : (o : Opening) (setup : Setup) (limit : ℕ) (journal : List Entry) (desk : DeskTells) → TasksDone o setup limit journal [] desk desk
 done_nothing o setup limit journal desk = record { done = []; claimed = refl; answered = refl; ran = tt; log_is = gained_nothing desk.log; caused = refl }
@@ -142,7 +142,7 @@ done_same o setup limit journal xs ys a b e f k = record {
 abbrev pub IsOfNoCall : Answer → Type 0
 IsOfNoCall answer = may_follow_refusal (Ok answer) ≡ false
 
--- the task was claimed behind past and answered so
+-- the task was claimed after past and answered so
 pub done_zero : (o : Opening) (setup : Setup) (limit : ℕ) (journal past rest : List Entry) (t : ℕ) (answer : Answer) (desk : DeskTells)
     → journal ≡ past ++ main_entry (Claim t 0) ∷ main_entry (Answered t answer) ∷ rest → ZeroAnswers limit past (failed_start past (start_untaken past)) answer → IsOfNoCall answer
     → TasksDone o setup limit journal (main_entry (Claim t 0) ∷ main_entry (Answered t answer) ∷ []) desk desk

@@ -1,4 +1,4 @@
--- The entries are looked through, one by one, for an end for want of memory.
+-- The entries are looked through, one by one, for an end for lack of memory.
 use Rattle.std.proofs.Common.{refl, ◌≡◌, ℕ, zero, suc, ◌+◌, List, [], ◌∷◌, sym, ap, subst, ◌∙◌, Bool, true, false, arith}
 use Rattle.std.specs.Prelude.{option_map, slice_get, take, Option}
 use Rattle.journal_model.specs.declared.entry.Entry.{Entry}

@@ -93,7 +93,7 @@ module _ (o : Opening) (g more : List Entry) (c : ℕ) (legal : Legal o g) (read
   pub answers_nothing : unready_answer (g ++ more) c ≡ None
   answers_nothing = ap (λ (b : Bool). cond b None (or_refusal (gone_answer (g ++ more) c) (refusal_of (g ++ more) c))) done_still
 
--- behind its greeting no start is left for a task to take up, so one may be claimed for the child
+-- after its greeting no start is left for a task to take up, so one may be claimed for the child
 module _ (o : Opening) (old g : List Entry) (offer : Bool) (c : ℕ) (greeted : Greeted old g 0 offer c) (legal : Legal o g) (ready : IsReady g c) where
   abbrev begun : Entry
   begun = main_entry (Start c 0 offer)

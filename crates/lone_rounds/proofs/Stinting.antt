@@ -226,7 +226,7 @@ module _ (c : ℕ) (tail : List Entry) (one : (tail ≡ []) ⊎ (tail ≡ main_e
   pub closing_closes : list_all (λ (e : Entry). is_closing e.what) tail ≡ true
   closing_closes = of_closing (λ (x : List Entry). list_all (λ (e : Entry). is_closing e.what) x ≡ true) refl refl
 
-  -- behind entries of which an answer is the last
+  -- after entries of which an answer is the last
   pub closing_ends : (past new : List Entry) (x : Entry) (xs : List Entry) → new ≡ (past ++ x ∷ xs) ++ tail → ends_answered (x ∷ xs) ≡ true → EndsClosed new
   closing_ends past new x xs is h = record {
     past = past ++ x ∷ xs;

@@ -50,7 +50,7 @@ last_claims x (Some y ∷ ns) h = absurd h
 abbrev flat : Option Turn → Turn
 flat o = option_and_then (λ (turn : Turn). turn) o
 
--- ---- behind a start that gave a child
+-- ---- after a start that gave a child
 
 module _ (old later : List Entry) (c : ℕ) (offer : Bool) where
   abbrev begun : List Entry
@@ -62,7 +62,7 @@ module _ (old later : List Entry) (c : ℕ) (offer : Bool) where
   last_is : last_or None (each_of turn_of begun) ≡ last_or (Some (Some (Some c))) (each_of turn_of later)
   last_is = ap (last_or None) turns_are ∙ last_behind None (each_of turn_of old) (Some (Some c)) (each_of turn_of later)
 
-  -- no task was claimed behind it
+  -- no task was claimed after it
   pub child_untaken : each_of turn_of later ≡ [] → start_untaken begun ≡ Some (Some c)
   child_untaken none = ap flat (last_is ∙ ap (last_or (Some (Some (Some c)))) none)
 
@@ -74,12 +74,12 @@ module _ (old later : List Entry) (c : ℕ) (offer : Bool) where
       go (inl e) = ap (λ (x : Option Turn). failed_start begun (flat x)) (last_is ∙ e) ∙ ready
       go (inr e) = ap (λ (x : Option Turn). failed_start begun (flat x)) (last_is ∙ e)
 
--- ---- behind a start that failed
+-- ---- after a start that failed
 
 pub fault_untaken : (old : List Entry) → start_untaken (old ++ main_entry (NoStart 0) ∷ []) ≡ Some None
 fault_untaken old = ap flat (ap (last_or None) (each_of-append turn_of old (main_entry (NoStart 0) ∷ [])) ∙ last_behind None (each_of turn_of old) (Some None) [])
 
--- ---- behind a claim
+-- ---- after a claim
 
 pub claim_takes : (past tail : List Entry) (t : ℕ) (answer : Answer) → each_of turn_of tail ≡ [] → start_untaken (past ++ main_entry (Claim t 0) ∷ main_entry (Answered t answer) ∷ tail) ≡ None
 claim_takes past tail t answer none =

@@ -67,7 +67,7 @@ pub answers_one : (o : Opening) (old mid new : List Entry) (t : ℕ) (answer : A
 answers_one o old mid new t answer least is given =
     (t, least, given ∙ ap (λ (x : List Entry). x ++ main_entry (Answered t answer) ∷ []) is ∙ append_assoc old (main_entry (Claim t 0) ∷ []) (main_entry (Answered t answer) ∷ []))
 
--- ---- no task is busy behind it
+-- ---- no task is busy after it
 
 pub rests_one : (past : List Entry) (t : ℕ) (answer : Answer) → ((u : ℕ) → is_busy past u ≡ false) → (u : ℕ) → is_busy (past ++ main_entry (Claim t 0) ∷ main_entry (Answered t answer) ∷ []) u ≡ false
 rests_one past t answer rest u = ap is_some (holder_append past (main_entry (Claim t 0) ∷ main_entry (Answered t answer) ∷ []) u) ∙ go (t == u) refl
@@ -83,7 +83,7 @@ pub fewer_now : (o : Opening) (old new : List Entry) (t : ℕ) (answer : Answer)
 fewer_now o old new t answer least is =
     fewer_left o old new (main_entry (Answered t answer) ∷ []) 0 0 t least (is ∙ sym (append_assoc old (main_entry (Claim t 0) ∷ []) (main_entry (Answered t answer) ∷ [])))
 
--- ---- one behind the other
+-- ---- one after the other
 
 pub left_more : (answer : Answer) (ts : List ℕ) (t : ℕ) → answered_so answer (ts ++ t ∷ []) ≡ answered_so answer ts ++ main_entry (Claim t 0) ∷ main_entry (Answered t answer) ∷ []
 left_more answer [] t = refl

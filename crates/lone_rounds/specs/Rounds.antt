@@ -31,7 +31,7 @@ turn_of (NoStart slot) = if slot == 0 then Some (Some None) else None
 turn_of (Claim task child) = Some None
 turn_of w = None
 
--- what the last start came to, where no task was claimed behind it
+-- what the last start came to, where no task was claimed after it
 abbrev pub start_untaken : List Entry → Option (Option ℕ)
 start_untaken past = option_and_then (λ turn. turn) (last_or None (each_of turn_of past))
 
@@ -54,7 +54,7 @@ StandsNext o past (NoStart slot) = slot ≡ 0 → MayStart o past
 StandsNext o past (Claim task child) = 0 < child → NoneUntaken past
 StandsNext o past w = Unit {0}
 
--- so do all of the entries, which stand behind past
+-- so do all of the entries, which stand after past
 abbrev pub AllStandNext : Opening → List Entry → List Entry → Type 0
 AllStandNext o past [] = Unit {0}
 AllStandNext o past (e ∷ rest) = StandsNext o past e.what × AllStandNext o (past ++ e ∷ []) rest
@@ -77,7 +77,7 @@ opened_in (NoStart slot) = Some None
 opened_in (Claim task child) = Some None
 opened_in w = None
 
--- the child that is greeted here: that of the last start, where no task was claimed behind it
+-- the child that is greeted here: that of the last start, where no task was claimed after it
 abbrev pub greeted : List Entry → Option ℕ
 greeted past = option_and_then (λ child. child) (last_or None (each_of opened_in past))
 
@@ -86,14 +86,14 @@ abbrev pub IsLostIn : List Entry → What → Type 0
 IsLostIn past (Lost child task) = task ≡ 0 → greeted past ≡ Some child
 IsLostIn past w = Unit {0}
 
--- so is each that the main thread lost among the entries, which stand behind past
+-- so is each that the main thread lost among the entries, which stand after past
 abbrev pub AllLostWell : List Entry → List Entry → Type 0
 AllLostWell past [] = Unit {0}
 AllLostWell past (e ∷ rest) = (e.by ≡ 0 → IsLostIn past e.what) × AllLostWell (past ++ e ∷ []) rest
 
 -- ---- a task that is left
 
--- a child ended for want of memory
+-- a child ended for lack of memory
 abbrev pub ends_for_memory : What → Bool
 ends_for_memory (End child ForMemory) = true
 ends_for_memory w = false
@@ -136,7 +136,7 @@ is_of_run w = true
 
 -- The journal is legal and all its entries are the main thread's. Each child was started in its turn, and has ended. A request of no task
 -- is lost in a greeting alone. Each task
--- that was claimed was run and then answered so, one behind the other, and the desk made the calls of these runs, in their
+-- that was claimed was run and then answered so, one after the other, and the desk made the calls of these runs, in their
 -- order, and no others.
 pub record RanAlone (o : Opening) (setup : Setup) (may : Bool) (limit : ℕ) (journal : List Entry) (desk desk' : DeskTells) : Type 0 where
   pub legal : Legal o journal
@@ -157,7 +157,7 @@ abbrev pub is_closing : What → Bool
 is_closing (End child why) = is_closed why
 is_closing w = false
 
--- behind the last answer children were closed, and nothing else was done
+-- after the last answer children were closed, and nothing else was done
 pub record EndsClosed (journal : List Entry) : Type 0 where
   pub past : List Entry
   pub closings : List Entry

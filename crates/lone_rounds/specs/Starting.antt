@@ -43,12 +43,12 @@ is_ready_untagged past c = is_prepared past c && not (is_tagged past c)
 abbrev pub is_offered : List Entry → Bool
 is_offered past = not (list_any (is_ready_untagged past) (children past))
 
--- a start behind past offers ASYNC exactly then, in a run that offers it at all
+-- a start after past offers ASYNC exactly then, in a run that offers it at all
 abbrev pub OffersWell : Bool → List Entry → What → Type 0
 OffersWell may past (Start child slot offer) = offer ≡ (may && is_offered past)
 OffersWell may past w = Unit {0}
 
--- so does each start of the entries, which stand behind past
+-- so does each start of the entries, which stand after past
 abbrev pub AllOffer : Bool → List Entry → List Entry → Type 0
 AllOffer may past [] = Unit {0}
 AllOffer may past (e ∷ rest) = OffersWell may past e.what × AllOffer may (past ++ e ∷ []) rest
@@ -70,13 +70,13 @@ abbrev pub up_to : (What → Bool) → List Entry → List Entry
 up_to is [] = []
 up_to is (e ∷ rest) = if is e.what then [] else e ∷ up_to is rest
 
--- Of a start, the last of these entries, and of what stands behind it: it gave no child, or its child is spent by what stands before the
+-- Of a start, the last of these entries, and of what stands after it: it gave no child, or its child is spent by what stands before the
 -- next start.
 abbrev pub is_start_spent : List Entry → What → List Entry → Bool
 is_start_spent here (Start child slot offer) rest = is_spent (here ++ up_to is_any_start rest) child
 is_start_spent here w rest = true
 
--- so is each start of the entries, which stand behind past
+-- so is each start of the entries, which stand after past
 abbrev pub are_spent : List Entry → List Entry → Bool
 are_spent past [] = true
 are_spent past (e ∷ rest) = is_start_spent (past ++ e ∷ []) e.what rest && are_spent (past ++ e ∷ []) rest

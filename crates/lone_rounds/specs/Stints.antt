@@ -41,7 +41,7 @@ abbrev pub AnswersOne : Opening → List Entry → List Entry → Answer → Boo
 AnswersOne o old new answer true = (t : ℕ) × (least_free o old ≡ Some t) × (new ≡ old ++ main_entry (Claim t 0) ∷ main_entry (Answered t answer) ∷ [])
 AnswersOne o old new answer false = (new ≡ old) × (are_all_claimed o old ≡ true)
 
--- there is such an entry, which ends a child for want of memory
+-- there is such an entry, which ends a child for lack of memory
 abbrev pub is_memory_end : Option Entry → Bool
 is_memory_end None = false
 is_memory_end (Some e) = ends_for_memory e.what
@@ -89,7 +89,7 @@ pub record TasksDone (o : Opening) (setup : Setup) (limit : ℕ) (journal entrie
 
 -- ---- one start
 
--- what may stand behind the start of c: no other start, and nothing of another child
+-- what may stand after the start of c: no other start, and nothing of another child
 abbrev pub in_stint : ℕ → What → Bool
 in_stint c (Claim task child) = true
 in_stint c (Start child slot offer) = false
@@ -113,7 +113,7 @@ next_child past = count is_start past + 1
 abbrev pub IsStart : List Entry → Bool → What → Type 0
 IsStart past offer first = (first ≡ Start (next_child past) 0 offer) ⊎ (first ≡ NoStart 0)
 
--- Where a task is left, the journal has one start more, and what followed it, whoever made that, in turn. No task is busy behind it; its
+-- Where a task is left, the journal has one start more, and what followed it, whoever made that, in turn. No task is busy after it; its
 -- child has ended; it is spent, or all tasks are claimed. `next` says whether ASYNC is offered from then on.
 pub record Stretch (o : Opening) (offer next : Bool) (first : What) (old new : List Entry) : Type 0 where
   pub left : are_all_claimed o old ≡ false
@@ -226,7 +226,7 @@ pub record Kept (program : List ℕ) (journal : List Entry) (before after : Prog
   pub faults : RoseBy (count is_failed_start journal) before.faults after.faults
   pub later : before.faults ≤ after.faults
 
--- the same, where they may have been asked once more for want of memory
+-- the same, where they may have been asked once more for lack of memory
 abbrev pub KeptOr : List ℕ → List Entry → ProgramsValue → ProgramsValue → List WireValue → Result (Unit {0}) NoMemory → Type 0
 KeptOr program journal before after wires result =
     MatchResult result

@@ -36,7 +36,7 @@ pub fn not_prepared(verdict: Verdict) -> Answer
     }
 }
 
-/// Whether ASYNC is offered behind a child that is ready, tagged or not.
+/// Whether ASYNC is offered after a child that is ready, tagged or not.
 pub fn is_offered(offer: bool, tagged: bool) -> bool
     ensures { result ≡ (offer && tagged) }
 {

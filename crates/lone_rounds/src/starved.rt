@@ -1,4 +1,4 @@
-// Whether want of memory ended a child of a run.
+// Whether running out of memory ended a child of a run.
 ghost use Rattle.std.specs.Prelude.{◌≡◌, option_map};
 ghost use Rattle.journal_model.specs.Journal.{any};
 ghost use Rattle.journal_look.specs.Shown.{entry_shown};
@@ -23,7 +23,7 @@ fn is_memory_end(entry: Option<EntryRef<'_>>) -> bool
     }
 }
 
-/// Whether a child ended for want of memory.
+/// Whether a child ended for lack of memory.
 pub(crate) fn is_starved(journal: &Journal) -> bool
     ensures { result ≡ any ends_for_memory journal.now.entries }
 {

@@ -23,7 +23,7 @@ use Rattle.lone_work.specs.AtTasks.{AtTask}
 use Rattle.host_core.specs.Steps.{Step, step_of, claim, only, append, gone, is_gone, are_all_claimed}
 use Rattle.link_roles.specs.Doors.{Made, Stepped}
 use Rattle.lone_work.proofs.Serving.{idle_on, prepared_on}
-use Rattle.lone_work.specs.Works.{Begun, CanWork, ClaimsNext, task_in}
+use Rattle.lone_work.specs.Works.{LoneBegun, CanWork, ClaimsNext, task_in}
 
 -- ---- tasks that are free
 
@@ -83,7 +83,7 @@ module _ (o : Opening) (n c : ℕ) (old : List Entry) (can : CanWork o c old) wh
     unopened : has_open_job old t ≡ false
     unopened = ap (list_any (λ (q : ℕ × ℕ). is_open old q.0 q.1)) (no_jobs_in t old none)
 
-    pub begins : Begun o n c t (old ++ entry n (Claim t c) ∷ [])
+    pub begins : LoneBegun o n c t (old ++ entry n (Claim t c) ∷ [])
     begins = record {
       past = old;
       is = refl;
@@ -128,9 +128,9 @@ module _ (o : Opening) (n c : ℕ) (old : List Entry) (can : CanWork o c old) wh
       by_least : (f : Option ℕ) → least_free o old ≡ f → step_of o old n (ClaimEvent c) ≡ claim o old n c f → ClaimsNext o n c old new (task_in reply)
       by_least (Some t) least is =
           let is_new : new ≡ old ++ entry n (Claim t c) ∷ [] = grown (claim o old n c (Some t)) is in
-          let b : Begun o n c t (old ++ entry n (Claim t c) ∷ []) = begins t least (subst (Legal o) is_new legal) in
+          let b : LoneBegun o n c t (old ++ entry n (Claim t c) ∷ []) = begins t least (subst (Legal o) is_new legal) in
           subst (λ (x : Reply). ClaimsNext o n c old new (task_in x)) (sym (said (claim o old n c (Some t)) is))
-          (subst (λ (x : List Entry). (w : Begun o n c t x) × (w.past ≡ old)) (sym is_new) (b, refl))
+          (subst (λ (x : List Entry). (w : LoneBegun o n c t x) × (w.past ≡ old)) (sym is_new) (b, refl))
       by_least None least is =
           let all : are_all_claimed o old ≡ true = claimed_all o old can.rest (numbers_of o) least in
           let done : step_of o old n (ClaimEvent c) ≡ only NoTask = is ∙ (rw all refl) in

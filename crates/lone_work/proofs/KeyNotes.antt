@@ -37,7 +37,7 @@ use Rattle.lone_work.specs.KnownLayouts.{known_layouts, layouts_at, BusyKeysDiff
 record NoTwo (o : Opening) (past : List Entry) : Type 0 where
   pub differ : (t u : ℕ) (s r : Task) → is_busy past t ≡ true → is_busy past u ≡ true → task_of o t ≡ Some s → task_of o u ≡ Some r → s.key ≡ r.key → t ≡ u
 
--- who is busy behind an entry that doesn't claim him was so before
+-- who is busy after an entry that doesn't claim him was so before
 busy_before : (o : Opening) (past : List Entry) (by : ℕ) (w : What) (t : ℕ) → claims t w ≡ false → is_busy (past ++ entry by w ∷ due_after o past (entry by w)) t ≡ true → is_busy past t ≡ true
 busy_before o past by w t n b = was (holder past t) w n (sym (ap is_some after) ∙ b)
   where

@@ -170,7 +170,7 @@ module _ (o : Opening) (n t : ℕ) where
     noted = notings-unnoted past (entry n (Lost c t) ∷ []) t at.shut refl;
   }
 
-  -- behind entries that make nothing of the task
+  -- after entries that make nothing of the task
   asks_from : (old mid new : List Entry) (q : HostMessage) (v : Verdict) → SameTask o n t old mid → AsksNow o n t mid new q v → AsksNow o n t old new q v
   asks_from old mid new q v s a = record {
     at = a.at;

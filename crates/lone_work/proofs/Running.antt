@@ -33,7 +33,7 @@ use Rattle.lone_work.proofs.KeyNotes.{layouts_since_claim}
 use Rattle.lone_work.proofs.Noted.{notes_for, notings_from-append, notings_from-none, notings-unnoted}
 use Rattle.lone_work.proofs.Serving.{gives_none, held_on, idle_on, prepared_on, server_answers, server_claims}
 use Rattle.gathering.specs.JournalRuns.{JournalRun}
-use Rattle.lone_work.specs.Works.{Begun, CanWork, DeskTells, Does, RanFor}
+use Rattle.lone_work.specs.Works.{LoneBegun, CanWork, DeskTells, LoneDoes, RanFor}
 
 -- ---- entries of a task
 
@@ -158,7 +158,7 @@ module _ (o : Opening) (setup : Setup) (task : Task) (n c t : ℕ) (past within 
             (subst (λ (xs : List Noting). TaskRun task t setup layouts asked calls xs (answered result)) (sym its_notings) ran);
       }
 
--- ---- behind the answer
+-- ---- after the answer
 
 module _ (o : Opening) (n c t : ℕ) (past within : List Entry) (answer : Answer) (could : CanWork o c past) (own : makes_only (by_server c t) n within ≡ true) (by : are_by n within ≡ true) where
   abbrev claimed_now : List Entry
@@ -194,7 +194,7 @@ module _ (o : Opening) (n c t : ℕ) (past within : List Entry) (answer : Answer
 
 -- ---- the whole task
 
--- want of memory is an answer that no refusal of the desk gives
+-- running out of memory is an answer that no refusal of the desk gives
 causes_answered : (old new : Counts) (result : Result Answer NoMemory) → HasTaskCauses old new result → HasTaskCauses old new (Ok (answered result))
 causes_answered old new (Ok answer) h = h
 causes_answered old new (Err e) h = record {
@@ -206,9 +206,9 @@ causes_answered old new (Err e) h = record {
 }
 
 module _ (o : Opening) (setup : Setup) (task : Task) (n c t : ℕ) (old ran new : List Entry) (desk desk' : DeskTells) (result : Result Answer NoMemory) where
-  pub does : {P Q : Type 0} (b : Begun o n c t old) → task_of o t ≡ Some task → (s : ServesOn o n true c t old ran P Q)
+  pub does : {P Q : Type 0} (b : LoneBegun o n c t old) → task_of o t ≡ Some task → (s : ServesOn o n true c t old ran P Q)
       → Ran task t setup (known_layouts o old t) (askings old t) (askings ran t) (notings old t) (notings ran t) desk.log desk'.log result → HasTaskCauses desk.counts desk'.counts result
-      → new ≡ ran ++ entry n (Answered t (answered result)) ∷ [] → Does o setup n c t old new desk desk'
+      → new ≡ ran ++ entry n (Answered t (answered result)) ∷ [] → LoneDoes o setup n c t old new desk desk'
   does b is s r causes given = record {
     within = s.moved.more;
     answer = answered result;
@@ -245,7 +245,7 @@ module _ (o : Opening) (setup : Setup) (task : Task) (n c t : ℕ) (old ran new 
       whole = journal_run o setup task n c t b.past s.moved.more result is b.fresh (known_layouts o old t) r.asked r.calls r.noted known pairs notes r.run
           (subst (λ (x : List Entry). has_open_job x t ≡ false) came s.serves.at.shut) s.moved.own (s.moved.lone refl)
 
-  pub again : {P Q : Type 0} (b : Begun o n c t old) → (s : ServesOn o n true c t old ran P Q) → (answer : Answer)
+  pub again : {P Q : Type 0} (b : LoneBegun o n c t old) → (s : ServesOn o n true c t old ran P Q) → (answer : Answer)
       → new ≡ ran ++ entry n (Answered t answer) ∷ [] → Legal o new → CanWork o c new
   again b s answer given legal =
       subst (CanWork o c) (sym new_is)

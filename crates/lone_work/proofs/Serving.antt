@@ -132,7 +132,7 @@ none_left old new c (k ∷ ks) keep h = go (is_settled old c k) refl h (none_lef
     go true e h r = rw (keep k e) (r h)
     go false e h r = absurd cc
 
--- a child without an open job has none behind entries that ask it nothing
+-- a child without an open job has none after entries that ask it nothing
 pub idle_on : (old more : List Entry) (c : ℕ) → asked_jobs more c ≡ [] → open_jobs old c ≡ [] → open_jobs (old ++ more) c ≡ []
 idle_on old more c none idle =
     ap (filter (λ (k : ℕ). not (is_settled (old ++ more) c k)))
@@ -146,7 +146,7 @@ verdict_settled past c k v h = go (is_settled past c k) refl
     go true e = e
     go false e = absurd (let bad : None ≡ Some v = sym (settled_none past c k e) ∙ h in cc)
 
--- and behind one request that was settled
+-- and after one request that was settled
 idle_settled : (old more new : List Entry) (c by job t : ℕ) (line : List ℕ) (v : Verdict) → new ≡ (old ++ record { by = by; what = Ask c job t line } ∷ []) ++ more
     → asked_jobs more c ≡ [] → verdict_of new c job ≡ Some v → open_jobs old c ≡ [] → open_jobs new c ≡ []
 idle_settled old more new c by job t line v is none settled idle =
@@ -283,7 +283,7 @@ may_later o n c t a seen q s later askable line text lone = rw (s.started, asks_
 
 -- ---- what asking and noting leave
 
--- behind a request, or where none was asked, the number holds the task still
+-- after a request, or where none was asked, the number holds the task still
 pub at_asked : (o : Opening) (n t : ℕ) (old new : List Entry) (q : HostMessage) (result : Result Verdict NoMemory) → AskedFor o n t old new q result → AtTask o n t new
 at_asked o n t old new q (Ok v) h = h.at
 at_asked o n t old new q (Err e) h = h.at

@@ -24,7 +24,7 @@ use Rattle.lone_work.specs.AtTasks.{AtTask, notings}
 use Rattle.lone_work.specs.KnownLayouts.{known_layouts}
 use Rattle.lone_work.specs.Servings.{Serves, ServesOn}
 use Rattle.journal_model.specs.Shares.{is_of_child}
-use Rattle.lone_work.specs.Works.{AreTasks, Begun, CanWork, DeskTells, Does, Worked}
+use Rattle.lone_work.specs.Works.{AreTasks, LoneBegun, CanWork, DeskTells, LoneDoes, Worked}
 use Rattle.lone_work.proofs.Claiming.{found_between}
 use Rattle.lone_work.proofs.Running.{does, again}
 use Rattle.gathering.specs.Tasks.{IsThrough}
@@ -59,14 +59,14 @@ at_now {o} {p} {n} {m} {t} {seen} eo en at = subst (λ (w : Opening). AtTask w m
 pub can_now : {o p : Opening} {c d : ℕ} {seen : List Entry} → p ≡ o → d ≡ c → CanWork o c seen → CanWork p d seen
 can_now {o} {p} {c} {d} {seen} eo ec can = subst (λ (w : Opening). CanWork w d seen) (sym eo) (subst (λ (w : ℕ). CanWork o w seen) (sym ec) can)
 
-pub begun_now : {o p : Opening} {n m c d t : ℕ} {seen : List Entry} → p ≡ o → m ≡ n → d ≡ c → Begun o n c t seen → Begun p m d t seen
+pub begun_now : {o p : Opening} {n m c d t : ℕ} {seen : List Entry} → p ≡ o → m ≡ n → d ≡ c → LoneBegun o n c t seen → LoneBegun p m d t seen
 begun_now {o} {p} {n} {m} {c} {d} {t} {seen} eo en ec b =
-    subst (λ (w : Opening). Begun w m d t seen) (sym eo) (subst (λ (w : ℕ). Begun o w d t seen) (sym en) (subst (λ (w : ℕ). Begun o n w t seen) (sym ec) b))
+    subst (λ (w : Opening). LoneBegun w m d t seen) (sym eo) (subst (λ (w : ℕ). LoneBegun o w d t seen) (sym en) (subst (λ (w : ℕ). LoneBegun o n w t seen) (sym ec) b))
 
 -- ---- one task
 
 module _ (o : Opening) (setup : Setup) (task : Task) (n c t : ℕ) (a : Bool) (old ran new : List Entry) (desk desk' : DeskTells) (result : Result Answer NoMemory) (answer : Answer) (m : ℕ)
-    {P Q : Type 0} (lone : a ≡ true) (b : Begun o n c t old) (s : ServesOn o n a c t old ran P Q) (same : m ≡ n) (is : answer ≡ answered result)
+    {P Q : Type 0} (lone : a ≡ true) (b : LoneBegun o n c t old) (s : ServesOn o n a c t old ran P Q) (same : m ≡ n) (is : answer ≡ answered result)
     (given : new ≡ ran ++ record { by = m; what = Answered t answer } ∷ []) where
   on : ServesOn o n true c t old ran P Q
   on = subst (λ (x : Bool). ServesOn o n x c t old ran P Q) lone s
@@ -74,7 +74,7 @@ module _ (o : Opening) (setup : Setup) (task : Task) (n c t : ℕ) (a : Bool) (o
   given_so : new ≡ ran ++ entry n (Answered t (answered result)) ∷ []
   given_so = given ∙ ap (λ (k : ℕ). ran ++ entry k (Answered t answer) ∷ []) same ∙ ap (λ (x : Answer). ran ++ entry n (Answered t x) ∷ []) is
 
-  pub does_so : task_of o t ≡ Some task → Ran task t setup (known_layouts o old t) (askings old t) (askings ran t) (notings old t) (notings ran t) desk.log desk'.log result → HasTaskCauses desk.counts desk'.counts result → Does o setup n c t old new desk desk'
+  pub does_so : task_of o t ≡ Some task → Ran task t setup (known_layouts o old t) (askings old t) (askings ran t) (notings old t) (notings ran t) desk.log desk'.log result → HasTaskCauses desk.counts desk'.counts result → LoneDoes o setup n c t old new desk desk'
   does_so there r causes = does o setup task n c t old ran new desk desk' result b there on r causes given_so
 
   pub again_so : Legal o new → CanWork o c new
@@ -95,9 +95,9 @@ module _ (n c t : ℕ) (a : Bool) (o : Opening) (old ran new : List Entry) (e e'
 -- ---- a turn
 
 module _ (o p : Opening) (setup : Setup) (n k c d t : ℕ) (old mid new : List Entry) (desk desk' : DeskTells) (eo : p ≡ o) (en : k ≡ n) (ec : d ≡ c)
-    (b : Begun o n c t mid) (from : b.past ≡ old) (done : Does p setup k d t mid new desk desk') where
-  its : Does o setup n c t mid new desk desk'
-  its = subst (λ (w : Opening). Does w setup n c t mid new desk desk') eo (subst (λ (w : ℕ). Does p setup w c t mid new desk desk') en (subst (λ (w : ℕ). Does p setup k w t mid new desk desk') ec done))
+    (b : LoneBegun o n c t mid) (from : b.past ≡ old) (done : LoneDoes p setup k d t mid new desk desk') where
+  its : LoneDoes o setup n c t mid new desk desk'
+  its = subst (λ (w : Opening). LoneDoes w setup n c t mid new desk desk') eo (subst (λ (w : ℕ). LoneDoes p setup w c t mid new desk desk') en (subst (λ (w : ℕ). LoneDoes p setup k w t mid new desk desk') ec done))
 
   some : (t == 0) ≡ false
   some = (let s : (1 ≤ t) × (t < 1 + length o.tasks) = found_between (is_free o b.past) 1 (length o.tasks) t b.least in differ t 0 (λ e. absurd (omega (arith, e, s.0))))

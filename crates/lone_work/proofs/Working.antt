@@ -24,7 +24,7 @@ use Rattle.lone_work.specs.Servings.{by_server}
 use Rattle.lone_work.proofs.Serving.{gives_none}
 use Rattle.gathering.specs.JournalRuns.{JournalRun}
 use Rattle.gathering.proofs.Lasting.{run_stays}
-use Rattle.lone_work.specs.Works.{AllRan, CausedInTurn, DeskTells, Does, RanFor, TaskDone, Worked, all_calls, by_worker, claimed_task, claims_in, ends_answered}
+use Rattle.lone_work.specs.Works.{AllRan, CausedInTurn, DeskTells, LoneDoes, RanFor, TaskDone, Worked, all_calls, by_worker, claimed_task, claims_in, ends_answered}
 use Rattle.lone_work.proofs.Claiming.{free_unclaimed}
 
 -- ---- lists
@@ -44,7 +44,7 @@ answers_both : (xs ys : List TaskDone) → map told (xs ++ ys) ≡ map told xs +
 answers_both [] ys = refl
 answers_both (r ∷ xs) ys = ap (λ (l : List (ℕ × Answer)). (r.task, r.answer) ∷ l) (answers_both xs ys)
 
--- an answer is the last of what stands behind others
+-- an answer is the last of what stands after others
 pub ends_behind : (xs : List Entry) (y : Entry) (ys : List Entry) → ends_answered (y ∷ ys) ≡ true → ends_answered (xs ++ y ∷ ys) ≡ true
 ends_behind [] y ys h = h
 ends_behind (x ∷ []) y ys h = h
@@ -93,7 +93,7 @@ runs_last o setup n c past more (r ∷ runs) legal rest h = (
   runs_last o setup n c past more runs legal rest h.1,
 )
 
--- ---- one thing behind another
+-- ---- one thing after another
 
 module _ (o : Opening) (setup : Setup) (n c : ℕ) where
   pub worked_still : (seen : List Entry) (desk : DeskTells) → Worked o setup n c seen seen desk desk
@@ -174,7 +174,7 @@ server_answers_none c t (Answered task answer) h = absurd cc
 server_answers_none c t w h = refl
 
 module _ (o : Opening) (setup : Setup) (n c t : ℕ) (past old new : List Entry) (desk desk' : DeskTells) where
-  pub worked_one : (t == 0) ≡ false → old ≡ past ++ entry n (Claim t c) ∷ [] → Does o setup n c t old new desk desk' → Worked o setup n c past new desk desk'
+  pub worked_one : (t == 0) ≡ false → old ≡ past ++ entry n (Claim t c) ∷ [] → LoneDoes o setup n c t old new desk desk' → Worked o setup n c past new desk desk'
   worked_one some is d = record {
     more = one ++ (d.within ++ last);
     is = d.is ∙ ap (λ (x : List Entry). (x ++ d.within) ++ last) is ∙ append_assoc (past ++ one) d.within last ∙ append_assoc past one (d.within ++ last);

@@ -15,7 +15,7 @@ pub record AtTask (o : Opening) (number t : ℕ) (seen : List Entry) : Type 0 wh
   pub held : is_claimed_by seen number t ≡ true
   pub shut : has_open_job seen t ≡ false
 
--- the notes of task t, each behind the requests before it
+-- the notes of task t, each after the requests before it
 abbrev pub notings : List Entry → ℕ → List Noting
 notings journal t = notings_from journal t [] 0 journal
 
@@ -35,7 +35,7 @@ pub record AsksNow (o : Opening) (number t : ℕ) (old new : List Entry) (q : Ho
 abbrev pub AskedFor : Opening → ℕ → ℕ → List Entry → List Entry → HostMessage → Result Verdict NoMemory → Type 0
 AskedFor o number t old new q result = MatchResult result (AsksNow o number t old new q) (λ _. SameTask o number t old new)
 
--- the number holds the task still, and the journal has this note of it more, behind its requests so far, and no request more
+-- the number holds the task still, and the journal has this note of it more, after its requests so far, and no request more
 pub record NotesNow (o : Opening) (number t : ℕ) (old new : List Entry) (chunk count : ℕ) : Type 0 where
   pub at : AtTask o number t new
   pub asked : askings new t ≡ askings old t

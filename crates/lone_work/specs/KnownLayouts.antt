@@ -30,7 +30,7 @@ abbrev pub layouts_at : Opening → List Entry → Option Task → List (ℕ × 
 layouts_at o journal None = []
 layouts_at o journal (Some task) = layouts_of (notes_after o journal) task.key o.identity.uuid
 
--- those that the core tells of task t behind the journal
+-- those that the core tells of task t after the journal
 abbrev pub known_layouts : Opening → List Entry → ℕ → List (ℕ × ℕ)
 known_layouts o journal t = layouts_at o journal (task_of o t)
 

@@ -50,7 +50,7 @@ task_in (TaskReply task) = Some task
 task_in reply = None
 
 -- the task was just claimed for the child, by a number that could work, and nothing else was made of it
-pub record Begun (o : Opening) (number c t : ℕ) (seen : List Entry) : Type 0 where
+pub record LoneBegun (o : Opening) (number c t : ℕ) (seen : List Entry) : Type 0 where
   pub past : List Entry
   pub is : seen ≡ past ++ record { by = number; what = Claim t c } ∷ []
   pub could : CanWork o c past
@@ -60,7 +60,7 @@ pub record Begun (o : Opening) (number c t : ℕ) (seen : List Entry) : Type 0 w
 
 -- the least free task was claimed; or nothing was done, and there is nothing more to do for the child
 abbrev pub ClaimsNext : Opening → ℕ → ℕ → List Entry → List Entry → Option ℕ → Type 0
-ClaimsNext o number c old new (Some t) = (b : Begun o number c t new) × (b.past ≡ old)
+ClaimsNext o number c old new (Some t) = (b : LoneBegun o number c t new) × (b.past ≡ old)
 ClaimsNext o number c old new None = (new ≡ old) × IsThrough o old c
 
 -- ---- what was done
@@ -108,7 +108,7 @@ abbrev pub AllRan : Opening → Setup → ℕ → ℕ → List Entry → List Ta
 AllRan o setup number c journal [] = Unit {0}
 AllRan o setup number c journal (r ∷ rs) = RanFor o setup r.calls number c r.task r.answer journal × AllRan o setup number c journal rs
 
--- the calls of the tasks, one task behind the other
+-- the calls of the tasks, one task after the other
 abbrev pub all_calls : List TaskDone → List Call
 all_calls [] = []
 all_calls (r ∷ rs) = r.calls ++ all_calls rs
@@ -142,7 +142,7 @@ pub record Worked (o : Opening) (setup : Setup) (number c : ℕ) (old new : List
 -- ---- one task
 
 -- the task was asked and noted for, and then answered as it ran
-pub record Does (o : Opening) (setup : Setup) (number c t : ℕ) (old new : List Entry) (desk desk' : DeskTells) : Type 0 where
+pub record LoneDoes (o : Opening) (setup : Setup) (number c t : ℕ) (old new : List Entry) (desk desk' : DeskTells) : Type 0 where
   pub within : List Entry
   pub answer : Answer
   pub calls : List Call

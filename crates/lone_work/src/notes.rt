@@ -52,7 +52,7 @@ fn layouts_in(alloc: Global, reply: Reply) -> Layouts
 {
     match reply {
         Reply::Layouts(layouts) => layouts,
-        _ => Layouts::new(alloc),
+        _ => Layouts::new(Vec::new(alloc)),
     }
 }
 

@@ -12,7 +12,7 @@ ghost use Rattle.link_roles.specs.Alone.{KeepsLink};
 ghost use Rattle.lone_work.specs.AtTasks.{notings};
 ghost use Rattle.lone_work.specs.KnownLayouts.{known_layouts};
 ghost use Rattle.lone_work.specs.Servings.{Serves, ServesOn};
-ghost use Rattle.lone_work.specs.Works.{AreTasks, Begun, CanWork, Does, desk_tells};
+ghost use Rattle.lone_work.specs.Works.{AreTasks, LoneBegun, CanWork, LoneDoes, desk_tells};
 
 use crate::LoneAsker;
 use crate::events::give;
@@ -85,8 +85,8 @@ pub(crate) fn do_task<I: Sink, O: Source, D: Door, K: Desk>(
     requires alone { D.alone door.old ≡ true }
     requires tasks { ((D.opening door.old).tasks ≡ tasks.now) × AreTasks tasks.now }
     requires folder { has_newline setup.now.work ≡ false }
-    requires begun { Begun (D.opening door.old) (D.number door.old) link.old.ear.child number (D.seen door.old) }
-    ensures does { Does (D.opening door.old) setup.now (D.number door.old) link.old.ear.child number (D.seen door.old) (D.seen door.new) (desk_tells (K.log desk.old) (K.counts desk.old)) (desk_tells (K.log desk.new) (K.counts desk.new)) }
+    requires begun { LoneBegun (D.opening door.old) (D.number door.old) link.old.ear.child number (D.seen door.old) }
+    ensures does { LoneDoes (D.opening door.old) setup.now (D.number door.old) link.old.ear.child number (D.seen door.old) (D.seen door.new) (desk_tells (K.log desk.old) (K.counts desk.old)) (desk_tells (K.log desk.new) (K.counts desk.new)) }
     ensures can { CanWork (D.opening door.new) link.new.ear.child (D.seen door.new) }
     ensures link { KeepsLink (D.seen door.old) (D.seen door.new) link.old.ear link.new.ear link.old.mouth link.new.mouth }
     ensures door { IsSameDoor D.opening D.number D.seen D.alone D.loans D.home door.old door.new }

@@ -18,7 +18,8 @@ use Rattle.crew_rounds.specs.declared.outcome.Outcome.{Outcome}
 use Rattle.crew_rounds.specs.Backs.{roles_of}
 use Rattle.crew_rounds.specs.Outcomes.{IfDone, IfKept}
 use Rattle.crew_rounds.specs.Tagged.{AreFresh}
-use Rattle.crew_rounds.proofs.Places.{all_reverse, any_reverse, map_map, pairwise_length, pairwise_reverse, roles_order, stayed_same}
+use Rattle.crew_round.proofs.Dealing.{all_reverse, map_map, pairwise_length, pairwise_reverse}
+use Rattle.crew_rounds.proofs.Places.{any_reverse, roles_order, stayed_same}
 use Rattle.pool_rounds.specs.Left.{IsThroughAt, LoneBack, LoneTells, PoolLeft, desks_of, done_if, links_of, passes_of}
 use Rattle.pool_rounds.specs.Pool.{AreAsBefore, AreSameLinks}
 use Rattle.pool_rounds.proofs.Backs.{LoneRan, came_all, came_own, came_same, through_one}

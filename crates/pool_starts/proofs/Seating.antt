@@ -28,7 +28,7 @@ as_many program (e ∷ journal) = go e.what (as_many program journal)
     go (NoStart slot) r = ap (λ (n : ℕ). suc n) r
     go w r = r
 
--- a start behind those that were told
+-- a start after those that were told
 shifted : (old mid : Option Starts) (told_so : Starts) (k j : ℕ) (n : Option ℕ) → AddsAll old mid told_so → length told_so ≡ k → IsOfStart mid j n → IsOfStart old (j + k) n
 shifted old mid told_so k j None a e h = tt
 shifted None mid told_so k j (Some n) a e h = tt

@@ -25,7 +25,7 @@ use Rattle.pool_starts.specs.Slots.{AllInTurn, IsManned, StandsInTurn, begins_by
 use Rattle.link_roles.proofs.Linked.{any_narrower}
 use Rattle.child_start.proofs.Begun.{later_unstarted}
 
--- ---- one stretch behind another
+-- ---- one stretch after another
 
 pub turn_both : (o : Opening) (jobs : ℕ) (past xs ys : List Entry) → AllInTurn o jobs past xs → AllInTurn o jobs (past ++ xs) ys → AllInTurn o jobs past (xs ++ ys)
 turn_both o jobs past [] ys h k = subst (λ (p : List Entry). AllInTurn o jobs p ys) (append-nil past) k
@@ -109,7 +109,7 @@ last_first past = option_and_then (λ child. child) (last_or None (each_of first
 pub first_same : (past more : List Entry) → any is_first_start more ≡ false → last_first (past ++ more) ≡ last_first past
 first_same past more none = ap (option_and_then (λ (child : Option ℕ). child)) (last_same first_in past more (each_without first_in is_first_start unfirst more none))
 
--- where a child of slot 0 was started, and none behind it
+-- where a child of slot 0 was started, and none after it
 pub first_started : (past more : List Entry) (by c : ℕ) (offer : Bool) → any is_first_start more ≡ false → last_first (past ++ record { by = by; what = Start c 0 offer } ∷ more) ≡ Some c
 first_started past more by c offer none =
     ap (λ (j : List Entry). last_first j) (sym (append_assoc past (record { by = by; what = Start c 0 offer } ∷ []) more))
@@ -188,7 +188,7 @@ turn_where o jobs past (e ∷ xs) none f = (
 front_none : (p : What → Bool) (xs front rest : List Entry) → xs ≡ front ++ rest → any p xs ≡ false → any p front ≡ false
 front_none p xs front rest is h = either_left (any p front) (any p rest) (sym (any-append p front rest) ∙ ap (any p) (sym is) ∙ h)
 
--- behind a pool whose slots are filled
+-- after a pool whose slots are filled
 pub turn_filled : (o : Opening) (jobs : ℕ) (past xs : List Entry) → any is_any_start xs ≡ false → IsFilled o jobs past → AllInTurn o jobs past xs
 turn_filled o jobs past xs none h = turn_where o jobs past xs none (λ front rest is later. filled_on o jobs past front (front_none is_any_start xs front rest is none) h)
 
@@ -215,7 +215,7 @@ tagged_on o past more c legal h =
     ap (accepts_async (past ++ more)) (verdict_of-append c 0 past more) ∙ accepted past more (verdict_of past c 0) (verdict_of more c 0) ((invariant o past legal).placed c 0) t.1 in
     rw (offered, named) refl
 
--- so no pool serves behind it
+-- so no pool serves after it
 pub turn_tagged : (o : Opening) (jobs : ℕ) (past xs : List Entry) (c : ℕ) → Legal o past → last_first past ≡ Some c → is_tagged past c ≡ true → any is_any_start xs ≡ false → AllInTurn o jobs past xs
 turn_tagged o jobs past xs c legal first tag none = turn_where o jobs past xs none (λ front rest is. unpooled front (front_none is_any_start xs front rest is none))
   where

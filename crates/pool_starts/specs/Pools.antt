@@ -39,7 +39,7 @@ abbrev pub is_among : List LinkValue → ℕ → Bool
 is_among [] c = false
 is_among (l ∷ more) c = (l.ear.child == c) || is_among more c
 
--- Behind the ready child of slot 0 the main thread started and greeted children in other slots, in turn, without offering ASYNC. Each that
+-- After the ready child of slot 0 the main thread started and greeted children in other slots, in turn, without offering ASYNC. Each that
 -- is ready is among these links, and each that is not has ended. No task was claimed. A round over all the links may begin. Where it is whole, each slot
 -- of the run's had its start, as far as there are tasks.
 pub record Gathered (o : Opening) (jobs : ℕ) (old new : List Entry) (first : LinkValue) (links : List LinkValue) (whole : Bool) : Type 0 where
@@ -88,7 +88,7 @@ abbrev pub seat_value : {I O S : Type 0} → (Wire I O → WireValue) → Seat I
 seat_value tells (Over wire) = OverBy (tells wire)
 seat_value tells (Serving stub) = Serves
 
--- A pool was gathered behind the child of slot 0, whose link is its first, as it was, and whose seat is its first. No more were seated
+-- A pool was gathered after the child of slot 0, whose link is its first, as it was, and whose seat is its first. No more were seated
 -- than there are jobs.
 pub record IsPool (wanted : Type 0) (whole : Bool) (o : Opening) (jobs : ℕ) (program : List ℕ) (old new : List Entry) (first : LinkValue) (before after : ProgramsValue) (seats : List SeatValue) (links : List LinkValue) : Type 0 where
   pub more : List LinkValue

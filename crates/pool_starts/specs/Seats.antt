@@ -24,7 +24,7 @@ abbrev pub IsSlotStart : ℕ → List Entry → What → Type 0
 IsSlotStart slot past first = (first ≡ Start (next_child past) slot false) ⊎ (first ≡ NoStart slot)
 
 -- The main thread made one start in the slot, and what followed it of its child alone. The child has no open job. It can serve in a round,
--- and its link and seat were put behind the others; or it isn't ready and has ended, and its wire was. The programs were asked once, and a fault was
+-- and its link and seat were put after the others; or it isn't ready and has ended, and its wire was. The programs were asked once, and a fault was
 -- counted if that failed.
 pub record SeatsOne (o : Opening) (program : List ℕ) (slot : ℕ) (old new : List Entry) (before after : ProgramsValue) (seats seats' : List SeatValue) (links links' : List LinkValue) : Type 0 where
   pub first : What
@@ -56,7 +56,7 @@ pub record SeatsNone (program : List ℕ) (old new : List Entry) (before after :
   pub links_are : links' ≡ links
   pub asked : MayHaveAsked program before after
 
--- the link was closed, and its wire was put behind the other seats
+-- the link was closed, and its wire was put after the other seats
 pub record SeatsOver (ear : EarValue) (mouth : MouthValue) (before after : ProgramsValue) (seats seats' : List SeatValue) (links links' : List LinkValue) : Type 0 where
   pub wire : WireValue
   pub left : IsLeft ear mouth wire

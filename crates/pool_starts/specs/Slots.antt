@@ -48,7 +48,7 @@ is_ready_pool past None = false
 abbrev pub has_pool : List Entry → Bool
 has_pool past = is_ready_pool past (option_and_then (λ child. child) (last_or None (each_of first_in past)))
 
--- A start in another slot than 0 is of a pool, in the slot behind the last start's; that slot is one of the run's, there is a task for
+-- A start in another slot than 0 is of a pool, in the slot after the last start's; that slot is one of the run's, there is a task for
 -- it, and none was claimed since the last start.
 pub record IsNextSlot (o : Opening) (jobs : ℕ) (past : List Entry) (before : ℕ) : Type 0 where
   pub pool : has_pool past ≡ true
@@ -72,7 +72,7 @@ StandsInTurn o jobs past (NoStart slot) = IsInSlot o jobs past slot
 StandsInTurn o jobs past (Claim task child) = IsManned o jobs past
 StandsInTurn o jobs past w = Unit {0}
 
--- so do all of the entries, which stand behind past
+-- so do all of the entries, which stand after past
 abbrev pub AllInTurn : Opening → ℕ → List Entry → List Entry → Type 0
 AllInTurn o jobs past [] = Unit {0}
 AllInTurn o jobs past (e ∷ rest) = StandsInTurn o jobs past e.what × AllInTurn o jobs (past ++ e ∷ []) rest
@@ -125,13 +125,13 @@ is_lost past c = is_prepared past c && (is_mute past c || is_unclosed (why_of pa
 abbrev pub is_pool_spent : List Entry → ℕ → List ℕ → Bool
 is_pool_spent past child others = is_spent past child || list_any (is_lost past) others
 
--- Of a start, the last of these entries, and of what stands behind it up to the next start of slot 0: it is in another slot; or it gave
+-- Of a start, the last of these entries, and of what stands after it up to the next start of slot 0: it is in another slot; or it gave
 -- no child; or its child refused to get ready, is mute, or ended and was not closed; or one of its pool is lost.
 abbrev pub spends : List Entry → What → List Entry → Bool
 spends here (Start child slot offer) rest = not (slot == 0) || is_pool_spent (here ++ up_to is_first_start rest) child (children (up_to is_first_start rest))
 spends here w rest = true
 
--- so it is with each start of the entries, which stand behind past
+-- so it is with each start of the entries, which stand after past
 abbrev pub are_spent : List Entry → List Entry → Bool
 are_spent past [] = true
 are_spent past (e ∷ rest) = spends (past ++ e ∷ []) e.what rest && are_spent (past ++ e ∷ []) rest

@@ -1,4 +1,4 @@
-// The children of a pool: behind a child that is ready without tags, one more is started in each slot.
+// The children of a pool: after a child that is ready without tags, one more is started in each slot.
 #![tactic(auto)]
 
 mod pool;

@@ -38,7 +38,7 @@ fn take_room<I: Sink + Drop, O: Source + Drop, S: Drop>(
     Ok(Pool { links, seats })
 }
 
-// A child that serves has its link and a seat behind the others.
+// A child that serves has its link and a seat after the others.
 fn seat_serving<I: Sink, O: Source, S>(pool: &mut Pool<I, O, S>, link: Lone<I, O>, stub: S)
     requires room { (vec_len pool.old.links < vec_capacity pool.old.links) × (vec_len pool.old.seats < vec_capacity pool.old.seats) }
     ensures seats { map (seat_value (wire_value I.taken I.faults I.number I.is_open O.given O.left O.faults O.number O.is_open)) pool.new.seats.items ≡ map (seat_value (wire_value I.taken I.faults I.number I.is_open O.given O.left O.faults O.number O.is_open)) pool.old.seats.items ++ Serves ∷ [] }
@@ -50,7 +50,7 @@ fn seat_serving<I: Sink, O: Source, S>(pool: &mut Pool<I, O, S>, link: Lone<I, O
     pool.seats.push_reserved(Seat::Serving(stub));
 }
 
-// A child that isn't ready is closed and finished, and has a seat behind the others.
+// A child that isn't ready is closed and finished, and has a seat after the others.
 fn seat_over<P: Programs>(
     programs: &mut P,
     core: &mut Core,
@@ -131,7 +131,7 @@ where
     }
 }
 
-/// Behind the child of slot 0, which is ready and takes no tags, starts and greets one more in each slot from 1 that is below the number of
+/// After the child of slot 0, which is ready and takes no tags, starts and greets one more in each slot from 1 that is below the number of
 /// jobs and of the tasks that aren't claimed. A child that isn't ready is closed and finished at once; it costs no task.
 pub fn gather<P: Programs>(
     alloc: Global,

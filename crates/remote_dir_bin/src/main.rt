@@ -52,7 +52,7 @@ fn wish_of(words: &[String]) -> Wish {
     }
 }
 
-// The words behind the program's own name. Words that aren't UTF-8 are none that it knows; None is want of memory.
+// The words after the program's own name. Words that aren't UTF-8 are none that it knows; None: out of memory.
 fn read_wish<R: Env + AllocGlobal>(rt: &R) -> Option<Wish> {
     let args = match env::args(rt) {
         Ok(args) => args,
@@ -103,7 +103,7 @@ fn mark_of(alloc: Global, process: u32, micros: u64) -> Option<Text>
     }
 }
 
-// The remote's status at its end; 7 is want of memory.
+// The remote's status at its end; 7: out of memory.
 fn serve_directory(rt: &HostRuntime, out: &mut OsOutput<Stdout>) -> u8
     requires { ⟦<OsOutput<Stdout> as Sink>⟧.is_open out.old ≡ true }
 {

@@ -1,4 +1,4 @@
--- Behind the greeting of the first child, which takes tags, a round may begin.
+-- After the greeting of the first child, which takes tags, a round may begin.
 use Rattle.std.proofs.Common.{◌≡◌, ℕ, List, [], ◌∷◌, refl, sym, ap, subst, ◌∙◌, true, false, ◌==◌, Some, None}
 use Rattle.std.specs.Prelude.{◌&&◌, All}
 use Rattle.std.specs.List.{list_all}

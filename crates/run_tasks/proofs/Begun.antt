@@ -25,7 +25,7 @@ use Rattle.cli_words.specs.declared.refusals.Reason.{Reason}
 use Rattle.task_input.specs.InputLines.{lines_of}
 use Rattle.cli_words.specs.declared.refusals.Reason.TheVariants.{Long, Many}
 use Rattle.task_input.specs.Inputs.{reason_for, reason_of, refused_or, first_refused, is_large, lines_within, or_large, refused_in, IsInput}
-use Rattle.task_input.specs.Reads.{HasGiven, IsCounted, ComesTo}
+use Rattle.task_input.specs.Reads.{HasGiven, IsCounted, InputComesTo}
 use Rattle.task_input.specs.declared.error.InputError.{InputError}
 use Rattle.task_input.specs.declared.limits.Limits.{Limits}
 use Rattle.task_input.specs.declared.limits.TheConstants.Limits.{TASKS}
@@ -106,7 +106,7 @@ hands_on_nothing words told k e registers notes = record { kept = []; text = unn
 -- ---- the input
 
 pub taken_as : (given given' left left' : Option (List ℕ)) (faults faults' : ℕ) (r r' : Result (List Task) InputError) → r ≡ r'
-    → (bytes : List ℕ) × HasGiven given given' left left' bytes × ComesTo TASKS bytes left' r → IfSome left (λ all. IsInput TASKS all r) → IsCounted faults faults' r
+    → (bytes : List ℕ) × HasGiven given given' left left' bytes × InputComesTo TASKS bytes left' r → IfSome left (λ all. IsInput TASKS all r) → IsCounted faults faults' r
     → IsTaken TASKS (input_flow given given' left left' faults faults') r'
 taken_as given given' left left' faults faults' r r' e h told counted =
     subst (IsTaken TASKS (input_flow given given' left left' faults faults')) e record { bytes = h.0; gave = h.1; comes = h.2; told = told; counted = counted }

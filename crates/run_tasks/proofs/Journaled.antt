@@ -1,4 +1,4 @@
--- What comes of writing the journal file behind the kept file.
+-- What comes of writing the journal file after the kept file.
 use Rattle.std.proofs.Common.{◌≡◌, ℕ, List, refl, sym, subst, inl, inr, true, false, Some, None, Option, Ok, Err}
 use Rattle.std.specs.Prelude.{Result, IsErr}
 use Rattle.ann_key.specs.declared.bytes.NoMemory.{NoMemory}
@@ -11,7 +11,7 @@ use Rattle.cli_words.specs.declared.command.RunWords.{RunWords}
 use Rattle.journal_model.specs.declared.entry.Entry.{Entry}
 use Rattle.journal_model.specs.declared.opening.Opening.{Opening}
 use Rattle.child_end.specs.Outsides.{TableValue}
-use Rattle.run_tasks.specs.Runs.{IsAsBefore, IsKept, IsJournaled, told_of}
+use Rattle.run_tasks.specs.Runs.{RunFilesStay, IsRunKept, IsJournaled, told_of}
 use Rattle.run_tasks.specs.Workings.{Writes}
 
 -- what holds of the words with that journal file holds of them
@@ -34,16 +34,16 @@ journaled_named words before after o o' journal journal' name result e same_o sa
 
 -- ---- both files
 
-pub writes_both : (words : RunWords) (told : Option Files) (mid table : TableValue) (o : Opening) (journal : List Entry) (of_kept written : KeptWritten) (of_journal : JournalWritten) → IsKept words told mid o journal of_kept
+pub writes_both : (words : RunWords) (told : Option Files) (mid table : TableValue) (o : Opening) (journal : List Entry) (of_kept written : KeptWritten) (of_journal : JournalWritten) → IsRunKept words told mid o journal of_kept
     → IsJournaled words mid table o journal (Ok of_journal) → written ≡ told_of of_kept of_journal → Writes words told table o journal (Ok written)
 writes_both words told mid table o journal of_kept written of_journal kept journaled is =
     record { mid = mid; of_kept = of_kept; kept = kept; of_journal = of_journal; journaled = journaled; told_is = is }
 
 pub writes_kept_alone : (words : RunWords) (told : Option Files) (mid table : TableValue) (o : Opening) (journal : List Entry) (of_kept : KeptWritten) (want : NoMemory) (result : Result KeptWritten NoMemory) → IsErr result
-    → IsKept words told mid o journal of_kept → IsJournaled words mid table o journal (Err want) → Writes words told table o journal result
+    → IsRunKept words told mid o journal of_kept → IsJournaled words mid table o journal (Err want) → Writes words told table o journal result
 writes_kept_alone words told mid table o journal of_kept want (Ok written) bad kept journaled = absurd (let no : false ≡ true = bad in cc)
 writes_kept_alone words told mid table o journal of_kept want (Err e) is kept journaled =
     inr record { mid = mid; of_kept = of_kept; kept = kept; want = want; journaled = journaled }
 
-pub writes_nothing : (words : RunWords) (told : Option Files) (table : TableValue) (o : Opening) (journal : List Entry) (want : NoMemory) → IsAsBefore words told table → Writes words told table o journal (Err want)
+pub writes_nothing : (words : RunWords) (told : Option Files) (table : TableValue) (o : Opening) (journal : List Entry) (want : NoMemory) → RunFilesStay words told table → Writes words told table o journal (Err want)
 writes_nothing words told table o journal want before = inl before

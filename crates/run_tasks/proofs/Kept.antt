@@ -14,22 +14,22 @@ use Rattle.cli_words.specs.declared.command.RunWords.{RunWords}
 use Rattle.journal_model.specs.declared.entry.Entry.{Entry}
 use Rattle.journal_model.specs.declared.opening.Opening.{Opening}
 use Rattle.child_end.specs.Outsides.{TableValue}
-use Rattle.run_tasks.specs.Runs.{IsNewOf, IsAsBefore, HasFailed, IsKept, IsKeptIn, kept_after}
+use Rattle.run_tasks.specs.Runs.{IsNewOf, RunFilesStay, HasFailed, IsRunKept, IsKeptIn, kept_after}
 use Rattle.run_tasks.specs.Workings.{Keeps}
 use Rattle.run_tasks.proofs.Begun.{with_keep}
 
 -- ---- files that stay
 
-pub as_before : (words : RunWords) (told : Option Files) (table : TableValue) → table.files ≡ told → IsAsBefore words told table
+pub as_before : (words : RunWords) (told : Option Files) (table : TableValue) → table.files ≡ told → RunFilesStay words told table
 as_before words told table e = subst (λ (t : Option Files). WhereTold told t (OthersStay (IsNewOf words.keep))) (sym e) (go told)
   where
     go : (told : Option Files) → WhereTold told told (OthersStay (IsNewOf words.keep))
     go None = tt
     go (Some files) = λ other d. refl
 
-unnamed : (words : RunWords) (told : Option Files) (table : TableValue) (o : Opening) (journal : List Entry) → words.keep ≡ None → table.files ≡ told → IsKept words told table o journal W.Done
+unnamed : (words : RunWords) (told : Option Files) (table : TableValue) (o : Opening) (journal : List Entry) → words.keep ≡ None → table.files ≡ told → IsRunKept words told table o journal W.Done
 unnamed words told table o journal e same =
-    with_keep (λ (w : RunWords). IsKept w told table o journal W.Done) words None e (refl, as_before (record words { keep = None }) told table same)
+    with_keep (λ (w : RunWords). IsRunKept w told table o journal W.Done) words None e (refl, as_before (record words { keep = None }) told table same)
 
 pub keeps_unnamed : (words : RunWords) (told : Option Files) (table : TableValue) (o : Opening) (journal : List Entry) → words.keep ≡ None → table.files ≡ told → Keeps words told table o journal (Ok W.Done)
 keeps_unnamed words told table o journal e same = unnamed words told table o journal e same
@@ -44,10 +44,10 @@ failed told old table (inl h) = inl (rises old.faults table.counts.faults h)
 failed told old table (inr h) = inr (h.0, rises old.missing table.counts.missing h.1)
 
 named_before : (words : RunWords) (told : Option Files) (table : TableValue) (name : List ℕ) → words.keep ≡ Some name
-    → WhereTold told table.files (OthersStay (λ other. other ≡ new_name name)) → IsAsBefore words told table
-named_before words told table name e h = with_keep (λ (w : RunWords). IsAsBefore w told table) words (Some name) e h
+    → WhereTold told table.files (OthersStay (λ other. other ≡ new_name name)) → RunFilesStay words told table
+named_before words told table name e h = with_keep (λ (w : RunWords). RunFilesStay w told table) words (Some name) e h
 
-same_before : (words : RunWords) (told : Option Files) (table : TableValue) → WhereTold told table.files (λ old new. new ≡ old) → IsAsBefore words told table
+same_before : (words : RunWords) (told : Option Files) (table : TableValue) → WhereTold told table.files (λ old new. new ≡ old) → RunFilesStay words told table
 same_before words told table h = go told table.files h
   where
     go : (told new : Option Files) → WhereTold told new (λ old new. new ≡ old) → WhereTold told new (OthersStay (IsNewOf words.keep))
@@ -65,13 +65,13 @@ module _ (words : RunWords) (told : Option Files) (table : TableValue) (o : Open
   kept_in W.Fault by files causes = (failed told old table (causes.fault refl), named_before words told table name named files)
 
   kept : (written : KeptWritten) → IsWrittenBy log log' name text (Ok written) → WhereTold told table.files (IsWrittenIn name text (Ok written)) → HasWriteCauses told old table.counts (Ok written)
-      → IsKept words told table o journal written
-  kept written by files causes = with_keep (λ (w : RunWords). IsKeptIn words name told table o journal written → IsKept w told table o journal written) words (Some name) named (go written) (kept_in written by files causes)
+      → IsRunKept words told table o journal written
+  kept written by files causes = with_keep (λ (w : RunWords). IsKeptIn words name told table o journal written → IsRunKept w told table o journal written) words (Some name) named (go written) (kept_in written by files causes)
     where
-      go : (written : KeptWritten) → IsKeptIn words name told table o journal written → IsKept (record words { keep = Some name }) told table o journal written
+      go : (written : KeptWritten) → IsKeptIn words name told table o journal written → IsRunKept (record words { keep = Some name }) told table o journal written
       go W.Done h = h
-      go W.TooLarge h = (h.0, with_keep (λ (w : RunWords). IsAsBefore w told table → IsAsBefore (record words { keep = Some name }) told table) words (Some name) named (λ x. x) h.1)
-      go W.Fault h = (h.0, with_keep (λ (w : RunWords). IsAsBefore w told table → IsAsBefore (record words { keep = Some name }) told table) words (Some name) named (λ x. x) h.1)
+      go W.TooLarge h = (h.0, with_keep (λ (w : RunWords). RunFilesStay w told table → RunFilesStay (record words { keep = Some name }) told table) words (Some name) named (λ x. x) h.1)
+      go W.Fault h = (h.0, with_keep (λ (w : RunWords). RunFilesStay w told table → RunFilesStay (record words { keep = Some name }) told table) words (Some name) named (λ x. x) h.1)
 
   pub keeps_named : (result : Result KeptWritten NoMemory) → IsWrittenBy log log' name text result → WhereTold told table.files (IsWrittenIn name text result) → HasWriteCauses told old table.counts result
       → Keeps words told table o journal result

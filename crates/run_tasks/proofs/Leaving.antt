@@ -30,7 +30,7 @@ leaves_nothing W programs program journal wires j w = record {
   faults = subst (λ (x : List Entry). RoseBy (count is_failed_start x) programs.faults programs.faults) (sym j) (rose_still 0 programs.faults programs.faults programs.faults (omega arith) (omega arith));
 }
 
--- the want of memory, the program and the journal are named otherwise
+-- the running out of memory, the program and the journal are named otherwise
 pub leaves_named : {V W : Type 0} {program program' : List ℕ} {journal journal' : List Entry} {before after : ProgramsValue} {wires : List WireValue} → (V → W) → journal' ≡ journal → program ≡ program'
     → Leaves V program journal before after wires → Leaves W program' journal' before after wires
 leaves_named {V} {W} {program} {program'} {journal} {journal'} {before} {after} {wires} f j e h =

@@ -14,7 +14,7 @@ use Rattle.child_end.specs.Outsides.{TableValue}
 use Rattle.lone_work.specs.Works.{DeskTells}
 use Rattle.job_rounds.specs.JobRuns.{RanJobs}
 use Rattle.run_tasks.specs.Inputs.{InputFlow, run_setup}
-use Rattle.run_tasks.specs.Runs.{MadeValue, AreFresh, IsAsBefore, IsRunOf, IsUnbegun, LacksJournal, EndsRun, IfUnwhole, table_tells}
+use Rattle.run_tasks.specs.Runs.{MadeValue, AreFresh, RunFilesStay, IsRunOf, IsUnbegun, LacksJournal, EndsRun, IfUnwhole, table_tells}
 use Rattle.run_tasks.specs.Beginnings.{IsReady, BeginsRun}
 use Rattle.run_tasks.specs.Workings.{IsWorked, IsUnjournaled, Finishes, EndsWork, IsStopped, GoesOn}
 use Rattle.job_rounds.proofs.Succeeding.{jobs_keep, jobs_succeed}
@@ -100,8 +100,8 @@ module _ (words : RunWords) (clock : Option ℕ) (told : Option Files) (flow : I
       begun (inl none) = inl none
       begun (inr worked) = inr (run_of opening workers made.journal ready worked)
 
-      either : (((made.journal ≡ []) ⊎ IsWorked words opening workers made.journal) × IsAsBefore words told table) ⊎ IsUnjournaled words told table opening workers made.journal
-          → (((made.journal ≡ []) ⊎ IsRunOf words clock told flow workers made.journal) × IsAsBefore words told table) ⊎ LacksJournal words clock told flow table workers made
+      either : (((made.journal ≡ []) ⊎ IsWorked words opening workers made.journal) × RunFilesStay words told table) ⊎ IsUnjournaled words told table opening workers made.journal
+          → (((made.journal ≡ []) ⊎ IsRunOf words clock told flow workers made.journal) × RunFilesStay words told table) ⊎ LacksJournal words clock told flow table workers made
       either (inl before) = inl (begun before.0, before.1)
       either (inr cut) = inr record { run = run_of opening workers made.journal ready cut.worked; all = cut.all; files = cut.files }
   from_work opening table workers made (Done written) ready h =

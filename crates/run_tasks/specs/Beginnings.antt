@@ -25,7 +25,7 @@ pub record HandsOn (words : RunWords) (told : Option Files) (k : Kept) : Type 0 
   pub registers : k.registers ≡ registers_of kept
   pub notes : CountsAs k.notes (notes_of kept)
 
--- this stands against it, where the desk counted so many faults before and behind
+-- this stands against it, where the desk counted so many faults before and after
 abbrev pub StopsKept : RunWords → Option Files → ℕ → ℕ → RunEnd → Type 0
 StopsKept words told faults faults' (BadKept line) = HasText words told (λ kept. bad_line kept ≡ Some line)
 StopsKept words told faults faults' KeptTooLarge = HasText words told (λ kept. MOST_BYTES < length kept)

@@ -11,13 +11,13 @@ use Rattle.cli_words.specs.declared.command.RunWords.{RunWords}
 use Rattle.journal_model.specs.declared.opening.Opening.{Opening}
 use Rattle.task_run.specs.declared.setup.Setup.{Setup}
 use Rattle.task_input.specs.Inputs.{IsInput}
-use Rattle.task_input.specs.Reads.{HasGiven, IsCounted, ComesTo}
+use Rattle.task_input.specs.Reads.{HasGiven, IsCounted, InputComesTo}
 use Rattle.task_input.specs.declared.limits.Limits.{Limits}
 use Rattle.task_input.specs.declared.error.InputError.{InputError}
 
 -- ---- the input
 
--- what a source tells before and behind: what it gave, what it has left, and how often it failed
+-- what a source tells before and after: what it gave, what it has left, and how often it failed
 pub record InputFlow : Type 0 where
   pub given : Option (List ℕ)
   pub given' : Option (List ℕ)
@@ -41,7 +41,7 @@ pub record IsUnread (input : InputFlow) : Type 0 where
 pub record IsTaken (limits : Limits) (input : InputFlow) (result : Result (List Task) InputError) : Type 0 where
   pub bytes : List ℕ
   pub gave : HasGiven input.given input.given' input.left input.left' bytes
-  pub comes : ComesTo limits bytes input.left' result
+  pub comes : InputComesTo limits bytes input.left' result
   pub told : IfSome input.left (λ all. IsInput limits all result)
   pub counted : IsCounted input.faults input.faults' result
 

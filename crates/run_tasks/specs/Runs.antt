@@ -105,29 +105,29 @@ abbrev pub IsRunFile : RunWords → List ℕ → Type 0
 IsRunFile words other = IsKeptFile words.keep other ⊎ (words.journal ≡ Some other)
 
 -- all files of the desk are as before but that one, where files are told
-abbrev pub IsAsBefore : RunWords → Option Files → TableValue → Type 0
-IsAsBefore words told table = WhereTold told table.files (OthersStay (IsNewOf words.keep))
+abbrev pub RunFilesStay : RunWords → Option Files → TableValue → Type 0
+RunFilesStay words told table = WhereTold told table.files (OthersStay (IsNewOf words.keep))
 
 -- the desk counted a fault, or a missing file where it tells no files
 abbrev pub HasFailed : Option Files → TableValue → Type 0
 HasFailed told table = Rose 0 table.counts.faults ⊎ ((told ≡ None) × Rose 0 table.counts.missing)
 
--- what is kept behind the run: the config that it began with, the other registers behind the journal, and the notes behind it
+-- what is kept after the run: the config that it began with, the other registers after the journal, and the notes after it
 abbrev pub kept_after : Opening → List Entry → List ℕ
 kept_after o journal = kept_text o.registers (registers_after o journal) (notes_after o journal)
 
 -- it was written in the place of the kept file, or that is as before
 abbrev pub IsKeptIn : RunWords → List ℕ → Option Files → TableValue → Opening → List Entry → KeptWritten → Type 0
 IsKeptIn words name told table o journal W.Done = WhereTold told table.files (IsReplacedBy name (kept_after o journal) (Ok tt))
-IsKeptIn words name told table o journal W.TooLarge = (MOST_BYTES < length (kept_after o journal)) × IsAsBefore words told table
-IsKeptIn words name told table o journal W.Fault = HasFailed told table × IsAsBefore words told table
+IsKeptIn words name told table o journal W.TooLarge = (MOST_BYTES < length (kept_after o journal)) × RunFilesStay words told table
+IsKeptIn words name told table o journal W.Fault = HasFailed told table × RunFilesStay words told table
 
 -- so it is, where the words name a kept file; and where they name none, nothing was kept
-abbrev pub IsKept : RunWords → Option Files → TableValue → Opening → List Entry → KeptWritten → Type 0
-IsKept words told table o journal written = go words.keep
+abbrev pub IsRunKept : RunWords → Option Files → TableValue → Opening → List Entry → KeptWritten → Type 0
+IsRunKept words told table o journal written = go words.keep
   where
     go : Option (List ℕ) → Type 0
-    go None = (written ≡ W.Done) × IsAsBefore words told table
+    go None = (written ≡ W.Done) × RunFilesStay words told table
     go (Some name) = IsKeptIn words name told table o journal written
 
 -- ---- the journal file
@@ -151,7 +151,7 @@ told_of kept journal = kept
 pub record AreWritten (words : RunWords) (told : Option Files) (table : TableValue) (o : Opening) (journal : List Entry) (written : KeptWritten) : Type 0 where
   pub mid : TableValue
   pub of_kept : KeptWritten
-  pub kept : IsKept words told mid o journal of_kept
+  pub kept : IsRunKept words told mid o journal of_kept
   pub of_journal : JournalWritten
   pub journaled : IsJournaled words mid table o journal (Ok of_journal)
   pub told_is : written ≡ told_of of_kept of_journal
@@ -160,7 +160,7 @@ pub record AreWritten (words : RunWords) (told : Option Files) (table : TableVal
 pub record IsCutShort (words : RunWords) (told : Option Files) (table : TableValue) (o : Opening) (journal : List Entry) : Type 0 where
   pub mid : TableValue
   pub of_kept : KeptWritten
-  pub kept : IsKept words told mid o journal of_kept
+  pub kept : IsRunKept words told mid o journal of_kept
   pub want : NoMemory
   pub journaled : IsJournaled words mid table o journal (Err want)
 
@@ -170,7 +170,7 @@ pub record IsCutShort (words : RunWords) (told : Option Files) (table : TableVal
 pub record IsUnbegun (words : RunWords) (told : Option Files) (table : TableValue) (workers : List TableValue) (made : MadeValue) : Type 0 where
   pub journal : made.journal ≡ []
   pub none : workers ≡ []
-  pub before : IsAsBefore words told table
+  pub before : RunFilesStay words told table
 
 -- the text of the kept file, which was read before anything else, is so
 abbrev pub HasText : RunWords → Option Files → (List ℕ → Type 0) → Type 0
@@ -200,7 +200,7 @@ EndsRun words clock told flow table workers made InputFailed =
 EndsRun words clock told flow table workers made (Refused line reason) =
     IsUnbegun words told table workers made × IsTaken TASKS flow (Err (input.Refused line reason)) × HasText words told (λ kept. bad_line kept ≡ None)
 EndsRun words clock told flow table workers made Memory =
-    (((made.journal ≡ []) ⊎ IsRunOf words clock told flow workers made.journal) × IsAsBefore words told table)
+    (((made.journal ≡ []) ⊎ IsRunOf words clock told flow workers made.journal) × RunFilesStay words told table)
     ⊎ LacksJournal words clock told flow table workers made
 EndsRun words clock told flow table workers made (Done written) = IsWholeRun words clock told flow table workers made written
 

@@ -16,7 +16,7 @@ use Rattle.child_end.specs.Outsides.{TableValue}
 use Rattle.lone_work.specs.Works.{DeskTells}
 use Rattle.job_rounds.specs.JobRuns.{RanJobs}
 use Rattle.run_tasks.specs.Inputs.{run_setup}
-use Rattle.run_tasks.specs.Runs.{AreAnswers, AreFresh, AreWritten, IsAsBefore, IsCutShort, IsKept, AddsMade, table_tells}
+use Rattle.run_tasks.specs.Runs.{AreAnswers, AreFresh, AreWritten, RunFilesStay, IsCutShort, IsRunKept, AddsMade, table_tells}
 use Rattle.run_tasks.specs.declared.made.RunEnd.{RunEnd}
 use Rattle.run_tasks.specs.declared.made.RunEnd.TheVariants.{Memory, Done}
 use Rattle.run_tasks.specs.declared.rounds.Ready.{Ready}
@@ -48,7 +48,7 @@ pub record IsFinished (words : RunWords) (told : Option Files) (table : TableVal
 
 -- no memory was found, and the kept file is as before; or only for the journal file no memory was found
 abbrev pub IsWanting : RunWords → Option Files → TableValue → Opening → List Entry → Type 0
-IsWanting words told table opening journal = IsAsBefore words told table ⊎ IsCutShort words told table opening journal
+IsWanting words told table opening journal = RunFilesStay words told table ⊎ IsCutShort words told table opening journal
 
 -- so it is, or no memory was found
 abbrev pub Finishes : RunWords → Option Files → TableValue → Opening → List Entry → List Answer → RunEnd → Type 0
@@ -59,7 +59,7 @@ Finishes words told table opening journal answers end = ⊥
 -- what is known was kept, or no memory was found and the kept file is as before
 abbrev pub Keeps : RunWords → Option Files → TableValue → Opening → List Entry → Result KeptWritten NoMemory → Type 0
 Keeps words told table opening journal result =
-    MatchResult result (λ written. IsKept words told table opening journal written) (λ _. IsAsBefore words told table)
+    MatchResult result (λ written. IsRunKept words told table opening journal written) (λ _. RunFilesStay words told table)
 
 -- both files were written, or no memory was found
 abbrev pub Writes : RunWords → Option Files → TableValue → Opening → List Entry → Result KeptWritten NoMemory → Type 0
@@ -81,12 +81,12 @@ pub record IsUnjournaled (words : RunWords) (told : Option Files) (table : Table
 -- the tasks were done, or no memory was found
 abbrev pub EndsWork : RunWords → Option Files → TableValue → Opening → List TableValue → List Entry → List Answer → RunEnd → Type 0
 EndsWork words told table opening workers journal answers Memory =
-    ((((journal ≡ []) ⊎ IsWorked words opening workers journal) × IsAsBefore words told table) ⊎ IsUnjournaled words told table opening workers journal)
+    ((((journal ≡ []) ⊎ IsWorked words opening workers journal) × RunFilesStay words told table) ⊎ IsUnjournaled words told table opening workers journal)
     × (answers ≡ [])
 EndsWork words told table opening workers journal answers (Done written) = IsWhole words told table opening workers journal answers written
 EndsWork words told table opening workers journal answers end = ⊥
 
--- ---- behind what a run begins with
+-- ---- after what a run begins with
 
 -- nothing was done, and this is why
 pub record IsStopped (before after : TableValue) (workers : List TableValue) (journal : List Entry) (answers : List Answer) (why end : RunEnd) : Type 0 where

@@ -1,4 +1,4 @@
-// What is written behind the tasks.
+// What is written after the tasks.
 ghost use Rattle.std.specs.Prelude.{◌≡◌};
 ghost use Rattle.child_end.specs.Outsides.{table_value};
 ghost use Rattle.desk_file.specs.Names.{NamesOnly};
@@ -24,7 +24,7 @@ pub(crate) struct Finished {
     pub(crate) end: RunEnd,
 }
 
-// Puts the config that the run began with, the other registers behind the journal and the notes behind it in the place of the
+// Puts the config that the run began with, the other registers after the journal and the notes after it in the place of the
 // kept file, where the words name one.
 #[tactic(auto, using(crate::proofs::Naming::kept_names, desk_file::proofs::Naming::names_none))]
 fn keep<D: Desk>(

@@ -111,7 +111,7 @@ fn ask_desks<K: Desks>(desks: &mut K, jobs: u32, crew: &mut Vec<K::Desk>) -> Res
     Ok(())
 }
 
-// Does the tasks, and keeps what is known behind them. The workers' desks are handed back.
+// Does the tasks, and keeps what is known after them. The workers' desks are handed back.
 fn do_all<P: Programs, D: Desk + Send + Drop, R: Threads + Wait + Sync>(
     rt: &R,
     alloc: Global,
@@ -163,7 +163,7 @@ where
     }
 }
 
-/// Asks for the workers' desks, does the tasks of the opening, and keeps what is known behind them at the other desk.
+/// Asks for the workers' desks, does the tasks of the opening, and keeps what is known after them at the other desk.
 pub(crate) fn work<P: Programs, K: Desks, R: Threads + Wait + Sync>(
     rt: &R,
     alloc: Global,

@@ -8,7 +8,7 @@ use std::io::ErrorKind;
 use std::process::ExitCode;
 use std::rt::Env;
 
-// The words behind the program's own name; none where they aren't UTF-8, which is out of the grammar. None is want of
+// The words after the program's own name; none where they aren't UTF-8, which is out of the grammar. None is out of
 // memory.
 fn words_of<R: Env + AllocGlobal>(rt: &R) -> Option<Vec<String>> {
     let mut words = Vec::new(rt.alloc());

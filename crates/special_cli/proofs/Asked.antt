@@ -31,7 +31,7 @@ plain_names past c h = rw h refl
 plain_wire : (past : List Entry) (c job : ℕ) (line : List ℕ) → any (offers c) past ≡ false → on_wire past c job line ≡ line
 plain_wire past c job line h = rw h refl
 
--- the request that comes first, and the one behind it
+-- the request that comes first, and the one after it
 first_turn : (past : List Entry) (c : ℕ) (q : HostMessage) → any (offers c) past ≡ false → is_in_turn past c 0 q ≡ true → host_line q ≡ codes "EXTENSIONS INFO GETGITREMOTENAME"
 first_turn past c (AskExtensions names) plain h =
     ap (λ (ns : List ℕ). host_line (AskExtensions ns)) ((bytes_eq-Decides names (offered_names past c)).0 h ∙ plain_names past c plain)
@@ -50,7 +50,7 @@ turn_line past c job line (Some q) plain h =
     let t = both (is_in_turn past c job q) (bytes_eq line (on_wire past c job (host_line q))) h in
     (q, (bytes_eq-Decides line (on_wire past c job (host_line q))).0 t.1 ∙ plain_wire past c job (host_line q) plain, t.0)
 
--- behind the first lines of the greeting it adds the next
+-- after the first lines of the greeting it adds the next
 next_line : (past : List Entry) (c k : ℕ) (line : List ℕ) (r : Option HostMessage) → any (offers c) past ≡ false → is_greeting_line k line ≡ true → asks_in_turn past c k line r ≡ true
     → take k greeting_lines ++ line ∷ [] ≡ take (suc k) greeting_lines
 next_line past c zero line r plain early h =

@@ -1,7 +1,7 @@
 -- An audit that found no memory before it began.
 use Rattle.std.proofs.Common.{◌≡◌, ◌∙◌, ℕ, Bool, true, false, List, [], Option, Some, None, Err, sym, ap, subst}
 use Rattle.std.specs.Prelude.{IfSome}
-use Rattle.audit_run.specs.Inputs.{ComesTo, audit_limits}
+use Rattle.audit_run.specs.Inputs.{AuditComesTo, audit_limits}
 use Rattle.audit_run.specs.declared.error.AuditError.TheVariants.{NoMemory}
 use Rattle.child_end.specs.Outsides.{OutsideValue}
 use Rattle.cli_words.specs.declared.command.Command.{Command}
@@ -34,7 +34,7 @@ unread input h = record {
   counted = h.faults;
 }
   where
-    of_all : (left : Option (List ℕ)) → IfSome left (λ all. ComesTo audit_limits all (Err NoMemory))
+    of_all : (left : Option (List ℕ)) → IfSome left (λ all. AuditComesTo audit_limits all (Err NoMemory))
     of_all None = tt
     of_all (Some all) = tt
 

@@ -80,7 +80,7 @@ wanted_of (NotSetUp answer) = 1 ∷ 7 ∷ []
 wanted_of (Audited found) = 0 ∷ 1 ∷ 7 ∷ []
 wanted_of (Rehearsed found) = 0 ∷ 1 ∷ 7 ∷ []
 
--- it is one of these, or 5 behind a write that failed
+-- it is one of these, or 5 after a write that failed
 EndsWith : List ℕ → ℕ → Flow → Flow → Type 0
 EndsWith ws status out err = ((status ≡ 5) × (Rose out.faults out.faults' ⊎ Rose err.faults err.faults')) ⊎ (list_any (λ w. w == status) ws ≡ true)
 

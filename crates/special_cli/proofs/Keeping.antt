@@ -24,12 +24,12 @@ use Rattle.child_end.specs.Wires.{WireValue}
 use Rattle.child_end.specs.Programs.{ProgramsValue}
 use Rattle.child_end.specs.Outsides.{TableValue}
 use Rattle.child_end.specs.Programs.{Leaves}
-use Rattle.special_cli.specs.Setups.{IsSetup, IsRunOf, IsAsBefore, IsKept, EndsInit, EndsKeep}
+use Rattle.special_cli.specs.Setups.{IsSetup, IsRunOf, InitFilesStay, IsInitKept, EndsInit, EndsKeep}
 use Rattle.special_cli.proofs.Leaving.{leaves_as}
 
 -- ---- files that stay
 
-pub as_before : (words : InitWords) (told : Option Files) (table : TableValue) → table.files ≡ told → IsAsBefore words told table
+pub as_before : (words : InitWords) (told : Option Files) (table : TableValue) → table.files ≡ told → InitFilesStay words told table
 as_before words told table e = subst (λ (t : Option Files). WhereTold told t (OthersStay (λ other. other ≡ new_name words.keep))) (sym e) (go told)
   where
     go : (told : Option Files) → WhereTold told told (OthersStay (λ other. other ≡ new_name words.keep))
@@ -53,7 +53,7 @@ is_run words told o o' journal begins e legal run =
     }
 
 kept_as : (words : InitWords) (told told' : Option Files) (counts : Counts) (log : Option (List Call)) (o : Opening) (journal : List Entry) (k : KeptWritten)
-    → IsKept words told (record { counts = counts; files = told'; log = None }) o journal k → IsKept words told (record { counts = counts; files = told'; log = log }) o journal k
+    → IsInitKept words told (record { counts = counts; files = told'; log = None }) o journal k → IsInitKept words told (record { counts = counts; files = told'; log = log }) o journal k
 kept_as words told told' counts log o journal W.Done h = h
 kept_as words told told' counts log o journal W.TooLarge h = h
 kept_as words told told' counts log o journal W.Fault h = h
@@ -63,7 +63,7 @@ pub ends_kept : (words : InitWords) (told told' : Option Files) (counts : Counts
     → EndsInit words told (record { counts = counts; files = told'; log = log }) journal end
 unfolding is_run
 ends_kept words told told' counts log o o' journal (SetUp k) begins e legal run outcome h =
-    (is_run words told o o' journal begins e legal run, outcome, kept_as words told told' counts log o journal k (subst (λ (x : Opening). IsKept words told (record { counts = counts; files = told'; log = None }) x journal k) e h))
+    (is_run words told o o' journal begins e legal run, outcome, kept_as words told told' counts log o journal k (subst (λ (x : Opening). IsInitKept words told (record { counts = counts; files = told'; log = None }) x journal k) e h))
 ends_kept words told told' counts log o o' journal Memory begins e legal run outcome h = (inr (is_run words told o o' journal begins e legal run), h)
 ends_kept words told told' counts log o o' journal end begins e legal run outcome h = absurd h
 
@@ -106,7 +106,7 @@ outcome_ok journal r setup e h = subst (λ (x : Result Setup NoMemory). IfOk x (
 pub ok_err : {A : Type 0} (r : Result Setup NoMemory) (setup : Setup) → r ≡ Ok setup → IsErr r → A
 ok_err r setup e h = absurd (let bad : false ≡ true = subst IsErr e h in cc)
 
--- the want of memory, the program and the journal are named otherwise
+-- the running out of memory, the program and the journal are named otherwise
 pub leaves_named : {V W : Type 0} {program program' : List ℕ} {journal journal' : List Entry} {before after : ProgramsValue} {wires : List WireValue} → (V → W) → journal' ≡ journal → program ≡ program'
     → Leaves V program journal before after wires → Leaves W program' journal' before after wires
 leaves_named {V} {W} {program} {program'} {journal} {journal'} {before} {after} {wires} f j e h =

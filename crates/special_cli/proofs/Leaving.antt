@@ -176,7 +176,7 @@ leaves_child W mid before after program journal ear mouth wires j adds stays num
   faults = subst (λ (n : ℕ). RoseBy n before.faults after.faults) (sym (failed_of_starts journal (Start 1 0 false) j)) (rose_still 0 before.faults before.faults after.faults (omega arith) le);
 }
 
--- the want of memory, the journal and the objects are named otherwise
+-- the running out of memory, the journal and the objects are named otherwise
 pub leaves_as : {V W : Type 0} {program : List ℕ} {journal journal' : List Entry} {before before' after : ProgramsValue} {wires : List WireValue} → (V → W) → journal' ≡ journal → before' ≡ before
     → Leaves V program journal before after wires → Leaves W program journal' before' after wires
 leaves_as {V} {W} {program} {journal} {journal'} {before} {before'} {after} {wires} f j o h =

@@ -90,7 +90,7 @@ ended_outcome : (why : Why) (mute : Bool) → is_closed why ≡ false → gone_o
 ended_outcome Closed mute h = absurd cc
 ended_outcome why mute h = refl
 
--- ---- behind the greeting
+-- ---- after the greeting
 
 module _ (old journal : List Entry) (c : ℕ) (none : old ≡ []) (greeted : GreetedFor Init old journal 0 false c) where
   g : GreetedFor Init [] journal 0 false c

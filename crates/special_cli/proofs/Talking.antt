@@ -34,7 +34,7 @@ use Rattle.special_cli.proofs.Asked.{greeting_lines, is_early, begins}
 use Rattle.special_cli.proofs.Beginning.{greeted_started, greeted_starts}
 use Rattle.special_cli.proofs.Looking.{or_true, all_weaken, any_none}
 
--- ---- behind the greeting
+-- ---- after the greeting
 
 early_greeting : (c : ℕ) (w : What) → is_of_greeting c w ≡ true → is_early c w ≡ true
 early_greeting c (Ask child job task line) h =
@@ -120,7 +120,7 @@ unsent_complete key old journal c none greeted h =
     let one : c ≡ 1 = (from_nothing old journal c none greeted).next in
     inr (inr (inr (inr (subst (λ (x : ℕ). is_mute journal x ≡ true) one h.mute))))
 
--- ---- behind the questions
+-- ---- after the questions
 
 ready_lines : (o : Opening) (journal : List Entry) (c : ℕ) → Legal o journal → Greeted [] journal 0 false c → IsReady journal c → asked_lines journal c ≡ greeting_lines
 ready_lines o journal c legal g r = greeted_lines o journal c legal g ∙ ap (λ (js : List ℕ). take (length js) greeting_lines) r.jobs

@@ -1,6 +1,6 @@
 -- What comes of an audit of the input.
 use Rattle.std.specs.Prelude.{ℕ, ◌≡◌, List, [], ◌∷◌, ◌++◌, codes, decimal, IfSome, Result, Ok, Err}
-use Rattle.audit_run.specs.Inputs.{ComesTo, audit_limits}
+use Rattle.audit_run.specs.Inputs.{AuditComesTo, audit_limits}
 use Rattle.audit_run.specs.Reads.{IsCounted, IsRead}
 use Rattle.audit_run.specs.declared.error.AuditError.{AuditError}
 use Rattle.audit_run.specs.declared.error.AuditError.TheVariants as A
@@ -30,7 +30,7 @@ pub record IsAuditOf (input : InputFlow) (outcome : Result Audit AuditError) : T
   pub bytes : List ℕ
   pub gave : HasGiven input.given input.given' input.left input.left' bytes
   pub read : IsRead audit_limits bytes input.left' outcome
-  pub told : IfSome input.left (λ all. ComesTo audit_limits all outcome)
+  pub told : IfSome input.left (λ all. AuditComesTo audit_limits all outcome)
   pub counted : IsCounted input.faults input.faults' outcome
 
 -- what is to be told of it

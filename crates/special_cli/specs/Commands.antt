@@ -21,7 +21,7 @@ use Rattle.cli_words.specs.Refusals.{reason_refused, refusal_if}
 use Rattle.cli_words.specs.declared.command.Command.{Command}
 use Rattle.cli_words.specs.declared.command.Command.TheVariants.{Check, Info, Init, Run, Audit, Rehearse, Show}
 
--- nothing came of it but what is to be told: this, or want of memory
+-- nothing came of it but what is to be told: this, or running out of memory
 pub record ComesToNothing (before : OutsideValue) (ran : RanValue) (end : End) : Type 0 where
   pub end_is : (ran.end ≡ end) ⊎ (ran.end ≡ Memory)
   pub idle : IsIdle before ran.left
@@ -40,7 +40,7 @@ pub record IsPrepared (program key : List ℕ) (stamp : ℕ) (r : Ready) : Type 
   pub tasks : r.tasks ≡ r.core.opening.tasks
   pub plan : r.plan ≡ record { program = program; starts = 1; offers = false; setup = check_setup stamp }
 
--- there is the one answer, or none was found for want of memory
+-- there is the one answer, or none was found for lack of memory
 abbrev pub EndsCheck : Left → End → Type 0
 EndsCheck left Answered = (answer : Answer) × IsAnswered left.journal left.answers answer
 EndsCheck left Memory = left.answers ≡ []

@@ -96,7 +96,7 @@ is_well answer = false
 abbrev pub status_of : Answer → ℕ
 status_of answer = if is_well answer then 0 else 1
 
--- There is one answer, the journal's. Behind it the child was closed, and nothing else was done.
+-- There is one answer, the journal's. After it the child was closed, and nothing else was done.
 pub record IsAnswered (journal : List Entry) (answers : List Answer) (answer : Answer) : Type 0 where
   pub one : answers ≡ answer ∷ []
   pub given : answer_of journal 1 ≡ Some answer

@@ -76,20 +76,20 @@ pub record IsRunOf (words : InitWords) (told : Option Files) (journal : List Ent
 -- ---- the kept file
 
 -- the kept file is as before, where files are told
-abbrev pub IsAsBefore : InitWords → Option Files → TableValue → Type 0
-IsAsBefore words told table = WhereTold told table.files (OthersStay (λ other. other ≡ new_name words.keep))
+abbrev pub InitFilesStay : InitWords → Option Files → TableValue → Type 0
+InitFilesStay words told table = WhereTold told table.files (OthersStay (λ other. other ≡ new_name words.keep))
 
 -- the desk counted a fault, or a missing file where it tells no files
 abbrev pub HasFailed : Option Files → TableValue → Type 0
 HasFailed told table = Rose 0 table.counts.faults ⊎ ((told ≡ None) × Rose 0 table.counts.missing)
 
--- it is the text of the registers behind the journal and of the notes, or as before
-abbrev pub IsKept : InitWords → Option Files → TableValue → Opening → List Entry → KeptWritten → Type 0
-IsKept words told table o journal W.Done =
+-- it is the text of the registers after the journal and of the notes, or as before
+abbrev pub IsInitKept : InitWords → Option Files → TableValue → Opening → List Entry → KeptWritten → Type 0
+IsInitKept words told table o journal W.Done =
     WhereTold told table.files (IsReplacedBy words.keep (kept_text (registers_after o journal) (registers_after o journal) o.notes) (Ok tt))
-IsKept words told table o journal W.TooLarge =
-    (MOST_BYTES < length (kept_text (registers_after o journal) (registers_after o journal) o.notes)) × IsAsBefore words told table
-IsKept words told table o journal W.Fault = HasFailed told table × IsAsBefore words told table
+IsInitKept words told table o journal W.TooLarge =
+    (MOST_BYTES < length (kept_text (registers_after o journal) (registers_after o journal) o.notes)) × InitFilesStay words told table
+IsInitKept words told table o journal W.Fault = HasFailed told table × InitFilesStay words told table
 
 -- ---- its end
 
@@ -99,7 +99,7 @@ pub record IsUnbegun (words : InitWords) (told : Option Files) (table : TableVal
   pub text : IsTextOf words told kept
   pub cause : P kept
   pub nothing : journal ≡ []
-  pub before : IsAsBefore words told table
+  pub before : InitFilesStay words told table
 
 -- a file of a setup at desk 0: the kept file, or the one in which it is made
 abbrev pub IsInitFile : InitWords → List ℕ → Type 0
@@ -109,11 +109,11 @@ IsInitFile words other = (other ≡ words.keep) ⊎ (other ≡ new_name words.ke
 abbrev pub EndsInit : InitWords → Option Files → TableValue → List Entry → Ending → Type 0
 EndsInit words told table journal (BadKept line) = IsUnbegun words told table journal (λ kept. bad_line kept ≡ Some line)
 EndsInit words told table journal KeptTooLarge = IsUnbegun words told table journal (λ kept. MOST_BYTES < length kept)
-EndsInit words told table journal FileFailed = (journal ≡ []) × Rose 0 table.counts.faults × IsAsBefore words told table
+EndsInit words told table journal FileFailed = (journal ≡ []) × Rose 0 table.counts.faults × InitFilesStay words told table
 EndsInit words told table journal (SetUp written) =
-    (run : IsRunOf words told journal) × (outcome_of journal ≡ Some Initialized) × IsKept words told table run.opening journal written
-EndsInit words told table journal (NotSetUp answer) = IsRunOf words told journal × (outcome_of journal ≡ Some (Stopped answer)) × IsAsBefore words told table
-EndsInit words told table journal Memory = ((journal ≡ []) ⊎ IsRunOf words told journal) × IsAsBefore words told table
+    (run : IsRunOf words told journal) × (outcome_of journal ≡ Some Initialized) × IsInitKept words told table run.opening journal written
+EndsInit words told table journal (NotSetUp answer) = IsRunOf words told journal × (outcome_of journal ≡ Some (Stopped answer)) × InitFilesStay words told table
+EndsInit words told table journal Memory = ((journal ≡ []) ⊎ IsRunOf words told journal) × InitFilesStay words told table
 EndsInit words told table journal end = ⊥
 
 -- desk 0 was asked for, once, and this came of it; where it tells its calls, they name those files alone
@@ -133,9 +133,9 @@ HasSetUp words before ran = ((ran.end ≡ Memory) × IsIdle before ran.left) ⊎
 
 -- ---- on the way
 
--- what keeping it comes to, from the files that are told before and behind it, and what the desk counted
+-- what keeping it comes to, from the files that are told before and after it, and what the desk counted
 abbrev pub EndsKeep : InitWords → Option Files → Option Files → Counts → Opening → List Entry → Ending → Type 0
-EndsKeep words told told' counts o journal (SetUp written) = IsKept words told (record { counts = counts; files = told'; log = None }) o journal written
+EndsKeep words told told' counts o journal (SetUp written) = IsInitKept words told (record { counts = counts; files = told'; log = None }) o journal written
 EndsKeep words told told' counts o journal Memory = WhereTold told told' (OthersStay (λ other. other ≡ new_name words.keep))
 EndsKeep words told told' counts o journal end = ⊥
 

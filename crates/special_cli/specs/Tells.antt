@@ -42,7 +42,7 @@ pub record IsWhole (wanted : ℕ) (written : List ℕ) (status : ℕ) (f : Flow)
   pub status_is : status ≡ wanted
   pub appended : Appends f.taken f.taken' written
 
--- a write of it failed, behind the first bytes of the text, which may be none or all, and the status is 5
+-- a write of it failed, after the first bytes of the text, which may be none or all, and the status is 5
 pub record IsCut (written : List ℕ) (status : ℕ) (f : Flow) : Type 0 where
   pub status_is : status ≡ 5
   pub rose : Rose f.faults f.faults'

@@ -179,7 +179,7 @@ where
     }
 }
 
-// Puts what the registers hold behind the journal, and the notes, in the place of the kept file.
+// Puts what the registers hold after the journal, and the notes, in the place of the kept file.
 fn keep<D: Desk>(alloc: Global, words: &InitWords, desk: &mut D, core: &Core) -> End
     ensures keeps { EndsKeep words.now (D.files desk.old) (D.files desk.new) (D.counts desk.new) core.now.opening core.now.journal result }
     ensures calls { NamesOnly (IsInitFile words.now) (D.log desk.old) (D.log desk.new) }

@@ -26,7 +26,7 @@ use std::marker::{Send, Sync};
 use std::sync::Wait;
 use std::thread::Threads;
 
-/// Does all that the program does: reads the words behind its name, starts what they ask for, prints what comes of it to
+/// Does all that the program does: reads the words after its name, starts what they ask for, prints what comes of it to
 /// `out` or why there is nothing to `err`, and leaves the status to end with.
 ///
 /// 0: all is well. 1: an answer isn't the one that was hoped for, not all was answered, or a journal isn't legal. 2: the words

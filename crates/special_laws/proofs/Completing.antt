@@ -25,7 +25,7 @@ use Rattle.journal_model.proofs.Looks.{differ, same_number}
 use Rattle.keep_desk.specs.declared.writing.KeptWritten.{KeptWritten}
 use Rattle.keep_desk.specs.declared.writing.KeptWritten.TheVariants as W
 use Rattle.run_tasks.specs.Inputs.{InputFlow}
-use Rattle.run_tasks.specs.Runs.{AreWritten, HasFailed, IsJournaled, IsKept, IsWholeRun, answer_for, answer_of, told_of}
+use Rattle.run_tasks.specs.Runs.{AreWritten, HasFailed, IsJournaled, IsRunKept, IsWholeRun, answer_for, answer_of, told_of}
 use Rattle.run_tasks.specs.declared.made.RunEnd.{RunEnd}
 use Rattle.run_tasks.specs.declared.made.RunEnd.TheVariants.{BadKept, KeptTooLarge, FileFailed, InputFailed, Refused, Memory, Done}
 use Rattle.special_cli.specs.Doings.{end_of, made_in}
@@ -75,21 +75,21 @@ module _ (words : RunWords) (told : Option Files) (table : TableValue) (o : Open
   no_fault mid later (inl h) = quiet.faults (rose_on mid.counts.faults table.counts.faults h later.0)
   no_fault mid later (inr h) = quiet.missing h.0 (rose_on mid.counts.missing table.counts.missing h.1 later.1)
 
-  kept_well : (mid : TableValue) (written : JournalWritten) → IsJournaled words mid table o journal (Ok written) → IsKept words told mid o journal W.Fault → ⊥
+  kept_well : (mid : TableValue) (written : JournalWritten) → IsJournaled words mid table o journal (Ok written) → IsRunKept words told mid o journal W.Fault → ⊥
   kept_well mid written j h = go words.keep h
     where
-      go : (name : Option (List ℕ)) → IsKept (record words { keep = name }) told mid o journal W.Fault → ⊥
+      go : (name : Option (List ℕ)) → IsRunKept (record words { keep = name }) told mid o journal W.Fault → ⊥
       go None k = absurd (let bad : W.Fault ≡ W.Done = k.0 in cc)
       go (Some name) k = no_fault mid (kept_counts mid written j) k.0
 
-  kept_told : (mid : TableValue) → IsKept words told mid o journal W.Done → mid.files ≡ None → told ≡ None
+  kept_told : (mid : TableValue) → IsRunKept words told mid o journal W.Done → mid.files ≡ None → told ≡ None
   kept_told mid h none = go words.keep h
     where
-      go : (name : Option (List ℕ)) → IsKept (record words { keep = name }) told mid o journal W.Done → told ≡ None
+      go : (name : Option (List ℕ)) → IsRunKept (record words { keep = name }) told mid o journal W.Done → told ≡ None
       go None k = untold told mid.files _ k.1 none
       go (Some name) k = untold told mid.files _ k none
 
-  journaled_well : (mid : TableValue) → IsKept words told mid o journal W.Done → IsJournaled words mid table o journal (Ok J.Fault) → ⊥
+  journaled_well : (mid : TableValue) → IsRunKept words told mid o journal W.Done → IsJournaled words mid table o journal (Ok J.Fault) → ⊥
   journaled_well mid kept h = go words.journal h
     where
       fault : {X : Type 0} → (Rose mid.counts.faults table.counts.faults ⊎ ((mid.files ≡ None) × Rose mid.counts.missing table.counts.missing)) → X
@@ -103,7 +103,7 @@ module _ (words : RunWords) (told : Option Files) (table : TableValue) (o : Open
   never_failed : AreWritten words told table o journal W.Fault → ⊥
   never_failed w = go w.of_kept w.of_journal w.kept w.journaled w.told_is
     where
-      go : (kept : KeptWritten) (written : JournalWritten) → IsKept words told w.mid o journal kept → IsJournaled words w.mid table o journal (Ok written) → W.Fault ≡ told_of kept written → ⊥
+      go : (kept : KeptWritten) (written : JournalWritten) → IsRunKept words told w.mid o journal kept → IsJournaled words w.mid table o journal (Ok written) → W.Fault ≡ told_of kept written → ⊥
       go W.Done J.Done k j e = absurd (let bad : W.Fault ≡ W.Done = e in cc)
       go W.Done J.Fault k j e = journaled_well w.mid k j
       go W.TooLarge written k j e = absurd (let bad : W.Fault ≡ W.TooLarge = e in cc)

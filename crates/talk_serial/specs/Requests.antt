@@ -2,7 +2,7 @@
 use Rattle.std.specs.Prelude.{◌||◌, Bool, true, false, bytes_eq}
 use Rattle.std.specs.Str.{is_utf8}
 use Rattle.annex_model.specs.Extensions.{names_of}
-use Rattle.annex_model.specs.Messages.{HostMessage, AskExtensions, Prepare, Initremote, Transfer, Checkpresent, Remove, Listconfigs, Getcost, Getavailability, Getinfo, Whereis, Value, Creds, HostError}
+use Rattle.annex_model.specs.Messages.{HostMessage, AskExtensions, Prepare, Initremote, Transfer, Checkpresent, Remove, Listconfigs, Getcost, Getavailability, Getinfo, Whereis, Value, Creds, Exportsupported, Export, Transferexport, Checkpresentexport, Removeexport, Renameexport, HostError}
 use Rattle.talk_serial.specs.declared.request.Request.{Request}
 use Rattle.talk_serial.specs.declared.request.Request.TheVariants.{Extensions as ExtensionsRequest, Prepare as PrepareRequest, InitRemote as InitRemoteRequest, ListConfigs as ListConfigsRequest, GetCost as GetCostRequest, GetAvailability as GetAvailabilityRequest, GetInfo as GetInfoRequest, Transfer as TransferRequest, CheckPresent as CheckPresentRequest, Remove as RemoveRequest, WhereIs as WhereIsRequest}
 
@@ -23,6 +23,12 @@ message_of (WhereIsRequest key) = Whereis key
 abbrev pub is_request : HostMessage → Bool
 is_request (AskExtensions names) = bytes_eq names (names_of true) || bytes_eq names (names_of false)
 is_request (Transfer store key file) = is_utf8 file
+is_request Exportsupported = false
+is_request (Export name) = false
+is_request (Transferexport store key file) = false
+is_request (Checkpresentexport key) = false
+is_request (Removeexport key) = false
+is_request (Renameexport key onto) = false
 is_request (Value value) = false
 is_request (Creds user password) = false
 is_request (HostError text) = false

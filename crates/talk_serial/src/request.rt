@@ -124,6 +124,12 @@ impl Request {
                 let key = Key::copy(alloc, *key)?;
                 Ok(Some(Request::WhereIs { key }))
             }
+            HostMsg::Exportsupported
+            | HostMsg::Export(_)
+            | HostMsg::Transferexport(_, _, _)
+            | HostMsg::Checkpresentexport(_)
+            | HostMsg::Removeexport(_)
+            | HostMsg::Renameexport(_, _) => Ok(None),
             HostMsg::Value(_) | HostMsg::Creds(_, _) | HostMsg::Error(_) => Ok(None),
         }
     }

@@ -139,7 +139,7 @@ pub over_back : (old new : Counts) (r : Result Answer NoMemory) → HasTaskCause
 over_back old new (Ok answer) h = h
 over_back old new (Err e) h = h
 
--- a call that was refused behind calls that weren't
+-- a call that was refused after calls that weren't
 pub quiet_refused : {T : Type 0} (old mid new : Counts) (e : DeskError) → mid ≡ old → HasCauses {T = T} mid new (Err e) → HasQuietCauses old new (answer_in (over_with (refusal e)))
 quiet_refused {T} old mid new e m h = let P : Counts → Type 0 = λ x. HasQuietCauses x new (answer_in (over_with (refusal e))) in subst P m (by_error e h)
   where

@@ -176,7 +176,7 @@ tries_unsized setup t key file layouts now pairs log none z = record {
       ([], [], subst P e (between_first (place_at setup t key file (sizes_tried key layouts))), z);
 }
 
--- ---- the plain layout behind them
+-- ---- the plain layout after them
 
 pub got_over : (setup : Setup) (t : ℕ) (key : Parts) (file : List ℕ) (layouts : List (ℕ × ℕ)) (now : ℕ) (pairs later : List Asking) (old new : Option (List Call)) (answer : Answer)
     → TriesRan setup t key file layouts now pairs later old new (Ok (T.Over answer)) → GetRan setup t key file layouts pairs later old new (Ok answer)

@@ -86,7 +86,7 @@ wanted_are key size chunk n c s =
 
 -- ---- how the begin ends
 
--- the state behind it
+-- the state after it
 abbrev pub BeginEnd : Turn → ℕ → List Call → List Call → Checker → Checker → Result Begun NoMemory → Type 0
 BeginEnd u size calls made before after (Ok (B.Held k)) =
     (reads : List (ℕ × List ℕ)) × Within u [] [] (parts_from u.place.key size u.chunk k) (calls ++ made) × Kept u [] [] (parts_from u.place.key size u.chunk k) (calls ++ made) reads []
@@ -129,7 +129,7 @@ looked_stopped u calls seg n y answer b r l o none held stop =
 
 -- ---- reading what is held
 
--- the calls behind that which looked part up
+-- the calls after that which looked part up
 since_size : (u : Turn) (calls more : List Call) (n : ℕ) → list_all (λ call. not (begins (part_of u.place.file) call)) more ≡ true
     → since_begin u.place.file (calls ++ Size (part_of u.place.file) (Ok n) ∷ more) ≡ more
 since_size u calls more n h = after_last-at (begins (part_of u.place.file)) calls (Size (part_of u.place.file) (Ok n)) more h (same_name (part_of u.place.file))
@@ -232,7 +232,7 @@ looked_missed u calls = record {
   held = missed_held u calls;
 }
 
--- behind Create nothing was read
+-- after Create nothing was read
 created_since : (u : Turn) (calls : List Call) (r : Outcome) → since_begin u.place.file (calls ++ Size (part_of u.place.file) (Err E.Missing) ∷ Create (part_of u.place.file) r ∷ []) ≡ []
 created_since u calls r =
     let P : List Call → Type 0 = λ l. since_begin u.place.file l ≡ [] in
@@ -271,7 +271,7 @@ of_cut_front u calls n keep =
     of_more u.place calls (Size (part_of u.place.file) (Ok n) ∷ []) (Cut (part_of u.place.file) keep (Ok tt) ∷ []) (of_size u.place calls (Ok n))
     (of_cut u.place (calls ++ Size (part_of u.place.file) (Ok n) ∷ []) keep (Ok tt) (known_size u calls n))
 
--- what is behind the pieces: nothing, or reads that go on from there
+-- what is after the pieces: nothing, or reads that go on from there
 record Rest (u : Turn) (calls : List Call) (n keep : ℕ) (pieces : List (List ℕ)) (more : List Call) : Type 0 where
   pub of_part : OfPart u.place ((calls ++ cut_front (part_of u.place.file) n keep) ++ read_calls (part_of u.place.file) 0 pieces) more
   pub run : is_run (length (concat pieces)) (reads_of (part_of u.place.file) more) ≡ true
@@ -340,7 +340,7 @@ known_ending part front at left [] e k = rw (append-nil front) k
 known_ending part front at left (call ∷ []) e k = rw e (known_skip part front (ReadAt part at (Ok [])) refl k)
 known_ending part front at left (call ∷ next ∷ more) e k = absurd e
 
--- a call of part that is refused behind what was resumed
+-- a call of part that is refused after what was resumed
 unread_stopped : (u : Turn) (calls : List Call) (n keep : ℕ) (pieces : List (List ℕ)) (e : DeskError) → BetweenAt u calls → 1 ≤ length u.rest → (e ≡ E.NoMemory → ⊥)
     → Ended u.place u.past (calls ++ resumed_calls (part_of u.place.file) n keep pieces (ReadAt (part_of u.place.file) (length (concat pieces)) (Err e) ∷ [])) (answered (refusal e))
 unread_stopped u calls n keep pieces e b r ne =

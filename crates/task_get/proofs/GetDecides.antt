@@ -1,4 +1,4 @@
--- How a get is answered behind its last layout's requests.
+-- How a get is answered after its last layout's requests.
 use Rattle.std.proofs.Common.{◌≡◌, ◌∙◌, ℕ, ◌+◌, ◌==◌, Bool, true, false, not, List, [], ◌∷◌, ◌++◌, length, refl, sym, ap, subst, arith, length-append}
 use Rattle.std.specs.Prelude.{◌||◌, if◌then◌else◌, Option, Some, unwrap_or, count_by}
 use Rattle.std.specs.Bool.{MatchBool}
@@ -13,7 +13,7 @@ use Rattle.task_run.specs.Askers.{Asking}
 use Rattle.task_run.specs.Stops.{is_done, last_failed}
 use Rattle.task_run.specs.Names.{part_of}
 use Rattle.task_run.specs.Reads.{is_reading, is_removed, is_last, is_renaming, appended, bytes_of, holds, are_found_so}
-use Rattle.task_run.specs.Gets.{lengths_at_begin, wanted, is_failed, failures, asked_last, first_asked, item, parts_last, is_plain_last, end_held, since_begin, held_reads, bytes_fetched, checked, are_read_whole, wrong_lengths, fit_in, is_got, IsSaid, IsChecked, IsKept, DecidesBy, Decides, GetAnswers}
+use Rattle.task_run.specs.Gets.{lengths_at_begin, wanted, is_failed, failures, asked_last, first_asked, item, parts_last, is_plain_last, end_held, since_begin, held_reads, bytes_fetched, checked, are_read_whole, wrong_lengths, fit_in, is_got, IsSaid, IsChecked, IsFetchKept, DecidesBy, Decides, GetAnswers}
 use Rattle.task_get.specs.Fronts.{Turn, first_in, Tried, begin_of}
 use Rattle.task_get.proofs.AskLaws.{item_behind}
 use Rattle.task_get.proofs.GetFronts.{first_is, parts_are, failures_are}
@@ -138,6 +138,6 @@ answers_said u next parts calls answer l none count said held whole part =
 
     by_test : (b : Bool)
         → MatchBool b (Becomes u next calls) (is_removed (part_of u.place.file) calls ≡ true)
-        → MatchBool b (IsKept u.place.setup u.place.task u.place.sizes u.place.file (u.past ++ next) calls) (is_removed (part_of u.place.file) calls ≡ true)
+        → MatchBool b (IsFetchKept u.place.setup u.place.task u.place.sizes u.place.file (u.past ++ next) calls) (is_removed (part_of u.place.file) calls ≡ true)
     by_test true k = record { moved = k.moved ∙ sym bytes; held = λ before found. k.content before found ∙ ap Some (sym all); renamed = k.renamed }
     by_test false k = k

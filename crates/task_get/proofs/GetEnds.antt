@@ -41,7 +41,7 @@ part_known file fetch n a = rw (a.fetch_part, same_name (part_of file)) refl
 
 -- ---- a read at the end
 
--- calls behind a copy, which read no byte more
+-- calls after a copy, which read no byte more
 pub record Tail (file fetch : List ℕ) (past : List Call) (at : ℕ) (calls : List Call) : Type 0 where
   pub good : Good file fetch past calls
   pub run : is_run at (reads_of fetch calls) ≡ true
@@ -79,7 +79,7 @@ tail_of file fetch past at left (call ∷ []) a f p e = rw e (record {
 })
 tail_of file fetch past at left (call ∷ next ∷ more) a f p e = absurd e
 
--- ---- refused behind what went well
+-- ---- refused after what went well
 
 -- the answer of a call that was refused, where no memory was lacking
 pub stop_is : (e : DeskError) → (e ≡ E.NoMemory → ⊥) → error_stop false e ≡ Some (answered (refusal e))
@@ -87,14 +87,14 @@ stop_is E.Failed h = refl
 stop_is E.Missing h = refl
 stop_is E.NoMemory h = absurd (h refl)
 
--- both files are known behind the copy
+-- both files are known after the copy
 copied_fetch_known : (file fetch : List ℕ) (n : ℕ) (pieces : List (List ℕ)) → Apart file fetch → is_known fetch (begun file fetch n ++ copy_calls fetch (part_of file) 0 pieces) ≡ true
 copied_fetch_known file fetch n pieces a = known_copy fetch fetch (part_of file) (begun file fetch n) 0 pieces (fetch_known file fetch n a)
 
 copied_part_known : (file fetch : List ℕ) (n : ℕ) (pieces : List (List ℕ)) → Apart file fetch → is_known (part_of file) (begun file fetch n ++ copy_calls fetch (part_of file) 0 pieces) ≡ true
 copied_part_known file fetch n pieces a = known_copy (part_of file) fetch (part_of file) (begun file fetch n) 0 pieces (part_known file fetch n a)
 
--- ---- behind a whole copy
+-- ---- after a whole copy
 
 part_known_whole : (setup : Setup) (t : ℕ) (file : List ℕ) (n left : ℕ) (pieces : List (List ℕ)) (ending : List Call) → Apart file (fetch_file setup t 1)
     → EndsWhole (fetch_file setup t 1) (length (concat pieces)) left ending
@@ -103,7 +103,7 @@ part_known_whole setup t file n left pieces ending a e =
     (tail_of file (fetch_file setup t 1) (begun file (fetch_file setup t 1) n ++ copy_calls (fetch_file setup t 1) (part_of file) 0 pieces) (length (concat pieces)) left ending a
     (copied_fetch_known file (fetch_file setup t 1) n pieces a) (copied_part_known file (fetch_file setup t 1) n pieces a) e).known_part
 
--- ---- behind the removal of the fetched file
+-- ---- after the removal of the fetched file
 
 abbrev pub moved_calls : List ℕ → List ℕ → List (List ℕ) → List Call → List Call
 moved_calls file fetch pieces ending = copy_calls fetch (part_of file) 0 pieces ++ (ending ++ Remove fetch (Ok tt) ∷ [])

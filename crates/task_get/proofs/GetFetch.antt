@@ -216,7 +216,7 @@ copy_refused h pre pieces (call ∷ next ∷ []) e f r ne b =
         ∙ known_skip (part_in h) ((h.calls ++ pre) ++ copies_in h pieces) read refl (part_known_copied h pre pieces r)
 copy_refused h pre pieces (call ∷ next ∷ another ∷ more) e f r ne b = absurd b
 
--- ---- behind a whole copy
+-- ---- after a whole copy
 
 pub tail_in : (h : Here) (pre : List Call) (left : ℕ) (pieces : List (List ℕ)) (ending : List Call) → Ready h pre → EndsWhole (fetch_in h) (length (concat pieces)) left ending
     → Tail (file_in h) (fetch_in h) ((h.calls ++ pre) ++ copies_in h pieces) (length (concat pieces)) ending

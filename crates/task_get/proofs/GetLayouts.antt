@@ -95,7 +95,7 @@ layout_unbegun setup t key file chunk first pairs log e = record {
   counted = λ e. absurd cc;
 }
 
--- it was over behind the begin of part
+-- it was over after the begin of part
 pub layout_begun : (setup : Setup) (t : ℕ) (key : Parts) (file part : List ℕ) (size chunk first : ℕ) (pairs : List Asking) (before after : Checker) (old new : Option (List Call)) (answer : Answer)
     → Begins part size chunk before after old new (Ok (B.Over answer)) → part ≡ part_of file → key.size ≡ Some size → 0 < chunk
     → LayoutRan setup t key file chunk first first pairs pairs old new (Ok (T.Over answer))

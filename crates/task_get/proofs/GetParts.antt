@@ -42,7 +42,7 @@ use Rattle.task_get.proofs.GetWithin.{none_failed, within_order, within_fore}
 pub part_apart : (p : Place) (n : ℕ) → Apart p.file (fetch_at p n)
 part_apart p n = names_apart p.setup p.task n p.file
 
--- calls of part, behind others
+-- calls of part, after others
 pub record OfPart (p : Place) (front seg : List Call) : Type 0 where
   pub names : name_only (p.file ∷ part_of p.file ∷ []) seg ≡ true
   pub changes : list_all (changes_as_result p.file []) seg ≡ true

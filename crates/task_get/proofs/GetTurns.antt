@@ -1,4 +1,4 @@
--- How a get within a layout goes on behind one request.
+-- How a get within a layout goes on after one request.
 use Rattle.std.proofs.Common.{◌≡◌, ◌∙◌, ℕ, ◌+◌, ◌-◌, ◌≤◌, ◌<◌, ◌^◌, ◌==◌, Bool, true, false, not, List, [], ◌∷◌, ◌++◌, length, map, refl, sym, ap, subst, arith, append_assoc, append-nil, length-append, eq-eqb}
 use Rattle.std.specs.Prelude.{◌&&◌, ◌||◌, filter, Option, Some, None, Result, Ok, Err}
 use Rattle.std.specs.List.{list_all, concat}
@@ -20,7 +20,7 @@ use Rattle.ann_outside.specs.declared.file_desk.Call.{Call}
 use Rattle.ann_outside.specs.declared.file_desk.Call.TheVariants.{Size, Remove}
 use Rattle.fetch_copy.specs.Copies.{EndsWhole, Checks}
 use Rattle.fetch_copy.proofs.CopyLaws.{gained_nothing}
-use Rattle.task_run.specs.Askers.{Asking, IsKept}
+use Rattle.task_run.specs.Askers.{Asking, KeepsRequest}
 use Rattle.task_run.specs.declared.setup.Setup.{Setup}
 use Rattle.task_get.specs.declared.get_chunk.Went.{Went}
 use Rattle.task_get.specs.declared.get_chunk.Went.TheVariants as T
@@ -262,7 +262,7 @@ came h len size held bytes before after pieces ending f k s is w most c =
     whole : is_read_whole (reads_of (fetch_in h) seg) (lengths_found (fetch_in h) seg) ≡ true
     whole = ap (is_read_whole (reads_of (fetch_in h) seg)) sized ∙ ap (λ b. b && true) reading
 
--- how it goes on behind a request that is done
+-- how it goes on after a request that is done
 pub come_end : (h : Here) (len size : ℕ) (held : List (ℕ × List ℕ)) (bytes : List ℕ) (before after : Checker) (how : Come) → FetchingAt h
     → Kept h.turn h.cur h.got (h.part ∷ h.left) h.calls held bytes → h.turn.place.key.size ≡ Some size → len ≡ h.part.to - h.part.from → h.n + length h.left < 2 ^ 64
     → ComeIs (part_in h) (fetch_in h) len before after how
@@ -320,7 +320,7 @@ asked_end u cur got left part a n calls answer w is few asks ok stop =
     (subst R (sym (append-nil calls)) w.free) stop)
 
 pub asks_for_part : (setup : Setup) (t n : ℕ) (text : List ℕ) (key : Parts) (request : Option HostMessage) (v : Verdict) → key_reading text ≡ Some key
-    → IsKept (Transfer false text (fetch_file setup t n)) request v → AsksFor (fetch_request setup t) n key (record { request = request; verdict = v })
+    → KeepsRequest (Transfer false text (fetch_file setup t n)) request v → AsksFor (fetch_request setup t) n key (record { request = request; verdict = v })
 asks_for_part setup t n text key None v e k = k
 asks_for_part setup t n text key (Some q) v e k = rw k (refl, e)
 

@@ -1,4 +1,4 @@
--- The plain layout, tried behind others.
+-- The plain layout, tried after others.
 use Rattle.std.proofs.Common.{◌≡◌, ◌∙◌, ℕ, ◌+◌, ◌-◌, ◌≤◌, ◌<◌, ◌^◌, ◌==◌, Bool, true, false, not, List, [], ◌∷◌, ◌++◌, length, refl, sym, ap, subst, arith, append_assoc, append-nil, length-append, eq-eqb}
 use Rattle.std.specs.Prelude.{◌&&◌, if◌then◌else◌, bytes_eq, Option, Some, None, unwrap_or, filter, Result, Ok, Err}
 use Rattle.std.specs.Bool.{MatchBool}
@@ -169,7 +169,7 @@ plain_said p past done tried x calls seg m bytes answer f g s l b whole said par
     by_test true k = record { moved = k.moved ∙ sym fetched; content = λ before found. k.content before ∙ ap Some (sym fetched); renamed = k.renamed }
     by_test false k = k
 
--- ---- behind the whole copy: the last call
+-- ---- after the whole copy: the last call
 
 -- what the calls up to the last one are
 record Copied (h : Here) (n : ℕ) (pieces : List (List ℕ)) (ending : List Call) (y : Call) : Type 0 where

@@ -53,7 +53,7 @@ all_calm past cur h d = list_all-append is_calm past cur h (weaken is_done is_ca
 
 -- ---- the calls of one fetch
 
--- calls that fetch for request n, behind others
+-- calls that fetch for request n, after others
 pub record Segment (p : Place) (n : ℕ) (front seg : List Call) : Type 0 where
   pub fair : Fair p.file (fetch_at p n) seg
   pub found : are_found (part_of p.file) front seg ≡ true

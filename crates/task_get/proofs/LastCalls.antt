@@ -1,4 +1,4 @@
--- What stands behind the last call of a kind.
+-- What stands after the last call of a kind.
 use Rattle.std.proofs.Common.{◌≡◌, ◌⊎◌, inl, inr, ◌+◌, ◌-◌, Bool, true, false, not, List, [], ◌∷◌, ◌++◌, length, reverse, refl, sym, ap, subst, ◌∙◌, append_assoc, length-append, arith}
 use Rattle.std.specs.List.{list_all, prefix_len, suffix_len, after_last}
 use Rattle.std.proofs.lemmas.Bool.{and_parts}
@@ -59,7 +59,7 @@ after_last-none {X} p xs all =
         let rest : prefix_len q zs ≡ length zs = prefix_len-all q zs parts.1 in
         rw (first, rest) (omega arith)
 
--- the last one of the kind, and what stands behind it
+-- the last one of the kind, and what stands after it
 pub record Last {X : Type 0} (p : X → Bool) (xs : List X) : Type 0 where
   pub front : List X
   pub one : X
@@ -80,7 +80,7 @@ last_of {X} p (x ∷ xs) = by_rest (last_of p xs)
     by_rest (inl h) = by_test (p x) refl h
     by_rest (inr l) = inr (record { front = x ∷ l.front; one = l.one; rest = l.rest; is = ap (λ (zs : List X). x ∷ zs) l.is; kind = l.kind; none = l.none })
 
--- what is put behind stands behind the last as well, where none of it is of the kind
+-- what is put after stands after the last as well, where none of it is of the kind
 pub after_last-more : {X : Type 0} (p : X → Bool) (xs ys : List X) → list_all (λ x. not (p x)) ys ≡ true → after_last p (xs ++ ys) ≡ after_last p xs ++ ys
 after_last-more {X} p xs ys h = by_case (last_of p xs)
   where

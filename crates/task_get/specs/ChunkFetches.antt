@@ -70,7 +70,7 @@ pub record Comes (part fetch : List ℕ) (n : ℕ) (before after : Checker) (old
   pub result_is : result ≡ come_result how
   pub so : ComeIs part fetch n before after how
 
--- those behind the length of the fetched file
+-- those after the length of the fetched file
 abbrev pub copied_calls : List ℕ → List ℕ → Come → List Call
 copied_calls part fetch (Uncopied pieces ending e) = copy_calls fetch part 0 pieces ++ ending
 copied_calls part fetch (Unremoved pieces ending e) = (copy_calls fetch part 0 pieces ++ ending) ++ if_made (Err e) (Remove fetch (Err e))
@@ -89,7 +89,7 @@ pub record CopiesOver (part fetch : List ℕ) (n : ℕ) (before after : Checker)
   pub result_is : result ≡ come_result how
   pub so : ComeIs part fetch n before after how
 
--- how a layout goes on behind a request that isn't done
+-- how a layout goes on after a request that isn't done
 abbrev pub undone_went : Verdict → Went
 undone_went (FailedAt at) = T.Failed
 undone_went v = T.Over (unwrap_or (undone_answer v) Memory)

@@ -52,7 +52,7 @@ pub record Tried (p : Place) (past : List Asking) (done : List (List Part)) (tri
   pub last : (next : List Asking) → list_all (λ a. not (is_failed a)) next ≡ true → asked_last (past ++ next) ≡ next
 
 -- The calls name and change what they may, in the order that they may; and none of a file that is fetched later. What part holds is known
--- behind them where it was before.
+-- after them where it was before.
 pub record Sound (p : Place) (asked : List Asking) (calls : List Call) : Type 0 where
   pub names : name_only (p.file ∷ part_of p.file ∷ fetch_files p.setup p.task (length asked)) calls ≡ true
   pub changes : list_all (changes_as_result p.file (fetch_files p.setup p.task (length asked))) calls ≡ true
@@ -75,7 +75,7 @@ pub record Between (p : Place) (past : List Asking) (done : List (List Part)) (t
   pub sound : Sound p past calls
   pub free : are_free p calls ≡ true
 
--- a layout that is tried behind others, by its chunk size
+-- a layout that is tried after others, by its chunk size
 pub record Turn : Type 0 where
   pub place : Place
   pub past : List Asking

@@ -26,7 +26,7 @@ pub record Grown (pairs later : List Asking) (old new : Option (List Call)) : Ty
   pub pairs_are : later ≡ pairs ++ asked
   pub log_is : Gained old new made
 
--- what a layout is tried behind
+-- what a layout is tried after
 pub record Behind : Type 0 where
   pub sizes : List ℕ
   pub past : List Asking
@@ -49,7 +49,7 @@ parts_from key size chunk i = map (chunk_part key size chunk) (range_with_len (i
 abbrev pub parts_between : Parts → ℕ → ℕ → ℕ → ℕ → List Part
 parts_between key size chunk i k = map (chunk_part key size chunk) (range_with_len (i + 1) (k - i))
 
--- how it stands behind one chunk more: it is there; or its layout failed; or the get is over
+-- how it stands after one chunk more: it is there; or its layout failed; or the get is over
 abbrev pub PartEnd : Turn → List Asking → List Part → List Part → Part → List Call → List (ℕ × List ℕ) → List ℕ → Checker → Checker → List Asking → List Call → Result Went NoMemory → Type 0
 PartEnd u cur got left part calls held bytes before after asked made (Ok T.Whole) =
     (more : List ℕ) × Within u (cur ++ asked) (got ++ part ∷ []) left (calls ++ made) × Kept u (cur ++ asked) (got ++ part ∷ []) left (calls ++ made) held (bytes ++ more)
@@ -59,7 +59,7 @@ PartEnd u cur got left part calls held bytes before after asked made (Ok T.Faile
 PartEnd u cur got left part calls held bytes before after asked made (Ok (T.Over answer)) = Ended u.place (u.past ++ (cur ++ asked)) (calls ++ made) answer
 PartEnd u cur got left part calls held bytes before after asked made (Err e) = Ended u.place (u.past ++ (cur ++ asked)) (calls ++ made) Memory
 
--- and behind all
+-- and after all
 abbrev pub ChunksEnd : Turn → List Part → List Call → List (ℕ × List ℕ) → Checker → Checker → List Asking → List Call → Result Went NoMemory → Type 0
 ChunksEnd u parts calls held before after asked made (Ok T.Whole) =
     (bytes : List ℕ) × Within u asked parts [] (calls ++ made) × Kept u asked parts [] (calls ++ made) held bytes × Checks before after bytes
@@ -91,7 +91,7 @@ pub record ChunksRan (setup : Setup) (t : ℕ) (key : Parts) (size chunk held : 
       → ChunksEnd (turn_at setup t key file chunk b) (parts_from key size chunk held) calls reads before after grown.asked grown.made result
   pub counted : result ≡ Ok T.Failed → now ≡ first + length grown.asked
 
--- and behind a layout of chunks
+-- and after a layout of chunks
 abbrev pub LayoutEnd : Turn → List Call → List Asking → List Call → Result Went NoMemory → Type 0
 LayoutEnd u calls asked made (Ok T.Whole) = ⊥
 LayoutEnd u calls asked made (Ok T.Failed) =
@@ -105,13 +105,13 @@ pub record LayoutRan (setup : Setup) (t : ℕ) (key : Parts) (file : List ℕ) (
       → LayoutEnd (turn_at setup t key file chunk b) b.calls grown.asked grown.made result
   pub counted : result ≡ Ok T.Failed → now ≡ first + length grown.asked
 
--- the plain layout, behind all others
+-- the plain layout, after all others
 pub record WholeRan (setup : Setup) (t : ℕ) (key : Parts) (file : List ℕ) (first : ℕ) (pairs later : List Asking) (old new : Option (List Call)) (result : Result Answer NoMemory) : Type 0 where
   pub grown : Grown pairs later old new
   pub goes : (sizes : List ℕ) (past : List Asking) (done : List (List Part)) (tried : List ℕ) (calls : List Call) → first ≡ length past → Between (place_at setup t key file sizes) past done tried (0 ∷ []) calls
       → Ended (place_at setup t key file sizes) (past ++ grown.asked) (calls ++ grown.made) (answered result)
 
--- how a get stands behind all layouts of chunks
+-- how a get stands after all layouts of chunks
 abbrev pub TriesEnd : Place → List ℕ → ℕ → List Asking → List Call → Result Went NoMemory → Type 0
 TriesEnd p rest now asked made (Ok T.Whole) = ⊥
 TriesEnd p rest now asked made (Ok T.Failed) = (done : List (List Part)) × (tried : List ℕ) × Between p asked done tried rest made × (now ≡ length asked)

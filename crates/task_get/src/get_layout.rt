@@ -24,7 +24,7 @@ use std::alloc::Global;
 use task_run::names::fetch_name;
 use task_run::{Asker, Setup};
 
-// Asks for the chunk behind the first i, as the next request, and adds it to part.
+// Asks for the chunk after the first i, as the next request, and adds it to part.
 fn next_chunk<A: Asker, D: Desk>(
     alloc: Global,
     number: u32,
@@ -79,7 +79,7 @@ fn next_chunk<A: Asker, D: Desk>(
     )
 }
 
-// Asks for the chunks behind the first `held`, one after the other.
+// Asks for the chunks after the first `held`, one after the other.
 fn chunks<A: Asker, D: Desk>(
     alloc: Global,
     number: u32,

@@ -62,7 +62,7 @@ fn whole_by<A: Asker, D: Desk>(
     }
 }
 
-// Fetches the key whole, behind so many requests.
+// Fetches the key whole, after so many requests.
 fn get_whole<A: Asker, D: Desk>(
     alloc: Global,
     number: u32,

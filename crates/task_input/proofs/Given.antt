@@ -10,7 +10,7 @@ use Rattle.task_input.specs.declared.error.InputError.TheVariants.{Refused, Fail
 pub given_none : (given left : Option (List ℕ)) → HasGiven given given left left []
 given_none given left = record { given_on = Appends-nil given; left_on = Consumes-nil left }
 
--- one piece behind another
+-- one piece after another
 pub given_both : (g g' g'' l l' l'' : Option (List ℕ)) (x y : List ℕ) → HasGiven g g' l l' x → HasGiven g' g'' l' l'' y → HasGiven g g'' l l'' (x ++ y)
 given_both g g' g'' l l' l'' x y p q =
     record { given_on = Appends-trans g g' g'' x y p.given_on q.given_on; left_on = Consumes-trans l l' l'' x y p.left_on q.left_on }

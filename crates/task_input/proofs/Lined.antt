@@ -1,4 +1,4 @@
--- The first line of an input, and what stands behind its end.
+-- The first line of an input, and what stands after its end.
 use Rattle.std.proofs.Common.{◌≡◌, ℕ, suc, ◌+◌, ◌<◌, ◌≤◌, ◌==◌, Bool, true, false, not, cond, List, [], ◌∷◌, take, drop, length, refl, sym, ap, ◌∙◌, arith, length-drop}
 use mathlib.Core.Bool.{false≢true}
 use Rattle.std.specs.Prelude.{◌||◌}
@@ -60,6 +60,6 @@ some_byte true [] h = absurd (false≢true h)
 some_byte false [] h = absurd (false≢true h)
 some_byte last (b ∷ bs) h = omega arith
 
--- what stands behind a line's end is shorter
+-- what stands after a line's end is shorter
 pub shorter : (last : Bool) (xs : List ℕ) → has_line last xs ≡ true → length (after_first is_end xs) + 1 ≤ length xs
 shorter last xs h = let some = some_byte last xs h in omega (arith, length-drop (position_or_len is_end xs + 1) xs)

@@ -26,7 +26,7 @@ IsCounted before now (Err NoMemory) = now ≡ before
 
 -- these bytes come to the result, where the source was read to its end or past the limit. Nothing is said where it failed, and
 -- where no memory was found
-abbrev pub ComesTo : Limits → List ℕ → Option (List ℕ) → Result (List Task) InputError → Type 0
-ComesTo limits bytes left (Ok tasks) = IsRead limits.bytes bytes left × IsInput limits bytes (Ok tasks)
-ComesTo limits bytes left (Err (Refused line reason)) = IsRead limits.bytes bytes left × IsInput limits bytes (Err (Refused line reason))
-ComesTo limits bytes left (Err fault) = Unit {0}
+abbrev pub InputComesTo : Limits → List ℕ → Option (List ℕ) → Result (List Task) InputError → Type 0
+InputComesTo limits bytes left (Ok tasks) = IsRead limits.bytes bytes left × IsInput limits bytes (Ok tasks)
+InputComesTo limits bytes left (Err (Refused line reason)) = IsRead limits.bytes bytes left × IsInput limits bytes (Err (Refused line reason))
+InputComesTo limits bytes left (Err fault) = Unit {0}

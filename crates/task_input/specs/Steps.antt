@@ -28,7 +28,7 @@ IsTaken limits number line (Ok task) = (reason_of limits number line ≡ None) �
 IsTaken limits number line (Err (Refused at reason)) = (at ≡ number) × (reason_of limits number line ≡ Some reason)
 IsTaken limits number line (Err fault) = Unit {0}
 
--- the lines are these tasks, and the number behind them is this one; or one of them is refused so
+-- the lines are these tasks, and the number after them is this one; or one of them is refused so
 abbrev pub AreTaken : Limits → List (List ℕ) → Result (Vec Task × ℕ) InputError → Type 0
 AreTaken limits lines (Ok (tasks, number)) =
     (first_refused limits 1 lines ≡ None) × AreTasks tasks.items lines × (number ≡ length lines + 1)
@@ -37,7 +37,7 @@ AreTaken limits lines (Err fault) = Unit {0}
 
 -- ---- reads
 
--- the piece, which isn't empty, stands behind what was held; or the source is at its end
+-- the piece, which isn't empty, stands after what was held; or the source is at its end
 abbrev pub IsStep : List ℕ → List ℕ → List ℕ → Option (List ℕ) → Result Bool InputError → Type 0
 IsStep old new piece left (Ok true) = (new ≡ old ++ piece) × (0 < length piece)
 IsStep old new piece left (Ok false) = (new ≡ old) × (length piece ≡ 0) × IsAtEnd left

@@ -28,7 +28,7 @@ fn has_end(text: &[u8]) -> bool
     text.iter().any(|b| *b == b'\n')
 }
 
-/// The first line, without its end, and what stands behind its end.
+/// The first line, without its end, and what stands after its end.
 pub(super) fn cut_line(text: &[u8]) -> (&[u8], &[u8])
     ensures line { result.0.now ≡ before_first is_end text.now }
     ensures behind { result.1.now ≡ after_first is_end text.now }

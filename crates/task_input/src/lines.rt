@@ -30,7 +30,7 @@ pub fn tasks_in(alloc: Global, bytes: &[u8], limits: &Limits) -> Result<Tasks, I
     Ok(Tasks::new(list))
 }
 
-// The tasks of the lines, and the number of the line behind them.
+// The tasks of the lines, and the number of the line after them.
 fn take_lines(
     alloc: Global,
     text: &[u8],

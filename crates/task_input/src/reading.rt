@@ -2,7 +2,7 @@
 ghost use Rattle.std.specs.Prelude.{◌≡◌, ℕ, List, IfSome, true};
 ghost use Rattle.ann_outside.specs.Causes.{StaysUntold};
 ghost use Rattle.task_input.specs.Inputs.{IsInput};
-ghost use Rattle.task_input.specs.Reads.{ComesTo, HasGiven, IsCounted};
+ghost use Rattle.task_input.specs.Reads.{InputComesTo, HasGiven, IsCounted};
 ghost use Rattle.task_input.specs.Steps.{Holds, IsStep};
 
 use crate::error::InputError;
@@ -22,7 +22,7 @@ pub fn read_tasks<S: Source>(
     limits: &Limits,
 ) -> Result<Tasks, InputError>
     requires { S.is_open source.old ≡ true }
-    ensures input { (bytes : List ℕ) × HasGiven (S.given source.old) (S.given source.new) (S.left source.old) (S.left source.new) bytes × ComesTo limits.now bytes (S.left source.new) result }
+    ensures input { (bytes : List ℕ) × HasGiven (S.given source.old) (S.given source.new) (S.left source.old) (S.left source.new) bytes × InputComesTo limits.now bytes (S.left source.new) result }
     ensures told { IfSome (S.left source.old) (λ all. IsInput limits.now all result) }
     ensures faults { IsCounted (S.faults source.old) (S.faults source.new) result }
     ensures silent { StaysUntold (S.given source.old) (S.given source.new) × StaysUntold (S.left source.old) (S.left source.new) }

@@ -20,7 +20,7 @@ use Rattle.task_run.specs.Names.{fetch_file}
 use Rattle.task_run.specs.Requests.{AskInOrder}
 use Rattle.task_run.specs.Layouts.{chunk_sizes, sizes_tried, parts_of_layout, keys_of_layout}
 use Rattle.task_run.specs.Reads.{lengths_found, reads_of, bytes_of}
-use Rattle.task_run.specs.Gets.{fetch_request, lengths_at_begin, wanted, failures, item, asked_last, first_asked, parts_last, is_plain_last, held_reads, bytes_fetched, checked, is_wrong, is_read_whole, are_read_whole, wrong_lengths, GetAsks, IsChecked, IsKept, DecidesBy, Decides, GetAnswers}
+use Rattle.task_run.specs.Gets.{fetch_request, lengths_at_begin, wanted, failures, item, asked_last, first_asked, parts_last, is_plain_last, held_reads, bytes_fetched, checked, is_wrong, is_read_whole, are_read_whole, wrong_lengths, GetAsks, IsChecked, IsFetchKept, DecidesBy, Decides, GetAnswers}
 use Rattle.task_run.proofs.Texts.{apart}
 use Rattle.task_run.proofs.GotLaws.{never_failed, get_fits}
 use Rattle.task_laws.specs.Contents.{AreFetched}
@@ -119,7 +119,7 @@ record Decided (setup : Setup) (t : ℕ) (key : Parts) (sizes : List ℕ) (file 
   right : wrong_lengths setup t key.size calls (first_asked asked) (parts_last key sizes (lengths_at_begin file calls) asked) ≡ []
   done : count_by is_done (asked_last asked) ≡ length (parts_last key sizes (lengths_at_begin file calls) asked)
   was : IsChecked setup t key sizes file asked calls A.Got
-  kept : IsKept setup t sizes file asked calls
+  kept : IsFetchKept setup t sizes file asked calls
 
 decided : (setup : Setup) (t : ℕ) (key : Parts) (sizes : List ℕ) (file : List ℕ) (asked : List Asking) (calls : List Call) → GetAnswers setup t key sizes file asked calls A.Got → Decided setup t key sizes file asked calls
 decided setup t key sizes file asked calls r = by_test (failures asked == length sizes) refl r.answered

@@ -91,7 +91,7 @@ rest_asks ask n layouts (a ∷ b ∷ more) h r =
 
 -- ---- the rounds before it
 
--- behind the last that failed there are the layouts that are left
+-- after the last that failed there are the layouts that are left
 pub record Behind (ask : ℕ → List ℕ → HostMessage) (n : ℕ) (layouts : List (List Parts)) (count : ℕ) (rest : List Asking) : Type 0 where
   pub few : count ≤ length layouts
   pub asks : RoundsAsk ask n (drop count layouts) (rounds rest)
@@ -223,7 +223,7 @@ item-drop zero xs = refl
 item-drop (suc k) [] = refl
 item-drop (suc k) (x ∷ xs) = item-drop k xs
 
--- What was asked last are keys of the layout behind those that failed, in their order.
+-- What was asked last are keys of the layout after those that failed, in their order.
 pub record LastAsks (ask : ℕ → List ℕ → HostMessage) (layouts : List (List Parts)) (asked : List Asking) : Type 0 where
   pub few : failures asked ≤ length layouts
   pub in_order : AskInOrder ask (first_asked asked) (unwrap_or (item (failures asked) layouts) []) (asked_last asked)

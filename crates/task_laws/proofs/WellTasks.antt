@@ -1,4 +1,4 @@
--- A task that went well from outside ends with its success, or early for want of memory.
+-- A task that went well from outside ends with its success, or early for lack of memory.
 use Rattle.std.proofs.Common.{◌≡◌, ◌∙◌, ◌⊎◌, inl, inr, ℕ, zero, suc, ◌+◌, ◌<◌, ◌≤◌, ◌==◌, List, [], ◌∷◌, ◌++◌, length, refl, sym, ap, subst, arith}
 use Rattle.std.specs.Prelude.{Bool, true, false, ◌&&◌, ◌||◌, not, if◌then◌else◌, nat_lt, nat_le, Option, Some, None, IfSome, MatchOption, is_none, is_some, map, filter, take, drop, unwrap_or, count_by, bytes_eq, Result, Ok, Err}
 use Rattle.std.specs.Bool.{MatchBool}

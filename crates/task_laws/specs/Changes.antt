@@ -19,7 +19,7 @@ pub record Request : Type 0 where
   pub task : ℕ
   pub asks : HostMessage
 
--- the request of an entry behind past
+-- the request of an entry after past
 abbrev pub request_in : List Entry → What → Option Request
 request_in past (Ask child job task line) = option_map (λ q. record { at = length past; child = child; job = job; task = task; asks = q }) (host_reading (addressed past child line).1)
 request_in past w = None
@@ -52,7 +52,7 @@ last_change journal key place = find (λ (r : Request). changes_key key r.asks) 
 abbrev pub is_done_by : List Entry → ℕ → Request → Bool
 is_done_by journal place r = is_done (verdict_of (take place journal) r.child r.job)
 
--- What stored the key for one that asks at a place and is answered at another: nothing that was asked till then changes the key behind
+-- What stored the key for one that asks at a place and is answered at another: nothing that was asked till then changes the key after
 -- it, and it was done before the first.
 abbrev pub stored_by : List Entry → List ℕ → ℕ → ℕ → Option Request
 stored_by journal key asked answered = option_and_then (λ (r : Request). if is_storing r.asks && is_done_by journal asked r then Some r else None) (last_change journal key answered)

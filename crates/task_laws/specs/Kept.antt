@@ -24,7 +24,7 @@ chunk_last sizes asked = unwrap_or (item (failures asked) sizes) 0
 abbrev pub is_afresh : List ℕ → List ℕ → List Asking → List Call → Bool
 is_afresh sizes file asked calls = is_plain_last sizes asked || list_all (λ n. n == 0) (lengths_at_begin file calls)
 
--- The last layout's keys were asked for in their order, each into a file of its own. These contents, one behind the other, were appended
+-- The last layout's keys were asked for in their order, each into a file of its own. These contents, one after the other, were appended
 -- to part since it was begun, and are all that was checked; they fit the key. Where all that was found of part is so, whatever it held
 -- before the task, they are all that it holds in the end. Then it was renamed to the file.
 pub record Keeps (setup : Setup) (t : ℕ) (key : Parts) (sizes : List ℕ) (file : List ℕ) (asked : List Asking) (calls : List Call) (contents : List (List ℕ)) : Type 0 where

@@ -73,11 +73,11 @@ pub record WentWellAlone (o : Opening) (setup : Setup) (limit : ℕ) (journal : 
   pub asked : AreAskedWell o journal
   pub desks : All (λ r. IsDeskWell o setup journal 0 r.task r.calls) done
 
--- the task is answered by its success, or by want of memory
+-- the task is answered by its success, or says that memory ran out
 abbrev pub IsDoneWell : Opening → TaskDone → Type 0
 IsDoneWell o r = (task : Task) → task_of o r.task ≡ Some task → IsSuccess task.work r.answer
 
--- Then each task that was run is answered by its success, or by want of memory.
+-- Then each task that was run is answered by its success, or says that memory ran out.
 abbrev pub LoneSucceeds : Type 0
 LoneSucceeds =
     (o : Opening) (setup : Setup) (limit : ℕ) (journal : List Entry) (done : List TaskDone) → WentWellAlone o setup limit journal done → All (HasRun o setup limit journal) done → All (IsDoneWell o) done

@@ -28,7 +28,7 @@ pub record GotStored (o : Opening) (setup : Setup) (told : Told) (journal : List
   pub afresh : is_afresh (sizes_tried key run.layouts) run.task.file (run_askings run.run) (told.calls t) ≡ true
   pub stored : AreStoredFor journal t (asked_last (run_askings run.run)) stores
 
--- With a faithful remote such a run keeps what these sent, one behind the other, as its file.
+-- With a faithful remote such a run keeps what these sent, one after the other, as its file.
 abbrev pub KeepsStored : Type 0
 KeepsStored =
     (o : Opening) (setup : Setup) (told : Told) (journal : List Entry) (number t : ℕ) (key : Parts) (stores : List Request) → IsFaithful o setup told journal

@@ -32,7 +32,7 @@ pub record RanWell (o : Opening) (setup : Setup) (journal : List Entry) (r : Tas
   pub keyed : key_reading run.task.key ≡ Some key
   pub desk : DeskWentWell setup r.task run.task key run.layouts (run_askings run.run) r.calls
 
--- it is answered by its success, or by want of memory
+-- it is answered by its success, or says that memory ran out
 abbrev pub IsSucceeded : Opening → TaskDone → Type 0
 IsSucceeded o r = (task : Task) → task_of o r.task ≡ Some task → IsSuccess task.work r.answer
 

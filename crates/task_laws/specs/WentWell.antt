@@ -118,11 +118,11 @@ success_of W.Get = Got
 success_of W.Check = Present
 success_of W.Drop = Dropped
 
--- the task's success, or want of memory
+-- the task's success, or running out of memory
 abbrev pub IsSuccess : Work → Answer → Type 0
 IsSuccess work answer = (answer ≡ success_of work) ⊎ (answer ≡ Memory)
 
--- A task that went well from outside is answered by its success, or by want of memory.
+-- A task that went well from outside is answered by its success, or says that memory ran out.
 abbrev pub WellIsSuccess : Type 0
 WellIsSuccess =
     (task : Task) (t : ℕ) (setup : Setup) (layouts : List (ℕ × ℕ)) (asked : List Asking) (calls : List Call) (noted : List Noting) (answer : Answer) (key : Parts)

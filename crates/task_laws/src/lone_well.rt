@@ -6,7 +6,7 @@ pub fn none_without_child()
     ensures { NoneWithoutChild }
 {}
 
-/// Where all went well from outside, each task that was run is answered by its success, or by want of memory.
+/// Where all went well from outside, each task that was run is answered by its success, or says that memory ran out.
 pub fn lone_succeeds()
     ensures { LoneSucceeds }
 {}

@@ -65,7 +65,7 @@ pub fn what_stored()
     ensures other_removed { stored_by (greeting ++ storing ++ other_removed ∷ []) hi 17 19 ≡ Some the_store }
 {}
 
-/// What a STORE of a chunk sent is what its file held: all of it, or what was left of it, or what it got behind its making anew.
+/// What a STORE of a chunk sent is what its file held: all of it, or what was left of it, or what it got after its making anew.
 pub fn what_chunks_sent()
     ensures whole { sent one_store (setup_of 4) (told_calls stored_ten) first_chunk ≡ codes "0123" }
     ensures cut { sent one_store (setup_of 4) (told_calls cut_behind_filling) first_chunk ≡ codes "01" }

@@ -1,7 +1,7 @@
 // Where all goes well from outside, a task is answered by its success. Each law is the contract of a function with nothing to do.
 ghost use Rattle.task_laws.specs.WentWell.{WellIsSuccess, WellUnlessRefused};
 
-/// A task that went well from outside is answered by its success, or by want of memory.
+/// A task that went well from outside is answered by its success, or says that memory ran out.
 pub fn well_is_success()
     ensures { WellIsSuccess }
 {}

@@ -129,7 +129,7 @@ fair_rename file fetch a r = record {
   lasting = rw a.file_part refl;
 }
 
--- ---- calls that were not refused, behind others
+-- ---- calls that were not refused, after others
 
 pub record Good (file fetch : List ℕ) (past calls : List Call) : Type 0 where
   pub fair : Fair file fetch calls

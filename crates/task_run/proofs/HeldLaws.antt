@@ -1,4 +1,4 @@
--- What a file holds behind calls, and what was read of it.
+-- What a file holds after calls, and what was read of it.
 use Rattle.std.proofs.Common.{◌≡◌, ◌∙◌, ℕ, ◌+◌, ◌-◌, ◌≤◌, ◌==◌, Bool, true, false, not, List, [], ◌∷◌, ◌++◌, length, take, drop, refl, sym, ap, subst, arith, append_assoc, append-nil, length-append}
 use Rattle.std.specs.Prelude.{◌||◌, if◌then◌else◌, nat_le, nat_lt, min, bytes_eq, Option, Some, None, is_some, option_map, unwrap_or, Ok, Err}
 use Rattle.std.specs.List.{list_all, filter_map, concat, cons_option}
@@ -12,7 +12,7 @@ use Rattle.task_run.specs.Reads.{reads_of, read_of, length_found, bytes_of, is_r
 use Rattle.task_run.specs.Fetching.{Outcome}
 use Rattle.task_run.proofs.Texts.{apart, same_name}
 
--- ---- behind others
+-- ---- after others
 
 pub holds_more : (name : List ℕ) (held : Option (List ℕ)) (xs ys : List Call) → holds name held (xs ++ ys) ≡ holds name (holds name held xs) ys
 holds_more name held [] ys = refl
@@ -195,7 +195,7 @@ reads_end content at (x ∷ next ∷ more) r s e =
     ∙ ap (λ l. take (length x.1) (drop at content) ++ l) (rest ∙ sym (drop-drop (length x.1) at content))
     ∙ take-append-drop (length x.1) (drop at content)
 
--- What was read of a file to a place behind which it holds nothing is all that it holds.
+-- What was read of a file to a place after which it holds nothing is all that it holds.
 pub reads_all : (content : List ℕ) (to : ℕ) (reads : List (ℕ × List ℕ)) → is_reading 0 to reads ≡ true → length content ≤ to → list_all (is_read_of content) reads ≡ true → bytes_of reads ≡ content
 reads_all content to reads h most so =
     let parts = and_parts (is_run 0 reads) ((length (bytes_of reads) == to - 0) || is_at_end reads) h in

@@ -4,7 +4,7 @@ use Rattle.std.specs.Prelude.{Bool, true, false, Option, Some, None, IfSome}
 use Rattle.ann_key.specs.Keys.{Parts, key_reading}
 use Rattle.journal_model.specs.declared.verdict.Verdict.{Verdict}
 use Rattle.annex_model.specs.Messages.{HostMessage, Checkpresent}
-use Rattle.task_run.specs.Askers.{IsKept}
+use Rattle.task_run.specs.Askers.{KeepsRequest}
 use Rattle.task_run.specs.Requests.{AsksFor}
 use Rattle.std.specs.Prelude.{IsTrue, ◌==◌, ◌&&◌, not}
 use Rattle.std.specs.List.{list_any}
@@ -23,7 +23,7 @@ of_reading text P h = by_case (key_reading text) refl
     by_case (Some key) e = h key e
 
 pub asks_for_check : (text : List ℕ) (key : Parts) (request : Option HostMessage) (v : Verdict) (n : ℕ) → key_reading text ≡ Some key
-    → IsKept (Checkpresent text) request v → AsksFor present_request n key (record { request = request; verdict = v })
+    → KeepsRequest (Checkpresent text) request v → AsksFor present_request n key (record { request = request; verdict = v })
 asks_for_check text key None v n e k = k
 asks_for_check text key (Some q) v n e k = rw k (refl, e)
 

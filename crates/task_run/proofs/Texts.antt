@@ -20,11 +20,11 @@ other_name a b h = by_test (bytes_eq a b) refl
     by_test false e = e
     by_test true e = absurd (h ((bytes_eq-Decides a b).0 e))
 
--- a text is not itself with something behind it
+-- a text is not itself with something after it
 pub longer_differs : (a : List ℕ) (b : ℕ) (c : List ℕ) → a ≡ a ++ b ∷ c → ⊥
 longer_differs a b c e = let n : length a ≡ length (a ++ b ∷ c) = ap length e in let m : length (a ++ b ∷ c) ≡ length a + length (b ∷ c) = length-append a (b ∷ c) in omega arith
 
--- the same task, before any call and by one call behind another
+-- the same task, before any call and by one call after another
 pub same_still : (task : ℕ) (may_note : Bool) (loans : List ℕ) → IsSameTask task task may_note may_note loans loans
 same_still task may_note loans = record { task_is = refl; may_note_is = refl; loans_are = refl }
 

@@ -25,14 +25,14 @@ is_gone Unsent = true
 is_gone _ = false
 
 -- the request is kept; it may be left out only where its child had ended or was mute
-abbrev pub IsKept : HostMessage → Option HostMessage → Verdict → Type 0
-IsKept q (Some kept) v = kept ≡ q
-IsKept q None v = is_gone v ≡ true
+abbrev pub KeepsRequest : HostMessage → Option HostMessage → Verdict → Type 0
+KeepsRequest q (Some kept) v = kept ≡ q
+KeepsRequest q None v = is_gone v ≡ true
 
 -- one pair more, of this request and its verdict
 pub record AsksOne (old new : List Asking) (q : HostMessage) (v : Verdict) : Type 0 where
   pub request : Option HostMessage
-  pub kept : IsKept q request v
+  pub kept : KeepsRequest q request v
   pub added : new ≡ old ++ record { request = request; verdict = v } ∷ []
 
 -- without memory nothing was asked

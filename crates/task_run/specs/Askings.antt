@@ -19,7 +19,7 @@ abbrev pub lost_verdict : Option Why → Verdict
 lost_verdict None = Unsent
 lost_verdict (Some why) = Ended why
 
--- What the entry asks for task t, where it stands behind past: the request that an Ask spells with its tag taken off, if
+-- What the entry asks for task t, where it stands after past: the request that an Ask spells with its tag taken off, if
 -- its job was settled; or a request that found its child ended or mute.
 abbrev pub asking_of : List Entry → ℕ → List Entry → What → Option Asking
 asking_of journal t past (Ask child job task line) =
@@ -41,12 +41,12 @@ askings journal t = askings_from journal t [] journal
 
 -- ---- what it noted
 
--- what the entry notes for task t, behind so many of its requests
+-- what the entry notes for task t, after so many of its requests
 abbrev pub noting_of : ℕ → ℕ → What → Option Noting
 noting_of t behind (Note task chunk count) = if task == t then Some (record { chunk = chunk; count = count; behind = behind }) else None
 noting_of t behind _ = None
 
--- the notes of the entries in order, each behind the requests before it
+-- the notes of the entries in order, each after the requests before it
 abbrev pub notings_from : List Entry → ℕ → List Entry → ℕ → List Entry → List Noting
 notings_from journal t past behind [] = []
 notings_from journal t past behind (e ∷ rest) =
@@ -73,7 +73,7 @@ pub record TaskStretch (journal : List Entry) (t : ℕ) : Type 0 where
   pub is : journal ≡ past ++ record { by = by; what = Claim t child } ∷ within ++ record { by = answered_by; what = Answered t answer } ∷ rest
   pub one : any (bounds_run t) within ≡ false
 
--- what stands before its first entry behind the claim
+-- what stands before its first entry after the claim
 abbrev pub past_claim : {journal : List Entry} → {t : ℕ} → TaskStretch journal t → List Entry
 past_claim {journal} {t} run = run.past ++ record { by = run.by; what = Claim t run.child } ∷ []
 

@@ -18,8 +18,8 @@ remove_request n key = Remove key
 abbrev pub keys_dropped : Parts → List ℕ → List Parts
 keys_dropped key sizes = flat_map (keys_of_layout key) sizes
 
--- The notes of a whole drop: behind the last key of each chunk layout, that there are none of these chunks. Of the layouts,
--- `behind` keys come before these.
+-- The notes of a whole drop: after the last key of each chunk layout, that there are none of these chunks. Of the layouts,
+-- `after` keys come before these.
 abbrev pub drop_notes : Parts → ℕ → List ℕ → List Noting
 drop_notes key behind [] = []
 drop_notes key behind (chunk ∷ sizes) =
@@ -28,7 +28,7 @@ drop_notes key behind (chunk ∷ sizes) =
     ∷ drop_notes key (behind + length (keys_of_layout key chunk)) sizes
 
 -- The remote is asked to remove the keys of layout after layout, in their order. All were removed but perhaps the last. The note
--- of a chunk layout stands behind its last key, once that was removed, and before the next request.
+-- of a chunk layout stands after its last key, once that was removed, and before the next request.
 pub record DropAsks (key : Parts) (sizes : List ℕ) (asked : List Asking) (noted : List Noting) : Type 0 where
   pub in_order : AskInOrder remove_request 1 (keys_dropped key sizes) asked
   pub each_done : list_all is_done (all_but_last asked) ≡ true

@@ -57,7 +57,7 @@ settled F.Fits r = kept r
 settled (F.Size n) r = discarded (SizeAnswer n) r
 settled (F.Hash digest) r = discarded (HashAnswer digest) r
 
--- how far the fetched file was moved to part: making part was refused; or copying, behind some pieces; or removing the fetched file; or
+-- how far the fetched file was moved to part: making part was refused; or copying, after some pieces; or removing the fetched file; or
 -- all was done, and this is said of the bytes
 pub data Move : Type 0 where
   NotMade : (e : DeskError) → Move

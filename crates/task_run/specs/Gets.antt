@@ -170,7 +170,7 @@ DecidesBy (n ∷ more) AllDone Said answer = answer ≡ SizeAnswer n
 
 -- The fetched bytes were appended to part. Where all that was found of part is so, whatever it held before, it holds the checked bytes
 -- and no others now. The last call of all renamed it to the file, which so holds them.
-pub record IsKept (setup : Setup) (t : ℕ) (sizes : List ℕ) (file : List ℕ) (asked : List Asking) (calls : List Call) : Type 0 where
+pub record IsFetchKept (setup : Setup) (t : ℕ) (sizes : List ℕ) (file : List ℕ) (asked : List Asking) (calls : List Call) : Type 0 where
   pub moved : appended (part_of file) (since_begin file calls) ≡ bytes_fetched setup t calls (first_asked asked) (asked_last asked)
   pub held : (before : List ℕ) → are_found_so (part_of file) (Some before) calls ≡ true → holds (part_of file) (Some before) calls ≡ Some (checked setup t file sizes asked calls)
   pub renamed : is_last (is_renaming (part_of file) file) calls ≡ true
@@ -182,7 +182,7 @@ pub record Decides (setup : Setup) (t : ℕ) (key : Parts) (sizes : List ℕ) (f
   pub by_length : DecidesBy (wrong_lengths setup t key.size calls (first_asked asked) (parts_last key sizes (lengths_at_begin file calls) asked))
       (count_by is_done (asked_last asked) ≡ length (parts_last key sizes (lengths_at_begin file calls) asked))
       (IsChecked setup t key sizes file asked calls answer) answer
-  pub part : MatchBool (is_got answer) (IsKept setup t sizes file asked calls) (is_removed (part_of file) calls ≡ true)
+  pub part : MatchBool (is_got answer) (IsFetchKept setup t sizes file asked calls) (is_removed (part_of file) calls ≡ true)
 
 -- Failed with the last verdict exactly where every layout failed.
 pub record GetAnswers (setup : Setup) (t : ℕ) (key : Parts) (sizes : List ℕ) (file : List ℕ) (asked : List Asking) (calls : List Call) (answer : Answer) : Type 0 where

@@ -20,7 +20,7 @@ use Rattle.task_run.specs.declared.setup.Setup.{Setup}
 use Rattle.ann_key.specs.Keys.{Parts, key_reading}
 use Rattle.task_run.specs.Runs.{TaskRun, is_chunked}
 
--- want of memory is an answer, as the task's other ends
+-- running out of memory is an answer, as the task's other ends
 abbrev pub answered : Result Answer NoMemory → Answer
 answered (Ok answer) = answer
 answered (Err e) = Memory
@@ -117,7 +117,7 @@ pub record RanGet (task : Task) (t : ℕ) (setup : Setup) (layouts : List (ℕ �
   pub log_is : Gained log_before log_after calls
   pub run : TaskRun task t setup layouts asked calls [] (answered result)
 
--- the answer tells of a call of the desk that was refused, or may come behind one: part may be missing where it is removed
+-- the answer tells of a call of the desk that was refused, or may come after one: part may be missing where it is removed
 abbrev pub may_follow_refusal : Result Answer NoMemory → Bool
 may_follow_refusal (Ok FileFault) = true
 may_follow_refusal (Ok NoFile) = true

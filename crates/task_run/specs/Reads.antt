@@ -1,4 +1,4 @@
--- What the calls read, wrote and found of a file, and what it holds behind them.
+-- What the calls read, wrote and found of a file, and what it holds after them.
 use Rattle.std.specs.Prelude.{ℕ, ◌+◌, ◌-◌, ◌==◌, ◌&&◌, ◌||◌, nat_le, nat_lt, Bool, true, false, if◌then◌else◌, List, [], ◌∷◌, length, take, drop, map, filter, unwrap_or, option_map, ◌++◌, Option, Some, None, Result, Ok, Err, bytes_eq}
 use Rattle.std.specs.List.{filter_map, concat}
 use Rattle.ann_outside.specs.declared.file_desk.DeskError.{DeskError}
@@ -82,7 +82,7 @@ appended name calls = concat (filter_map (piece_of name) calls)
 
 -- ---- what a file holds
 
--- What a file holds behind the call, where it is known what it held before. A file that is made anew holds nothing; of one that another
+-- What a file holds after the call, where it is known what it held before. A file that is made anew holds nothing; of one that another
 -- is renamed to, it isn't known. One that is removed or renamed is told as it was.
 abbrev pub held_after : List ℕ → Option (List ℕ) → Call → Option (List ℕ)
 held_after name held (Create other (Ok done)) = if bytes_eq other name then Some [] else held

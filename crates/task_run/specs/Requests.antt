@@ -21,7 +21,7 @@ AsksFor ask n key a = of_request a.request
     of_request (Some q) = (q ≡ ask n (key_named q)) × (key_reading (key_named q) ≡ Some key)
     of_request None = is_gone a.verdict ≡ true
 
--- The askings ask for the keys in their order, from the first on, and for none behind the last. The first of them is request n.
+-- The askings ask for the keys in their order, from the first on, and for none after the last. The first of them is request n.
 abbrev pub AskInOrder : (ℕ → List ℕ → HostMessage) → ℕ → List Parts → List Asking → Type 0
 AskInOrder ask n keys [] = Unit {0}
 AskInOrder ask n [] (a ∷ more) = ⊥

@@ -128,7 +128,7 @@ stored_ten =
     sized (codes "f") 10 ++ cut_out chunk_2 0 (codes "0123") ++ dropped_file chunk_2 ++ cut_out chunk_3 4 (codes "4567") ++ dropped_file chunk_3
     ++ cut_out chunk_4 8 (codes "89") ++ dropped_file chunk_4
 
--- the same, but the first chunk's file is cut behind its filling
+-- the same, but the first chunk's file is cut after its filling
 abbrev pub cut_behind_filling : List Call
 cut_behind_filling =
     sized (codes "f") 10 ++ cut_out chunk_2 0 (codes "0123") ++ Cut chunk_2 2 (Ok tt) ∷ dropped_file chunk_2 ++ cut_out chunk_3 4 (codes "4567")
@@ -148,7 +148,7 @@ finds_ten = asks (Checkpresent c1) (Done 13) ∷ asks (Checkpresent c2) (Done 16
 abbrev pub lost_ten : List Asking
 lost_ten = asks (Checkpresent c1) (Done 13) ∷ record { request = None; verdict = Ended Eof } ∷ []
 
--- the file shrank behind the second chunk
+-- the file shrank after the second chunk
 abbrev pub stored_short : List Call
 stored_short =
     sized (codes "f") 10 ++ cut_out chunk_2 0 (codes "0123") ++ dropped_file chunk_2 ++ cut_out chunk_3 4 (codes "45")
@@ -193,7 +193,7 @@ grown_on_nine =
     sized (codes "o.part") 9 ++ ReadAt (codes "o.part") 0 (Ok (codes "01234567")) ∷ sized fetched_1 2
     ++ moved fetched_1 (codes "o.part") (codes "89") ++ renamed
 
--- and with a cut behind what was appended
+-- and with a cut after what was appended
 abbrev pub cut_behind_ten : List Call
 cut_behind_ten =
     sized (codes "o.part") 9 ++ Cut (codes "o.part") 8 (Ok tt) ∷ ReadAt (codes "o.part") 0 (Ok (codes "01234567")) ∷ sized fetched_1 2

@@ -63,7 +63,7 @@ WorkAnswers setup t task key layouts Drop asked calls noted answer = DropAnswers
 -- ---- any task
 
 pub record RunOf (setup : Setup) (t : ℕ) (task : Task) (key : Parts) (layouts : List (ℕ × ℕ)) (asked : List Asking) (calls : List Call) (noted : List Noting) (answer : Answer) : Type 0 where
-  -- nothing is asked behind a verdict that ends the task, and no call follows one that does
+  -- nothing is asked after a verdict that ends the task, and no call follows one that does
   pub asked_till_stop : is_stop_last (asking_stop task.work) asked ≡ true
   pub calls_till_stop : is_stop_last (call_stop (part_of task.file)) calls ≡ true
   -- each file that a call needs was found or made before
@@ -71,7 +71,7 @@ pub record RunOf (setup : Setup) (t : ℕ) (task : Task) (key : Parts) (layouts 
   pub work : WorkAsks setup t task key layouts task.work asked calls noted
   pub answered : AnsweredBy (stops_of task.work (part_of task.file) asked calls) answer (WorkAnswers setup t task key layouts task.work asked calls noted answer)
 
--- The run of task number t: its settled requests, its desk's calls, its notes, and its answer. Want of memory may end it early.
+-- The run of task number t: its settled requests, its desk's calls, its notes, and its answer. Running out of memory may end it early.
 abbrev pub TaskRun : Task → ℕ → Setup → List (ℕ × ℕ) → List Asking → List Call → List Noting → Answer → Type 0
 TaskRun task t setup layouts asked calls noted answer =
     IfSome (key_reading task.key) (λ key. RunOf setup t task key layouts asked calls noted answer)

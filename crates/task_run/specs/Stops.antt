@@ -65,7 +65,7 @@ is_stop_last stop xs = list_all (λ x. is_none (stop x)) (all_but_last xs)
 abbrev pub stops_of : Work → List ℕ → List Asking → List Call → List Answer
 stops_of work part asked calls = filter_map (asking_stop work) asked ++ filter_map (call_stop part) calls
 
--- The answer is that of the one stop. Where nothing stopped the task, want of memory may end it early, and else its work is finished.
+-- The answer is that of the one stop. Where nothing stopped the task, running out of memory may end it early, and else its work is finished.
 abbrev pub AnsweredBy : List Answer → Answer → Type 0 → Type 0
 AnsweredBy (stop ∷ []) answer Finished = answer ≡ stop
 AnsweredBy (stop ∷ another ∷ more) answer Finished = ⊥

@@ -116,8 +116,8 @@ is_next_copied setup t file calls n [] = true
 is_next_copied setup t file calls n (part ∷ more) = is_copied setup t file calls n part
 
 -- The remote is asked which chunks it has, in their order, until it hasn't one. From that one on it is asked to store them, each from a
--- file of its own. That file holds the bytes which were read of the task's file in the chunk's range, and is removed behind the verdict.
--- That the chunks are there is noted once, behind the last verdict.
+-- file of its own. That file holds the bytes which were read of the task's file in the chunk's range, and is removed after the verdict.
+-- That the chunks are there is noted once, after the last verdict.
 pub record ChunkStoreAsks (setup : Setup) (t : ℕ) (key : Parts) (file : List ℕ) (asked : List Asking) (calls : List Call) (noted : List Noting) : Type 0 where
   pub size_first : begins_with_size calls ≡ true
   pub fits : asked ≢ [] → fits_length key (lengths_found file (take 1 calls)) ≡ true

@@ -38,7 +38,7 @@ check_answer (UnsupportedAt at) = Some Unsupported
 check_answer (Ended why) = Some (EndedAnswer why)
 check_answer Unsent = Some UnsentAnswer
 
--- A check asks for its key once, and the verdict gives its answer. Want of memory may end it early.
+-- A check asks for its key once, and the verdict gives its answer. Running out of memory may end it early.
 abbrev pub CheckRun : List ℕ → List Asking → Answer → Type 0
 CheckRun key [] answer = answer ≡ Memory
 CheckRun key (a ∷ []) answer = IsAskedOr (Checkpresent key) a × ((answer ≡ Memory) ⊎ (check_answer a.verdict ≡ Some answer))
@@ -95,7 +95,7 @@ failed_start past None = None
 failed_start past (Some None) = Some StartFault
 failed_start past (Some (Some c)) = unready_answer past c
 
--- The task is claimed without a child behind a start of slot 0 that failed, or whose child was not ready, and is answered so.
+-- The task is claimed without a child after a start of slot 0 that failed, or whose child was not ready, and is answered so.
 pub record ChildZero (journal : List Entry) (t : ℕ) (answer : Answer) : Type 0 where
   pub past : List Entry
   pub rest : List Entry
@@ -103,7 +103,7 @@ pub record ChildZero (journal : List Entry) (t : ℕ) (answer : Answer) : Type 0
   pub claim : journal ≡ past ++ record { by = by; what = Claim t 0 } ∷ rest
   pub why : failed_start past (last_or None (each_of (came_of 0) past)) ≡ Some answer
 
--- Over a child a check asks for its key; without one it asks nothing. Want of memory may end either.
+-- Over a child a check asks for its key; without one it asks nothing. Running out of memory may end either.
 abbrev pub CheckOver : List ℕ → List Entry → ℕ → Answer → Option ℕ → Type 0
 CheckOver key journal t answer None = ⊥
 CheckOver key journal t answer (Some zero) = (askings journal t ≡ []) × ((answer ≡ Memory) ⊎ ChildZero journal t answer)

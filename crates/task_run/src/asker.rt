@@ -79,7 +79,7 @@ pub trait Asker {
     // without a call it is as it was
     ghost stays: { (a : Self) → ready a → goes_on a a };
 
-    // it may go on behind a call
+    // it may go on after a call
     ghost is_ready: { (a b : Self) → goes_on a b → ready b };
 
     ghost goes_both: { (a b d : Self) → goes_on a b → goes_on b d → goes_on a d };

@@ -40,7 +40,7 @@ pub fn wrong_size_runs()
     ensures stored { TaskRun (task_of Store (codes "WORM-s4--a") (codes "f")) 1 (setup_of 0) [] [] (sized (codes "f") 3) [] Stored → ⊥ }
 {}
 
-/// A drop asks for the chunks and the key, and notes behind the last chunk that there are none.
+/// A drop asks for the chunks and the key, and notes after the last chunk that there are none.
 pub fn drop_runs()
     ensures dropped { TaskRun drop_ten 1 (setup_of 0) ((4, 3) ∷ []) drops_ten [] (notes 4 0 3 ∷ []) Dropped }
     ensures memory { TaskRun drop_ten 1 (setup_of 0) ((4, 3) ∷ []) (take 3 drops_ten) [] [] Memory }
@@ -52,7 +52,7 @@ pub fn drop_runs()
     ensures skipped { TaskRun drop_ten 1 (setup_of 0) ((4, 3) ∷ []) (drop 3 drops_ten) [] [] Dropped → ⊥ }
 {}
 
-/// A check goes on to the next layout behind a key that isn't there.
+/// A check goes on to the next layout after a key that isn't there.
 pub fn check_runs()
     ensures absent { TaskRun check_ten 1 (setup_of 0) ((4, 3) ∷ []) checks_ten [] [] AbsentAnswer }
     ensures present { TaskRun check_ten 1 (setup_of 0) ((4, 3) ∷ []) finds_ten [] [] Present }
@@ -63,7 +63,7 @@ pub fn check_runs()
     ensures past { TaskRun check_ten 1 (setup_of 0) ((4, 3) ∷ []) (finds_ten ++ drop 2 checks_ten) [] [] Present → ⊥ }
 {}
 
-/// A store in chunks asks until a chunk isn't there, and stores that one and those behind it from files of their own. It notes behind the
+/// A store in chunks asks until a chunk isn't there, and stores that one and those after it from files of their own. It notes after the
 /// last verdict that all are there.
 pub fn chunk_store_runs()
     ensures stored { TaskRun store_ten 1 (setup_of 4) [] stores_ten stored_ten (notes 4 3 4 ∷ []) Stored }
@@ -125,7 +125,7 @@ pub fn fitting_runs()
     ensures not_asked { TaskRun get_ten 1 (setup_of 0) ((4, 3) ∷ []) [] resumed_ten [] Got → ⊥ }
 {}
 
-/// What part holds behind such calls, and of which contents all that they found of it is so.
+/// What part holds after such calls, and of which contents all that they found of it is so.
 pub fn part_holds()
     ensures found { are_found_so (codes "o.part") (Some (codes "012345678")) resumed_ten ≡ true }
     ensures other_length { are_found_so (codes "o.part") (Some (codes "01234567")) resumed_ten ≡ false }

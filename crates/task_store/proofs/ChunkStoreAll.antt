@@ -1,4 +1,4 @@
--- How a store in chunks ends at its questions, and behind its last chunk.
+-- How a store in chunks ends at its questions, and after its last chunk.
 use Rattle.std.proofs.Common.{◌≡◌, ◌∙◌, ℕ, zero, suc, ◌+◌, ◌-◌, ◌<◌, ◌≤◌, List, [], ◌∷◌, ◌++◌, length, map, refl, sym, ap, subst, arith, append-nil, drop, length-append, add-zero, eq-eqb}
 use Rattle.std.specs.Prelude.{Bool, true, false, ◌&&◌, not, nat_lt, ◌==◌, count_by, Option, Some, None, is_none}
 use Rattle.std.specs.List.{list_all}
@@ -32,7 +32,7 @@ use Rattle.task_run.specs.Ran.{behind_more}
 use Rattle.task_store.proofs.ChunkStoreTasks.{answers_stored, fits_is, stored_is, all_counted}
 use Rattle.task_store.proofs.ChunkStoreEnds.{Pieces, run_memory, run_asking_stop}
 
--- ---- behind the last chunk
+-- ---- after the last chunk
 
 note_is : (setup : Setup) (count : ℕ) (qs ts : List Asking) → map (behind_more (length qs)) (the_note setup count (length ts) ∷ []) ≡ the_note setup count (length (qs ++ ts)) ∷ []
 note_is setup count qs ts = ap (λ n. the_note setup count n ∷ []) (sym (length-append qs ts))
@@ -58,7 +58,7 @@ all_stored setup t key text file layouts size f qs ts calls m g =
     all : f + count_by is_done ts ≡ count_of size setup.chunk
     all = omega (arith, all_counted ts g.all_stored, g.so_many)
 
--- they aren't noted for want of memory
+-- they aren't noted for lack of memory
 pub all_unnoted : (setup : Setup) (t : ℕ) (key : Parts) (text file : List ℕ) (layouts : List (ℕ × ℕ)) (size f : ℕ) (qs ts : List Asking) (calls : List Call) → Missing setup key size f qs
     → Going setup t key file size f ts calls (count_of size setup.chunk + 1)
     → RunOf setup t (store_task text file) key layouts (qs ++ ts) (with_size file size calls) [] A.Memory
@@ -88,7 +88,7 @@ there_split setup key size there ts a h =
 all_but_done : (xs : List Asking) → list_all is_done xs ≡ true → list_all is_done (all_but_last xs) ≡ true
 all_but_done xs h = all_taken is_done _ xs h
 
--- behind the chunks that are there, and nothing else
+-- after the chunks that are there, and nothing else
 there_pieces : (setup : Setup) (t : ℕ) (key : Parts) (file : List ℕ) (size : ℕ) (there : List Asking) → Asked setup key size there → Pieces setup t key file size (length there) there [] []
 there_pieces setup t key file size there a = record {
   split = there_split setup key size there [] a refl;
@@ -111,7 +111,7 @@ no_more : (setup : Setup) (t : ℕ) (key : Parts) (text file : List ℕ) (layout
 no_more setup t key text file layouts size there noted answer h =
     let P : List Asking → Type 0 = λ l. RunOf setup t (store_task text file) key layouts l (with_size file size []) noted answer in subst P (append-nil there) h
 
--- want of memory at a question
+-- running out of memory at a question
 pub asked_memory : (setup : Setup) (t : ℕ) (key : Parts) (text file : List ℕ) (layouts : List (ℕ × ℕ)) (size : ℕ) (there : List Asking) → Asked setup key size there
     → RunOf setup t (store_task text file) key layouts there (with_size file size []) [] A.Memory
 asked_memory setup t key text file layouts size there a =

@@ -228,7 +228,7 @@ copy_own file name from at (piece ∷ pieces) h =
     let rest : list_all (own file name from) (copy_calls file name (at + length piece) pieces) ≡ true = copy_own file name from (at + length piece) pieces (omega arith) in
     rw (same_name file, low, same_name name, rest) refl
 
--- what a store in chunks is good for behind these calls: they are its own, and read on from the range's begin; what was appended is the
+-- what a store in chunks is good for after these calls: they are its own, and read on from the range's begin; what was appended is the
 -- begin of what was read
 pub record Cutting (file name : List ℕ) (from to : ℕ) (calls : List Call) : Type 0 where
   pub own_all : list_all (own file name from) calls ≡ true
@@ -239,7 +239,7 @@ pub record Cutting (file name : List ℕ) (from to : ℕ) (calls : List Call) : 
 pub cutting_create : (file name : List ℕ) (from to : ℕ) (r : _) → Cutting file name from to (Create name r ∷ [])
 cutting_create file name from to r = record { own_all = rw (same_name name) refl; run = refl; front = refl; within = refl }
 
--- calls behind the pieces, which append nothing more
+-- calls after the pieces, which append nothing more
 pub record Ending (file name : List ℕ) (from at : ℕ) (ending : List Call) : Type 0 where
   pub own_all : list_all (own file name from) ending ≡ true
   pub run : is_run at (reads_of file ending) ≡ true
@@ -321,7 +321,7 @@ own_held file name other from held d (c ∷ xs) k =
     by_call (K.Cut named size answer) h = apart h
     by_call (Rename named to answer) h = apart h
 
--- whatever the file held before, behind these calls it holds what they append to it
+-- whatever the file held before, after these calls it holds what they append to it
 abbrev pub Fills : List ℕ → List Call → Type 0
 Fills name calls = (held : Option (List ℕ)) → holds name held calls ≡ Some (appended name calls)
 

@@ -121,7 +121,7 @@ asks_of setup t key file size f qs ts calls noted k p once whole = record {
         let R : ℕ → Type 0 = λ n. n + count_by is_done ts ≡ length (parts_of_layout key setup.chunk) in
         subst P (sym d) (subst R (sym g) (h ∙ sym (parts_many setup key size k)))
 
--- ---- behind a chunk that isn't there
+-- ---- after a chunk that isn't there
 
 pub sought_length : (key : Parts) (chunk count f : ℕ) (qs : List Asking) → IsSought key chunk count f qs → length qs ≡ f + 1
 sought_length key chunk count f qs s = ap length s.asked_is ∙ length-append s.there (s.one ∷ []) ∙ ap (λ n. n + 1) s.so_many
@@ -313,7 +313,7 @@ sought_free key chunk count f qs s =
         last_of [] h = (and_parts (is_question s.one) true h).0
         last_of (x ∷ xs) h = last_of xs (and_parts (is_question x) (list_all is_question (xs ++ s.one ∷ [])) h).1
 
--- ---- a store behind a chunk that isn't there
+-- ---- a store after a chunk that isn't there
 
 -- what is known of it
 pub record Missing (setup : Setup) (key : Parts) (size f : ℕ) (qs : List Asking) : Type 0 where
@@ -341,7 +341,7 @@ pub front_asks : (setup : Setup) (t : ℕ) (key : Parts) (file : List ℕ) (size
 front_asks setup t key file size f qs ts calls m most g =
     asks_of setup t key file size f qs ts calls [] m.chunked (pieces_of setup t key file size f qs ts calls m.least most m.sought g) refl (λ some. absurd (some refl))
 
--- want of memory behind a front
+-- running out of memory after a front
 pub end_memory : (setup : Setup) (t : ℕ) (key : Parts) (text file : List ℕ) (layouts : List (ℕ × ℕ)) (size f : ℕ) (qs ts : List Asking) (calls : List Call) → Missing setup key size f qs
     → f + length ts ≤ count_of size setup.chunk → Front setup t key file size f ts calls → are_free ts ≡ true → is_free file calls ≡ true
     → RunOf setup t (store_task text file) key layouts (qs ++ ts) (with_size file size calls) [] A.Memory

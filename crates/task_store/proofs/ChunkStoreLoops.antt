@@ -101,7 +101,7 @@ seeks_over key chunk count n before between after v answer s low o d = record {
 
 -- ---- chunks
 
--- the chunks up to number n are there, of which those behind f were stored
+-- the chunks up to number n are there, of which those after f were stored
 pub record Storing (setup : Setup) (t : ℕ) (key : Parts) (file : List ℕ) (size f : ℕ) (pairs_before pairs_after : List Asking) (old new : Option (List Call)) (n : ℕ) : Type 0 where
   pub asked : List Asking
   pub calls : List Call
@@ -231,7 +231,7 @@ storing_done setup t key file size f n count before after notes notes' a b resul
       run = λ text layouts qs sought. all_unnoted setup t key text file layouts size f qs s.asked s.calls (missing_of setup key size f qs k sought) last;
     }
 
--- ---- the whole store, behind the file's length
+-- ---- the whole store, after the file's length
 
 asked_of : (setup : Setup) (key : Parts) (size : ℕ) (there last : List Asking) → Chunked setup key size → AskInOrder present_request 1 (chunk_keys key setup.chunk 1 (count_of size setup.chunk)) (there ++ last)
     → list_all is_done there ≡ true → Asked setup key size there
@@ -250,7 +250,7 @@ asked_of setup key size there last k o d = record {
 abbrev the_noting : ℕ → ℕ → ℕ → Noting
 the_noting chunk count behind = record { chunk = chunk; count = count; behind = behind }
 
--- for want of memory nothing was done
+-- for lack of memory nothing was done
 pub sized_nothing : (setup : Setup) (t : ℕ) (key : Parts) (file : List ℕ) (size : ℕ) (pairs : List Asking) (notes : List Noting) (log : Option (List Call)) (e : NoMemory) → Chunked setup key size
     → StoresSized setup t key file size pairs pairs notes notes log log (Err e)
 sized_nothing setup t key file size pairs notes log e k = record {

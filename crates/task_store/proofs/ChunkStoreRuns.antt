@@ -108,7 +108,7 @@ pub removed_still : (name : List ℕ) (xs ys : List Call) → filter (is_call_of
 removed_still name xs ys h k =
     ap (is_last (takes_away name)) (filter-append (is_call_of name) xs ys ∙ ap (λ l. filter (is_call_of name) xs ++ l) h ∙ append-nil (filter (is_call_of name) xs)) ∙ k
 
--- ---- a front of what is asked and called behind the questions
+-- ---- a front of what is asked and called after the questions
 
 -- all that the desk was asked for
 abbrev pub with_size : List ℕ → ℕ → List Call → List Call
@@ -119,7 +119,7 @@ pub record WholeAt (setup : Setup) (t : ℕ) (key : Parts) (file : List ℕ) (si
   pub long : (copied_length setup t (with_size file size calls) (c + 1) == part_length (chunk_part key size setup.chunk c)) ≡ true
   pub filled : is_filled setup t (with_size file size calls) (c + 1) ≡ true
 
--- behind the question that found chunk f + 1 missing, which is request f + 1; chunk c is stored by request c + 1
+-- after the question that found chunk f + 1 missing, which is request f + 1; chunk c is stored by request c + 1
 pub record Front (setup : Setup) (t : ℕ) (key : Parts) (file : List ℕ) (size f : ℕ) (asked : List Asking) (calls : List Call) : Type 0 where
   pub in_order : AskInOrder (chunk_request setup t) (f + 2) (chunk_keys key setup.chunk (f + 1) (count_of size setup.chunk - f)) asked
   pub no_questions : list_all (λ a. not (is_question a)) asked ≡ true
@@ -174,7 +174,7 @@ going_none setup t key file size f = record {
   before = refl;
 }
 
--- ---- calls of chunk c behind it
+-- ---- calls of chunk c after it
 
 -- what is so of a chunk that was stored before stays so
 pub whole_still : (setup : Setup) (t : ℕ) (key : Parts) (file : List ℕ) (size k c : ℕ) (calls more : List Call) → k < c → c + 1 < 2 ^ 64

@@ -35,7 +35,7 @@ use Rattle.task_store.proofs.ChunkStoreCalls.{le_true, lt_of, Cutting, Ending, c
 use Rattle.task_store.proofs.ChunkStoreRuns.{front_asked, still_removed, removed_last, reads_later, fresh_later}
 use Rattle.task_store.specs.ChunkStoring.{cut_calls}
 
--- ---- a read behind the pieces
+-- ---- a read after the pieces
 
 abbrev pub last_read : List ℕ → ℕ → Option (List ℕ) → List Call
 last_read file at None = []

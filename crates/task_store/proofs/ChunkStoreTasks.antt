@@ -332,7 +332,7 @@ chunk_ends setup t key text file layouts size f qs ts calls c how m g last so ne
         let P : List Asking → Type 0 = λ l. RunOf setup t (store_task text file) key layouts (qs ++ l) (with_size file size (calls ++ more)) [] answer in
         subst P (sym (append-nil ts)) h
 
-    -- want of memory behind calls of the chunk
+    -- running out of memory after calls of the chunk
     memory : (more : List Call) → Copied setup t file size c calls more → RunOf setup t (store_task text file) key layouts (qs ++ (ts ++ [])) (with_size file size (calls ++ more)) [] A.Memory
     memory more x = unasked more A.Memory (end_memory setup t key text file layouts size f qs ts (calls ++ more) m most
         (front_same setup t key file size f ts calls more c g last small x.cutting x.found) free_ts (all_more (λ call. is_none (call_stop (part_of file) call)) calls more g.free x.free))
@@ -342,7 +342,7 @@ chunk_ends setup t key text file layouts size f qs ts calls c how m g last so ne
         let P : List Call → Type 0 = λ l. RunOf setup t (store_task text file) key layouts (qs ++ ts) (with_size file size l) [] A.Memory in
         unasked [] A.Memory (subst P (sym (append-nil calls)) (end_memory setup t key text file layouts size f qs ts calls m most g.front free_ts g.free))
 
-    -- a call that stops behind calls of the chunk
+    -- a call that stops after calls of the chunk
     stopped : (more : List Call) (x : Call) (answer : Answer) → Cutting file (chunk_file setup t (c + 1)) (from_of setup.chunk c) (to_of size setup.chunk c) (more ++ x ∷ [])
         → are_found (part_of file) (with_size file size calls) (more ++ x ∷ []) ≡ true → is_free file more ≡ true → call_stop (part_of file) x ≡ Some answer
         → RunOf setup t (store_task text file) key layouts (qs ++ (ts ++ [])) (with_size file size (calls ++ (more ++ x ∷ []))) [] answer
@@ -354,7 +354,7 @@ chunk_ends setup t key text file layouts size f qs ts calls c how m g last so ne
         (subst Q (sym e) (front_same setup t key file size f ts calls (more ++ x ∷ []) c g last small k is_found)) free_ts
         (all_more (λ call. is_none (call_stop (part_of file) call)) calls more g.free free) s))
 
-    -- behind pieces and perhaps one more read
+    -- after pieces and perhaps one more read
     copied : (pieces : List (List ℕ)) (o : Option (List ℕ)) (ending : List Call) → ending ≡ last_read file (from_of setup.chunk c + length (concat pieces)) o
         → list_all (reads_before (to_of size setup.chunk c)) (copy_calls file (chunk_file setup t (c + 1)) (from_of setup.chunk c) pieces ++ ending) ≡ true
         → Copied setup t file size c calls (cut_calls file (chunk_file setup t (c + 1)) (from_of setup.chunk c) pieces ending)
@@ -363,7 +363,7 @@ chunk_ends setup t key text file layouts size f qs ts calls c how m g last so ne
         let Q : List Call → Type 0 = λ l. list_all (reads_before to) (copy_calls file name from pieces ++ l) ≡ true in
         subst P (sym e) (copied_of setup t key file size f ts calls c pieces o g last (subst Q e w))
 
-    -- a call that was refused behind them
+    -- a call that was refused after them
     refused : (pieces : List (List ℕ)) (o : Option (List ℕ)) (x : Call) (answer : Answer)
         → list_all (reads_before (to_of size setup.chunk c)) (copy_calls file (chunk_file setup t (c + 1)) (from_of setup.chunk c) pieces ++ (last_read file (from_of setup.chunk c + length (concat pieces)) o ++ x ∷ [])) ≡ true
         → own file (chunk_file setup t (c + 1)) (from_of setup.chunk c) x ≡ true → reads_of file (x ∷ []) ≡ [] → filter_map (piece_of (chunk_file setup t (c + 1))) (x ∷ []) ≡ []

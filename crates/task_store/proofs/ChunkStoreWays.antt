@@ -22,7 +22,7 @@ use Rattle.ann_outside.specs.declared.file_desk.Call.TheVariants.{Remove}
 use Rattle.fetch_copy.specs.declared.copied.Copied.TheVariants.{Done, Fault, Missing}
 use Rattle.fetch_copy.specs.CopiesOut.{CopiesOut}
 use Rattle.fetch_copy.proofs.CopyLaws.{gained_nothing, gained_more}
-use Rattle.task_run.specs.Askers.{Asking, IsKept, AskAdds}
+use Rattle.task_run.specs.Askers.{Asking, KeepsRequest, AskAdds}
 use Rattle.chunk_plan.specs.Layouts.{from_of, to_of, count_of}
 use Rattle.task_run.specs.Stops.{verdict_stop}
 use Rattle.task_run.specs.Requests.{AsksFor}
@@ -41,7 +41,7 @@ pub chunk_there : (text : List ℕ) (key : Parts) (before after : List Asking) (
 chunk_there text key before after (Err e) k a = a
 chunk_there text key before after (Ok v) k a = record { request = a.request; asks = asks_for_check text key a.request v 1 (read_of_spelled text key k) a.kept; added = a.added }
 
-asks_from : (text name : List ℕ) (key : Parts) (request : Option HostMessage) (v : Verdict) → key_reading text ≡ Some key → IsKept (Transfer true text name) request v
+asks_from : (text name : List ℕ) (key : Parts) (request : Option HostMessage) (v : Verdict) → key_reading text ≡ Some key → KeepsRequest (Transfer true text name) request v
     → AsksFor (from_file name) 1 key (record { request = request; verdict = v })
 asks_from text name key None v e k = k
 asks_from text name key (Some q) v e k = rw k (refl, e)

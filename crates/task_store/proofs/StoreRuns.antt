@@ -16,7 +16,7 @@ use Rattle.ann_outside.specs.declared.file_desk.DeskError.TheVariants as E
 use Rattle.ann_outside.specs.declared.file_desk.Call.{Call}
 use Rattle.ann_outside.specs.declared.file_desk.Call.TheVariants.{Size}
 use Rattle.fetch_copy.proofs.CopyLaws.{gained_call, gained_without}
-use Rattle.task_run.specs.Askers.{Asking, IsKept, AsksOne}
+use Rattle.task_run.specs.Askers.{Asking, KeepsRequest, AsksOne}
 use Rattle.journal_model.specs.declared.answer.Answer.{Answer}
 use Rattle.journal_model.specs.declared.answer.Answer.TheVariants.{Memory, Stored, Size as SizeAnswer}
 use Rattle.task_run.specs.declared.setup.Setup.{Setup}
@@ -31,7 +31,7 @@ use Rattle.task_run.proofs.Texts.{same_name, other_name, longer_differs, apart}
 use Rattle.task_run.proofs.PlainRuns.{of_reading}
 
 asks_for_store : (text file : List ℕ) (key : Parts) (request : Option HostMessage) (v : Verdict) (n : ℕ) → key_reading text ≡ Some key
-    → IsKept (Transfer true text file) request v → AsksFor (store_request file) n key (record { request = request; verdict = v })
+    → KeepsRequest (Transfer true text file) request v → AsksFor (store_request file) n key (record { request = request; verdict = v })
 asks_for_store text file key None v n e k = k
 asks_for_store text file key (Some q) v n e k = rw k (refl, e)
 

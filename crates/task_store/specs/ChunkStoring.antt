@@ -65,7 +65,7 @@ StandsAs v (S.Over answer) = (verdict_stop true v ≡ Some answer) × (may_follo
 abbrev pub chunk_keys : Parts → ℕ → ℕ → ℕ → List Parts
 chunk_keys key chunk first n = map (λ number. with_chunk chunk number key) (range_with_len first n)
 
--- what was asked behind the chunks that are there: nothing where all are, or no memory was found; else of one that isn't, or of a child that is gone
+-- what was asked after the chunks that are there: nothing where all are, or no memory was found; else of one that isn't, or of a child that is gone
 abbrev pub EndsSeeking : ℕ → ℕ → List Asking → Result Sought NoMemory → Type 0
 EndsSeeking count n last (Ok All) = (last ≡ []) × (n ≡ count)
 EndsSeeking count n last (Ok (Missing k)) = (k ≡ n) × ((a : Asking) × (last ≡ a ∷ []) × (is_missing_at a.verdict ≡ true))
@@ -174,7 +174,7 @@ CopiesChunk file name from to old new (Ok None) =
 CopiesChunk file name from to old new (Ok (Some answer)) = NotWhole file name from to old new (Ok (Some answer))
 CopiesChunk file name from to old new (Err e) = NotWhole file name from to old new (Err e)
 
--- behind done and failed the chunk's file is removed; else it stays
+-- after done and failed the chunk's file is removed; else it stays
 abbrev pub SettlesChunk : List ℕ → Verdict → Option (List Call) → Option (List Call) → Result (Option Answer) NoMemory → Type 0
 SettlesChunk name v old new result =
     MatchBool (is_settled_at v) ((r : Outcome) × (new ≡ logged old (Remove name r)) × (result ≡ removal_result (undone_answer v) r))
@@ -198,7 +198,7 @@ pub record IsSought (key : Parts) (chunk count n : ℕ) (asked : List Asking) : 
   pub so_many : length there ≡ n
   pub missing : is_missing_at one.verdict ≡ true
 
--- Behind the questions, and the length of the file, this makes a run of the task.
+-- After the questions, and the length of the file, this makes a run of the task.
 pub record StoresFrom (setup : Setup) (t : ℕ) (key : Parts) (file : List ℕ) (size n : ℕ) (pairs_before pairs_after : List Asking)
     (notes_before notes_after : List Noting) (old new : Option (List Call)) (result : Result Answer NoMemory) : Type 0 where
   pub asked : List Asking
@@ -211,12 +211,12 @@ pub record StoresFrom (setup : Setup) (t : ℕ) (key : Parts) (file : List ℕ) 
       → RunOf setup t (record { work = Store; key = text; file = file }) key layouts (questions ++ asked) (Size file (Ok size) ∷ calls)
       (map (behind_more (length questions)) noted) (answered result)
 
--- the chunks are noted, behind so many requests, and the content is stored
+-- the chunks are noted, after so many requests, and the content is stored
 abbrev pub NotesChunks : ℕ → ℕ → ℕ → List Noting → List Noting → Result Answer NoMemory → Type 0
 NotesChunks chunk count behind old new (Ok answer) = (answer ≡ Stored) × (new ≡ old ++ record { chunk = chunk; count = count; behind = behind } ∷ [])
 NotesChunks chunk count behind old new (Err e) = new ≡ old
 
--- Behind the length of the file, which is the key's size, this makes a run of the task.
+-- After the length of the file, which is the key's size, this makes a run of the task.
 pub record StoresSized (setup : Setup) (t : ℕ) (key : Parts) (file : List ℕ) (size : ℕ) (pairs_before pairs_after : List Asking)
     (notes_before notes_after : List Noting) (old new : Option (List Call)) (result : Result Answer NoMemory) : Type 0 where
   pub asked : List Asking

@@ -31,7 +31,7 @@ use task_text::Task;
 // What a remote has of a key's chunks, or how asking for them ended the task.
 pub enum Sought {
     All,
-    /// The first that isn't there stands behind so many.
+    /// The first that isn't there stands after so many.
     Missing(u64),
     Over(Answer),
 }
@@ -193,7 +193,7 @@ fn remove_chunk<D: Desk>(
     }
 }
 
-// What the verdict of a chunk's request says. Behind done and failed the chunk's file goes.
+// What the verdict of a chunk's request says. After done and failed the chunk's file goes.
 fn settle_chunk<D: Desk>(
     desk: &mut D,
     name: &str,
@@ -251,7 +251,7 @@ fn store_range<A: Asker, D: Desk>(
     }
 }
 
-// Stores one chunk. Its request is the one behind as many as chunks stand before it, and the question that found one missing.
+// Stores one chunk. Its request is the one after as many as chunks stand before it, and the question that found one missing.
 fn store_chunk<A: Asker, D: Desk>(
     alloc: Global,
     key: KeyRef<'_>,
@@ -321,7 +321,7 @@ fn note_chunks<A: Asker>(
     }
 }
 
-// Stores the chunks behind the first n, and notes them all.
+// Stores the chunks after the first n, and notes them all.
 fn store_from<A: Asker, D: Desk>(
     alloc: Global,
     key: KeyRef<'_>,

@@ -96,7 +96,7 @@ impl Asker for DoneAsker {
 
     fn layouts(&mut self, alloc: Global, number: u32) -> Result<Layouts, NoMemory> {
         let list = self.layouts.as_slice().to_vec(alloc)?;
-        Ok(Layouts::from_vec(list))
+        Ok(Layouts::new(list))
     }
 
     fn note(&mut self, number: u32, chunk: u64, count: u64) -> Result<(), NoMemory> {

@@ -48,7 +48,7 @@ notes_both key behind (x ∷ xs) ys = by_test (x == 0) (notes_both key (behind +
     by_test true next = rw (← place) next
     by_test false next = rw (← place) (ap (λ (l : List Noting). record { chunk = x; count = 0; behind = behind + length (keys_of_layout key x) } ∷ l) next)
 
--- each stands behind its layout's keys, of which there are some
+-- each stands after its layout's keys, of which there are some
 notes_within : (key : Parts) (behind most : ℕ) (xs : List ℕ) → behind + length (keys_dropped key xs) ≤ most → list_all (λ (note : Noting). nat_le note.behind most) (drop_notes key behind xs) ≡ true
 notes_within key behind most [] h = refl
 notes_within key behind most (x ∷ xs) h = by_test (x == 0) (notes_within key (behind + length (keys_of_layout key x)) most xs (omega (arith, length-append (keys_of_layout key x) (keys_dropped key xs))))

@@ -13,7 +13,7 @@ use Rattle.ann_key.specs.Keys.{Parts, key_reading}
 use Rattle.chunk_plan.specs.Layouts.{Part, count_of, chunk_part}
 use Rattle.annex_model.specs.Messages.{HostMessage}
 use Rattle.journal_model.specs.declared.verdict.Verdict.{Verdict}
-use Rattle.task_run.specs.Askers.{Asking, IsKept, AsksOne}
+use Rattle.task_run.specs.Askers.{Asking, KeepsRequest, AsksOne}
 use Rattle.task_works.specs.declared.layouts.Query.{Query}
 use Rattle.task_works.specs.declared.layouts.Query.TheVariants as Q
 use Rattle.task_run.specs.Layouts.{keys_of_layout}
@@ -64,7 +64,7 @@ some_keys size chunk = by_chunk (chunk == 0) refl
 -- ---- one more
 
 asks_for : (query : Query) (text : List ℕ) (key : Parts) (request : Option HostMessage) (v : Verdict) (n : ℕ) → key_reading text ≡ Some key
-    → IsKept (asked_by query 1 text) request v → AsksFor (asked_by query) n key (record { request = request; verdict = v })
+    → KeepsRequest (asked_by query 1 text) request v → AsksFor (asked_by query) n key (record { request = request; verdict = v })
 asks_for Q.Present text key None v n e k = k
 asks_for Q.Present text key (Some q) v n e k = rw k (refl, e)
 asks_for Q.Remove text key None v n e k = k

@@ -32,7 +32,7 @@ key_count size chunk = if chunk == 0 then 1 else count_of (unwrap_or size 0) chu
 abbrev pub key_at : Parts → ℕ → ℕ → Parts
 key_at key chunk n = if chunk == 0 then key else with_chunk chunk n key
 
--- all were done; or the last one wasn't; or no memory was found behind some that were
+-- all were done; or the last one wasn't; or no memory was found after some that were
 abbrev pub RoundEnds : Query → List Parts → List Asking → Result (Option Verdict) NoMemory → Type 0
 RoundEnds query keys round (Ok None) = (list_all is_done round ≡ true) × (length round ≡ length keys)
 RoundEnds query keys round (Ok (Some v)) =
@@ -98,7 +98,7 @@ pub record Removed (old new : List Asking) (notes later : List Noting) (key : Pa
   pub so_many : length asked ≡ length (keys_dropped key sizes)
   pub notes_are : later ≡ notes ++ map (behind_more (length old)) (drop_notes key 0 sizes)
 
--- that there are no chunks of this size was noted behind so many requests; of the plain layout nothing is noted
+-- that there are no chunks of this size was noted after so many requests; of the plain layout nothing is noted
 abbrev pub notes_none : ℕ → ℕ → List Noting
 notes_none behind chunk = if chunk == 0 then [] else record { chunk = chunk; count = 0; behind = behind } ∷ []
 

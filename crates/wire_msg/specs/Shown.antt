@@ -1,15 +1,15 @@
 -- What a borrowed message says.
 use Rattle.std.specs.Prelude.{List, [], ◌∷◌}
 use Rattle.ann_key.specs.KeyRefs.{text_of}
-use Rattle.annex_model.specs.Messages.{RemoteMessage, Version, Extensions, UnsupportedRequest, Error, Progress, Debug, Info, Dirhash, DirhashLower, Getconfig, Setconfig, Getcreds, Setcreds, Getuuid, Getgitdir, Getgitremotename, Getwanted, Setwanted, Getstate, Setstate, Seturlpresent, Seturlmissing, Geturls, PrepareSuccess, PrepareFailure, InitremoteSuccess, InitremoteFailure, TransferSuccess, TransferFailure, CheckpresentSuccess, CheckpresentFailure, CheckpresentUnknown, RemoveSuccess, RemoveFailure, Config, Configend, Cost, Availability, Infofield, Infovalue, Infoend, WhereisSuccess, WhereisFailure}
-use Rattle.annex_model.specs.Messages.{HostMessage, AskExtensions, Prepare, Initremote, Transfer, Checkpresent, Remove, Listconfigs, Getcost, Getavailability, Getinfo, Whereis, Value, Creds, HostError}
+use Rattle.annex_model.specs.Messages.{RemoteMessage, Version, Extensions, UnsupportedRequest, Error, Progress, Debug, Info, Dirhash, DirhashLower, Getconfig, Setconfig, Getcreds, Setcreds, Getuuid, Getgitdir, Getgitremotename, Getwanted, Setwanted, Getstate, Setstate, Seturlpresent, Seturlmissing, Geturls, PrepareSuccess, PrepareFailure, InitremoteSuccess, InitremoteFailure, TransferSuccess, TransferFailure, CheckpresentSuccess, CheckpresentFailure, CheckpresentUnknown, RemoveSuccess, RemoveFailure, Config, Configend, Cost, Availability, Infofield, Infovalue, Infoend, WhereisSuccess, WhereisFailure, ExportsupportedSuccess, ExportsupportedFailure, RenameexportSuccess, RenameexportFailure}
+use Rattle.annex_model.specs.Messages.{HostMessage, AskExtensions, Prepare, Initremote, Transfer, Checkpresent, Remove, Listconfigs, Getcost, Getavailability, Getinfo, Whereis, Exportsupported, Export, Transferexport, Checkpresentexport, Removeexport, Renameexport, Value, Creds, HostError}
 use Rattle.annex_model.specs.Messages.{Param, Number, Key, Word, Rest, Direction, Scope}
 use Rattle.wire_msg.specs.declared.parameters.Parameters.{Parameters}
 use Rattle.wire_msg.specs.declared.parameters.Parameters.TheVariants.{Bare as BareParams, Number as NumberParams, Key as KeyParams, Rest as RestParams, Scope as ScopeParams, WordRest as WordRestParams, WordsRest as WordsRestParams, KeyRest as KeyRestParams, Transfer as TransferParams, TransferRest as TransferRestParams}
 use Rattle.wire_msg.specs.declared.remote.RemoteMsg.{RemoteMsg}
-use Rattle.wire_msg.specs.declared.remote.RemoteMsg.TheVariants.{Version as VersionMsg, Extensions as ExtensionsMsg, UnsupportedRequest as UnsupportedRequestMsg, Error as ErrorMsg, Progress as ProgressMsg, Debug as DebugMsg, Info as InfoMsg, Dirhash as DirhashMsg, DirhashLower as DirhashLowerMsg, Getconfig as GetconfigMsg, Setconfig as SetconfigMsg, Getcreds as GetcredsMsg, Setcreds as SetcredsMsg, Getuuid as GetuuidMsg, Getgitdir as GetgitdirMsg, Getgitremotename as GetgitremotenameMsg, Getwanted as GetwantedMsg, Setwanted as SetwantedMsg, Getstate as GetstateMsg, Setstate as SetstateMsg, Seturlpresent as SeturlpresentMsg, Seturlmissing as SeturlmissingMsg, Geturls as GeturlsMsg, PrepareSuccess as PrepareSuccessMsg, PrepareFailure as PrepareFailureMsg, InitremoteSuccess as InitremoteSuccessMsg, InitremoteFailure as InitremoteFailureMsg, TransferSuccess as TransferSuccessMsg, TransferFailure as TransferFailureMsg, CheckpresentSuccess as CheckpresentSuccessMsg, CheckpresentFailure as CheckpresentFailureMsg, CheckpresentUnknown as CheckpresentUnknownMsg, RemoveSuccess as RemoveSuccessMsg, RemoveFailure as RemoveFailureMsg, Config as ConfigMsg, Configend as ConfigendMsg, Cost as CostMsg, Availability as AvailabilityMsg, Infofield as InfofieldMsg, Infovalue as InfovalueMsg, Infoend as InfoendMsg, WhereisSuccess as WhereisSuccessMsg, WhereisFailure as WhereisFailureMsg}
+use Rattle.wire_msg.specs.declared.remote.RemoteMsg.TheVariants.{Version as VersionMsg, Extensions as ExtensionsMsg, UnsupportedRequest as UnsupportedRequestMsg, Error as ErrorMsg, Progress as ProgressMsg, Debug as DebugMsg, Info as InfoMsg, Dirhash as DirhashMsg, DirhashLower as DirhashLowerMsg, Getconfig as GetconfigMsg, Setconfig as SetconfigMsg, Getcreds as GetcredsMsg, Setcreds as SetcredsMsg, Getuuid as GetuuidMsg, Getgitdir as GetgitdirMsg, Getgitremotename as GetgitremotenameMsg, Getwanted as GetwantedMsg, Setwanted as SetwantedMsg, Getstate as GetstateMsg, Setstate as SetstateMsg, Seturlpresent as SeturlpresentMsg, Seturlmissing as SeturlmissingMsg, Geturls as GeturlsMsg, PrepareSuccess as PrepareSuccessMsg, PrepareFailure as PrepareFailureMsg, InitremoteSuccess as InitremoteSuccessMsg, InitremoteFailure as InitremoteFailureMsg, TransferSuccess as TransferSuccessMsg, TransferFailure as TransferFailureMsg, CheckpresentSuccess as CheckpresentSuccessMsg, CheckpresentFailure as CheckpresentFailureMsg, CheckpresentUnknown as CheckpresentUnknownMsg, RemoveSuccess as RemoveSuccessMsg, RemoveFailure as RemoveFailureMsg, Config as ConfigMsg, Configend as ConfigendMsg, Cost as CostMsg, Availability as AvailabilityMsg, Infofield as InfofieldMsg, Infovalue as InfovalueMsg, Infoend as InfoendMsg, WhereisSuccess as WhereisSuccessMsg, WhereisFailure as WhereisFailureMsg, ExportsupportedSuccess as ExportsupportedSuccessMsg, ExportsupportedFailure as ExportsupportedFailureMsg, RenameexportSuccess as RenameexportSuccessMsg, RenameexportFailure as RenameexportFailureMsg}
 use Rattle.wire_msg.specs.declared.host.HostMsg.{HostMsg}
-use Rattle.wire_msg.specs.declared.host.HostMsg.TheVariants.{Extensions as AskExtensionsMsg, Prepare as PrepareMsg, Initremote as InitremoteMsg, Transfer as TransferMsg, Checkpresent as CheckpresentMsg, Remove as RemoveMsg, Listconfigs as ListconfigsMsg, Getcost as GetcostMsg, Getavailability as GetavailabilityMsg, Getinfo as GetinfoMsg, Whereis as WhereisMsg, Value as ValueMsg, Creds as CredsMsg, Error as HostErrorMsg}
+use Rattle.wire_msg.specs.declared.host.HostMsg.TheVariants.{Extensions as AskExtensionsMsg, Prepare as PrepareMsg, Initremote as InitremoteMsg, Transfer as TransferMsg, Checkpresent as CheckpresentMsg, Remove as RemoveMsg, Listconfigs as ListconfigsMsg, Getcost as GetcostMsg, Getavailability as GetavailabilityMsg, Getinfo as GetinfoMsg, Whereis as WhereisMsg, Exportsupported as ExportsupportedMsg, Export as ExportMsg, Transferexport as TransferexportMsg, Checkpresentexport as CheckpresentexportMsg, Removeexport as RemoveexportMsg, Renameexport as RenameexportMsg, Value as ValueMsg, Creds as CredsMsg, Error as HostErrorMsg}
 
 abbrev pub remote_shown : RemoteMsg → RemoteMessage
 remote_shown (VersionMsg n) = Version n
@@ -55,6 +55,10 @@ remote_shown (InfovalueMsg value) = Infovalue value.now
 remote_shown InfoendMsg = Infoend
 remote_shown (WhereisSuccessMsg text) = WhereisSuccess text.now
 remote_shown WhereisFailureMsg = WhereisFailure
+remote_shown ExportsupportedSuccessMsg = ExportsupportedSuccess
+remote_shown ExportsupportedFailureMsg = ExportsupportedFailure
+remote_shown (RenameexportSuccessMsg key) = RenameexportSuccess (text_of key)
+remote_shown (RenameexportFailureMsg key) = RenameexportFailure (text_of key)
 
 abbrev pub host_shown : HostMsg → HostMessage
 host_shown (AskExtensionsMsg names) = AskExtensions names.now
@@ -68,6 +72,12 @@ host_shown GetcostMsg = Getcost
 host_shown GetavailabilityMsg = Getavailability
 host_shown GetinfoMsg = Getinfo
 host_shown (WhereisMsg key) = Whereis (text_of key)
+host_shown ExportsupportedMsg = Exportsupported
+host_shown (ExportMsg name) = Export name.now
+host_shown (TransferexportMsg store key file) = Transferexport store (text_of key) file.now
+host_shown (CheckpresentexportMsg key) = Checkpresentexport (text_of key)
+host_shown (RemoveexportMsg key) = Removeexport (text_of key)
+host_shown (RenameexportMsg key onto) = Renameexport (text_of key) onto.now
 host_shown (ValueMsg value) = Value value.now
 host_shown (CredsMsg user password) = Creds user.now password.now
 host_shown (HostErrorMsg text) = HostError text.now

@@ -21,6 +21,13 @@ pub enum HostMsg<'a> {
     Getavailability,
     Getinfo,
     Whereis(KeyRef<'a>),
+    // Of exports: the name that the next request is about, and the requests.
+    Exportsupported,
+    Export(&'a [u8]),
+    Transferexport(bool, KeyRef<'a>, &'a [u8]),
+    Checkpresentexport(KeyRef<'a>),
+    Removeexport(KeyRef<'a>),
+    Renameexport(KeyRef<'a>, &'a [u8]),
     // Replies.
     Value(&'a [u8]),
     Creds(&'a [u8], &'a [u8]),
@@ -87,13 +94,54 @@ fn about_request<'a>(word: &'a [u8], field: Option<&'a [u8]>) -> Option<HostMsg<
     } else if fields::is_word(word, b"WHEREIS") {
         Some(HostMsg::Whereis(fields::key(field)?))
     } else {
+        export(word, field)
+    }
+}
+
+// What is said of exports.
+fn export<'a>(word: &'a [u8], field: Option<&'a [u8]>) -> Option<HostMsg<'a>>
+    ensures { option_map host_shown result ≡ by_rows (drop 11 host_rows) word.entry.now (option_copied field.entry) }
+{
+    if fields::is_word(word, b"EXPORTSUPPORTED") {
+        bare(HostMsg::Exportsupported, field)
+    } else if fields::is_word(word, b"EXPORT") {
+        Some(HostMsg::Export(fields::rest(field)))
+    } else {
+        export_request(word, field)
+    }
+}
+
+// The requests about the name that EXPORT said.
+fn export_request<'a>(word: &'a [u8], field: Option<&'a [u8]>) -> Option<HostMsg<'a>>
+    ensures { option_map host_shown result ≡ by_rows (drop 13 host_rows) word.entry.now (option_copied field.entry) }
+{
+    if fields::is_word(word, b"TRANSFEREXPORT") {
+        let (store, key, file) = fields::transfer_rest(field)?;
+        Some(HostMsg::Transferexport(store, key, file))
+    } else if fields::is_word(word, b"CHECKPRESENTEXPORT") {
+        Some(HostMsg::Checkpresentexport(fields::key(field)?))
+    } else {
+        export_change(word, field)
+    }
+}
+
+// Those that take the name away.
+fn export_change<'a>(word: &'a [u8], field: Option<&'a [u8]>) -> Option<HostMsg<'a>>
+    ensures { option_map host_shown result ≡ by_rows (drop 15 host_rows) word.entry.now (option_copied field.entry) }
+{
+    if fields::is_word(word, b"REMOVEEXPORT") {
+        Some(HostMsg::Removeexport(fields::key(field)?))
+    } else if fields::is_word(word, b"RENAMEEXPORT") {
+        let (key, onto) = fields::key_rest(field)?;
+        Some(HostMsg::Renameexport(key, onto))
+    } else {
         reply(word, field)
     }
 }
 
 // Replies.
 fn reply<'a>(word: &'a [u8], field: Option<&'a [u8]>) -> Option<HostMsg<'a>>
-    ensures { option_map host_shown result ≡ by_rows (drop 11 host_rows) word.entry.now (option_copied field.entry) }
+    ensures { option_map host_shown result ≡ by_rows (drop 17 host_rows) word.entry.now (option_copied field.entry) }
 {
     if fields::is_word(word, b"VALUE") {
         Some(HostMsg::Value(fields::rest(field)))
@@ -136,14 +184,21 @@ fn parameters_of<'a>(message: HostMsg<'a>) -> Parameters<'a>
         | HostMsg::Listconfigs
         | HostMsg::Getcost
         | HostMsg::Getavailability
-        | HostMsg::Getinfo => Parameters::Bare,
-        HostMsg::Checkpresent(key) | HostMsg::Remove(key) | HostMsg::Whereis(key) =>
-            Parameters::Key(key),
-        HostMsg::Extensions(rest) | HostMsg::Value(rest) | HostMsg::Error(rest) => Parameters::Rest(
-            rest,
-        ),
+        | HostMsg::Getinfo
+        | HostMsg::Exportsupported => Parameters::Bare,
+        HostMsg::Checkpresent(key)
+        | HostMsg::Remove(key)
+        | HostMsg::Whereis(key)
+        | HostMsg::Checkpresentexport(key)
+        | HostMsg::Removeexport(key) => Parameters::Key(key),
+        HostMsg::Extensions(rest)
+        | HostMsg::Export(rest)
+        | HostMsg::Value(rest)
+        | HostMsg::Error(rest) => Parameters::Rest(rest),
+        HostMsg::Renameexport(key, rest) => Parameters::KeyRest(key, rest),
         HostMsg::Creds(word, rest) => Parameters::WordRest(word, rest),
-        HostMsg::Transfer(store, key, rest) => Parameters::TransferRest(store, key, rest),
+        HostMsg::Transfer(store, key, rest) | HostMsg::Transferexport(store, key, rest) =>
+            Parameters::TransferRest(store, key, rest),
     }
 }
 
@@ -162,6 +217,12 @@ fn word(message: &HostMsg<'_>) -> &'static [u8]
         HostMsg::Getavailability => b"GETAVAILABILITY",
         HostMsg::Getinfo => b"GETINFO",
         HostMsg::Whereis(_) => b"WHEREIS",
+        HostMsg::Exportsupported => b"EXPORTSUPPORTED",
+        HostMsg::Export(_) => b"EXPORT",
+        HostMsg::Transferexport(_, _, _) => b"TRANSFEREXPORT",
+        HostMsg::Checkpresentexport(_) => b"CHECKPRESENTEXPORT",
+        HostMsg::Removeexport(_) => b"REMOVEEXPORT",
+        HostMsg::Renameexport(_, _) => b"RENAMEEXPORT",
         HostMsg::Value(_) => b"VALUE",
         HostMsg::Creds(_, _) => b"CREDS",
         HostMsg::Error(_) => b"ERROR",

@@ -53,6 +53,10 @@ pub enum RemoteMsg<'a> {
     Infoend,
     WhereisSuccess(&'a [u8]),
     WhereisFailure,
+    ExportsupportedSuccess,
+    ExportsupportedFailure,
+    RenameexportSuccess(KeyRef<'a>),
+    RenameexportFailure(KeyRef<'a>),
 }
 
 /// The message that the line spells; None exactly where it spells none. It takes no memory.
@@ -284,6 +288,23 @@ fn info<'a>(word: &'a [u8], field: Option<&'a [u8]>) -> Option<RemoteMsg<'a>>
         Some(RemoteMsg::WhereisSuccess(fields::rest(field)))
     } else if fields::is_word(word, b"WHEREIS-FAILURE") {
         bare(RemoteMsg::WhereisFailure, field)
+    } else {
+        export(word, field)
+    }
+}
+
+// Those of exports that answer nothing else.
+fn export<'a>(word: &'a [u8], field: Option<&'a [u8]>) -> Option<RemoteMsg<'a>>
+    ensures { option_map remote_shown result ≡ by_rows (drop 9 about_rows) word.entry.now (option_copied field.entry) }
+{
+    if fields::is_word(word, b"EXPORTSUPPORTED-SUCCESS") {
+        bare(RemoteMsg::ExportsupportedSuccess, field)
+    } else if fields::is_word(word, b"EXPORTSUPPORTED-FAILURE") {
+        bare(RemoteMsg::ExportsupportedFailure, field)
+    } else if fields::is_word(word, b"RENAMEEXPORT-SUCCESS") {
+        Some(RemoteMsg::RenameexportSuccess(fields::key(field)?))
+    } else if fields::is_word(word, b"RENAMEEXPORT-FAILURE") {
+        Some(RemoteMsg::RenameexportFailure(fields::key(field)?))
     } else {
         None
     }

@@ -39,7 +39,9 @@ fn parameters_of<'a>(message: RemoteMsg<'a>) -> Parameters<'a>
         | RemoteMsg::InitremoteSuccess
         | RemoteMsg::Configend
         | RemoteMsg::Infoend
-        | RemoteMsg::WhereisFailure => Parameters::Bare,
+        | RemoteMsg::WhereisFailure
+        | RemoteMsg::ExportsupportedSuccess
+        | RemoteMsg::ExportsupportedFailure => Parameters::Bare,
         RemoteMsg::Version(number) | RemoteMsg::Progress(number) | RemoteMsg::Cost(number) =>
             Parameters::Number(number),
         RemoteMsg::Dirhash(key)
@@ -47,7 +49,9 @@ fn parameters_of<'a>(message: RemoteMsg<'a>) -> Parameters<'a>
         | RemoteMsg::Getstate(key)
         | RemoteMsg::CheckpresentSuccess(key)
         | RemoteMsg::CheckpresentFailure(key)
-        | RemoteMsg::RemoveSuccess(key) => Parameters::Key(key),
+        | RemoteMsg::RemoveSuccess(key)
+        | RemoteMsg::RenameexportSuccess(key)
+        | RemoteMsg::RenameexportFailure(key) => Parameters::Key(key),
         RemoteMsg::Extensions(rest)
         | RemoteMsg::Error(rest)
         | RemoteMsg::Debug(rest)
@@ -123,5 +127,9 @@ fn word(message: &RemoteMsg<'_>) -> &'static [u8]
         RemoteMsg::Infoend => b"INFOEND",
         RemoteMsg::WhereisSuccess(_) => b"WHEREIS-SUCCESS",
         RemoteMsg::WhereisFailure => b"WHEREIS-FAILURE",
+        RemoteMsg::ExportsupportedSuccess => b"EXPORTSUPPORTED-SUCCESS",
+        RemoteMsg::ExportsupportedFailure => b"EXPORTSUPPORTED-FAILURE",
+        RemoteMsg::RenameexportSuccess(_) => b"RENAMEEXPORT-SUCCESS",
+        RemoteMsg::RenameexportFailure(_) => b"RENAMEEXPORT-FAILURE",
     }
 }

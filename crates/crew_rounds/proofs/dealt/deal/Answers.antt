@@ -1,5 +1,5 @@
 use Rattle.std.proofs.Common.{◌≡◌, ◌∙◌, arith}
-use Rattle.crew_rounds.proofs.Dealing.{all_pushed, dealt}
+use Rattle.crew_round.proofs.Dealing.{all_pushed, dealt}
 use Rattle.crew_rounds.proofs.dealt.deal.Goals as goal
 
 pub deals-preserved : goal.deals-preserved

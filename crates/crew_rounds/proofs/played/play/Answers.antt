@@ -9,7 +9,7 @@ use Rattle.crew_rounds.specs.Settled.{Settles}
 use Rattle.crew_rounds.specs.Tagged.{AreFresh, TaggedCan, link_of}
 use Rattle.crew_rounds.proofs.Backs.{fresh_own}
 use Rattle.crew_rounds.proofs.Leaving.{ear_so, mouth_so, worker_so, may_hold, may_work, may_all, fresh_start, one_left, played_own, played_left, played_kept, played_same}
-use Rattle.crew_rounds.proofs.Places.{pairwise_length}
+use Rattle.crew_round.proofs.Dealing.{pairwise_length}
 use Rattle.crew_rounds.proofs.played.play.Goals as goal
 
 pub returns-in_default-clause-own : goal.returns-in_default-clause-own

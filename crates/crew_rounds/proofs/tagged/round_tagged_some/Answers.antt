@@ -1,6 +1,6 @@
 use Rattle.std.proofs.Common.{sym, ◌∙◌, arith}
 use Rattle.std.proofs.lemmas.List.{length-map}
-use Rattle.crew_rounds.specs.Outcomes.{IsAsBefore}
+use Rattle.crew_rounds.specs.Outcomes.{LinkStays}
 use Rattle.crew_rounds.specs.Tagged.{link_of}
 use Rattle.crew_rounds.proofs.Closing.{closes_done, closes_kept, fresh_from}
 use Rattle.crew_rounds.proofs.tagged.round_tagged_some.Goals as goal
@@ -23,5 +23,5 @@ returns-in-Ok-clause-kept g c =
     let b = c.in-Ok.ensures in
     let p = c.play-kit.ensures in
     closes_kept c.in-Ok.hall c.args.core.opening c.args.core.journal b.hall.1 b.hall.2 c.play-kit.result.0.passes.items c.close.result.journal c.close.result.opening (c.close.ensures, p.own.0) c.play-kit.result.1
-    (IsAsBefore c.args.link.ear c.play-kit.result.0.link.ear c.args.link.mouth c.play-kit.result.0.link.mouth c.args.desks.items c.play-kit.result.0.desks.items) c.in-Ok.passes.items
+    (LinkStays c.args.link.ear c.play-kit.result.0.link.ear c.args.link.mouth c.play-kit.result.0.link.mouth c.args.desks.items c.play-kit.result.0.desks.items) c.in-Ok.passes.items
     (fresh_from c.in-Ok.hall 1 c.in-Ok.passes.items b.passes.1 (λ k p there. (let it = b.fresh k p there in ((let is = it.0 in omega (arith, is)), it.1)))) p.kept

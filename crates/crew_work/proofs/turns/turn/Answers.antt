@@ -2,7 +2,7 @@ use Rattle.std.proofs.Common.{◌∙◌, refl, ap, ℕ, Bool}
 use Rattle.journal_model.specs.declared.opening.Opening.{Opening}
 use Rattle.link_roles.proofs.Roles.{same_both}
 use Rattle.lone_work.specs.Works.{desk_tells}
-use Rattle.crew_work.specs.Crews.{Does}
+use Rattle.crew_work.specs.Crews.{CrewDoes}
 use Rattle.crew_work.proofs.Claiming.{can_on}
 use Rattle.crew_work.proofs.Working.{claims_as, can_as, fewer_behind, legal_as, more_as, named, through_as, worked_one, worked_still}
 use Rattle.crew_work.proofs.turns.turn.Goals as goal
@@ -29,7 +29,7 @@ returns-in-Task-clause-worked g c =
     let tells' = desk_tells (g.K.Desk.log c.do_task.new.desk) (g.K.Desk.counts c.do_task.new.desk) in
     worked_one o c.args.setup.now owns n a child (g.W.Way.wired c.args.way.now) (g.met.W.Way.apart c.args.way.now) c.in-Task.number (g.D.Door.seen c.args.door.now) mid new after tells tells'
     claims.0 claims.1
-    (named (λ (q : Opening) (m : ℕ) (l : Bool) (e : ℕ) (u : Bool). Does q c.args.setup.now u m l e c.in-Task.number mid new before after tells tells')
+    (named (λ (q : Opening) (m : ℕ) (l : Bool) (e : ℕ) (u : Bool). CrewDoes q c.args.setup.now u m l e c.in-Task.number mid new before after tells tells')
     c.in-Task.ensures.door.opening c.in-Task.ensures.door.number c.in-Task.ensures.door.alone refl refl c.do_task.ensures.does)
 
 pub returns-in-Task-clause-on : goal.returns-in-Task-clause-on

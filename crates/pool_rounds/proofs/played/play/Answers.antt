@@ -7,7 +7,7 @@ use Rattle.crew_rounds.specs.Roles.{CanWork, WorkerRan}
 use Rattle.crew_rounds.specs.Tagged.{AreFresh, link_of}
 use Rattle.crew_rounds.proofs.Backs.{fresh_own}
 use Rattle.crew_rounds.proofs.Leaving.{may_all, may_work}
-use Rattle.crew_rounds.proofs.Places.{pairwise_length}
+use Rattle.crew_round.proofs.Dealing.{pairwise_length}
 use Rattle.crew_rounds.specs.PoolChildren.{MayServe}
 use Rattle.pool_rounds.proofs.Backs.{links_still, lone_so}
 use Rattle.pool_rounds.proofs.Leaving.{played, serving}

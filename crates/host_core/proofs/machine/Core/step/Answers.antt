@@ -1,4 +1,4 @@
-use Rattle.std.proofs.Common.{◌≡◌, ◌++◌, ◌+◌, ◌∙◌, ◌<◌, ◌≤◌, ◌^◌, ℕ, [], true, false, Option, sym, ap, subst, List, length, arith}
+use Rattle.std.proofs.Common.{◌≡◌, ◌++◌, ◌+◌, ◌∙◌, ◌<◌, ◌≤◌, ◌^◌, ℕ, [], true, false, Option, sym, ap, subst, Bool, if◌then◌else◌, List, length, arith}
 use Rattle.std.specs.Prelude.{All}
 use Rattle.std.specs.List.{cons_option}
 use Rattle.reg_file.specs.Registers.{RegisterFile}
@@ -11,7 +11,7 @@ use Rattle.journal_model.specs.Room.{room_of}
 use Rattle.journal_model.specs.Replies.{set_by_all}
 use Rattle.journal_model.specs.Registers.{settings}
 use Rattle.host_core.specs.declared.due.Due.{Due}
-use Rattle.host_core.specs.Steps.{step_of, told, is_free}
+use Rattle.host_core.specs.Steps.{step_of, told, unless_shut, is_free}
 use Rattle.host_core.specs.Books.{notes_after}
 use Rattle.host_core.specs.CoreValue.{CoreValue}
 use Rattle.host_core.specs.Mays.{IsMadeBy}
@@ -120,9 +120,10 @@ pub returns-clause-reply : goal.returns-clause-reply
 returns-clause-reply c =
     let shut = c.self.inside.shut in
     c.told-reply.ensures
-    ∙ sym (c.is_waiting-waits.ensures shut c.in_ok-step.step.reply)
-    ∙ ap (told shut c.args.event) c.in_ok-step.ensures.step.reply_is
-    ∙ ap (λ (v : CoreValue). told v.shut c.args.event (step_of v.opening v.journal c.args.by c.args.event).reply) c.self.view_is
+    ∙ ap (λ (over : Bool). if c.is_waiting-waits.result then unless_shut over c.in_ok-step.step.reply else c.in_ok-step.step.reply) c.shut_for-over.ensures
+    ∙ sym (c.is_waiting-waits.ensures c.self.inside.journal.entries shut c.in_ok-step.step.reply)
+    ∙ ap (told c.self.inside.journal.entries shut c.args.event) c.in_ok-step.ensures.step.reply_is
+    ∙ ap (λ (v : CoreValue). told v.journal v.shut c.args.event (step_of v.opening v.journal c.args.by c.args.event).reply) c.self.view_is
 
 pub returns-clause-made : goal.returns-clause-made
 returns-clause-made c =

@@ -12,7 +12,7 @@ use Rattle.host_core.specs.Mays.{IsMadeBy, MayStep}
 use Rattle.host_core.proofs.shared.CoreHeld.act.Goals as goal
 
 acted : (r : Result Reply NoMemory) (old : CoreValue) (new : List Entry) (by : ℕ) (event : Event)
-    → IfOk r (λ reply. reply ≡ told old.shut event (step_of old.opening old.journal by event).reply)
+    → IfOk r (λ reply. reply ≡ told old.journal old.shut event (step_of old.opening old.journal by event).reply)
     → OnOk r (new ≡ old.journal ++ (step_of old.opening old.journal by event).group)
     → OnOk r (All (IsMadeBy by) (step_of old.opening old.journal by event).group)
     → Legal old.opening new

@@ -19,7 +19,7 @@ stop-requires-clause-started g c = started_then c.child-child.result c.in-Err.en
 
 pub returns-in-Ok-true-clause-moved : goal.returns-in-Ok-true-clause-moved
 returns-in-Ok-true-clause-moved g c =
-    ear_fed (g.D.Door.opening c.args.door.now) c.args.self.now c.child-child.result c.child-child.ensures c.drop_line.new.self c.args.line c.in-Ok-true.field-0 c.in-Ok-true.field-0-test c.drop_line.ensures.same c.requires.line.1 c.drop_line.ensures.cut c.in-Ok-true.ensures.ok
+    ear_fed (g.D.Door.opening c.args.door.now) c.args.self.now c.child-child.result c.child-child.ensures c.drop_line.new.self c.args.line c.in-Ok-true.field-0 c.in-Ok-true.field-0-test c.drop_line.ensures.same c.requires.line c.drop_line.ensures.cut c.drop_line.ensures.fewer c.in-Ok-true.ensures.ok
 
 pub returns-in-Ok-true-clause-turned : goal.returns-in-Ok-true-clause-turned
 returns-in-Ok-true-clause-turned g c =

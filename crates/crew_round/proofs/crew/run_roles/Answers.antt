@@ -1,6 +1,6 @@
 use Rattle.std.proofs.Common.{rules}
 use denote.Param.Send.{sendable}
-use Rattle.crew_round.proofs.crew.run_crew.Goals as goal
+use Rattle.crew_round.proofs.crew.run_roles.Goals as goal
 
 -- The scope's closure asks for the bounds of what it calls.
 pub scoped-requires : goal.scoped-requires

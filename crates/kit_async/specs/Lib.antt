@@ -1,0 +1,5 @@
+pub mod Dealt
+pub mod Endings
+pub mod Laws
+pub mod Served
+pub mod Turns

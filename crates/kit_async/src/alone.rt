@@ -1,0 +1,74 @@
+// A kit whose threads couldn't be started: the calling thread reads, works and writes, one request after the other.
+ghost use Rattle.std.specs.Prelude.{◌≡◌, ◌+◌, true, All};
+ghost use Rattle.gathering.specs.Pairs.{Pairwise};
+ghost use Rattle.kit_serve.specs.Limits.{longest_line};
+ghost use Rattle.kit_async_roles.specs.Calling.{hand_of};
+ghost use Rattle.kit_async_roles.specs.Passes.{Stands, half_of};
+ghost use Rattle.kit_async_roles.specs.Reading.{ear_of};
+ghost use Rattle.kit_async_roles.specs.Writing.{mouth_of};
+ghost use Rattle.kit_async.specs.Turns.{ReaderWent, WorkerWent, WriterWent};
+
+use crate::roles::{Reader, Worker, Writer};
+use ann_outside::{Sink, Source};
+use kit_core::Remote;
+use std::sync::Wait;
+
+// One turn of each worker, and whether one of them did something.
+fn work_once<'a, K: Remote, R: Wait>(workers: &mut [Worker<'a, K, R>]) -> bool
+    requires { All (λ w. Stands w.hall.now (w.number + 3) w.pass) workers.old }
+    ensures { Pairwise (λ w v. WorkerWent w.hall.now w.number w.pass (hand_of (K.calls w.remote) (K.settings w.remote)) v.hall.now v.number v.pass (hand_of (K.calls v.remote) (K.settings v.remote))) workers.old workers.new }
+{
+    let mut went = false;
+    for at in 0..workers.len() {
+        if workers[at].turn() {
+            went = true;
+        }
+    }
+    went
+}
+
+// Works and writes until nothing of what was heard is left to be done.
+fn settle<'a, W: Sink, K: Remote, R: Wait>(
+    writer: &mut Writer<'a, W, R>,
+    workers: &mut [Worker<'a, K, R>],
+)
+    requires writer { Stands writer.old.hall.now 2 writer.old.pass × (W.is_open writer.old.sink ≡ true) }
+    requires workers { All (λ w. Stands w.hall.now (w.number + 3) w.pass) workers.old }
+    ensures wrote { WriterWent writer.old.hall.now writer.old.pass writer.new.pass (mouth_of (W.taken writer.old.sink) (half_of (W.faults writer.old.sink) (W.is_open writer.old.sink) (W.number writer.old.sink))) (mouth_of (W.taken writer.new.sink) (half_of (W.faults writer.new.sink) (W.is_open writer.new.sink) (W.number writer.new.sink))) writer.old.why writer.new.why }
+    ensures writer { Stands writer.new.hall.now 2 writer.new.pass × (W.is_open writer.new.sink ≡ true) × (writer.new.hall.now ≡ writer.old.hall.now) }
+    ensures workers { Pairwise (λ w v. WorkerWent w.hall.now w.number w.pass (hand_of (K.calls w.remote) (K.settings w.remote)) v.hall.now v.number v.pass (hand_of (K.calls v.remote) (K.settings v.remote))) workers.old workers.new }
+{
+    let rt = writer.rt;
+    for _ in rt.forever() {
+        let worked = work_once(workers);
+        let wrote = writer.turn();
+        if !worked && !wrote {
+            return;
+        }
+    }
+    unreachable!()
+}
+
+/// Takes all turns, until there is nothing more to hear and all that was heard is done.
+pub(crate) fn serve_alone<'a, S: Source, W: Sink, K: Remote, R: Wait>(
+    reader: &mut Reader<'a, S, R>,
+    writer: &mut Writer<'a, W, R>,
+    workers: &mut [Worker<'a, K, R>],
+)
+    requires reader { Stands reader.old.hall.now 1 reader.old.pass × (S.is_open reader.old.source ≡ true) × (reader.old.splitter.limit ≡ longest_line) }
+    requires writer { Stands writer.old.hall.now 2 writer.old.pass × (W.is_open writer.old.sink ≡ true) }
+    requires workers { All (λ w. Stands w.hall.now (w.number + 3) w.pass) workers.old }
+    ensures read { ReaderWent reader.old.hall.now reader.old.pass reader.new.pass (ear_of (S.given reader.old.source) (S.left reader.old.source) (half_of (S.faults reader.old.source) (S.is_open reader.old.source) (S.number reader.old.source)) reader.old.splitter.bytes) (ear_of (S.given reader.new.source) (S.left reader.new.source) (half_of (S.faults reader.new.source) (S.is_open reader.new.source) (S.number reader.new.source)) reader.new.splitter.bytes) reader.old.why reader.new.why }
+    ensures wrote { WriterWent writer.old.hall.now writer.old.pass writer.new.pass (mouth_of (W.taken writer.old.sink) (half_of (W.faults writer.old.sink) (W.is_open writer.old.sink) (W.number writer.old.sink))) (mouth_of (W.taken writer.new.sink) (half_of (W.faults writer.new.sink) (W.is_open writer.new.sink) (W.number writer.new.sink))) writer.old.why writer.new.why }
+    ensures workers { Pairwise (λ w v. WorkerWent w.hall.now w.number w.pass (hand_of (K.calls w.remote) (K.settings w.remote)) v.hall.now v.number v.pass (hand_of (K.calls v.remote) (K.settings v.remote))) workers.old workers.new }
+{
+    let rt = reader.rt;
+    for _ in rt.forever() {
+        settle(writer, workers);
+        if !reader.turn() {
+            settle(writer, workers);
+            return;
+        }
+    }
+    unreachable!()
+}

@@ -1,0 +1,18 @@
+//! Serves remotes to a host that tags its lines (ASYNC): several jobs at once, each remote in a thread of its own.
+//! <https://git-annex.branchable.com/design/external_special_remote_protocol/async_appendix/>
+#![tactic(auto)]
+
+mod alone;
+mod dealt;
+mod journal;
+pub mod laws;
+mod lent;
+mod played;
+mod roles;
+mod serving;
+mod why;
+
+pub use journal::KitJournal;
+pub use lent::KitEntry;
+pub use serving::{AsyncEnd, serve_async, serve_async_some};
+pub use why::Why;

@@ -1,0 +1,265 @@
+// The roles of a kit: they are made, run in threads or by the calling thread, and taken apart again.
+ghost use Rattle.std.specs.Prelude.{◌≡◌, ◌≤◌, ◌<◌, ◌+◌, ◌^◌, ◌++◌, ℕ, List, [], ◌∷◌, None, true, All, IfSome, length, map, reverse, vec_len, vec_capacity};
+ghost use Rattle.crew_round.specs.BackRole.{role_of};
+ghost use Rattle.gathering.specs.Pairs.{Pairwise};
+ghost use Rattle.hall.specs.Passes.{IsPassOf};
+ghost use Rattle.kit_serve.specs.Limits.{longest_line};
+ghost use Rattle.kit_async_roles.specs.Calling.{hand_of};
+ghost use Rattle.kit_async_roles.specs.Passes.{Stands, half_of};
+ghost use Rattle.kit_async_roles.specs.Reading.{ReaderRan, ear_of};
+ghost use Rattle.kit_async_roles.specs.Writing.{WriterRan, mouth_of};
+ghost use Rattle.kit_async.specs.Dealt.{AreFresh, AreNumbered};
+ghost use Rattle.kit_async.specs.Endings.{AllWorked, ReaderDid, WriterDid};
+ghost use Rattle.kit_async.specs.Turns.{ReaderWent, WorkerWent, WriterWent};
+
+use crate::alone::serve_alone;
+use crate::dealt::{Site, deal, take_back};
+use crate::roles::{Reader, Worker, Writer};
+use ann_outside::{Sink, Source};
+use crew_round::{Back, Crew, Room, any_ran, run_whole_crew};
+use hall::Pass;
+use kit_async_core::KitCore;
+use kit_async_roles::Why;
+use kit_core::Remote;
+use kit_serve::LONGEST_LINE;
+use std::alloc::Global;
+use std::marker::{Send, Sync};
+use std::sync::Wait;
+use std::thread::Threads;
+use wire_line::Splitter;
+
+/// What a kit shares out among its roles.
+#[derive(Drop)]
+pub(crate) struct Kit<K: Drop, S, W> {
+    pub(crate) passes: Vec<Pass<KitCore>>,
+    pub(crate) remotes: Vec<K>,
+    pub(crate) source: S,
+    pub(crate) sink: W,
+}
+
+/// Why the reader and the writer ended by themselves, if they did.
+#[derive(Clone, Copy)]
+pub(crate) struct RoleEnds {
+    pub(crate) read: Option<Why>,
+    pub(crate) wrote: Option<Why>,
+}
+
+// Room for what comes back.
+#[derive(Drop)]
+struct Rest<K: Drop> {
+    passes: Vec<Pass<KitCore>>,
+    remotes: Vec<K>,
+}
+
+type Workers<'a, K, R> = Vec<Worker<'a, K, R>>;
+
+type Roles<'a, K, S, W, R> = Crew<Reader<'a, S, R>, Writer<'a, W, R>, Worker<'a, K, R>>;
+
+type Rooms<'a, K, R> = (Room<Worker<'a, K, R>>, Workers<'a, K, R>, Workers<'a, K, R>);
+
+// Room for so many workers, and for what comes back of them.
+fn rooms<'a, K: Remote + Drop, R: Wait>(alloc: Global, seats: usize) -> Option<Rooms<'a, K, R>>
+    ensures { IfSome result (λ r. (r.0 ≡ seats) × (r.1.items ≡ []) × (seats ≤ vec_capacity r.1) × (r.2.items ≡ []) × (seats ≤ vec_capacity r.2)) }
+{
+    let room = Room::new(alloc, seats)?;
+    let workers = Vec::with_capacity(alloc, seats).ok()?;
+    let backs = Vec::with_capacity(alloc, seats).ok()?;
+    Some((room, workers, backs))
+}
+
+// Makes the roles.
+fn cast<'a, K: Remote + Drop, S: Source, W: Sink, R: Wait>(
+    site: &Site<'a, R>,
+    kit: Kit<K, S, W>,
+    workers: Workers<'a, K, R>,
+) -> (Roles<'a, K, S, W, R>, Rest<K>)
+    requires empty { workers.items ≡ [] }
+    requires room { vec_len kit.remotes ≤ vec_capacity workers }
+    requires many { (vec_len kit.passes ≡ 2 + vec_len kit.remotes) × (vec_len kit.remotes < 2 ^ 32) }
+    ensures passes { kit.passes.items ≡ result.0.ear.pass ∷ result.0.mouth.pass ∷ map (λ w. w.pass) (reverse result.0.workers.items) }
+    ensures remotes { kit.remotes.items ≡ map (λ w. w.remote) (reverse result.0.workers.items) }
+    ensures reader { (result.0.ear.source ≡ kit.source) × (result.0.ear.splitter.bytes ≡ []) × (result.0.ear.splitter.limit ≡ longest_line) × (result.0.ear.why ≡ None) }
+    ensures writer { (result.0.mouth.sink ≡ kit.sink) × (result.0.mouth.why ≡ None) }
+    ensures holders { (result.0.ear.hall.now ≡ site.now.hall.now) × (result.0.mouth.hall.now ≡ site.now.hall.now) × All (λ w. w.hall.now ≡ site.now.hall.now) result.0.workers.items }
+    ensures numbers { AreNumbered 0 (map (λ w. w.number) (reverse result.0.workers.items)) }
+    ensures none { (result.1.passes.items ≡ []) × (result.1.remotes.items ≡ []) }
+    ensures rooms { (2 + vec_len result.0.workers ≤ vec_capacity result.1.passes) × (vec_len result.0.workers ≤ vec_capacity result.1.remotes) }
+{
+    let Kit {
+        mut passes,
+        mut remotes,
+        source,
+        sink,
+    } = kit;
+    let workers = deal(site, &mut passes, &mut remotes, workers);
+    let (Some(second), Some(first)) = (passes.pop(), passes.pop()) else {
+        unreachable!()
+    };
+    let ear = Reader {
+        rt: site.rt,
+        alloc: site.alloc,
+        hall: site.hall,
+        pass: first,
+        source,
+        splitter: Splitter::new(site.alloc, LONGEST_LINE),
+        why: None,
+    };
+    let mouth = Writer {
+        rt: site.rt,
+        hall: site.hall,
+        pass: second,
+        sink,
+        why: None,
+    };
+    let crew = Crew {
+        ear,
+        mouth,
+        workers,
+    };
+    (crew, Rest { passes, remotes })
+}
+
+// The workers that came back, whether they ran or stayed, in room that was taken before.
+fn workers_of<'a, K: Remote + Drop, R: Wait>(
+    backs: Vec<Back<Worker<'a, K, R>>>,
+    mut workers: Workers<'a, K, R>,
+) -> Workers<'a, K, R>
+    requires empty { workers.items ≡ [] }
+    requires room { vec_len backs ≤ vec_capacity workers }
+    ensures { result.items ≡ map role_of backs.entry.items }
+{
+    for back in backs {
+        workers.push_reserved(back.role());
+    }
+    workers
+}
+
+// Where nobody ran, the calling thread takes all turns.
+fn serve_unless<'a, K: Remote, S: Source, W: Sink, R: Wait>(
+    ran: bool,
+    reader: &mut Reader<'a, S, R>,
+    writer: &mut Writer<'a, W, R>,
+    workers: &mut [Worker<'a, K, R>],
+)
+    requires reader { Stands reader.old.hall.now 1 reader.old.pass × (S.is_open reader.old.source ≡ true) × (reader.old.splitter.limit ≡ longest_line) }
+    requires writer { Stands writer.old.hall.now 2 writer.old.pass × (W.is_open writer.old.sink ≡ true) }
+    requires workers { All (λ w. Stands w.hall.now (w.number + 3) w.pass) workers.old }
+    ensures read { ReaderWent reader.old.hall.now reader.old.pass reader.new.pass (ear_of (S.given reader.old.source) (S.left reader.old.source) (half_of (S.faults reader.old.source) (S.is_open reader.old.source) (S.number reader.old.source)) reader.old.splitter.bytes) (ear_of (S.given reader.new.source) (S.left reader.new.source) (half_of (S.faults reader.new.source) (S.is_open reader.new.source) (S.number reader.new.source)) reader.new.splitter.bytes) reader.old.why reader.new.why }
+    ensures wrote { WriterWent writer.old.hall.now writer.old.pass writer.new.pass (mouth_of (W.taken writer.old.sink) (half_of (W.faults writer.old.sink) (W.is_open writer.old.sink) (W.number writer.old.sink))) (mouth_of (W.taken writer.new.sink) (half_of (W.faults writer.new.sink) (W.is_open writer.new.sink) (W.number writer.new.sink))) writer.old.why writer.new.why }
+    ensures workers { Pairwise (λ w v. WorkerWent w.hall.now w.number w.pass (hand_of (K.calls w.remote) (K.settings w.remote)) v.hall.now v.number v.pass (hand_of (K.calls v.remote) (K.settings v.remote))) workers.old workers.new }
+{
+    if !ran {
+        serve_alone(reader, writer, workers);
+    }
+}
+
+// Runs the roles, each in a thread of its own where all can have one; else the calling thread takes all their turns.
+fn run<
+    'a,
+    K: Remote + Send + Drop,
+    S: Source + Send + Drop,
+    W: Sink + Send + Drop,
+    R: Threads + Wait + Sync,
+>(
+    rt: &R,
+    most: usize,
+    room: Room<Worker<'a, K, R>>,
+    backs: Workers<'a, K, R>,
+    crew: Roles<'a, K, S, W, R>,
+) -> Roles<'a, K, S, W, R>
+    requires few { (vec_len crew.workers < 1000) × (vec_len crew.workers ≤ room) }
+    requires backs { (backs.items ≡ []) × (vec_len crew.workers ≤ vec_capacity backs) }
+    requires reader { Stands crew.ear.hall.now 1 crew.ear.pass × (S.is_open crew.ear.source ≡ true) × (crew.ear.splitter.limit ≡ longest_line) × (crew.ear.why ≡ None) }
+    requires writer { Stands crew.mouth.hall.now 2 crew.mouth.pass × (W.is_open crew.mouth.sink ≡ true) × (crew.mouth.why ≡ None) }
+    requires workers { All (λ w. Stands w.hall.now (w.number + 3) w.pass) crew.workers.items }
+    ensures read { ReaderRan crew.entry.ear.hall.now crew.entry.ear.pass result.ear.pass (ear_of (S.given crew.entry.ear.source) (S.left crew.entry.ear.source) (half_of (S.faults crew.entry.ear.source) (S.is_open crew.entry.ear.source) (S.number crew.entry.ear.source)) crew.entry.ear.splitter.bytes) (ear_of (S.given result.ear.source) (S.left result.ear.source) (half_of (S.faults result.ear.source) (S.is_open result.ear.source) (S.number result.ear.source)) result.ear.splitter.bytes) result.ear.why }
+    ensures wrote { WriterRan crew.entry.mouth.hall.now crew.entry.mouth.pass result.mouth.pass (mouth_of (W.taken crew.entry.mouth.sink) (half_of (W.faults crew.entry.mouth.sink) (W.is_open crew.entry.mouth.sink) (W.number crew.entry.mouth.sink))) (mouth_of (W.taken result.mouth.sink) (half_of (W.faults result.mouth.sink) (W.is_open result.mouth.sink) (W.number result.mouth.sink))) result.mouth.why }
+    ensures worked { Pairwise (λ w v. WorkerWent w.hall.now w.number w.pass (hand_of (K.calls w.remote) (K.settings w.remote)) v.hall.now v.number v.pass (hand_of (K.calls v.remote) (K.settings v.remote))) crew.entry.workers.items result.workers.items }
+{
+    let Crew {
+        ear,
+        mouth,
+        workers,
+    } = run_whole_crew(rt, room, most, crew);
+    let ran = ear.has_run() || mouth.has_run() || any_ran(&workers);
+    let mut ear = ear.role();
+    let mut mouth = mouth.role();
+    let mut workers = workers_of(workers, backs);
+    serve_unless(ran, &mut ear, &mut mouth, workers.as_mut_slice());
+    Crew {
+        ear,
+        mouth,
+        workers,
+    }
+}
+
+// Takes the roles apart.
+fn gather<'a, K: Remote + Drop, S: Source + Drop, W: Sink + Drop, R: Wait>(
+    crew: Roles<'a, K, S, W, R>,
+    rest: Rest<K>,
+) -> (Kit<K, S, W>, RoleEnds)
+    requires none { (rest.passes.items ≡ []) × (rest.remotes.items ≡ []) }
+    requires rooms { (2 + vec_len crew.workers ≤ vec_capacity rest.passes) × (vec_len crew.workers ≤ vec_capacity rest.remotes) }
+    ensures passes { result.0.passes.items ≡ crew.entry.ear.pass ∷ crew.entry.mouth.pass ∷ map (λ w. w.pass) (reverse crew.entry.workers.items) }
+    ensures remotes { result.0.remotes.items ≡ map (λ w. w.remote) (reverse crew.entry.workers.items) }
+    ensures ends { (result.0.source ≡ crew.entry.ear.source) × (result.0.sink ≡ crew.entry.mouth.sink) × (result.1.read ≡ crew.entry.ear.why) × (result.1.wrote ≡ crew.entry.mouth.why) }
+{
+    let Rest {
+        mut passes,
+        mut remotes,
+    } = rest;
+    let Crew {
+        ear,
+        mouth,
+        workers,
+    } = crew;
+    let Reader {
+        pass: first,
+        source,
+        why: read,
+        ..
+    } = ear;
+    let Writer {
+        pass: second,
+        sink,
+        why: wrote,
+        ..
+    } = mouth;
+    passes.push_reserved(first);
+    passes.push_reserved(second);
+    take_back(workers, &mut passes, &mut remotes);
+    let kit = Kit {
+        passes,
+        remotes,
+        source,
+        sink,
+    };
+    (kit, RoleEnds { read, wrote })
+}
+
+/// Runs the roles of a kit, in as many threads as `most` at most. Without memory for them nobody does anything.
+pub(crate) fn play<
+    K: Remote + Send + Drop,
+    S: Source + Send + Drop,
+    W: Sink + Send + Drop,
+    R: Threads + Wait + Sync,
+>(site: &Site<'_, R>, most: usize, kit: Kit<K, S, W>) -> (Kit<K, S, W>, RoleEnds)
+    requires remotes { (vec_len kit.remotes ≤ 64) × (vec_len kit.passes ≡ 2 + vec_len kit.remotes) }
+    requires fresh { AreFresh site.now.hall.now 1 kit.passes.items }
+    requires open { (S.is_open kit.source ≡ true) × (W.is_open kit.sink ≡ true) }
+    ensures own { All (IsPassOf site.now.hall.now) result.0.passes.items × (length result.0.passes.items ≡ length kit.passes.items) }
+    ensures read { (held : List ℕ) × ReaderDid site.now.hall.now result.0.passes.items (ear_of (S.given kit.source) (S.left kit.source) (half_of (S.faults kit.source) (S.is_open kit.source) (S.number kit.source)) []) (ear_of (S.given result.0.source) (S.left result.0.source) (half_of (S.faults result.0.source) (S.is_open result.0.source) (S.number result.0.source)) held) result.1.read }
+    ensures wrote { WriterDid site.now.hall.now result.0.passes.items (mouth_of (W.taken kit.sink) (half_of (W.faults kit.sink) (W.is_open kit.sink) (W.number kit.sink))) (mouth_of (W.taken result.0.sink) (half_of (W.faults result.0.sink) (W.is_open result.0.sink) (W.number result.0.sink))) result.1.wrote }
+    ensures worked { AllWorked site.now.hall.now result.0.passes.items 0 (map (λ k. hand_of (K.calls k) (K.settings k)) kit.remotes.items) (map (λ k. hand_of (K.calls k) (K.settings k)) result.0.remotes.items) }
+{
+    let Some((room, workers, backs)) = rooms(site.alloc, kit.remotes.len()) else {
+        let ends = RoleEnds {
+            read: None,
+            wrote: None,
+        };
+        return (kit, ends);
+    };
+    let (crew, rest) = cast(site, kit, workers);
+    let crew = run(site.rt, most, room, backs, crew);
+    gather(crew, rest)
+}

@@ -1,0 +1,194 @@
+// The roles of a kit, each with its pass, in a thread or not.
+ghost use Rattle.std.specs.Prelude.{◌≡◌, ◌+◌, true};
+ghost use Rattle.kit_serve.specs.Limits.{longest_line};
+ghost use Rattle.kit_async_roles.specs.Calling.{hand_of};
+ghost use Rattle.kit_async_roles.specs.Passes.{Stands, half_of};
+ghost use Rattle.kit_async_roles.specs.Reading.{ear_of};
+ghost use Rattle.kit_async_roles.specs.Writing.{mouth_of};
+ghost use Rattle.kit_async.specs.Turns.{ReaderWent, WorkerWent, WriterWent};
+
+use ann_outside::{Sink, Source};
+use crew_round::Role;
+use hall::{Hall, Pass};
+use kit_async_core::KitCore;
+use kit_async_roles::{Why, listen, read_turn, speak, toil, work_turn, write_turn};
+use kit_core::Remote;
+use std::alloc::Global;
+use std::sync::Wait;
+use wire_line::Splitter;
+
+/// What reads, and why it ended by itself, if it did.
+#[derive(Drop)]
+pub(crate) struct Reader<'a, S: Source, R: Wait> {
+    pub(crate) rt: &'a R,
+    pub(crate) alloc: Global,
+    pub(crate) hall: &'a Hall<KitCore>,
+    pub(crate) pass: Pass<KitCore>,
+    pub(crate) source: S,
+    pub(crate) splitter: Splitter,
+    pub(crate) why: Option<Why>,
+}
+
+impl<'a, S: Source, R: Wait> Role for Reader<'a, S, R> {
+    ghost use Rattle.std.specs.Prelude.{◌≡◌, true};
+    ghost use Rattle.kit_serve.specs.Limits.{longest_line};
+    ghost use Rattle.kit_async_roles.specs.Passes.{Stands, half_of};
+    ghost use Rattle.kit_async_roles.specs.Reading.{ReaderRan, ear_of};
+
+    ghost can_run = { λ s. Stands s.hall.now 1 s.pass × (S.is_open s.source ≡ true) × (s.splitter.limit ≡ longest_line) };
+
+    ghost ran = { λ a b. ReaderRan a.hall.now a.pass b.pass (ear_of (S.given a.source) (S.left a.source) (half_of (S.faults a.source) (S.is_open a.source) (S.number a.source)) a.splitter.bytes) (ear_of (S.given b.source) (S.left b.source) (half_of (S.faults b.source) (S.is_open b.source) (S.number b.source)) b.splitter.bytes) b.why × (b.hall.now ≡ a.hall.now) × (b.splitter.limit ≡ longest_line) };
+
+    fn run(self) -> Self {
+        let Reader {
+            rt,
+            alloc,
+            hall,
+            mut pass,
+            mut source,
+            mut splitter,
+            why: _,
+        } = self;
+        let why = listen(rt, alloc, hall, &mut pass, &mut source, &mut splitter);
+        Reader {
+            rt,
+            alloc,
+            hall,
+            pass,
+            source,
+            splitter,
+            why,
+        }
+    }
+}
+
+impl<'a, S: Source, R: Wait> Reader<'a, S, R> {
+    /// One turn, by the thread that calls it, and whether something was done. Nothing is, once it ended by itself.
+    pub(crate) fn turn(&mut self) -> bool
+        requires can { Stands self.old.hall.now 1 self.old.pass × (S.is_open self.old.source ≡ true) × (self.old.splitter.limit ≡ longest_line) }
+        ensures went { ReaderWent self.old.hall.now self.old.pass self.new.pass (ear_of (S.given self.old.source) (S.left self.old.source) (half_of (S.faults self.old.source) (S.is_open self.old.source) (S.number self.old.source)) self.old.splitter.bytes) (ear_of (S.given self.new.source) (S.left self.new.source) (half_of (S.faults self.new.source) (S.is_open self.new.source) (S.number self.new.source)) self.new.splitter.bytes) self.old.why self.new.why }
+        ensures can { Stands self.new.hall.now 1 self.new.pass × (S.is_open self.new.source ≡ true) × (self.new.splitter.limit ≡ longest_line) }
+        ensures hall { self.new.hall.now ≡ self.old.hall.now }
+    {
+        if self.why.is_some() {
+            return false;
+        }
+        let (rt, alloc, hall) = (self.rt, self.alloc, self.hall);
+        let turn = read_turn(
+            rt,
+            alloc,
+            hall,
+            &mut self.pass,
+            &mut self.source,
+            &mut self.splitter,
+        );
+        self.why = turn.why();
+        turn.went()
+    }
+}
+
+/// What writes, and why it ended by itself, if it did.
+#[derive(Drop)]
+pub(crate) struct Writer<'a, W: Sink, R: Wait> {
+    pub(crate) rt: &'a R,
+    pub(crate) hall: &'a Hall<KitCore>,
+    pub(crate) pass: Pass<KitCore>,
+    pub(crate) sink: W,
+    pub(crate) why: Option<Why>,
+}
+
+impl<'a, W: Sink, R: Wait> Role for Writer<'a, W, R> {
+    ghost use Rattle.std.specs.Prelude.{◌≡◌, true};
+    ghost use Rattle.kit_async_roles.specs.Passes.{Stands, half_of};
+    ghost use Rattle.kit_async_roles.specs.Writing.{WriterRan, mouth_of};
+
+    ghost can_run = { λ s. Stands s.hall.now 2 s.pass × (W.is_open s.sink ≡ true) };
+
+    ghost ran = { λ a b. WriterRan a.hall.now a.pass b.pass (mouth_of (W.taken a.sink) (half_of (W.faults a.sink) (W.is_open a.sink) (W.number a.sink))) (mouth_of (W.taken b.sink) (half_of (W.faults b.sink) (W.is_open b.sink) (W.number b.sink))) b.why × (b.hall.now ≡ a.hall.now) };
+
+    fn run(self) -> Self {
+        let Writer {
+            rt,
+            hall,
+            mut pass,
+            mut sink,
+            why: _,
+        } = self;
+        let why = speak(rt, hall, &mut pass, &mut sink);
+        Writer {
+            rt,
+            hall,
+            pass,
+            sink,
+            why,
+        }
+    }
+}
+
+impl<'a, W: Sink, R: Wait> Writer<'a, W, R> {
+    /// One turn, by the thread that calls it, and whether something was done. Nothing is, once it ended by itself.
+    pub(crate) fn turn(&mut self) -> bool
+        requires can { Stands self.old.hall.now 2 self.old.pass × (W.is_open self.old.sink ≡ true) }
+        ensures went { WriterWent self.old.hall.now self.old.pass self.new.pass (mouth_of (W.taken self.old.sink) (half_of (W.faults self.old.sink) (W.is_open self.old.sink) (W.number self.old.sink))) (mouth_of (W.taken self.new.sink) (half_of (W.faults self.new.sink) (W.is_open self.new.sink) (W.number self.new.sink))) self.old.why self.new.why }
+        ensures can { Stands self.new.hall.now 2 self.new.pass × (W.is_open self.new.sink ≡ true) }
+        ensures hall { self.new.hall.now ≡ self.old.hall.now }
+    {
+        if self.why.is_some() {
+            return false;
+        }
+        let (rt, hall) = (self.rt, self.hall);
+        let turn = write_turn(rt, hall, &mut self.pass, &mut self.sink);
+        self.why = turn.why();
+        turn.went()
+    }
+}
+
+/// What calls the remote of that number.
+#[derive(Drop)]
+pub(crate) struct Worker<'a, K: Remote, R: Wait> {
+    pub(crate) rt: &'a R,
+    pub(crate) hall: &'a Hall<KitCore>,
+    pub(crate) pass: Pass<KitCore>,
+    pub(crate) number: u32,
+    pub(crate) remote: K,
+}
+
+impl<'a, K: Remote, R: Wait> Role for Worker<'a, K, R> {
+    ghost use Rattle.std.specs.Prelude.{◌≡◌, ◌+◌};
+    ghost use Rattle.kit_async_roles.specs.Passes.{Stands};
+    ghost use Rattle.kit_async_roles.specs.Calling.{hand_of};
+    ghost use Rattle.kit_async.specs.Turns.{WorkerWent};
+
+    ghost can_run = { λ s. Stands s.hall.now (s.number + 3) s.pass };
+
+    ghost ran = { λ a b. WorkerWent a.hall.now a.number a.pass (hand_of (K.calls a.remote) (K.settings a.remote)) b.hall.now b.number b.pass (hand_of (K.calls b.remote) (K.settings b.remote)) };
+
+    fn run(self) -> Self {
+        let Worker {
+            rt,
+            hall,
+            mut pass,
+            number,
+            mut remote,
+        } = self;
+        toil(rt, hall, &mut pass, number, &mut remote);
+        Worker {
+            rt,
+            hall,
+            pass,
+            number,
+            remote,
+        }
+    }
+}
+
+impl<'a, K: Remote, R: Wait> Worker<'a, K, R> {
+    /// One turn, by the thread that calls it, and whether something was done.
+    pub(crate) fn turn(&mut self) -> bool
+        requires { Stands self.old.hall.now (self.old.number + 3) self.old.pass }
+        ensures { WorkerWent self.old.hall.now self.old.number self.old.pass (hand_of (K.calls self.old.remote) (K.settings self.old.remote)) self.new.hall.now self.new.number self.new.pass (hand_of (K.calls self.new.remote) (K.settings self.new.remote)) }
+    {
+        let (rt, hall, number) = (self.rt, self.hall, self.number);
+        work_turn(rt, hall, &mut self.pass, number, &mut self.remote).went()
+    }
+}

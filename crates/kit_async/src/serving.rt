@@ -1,0 +1,192 @@
+// Serves remotes to a host, several jobs at once.
+ghost use Rattle.std.specs.Prelude.{◌≡◌, ◌<◌, ◌≤◌, ◌+◌, [], ◌∷◌, true, codes, length, map, vec_len, All, IfOk};
+ghost use Rattle.hall.specs.Passes.{HasClosed, IsPassOf};
+ghost use Rattle.kit_async_model.specs.declared.entry.Entry.TheVariants.{Say};
+ghost use Rattle.kit_async_model.specs.declared.setup.Setup.{Setup};
+ghost use Rattle.kit_async_model.specs.Events.{IsMadeBy, MayStep};
+ghost use Rattle.kit_async.specs.Dealt.{AreFresh};
+ghost use Rattle.kit_async.specs.Endings.{why_stopped};
+ghost use Rattle.kit_async.specs.Served.{HasCauses, Serves, setup_of, status_of};
+
+use crate::dealt::Site;
+use crate::journal::KitJournal;
+use crate::played::{Kit, RoleEnds, play};
+use crate::why::Why;
+use ann_key::NoMemory;
+use ann_outside::{Sink, Source};
+use hall::{Hall, Pass};
+use kit_async_core::KitCore;
+use kit_async_model::Setup;
+use kit_async_roles::Why as RoleWhy;
+use kit_core::Remote;
+use std::alloc::Global;
+use std::marker::{Send, Sync};
+use std::sync::Wait;
+use std::thread::Threads;
+
+/// How remotes were served, with all that was handed in.
+#[derive(Drop)]
+pub struct AsyncEnd<K, S, W> {
+    /// The exit status of a program that did nothing else: 0 where the host's lines came to an end; 1 where a line of it spells no
+    /// message, is too long, has no tag or the tag 0 where lines are tagged, or has no place where it stands; 4 and 5 where
+    /// reading or writing failed; 7 where no memory was found.
+    pub status: u8,
+    pub remotes: Vec<K>,
+    pub source: S,
+    pub sink: W,
+    pub journal: KitJournal,
+}
+
+// No memory was found before anything was done.
+fn unserved<K: Remote + Drop, S: Source, W: Sink>(
+    alloc: Global,
+    remotes: Vec<K>,
+    source: S,
+    sink: W,
+) -> AsyncEnd<K, S, W>
+    requires open { (S.is_open source ≡ true) × (W.is_open sink ≡ true) }
+    ensures serves { (setup : Setup) → Serves setup
+        (record { given = S.given source; left = S.left source; taken = W.taken sink; calls = map K.calls remotes.items })
+        (record { given = S.given result.source; left = S.left result.source; taken = W.taken result.sink; calls = map K.calls result.remotes.items }) result.journal }
+    ensures status { result.status ≡ status_of result.journal.why }
+    ensures causes { HasCauses result.journal.why (S.faults source) (S.faults result.source) (W.faults sink) (W.faults result.sink) }
+    ensures kept { (result.remotes ≡ remotes) × (result.source ≡ source) × (result.sink ≡ sink) }
+{
+    AsyncEnd {
+        status: Why::Memory.status(),
+        remotes,
+        source,
+        sink,
+        journal: KitJournal::empty(alloc, Why::Memory),
+    }
+}
+
+// Why a kit stopped: a failed write counts before all, and then the kit has to be finished; where it isn't, memory was wanting.
+fn why_stopped(ends: RoleEnds, core: &KitCore) -> Why
+    ensures { result ≡ why_stopped core.now.setup core.now.journal ends.read ends.wrote }
+{
+    if matches!(ends.wrote, Some(RoleWhy::WriteFault)) {
+        return Why::WriteFault;
+    }
+    if !core.is_finished() {
+        return Why::Memory;
+    }
+    if core.is_over() {
+        return if core.lacks() { Why::Memory } else { Why::Bad };
+    }
+    match ends.read {
+        Some(RoleWhy::Eof) => Why::Eof,
+        Some(RoleWhy::ReadFault) => Why::ReadFault,
+        Some(RoleWhy::Long) => Why::Bad,
+        _ => Why::Memory,
+    }
+}
+
+// The hall of the kit's core, and its passes.
+fn begin<K: Remote>(
+    alloc: Global,
+    remotes: &[K],
+) -> Result<(Hall<KitCore>, Vec<Pass<KitCore>>), NoMemory>
+    requires { (0 < length remotes.now) × (length remotes.now ≤ 64) }
+    ensures hall { IfOk result (λ h. (h.0.start ≡ Say 0 (codes "VERSION 1") ∷ []) × (h.0.fixed ≡ setup_of K.settings remotes.now)) }
+    ensures seats { IfOk result (λ h. (length h.1.items ≡ h.0.seats) × (length h.1.items ≡ 2 + length remotes.now)) }
+    ensures fresh { IfOk result (λ h. AreFresh h.0 1 h.1.items) }
+{
+    let seats = remotes.len() as u32;
+    let setup = Setup::of(alloc, &remotes[0], seats)?;
+    let core = KitCore::new(alloc, setup)?;
+    match Hall::begin(alloc, core, seats + 2) {
+        Ok(begun) => Ok(begun),
+        Err(_) => Err(NoMemory),
+    }
+}
+
+// The end of a kit whose roles have come back.
+fn end<K: Remote + Drop, S: Source, W: Sink>(
+    hall: Hall<KitCore>,
+    kit: Kit<K, S, W>,
+    ends: RoleEnds,
+) -> AsyncEnd<K, S, W>
+    requires own { All (IsPassOf hall) kit.passes.items }
+    requires all { length kit.passes.items ≡ hall.seats }
+    ensures kept { (result.remotes ≡ kit.remotes) × (result.source ≡ kit.source) × (result.sink ≡ kit.sink) }
+    ensures closed { HasClosed IsMadeBy MayStep hall kit.passes.items result.journal.entries hall.fixed }
+    ensures why { result.journal.why ≡ why_stopped hall.fixed result.journal.entries ends.read ends.wrote }
+    ensures status { result.status ≡ status_of result.journal.why }
+{
+    let Kit {
+        passes,
+        remotes,
+        source,
+        sink,
+    } = kit;
+    let core = hall.close(passes);
+    let why = why_stopped(ends, &core);
+    let (_, log) = core.close();
+    AsyncEnd {
+        status: why.status(),
+        remotes,
+        source,
+        sink,
+        journal: KitJournal::new(log, why),
+    }
+}
+
+/// The same as [`serve_async`], with no more threads than `most` tried: where not all of them can be started, the calling thread does
+/// all.
+pub fn serve_async_some<
+    K: Remote + Send + Drop,
+    S: Source + Send + Drop,
+    W: Sink + Send + Drop,
+    R: Threads + Wait + Sync,
+>(rt: &R, alloc: Global, most: usize, remotes: Vec<K>, source: S, sink: W) -> AsyncEnd<K, S, W>
+    requires remotes { (0 < vec_len remotes) × (vec_len remotes ≤ 64) }
+    requires open { (S.is_open source ≡ true) × (W.is_open sink ≡ true) }
+    ensures serves { Serves (setup_of K.settings remotes.items)
+        (record { given = S.given source; left = S.left source; taken = W.taken sink; calls = map K.calls remotes.items })
+        (record { given = S.given result.source; left = S.left result.source; taken = W.taken result.sink; calls = map K.calls result.remotes.items }) result.journal }
+    ensures status { result.status ≡ status_of result.journal.why }
+    ensures causes { HasCauses result.journal.why (S.faults source) (S.faults result.source) (W.faults sink) (W.faults result.sink) }
+    ensures open { (S.is_open result.source ≡ true) × (W.is_open result.sink ≡ true) }
+    ensures settings { map K.settings result.remotes.items ≡ map K.settings remotes.items }
+{
+    let Ok((hall, passes)) = begin(alloc, &remotes) else {
+        return unserved(alloc, remotes, source, sink);
+    };
+    let site = Site {
+        rt,
+        alloc,
+        hall: &hall,
+    };
+    let kit = Kit {
+        passes,
+        remotes,
+        source,
+        sink,
+    };
+    let (kit, ends) = play(&site, most, kit);
+    end(hall, kit, ends)
+}
+
+/// Serves the remotes, 1 to 64, to the host behind the source and the sink until one of them ends it, and hands all back.
+///
+/// Where the host names ASYNC, its lines are tagged, and each remote works on one request at a time in a thread of its own.
+/// Requests on one key wait for each other. All remotes get ready with the values of the first one's settings.
+pub fn serve_async<
+    K: Remote + Send + Drop,
+    S: Source + Send + Drop,
+    W: Sink + Send + Drop,
+    R: Threads + Wait + Sync,
+>(rt: &R, alloc: Global, remotes: Vec<K>, source: S, sink: W) -> AsyncEnd<K, S, W>
+    requires remotes { (0 < vec_len remotes) × (vec_len remotes ≤ 64) }
+    requires open { (S.is_open source ≡ true) × (W.is_open sink ≡ true) }
+    ensures serves { Serves (setup_of K.settings remotes.items)
+        (record { given = S.given source; left = S.left source; taken = W.taken sink; calls = map K.calls remotes.items })
+        (record { given = S.given result.source; left = S.left result.source; taken = W.taken result.sink; calls = map K.calls result.remotes.items }) result.journal }
+    ensures status { result.status ≡ status_of result.journal.why }
+    ensures causes { HasCauses result.journal.why (S.faults source) (S.faults result.source) (W.faults sink) (W.faults result.sink) }
+    ensures open { (S.is_open result.source ≡ true) × (W.is_open result.sink ≡ true) }
+    ensures settings { map K.settings result.remotes.items ≡ map K.settings remotes.items }
+{
+    serve_async_some(rt, alloc, usize::MAX, remotes, source, sink)
+}
