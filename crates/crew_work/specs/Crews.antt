@@ -15,7 +15,7 @@ use Rattle.journal_model.specs.Shares.{Moved, is_of_child}
 use Rattle.host_core.specs.declared.event.Reply.{Reply}
 use Rattle.host_core.specs.declared.event.Reply.TheVariants.{Task as TaskReply, Wait as WaitReply}
 use Rattle.host_core.specs.Steps.{are_all_claimed, is_gone, unclaimed}
-use Rattle.link_roles.specs.Doors.{Passed}
+use Rattle.link_roles.specs.Doors.{Passed, Waits}
 use Rattle.link_roles.specs.declared.ear.Turn.{Turn}
 use Rattle.link_roles.specs.declared.ear.Turn.TheVariants.{Again, Rest, Over as Ended}
 use Rattle.lone_work.specs.AtTasks.{AtTask}
@@ -65,14 +65,14 @@ MayHaveMore o past c = (are_all_claimed o past ≡ false) × (is_gone past c ≡
 -- After entries of others a task was claimed; or nothing was done, and there is nothing to do for now, or nothing more.
 abbrev pub HasClaimed : Opening → ℕ → Bool → ℕ → List Entry → List Entry → Claimed → Type 0
 HasClaimed o number alone c old new (Task t) = (b : CrewBegun o number c t new) × Passed number alone old b.past
-HasClaimed o number alone c old new Wait = Passed number alone old new × MayHaveMore o new c
+HasClaimed o number alone c old new Wait = Passed number alone old new × MayHaveMore o new c × Waits o number new
 HasClaimed o number alone c old new Over = Passed number alone old new × IsThrough o new c
 
 -- What a turn came to: a task was claimed, so that fewer are left; or there may be more once others go on; or there is nothing more.
-abbrev pub GoesOn : Opening → List Entry → List Entry → ℕ → Turn → Type 0
-GoesOn o old new c Again = length (unclaimed o new) < length (unclaimed o old)
-GoesOn o old new c Rest = MayHaveMore o new c
-GoesOn o old new c Ended = IsThrough o new c
+abbrev pub GoesOn : Opening → ℕ → List Entry → List Entry → ℕ → Turn → Type 0
+GoesOn o number old new c Again = length (unclaimed o new) < length (unclaimed o old)
+GoesOn o number old new c Rest = MayHaveMore o new c × Waits o number new
+GoesOn o number old new c Ended = IsThrough o new c
 
 -- ---- what a worker makes
 

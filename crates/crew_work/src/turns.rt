@@ -31,7 +31,7 @@ fn turn<W: Way, D: Door, K: Desk>(
     requires can { CanServe (D.opening door.old) (W.serves way.old) (D.seen door.old) }
     ensures worked { Worked (D.opening door.old) setup.now (W.owns way.old) (D.number door.old) (D.alone door.old) (W.serves way.old) (D.seen door.old) (D.seen door.new) (W.wired way.old (D.seen door.old)) (W.wired way.new (D.seen door.new)) (desk_tells (K.log desk.old) (K.counts desk.old)) (desk_tells (K.log desk.new) (K.counts desk.new)) }
     ensures can { CanServe (D.opening door.new) (W.serves way.new) (D.seen door.new) }
-    ensures on { GoesOn (D.opening door.old) (D.seen door.old) (D.seen door.new) (W.serves way.old) result }
+    ensures on { GoesOn (D.opening door.old) (D.number door.old) (D.seen door.old) (D.seen door.new) (W.serves way.old) result }
     ensures way { (W.serves way.new ≡ W.serves way.old) × (W.owns way.new ≡ W.owns way.old) × W.same way.old way.new }
     ensures door { IsSameDoor D.opening D.number D.seen D.alone D.loans D.home door.old door.new }
 {

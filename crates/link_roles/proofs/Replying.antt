@@ -23,7 +23,7 @@ use Rattle.host_core.specs.declared.event.Reply.TheVariants.{Done, Over, Job, Re
 use Rattle.host_core.specs.Steps.{Step, step_of, told, shut_for, only, odd, gone, is_gone, is_asked, is_awaited, is_idle, listening, resting, next_job, next_line, settled_so, group_of, may_request, may_end}
 use Rattle.link_roles.specs.Replies.{gone_why, is_done, settled_as, listening_of, fetched_of, asked_of}
 use Rattle.link_roles.specs.Events.{IsListening, IsFetched, IsAsked, Says, can_end}
-use Rattle.link_roles.specs.Doors.{Passed, Made, Appended, Ends, Sends, Mutes, Takes}
+use Rattle.link_roles.specs.Doors.{Passed, Made, Appended, Ends, Sends, Mutes, Takes, Waits}
 use Rattle.link_roles.proofs.Roles.{any_on, asked_on, or_true}
 
 -- ---- events that append nothing
@@ -74,6 +74,19 @@ fetch_none o n c past = go (is_started past c) (is_gone past c)
     go false b = refl
     go true true = refl
     go true false = refl
+
+-- ---- what there is to wait for
+
+-- of the same door
+pub waits_as : {o p : Opening} {n m : ℕ} {journal : List Entry} → p ≡ o → m ≡ n → Waits o n journal → Waits p m journal
+waits_as {o} {p} {n} {m} {journal} eo en w = subst (λ (q : Opening). Waits q m journal) (sym eo) (subst (λ (k : ℕ). Waits o k journal) (sym en) w)
+
+pub said_waits : {o : Opening} {n : ℕ} {journal : List Entry} (event : Event) → Says o n journal event Wait → Waits o n journal
+said_waits event says = (event, says.0, says.1)
+
+-- a job that was asked and isn't settled
+pub unsettled_waits : (o : Opening) (n c j : ℕ) (journal : List Entry) → is_asked journal c j ≡ true → verdict_of journal c j ≡ None → Waits o n journal
+unsettled_waits o n c j journal asked none = (Lookup c j, false, rw (asked, none) refl)
 
 pub started_then : {n : ℕ} {a : Bool} {old new : List Entry} (c : ℕ) → Passed n a old new → is_started old c ≡ true → is_started new c ≡ true
 started_then {old = old} {new = new} c s h = any_on (starts c) old s.others new s.is h

@@ -11,6 +11,7 @@ use Rattle.journal_model.specs.Legality.{Legal}
 use Rattle.journal_model.specs.Journal.{is_ended, is_mute, unsent}
 use Rattle.host_core.specs.declared.event.Event.{Event}
 use Rattle.host_core.specs.declared.event.Reply.{Reply}
+use Rattle.host_core.specs.declared.event.Reply.TheVariants.{Wait}
 use Rattle.host_core.specs.Steps.{step_of, group_of, told}
 use Rattle.journal_model.specs.Shares.{are_others}
 
@@ -42,6 +43,10 @@ pub record Appended (o : Opening) (number : ℕ) (alone : Bool) (old new : List 
   pub legal : Legal o old → Legal o past
   pub found : Found past
   pub is : new ≡ past ++ group_of o past number w
+
+-- some event is answered by Wait where this is the journal, by a core that is shut or not: there is something to wait for
+abbrev pub Waits : Opening → ℕ → List Entry → Type 0
+Waits o number journal = (event : Event) × (shut : Bool) × (Wait ≡ told journal shut event (step_of o journal number event).reply)
 
 -- the child was ended so, or it had ended before
 abbrev pub Ends : Opening → ℕ → Bool → List Entry → List Entry → ℕ → Why → Type 0

@@ -4,7 +4,7 @@ ghost use Rattle.journal_model.specs.declared.opening.Opening.{Opening};
 ghost use Rattle.journal_model.specs.Legality.{Legal, may_stop};
 ghost use Rattle.journal_model.specs.declared.verdict.Why.TheVariants.{Closed};
 ghost use Rattle.link_roles.specs.Alone.{Closes};
-ghost use Rattle.link_roles.specs.Doors.{Stepped, IsSameDoor};
+ghost use Rattle.link_roles.specs.Doors.{Stepped, Waits, IsSameDoor};
 ghost use Rattle.host_core.specs.Steps.{takes_no_memory};
 
 use ann_key::NoMemory;
@@ -43,8 +43,9 @@ pub trait Door {
         ensures loans { loans self.new ≡ loans self.old }
         ensures home { home self.new ≡ home self.old };
 
-    /// Waits until the journal may have grown, or returns sooner.
+    /// Waits until the journal may have grown, or returns sooner. Whoever has nothing to wait for would wait for ever.
     fn rest(&mut self)
+        requires waits { Waits (opening self.old) (number self.old) (seen self.old) }
         ensures seen { seen self.new ≡ seen self.old }
         ensures opening { opening self.new ≡ opening self.old }
         ensures number { number self.new ≡ number self.old }

@@ -54,7 +54,7 @@ returns-in-Wait-clause-can g c =
     can_as d.opening refl (can_on (g.D.Door.seen c.args.door.now) s.others s.is (legal_as d.opening (d.legal c.requires.can.legal)) c.requires.can)
 
 pub returns-in-Wait-clause-on : goal.returns-in-Wait-clause-on
-returns-in-Wait-clause-on g c = more_as (g.D.Door.opening c.args.door.now) (g.D.Door.seen c.claim.new.door) c.child-child.ensures c.in-Wait.ensures.claims.1
+returns-in-Wait-clause-on g c = (more_as (g.D.Door.opening c.args.door.now) (g.D.Door.seen c.claim.new.door) c.child-child.ensures c.in-Wait.ensures.claims.1, c.in-Wait.ensures.claims.2)
 
 pub returns-in-Over-clause-worked : goal.returns-in-Over-clause-worked
 returns-in-Over-clause-worked g c =

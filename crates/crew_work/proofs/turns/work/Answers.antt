@@ -1,4 +1,5 @@
 use Rattle.std.proofs.Common.{◌∙◌, refl}
+use Rattle.link_roles.proofs.Replying.{waits_as}
 use Rattle.link_roles.proofs.Roles.{rested, same_both}
 use Rattle.lone_work.specs.Works.{desk_tells}
 use Rattle.crew_work.proofs.Working.{can_seen, passed_none, through_as, worked_seen, worked_still, worked_then}
@@ -32,6 +33,9 @@ loop-preserved-in-Again g c =
       way = (c.in-Again.ensures.way.0 ∙ i.way.0, c.in-Again.ensures.way.1 ∙ i.way.1, g.met.W.Way.both c.args.way.now c.loop.way c.turn.new.way i.way.2 c.in-Again.ensures.way.2);
       door = same_both i.door c.in-Again.ensures.door;
     }
+
+pub rest-requires : goal.rest-requires
+rest-requires g c = waits_as c.in-Rest.ensures.door.opening c.in-Rest.ensures.door.number c.in-Rest.ensures.on.1
 
 pub loop-preserved : goal.loop-preserved
 loop-preserved g c =

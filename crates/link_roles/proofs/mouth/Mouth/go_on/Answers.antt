@@ -1,10 +1,15 @@
-use Rattle.std.proofs.Common.{sym, subst, List}
+use Rattle.std.proofs.Common.{refl, sym, subst, List}
+use Rattle.host_core.specs.declared.event.Event.TheVariants.{Fetch}
+use Rattle.link_roles.proofs.Replying.{said_waits, waits_as}
 use Rattle.link_roles.proofs.Roles.{rested}
 use Rattle.journal_model.specs.Shares.{by_mouth, is_said}
 use Rattle.journal_model.specs.declared.entry.Entry.{Entry}
 use Rattle.journal_model.specs.Shares.{Moved}
 use Rattle.journal_model.specs.Halves.{MouthWired}
 use Rattle.link_roles.proofs.mouth.Mouth.go_on.Goals as goal
+
+pub rest-requires : goal.rest-requires
+rest-requires g c = waits_as c.turn.ensures.door.opening c.turn.ensures.door.number (said_waits (Fetch c.args.self.now.child) (c.in-Rest.ensures.rest refl))
 
 pub returns-in-Rest-clause-moved : goal.returns-in-Rest-clause-moved
 returns-in-Rest-clause-moved g c = subst (λ (j : List Entry). Moved (g.D.Door.number c.args.door.now) (g.D.Door.alone c.args.door.now) (by_mouth c.args.self.now.child) (is_said c.args.self.now.child) (g.D.Door.seen c.args.door.now) j (MouthWired (g.D.Door.seen c.args.door.now) c.args.self.now) (MouthWired j c.turn.new.self)) (sym c.rest.ensures.seen) c.turn.ensures.moved
