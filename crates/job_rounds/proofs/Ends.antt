@@ -13,6 +13,7 @@ use Rattle.journal_model.specs.Shares.{is_of_child}
 use Rattle.journal_model.proofs.Looks.{any-append, both, differ}
 use Rattle.journal_model.proofs.Testing.{or_left}
 use Rattle.journal_model.proofs.Turns.{tagged_on}
+use Rattle.link_roles.specs.Alone.{Closes}
 use Rattle.link_roles.proofs.Roles.{all_right}
 use Rattle.link_roles.proofs.Writings.{written_apart}
 use Rattle.link_roles.specs.Writings.{is_written_first}
@@ -21,6 +22,7 @@ use Rattle.gathering.specs.Rounds.{IsAtRest, IsWired, LinkValue}
 use Rattle.crew_rounds.specs.Crewing.{DesksDid as CrewDesks}
 use Rattle.crew_rounds.specs.TaggedRounds.{TaggedLeaves}
 use Rattle.child_end.specs.Wires.{IsHeld, is_mains}
+use Rattle.child_end.proofs.Held.{lone_held}
 use Rattle.task_run.specs.declared.setup.Setup.{Setup}
 use Rattle.lone_work.specs.Works.{DeskTells, TaskDone}
 use Rattle.lone_rounds.proofs.Stinting.{may_close}
@@ -126,3 +128,20 @@ crew_as_many entries first (done ∷ dones) (d ∷ ds) (e ∷ es) h = ap (λ (n 
 pub round_as_many : (o : Opening) (setup : Setup) (m : ℕ) (start final : List Entry) (l : LinkValue) (desks desks' : List DeskTells)
     → GoesOn start final (λ rest. TaggedLeaves o setup (range_with_len 1 m) start rest l desks desks') → length desks ≡ length desks'
 round_as_many o setup m start final l desks desks' goes = crew_as_many goes.0 4 goes.2.dones desks desks' goes.2.desks_did
+
+-- ---- where no memory was found for a round
+
+-- the child may be closed
+pub starved_may : {o : Opening} {old mid : List Entry} {ear ear' : EarValue} {mouth : MouthValue} {tagged : Bool} → CanBeServed o old ear mouth tagged → mid ≡ old → ear' ≡ ear
+    → (is_started mid ear'.child ≡ true) × (may_stop mid ear'.child Closed ≡ true)
+starved_may {o} {old} {mid} {ear} {ear'} can ej ee =
+    subst (λ (j : List Entry). (is_started j ear'.child ≡ true) × (may_stop j ear'.child Closed ≡ true)) (sym ej)
+    (subst (λ (e : EarValue). (is_started old e.child ≡ true) × (may_stop old e.child Closed ≡ true)) (sym ee) (can.can.started, may_close old ear.child can.can.idle can.can.rest))
+
+pub starved_held : {o : Opening} {old mid : List Entry} {ear ear' : EarValue} {mouth mouth' : MouthValue} {tagged : Bool} → CanBeServed o old ear mouth tagged → mid ≡ old → (ear' ≡ ear) × (mouth' ≡ mouth) → IsHeld mid ear' mouth'
+starved_held {o} {old} {mid} {ear} {ear'} {mouth} {mouth'} can ej el =
+    subst (λ (j : List Entry). IsHeld j ear' mouth') (sym ej)
+    (subst (λ (e : EarValue). IsHeld old e mouth') (sym el.0) (subst (λ (m : MouthValue). IsHeld old ear m) (sym el.1) (lone_held old ear mouth can.wired)))
+
+pub starved_closes : {old mid new : List Entry} {c d : ℕ} → mid ≡ old → d ≡ c → Closes 0 d mid new → Closes 0 c old new
+starved_closes {old} {mid} {new} {c} {d} ej ec h = subst (λ (k : ℕ). Closes 0 k old new) ec (subst (λ (j : List Entry). Closes 0 d j new) ej h)

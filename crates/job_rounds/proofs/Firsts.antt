@@ -1,26 +1,32 @@
 -- What came of a child of slot 0 that is ready, in the journal and of the objects.
-use Rattle.std.proofs.Common.{◌≡◌, ℕ, ◌≤◌, List, [], ◌∷◌, refl, sym, ap, subst, ◌∙◌, append-nil, Bool, true, false, arith, inl, inr, Ok, Result}
-use Rattle.std.specs.Prelude.{◌&&◌, IsErr}
+use Rattle.std.proofs.Common.{◌≡◌, ◌⊎◌, ℕ, ◌≤◌, List, [], ◌∷◌, refl, sym, ap, subst, ◌∙◌, append-nil, length, Bool, true, false, arith, inl, inr, Ok, Err, Result}
+use Rattle.std.specs.Prelude.{◌&&◌, IsErr, MatchResult, is_ok}
+use Rattle.std.proofs.lemmas.List.Elements.{All-cons, All-nil}
+use Rattle.ann_key.specs.declared.bytes.NoMemory.{NoMemory}
 use Rattle.ann_outside.specs.Causes.{AddsOne, Stays}
 use Rattle.journal_model.specs.declared.entry.What.TheVariants.{Start}
 use Rattle.journal_model.specs.declared.entry.Entry.{Entry}
 use Rattle.journal_model.specs.declared.opening.Opening.{Opening}
 use Rattle.journal_model.specs.Halves.{EarValue, MouthValue, IsSameEar, IsSameMouth}
 use Rattle.journal_model.specs.Journal.{any, is_tagged}
-use Rattle.journal_model.specs.Legality.{Legal}
+use Rattle.journal_model.specs.Legality.{Legal, count, is_start}
+use Rattle.link_roles.specs.Alone.{Closes}
 use Rattle.host_core.specs.Steps.{are_all_claimed}
 use Rattle.child_start.specs.Greetings.{AreNumbered, Greeted, IsReady}
 use Rattle.child_end.specs.Programs.{AddsAll, ProgramsValue, told}
 use Rattle.child_end.specs.Wires.{IsHeld, IsLaid, IsLeft, WireValue}
+use Rattle.gathering.specs.Rounds.{LinkValue}
 use Rattle.task_run.specs.declared.setup.Setup.{Setup}
 use Rattle.lone_work.specs.Works.{DeskTells}
 use Rattle.lone_rounds.specs.Starting.{is_any_start}
 use Rattle.lone_rounds.specs.Stints.{ear_of, main_entry, mouth_of}
 use Rattle.lone_rounds.proofs.Leaving.{rose_still, stays_none}
-use Rattle.job_rounds.specs.Pools.{IsLinkLeft, LeavesPool}
-use Rattle.job_rounds.specs.Servings.{FirstServed}
+use Rattle.pool_starts.specs.Pools.{IsUngathered, Serves as Seat}
+use Rattle.job_rounds.specs.Pools.{IsLinkLeft, LeavesPool, PoolServed}
+use Rattle.job_rounds.specs.Servings.{CanBeServed, FirstServed, Serves, Starved}
 use Rattle.job_rounds.specs.Starts.{RunLacksMemory, OneJobStart, StartsAll}
-use Rattle.job_rounds.proofs.PoolStretch.{Asked, all_told, asked_so, its_objects, none_started, pool_start}
+use Rattle.job_rounds.proofs.PoolEnding.{closes_alone, laid_alone, roomless_pool, starved_ends}
+use Rattle.job_rounds.proofs.PoolStretch.{Asked, all_told, asked_so, its_objects, none_started, pool_next, pool_start, stays_so, untagged_start}
 use Rattle.job_rounds.proofs.Rounding.{served_start}
 
 -- ---- the wire of one child
@@ -54,6 +60,28 @@ lone_leaves W program journal before after e ear m mouth wires wires' stays le s
   later_faults = le;
 }
 
+-- a round over it, or one worker, did tasks, or found no memory
+pub first_by : {o : Opening} {setup : Setup} {limit : ℕ} {program : List ℕ} {old new : List Entry} {desks desks' : List DeskTells} {ear ear' : EarValue} {mouth mouth' : MouthValue} {before after : ProgramsValue} {wires wires' : List WireValue} {tagged : Bool}
+    → (r : Result (Unit {0}) NoMemory) → MatchResult r (λ _. Serves o setup ear.child old new desks desks') (λ _. Starved old new ear ear' mouth mouth' desks desks')
+    → (length desks ≡ 1) ⊎ (is_tagged old ear.child ≡ true) → CanBeServed o old ear mouth tagged → Legal o new → ear.child ≡ count is_start old → ((W : Type 0) → LeavesPool W program new [] ear mouth before after wires wires')
+    → mouth'.child ≡ ear'.child → IsLaid ear' mouth' wires wires' → Stays before.starts after.starts → before.faults ≤ after.faults
+    → FirstServed (IsErr r) o setup limit program old new desks desks' (is_ok r) ear mouth before after wires wires'
+first_by (Ok u) s few can legal its leaves one laid stays le = inl (s, few, leaves (false ≡ true))
+first_by {o} {setup} {limit} {program} {old} {new} {desks} {desks'} {ear} {ear'} {mouth} {mouth'} {before} {after} {wires} {wires'} (Err e) s few can legal its leaves one laid stays le =
+    let first : LinkValue = record { ear = ear; mouth = mouth } in
+    let link : LinkValue = record { ear = ear'; mouth = mouth' } in
+    let same : link ≡ first = ap (λ (x : EarValue). record { ear = x; mouth = mouth' }) s.link.0 ∙ ap (λ (x : MouthValue). record { ear = ear; mouth = x }) s.link.1 in
+    let alone : IsUngathered old old first link before before = record { journal = refl; link_is = same; starts = stays_so before.starts; later_faults = omega arith } in
+    inr (
+      s.many,
+      inr refl,
+      subst (λ (ds : List DeskTells). PoolServed (true ≡ true) o setup limit program old new desks ds false ear mouth before after wires wires') (sym s.desks_are)
+          (starved_ends o setup limit (length desks) program old old new first before before after (Seat ∷ []) (link ∷ []) desks wires wires' refl (λ w. absurd w)
+          (roomless_pool o (length desks) program old old first link before before can alone) can its
+          (closes_alone link old new (subst (λ (x : EarValue). Closes 0 x.child old new) (sym s.link.0) s.closes)) legal
+          (All-cons (λ (l : LinkValue). l.mouth.child ≡ l.ear.child) link [] one (All-nil (λ (l : LinkValue). l.mouth.child ≡ l.ear.child))) (laid_alone link wires wires' laid) stays le),
+    )
+
 -- ---- what came of it
 
 module _ (o : Opening) (setup : Setup) (limit : ℕ) (offer tagged : Bool) (old g new : List Entry) (desks desks' : List DeskTells) (W : Type 0) (program : List ℕ) (ear : EarValue) (mouth : MouthValue) (before mid last : ProgramsValue) (wires wires' : List WireValue)
@@ -67,12 +95,17 @@ module _ (o : Opening) (setup : Setup) (limit : ℕ) (offer tagged : Bool) (old 
   untagged : is_tagged g ear.child ≡ false → (offer && false) ≡ (offer && tagged)
   untagged h = ap (λ (b : Bool). offer && b) (sym (tag ∙ h))
 
+  -- a pool that was whole is one after a child that takes no tags
+  plain_of : (is_tagged g ear.child ≡ false) ⊎ (true ≡ false) → is_tagged g ear.child ≡ false
+  plain_of (inl plain) = plain
+  plain_of (inr bad) = absurd bad
+
   made : (W → ⊥) → FirstServed W o setup limit program g new desks desks' true ear mouth mid last wires wires' → OneJobStart o setup limit offer (offer && tagged) true program old new desks desks' before last wires wires'
   made none (inl (serves, few, l)) = served_start o setup limit offer tagged old g new ear.child desks desks' true legal left greeted legal' ready tag
       serves few
       (lone_objects last l (all_told W program [] mid last none l.started) refl)
-  made none (inr (many, plain, (s, l))) = subst (λ (next : Bool). OneJobStart o setup limit offer next true program old new desks desks' before last wires wires') (untagged plain)
-      (pool_start o setup limit offer old g new ear.child desks desks' true greeted legal' ready plain many left s
+  made none (inr (many, plain, (s, l))) = subst (λ (next : Bool). OneJobStart o setup limit offer next true program old new desks desks' before last wires wires') (untagged (plain_of plain))
+      (untagged_start o setup limit offer old g new ear.child desks desks' true greeted legal' ready many left s (plain_of plain)
       (its_objects program new greeted.more s.later ear.child offer before mid ear mouth adds le numbered refl (none_started o old g offer ear.child greeted) W last last wires wires' l (all_told W program s.later mid last none l.started) refl))
 
   pub first_ok : (whole : Bool) → whole ≡ true → (W → ⊥) → FirstServed W o setup limit program g new desks desks' whole ear mouth mid last wires wires'
@@ -93,9 +126,9 @@ module _ (o : Opening) (setup : Setup) (limit : ℕ) (offer tagged : Bool) (old 
   lacking (inr (many, plain, (s, l))) =
       let a : Asked program s.later mid last = asked_so W program s.later mid last l.started in
       inr (
-        offer && false,
+        pool_next o setup limit offer old g new ear.child desks desks' false greeted legal' ready many left s,
         a.mid,
-        pool_start o setup limit offer old g new ear.child desks desks' false greeted legal' ready plain many left s
+        pool_start o setup limit offer old g new ear.child desks desks' false greeted legal' ready many left s
             (its_objects program new greeted.more s.later ear.child offer before mid ear mouth adds le numbered refl (none_started o old g offer ear.child greeted) W last a.mid wires wires' l a.adds a.faults),
         a.asked,
       )

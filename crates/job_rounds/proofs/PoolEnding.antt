@@ -1,6 +1,7 @@
 -- What a pool comes to, by what came of gathering it.
-use Rattle.std.proofs.Common.{◌≡◌, ◌⊎◌, ℕ, ◌+◌, ◌≤◌, List, [], ◌∷◌, refl, sym, ap, subst, ◌∙◌, append-nil, length, Bool, true, false, arith, inl, inr}
-use Rattle.std.specs.Prelude.{All}
+use Rattle.std.proofs.Common.{◌≡◌, ◌⊎◌, ℕ, ◌+◌, ◌≤◌, List, [], ◌∷◌, refl, sym, ap, subst, ◌∙◌, append-nil, length, Bool, true, false, arith, inl, inr, Ok, Err, Result}
+use Rattle.std.specs.Prelude.{All, IfOk, IsErr, MatchResult, is_ok}
+use Rattle.ann_key.specs.declared.bytes.NoMemory.{NoMemory}
 use Rattle.std.proofs.lemmas.List.Elements.{All-cons, All-head, All-nil, All-tail, All-weaker}
 use Rattle.ann_outside.specs.Causes.{Stays}
 use Rattle.journal_model.specs.declared.entry.Entry.{Entry}
@@ -23,7 +24,7 @@ use Rattle.crew_rounds.specs.PoolChildren.{MayServe}
 use Rattle.pool_rounds.specs.Pool.{AreSameLinks}
 use Rattle.pool_starts.specs.Pools.{IsPool, IsUngathered, SeatValue, Serves}
 use Rattle.job_rounds.specs.Pools.{PoolServed}
-use Rattle.job_rounds.specs.PoolSteps.{AreLaid, ClosesAll, RoundsPool, ServesFirst, ServesLinks, serving}
+use Rattle.job_rounds.specs.PoolSteps.{AreLaid, ClosesAll, RoundsPool, ServesFirst, ServesLinks, StarvedLinks, serving}
 use Rattle.job_rounds.specs.Servings.{CanBeServed}
 use Rattle.job_rounds.proofs.PoolClosings.{closes_held}
 use Rattle.job_rounds.proofs.PoolLinks.{link_same}
@@ -40,21 +41,12 @@ pool_serving {wanted} {whole} {o} {jobs} {program} {old} {g} {first} {before} p 
     ∙ sym (ap (λ (ls : List LinkValue). length ls) p.links_are)
 
 module _ {wanted : Type 0} (o : Opening) (setup : Setup) (limit : ℕ) (program : List ℕ) (old g new : List Entry) (first : LinkValue) (before told after : ProgramsValue) (seats : List SeatValue) (links links' : List LinkValue) (desks desks' : List DeskTells) (whole : Bool)
-    (wires wires' : List WireValue) (p : IsPool wanted whole o (length desks) program old g first before told seats links) (can : CanBeServed o old first.ear first.mouth false) (its : first.ear.child ≡ count is_start old) where
+    (wires wires' : List WireValue) (p : IsPool wanted whole o (length desks) program old g first before told seats links) (legal : Legal o old) (its : first.ear.child ≡ count is_start old) where
   abbrev c : ℕ
   c = first.ear.child
 
-  legal : Legal o old
-  legal = can.can.legal
-
   legal_g : Legal o g
   legal_g = (All-head (MayServe o g) first p.more p.gathered.can.each).serves.legal
-
-  low : All (λ (l : LinkValue). c ≤ l.ear.child) (first ∷ p.more)
-  low = pool_low o setup limit old g g g first p.more desks desks whole before.starts p.others its legal p.gathered p.by.seated
-
-  untagged : All (λ (l : LinkValue). is_tagged g l.ear.child ≡ false) (first ∷ p.more)
-  untagged = pool_untagged o setup limit old g g g first p.more desks desks whole before.starts p.others its legal p.gathered p.by.seated can.can.prepared (sym can.tag)
 
   module _ (mid : List Entry) (m : Middle o setup limit c (first ∷ p.more) g mid desks desks' whole) (closed : ClosesAll (children_of links) mid new) (legal' : Legal o new) (same : AreSameLinks links links')
       (held : All (λ (l : LinkValue). IsHeld new l.ear l.mouth) links') (one : All (λ (l : LinkValue). l.mouth.child ≡ l.ear.child) links') (laid : AreLaid seats links' wires wires') (stays : Stays told.starts after.starts) (later : told.faults ≤ after.faults) where
@@ -82,7 +74,7 @@ pub whole_ends : {wanted wanted' : Type 0} (o : Opening) (setup : Setup) (limit 
     → ServesLinks o setup g new links links' desks desks' → Legal o new → AreSameLinks links links' → All (λ (l : LinkValue). IsHeld new l.ear l.mouth) links' → All (λ (l : LinkValue). l.mouth.child ≡ l.ear.child) links'
     → AreLaid seats links' wires wires' → Stays told.starts after.starts → told.faults ≤ after.faults → PoolServed wanted' o setup limit program old new desks desks' true first.ear first.mouth before after wires wires'
 whole_ends {wanted} {wanted'} o setup limit jobs program old g new first before told after seats links links' desks desks' wires wires' many f given can its s legal' same held one laid stays later =
-    pool_ends o setup limit program old g new first before told after seats links links' desks desks' true wires wires' p can its s'.mid (middle s'.done) closed legal' same held one laid stays later f
+    pool_ends o setup limit program old g new first before told after seats links links' desks desks' true wires wires' p can.can.legal its s'.mid (middle s'.done) closed legal' same held one laid stays later f
   where
     p : IsPool wanted true o (length desks) program old g first before told seats links
     p = subst (λ (n : ℕ). IsPool wanted true o n program old g first before told seats links) many given
@@ -108,12 +100,12 @@ whole_ends {wanted} {wanted'} o setup limit jobs program old g new first before 
 
 -- ---- no memory was found to start a child: all are closed
 
-pub starved_ends : {wanted wanted' : Type 0} (o : Opening) (setup : Setup) (limit jobs : ℕ) (program : List ℕ) (old g new : List Entry) (first : LinkValue) (before told after : ProgramsValue) (seats : List SeatValue) (links : List LinkValue) (desks : List DeskTells)
-    (wires wires' : List WireValue) → jobs ≡ length desks → (wanted → wanted') → IsPool wanted false o jobs program old g first before told seats links → CanBeServed o old first.ear first.mouth false → first.ear.child ≡ count is_start old
+pub starved_ends : {wanted wanted' : Type 0} {tagged : Bool} (o : Opening) (setup : Setup) (limit jobs : ℕ) (program : List ℕ) (old g new : List Entry) (first : LinkValue) (before told after : ProgramsValue) (seats : List SeatValue) (links : List LinkValue) (desks : List DeskTells)
+    (wires wires' : List WireValue) → jobs ≡ length desks → (wanted → wanted') → IsPool wanted false o jobs program old g first before told seats links → CanBeServed o old first.ear first.mouth tagged → first.ear.child ≡ count is_start old
     → ClosesAll (children_of links) g new → Legal o new → All (λ (l : LinkValue). l.mouth.child ≡ l.ear.child) links
     → AreLaid seats links wires wires' → Stays told.starts after.starts → told.faults ≤ after.faults → PoolServed wanted' o setup limit program old new desks desks false first.ear first.mouth before after wires wires'
-starved_ends {wanted} {wanted'} o setup limit jobs program old g new first before told after seats links desks wires wires' many f given can its closed legal' one laid stays later =
-    pool_ends o setup limit program old g new first before told after seats links links desks desks false wires wires' p can its g
+starved_ends {wanted} {wanted'} {tagged} o setup limit jobs program old g new first before told after seats links desks wires wires' many f given can its closed legal' one laid stays later =
+    pool_ends o setup limit program old g new first before told after seats links links desks desks false wires wires' p can.can.legal its g
     (middle_none o setup limit first.ear.child (first ∷ p.more) g desks (All-head (MayServe o g) first p.more p.gathered.can.each).serves.legal p.gathered.can.calm) closed legal' (link_same links) held one laid stays later f
   where
     p : IsPool wanted false o (length desks) program old g first before told seats links
@@ -132,10 +124,54 @@ starved_ends {wanted} {wanted'} o setup limit jobs program old g new first befor
     held : All (λ (l : LinkValue). IsHeld new l.ear l.mouth) links
     held = go links each one
 
+-- it may be one that wasn't whole
+pub some_pool : {wanted : Type 0} {o : Opening} {jobs : ℕ} {program : List ℕ} {old g : List Entry} {first : LinkValue} {before after : ProgramsValue} {seats : List SeatValue} {links : List LinkValue}
+    → IsPool wanted true o jobs program old g first before after seats links → IsPool wanted false o jobs program old g first before after seats links
+some_pool p = record {
+  more = p.more;
+  others = p.others;
+  links_are = p.links_are;
+  seats_are = p.seats_are;
+  gathered = record {
+    later = p.gathered.later;
+    is = p.gathered.is;
+    main = p.gathered.main;
+    within = p.gathered.within;
+    unclaimed_yet = p.gathered.unclaimed_yet;
+    untagged = p.gathered.untagged;
+    asks = p.gathered.asks;
+    lost = p.gathered.lost;
+    turn = p.gathered.turn;
+    ended = p.gathered.ended;
+    ready = p.gathered.ready;
+    can = p.gathered.can;
+    manned = λ w. absurd w;
+  };
+  by = p.by;
+}
+
+pub if_ok : {A E P Q : Type 0} (r : Result A E) → (P → Q) → IfOk r (λ _. P) → IfOk r (λ _. Q)
+if_ok (Ok a) f h = f h
+if_ok (Err e) f h = tt
+
+-- of a whole pool, which did tasks, or found no memory for its round
+pub links_end : {wanted : Type 0} (o : Opening) (setup : Setup) (limit jobs : ℕ) (program : List ℕ) (old g new : List Entry) (first : LinkValue) (before told after : ProgramsValue) (seats : List SeatValue) (links links' : List LinkValue) (desks desks' : List DeskTells)
+    (wires wires' : List WireValue) → jobs ≡ length desks → (r : Result (Unit {0}) NoMemory) → IsPool ⊥ true o jobs program old g first before told seats links → CanBeServed o old first.ear first.mouth false → first.ear.child ≡ count is_start old
+    → MatchResult r (λ _. ServesLinks o setup g new links links' desks desks') (λ _. StarvedLinks g new links links' desks desks') → Legal o new → AreSameLinks links links' → IfOk r (λ _. All (λ (l : LinkValue). IsHeld new l.ear l.mouth) links')
+    → All (λ (l : LinkValue). l.mouth.child ≡ l.ear.child) links' → AreLaid seats links' wires wires' → Stays told.starts after.starts → told.faults ≤ after.faults
+    → PoolServed (IsErr r) o setup limit program old new desks desks' (is_ok r) first.ear first.mouth before after wires wires'
+links_end o setup limit jobs program old g new first before told after seats links links' desks desks' wires wires' many (Ok u) given can its s legal' same held one laid stays later =
+    whole_ends o setup limit jobs program old g new first before told after seats links links' desks desks' wires wires' many (λ w. absurd w) given can its s legal' same held one laid stays later
+links_end o setup limit jobs program old g new first before told after seats links links' desks desks' wires wires' many (Err e) given can its s legal' same held one laid stays later =
+    subst (λ (ds : List DeskTells). PoolServed (true ≡ true) o setup limit program old new desks ds false first.ear first.mouth before after wires wires') (sym s.desks_are)
+    (starved_ends o setup limit jobs program old g new first before told after seats links desks wires wires' many (λ w. absurd w) (some_pool given) can its
+    (subst (λ (ls : List LinkValue). ClosesAll (children_of ls) g new) s.links_are s.closes) legal' (subst (λ (ls : List LinkValue). All (λ (l : LinkValue). l.mouth.child ≡ l.ear.child) ls) s.links_are one)
+    (subst (λ (ls : List LinkValue). AreLaid seats ls wires wires') s.links_are laid) stays later)
+
 -- where there was none for a pool, it is as if it had the child of slot 0 alone
-pub roomless_pool : (o : Opening) (jobs : ℕ) (program : List ℕ) (old g : List Entry) (first link : LinkValue) (before after : ProgramsValue) → CanBeServed o old first.ear first.mouth false → IsUngathered old g first link before after
+pub roomless_pool : {tagged : Bool} (o : Opening) (jobs : ℕ) (program : List ℕ) (old g : List Entry) (first link : LinkValue) (before after : ProgramsValue) → CanBeServed o old first.ear first.mouth tagged → IsUngathered old g first link before after
     → IsPool ⊥ false o jobs program old g first before after (Serves ∷ []) (link ∷ [])
-roomless_pool o jobs program old g first link before after can u = subst (λ (j : List Entry). IsPool ⊥ false o jobs program old j first before after (Serves ∷ []) (link ∷ [])) (sym u.journal) record {
+roomless_pool {tagged} o jobs program old g first link before after can u = subst (λ (j : List Entry). IsPool ⊥ false o jobs program old j first before after (Serves ∷ []) (link ∷ [])) (sym u.journal) record {
   more = [];
   others = [];
   links_are = ap (λ (l : LinkValue). l ∷ []) u.link_is;
@@ -152,7 +188,7 @@ roomless_pool o jobs program old g first link before after can u = subst (λ (j 
     turn = tt;
     ended = refl;
     ready = refl;
-    can = pool_can o old first false can;
+    can = pool_can o old first tagged can;
     manned = λ w. absurd cc;
   };
   by = record {
@@ -188,7 +224,7 @@ pub serving_back : {wanted : Type 0} {whole : Bool} {o : Opening} {jobs : ℕ} {
 serving_back {wanted} {whole} {o} {jobs} {program} {old} {g} {first} {before} {after} {seats} {links} links' p same = pool_serving p ∙ same_length links links' same
 
 -- the child of slot 0 may be closed, where nothing was done
-pub roomless_may : (o : Opening) (old g : List Entry) (first link : LinkValue) (before after : ProgramsValue) → CanBeServed o old first.ear first.mouth false → IsUngathered old g first link before after
+pub roomless_may : {tagged : Bool} (o : Opening) (old g : List Entry) (first link : LinkValue) (before after : ProgramsValue) → CanBeServed o old first.ear first.mouth tagged → IsUngathered old g first link before after
     → (is_started g link.ear.child ≡ true) × (may_stop g link.ear.child Closed ≡ true)
 roomless_may o old g first link before after can u =
     subst (λ (j : List Entry). (is_started j link.ear.child ≡ true) × (may_stop j link.ear.child Closed ≡ true)) (sym u.journal)

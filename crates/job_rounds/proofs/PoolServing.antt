@@ -160,6 +160,12 @@ module _ {L K : Type 0} (link : L → LinkValue) (tells : K → DeskTells) (o p 
   pub can_kept : PoolCan o old (map link ls) → PoolCan p mid (map link is)
   can_kept can = subst (λ (q : Opening). PoolCan q mid (map link is)) (sym eo) (subst (λ (j : List Entry). PoolCan o j (map link is)) (sym ej) (subst (λ (xs : List L). PoolCan o old (map link xs)) (sym el) can))
 
+  pub starved_started : PoolCan o old (map link ls) → All (λ (l : LinkValue). is_started mid l.ear.child ≡ true) (map link is)
+  starved_started can =
+      subst (λ (j : List Entry). All (λ (l : LinkValue). is_started j l.ear.child ≡ true) (map link is)) (sym ej)
+      (subst (λ (xs : List L). All (λ (l : LinkValue). is_started old l.ear.child ≡ true) (map link xs)) (sym el)
+      (All-weaker (MayServe o old) (λ (l : LinkValue). is_started old l.ear.child ≡ true) (λ l h. h.serves.started) (map link ls) can.each))
+
   pub serves_kept : (setup : Setup) (new : List Entry) (ms : List LinkValue) (desks' : List DeskTells) → ServesLinks p setup mid new (map link is) ms (map tells js) desks' → ServesLinks o setup old new (map link ls) ms (map tells ks) desks'
   serves_kept setup new ms desks' s =
       subst (λ (q : Opening). ServesLinks q setup old new (map link ls) ms (map tells ks) desks') eo

@@ -207,7 +207,7 @@ module _ (o : Opening) (old g : List Entry) (offer : Bool) (c : ℕ) (greeted : 
 -- ---- the stretch
 
 module _ (o : Opening) (setup : Setup) (limit : ℕ) (offer : Bool) (old g new : List Entry) (c : ℕ) (desks desks' : List DeskTells) (whole : Bool)
-    (greeted : Greeted old g 0 offer c) (legal' : Legal o g) (ready : IsReady g c) (tag : is_tagged g c ≡ false) (many : length desks ≡ 1 → ⊥) (left : are_all_claimed o old ≡ false) (s : ServesPool o setup limit c g new desks desks' whole) where
+    (greeted : Greeted old g 0 offer c) (legal' : Legal o g) (ready : IsReady g c) (many : length desks ≡ 1 → ⊥) (left : are_all_claimed o old ≡ false) (s : ServesPool o setup limit c g new desks desks' whole) where
   abbrev first : Entry
   first = main_entry (Start c 0 offer)
 
@@ -233,8 +233,8 @@ module _ (o : Opening) (setup : Setup) (limit : ℕ) (offer : Bool) (old g new :
   untagged_all = any-append offers_tags greeted.more s.later ∙ neither (any offers_tags greeted.more) (any offers_tags s.later)
       (any_narrower offers_tags is_any_start no_tags greeted.more (none_started o old g offer c greeted)) s.untagged
 
-  ready_new : is_ready_untagged new c ≡ true
-  ready_new = ap (λ (j : List Entry). is_ready_untagged j c) s.is ∙ ready_still o g s.later c legal' ready greeted.idle s.untagged ∙ ap not tag
+  ready_new : is_tagged g c ≡ false → is_ready_untagged new c ≡ true
+  ready_new tag = ap (λ (j : List Entry). is_ready_untagged j c) s.is ∙ ready_still o g s.later c legal' ready greeted.idle s.untagged ∙ ap not tag
 
   -- at each place of it no start is left for a task to take up
   pool_taken : (front rest : List Entry) → s.later ≡ front ++ rest → NoneUntaken (g ++ front)
@@ -259,10 +259,14 @@ module _ (o : Opening) (setup : Setup) (limit : ℕ) (offer : Bool) (old g new :
   spent (inl h) = inl (lost_spends old new pool_later c offer pool_whole (any_none (in_pool c) is_first_start (first_none c) pool_later within) (ap (λ (ds : List ℕ). list_any (is_lost new) (c ∷ ds)) its_children ∙ h))
   spent (inr h) = inr h
 
-  no_more : offer && false ≡ (offer && not (list_any (is_ready_untagged new) (c ∷ children pool_later)))
-  no_more = ap (λ (b : Bool). offer && not b) (sym (or_left (is_ready_untagged new c) (list_any (is_ready_untagged new) (children pool_later)) ready_new))
+  -- whether ASYNC is offered from then on
+  abbrev pub pool_next : Bool
+  pool_next = offer && not (list_any (is_ready_untagged new) (c ∷ children pool_later))
 
-  pub pool_stretch : JobStretch o setup limit offer (offer && false) (Start c 0 offer) old new desks desks' whole
+  no_more : is_tagged g c ≡ false → offer && false ≡ pool_next
+  no_more tag = ap (λ (b : Bool). offer && not b) (sym (or_left (is_ready_untagged new c) (list_any (is_ready_untagged new) (children pool_later)) (ready_new tag)))
+
+  pub pool_stretch : JobStretch o setup limit offer pool_next (Start c 0 offer) old new desks desks' whole
   pool_stretch = record {
     left = left;
     later = pool_later;
@@ -281,7 +285,7 @@ module _ (o : Opening) (setup : Setup) (limit : ℕ) (offer : Bool) (old g new :
     spent = λ w. spent (s.spent w);
     manned = s.manned;
     untaken = subst NoneUntaken (sym s.is) (pool_taken s.later [] (sym (append-nil s.later)));
-    offers = no_more;
+    offers = refl;
     placed = have_both (length desks) at_start greeted.more s.later (have_none (length desks) at_start greeted.more (greeting_takes_none old g offer c greeted))
         (subst (λ (p : List Entry). HaveDesks (length desks) p s.later) at_greeted s.placed);
     did = desks_join o setup limit new at_start greeted.more s.later 1 desks desks desks' (desks_nothing o setup limit new at_start greeted.more 1 desks (greeting_takes_none old g offer c greeted))
@@ -291,8 +295,14 @@ module _ (o : Opening) (setup : Setup) (limit : ℕ) (offer : Bool) (old g new :
   }
 
   pub pool_start : {program : List ℕ} {before after : ProgramsValue} {wires wires' : List WireValue} → StartsAll program new (first ∷ pool_later) before after wires wires'
-      → OneJobStart o setup limit offer (offer && false) whole program old new desks desks' before after wires wires'
+      → OneJobStart o setup limit offer pool_next whole program old new desks desks' before after wires wires'
   pool_start objects = job_start pool_later pool_whole objects pool_stretch
+
+  -- none is, after one that takes no tags
+  pub untagged_start : {program : List ℕ} {before after : ProgramsValue} {wires wires' : List WireValue} → is_tagged g c ≡ false → StartsAll program new (first ∷ pool_later) before after wires wires'
+      → OneJobStart o setup limit offer (offer && false) whole program old new desks desks' before after wires wires'
+  untagged_start {program} {before} {after} {wires} {wires'} tag objects =
+      subst (λ (next : Bool). OneJobStart o setup limit offer next whole program old new desks desks' before after wires wires') (sym (no_more tag)) (pool_start objects)
 
 -- ---- the objects
 
@@ -346,7 +356,7 @@ asked_after None (Some ys) more x h = absurd h
 asked_after (Some xs) None more x h = absurd h
 asked_after (Some xs) (Some ys) more x h = h ∙ sym (append_assoc xs more (x ∷ []))
 
-stays_so : (starts : Option Starts) → Stays starts starts
+pub stays_so : (starts : Option Starts) → Stays starts starts
 stays_so None = tt
 stays_so (Some xs) = refl
 

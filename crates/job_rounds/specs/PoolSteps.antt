@@ -42,6 +42,12 @@ pub record ServesLinks (o : Opening) (setup : Setup) (old new : List Entry) (lin
   pub done : RoundsPool o setup old mid links links' desks desks' ⊎ ServesFirst o setup links old mid desks desks'
   pub closes : ClosesAll (children_of links) mid new
 
+-- no memory was found for a round: no task was done, and the links' children were closed
+pub record StarvedLinks (old new : List Entry) (links links' : List LinkValue) (desks desks' : List DeskTells) : Type 0 where
+  pub links_are : links' ≡ links
+  pub desks_are : desks' ≡ desks
+  pub closes : ClosesAll (children_of links') old new
+
 -- how many of the seats' children serve
 abbrev pub serving : List SeatValue → ℕ
 serving [] = 0

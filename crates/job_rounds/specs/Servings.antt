@@ -48,9 +48,16 @@ pub record ServesRound (o : Opening) (setup : Setup) (c : ℕ) (old new : List E
 abbrev pub Serves : Opening → Setup → ℕ → List Entry → List Entry → List DeskTells → List DeskTells → Type 0
 Serves o setup c old new desks desks' = ServesAlone o setup c old new desks desks' ⊎ ServesRound o setup c old new desks desks'
 
+-- no memory was found for a round: no task was done, and the child was closed
+pub record Starved (old new : List Entry) (ear ear' : EarValue) (mouth mouth' : MouthValue) (desks desks' : List DeskTells) : Type 0 where
+  pub many : (length desks ≡ 1) → ⊥
+  pub link : (ear' ≡ ear) × (mouth' ≡ mouth)
+  pub desks_are : desks' ≡ desks
+  pub closes : Closes 0 ear.child old new
+
 -- Of the child of slot 0, and of the objects: with one desk, or where it takes tags, it was served so, and its wire was laid; else a pool
--- was gathered after it.
+-- was gathered after it. Where no memory was found for a round over one that takes tags, it is as a pool of it alone that wasn't whole.
 abbrev pub FirstServed : Type 0 → Opening → Setup → ℕ → List ℕ → List Entry → List Entry → List DeskTells → List DeskTells → Bool → EarValue → MouthValue → ProgramsValue → ProgramsValue → List WireValue → List WireValue → Type 0
 FirstServed wanted o setup limit program old new desks desks' whole ear mouth before after wires wires' =
     (Serves o setup ear.child old new desks desks' × ((length desks ≡ 1) ⊎ (is_tagged old ear.child ≡ true)) × LeavesPool wanted program new [] ear mouth before after wires wires')
-    ⊎ ((length desks ≡ 1 → ⊥) × (is_tagged old ear.child ≡ false) × PoolServed wanted o setup limit program old new desks desks' whole ear mouth before after wires wires')
+    ⊎ ((length desks ≡ 1 → ⊥) × ((is_tagged old ear.child ≡ false) ⊎ (whole ≡ false)) × PoolServed wanted o setup limit program old new desks desks' whole ear mouth before after wires wires')

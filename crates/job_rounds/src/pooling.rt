@@ -1,5 +1,5 @@
 // What is done after a child of slot 0 that is ready and takes no tags: a pool is gathered, does tasks and is closed.
-ghost use Rattle.std.specs.Prelude.{◌≡◌, ◌≤◌, ◌<◌, ◌+◌, ◌++◌, [], All, IfErr, IfOk, IsErr, is_ok, map, reverse, vec_len, vec_capacity, false, true};
+ghost use Rattle.std.specs.Prelude.{◌≡◌, ◌≤◌, ◌<◌, ◌+◌, ◌++◌, [], All, IfErr, IfOk, IsErr, MatchResult, is_ok, map, reverse, vec_len, vec_capacity, false, true};
 ghost use Rattle.ann_outside.specs.Causes.{Stays};
 ghost use Rattle.annex_model.specs.Lines.{has_newline};
 ghost use Rattle.child_end.specs.Programs.{programs_value};
@@ -10,7 +10,7 @@ ghost use Rattle.crew_rounds.specs.Tagged.{link_of};
 ghost use Rattle.gathering.specs.Laws.{children_of};
 ghost use Rattle.gathering.specs.Rounds.{IsAtRest};
 ghost use Rattle.job_rounds.specs.Pools.{PoolServed};
-ghost use Rattle.job_rounds.specs.PoolSteps.{AreLaid, ClosesAll, RoundsPool, ServesFirst, ServesLinks, serving};
+ghost use Rattle.job_rounds.specs.PoolSteps.{AreLaid, ClosesAll, RoundsPool, ServesFirst, ServesLinks, StarvedLinks, serving};
 ghost use Rattle.job_rounds.specs.Servings.{CanBeServed};
 ghost use Rattle.journal_model.specs.Journal.{is_started};
 ghost use Rattle.journal_model.specs.Legality.{count, is_start};
@@ -207,7 +207,8 @@ fn serve_one<I: Sink, O: Source, K: Desk + Drop>(
     close_links(links, &mut bench.core);
 }
 
-// Does tasks over all of the links side by side, or where no round could begin over the first, and closes all.
+// Does tasks over all of the links side by side, or where no thread could be started over the first, and closes all. `NoMemory`: there was
+// none for a round, and no task was done.
 fn serve_all<
     I: Sink + Send + Drop,
     O: Source + Send + Drop,
@@ -220,13 +221,15 @@ fn serve_all<
     setup: &Setup,
     links: Vec<Lone<I, O>>,
     bench: Bench<K>,
-) -> (Vec<Lone<I, O>>, Bench<K>)
+) -> (Vec<Lone<I, O>>, Bench<K>, Result<(), NoMemory>)
     requires desks { (0 < vec_len links) × (vec_len links ≤ vec_len bench.desks) × (vec_len bench.desks ≤ 64) }
     requires tasks { (bench.core.opening.tasks ≡ tasks.now) × AreTasks tasks.now }
     requires folder { has_newline setup.now.work ≡ false }
     requires can { PoolCan bench.core.opening bench.core.journal (map (λ l. link_of l.ear l.mouth) links.items) }
-    ensures serves { ServesLinks bench.core.opening setup.now bench.core.journal result.1.core.journal (map (λ l. link_of l.ear l.mouth) links.items) (map (λ l. link_of l.ear l.mouth) result.0.items) (map (λ k. desk_tells (K.log k) (K.counts k)) bench.desks.items) (map (λ k. desk_tells (K.log k) (K.counts k)) result.1.desks.items) }
-    ensures held { All (λ l. IsHeld result.1.core.journal l.ear l.mouth) result.0.items }
+    ensures serves { MatchResult result.2
+        (λ _. ServesLinks bench.core.opening setup.now bench.core.journal result.1.core.journal (map (λ l. link_of l.ear l.mouth) links.items) (map (λ l. link_of l.ear l.mouth) result.0.items) (map (λ k. desk_tells (K.log k) (K.counts k)) bench.desks.items) (map (λ k. desk_tells (K.log k) (K.counts k)) result.1.desks.items))
+        (λ _. StarvedLinks bench.core.journal result.1.core.journal (map (λ l. link_of l.ear l.mouth) links.items) (map (λ l. link_of l.ear l.mouth) result.0.items) (map (λ k. desk_tells (K.log k) (K.counts k)) bench.desks.items) (map (λ k. desk_tells (K.log k) (K.counts k)) result.1.desks.items)) }
+    ensures held { IfOk result.2 (λ _. All (λ l. IsHeld result.1.core.journal l.ear l.mouth) result.0.items) }
     ensures same { AreSameLinks (map (λ l. link_of l.ear l.mouth) links.items) (map (λ l. link_of l.ear l.mouth) result.0.items) }
     ensures core { IsSameCore bench.core result.1.core }
     ensures desks { vec_len result.1.desks ≡ vec_len bench.desks }
@@ -235,11 +238,15 @@ fn serve_all<
     match outcome {
         Outcome::Done => {
             close_links(&links, &mut bench.core);
-            (links, bench)
+            (links, bench, Ok(()))
         }
-        Outcome::NoMemory | Outcome::NoThreads => {
+        Outcome::NoMemory => {
+            close_links(&links, &mut bench.core);
+            (links, bench, Err(NoMemory))
+        }
+        Outcome::NoThreads => {
             serve_one(alloc, tasks, setup, &mut links, &mut bench);
-            (links, bench)
+            (links, bench, Ok(()))
         }
     }
 }
@@ -257,13 +264,15 @@ fn serve_links<
     setup: &Setup,
     links: Vec<Lone<I, O>>,
     bench: Bench<K>,
-) -> (Vec<Lone<I, O>>, Bench<K>)
+) -> (Vec<Lone<I, O>>, Bench<K>, Result<(), NoMemory>)
     requires desks { (0 < vec_len links) × (vec_len links ≤ vec_len bench.desks) × (vec_len bench.desks ≤ 64) }
     requires tasks { (bench.core.opening.tasks ≡ tasks.now) × AreTasks tasks.now }
     requires folder { has_newline setup.now.work ≡ false }
     requires can { PoolCan bench.core.opening bench.core.journal (map (λ l. link_of l.ear l.mouth) links.items) }
-    ensures serves { ServesLinks bench.core.opening setup.now bench.core.journal result.1.core.journal (map (λ l. link_of l.ear l.mouth) links.items) (map (λ l. link_of l.ear l.mouth) result.0.items) (map (λ k. desk_tells (K.log k) (K.counts k)) bench.desks.items) (map (λ k. desk_tells (K.log k) (K.counts k)) result.1.desks.items) }
-    ensures held { All (λ l. IsHeld result.1.core.journal l.ear l.mouth) result.0.items }
+    ensures serves { MatchResult result.2
+        (λ _. ServesLinks bench.core.opening setup.now bench.core.journal result.1.core.journal (map (λ l. link_of l.ear l.mouth) links.items) (map (λ l. link_of l.ear l.mouth) result.0.items) (map (λ k. desk_tells (K.log k) (K.counts k)) bench.desks.items) (map (λ k. desk_tells (K.log k) (K.counts k)) result.1.desks.items))
+        (λ _. StarvedLinks bench.core.journal result.1.core.journal (map (λ l. link_of l.ear l.mouth) links.items) (map (λ l. link_of l.ear l.mouth) result.0.items) (map (λ k. desk_tells (K.log k) (K.counts k)) bench.desks.items) (map (λ k. desk_tells (K.log k) (K.counts k)) result.1.desks.items)) }
+    ensures held { IfOk result.2 (λ _. All (λ l. IsHeld result.1.core.journal l.ear l.mouth) result.0.items) }
     ensures same { AreSameLinks (map (λ l. link_of l.ear l.mouth) links.items) (map (λ l. link_of l.ear l.mouth) result.0.items) }
     ensures core { IsSameCore bench.core result.1.core }
     ensures desks { vec_len result.1.desks ≡ vec_len bench.desks }
@@ -274,12 +283,13 @@ fn serve_links<
     let mut links = links;
     let mut bench = bench;
     serve_one(alloc, tasks, setup, &mut links, &mut bench);
-    (links, bench)
+    (links, bench, Ok(()))
 }
 
 /// After a child of slot 0 that is ready and takes no tags, starts one more in each slot, lets those that are ready do tasks side by side,
-/// a worker for each in a thread of its own, and closes all. Where no round could begin, the main thread does tasks over the first.
-/// `NoMemory` is answered where no memory was found to start a child: then no task was done, and those that were started are closed.
+/// a worker for each in a thread of its own, and closes all. Where no thread could be started, the main thread does tasks over the first.
+/// `NoMemory` is answered where no memory was found to start a child, or for the round: then no task was done, and those that were
+/// started are closed.
 pub(crate) fn serve_pool<P: Programs, K: Desk + Send + Drop, R: Threads + Wait + Sync>(
     rt: &R,
     alloc: Global,
@@ -316,9 +326,9 @@ where
     let jobs = bench.desks.len() as u32;
     match gather(alloc, programs, program, jobs, &mut bench.core, link, stub) {
         Gathering::Whole(Pool { links, seats }) => {
-            let (links, bench) = serve_links(rt, alloc, tasks, &plan.setup, links, bench);
+            let (links, bench, served) = serve_links(rt, alloc, tasks, &plan.setup, links, bench);
             settle(programs, links, seats, wires);
-            (bench, Ok(()))
+            (bench, served)
         }
         Gathering::NoMemory(Pool { links, seats }) => {
             close_links(&links, &mut bench.core);

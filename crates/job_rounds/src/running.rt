@@ -22,8 +22,8 @@ use task_text::Task;
 /// Does all tasks over children, and answers each. Over a child that takes tags, a worker for each desk does tasks side by side, in a thread
 /// of its own. After one that takes none, one more is started for each further desk, and each has a worker of its own. Where there are no
 /// threads, one worker does the tasks over the first. Where a child is lost the next start goes on; where none is left, the tasks that are
-/// left are answered `nochild`. `NoMemory` is answered where no memory was found to start a child; what was done until then stands in the
-/// journal.
+/// left are answered `nochild`. `NoMemory` is answered where no memory was found to start a child or for a round; what was done until then
+/// stands in the journal.
 pub fn run_jobs<P: Programs, K: Desk + Send + Drop, R: Threads + Wait + Sync>(
     rt: &R,
     alloc: Global,

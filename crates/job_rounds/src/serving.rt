@@ -1,13 +1,14 @@
 // What a child that is ready does, up to its closing.
-ghost use Rattle.std.specs.Prelude.{◌≡◌, ◌≤◌, ◌<◌, [], map, vec_len, false, true};
+ghost use Rattle.std.specs.Prelude.{◌≡◌, ◌≤◌, ◌<◌, [], MatchResult, map, vec_len, false, true};
 ghost use Rattle.annex_model.specs.Lines.{has_newline};
 ghost use Rattle.child_end.specs.Wires.{IsHeld};
 ghost use Rattle.child_start.specs.Cores.{IsSameCore};
-ghost use Rattle.job_rounds.specs.Servings.{CanBeServed, Serves, ServesAlone};
+ghost use Rattle.job_rounds.specs.Servings.{CanBeServed, Serves, ServesAlone, Starved};
 ghost use Rattle.link_roles.specs.Moves.{IsSameLink};
 ghost use Rattle.lone_work.specs.Works.{AreTasks, desk_tells};
 
 use crate::bench::Bench;
+use ann_key::NoMemory;
 use ann_outside::{Desk, Sink, Source};
 use child_end::close_child;
 use crew_rounds::{Outcome, TaggedRound, round_tagged};
@@ -49,8 +50,8 @@ pub(crate) fn serve_alone<I: Sink, O: Source, K: Desk + Drop>(
     );
 }
 
-/// Does tasks over the child, which takes tags, with a worker for each desk, and closes it. Where no round could begin, the first
-/// desk's worker does them alone.
+/// Does tasks over the child, which takes tags, with a worker for each desk, and closes it. Where no thread could be started, the main
+/// thread does them alone with the first desk. `NoMemory`: there was none for a round, and no task was done.
 pub(crate) fn serve_round<
     I: Sink + Send + Drop,
     O: Source + Send + Drop,
@@ -63,12 +64,14 @@ pub(crate) fn serve_round<
     setup: &Setup,
     link: Lone<I, O>,
     bench: Bench<K>,
-) -> (Lone<I, O>, Bench<K>)
+) -> (Lone<I, O>, Bench<K>, Result<(), NoMemory>)
     requires desks { (1 < vec_len bench.desks) × (vec_len bench.desks ≤ 64) }
     requires tasks { (bench.core.opening.tasks ≡ tasks.now) × AreTasks tasks.now }
     requires folder { has_newline setup.now.work ≡ false }
     requires can { CanBeServed bench.core.opening bench.core.journal link.ear link.mouth true }
-    ensures serves { Serves bench.core.opening setup.now link.ear.child bench.core.journal result.1.core.journal (map (λ k. desk_tells (K.log k) (K.counts k)) bench.desks.items) (map (λ k. desk_tells (K.log k) (K.counts k)) result.1.desks.items) }
+    ensures serves { MatchResult result.2
+        (λ _. Serves bench.core.opening setup.now link.ear.child bench.core.journal result.1.core.journal (map (λ k. desk_tells (K.log k) (K.counts k)) bench.desks.items) (map (λ k. desk_tells (K.log k) (K.counts k)) result.1.desks.items))
+        (λ _. Starved bench.core.journal result.1.core.journal link.ear result.0.ear link.mouth result.0.mouth (map (λ k. desk_tells (K.log k) (K.counts k)) bench.desks.items) (map (λ k. desk_tells (K.log k) (K.counts k)) result.1.desks.items)) }
     ensures held { IsHeld result.1.core.journal result.0.ear result.0.mouth }
     ensures same { IsSameLink link.ear result.0.ear link.mouth result.0.mouth }
     ensures core { IsSameCore bench.core result.1.core }
@@ -85,16 +88,21 @@ pub(crate) fn serve_round<
     match outcome {
         Outcome::Done => {
             close_child(&link, &mut bench.core);
-            (link, bench)
+            (link, bench, Ok(()))
         }
-        Outcome::NoMemory | Outcome::NoThreads => {
+        Outcome::NoMemory => {
+            close_child(&link, &mut bench.core);
+            (link, bench, Err(NoMemory))
+        }
+        Outcome::NoThreads => {
             serve_alone(alloc, tasks, setup, &mut link, &mut bench, true);
-            (link, bench)
+            (link, bench, Ok(()))
         }
     }
 }
 
-/// Does tasks over the child with a worker for each desk, where it takes tags, else with one, and closes it.
+/// Does tasks over the child with a worker for each desk, where it takes tags, else with one, and closes it. `NoMemory`: there was none
+/// for a round, and no task was done.
 pub(crate) fn serve_ready<
     I: Sink + Send + Drop,
     O: Source + Send + Drop,
@@ -108,12 +116,14 @@ pub(crate) fn serve_ready<
     link: Lone<I, O>,
     tagged: bool,
     bench: Bench<K>,
-) -> (Lone<I, O>, Bench<K>)
+) -> (Lone<I, O>, Bench<K>, Result<(), NoMemory>)
     requires desks { (0 < vec_len bench.desks) × (vec_len bench.desks ≤ 64) }
     requires tasks { (bench.core.opening.tasks ≡ tasks.now) × AreTasks tasks.now }
     requires folder { has_newline setup.now.work ≡ false }
     requires can { CanBeServed bench.core.opening bench.core.journal link.ear link.mouth tagged }
-    ensures serves { Serves bench.core.opening setup.now link.ear.child bench.core.journal result.1.core.journal (map (λ k. desk_tells (K.log k) (K.counts k)) bench.desks.items) (map (λ k. desk_tells (K.log k) (K.counts k)) result.1.desks.items) }
+    ensures serves { MatchResult result.2
+        (λ _. Serves bench.core.opening setup.now link.ear.child bench.core.journal result.1.core.journal (map (λ k. desk_tells (K.log k) (K.counts k)) bench.desks.items) (map (λ k. desk_tells (K.log k) (K.counts k)) result.1.desks.items))
+        (λ _. Starved bench.core.journal result.1.core.journal link.ear result.0.ear link.mouth result.0.mouth (map (λ k. desk_tells (K.log k) (K.counts k)) bench.desks.items) (map (λ k. desk_tells (K.log k) (K.counts k)) result.1.desks.items)) }
     ensures held { IsHeld result.1.core.journal result.0.ear result.0.mouth }
     ensures same { IsSameLink link.ear result.0.ear link.mouth result.0.mouth }
     ensures core { IsSameCore bench.core result.1.core }
@@ -125,5 +135,5 @@ pub(crate) fn serve_ready<
     let mut link = link;
     let mut bench = bench;
     serve_alone(alloc, tasks, setup, &mut link, &mut bench, tagged);
-    (link, bench)
+    (link, bench, Ok(()))
 }

@@ -66,9 +66,9 @@ where
     if !tagged && bench.desks.len() > 1 {
         return serve_pool(rt, alloc, programs, plan, tasks, link, stub, bench, wires);
     }
-    let (link, bench) = serve_ready(rt, alloc, tasks, &plan.setup, link, tagged, bench);
+    let (link, bench, served) = serve_ready(rt, alloc, tasks, &plan.setup, link, tagged, bench);
     finish(programs, link, stub, wires);
-    (bench, Ok(()))
+    (bench, served)
 }
 
 // Starts one child of slot 0 and lets it do tasks. One task is answered by what came of a start that gave no child that is ready. Whether
@@ -151,7 +151,8 @@ where
     }
 }
 
-/// Starts children of slot 0, one after the other, until all starts are made or all tasks claimed, or no memory is found to start one.
+/// Starts children of slot 0, one after the other, until all starts are made or all tasks claimed, or no memory is found to start one or
+/// for a round.
 pub(crate) fn start_children<P: Programs, K: Desk + Send + Drop, R: Threads + Wait + Sync>(
     rt: &R,
     alloc: Global,

@@ -81,12 +81,12 @@ fetch_none o n c past = go (is_started past c) (is_gone past c)
 pub waits_as : {o p : Opening} {n m : ℕ} {journal : List Entry} → p ≡ o → m ≡ n → Waits o n journal → Waits p m journal
 waits_as {o} {p} {n} {m} {journal} eo en w = subst (λ (q : Opening). Waits q m journal) (sym eo) (subst (λ (k : ℕ). Waits o k journal) (sym en) w)
 
-pub said_waits : {o : Opening} {n : ℕ} {journal : List Entry} (event : Event) → Says o n journal event Wait → Waits o n journal
-said_waits event says = (event, says.0, says.1)
+pub said_waits : (o : Opening) (n : ℕ) (journal : List Entry) (event : Event) → Says o n journal event Wait → Waits o n journal
+said_waits o n journal event says = record { event = event; shut = says.0; reply_is = says.1 }
 
 -- a job that was asked and isn't settled
 pub unsettled_waits : (o : Opening) (n c j : ℕ) (journal : List Entry) → is_asked journal c j ≡ true → verdict_of journal c j ≡ None → Waits o n journal
-unsettled_waits o n c j journal asked none = (Lookup c j, false, rw (asked, none) refl)
+unsettled_waits o n c j journal asked none = record { event = Lookup c j; shut = false; reply_is = rw (asked, none) refl }
 
 pub started_then : {n : ℕ} {a : Bool} {old new : List Entry} (c : ℕ) → Passed n a old new → is_started old c ≡ true → is_started new c ≡ true
 started_then {old = old} {new = new} c s h = any_on (starts c) old s.others new s.is h

@@ -45,8 +45,10 @@ pub record Appended (o : Opening) (number : ℕ) (alone : Bool) (old new : List 
   pub is : new ≡ past ++ group_of o past number w
 
 -- some event is answered by Wait where this is the journal, by a core that is shut or not: there is something to wait for
-abbrev pub Waits : Opening → ℕ → List Entry → Type 0
-Waits o number journal = (event : Event) × (shut : Bool) × (Wait ≡ told journal shut event (step_of o journal number event).reply)
+pub record Waits (o : Opening) (number : ℕ) (journal : List Entry) : Type 0 where
+  pub event : Event
+  pub shut : Bool
+  pub reply_is : Wait ≡ told journal shut event (step_of o journal number event).reply
 
 -- the child was ended so, or it had ended before
 abbrev pub Ends : Opening → ℕ → Bool → List Entry → List Entry → ℕ → Why → Type 0

@@ -35,7 +35,7 @@ loop-preserved-in-Again g c =
     }
 
 pub rest-requires : goal.rest-requires
-rest-requires g c = waits_as c.in-Rest.ensures.door.opening c.in-Rest.ensures.door.number c.in-Rest.ensures.on.1
+rest-requires g c = record { waits = waits_as c.in-Rest.ensures.door.opening c.in-Rest.ensures.door.number c.in-Rest.ensures.on.1 }
 
 pub loop-preserved : goal.loop-preserved
 loop-preserved g c =

@@ -1,5 +1,5 @@
 use Rattle.std.proofs.Common.{◌≡◌, ◌∙◌, ℕ, List, [], ◌∷◌, map, sym, subst, arith, length, refl, true, false}
-use Rattle.std.specs.Prelude.{All}
+use Rattle.std.specs.Prelude.{All, IsErr, MatchResult, is_ok}
 use Rattle.std.proofs.lemmas.List.{length-map}
 use Rattle.std.proofs.lemmas.List.Elements.{All-map}
 use Rattle.journal_model.specs.declared.opening.Opening.{Opening}
@@ -14,8 +14,8 @@ use Rattle.lone_work.specs.Works.{desk_tells}
 use Rattle.lone_rounds.proofs.Ending.{cores_both}
 use Rattle.pool_starts.specs.Pools.{seat_value}
 use Rattle.job_rounds.specs.Pools.{PoolServed}
-use Rattle.job_rounds.specs.PoolSteps.{ClosesAll, ServesLinks}
-use Rattle.job_rounds.proofs.PoolEnding.{closes_alone, laid_alone, pool_serving, pool_started, roomless_may, roomless_pool, serving_back, starved_ends, whole_ends}
+use Rattle.job_rounds.specs.PoolSteps.{ClosesAll, ServesLinks, StarvedLinks}
+use Rattle.job_rounds.proofs.PoolEnding.{closes_alone, if_ok, laid_alone, links_end, pool_serving, pool_started, roomless_may, roomless_pool, serving_back, starved_ends}
 use Rattle.job_rounds.proofs.PoolLinks.{all_mapped, all_unmapped}
 use Rattle.job_rounds.proofs.PoolWhole.{pool_can}
 use Rattle.job_rounds.proofs.pooling.serve_pool.Goals as goal
@@ -57,15 +57,15 @@ returns-in-Whole-clause-served g c =
     let o = c.args.bench.core.opening in
     let new = c.serve_links-links.result.1.core.journal in
     let jobs : c.len-jobs.result ≡ length (map (λ k. desk_tells (g.K.Desk.log k) (g.K.Desk.counts k)) c.args.bench.desks.items) = c.len-jobs.ensures ∙ c.args.bench.desks.ok.0 ∙ sym (length-map c.args.bench.desks.items (λ k. desk_tells (g.K.Desk.log k) (g.K.Desk.counts k))) in
-    subst (λ (program : List ℕ). PoolServed _ o c.args.plan.now.setup c.args.plan.now.starts program c.args.bench.core.journal new (map (λ k. desk_tells (g.K.Desk.log k) (g.K.Desk.counts k)) c.args.bench.desks.items) (map (λ k. desk_tells (g.K.Desk.log k) (g.K.Desk.counts k)) c.serve_links-links.result.1.desks.items) true
+    subst (λ (program : List ℕ). PoolServed (IsErr c.serve_links-links.result.2) o c.args.plan.now.setup c.args.plan.now.starts program c.args.bench.core.journal new (map (λ k. desk_tells (g.K.Desk.log k) (g.K.Desk.counts k)) c.args.bench.desks.items) (map (λ k. desk_tells (g.K.Desk.log k) (g.K.Desk.counts k)) c.serve_links-links.result.1.desks.items) (is_ok c.serve_links-links.result.2)
     c.args.link.ear c.args.link.mouth (programs_value (g.P.Programs.starts c.args.programs.now) (g.P.Programs.faults c.args.programs.now)) (programs_value (g.P.Programs.starts c.settle.new.programs) (g.P.Programs.faults c.settle.new.programs)) (map (wire_value g.P.Inlet.Sink.taken g.P.Inlet.Sink.faults g.P.Inlet.Sink.number g.P.Inlet.Sink.is_open g.P.Outlet.Source.given g.P.Outlet.Source.left g.P.Outlet.Source.faults g.P.Outlet.Source.number g.P.Outlet.Source.is_open) c.args.wires.now.items) (map (wire_value g.P.Inlet.Sink.taken g.P.Inlet.Sink.faults g.P.Inlet.Sink.number g.P.Inlet.Sink.is_open g.P.Outlet.Source.given g.P.Outlet.Source.left g.P.Outlet.Source.faults g.P.Outlet.Source.number g.P.Outlet.Source.is_open) c.settle.new.wires.items)) c.view-program.ensures
-    (whole_ends o c.args.plan.now.setup c.args.plan.now.starts c.len-jobs.result c.view-program.result.now c.args.bench.core.journal c.gather.new.core.journal new (link_of c.args.link.ear c.args.link.mouth) (programs_value (g.P.Programs.starts c.args.programs.now) (g.P.Programs.faults c.args.programs.now)) (programs_value (g.P.Programs.starts c.gather.new.programs) (g.P.Programs.faults c.gather.new.programs)) (programs_value (g.P.Programs.starts c.settle.new.programs) (g.P.Programs.faults c.settle.new.programs))
+    (links_end o c.args.plan.now.setup c.args.plan.now.starts c.len-jobs.result c.view-program.result.now c.args.bench.core.journal c.gather.new.core.journal new (link_of c.args.link.ear c.args.link.mouth) (programs_value (g.P.Programs.starts c.args.programs.now) (g.P.Programs.faults c.args.programs.now)) (programs_value (g.P.Programs.starts c.gather.new.programs) (g.P.Programs.faults c.gather.new.programs)) (programs_value (g.P.Programs.starts c.settle.new.programs) (g.P.Programs.faults c.settle.new.programs))
     (map (seat_value (wire_value g.P.Inlet.Sink.taken g.P.Inlet.Sink.faults g.P.Inlet.Sink.number g.P.Inlet.Sink.is_open g.P.Outlet.Source.given g.P.Outlet.Source.left g.P.Outlet.Source.faults g.P.Outlet.Source.number g.P.Outlet.Source.is_open)) c.in-Whole.field-0.seats.items) (map (λ l. link_of l.ear l.mouth) c.in-Whole.field-0.links.items) (map (λ l. link_of l.ear l.mouth) c.serve_links-links.result.0.items) (map (λ k. desk_tells (g.K.Desk.log k) (g.K.Desk.counts k)) c.args.bench.desks.items) (map (λ k. desk_tells (g.K.Desk.log k) (g.K.Desk.counts k)) c.serve_links-links.result.1.desks.items)
-    (map (wire_value g.P.Inlet.Sink.taken g.P.Inlet.Sink.faults g.P.Inlet.Sink.number g.P.Inlet.Sink.is_open g.P.Outlet.Source.given g.P.Outlet.Source.left g.P.Outlet.Source.faults g.P.Outlet.Source.number g.P.Outlet.Source.is_open) c.args.wires.now.items) (map (wire_value g.P.Inlet.Sink.taken g.P.Inlet.Sink.faults g.P.Inlet.Sink.number g.P.Inlet.Sink.is_open g.P.Outlet.Source.given g.P.Outlet.Source.left g.P.Outlet.Source.faults g.P.Outlet.Source.number g.P.Outlet.Source.is_open) c.settle.new.wires.items) jobs (λ w. absurd w) c.in-Whole.ensures.gathers.0 c.requires.can c.requires.last_child
-    (subst (λ (w : Opening). ServesLinks w c.args.plan.now.setup c.gather.new.core.journal new (map (λ l. link_of l.ear l.mouth) c.in-Whole.field-0.links.items) (map (λ l. link_of l.ear l.mouth) c.serve_links-links.result.0.items) (map (λ k. desk_tells (g.K.Desk.log k) (g.K.Desk.counts k)) c.args.bench.desks.items) (map (λ k. desk_tells (g.K.Desk.log k) (g.K.Desk.counts k)) c.serve_links-links.result.1.desks.items))
+    (map (wire_value g.P.Inlet.Sink.taken g.P.Inlet.Sink.faults g.P.Inlet.Sink.number g.P.Inlet.Sink.is_open g.P.Outlet.Source.given g.P.Outlet.Source.left g.P.Outlet.Source.faults g.P.Outlet.Source.number g.P.Outlet.Source.is_open) c.args.wires.now.items) (map (wire_value g.P.Inlet.Sink.taken g.P.Inlet.Sink.faults g.P.Inlet.Sink.number g.P.Inlet.Sink.is_open g.P.Outlet.Source.given g.P.Outlet.Source.left g.P.Outlet.Source.faults g.P.Outlet.Source.number g.P.Outlet.Source.is_open) c.settle.new.wires.items) jobs c.serve_links-links.result.2 c.in-Whole.ensures.gathers.0 c.requires.can c.requires.last_child
+    (subst (λ (w : Opening). MatchResult c.serve_links-links.result.2 (λ _. ServesLinks w c.args.plan.now.setup c.gather.new.core.journal new (map (λ l. link_of l.ear l.mouth) c.in-Whole.field-0.links.items) (map (λ l. link_of l.ear l.mouth) c.serve_links-links.result.0.items) (map (λ k. desk_tells (g.K.Desk.log k) (g.K.Desk.counts k)) c.args.bench.desks.items) (map (λ k. desk_tells (g.K.Desk.log k) (g.K.Desk.counts k)) c.serve_links-links.result.1.desks.items)) (λ _. StarvedLinks c.gather.new.core.journal new (map (λ l. link_of l.ear l.mouth) c.in-Whole.field-0.links.items) (map (λ l. link_of l.ear l.mouth) c.serve_links-links.result.0.items) (map (λ k. desk_tells (g.K.Desk.log k) (g.K.Desk.counts k)) c.args.bench.desks.items) (map (λ k. desk_tells (g.K.Desk.log k) (g.K.Desk.counts k)) c.serve_links-links.result.1.desks.items)))
     c.gather.ensures.core.opening c.serve_links-links.ensures.serves)
     (subst (λ (w : Opening). Legal w new) (c.serve_links-links.ensures.core.opening ∙ c.gather.ensures.core.opening) (c.serve_links-links.ensures.core.legal (c.gather.ensures.core.legal c.requires.can.can.legal)))
-    c.serve_links-links.ensures.same (All-map (λ (l : LinkValue). IsHeld new l.ear l.mouth) (λ l. link_of l.ear l.mouth) c.serve_links-links.result.0.items c.serve_links-links.ensures.held)
+    c.serve_links-links.ensures.same (if_ok c.serve_links-links.result.2 (λ h. All-map (λ (l : LinkValue). IsHeld new l.ear l.mouth) (λ l. link_of l.ear l.mouth) c.serve_links-links.result.0.items h) c.serve_links-links.ensures.held)
     (all_mapped (λ (l : LinkValue). l.mouth.child ≡ l.ear.child) (λ l. link_of l.ear l.mouth) (λ l. l.one_child) c.serve_links-links.result.0.items) c.settle.ensures.laid c.settle.ensures.starts c.settle.ensures.later)
 
 pub returns-in-Whole-clause-core : goal.returns-in-Whole-clause-core

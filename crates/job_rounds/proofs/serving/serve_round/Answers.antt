@@ -7,7 +7,7 @@ use Rattle.gathering.specs.Laws.{GoesOn}
 use Rattle.crew_rounds.specs.TaggedRounds.{TaggedLeaves}
 use Rattle.crew_rounds.specs.Tagged.{link_of}
 use Rattle.lone_work.specs.Works.{desk_tells}
-use Rattle.job_rounds.proofs.Ends.{alone_kept, by_done, by_kept, legal_kept, round_as_many, round_closes, round_held, round_started}
+use Rattle.job_rounds.proofs.Ends.{alone_kept, by_done, by_kept, legal_kept, round_as_many, round_closes, round_held, round_started, starved_closes, starved_held, starved_may}
 use Rattle.job_rounds.proofs.serving.serve_round.Goals as goal
 
 pub close_child-requires-clause-started : goal.close_child-requires-clause-started
@@ -53,9 +53,43 @@ returns-in-Done-clause-desks g c =
     (by_done c.round_tagged-core.result.outcome c.in-Done.is c.round_tagged-core.ensures.round))
     ∙ length-map c.args.bench.desks.items (λ k. desk_tells (g.K.Desk.log k) (g.K.Desk.counts k)) ∙ sym c.args.bench.desks.ok.0
 
+pub close_child-requires-in-NoMemory-clause-started : goal.close_child-requires-in-NoMemory-clause-started
+close_child-requires-in-NoMemory-clause-started g c =
+    let kept = by_kept c.round_tagged-core.result.outcome (inl c.in-NoMemory.is) c.round_tagged-core.ensures.kept in
+    (starved_may c.requires.can kept.0 kept.1.0.0).0
+
+pub close_child-requires-in-NoMemory-clause-idle : goal.close_child-requires-in-NoMemory-clause-idle
+close_child-requires-in-NoMemory-clause-idle g c =
+    let kept = by_kept c.round_tagged-core.result.outcome (inl c.in-NoMemory.is) c.round_tagged-core.ensures.kept in
+    (starved_may c.requires.can kept.0 kept.1.0.0).1
+
 pub returns-in-NoMemory : goal.returns-in-NoMemory
 returns-in-NoMemory g c =
-    let kept = by_kept c.round_tagged-core.result.outcome c.in-NoMemory.is c.round_tagged-core.ensures.kept in
+    let tells = λ k. desk_tells (g.K.Desk.log k) (g.K.Desk.counts k) in
+    let kept = by_kept c.round_tagged-core.result.outcome (inl c.in-NoMemory.is) c.round_tagged-core.ensures.kept in
+    let opening = c.round_tagged-core.ensures.opening in
+    let same = c.round_tagged-core.ensures.same in
+    let then = c.close_child-in-NoMemory.ensures in
+    let count : length (map tells c.args.bench.desks.items) ≡ c.args.bench.desks.len = length-map c.args.bench.desks.items tells ∙ sym c.args.bench.desks.ok.0 in
+    record {
+      serves = record {
+        many = λ one. (let some = c.requires.desks.0 in omega (arith, one, count, some));
+        link = kept.1.0;
+        desks_are = ap (map tells) kept.1.1;
+        closes = starved_closes kept.0 same.0.0 then.closes;
+      };
+      held = then.held (starved_held c.requires.can kept.0 kept.1.0);
+      same = same;
+      core = record {
+        opening = then.core.opening ∙ opening;
+        legal = λ h. then.core.legal (legal_kept c.args.bench.core.opening c.round_tagged-core.result.core.opening c.args.bench.core.journal c.round_tagged-core.result.core.journal opening kept.0 h);
+      };
+      desks = c.round_tagged-core.result.desks.ok.0 ∙ ap (λ (xs : List _). length xs) kept.1.1 ∙ sym c.args.bench.desks.ok.0;
+    }
+
+pub returns-in-NoThreads : goal.returns-in-NoThreads
+returns-in-NoThreads g c =
+    let kept = by_kept c.round_tagged-core.result.outcome (inr c.in-NoThreads.is) c.round_tagged-core.ensures.kept in
     let opening = c.round_tagged-core.ensures.opening in
     let same = c.round_tagged-core.ensures.same in
     let then = c.serve_alone.ensures in

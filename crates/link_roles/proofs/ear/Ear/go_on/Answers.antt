@@ -9,7 +9,7 @@ use Rattle.journal_model.specs.Halves.{EarWired}
 use Rattle.link_roles.proofs.ear.Ear.go_on.Goals as goal
 
 pub rest-requires : goal.rest-requires
-rest-requires g c = waits_as c.turn.ensures.door.opening c.turn.ensures.door.number (said_waits (Listen c.args.self.now.child) (c.in-Rest.ensures.rest refl))
+rest-requires g c = record { waits = waits_as c.turn.ensures.door.opening c.turn.ensures.door.number (said_waits _ _ (g.D.Door.seen c.turn.new.door) (Listen c.args.self.now.child) (c.in-Rest.ensures.rest refl)) }
 
 pub returns-in-Rest-clause-moved : goal.returns-in-Rest-clause-moved
 returns-in-Rest-clause-moved g c = subst (λ (j : List Entry). Moved (g.D.Door.number c.args.door.now) (g.D.Door.alone c.args.door.now) (by_ear c.args.self.now.child) (is_heard c.args.self.now.child) (g.D.Door.seen c.args.door.now) j (EarWired (g.D.Door.seen c.args.door.now) c.args.self.now) (EarWired j c.turn.new.self)) (sym c.rest.ensures.seen) c.turn.ensures.moved
