@@ -1,16 +1,20 @@
-use Rattle.std.proofs.Common.{sym, ap, ◌∙◌}
+use Rattle.std.proofs.Common.{◌≡◌, ◌∙◌, refl, sym, false, Option, Some, None}
 use Rattle.std.specs.Option.{is_some}
-use Rattle.journal_model.proofs.Looks.{settled_none}
+use Rattle.journal_model.specs.declared.verdict.Verdict.{Verdict}
 use Rattle.link_roles.proofs.Asking.{grows_on, grows_seen}
 use Rattle.link_roles.proofs.Replying.{asked_then, unsettled_waits}
 use Rattle.link_crew.proofs.job.look_or_rest.Goals as goal
+
+none_there : (v : Option Verdict) → is_some v ≡ false → v ≡ None
+none_there None h = refl
+none_there (Some v) h = absurd cc
 
 pub rest-requires : goal.rest-requires
 rest-requires g c = record {
   waits =
       unsettled_waits (g.D.Door.opening c.verdict-settled.new.door) (g.D.Door.number c.verdict-settled.new.door) c.args.child c.args.job (g.D.Door.seen c.verdict-settled.new.door)
       (asked_then c.args.child c.args.job c.verdict-settled.ensures.passed c.requires.asked)
-      (settled_none (g.D.Door.seen c.verdict-settled.new.door) c.args.child c.args.job (ap is_some (sym c.verdict-settled.ensures.verdict) ∙ c.if-is_none.ensures));
+      (sym c.verdict-settled.ensures.verdict ∙ none_there c.verdict-settled.result c.if-is_none.ensures);
 }
 
 pub returns-then-is_none-clause-grows : goal.returns-then-is_none-clause-grows
