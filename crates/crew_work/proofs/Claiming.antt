@@ -102,7 +102,7 @@ module _ {o : Opening} {n : ℕ} {a : Bool} (c : ℕ) {old new : List Entry} {re
           by_all true all = quiet NoTask (is ∙ (rw all refl)) (m.passed, inl all)
           by_all false all =
               let waits : step_of o p n (ClaimEvent c) ≡ only Wait = is ∙ (rw all refl) in
-              quiet Wait waits (m.passed, ((all, there_still), record { event = ClaimEvent c; shut = false; reply_is = sym (ap (λ (x : Step). x.reply) waits) }))
+              quiet Wait waits (m.passed, (all, there_still), record { event = ClaimEvent c; shut = false; reply_is = sym (ap (λ (x : Step). x.reply) waits) })
 
       by_gone : (b : Bool) → is_gone p c ≡ b → HasClaimed o n a c old new (claimed_of reply)
       by_gone true g = quiet (gone p c) (step ∙ (rw g refl)) (m.passed, inr g)
