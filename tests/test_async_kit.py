@@ -4,6 +4,7 @@ import os
 import random
 import threading
 
+import journal
 from harness import ANNEX_REMOTE_DIR, SPECIAL, UUID, Done, as_bytes, as_text, expect, limits, require, run, start, table
 
 # How many random sessions run, and whether on one processor.
@@ -247,8 +248,7 @@ def case_a_thousand_keys_by_eight_jobs_of_special(room):
         tasks = "".join(f"{verb} WORM-s{sizes[n]}--{n} {room.path(folder)}/{n}\n" for n in range(count))
         done = room.run(words, input=tasks, env=env)
         expect((done.out, done.err, done.status), ("".join(f"{n + 1} {answer}\n" for n in range(count)), "", 0))
-        starts = [line for line in room.text("journal").splitlines() if line.startswith(("start ", "0 start ")) or " start " in line[:12]]
-        require(len(starts) <= 1, f"more than one child was started: {starts[:3]}")
+        require(len(journal.read(room.text("journal")).of("start")) == 1, "more than one child was started")
         expect(run([SPECIAL, "audit"], input=room.read("journal")).out, "legal\n")
     for n in range(count):
         expect(room.read(f"to/{n}"), room.read(f"from/{n}"), f"the content of key {n}")

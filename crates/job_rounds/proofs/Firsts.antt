@@ -98,7 +98,7 @@ module _ (o : Opening) (setup : Setup) (limit : ℕ) (offer tagged : Bool) (old 
   -- a pool that was whole is one after a child that takes no tags
   plain_of : (is_tagged g ear.child ≡ false) ⊎ (true ≡ false) → is_tagged g ear.child ≡ false
   plain_of (inl plain) = plain
-  plain_of (inr bad) = absurd bad
+  plain_of (inr bad) = absurd cc
 
   made : (W → ⊥) → FirstServed W o setup limit program g new desks desks' true ear mouth mid last wires wires' → OneJobStart o setup limit offer (offer && tagged) true program old new desks desks' before last wires wires'
   made none (inl (serves, few, l)) = served_start o setup limit offer tagged old g new ear.child desks desks' true legal left greeted legal' ready tag

@@ -145,7 +145,7 @@ some_pool p = record {
     ended = p.gathered.ended;
     ready = p.gathered.ready;
     can = p.gathered.can;
-    manned = λ w. absurd w;
+    manned = λ w. absurd cc;
   };
   by = p.by;
 }
@@ -155,7 +155,7 @@ if_ok (Ok a) f h = f h
 if_ok (Err e) f h = tt
 
 -- of a whole pool, which did tasks, or found no memory for its round
-pub links_end : {wanted : Type 0} (o : Opening) (setup : Setup) (limit jobs : ℕ) (program : List ℕ) (old g new : List Entry) (first : LinkValue) (before told after : ProgramsValue) (seats : List SeatValue) (links links' : List LinkValue) (desks desks' : List DeskTells)
+pub links_end : (o : Opening) (setup : Setup) (limit jobs : ℕ) (program : List ℕ) (old g new : List Entry) (first : LinkValue) (before told after : ProgramsValue) (seats : List SeatValue) (links links' : List LinkValue) (desks desks' : List DeskTells)
     (wires wires' : List WireValue) → jobs ≡ length desks → (r : Result (Unit {0}) NoMemory) → IsPool ⊥ true o jobs program old g first before told seats links → CanBeServed o old first.ear first.mouth false → first.ear.child ≡ count is_start old
     → MatchResult r (λ _. ServesLinks o setup g new links links' desks desks') (λ _. StarvedLinks g new links links' desks desks') → Legal o new → AreSameLinks links links' → IfOk r (λ _. All (λ (l : LinkValue). IsHeld new l.ear l.mouth) links')
     → All (λ (l : LinkValue). l.mouth.child ≡ l.ear.child) links' → AreLaid seats links' wires wires' → Stays told.starts after.starts → told.faults ≤ after.faults

@@ -78,8 +78,8 @@ returns-in-NoMemory g c =
     let then = c.close_links-in-NoMemory.ensures in
     record {
       serves = record {
-        links_are = ap (map (λ l. link_of l.ear l.mouth)) kept.1.0;
-        desks_are = ap (map (λ k. desk_tells (g.K.Desk.log k) (g.K.Desk.counts k))) kept.1.1;
+        links_are = ap (map _) kept.1.0;
+        desks_are = ap (map _) kept.1.1;
         closes =
             subst (λ (j : List Entry). ClosesAll (children_of (map (λ l. link_of l.ear l.mouth) c.round_links-links.result.0.items)) j c.close_links-in-NoMemory.new.core.journal) kept.0
             (subst (λ xs. ClosesAll (children_of (map (λ l. link_of l.ear l.mouth) xs)) c.round_links-links.result.1.core.journal c.close_links-in-NoMemory.new.core.journal) c.deref-in-NoMemory.ensures.value then.closes);

@@ -65,17 +65,16 @@ close_child-requires-in-NoMemory-clause-idle g c =
 
 pub returns-in-NoMemory : goal.returns-in-NoMemory
 returns-in-NoMemory g c =
-    let tells = λ k. desk_tells (g.K.Desk.log k) (g.K.Desk.counts k) in
     let kept = by_kept c.round_tagged-core.result.outcome (inl c.in-NoMemory.is) c.round_tagged-core.ensures.kept in
     let opening = c.round_tagged-core.ensures.opening in
     let same = c.round_tagged-core.ensures.same in
     let then = c.close_child-in-NoMemory.ensures in
-    let count : length (map tells c.args.bench.desks.items) ≡ c.args.bench.desks.len = length-map c.args.bench.desks.items tells ∙ sym c.args.bench.desks.ok.0 in
+    let count : length (map (λ k. desk_tells (g.K.Desk.log k) (g.K.Desk.counts k)) c.args.bench.desks.items) ≡ c.args.bench.desks.len = length-map c.args.bench.desks.items (λ k. desk_tells (g.K.Desk.log k) (g.K.Desk.counts k)) ∙ sym c.args.bench.desks.ok.0 in
     record {
       serves = record {
         many = λ one. (let some = c.requires.desks.0 in omega (arith, one, count, some));
         link = kept.1.0;
-        desks_are = ap (map tells) kept.1.1;
+        desks_are = ap (map _) kept.1.1;
         closes = starved_closes kept.0 same.0.0 then.closes;
       };
       held = then.held (starved_held c.requires.can kept.0 kept.1.0);
