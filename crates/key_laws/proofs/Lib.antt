@@ -1,0 +1,3 @@
+mod KeyScan
+mod KeyStops
+mod OneFault
