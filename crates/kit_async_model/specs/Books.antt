@@ -79,7 +79,7 @@ TookEvent setup old new by event reply =
     ⊎ ((is_call event ≡ true) × Lacked setup old new (event_step setup old.stands by event) reply)
 
 -- nothing was done, but that there may be more room
-pub record IsAsBefore (old new : BookValue) : Type 0 where
+pub record BookIsAsBefore (old new : BookValue) : Type 0 where
   pub journal : new.journal ≡ old.journal
   pub stands : new.stands ≡ old.stands
   pub room : old.room ≤ new.room
@@ -131,5 +131,5 @@ pub record AnswerKept (old new : BookValue) (place : ℕ) (said : Said) (line : 
 
 -- The answer to the job is among the lines that are to be written; or no memory was found for it.
 abbrev pub AnswerBegun : BookValue → BookValue → ℕ → Said → Option (List ℕ) → Type 0
-AnswerBegun old new place said None = IsAsBefore old new
+AnswerBegun old new place said None = BookIsAsBefore old new
 AnswerBegun old new place said (Some line) = AnswerKept old new place said line

@@ -6,6 +6,7 @@ use Rattle.kit_core.specs.declared.call.Said.{Said}
 use Rattle.kit_core.specs.Kits.{Due, Silence, Line, Asks, is_readying, is_prepare, is_yes, work_due, final_line, asked_by}
 use Rattle.kit_async_model.specs.declared.setup.Setup.{Setup}
 use Rattle.kit_async_model.specs.declared.job.Job.{Job}
+use Rattle.kit_async_model.specs.Abouts.{lines_about}
 
 -- ---- its request
 
@@ -66,14 +67,9 @@ due_in setup job = request_due (next_name setup job) job.values job.prepared (re
 abbrev pub is_for_any : Setup → Job → Bool
 is_for_any setup job = not (is_making_ready job) && is_some (asked_by (due_in setup job))
 
--- the line that is to be said next in the job without a call, if one is; all lines here are without tags
-abbrev pub line_by : Due → Option (List ℕ)
-line_by Silence = None
-line_by (Line message) = Some (remote_line message)
-line_by (Asks asked) = None
-
-abbrev pub line_in : Setup → Job → Option (List ℕ)
-line_in setup job = line_by (due_in setup job)
+-- the lines that are to be said next in the job without a call; all lines here are without tags
+abbrev pub lines_in : Setup → Job → List (List ℕ)
+lines_in setup job = lines_about setup.about (due_in setup job) (request_of job)
 
 -- The remote's word settles the job. Where all are to get ready, it is the first that isn't Yes, or else the last one's.
 abbrev pub settles : Setup → Job → Said → Bool

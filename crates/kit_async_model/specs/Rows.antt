@@ -1,5 +1,5 @@
 -- Worked journals of a kit, each of which is legal or isn't.
-use Rattle.std.specs.Prelude.{ℕ, List, [], ◌∷◌, ◌++◌, codes}
+use Rattle.std.specs.Prelude.{ℕ, List, [], ◌∷◌, ◌++◌, Some, None, codes}
 use Rattle.kit_core.specs.declared.call.Said.{Said}
 use Rattle.kit_core.specs.declared.call.Said.TheVariants.{Yes, No, Failure}
 use Rattle.kit_async_model.specs.declared.setup.Setup.{Setup}
@@ -8,10 +8,24 @@ use Rattle.kit_async_model.specs.declared.entry.Entry.TheVariants.{Heard, Take, 
 
 -- two remotes with one setting, and one without any
 abbrev pub two : Setup
-two = record { settings = codes "directory" ∷ []; remotes = 2 }
+two = record { settings = codes "directory" ∷ []; remotes = 2; about = None }
 
 abbrev pub bare : Setup
-bare = record { settings = []; remotes = 1 }
+bare = record { settings = []; remotes = 1; about = None }
+
+-- the same two, of which it is known what they say of themselves
+abbrev pub known : Setup
+known = record {
+  settings = codes "directory" ∷ [];
+  remotes = 2;
+  about = Some
+      (record {
+        configs = codes "CONFIG directory where files are kept" ∷ codes "CONFIGEND" ∷ [];
+        cost = codes "COST 100" ∷ [];
+        availability = codes "AVAILABILITY LOCAL" ∷ [];
+        info = [];
+      });
+}
 
 abbrev pub version : Entry
 version = Say 0 (codes "VERSION 1")
@@ -56,7 +70,25 @@ crossed = ready ++ check_a ∷ check_b ∷ Take 2 0 ∷ Take 3 1 ∷ Call 3 1 Ye
 abbrev pub whole : List Entry
 whole = crossed ++ Close ∷ Wrote ∷ Wrote ∷ Wrote ∷ Wrote ∷ Wrote ∷ Wrote ∷ []
 
--- ---- a host that doesn't
+-- ---- a host that asks about the remotes
+
+abbrev pub configs : Entry
+configs = Heard (codes "J 4 LISTCONFIGS")
+
+abbrev pub first_config : Entry
+first_config = Say 4 (codes "J 4 CONFIG directory where files are kept")
+
+abbrev pub last_config : Entry
+last_config = Say 4 (codes "J 4 CONFIGEND")
+
+-- it spells no message
+abbrev pub strange : Entry
+strange = Heard (codes "J 4 CLAIMURL http://a")
+
+abbrev pub unsupported : Entry
+unsupported = Say 4 (codes "J 4 UNSUPPORTED-REQUEST")
+
+-- ---- a host that doesn't tag its lines
 
 -- each request is answered before the next is heard
 abbrev pub plain : List Entry

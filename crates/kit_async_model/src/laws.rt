@@ -4,7 +4,7 @@ ghost use Rattle.kit_core.specs.declared.call.Said.TheVariants.{Yes, No, Failure
 ghost use Rattle.kit_async_model.specs.declared.entry.Entry.TheVariants.{Heard, Take, Call, Say, Wrote, Close, Lack};
 ghost use Rattle.kit_async_model.specs.Laws.{FrontsAreLegal, OverIsLast, UnwrittenAre, StepsAreLegal, StepsAreMade};
 ghost use Rattle.kit_async_model.specs.Legality.{is_legal, is_done};
-ghost use Rattle.kit_async_model.specs.Rows.{two, bare, version, error, tagging, asking, readying, ready, check_a, check_b, absent_a, crossed, whole, plain, plain_check};
+ghost use Rattle.kit_async_model.specs.Rows.{two, bare, known, version, error, tagging, asking, readying, ready, check_a, check_b, absent_a, crossed, whole, plain, plain_check, configs, first_config, last_config, strange, unsupported};
 ghost use Rattle.kit_async_model.specs.Standings.{standing};
 
 /// Journals that a kit may have: two checks at once, answered in either order, and a host that tags no line.
@@ -89,6 +89,28 @@ pub fn worked_asides()
     ensures export_for_a_value { is_legal two (asking ++ Heard (codes "J 1 EXPORT a b") ∷ error ∷ []) ≡ true }
     ensures plain_waits { is_legal two (plain ++ plain_check ∷ Heard (codes "GETCOST") ∷ []) ≡ false }
     ensures late_tags { is_legal two (plain ++ Heard (codes "EXTENSIONS ASYNC") ∷ Say 0 (codes "EXTENSIONS ASYNC") ∷ Heard (codes "J 1 GETCOST") ∷ Say 1 (codes "J 1 UNSUPPORTED-REQUEST") ∷ []) ≡ true }
+{}
+
+/// Requests about the remotes: all lines of an answer in their order, and nothing between them.
+pub fn worked_abouts()
+    ensures whole { is_legal known (ready ++ configs ∷ first_config ∷ last_config ∷ check_a ∷ []) ≡ true }
+    ensures half { is_legal known (ready ++ configs ∷ first_config ∷ check_a ∷ []) ≡ false }
+    ensures asked_again { is_legal known (ready ++ configs ∷ first_config ∷ last_config ∷ configs ∷ first_config ∷ last_config ∷ []) ≡ true }
+    ensures half_twice { is_legal known (ready ++ configs ∷ first_config ∷ configs ∷ error ∷ []) ≡ false }
+    ensures wrong_order { is_legal known (ready ++ configs ∷ last_config ∷ first_config ∷ []) ≡ false }
+    ensures too_much { is_legal known (ready ++ configs ∷ first_config ∷ last_config ∷ last_config ∷ []) ≡ false }
+    ensures untold { is_legal two (ready ++ configs ∷ unsupported ∷ []) ≡ true }
+{}
+
+/// Requests that have one line, and lines that spell no message.
+pub fn worked_strangers()
+    ensures cost { is_legal known (ready ++ Heard (codes "J 4 GETCOST") ∷ Say 4 (codes "J 4 COST 100") ∷ []) ≡ true }
+    ensures cost_left_out { is_legal known (ready ++ Heard (codes "J 4 GETCOST") ∷ unsupported ∷ []) ≡ false }
+    ensures whereis { is_legal known (ready ++ Heard (codes "J 4 WHEREIS WORM--a") ∷ unsupported ∷ []) ≡ true }
+    ensures strange { is_legal known (ready ++ strange ∷ unsupported ∷ check_a ∷ []) ≡ true }
+    ensures strange_awaited { is_legal known (asking ++ Heard (codes "J 1 CLAIMURL http://a") ∷ error ∷ []) ≡ true }
+    ensures strange_unknown { is_legal two (ready ++ strange ∷ unsupported ∷ []) ≡ false }
+    ensures strange_ends { (standing two (ready ++ strange ∷ [])).over ≡ true }
 {}
 
 /// Writing: each write is of a line that was said, in their order. And when all is done.
