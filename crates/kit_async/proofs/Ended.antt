@@ -16,7 +16,7 @@ use Rattle.kit_async_model.specs.Hearings.{hearing_of, text_in}
 use Rattle.kit_async_model.specs.Jobs.{is_awaiting, job_of, without_job}
 use Rattle.kit_async_model.specs.Legality.{IsFinished, is_lack}
 use Rattle.kit_async_model.specs.Lines.{count_wrotes, said_lines}
-use Rattle.kit_async_model.specs.Standings.{Standing, after, called_in, heard_as, opening, said_in, said_line, standing}
+use Rattle.kit_async_model.specs.Standings.{Standing, after, called_in, heard_as, is_some_due, opening, said_in, said_line, standing}
 use Rattle.kit_async_model.proofs.Places.{neither}
 use Rattle.kit_async_model.proofs.Unwritten.{unwritten_are}
 use Rattle.kit_async_roles.specs.Writing.{written_lines}
@@ -70,7 +70,7 @@ kept_over false s jobs = refl
 
 pub said_over : (setup : Setup) (s : Standing) (o : Option Job) → (said_in setup s o).over ≡ s.over
 said_over setup s None = refl
-said_over setup s (Some job) = kept_over (s.over || is_awaiting setup job) s (without_job job.number s.jobs)
+said_over setup s (Some job) = kept_over (is_some_due s.due || s.over || is_awaiting setup job) s (without_job job.number s.jobs)
 
 step_over : (setup : Setup) (s : Standing) (e : Entry) → (after setup s e).over ≡ (s.over || (is_heard_so is_ending setup s e || is_lack e))
 step_over setup s (Heard line) =

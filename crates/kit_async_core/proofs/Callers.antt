@@ -18,7 +18,7 @@ use Rattle.kit_async_model.specs.declared.event.Event.{Event}
 use Rattle.kit_async_model.specs.declared.event.Event.TheVariants.{Hear, Take as TakeUp, Called, Next, Wrote as Written, Close as Deafen, Break}
 use Rattle.kit_async_model.specs.declared.event.Reply.{Reply}
 use Rattle.kit_async_model.specs.declared.event.Reply.TheVariants.{Done, Last, Wait, Over, Odd, Unsaid, Broken, Work, Line}
-use Rattle.kit_async_model.specs.Jobs.{is_making_ready, is_awaiting, is_for_any, is_number, is_worked_by, is_first_of_key, has_number, job_of, with_job, due_in}
+use Rattle.kit_async_model.specs.Jobs.{is_making_ready, is_awaiting, is_for_any, is_number, is_worked_by, is_first_of_key, job_line, has_number, job_of, with_job, due_in}
 use Rattle.kit_async_model.specs.Legality.{Legal, is_idle, is_free, is_turn_of, is_called, is_done}
 use Rattle.kit_async_model.specs.Standings.{Standing, with_taken, after, standing}
 use Rattle.kit_async_model.specs.Events.{IsMadeBy, MayStep, Stepped, IsStepped, IsBrokenOff, IsUnsaid, is_call, only, waiting, due_said, work_by, work_in, first_free, free_step, turn_step, take_step, called_then, called_step, call_step, if_it_is, is_of_remote, remote_of, step_of}
@@ -225,9 +225,9 @@ takes_asked h p q r asked is l e = go (own_step h p q TakeUp (Work asked) r is e
 
 -- ---- a call is noted
 
-due_uncalled : (setup : Setup) (s : Standing) (r : ℕ) (due : Option (ℕ × List ℕ)) → calls_from setup s r (due_said due) ≡ []
-due_uncalled setup s r None = refl
-due_uncalled setup s r (Some d) = refl
+due_uncalled : (setup : Setup) (s : Standing) (r : ℕ) (due : List (ℕ × List ℕ)) → calls_from setup s r (due_said due) ≡ []
+due_uncalled setup s r [] = refl
+due_uncalled setup s r (d ∷ rest) = due_uncalled setup (after setup s (Say d.0 (job_line d.0 d.1))) r rest
 
 one_call : (setup : Setup) (s : Standing) (r : ℕ) (job : Job) (said : Said) (asked : Asked) → job_of s.jobs job.number ≡ Some job → asked_by (due_in setup job) ≡ Some asked
     → call_of setup s r (Call job.number r said) ≡ record { asked = asked; said = said } ∷ []

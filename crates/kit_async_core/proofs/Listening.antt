@@ -42,9 +42,9 @@ none_log setup past (k ∷ ks) h n =
 
 -- ---- of the reader
 
-due_unheard : (due : Option (ℕ × List ℕ)) → heard_lines (due_said due) ≡ []
-due_unheard None = refl
-due_unheard (Some d) = refl
+due_unheard : (due : List (ℕ × List ℕ)) → heard_lines (due_said due) ≡ []
+due_unheard [] = refl
+due_unheard (d ∷ rest) = due_unheard rest
 
 heard_hears : (line : List ℕ) (b : Bool) → line ∷ [] ≡ hears (Hear line) (heard_reply b)
 heard_hears line true = refl

@@ -16,7 +16,7 @@ use Rattle.kit_async_model.specs.declared.event.Reply.TheVariants.{Broken}
 use Rattle.kit_async_model.specs.Standings.{Standing, after, standing}
 use Rattle.kit_async_model.specs.Legality.{Legal}
 use Rattle.kit_async_model.specs.Events.{IsMadeBy, Stepped, event_step, step_of, is_call, can_break, IsUnsaid, IsBrokenOff, MayStep}
-use Rattle.kit_async_model.specs.Books.{BookValue, AreApart, room_owed, Took, Lacked, TookEvent, IsAsBefore, IsBook}
+use Rattle.kit_async_model.specs.Books.{BookValue, AreApart, room_owed, Took, Lacked, TookEvent, BookIsAsBefore, IsBook}
 use Rattle.kit_async_model.proofs.Fronts.{standing_append}
 use Rattle.kit_async_model.proofs.Apart.{standing_apart}
 use Rattle.kit_async_model.proofs.Making.{steps_are_made, lacks_are_made}
@@ -99,7 +99,7 @@ came setup old new by event reply b (inr t) =
 
 -- it is a book still
 pub book_kept : (setup : Setup) (old new : BookValue) (by : ℕ) (event : Event) (r : Result Reply NoMemory) → IsBook setup old
-    → IfOk r (TookEvent setup old new by event) → OnErr r (IsAsBefore old new) → IsBook setup new
+    → IfOk r (TookEvent setup old new by event) → OnErr r (BookIsAsBefore old new) → IsBook setup new
 book_kept setup old new by event (Ok reply) b t e =
     let k = came setup old new by event reply b t in
     record { legal = subst (Legal setup) (sym k.journal) k.may.legal; stands = k.stands; room = k.room }

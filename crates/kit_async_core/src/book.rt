@@ -1,10 +1,10 @@
 // A journal that is being written, and how a kit stands after it.
-ghost use Rattle.std.specs.Prelude.{◌≡◌, ◌≤◌, ◌∷◌, [], IfOk, OnErr, None, codes};
+ghost use Rattle.std.specs.Prelude.{◌≡◌, ◌≤◌, ◌∷◌, [], IfOk, OnErr, codes};
 ghost use Rattle.kit_async_model.specs.declared.entry.Entry.TheVariants.{Say};
 ghost use Rattle.kit_async_model.specs.Standings.{opening};
 ghost use Rattle.kit_async_model.specs.Legality.{may_hear, is_done};
 ghost use Rattle.kit_async_model.specs.Events.{waiting, next_reply, wrote_step, close_step};
-ghost use Rattle.kit_async_model.specs.Books.{Took, IsAsBefore, room_owed};
+ghost use Rattle.kit_async_model.specs.Books.{Took, BookIsAsBefore, room_owed};
 
 use ann_key::{Bytes, NoMemory};
 use kit_async_model::jobs::{all_await, hold_back};
@@ -27,7 +27,7 @@ pub(crate) struct Book {
 }
 
 impl Model for Book {
-    ghost use Rattle.std.specs.Prelude.{None};
+    ghost use Rattle.std.specs.Prelude.{[]};
     ghost use Rattle.kit_async_model.specs.Books.{BookValue};
 
     ghost Value = { BookValue };
@@ -35,7 +35,7 @@ impl Model for Book {
     ghost view = { λ b. record {
       journal = b.journal.entries;
       room = b.journal.room;
-      stands = record { due = None; tagged = b.tagged; prepared = b.prepared; jobs = b.jobs.items; over = b.over; closed = b.closed; unwritten = b.unwritten.items };
+      stands = record { due = []; tagged = b.tagged; prepared = b.prepared; jobs = b.jobs.items; over = b.over; closed = b.closed; unwritten = b.unwritten.items };
     } };
 }
 
@@ -50,7 +50,7 @@ impl Book {
     /// That of a kit that says its version.
     pub(crate) fn new(alloc: Global) -> Result<Book, NoMemory>
         ensures journal { IfOk result (λ b. b.journal ≡ Say 0 (codes "VERSION 1") ∷ []) }
-        ensures stands { IfOk result (λ b. b.stands ≡ record opening { due = None; unwritten = codes "VERSION 1" ∷ [] }) }
+        ensures stands { IfOk result (λ b. b.stands ≡ record opening { due = []; unwritten = codes "VERSION 1" ∷ [] }) }
         ensures room { IfOk result (λ b. b.room ≡ 1) }
     {
         let line = Bytes::copy(alloc, b"VERSION 1")?;
@@ -112,7 +112,7 @@ impl Book {
     /// No more is heard.
     pub(crate) fn close_ears(&mut self, setup: &Setup) -> Result<Reply, NoMemory>
         ensures ok { IfOk result (Took setup.now self.old self.new (close_step self.old.stands)) }
-        ensures err { OnErr result (IsAsBefore self.old self.new) }
+        ensures err { OnErr result (BookIsAsBefore self.old self.new) }
     {
         if self.over || self.closed {
             return Ok(Reply::Done);

@@ -1,7 +1,7 @@
 // The steps of a remote: what it takes up, and what it says.
 ghost use Rattle.std.specs.Prelude.{◌≡◌, ◌⊎◌, ◌<◌, ◌≤◌, ◌+◌, ◌^◌, ◌||◌, IfOk, IfSome, OnErr, false, true, not, ◌&&◌, length, slice_get};
 ghost use Rattle.kit_core.specs.Calls.{is_line_said};
-ghost use Rattle.kit_async_model.specs.Books.{Took, Lacked, IsAsBefore, AreApart, room_owed, IsCalledAt, CallNoted, AnswerBegun};
+ghost use Rattle.kit_async_model.specs.Books.{Took, Lacked, BookIsAsBefore, AreApart, room_owed, IsCalledAt, CallNoted, AnswerBegun};
 ghost use Rattle.kit_async_model.specs.Legality.{is_idle};
 ghost use Rattle.kit_async_model.specs.Events.{take_step, call_step, work_in};
 ghost use Rattle.kit_async_model.specs.Jobs.{final_in, job_line, prepares, settles};
@@ -47,7 +47,7 @@ impl Book {
     pub(crate) fn take(&mut self, setup: &Setup, remote: u32) -> Result<Reply, NoMemory>
         requires apart { AreApart self.old.stands.jobs }
         ensures ok { IfOk result (Took setup.now self.old self.new (take_step setup.now self.old.stands remote)) }
-        ensures err { OnErr result (IsAsBefore self.old self.new) }
+        ensures err { OnErr result (BookIsAsBefore self.old self.new) }
     {
         if let Some(at) = turn_of(setup, self.jobs.as_slice(), remote) {
             return work(self.alloc, setup, &self.jobs[at]);

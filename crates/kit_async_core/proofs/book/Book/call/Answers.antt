@@ -52,4 +52,4 @@ returns c =
     let owed : c.is_owed.result ≡ (not old.stands.over && settles setup k.job c.args.said) =
     subst (λ (o : Option Job). IfSome o (λ job. c.is_owed.result ≡ (not old.stands.over && settles setup job c.args.said))) k.there c.is_owed.ensures in
     inl (noted_took setup old c.note_call.new.self c.args.remote c.args.said c.in-Some.at
-    (subst (λ (v : BookValue). v.stands.due ≡ None) c.self.view_is refl) c.requires.apart k c.note_call.ensures (sym owed ∙ c.if-is_owed.false))
+    (subst (λ (v : BookValue). v.stands.due ≡ []) c.self.view_is refl) c.requires.apart k c.note_call.ensures (sym owed ∙ c.if-is_owed.false))

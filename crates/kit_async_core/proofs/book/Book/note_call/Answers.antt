@@ -25,7 +25,7 @@ returns c =
     let setup = c.args.setup.now in
     let said = c.args.said in
     let place : ℕ = c.args.at in
-    let s : Standing = record { due = None; tagged = i.tagged; prepared = i.prepared; jobs = i.jobs.items; over = i.over; closed = i.closed; unwritten = i.unwritten.items } in
+    let s : Standing = record { due = []; tagged = i.tagged; prepared = i.prepared; jobs = i.jobs.items; over = i.over; closed = i.closed; unwritten = i.unwritten.items } in
     let there = subst (λ (v : BookValue). slice_get v.stands.jobs place ≡ Some k.job) (sym c.self.view_is) k.there in
     let changed : c.index_mut.result.now ≡ k.job = read_is i.jobs.items place k.job c.index_mut.result.now there c.index_mut.ensures.value in
     let read : c.index-job.result.now ≡ k.job = read_is i.jobs.items place k.job c.index-job.result.now there c.index-job.ensures in

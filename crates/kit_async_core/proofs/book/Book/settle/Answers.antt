@@ -49,7 +49,7 @@ returns-in-Some c =
     let line : List ℕ = c.in-Some.line in
     let n : ℕ = c.index.result.now.number in
     let i = c.self-2.inside in
-    let s : Standing = record { due = None; tagged = i.tagged; prepared = i.prepared; jobs = i.jobs.items; over = i.over; closed = i.closed; unwritten = i.unwritten.items } in
+    let s : Standing = record { due = []; tagged = i.tagged; prepared = i.prepared; jobs = i.jobs.items; over = i.over; closed = i.closed; unwritten = i.unwritten.items } in
     let settled : settles setup k.job c.args.said ≡ true = subst (λ (o : Option Job). IfSome o (λ job. settles setup job c.args.said ≡ true)) k.there c.requires.settles in
     let b = begun_is old mid place c.args.said (Some line) c.in-Some.ensures in
     let there : slice_get c.self.inside.jobs.items place ≡ Some k.job =
@@ -58,7 +58,7 @@ returns-in-Some c =
     inl (answered_settles setup old mid c.note_call.new.self _ c.args.remote c.args.said place n line c.requires.apart k c.requires.live settled number
     c.in-Some.ensures c.note_call.ensures
     (c.push.ensures.entries ∙ ap (λ (v : BookValue). v.journal ++ Say n line ∷ []) c.self-2.view_is)
-    (ap (λ (js : List Job). record s { jobs = js }) c.remove.ensures.items ∙ ap (λ (v : BookValue). record v.stands { due = None; jobs = remove v.stands.jobs place }) c.self-2.view_is)
+    (ap (λ (js : List Job). record s { jobs = js }) c.remove.ensures.items ∙ ap (λ (v : BookValue). record v.stands { due = []; jobs = remove v.stands.jobs place }) c.self-2.view_is)
     (omega (arith, c.push.ensures.room, ap (λ (v : BookValue). v.room) c.self-2.view_is)))
 
 pub returns-in-None : goal.returns-in-None
@@ -72,5 +72,5 @@ returns-in-None c =
     inr (lacking_settles setup old mid c.note_call.new.self _ c.args.remote c.args.said c.args.at c.requires.apart k c.requires.live settled
     c.in-None.ensures c.note_call.ensures
     (c.push-in-None.ensures.entries ∙ ap (λ (v : BookValue). v.journal ++ Lack ∷ []) c.self-2.view_is)
-    (ap (λ (v : BookValue). record v.stands { due = None; over = true }) c.self-2.view_is)
+    (ap (λ (v : BookValue). record v.stands { due = []; over = true }) c.self-2.view_is)
     (omega (arith, c.push-in-None.ensures.room, ap (λ (v : BookValue). v.room) c.self-2.view_is)))
