@@ -1,6 +1,6 @@
 -- No answer of a kit is its version or the error, so these are said first and last.
 use Rattle.std.proofs.Common.{◌≡◌, ℕ, ◌==◌, List, [], ◌∷◌, ◌++◌, refl, sym, ap, subst, ◌∙◌, Bool, true, false, not, ◌&&◌, ◌||◌, Some, None, Option, codes}
-use Rattle.std.specs.Prelude.{bytes_eq, drop, fold, if◌then◌else◌, map, slice_index}
+use Rattle.std.specs.Prelude.{bytes_eq, drop, fold, if◌then◌else◌, map, slice_get, slice_index}
 use Rattle.std.specs.List.{list_all, list_any}
 use Rattle.std.specs.Str.{is_utf8}
 use Rattle.std.proofs.Math.Seq.{append_snoc}
@@ -14,17 +14,19 @@ use Rattle.kit_core.specs.Kits.{Due, Silence, Line, Asks as AsksFor, final_line,
 use Rattle.kit_core.specs.declared.describe.Pair.{Pair}
 use Rattle.kit_core.specs.declared.describe.Availability.{Availability as Reach}
 use Rattle.kit_core.specs.declared.describe.Availability.TheVariants.{Global, Local}
-use Rattle.kit_core.specs.Descriptions.{Description, all_messages, availability_message, config_message, cost_message, info_messages, list_messages}
+use Rattle.kit_core.specs.Descriptions.{Description, all_messages, availability_message, config_message, cost_message, list_messages}
 use Rattle.kit_async_model.specs.declared.about.About.{About}
+use Rattle.kit_async_model.specs.declared.about.Fact.{Fact}
+use Rattle.kit_async_model.specs.declared.about.Fact.TheVariants.{Fixed, Setting}
 use Rattle.kit_async_model.specs.declared.setup.Setup.{Setup}
 use Rattle.kit_async_model.specs.declared.job.Job.{Job}
 use Rattle.kit_async_model.specs.declared.entry.Entry.{Entry}
 use Rattle.kit_async_model.specs.declared.entry.Entry.TheVariants.{Heard, Take, Call, Say, Wrote, Close, Lack}
 use Rattle.kit_async_model.specs.declared.hearing.Hearing.{Hearing}
 use Rattle.kit_async_model.specs.declared.hearing.Hearing.TheVariants.{Foul, Unexpected, Aside, Asks, Replies}
-use Rattle.kit_async_model.specs.Abouts.{about_of, lines_about, lines_by, lines_or, or_unsupported, told_of}
+use Rattle.kit_async_model.specs.Abouts.{about_of, all_facts, ended, fact_lines, lines_about, lines_by, lines_or, or_unsupported, pair_lines, told_of}
 use Rattle.kit_async_model.specs.Hearings.{hearing_of, text_in, value_told}
-use Rattle.kit_async_model.specs.Jobs.{due_in, final_in, is_awaiting, is_job_line, is_tagged_as, job_of, lines_in, next_name, request_due, request_of, settles, with_job, without_job}
+use Rattle.kit_async_model.specs.Jobs.{due_in, final_in, if_prepared, is_awaiting, is_job_line, is_tagged_as, job_of, lines_in, next_name, request_due, request_of, settles, with_job, without_job}
 use Rattle.kit_async_model.specs.Laws.{is_spoken}
 use Rattle.kit_async_model.specs.Legality.{comes_where, follows, is_lack, is_legal, is_said, legal_from, may_come}
 use Rattle.kit_async_model.specs.Lines.{said_lines}
@@ -227,42 +229,58 @@ abbrev ToldFree : Option (List (List ℕ)) → Type 0
 ToldFree None = Unit {0}
 ToldFree (Some lines) = AreFree lines
 
-told_free : (about : About) → AreFree (about.configs ++ about.cost ++ about.availability ++ about.info) → (r : Option HostMessage) → ToldFree (told_of about r)
-told_free about h None = refl
-told_free about h (Some Listconfigs) = left_free about.configs _ h
-told_free about h (Some Getcost) = left_free about.cost _ (right_free about.configs _ h)
-told_free about h (Some Getavailability) = left_free about.availability about.info (right_free about.cost _ (right_free about.configs _ h))
-told_free about h (Some Getinfo) = right_free about.availability about.info (right_free about.cost _ (right_free about.configs _ h))
-told_free about h (Some (AskExtensions names)) = tt
-told_free about h (Some Prepare) = tt
-told_free about h (Some Initremote) = tt
-told_free about h (Some (Transfer store key file)) = tt
-told_free about h (Some (Checkpresent key)) = tt
-told_free about h (Some (Remove key)) = tt
-told_free about h (Some (Whereis key)) = tt
-told_free about h (Some (Value value)) = tt
-told_free about h (Some (Creds user password)) = tt
-told_free about h (Some (HostError text)) = tt
-told_free about h (Some Exportsupported) = tt
-told_free about h (Some (Export name)) = tt
-told_free about h (Some (Transferexport store key file)) = tt
-told_free about h (Some (Checkpresentexport key)) = tt
-told_free about h (Some (Removeexport key)) = tt
-told_free about h (Some (Renameexport key onto)) = tt
+pair_free : (name : List ℕ) (o : Option (List ℕ)) → AreFree (pair_lines name o)
+pair_free name None = refl
+pair_free name (Some text) = rw (word_free (Infofield name) refl, word_free (Infovalue text) refl) refl
+
+fact_free : (told : List (List ℕ)) (fact : Fact) → AreFree (fact_lines told fact)
+fact_free told (Fixed name text) = pair_free name (Some text)
+fact_free told (Setting name number) = pair_free name (slice_get told number)
+
+facts_free : (told : List (List ℕ)) (facts : List Fact) → AreFree (all_facts told facts)
+facts_free told [] = refl
+facts_free told (fact ∷ facts) = both_free (fact_lines told fact) (all_facts told facts) (fact_free told fact) (facts_free told facts)
+
+ended_free : (lines : List (List ℕ)) → AreFree lines → AreFree (ended lines)
+ended_free [] h = refl
+ended_free (line ∷ lines) h = both_free (line ∷ lines) (remote_line Infoend ∷ []) h refl
+
+told_free : (about : About) (told : List (List ℕ)) → AreFree (about.configs ++ about.cost ++ about.availability) → (r : Option HostMessage) → ToldFree (told_of about told r)
+told_free about told h None = refl
+told_free about told h (Some Listconfigs) = left_free about.configs _ h
+told_free about told h (Some Getcost) = left_free about.cost _ (right_free about.configs _ h)
+told_free about told h (Some Getavailability) = right_free about.cost about.availability (right_free about.configs _ h)
+told_free about told h (Some Getinfo) = ended_free (all_facts told about.facts) (facts_free told about.facts)
+told_free about told h (Some (AskExtensions names)) = tt
+told_free about told h (Some Prepare) = tt
+told_free about told h (Some Initremote) = tt
+told_free about told h (Some (Transfer store key file)) = tt
+told_free about told h (Some (Checkpresent key)) = tt
+told_free about told h (Some (Remove key)) = tt
+told_free about told h (Some (Whereis key)) = tt
+told_free about told h (Some (Value value)) = tt
+told_free about told h (Some (Creds user password)) = tt
+told_free about told h (Some (HostError text)) = tt
+told_free about told h (Some Exportsupported) = tt
+told_free about told h (Some (Export name)) = tt
+told_free about told h (Some (Transferexport store key file)) = tt
+told_free about told h (Some (Checkpresentexport key)) = tt
+told_free about told h (Some (Removeexport key)) = tt
+told_free about told h (Some (Renameexport key onto)) = tt
 
 or_free : (due : Due) (told : Option (List (List ℕ))) → LineIsAnswer due → ToldFree told → AreFree (lines_or due told)
 or_free due None h k = due_free due h
 or_free due (Some lines) h k = supported_free lines k
 
-about_free : (about : Option About) (due : Due) (r : Option HostMessage) → AreFree (about_lines about) → LineIsAnswer due → AreFree (lines_about about due r)
-about_free None due r free h = due_free due h
-about_free (Some about) due r free h = or_free due (told_of about r) h (told_free about free r)
+about_free : (about : Option About) (told : List (List ℕ)) (due : Due) (r : Option HostMessage) → AreFree (about_lines about) → LineIsAnswer due → AreFree (lines_about about told due r)
+about_free None told due r free h = due_free due h
+about_free (Some about) told due r free h = or_free due (told_of about told r) h (told_free about told free r)
 
-job_answer : (setup : Setup) → TellsNoWord setup → (o : Option Job) → DueIsAnswer (due_of setup o)
-job_answer setup free None = tt
-job_answer setup free (Some job) =
-    lines_answer job.number (lines_in setup job)
-    (about_free setup.about (due_in setup job) (request_of job) free (request_answer (next_name setup job) job.values job.prepared (request_of job)))
+job_answer : (setup : Setup) → TellsNoWord setup → (told : List (List ℕ)) (o : Option Job) → DueIsAnswer (due_of setup told o)
+job_answer setup free told None = tt
+job_answer setup free told (Some job) =
+    lines_answer job.number (lines_in setup told job)
+    (about_free setup.about (if_prepared job.prepared told) (due_in setup job) (request_of job) free (request_answer (next_name setup job) job.values job.prepared (request_of job)))
 
 -- ---- the lines of a description
 
@@ -274,17 +292,9 @@ all_configs : (ps : List Pair) → list_all is_answer (all_messages config_messa
 all_configs [] = refl
 all_configs (p ∷ ps) = all_configs ps
 
-all_facts : (ps : List Pair) → list_all is_answer (all_messages info_messages ps ++ Infoend ∷ []) ≡ true
-all_facts [] = refl
-all_facts (p ∷ ps) = all_facts ps
-
 listed_configs : (ps : List Pair) → list_all is_answer (list_messages config_message Configend ps) ≡ true
 listed_configs [] = refl
 listed_configs (p ∷ ps) = all_configs ps
-
-listed_facts : (ps : List Pair) → list_all is_answer (list_messages info_messages Infoend ps) ≡ true
-listed_facts [] = refl
-listed_facts (p ∷ ps) = all_facts ps
 
 cost_answer : (o : Option ℕ) → list_all is_answer (cost_message o ∷ []) ≡ true
 cost_answer None = refl
@@ -295,13 +305,11 @@ availability_answer None = refl
 availability_answer (Some Global) = refl
 availability_answer (Some Local) = refl
 
-pub descriptions_tell_no_word : (setup : Setup) (d : Description) → setup.about ≡ Some (about_of d) → TellsNoWord setup
-descriptions_tell_no_word setup d e =
+pub descriptions_tell_no_word : (setup : Setup) (d : Description) (facts : List Fact) → setup.about ≡ Some (about_of d facts) → TellsNoWord setup
+descriptions_tell_no_word setup d facts e =
     subst (λ (o : Option About). AreFree (about_lines o)) (sym e)
     (both_free _ _ (messages_free (list_messages config_message Configend d.configs) (listed_configs d.configs))
-    (both_free _ _ (messages_free (cost_message d.cost ∷ []) (cost_answer d.cost))
-    (both_free _ _ (messages_free (availability_message d.availability ∷ []) (availability_answer d.availability))
-    (messages_free (list_messages info_messages Infoend d.info) (listed_facts d.info)))))
+    (both_free _ _ (messages_free (cost_message d.cost ∷ []) (cost_answer d.cost)) (messages_free (availability_message d.availability ∷ []) (availability_answer d.availability))))
 
 -- ---- what an entry makes due
 
@@ -314,13 +322,13 @@ called_answer setup s said None h = h
 called_answer setup s said (Some job) h =
     if_answer (not s.over && settles setup job said) job.number (final_in job said) (word_free (final_line (request_of job) said) (final_answer (request_of job) said))
 
-kept_due : (b : Bool) (s : Standing) (jobs : List Job) → (if b then s else record s { jobs = jobs }).due ≡ s.due
-kept_due true s jobs = refl
-kept_due false s jobs = refl
+kept_due : (b : Bool) (s t : Standing) → t.due ≡ s.due → (if b then s else t).due ≡ s.due
+kept_due true s t e = refl
+kept_due false s t e = e
 
 said_due : (setup : Setup) (s : Standing) (o : Option Job) → (said_in setup s o).due ≡ s.due
 said_due setup s None = refl
-said_due setup s (Some job) = kept_due (is_some_due s.due || s.over || is_awaiting setup job) s (without_job job.number s.jobs)
+said_due setup s (Some job) = kept_due (is_some_due s.due || s.over || is_awaiting setup job) s _ refl
 
 -- ---- the lines that are said
 
@@ -436,9 +444,9 @@ module _ (setup : Setup) (s : Standing) (rest : List Entry) (free : TellsNoWord 
       (subst (λ (l : List (List ℕ)). AreSaidTo false l) (sym (silent_said rest none)) refl)
   heard_words text Unexpected o d more silent last = ([], last refl refl, refl)
   heard_words text Aside o d more silent last = more o (subst DueIsAnswer (sym d) tt)
-  heard_words text (Asks number) o d more silent last = more o (job_answer setup free (Some (new_job number text s.prepared)))
+  heard_words text (Asks number) o d more silent last = more o (job_answer setup free s.told (Some (new_job number text s.prepared)))
   heard_words text (Replies number) o d more silent last =
-      more o (let value = value_told (host_reading text) in job_answer setup free (job_of (with_job number (with_value value) s.jobs) number))
+      more o (let value = value_told (host_reading text) in job_answer setup free s.told (job_of (with_job number (with_value value) s.jobs) number))
 
   free_words : (e : Entry) → s.over ≡ false → s.due ≡ [] → may_come setup s e ≡ true → More (after setup s e) → Quiet (after setup s e) → Last (after setup s e)
       → AreSaidTo (heard_from is_unexpected setup s (e ∷ rest)) (said_lines (e ∷ rest))

@@ -5,6 +5,7 @@ use Rattle.annex_model.specs.Lines.{has_newline}
 use Rattle.kit_serve.specs.Limits.{longest_line, next_line}
 use Rattle.kit_core.specs.Descriptions.{Description}
 use Rattle.kit_async_model.specs.declared.about.About.{About}
+use Rattle.kit_async_model.specs.declared.about.Fact.{Fact}
 use Rattle.kit_async_model.specs.declared.setup.Setup.{Setup}
 use Rattle.kit_async_model.specs.declared.entry.Entry.{Entry}
 use Rattle.kit_async_model.specs.declared.entry.Entry.TheVariants.{Heard, Say}
@@ -86,10 +87,10 @@ JobsAreSettled =
 abbrev pub is_own_word : List ℕ → Bool
 is_own_word line = bytes_eq line (codes "VERSION 1") || bytes_eq line unexpected_line
 
--- the lines that the kit has about its remotes
+-- the lines that the kit has about its remotes; its facts are told on lines of their own kind
 abbrev pub about_lines : Option About → List (List ℕ)
 about_lines None = []
-about_lines (Some about) = about.configs ++ about.cost ++ about.availability ++ about.info
+about_lines (Some about) = about.configs ++ about.cost ++ about.availability
 
 -- none of them is such a word
 abbrev pub TellsNoWord : Setup → Type 0
@@ -97,7 +98,7 @@ TellsNoWord setup = list_any is_own_word (about_lines setup.about) ≡ false
 
 -- so it is where they are those of a description
 abbrev pub DescriptionsTellNoWord : Type 0
-DescriptionsTellNoWord = (setup : Setup) (d : Description) → setup.about ≡ Some (about_of d) → TellsNoWord setup
+DescriptionsTellNoWord = (setup : Setup) (d : Description) (facts : List Fact) → setup.about ≡ Some (about_of d facts) → TellsNoWord setup
 
 -- these lines are answers, and then, where something was unexpected, the error
 abbrev pub AreSaidTo : Bool → List (List ℕ) → Type 0

@@ -7,6 +7,7 @@ use Rattle.annex_model.specs.Lines.{text, has_newline, Cut}
 use Rattle.kit_core.specs.declared.call.Call.{Call as RemoteCall}
 use Rattle.kit_core.specs.Descriptions.{Description}
 use Rattle.kit_serve.specs.Limits.{longest_line, is_short, next_line}
+use Rattle.kit_async_model.specs.declared.about.Fact.{Fact}
 use Rattle.kit_async_model.specs.declared.setup.Setup.{Setup}
 use Rattle.kit_async.specs.declared.why.Why.{Why}
 use Rattle.kit_async.specs.declared.why.Why.TheVariants.{Eof, ReadFault, WriteFault, Bad, Memory}
@@ -130,7 +131,7 @@ abbrev pub setup_of : {K : Type 0} → (K → List (List ℕ)) → List K → Se
 setup_of settings [] = record { settings = []; remotes = 0; about = None }
 setup_of settings (k ∷ ks) = record { settings = settings k; remotes = length ks + 1; about = None }
 
--- the same, with what the first remote says of itself
-abbrev pub described_setup : {K : Type 0} → (K → List (List ℕ)) → (K → Description) → List K → Setup
-described_setup settings description [] = setup_of settings []
-described_setup settings description (k ∷ ks) = record (setup_of settings (k ∷ ks)) { about = Some (about_of (description k)) }
+-- the same, with what the first remote says of itself, and these facts
+abbrev pub described_setup : {K : Type 0} → (K → List (List ℕ)) → (K → Description) → List Fact → List K → Setup
+described_setup settings description facts [] = setup_of settings []
+described_setup settings description facts (k ∷ ks) = record (setup_of settings (k ∷ ks)) { about = Some (about_of (description k) facts) }

@@ -16,7 +16,7 @@ use ann_key::NoMemory;
 use ann_outside::{Sink, Source};
 use hall::{Hall, Pass};
 use kit_async_core::KitCore;
-use kit_async_model::{About, Setup};
+use kit_async_model::{About, Fact, Setup};
 use kit_async_roles::Why as RoleWhy;
 use kit_core::{Describe, Remote};
 use std::alloc::Global;
@@ -91,14 +91,18 @@ fn setup<K: Remote>(alloc: Global, remotes: &[K]) -> Result<Setup, NoMemory>
     Setup::of(alloc, &remotes[0], seats)
 }
 
-// The same, with what the first of them says of itself.
-fn described_setup<K: Remote + Describe>(alloc: Global, remotes: &[K]) -> Result<Setup, NoMemory>
+// The same, with what the first of them says of itself, and these facts.
+fn described_setup<K: Remote + Describe>(
+    alloc: Global,
+    remotes: &[K],
+    facts: Vec<Fact>,
+) -> Result<Setup, NoMemory>
     requires { (0 < length remotes.now) × (length remotes.now ≤ 64) }
-    ensures { IfOk result (λ setup. setup ≡ described_setup K.settings K.description remotes.now) }
+    ensures { IfOk result (λ setup. setup ≡ described_setup K.settings K.description facts.items remotes.now) }
 {
     let seats = remotes.len() as u32;
     let setup = Setup::of(alloc, &remotes[0], seats)?;
-    let about = About::of(alloc, &remotes[0])?;
+    let about = About::of(alloc, &remotes[0], facts)?;
     Ok(Setup {
         about: Some(about),
         ..setup
@@ -245,18 +249,18 @@ pub fn serve_async<
 }
 
 /// The same as [`serve_async`] where the remotes say what they are. It differs in this alone: LISTCONFIGS, GETCOST, GETAVAILABILITY and
-/// GETINFO are answered by what the first remote says of itself before it is served, and a line that spells no message by
-/// UNSUPPORTED-REQUEST, so that a host may ask for what the remotes don't know. WHEREIS is UNSUPPORTED-REQUEST: its answer depends on
-/// the key.
+/// GETINFO are answered by what the first remote says of itself before it is served, and by these facts after its own; and a line that
+/// spells no message by UNSUPPORTED-REQUEST, so that a host may ask for what the remotes don't know. WHEREIS is UNSUPPORTED-REQUEST: its
+/// answer depends on the key.
 pub fn serve_async_described<
     K: Remote + Describe + Send + Drop,
     S: Source + Send + Drop,
     W: Sink + Send + Drop,
     R: Threads + Wait + Sync,
->(rt: &R, alloc: Global, remotes: Vec<K>, source: S, sink: W) -> AsyncEnd<K, S, W>
+>(rt: &R, alloc: Global, remotes: Vec<K>, facts: Vec<Fact>, source: S, sink: W) -> AsyncEnd<K, S, W>
     requires remotes { (0 < vec_len remotes) × (vec_len remotes ≤ 64) }
     requires open { (S.is_open source ≡ true) × (W.is_open sink ≡ true) }
-    ensures serves { Serves (described_setup K.settings K.description remotes.items)
+    ensures serves { Serves (described_setup K.settings K.description facts.items remotes.items)
         (record { given = S.given source; left = S.left source; taken = W.taken sink; calls = map K.calls remotes.items })
         (record { given = S.given result.source; left = S.left result.source; taken = W.taken result.sink; calls = map K.calls result.remotes.items }) result.journal }
     ensures status { result.status ≡ status_of result.journal.why }
@@ -264,7 +268,7 @@ pub fn serve_async_described<
     ensures open { (S.is_open result.source ≡ true) × (W.is_open result.sink ≡ true) }
     ensures settings { map K.settings result.remotes.items ≡ map K.settings remotes.items }
 {
-    let Ok(setup) = described_setup(alloc, &remotes) else {
+    let Ok(setup) = described_setup(alloc, &remotes, facts) else {
         return unserved(alloc, remotes, source, sink);
     };
     serve_over(rt, alloc, usize::MAX, setup, remotes, source, sink)

@@ -121,14 +121,14 @@ awaits_other setup r jobs job n a f w = decided (has_number n job) same
         let k : not (is_making_ready job) ≡ true = (both (not (is_making_ready job)) (is_worked_by r job) (passes_of (at_work r) jobs job f)).0 in
         not_both (is_making_ready job) m k
 
-found_due : (setup : Setup) (over : Bool) (job : Job) (jobs : List Job) (n : ℕ) → has_number n job ≡ false → DueApart (due_of setup (job_of jobs n)) over job
-found_due setup over job jobs n h = go (job_of jobs n) refl
+found_due : (setup : Setup) (told : List (List ℕ)) (over : Bool) (job : Job) (jobs : List Job) (n : ℕ) → has_number n job ≡ false → DueApart (due_of setup told (job_of jobs n)) over job
+found_due setup told over job jobs n h = go (job_of jobs n) refl
   where
-    go : (o : Option Job) → job_of jobs n ≡ o → DueApart (due_of setup o) over job
+    go : (o : Option Job) → job_of jobs n ≡ o → DueApart (due_of setup told o) over job
     go None e = tt
     go (Some j) e =
         let is : j.number ≡ n = equal_is j.number n (passes_of (has_number n) jobs j e) in
-        mapped_apart over job j.number (lines_in setup j) (subst (λ (m : ℕ). has_number m job ≡ false) (sym is) h)
+        mapped_apart over job j.number (lines_in setup told j) (subst (λ (m : ℕ). has_number m job ≡ false) (sym is) h)
 
 heard_lasts : (setup : Setup) (r : ℕ) (s : Standing) (text : List ℕ) (job : Job) (h : Hearing) → find (at_work r) s.jobs ≡ Some job → s.due ≡ []
     → ((n : ℕ) → h ≡ Asks n → has_number n job ≡ false) → ((n : ℕ) → h ≡ Replies n → has_number n job ≡ false) → Lasts setup r (heard_as setup s text h) job
@@ -137,11 +137,11 @@ heard_lasts setup r s text job Unexpected f d new told = (inl f, inl refl, tt)
 heard_lasts setup r s text job Aside f d new told = (inl f, rw d tt)
 heard_lasts setup r s text job (Asks n) f d new told = (
   last_keeps setup r (new_job n text s.prepared) s.jobs job refl (inl f),
-  mapped_apart s.over job n (lines_in setup (new_job n text s.prepared)) (new n refl),
+  mapped_apart s.over job n (lines_in setup s.told (new_job n text s.prepared)) (new n refl),
 )
 heard_lasts setup r s text job (Replies n) f d new told = (
   change_keeps setup r n (with_value (value_told (host_reading text))) (λ x. refl) (λ x t. t) s.jobs job (told n refl) (inl f),
-  found_due setup s.over job (with_job n (with_value (value_told (host_reading text))) s.jobs) n (told n refl),
+  found_due setup s.told s.over job (with_job n (with_value (value_told (host_reading text))) s.jobs) n (told n refl),
 )
 
 -- ---- a request is taken up, or a remote called

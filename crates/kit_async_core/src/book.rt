@@ -9,6 +9,7 @@ ghost use Rattle.kit_async_model.specs.Books.{Took, BookIsAsBefore, room_owed};
 use ann_key::{Bytes, NoMemory};
 use kit_async_model::jobs::{all_await, hold_back};
 use kit_async_model::{Entries, Entry, Job, Reply, Setup};
+use kit_core::Values;
 use std::alloc::Global;
 use std::marker::Model;
 
@@ -20,6 +21,8 @@ pub(crate) struct Book {
     pub(crate) jobs: Vec<Job>,
     pub(crate) tagged: bool,
     pub(crate) prepared: bool,
+    // The values of the last PREPARE that succeeded.
+    pub(crate) told: Values,
     pub(crate) over: bool,
     pub(crate) closed: bool,
     // What was said and isn't written yet.
@@ -35,7 +38,7 @@ impl Model for Book {
     ghost view = { λ b. record {
       journal = b.journal.entries;
       room = b.journal.room;
-      stands = record { due = []; tagged = b.tagged; prepared = b.prepared; jobs = b.jobs.items; over = b.over; closed = b.closed; unwritten = b.unwritten.items };
+      stands = record { due = []; tagged = b.tagged; prepared = b.prepared; told = b.told; jobs = b.jobs.items; over = b.over; closed = b.closed; unwritten = b.unwritten.items };
     } };
 }
 
@@ -66,6 +69,7 @@ impl Book {
             jobs: Vec::new(alloc),
             tagged: false,
             prepared: false,
+            told: Values::new(Vec::new(alloc)),
             over: false,
             closed: false,
             unwritten,

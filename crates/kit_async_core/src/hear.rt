@@ -195,7 +195,7 @@ impl Book {
     fn begin(&mut self, setup: &Setup, line: Bytes, job: Job) -> Result<Reply, NoMemory>
         requires may { may_hear setup.now self.old.stands ≡ true }
         requires is { IsRequest setup.now self.old.stands line job }
-        requires silent { lines_in setup.now job ≡ [] }
+        requires silent { lines_in setup.now self.old.stands.told job ≡ [] }
         ensures ok { IfOk result (Took setup.now self.old self.new (hear_step setup.now self.old.stands line)) }
         ensures err { OnErr result (BookIsAsBefore self.old self.new) }
     {
@@ -218,7 +218,7 @@ impl Book {
     ) -> Result<Reply, NoMemory>
         requires may { may_hear setup.now self.old.stands ≡ true }
         requires is { IsRequest setup.now self.old.stands line job }
-        requires said { map (job_line job.number) (lines_in setup.now job) ≡ said.items }
+        requires said { map (job_line job.number) (lines_in setup.now self.old.stands.told job) ≡ said.items }
         requires some { is_some_line said.items ≡ true }
         requires awaits { is_awaiting setup.now job ≡ true }
         ensures ok { IfOk result (Took setup.now self.old self.new (hear_step setup.now self.old.stands line)) }
@@ -252,7 +252,7 @@ impl Book {
     ) -> Result<Reply, NoMemory>
         requires may { may_hear setup.now self.old.stands ≡ true }
         requires is { IsRequest setup.now self.old.stands line job.now }
-        requires said { map (job_line job.now.number) (lines_in setup.now job.now) ≡ said.items }
+        requires said { map (job_line job.now.number) (lines_in setup.now self.old.stands.told job.now) ≡ said.items }
         requires some { is_some_line said.items ≡ true }
         requires awaits { is_awaiting setup.now job.now ≡ false }
         ensures ok { IfOk result (Took setup.now self.old self.new (hear_step setup.now self.old.stands line)) }
@@ -284,7 +284,7 @@ impl Book {
             text_in(self.tagged, line.view()),
             self.prepared,
         )?;
-        let texts = job.lines(self.alloc, setup)?;
+        let texts = job.lines(self.alloc, setup, self.told.view())?;
         let said = all_wired(self.alloc, number, texts.view())?;
         if said.is_empty() {
             self.begin(setup, line, job)

@@ -175,20 +175,20 @@ mapped_small n h [] = tt
 mapped_small n h (line ∷ lines) = (h, mapped_small n h lines)
 
 -- the job of a small number
-found_small : (setup : Setup) (jobs : List Job) (n : ℕ) → n < 2 ^ 64 → SmallDue (due_of setup (job_of jobs n))
-found_small setup [] n h = tt
-found_small setup (job ∷ jobs) n h = go (has_number n job) refl (found_small setup jobs n h)
+found_small : (setup : Setup) (told : List (List ℕ)) (jobs : List Job) (n : ℕ) → n < 2 ^ 64 → SmallDue (due_of setup told (job_of jobs n))
+found_small setup told [] n h = tt
+found_small setup told (job ∷ jobs) n h = go (has_number n job) refl (found_small setup told jobs n h)
   where
-    go : (b : Bool) → has_number n job ≡ b → SmallDue (due_of setup (job_of jobs n)) → SmallDue (due_of setup (job_of (job ∷ jobs) n))
-    go true e more = rw e (mapped_small job.number (subst (λ (m : ℕ). m < 2 ^ 64) (sym (equal_number job.number n e)) h) (lines_in setup job))
+    go : (b : Bool) → has_number n job ≡ b → SmallDue (due_of setup told (job_of jobs n)) → SmallDue (due_of setup told (job_of (job ∷ jobs) n))
+    go true e more = rw e (mapped_small job.number (subst (λ (m : ℕ). m < 2 ^ 64) (sym (equal_number job.number n e)) h) (lines_in setup told job))
     go false e more = rw e more
 
 pub heard_due : (setup : Setup) (s : Standing) (text : List ℕ) (h : Hearing) → SmallHearing h → s.due ≡ [] → SmallDue (heard_as setup s text h).due
 heard_due setup s text Foul n d = rw d tt
 heard_due setup s text Unexpected n d = (zero_small, tt)
 heard_due setup s text Aside n d = rw d tt
-heard_due setup s text (Asks number) n d = mapped_small number n (lines_in setup (new_job number text s.prepared))
-heard_due setup s text (Replies number) n d = found_small setup (with_job number (with_value (value_told (host_reading text))) s.jobs) number n
+heard_due setup s text (Asks number) n d = mapped_small number n (lines_in setup s.told (new_job number text s.prepared))
+heard_due setup s text (Replies number) n d = found_small setup s.told (with_job number (with_value (value_told (host_reading text))) s.jobs) number n
 
 answer_small : (setup : Setup) (job : Job) (said : Said) (over : Bool) → job.number < 2 ^ 64 → SmallDue (answer_due setup job said over)
 answer_small setup job said over h = go (not over && settles setup job said) refl

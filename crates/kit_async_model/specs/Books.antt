@@ -11,7 +11,7 @@ use Rattle.kit_async_model.specs.declared.entry.Entry.TheVariants.{Call}
 use Rattle.kit_async_model.specs.declared.event.Event.{Event}
 use Rattle.kit_async_model.specs.declared.event.Reply.{Reply}
 use Rattle.kit_async_model.specs.declared.hearing.Hearing.TheVariants.{Asks, Replies}
-use Rattle.kit_async_model.specs.Jobs.{is_making_ready, has_number, settles, prepares, final_in, job_line}
+use Rattle.kit_async_model.specs.Jobs.{is_making_ready, has_number, settles, prepared_after, final_in, job_line}
 use Rattle.kit_async_model.specs.Hearings.{hearing_of, text_in, value_told}
 use Rattle.kit_async_model.specs.Standings.{Standing, new_job, with_call, after, standing}
 use Rattle.kit_async_model.specs.Legality.{Legal, is_called}
@@ -115,7 +115,7 @@ pub record CallNoted (setup : Setup) (old new : BookValue) (remote : ℕ) (said 
   pub journal : new.journal ≡ old.journal ++ Call job.number remote said ∷ []
   pub room : new.room + 1 ≡ old.room
   pub stands : new.stands ≡ record old.stands {
-    prepared = old.stands.prepared || prepares setup job said;
+    prepared = prepared_after setup job said old.stands.prepared;
     jobs = set old.stands.jobs place (with_call (settles setup job said) job);
   }
 

@@ -11,7 +11,7 @@ use Rattle.kit_async_model.specs.declared.entry.Entry.TheVariants.{Heard, Take, 
 use Rattle.kit_async_model.specs.declared.hearing.Hearing.{Hearing}
 use Rattle.kit_async_model.specs.declared.hearing.Hearing.TheVariants.{Foul, Unexpected, Aside, Asks as AsksJob, Replies}
 use Rattle.kit_async_model.specs.Abouts.{lines_about}
-use Rattle.kit_async_model.specs.Jobs.{request_due, job_of}
+use Rattle.kit_async_model.specs.Jobs.{request_due, if_prepared, job_of}
 use Rattle.kit_async_model.specs.Hearings.{text_in, is_open, hearing_of}
 use Rattle.kit_async_model.specs.Standings.{Standing, after, standing}
 use Rattle.kit_async_model.specs.Legality.{is_legal}
@@ -102,22 +102,22 @@ abbrev pub IsSaid : List (List ℕ) → Option HostMessage → List Item → Typ
 IsSaid [] request items = ⊥
 IsSaid (line ∷ lines) request items = items ≡ Told request ∷ map (λ l. Says l) (line ∷ lines)
 
-abbrev pub IsByDue : Setup → Due → Option HostMessage → List Item → Type 0
-IsByDue setup Silence request items = IsSaid (lines_about setup.about Silence request) request items
-IsByDue setup (Line line) request items = IsSaid (lines_about setup.about (Line line) request) request items
-IsByDue setup (Asks asked) request items = IsWorked request items
+abbrev pub IsByDue : Setup → List (List ℕ) → Due → Option HostMessage → List Item → Type 0
+IsByDue setup told Silence request items = IsSaid (lines_about setup.about told Silence request) request items
+IsByDue setup told (Line line) request items = IsSaid (lines_about setup.about told (Line line) request) request items
+IsByDue setup told (Asks asked) request items = IsWorked request items
 
-abbrev pub IsSettledBy : Bool → Setup → Bool → Option HostMessage → List Item → Type 0
-IsSettledBy true setup prepared request items = IsReadied setup request items
-IsSettledBy false setup prepared request items = IsByDue setup (request_due None [] prepared request) request items
+abbrev pub IsSettledBy : Bool → Setup → Standing → Option HostMessage → List Item → Type 0
+IsSettledBy true setup s request items = IsReadied setup request items
+IsSettledBy false setup s request items = IsByDue setup (if_prepared s.prepared s.told) (request_due None [] s.prepared request) request items
 
--- the items of a settled job, whose request was heard when the kit was prepared or not; None where its line spells no message
-abbrev pub IsSettled : Setup → Bool → Option HostMessage → List Item → Type 0
-IsSettled setup prepared request items = IsSettledBy (is_readying request) setup prepared request items
+-- the items of a settled job, whose request was heard when the kit stood so; None where its line spells no message
+abbrev pub IsSettled : Setup → Standing → Option HostMessage → List Item → Type 0
+IsSettled setup s request items = IsSettledBy (is_readying request) setup s request items
 
 -- of a job that isn't settled they go on to such ones
-abbrev pub IsMeant : Setup → Bool → Option HostMessage → List Item → Type 0
-IsMeant setup prepared request items = (more : List Item) × IsSettled setup prepared request (items ++ more)
+abbrev pub IsMeant : Setup → Standing → Option HostMessage → List Item → Type 0
+IsMeant setup s request items = (more : List Item) × IsSettled setup s request (items ++ more)
 
 -- ---- what is to be shown of a legal journal
 
@@ -127,4 +127,4 @@ JobsAreMeant =
     (setup : Setup) (past rest : List Entry) (line : List ℕ) (number : ℕ)
     → is_legal setup (past ++ Heard line ∷ rest) ≡ true
     → hearing_of setup (standing setup past).jobs (standing setup past).tagged line ≡ AsksJob number
-    → IsMeant setup (standing setup past).prepared (host_reading (text_in (standing setup past).tagged line)) (job_items setup past line number rest)
+    → IsMeant setup (standing setup past) (host_reading (text_in (standing setup past).tagged line)) (job_items setup past line number rest)

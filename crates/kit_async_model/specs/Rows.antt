@@ -3,6 +3,7 @@ use Rattle.std.specs.Prelude.{ℕ, List, [], ◌∷◌, ◌++◌, Some, None, co
 use Rattle.kit_core.specs.declared.call.Said.{Said}
 use Rattle.kit_core.specs.declared.call.Said.TheVariants.{Yes, No, Failure}
 use Rattle.kit_async_model.specs.declared.setup.Setup.{Setup}
+use Rattle.kit_async_model.specs.declared.about.Fact.TheVariants.{Fixed, Setting}
 use Rattle.kit_async_model.specs.declared.entry.Entry.{Entry}
 use Rattle.kit_async_model.specs.declared.entry.Entry.TheVariants.{Heard, Take, Call, Say, Wrote, Close}
 
@@ -23,7 +24,7 @@ known = record {
         configs = codes "CONFIG directory where files are kept" ∷ codes "CONFIGEND" ∷ [];
         cost = codes "COST 100" ∷ [];
         availability = codes "AVAILABILITY LOCAL" ∷ [];
-        info = [];
+        facts = Fixed (codes "kind") (codes "a folder") ∷ Setting (codes "directory") 0 ∷ [];
       });
 }
 
@@ -80,6 +81,25 @@ first_config = Say 4 (codes "J 4 CONFIG directory where files are kept")
 
 abbrev pub last_config : Entry
 last_config = Say 4 (codes "J 4 CONFIGEND")
+
+abbrev pub info : Entry
+info = Heard (codes "J 4 GETINFO")
+
+abbrev pub kind_told : List Entry
+kind_told = Say 4 (codes "J 4 INFOFIELD kind") ∷ Say 4 (codes "J 4 INFOVALUE a folder") ∷ []
+
+-- of the value that was told to PREPARE
+abbrev pub directory_told : List Entry
+directory_told = Say 4 (codes "J 4 INFOFIELD directory") ∷ Say 4 (codes "J 4 INFOVALUE d") ∷ []
+
+abbrev pub info_end : Entry
+info_end = Say 4 (codes "J 4 INFOEND")
+
+-- a second PREPARE, which the first remote doesn't get ready for
+abbrev pub unready : List Entry
+unready =
+    ready ++ Heard (codes "J 5 PREPARE") ∷ Say 5 (codes "J 5 GETCONFIG directory") ∷ Heard (codes "J 5 VALUE e")
+    ∷ Call 5 0 No ∷ Say 5 (codes "J 5 PREPARE-FAILURE ") ∷ []
 
 -- it spells no message
 abbrev pub strange : Entry

@@ -3,13 +3,14 @@ use Rattle.std.specs.Prelude.{ℕ, ◌+◌, ◌&&◌, ◌||◌, not, Bool, true,
 use Rattle.annex_model.specs.Messages.{Error, Extensions, HostMessage, AskExtensions, host_reading, remote_line}
 use Rattle.annex_model.specs.Tags.{names_async}
 use Rattle.kit_core.specs.declared.call.Said.{Said}
+use Rattle.kit_core.specs.Kits.{is_prepare}
 use Rattle.kit_async_model.specs.declared.setup.Setup.{Setup}
 use Rattle.kit_async_model.specs.declared.job.Job.{Job}
 use Rattle.kit_async_model.specs.declared.entry.Entry.{Entry}
 use Rattle.kit_async_model.specs.declared.entry.Entry.TheVariants.{Heard, Take, Call, Say, Wrote, Close, Lack}
 use Rattle.kit_async_model.specs.declared.hearing.Hearing.{Hearing}
 use Rattle.kit_async_model.specs.declared.hearing.Hearing.TheVariants.{Foul, Unexpected, Aside, Asks, Replies}
-use Rattle.kit_async_model.specs.Jobs.{request_of, is_awaiting, lines_in, settles, final_in, prepares, job_of, with_job, without_job}
+use Rattle.kit_async_model.specs.Jobs.{request_of, is_awaiting, lines_in, settles, final_in, prepared_after, job_of, with_job, without_job}
 use Rattle.kit_async_model.specs.Hearings.{text_in, value_told, hearing_of}
 
 pub record Standing : Type 0 where
@@ -17,8 +18,10 @@ pub record Standing : Type 0 where
   pub due : List (ℕ × List ℕ)
   -- lines are tagged
   pub tagged : Bool
-  -- once all remotes said Yes to a PREPARE
+  -- all remotes said Yes to a PREPARE, and none anything else to one since
   pub prepared : Bool
+  -- the values of that PREPARE
+  pub told : List (List ℕ)
   -- the requests that aren't settled, in the order in which they were heard
   pub jobs : List Job
   -- what was heard last ended it, or no memory was found for what it had to say
@@ -34,6 +37,7 @@ opening = record {
   due = (0, codes "VERSION 1") ∷ [];
   tagged = false;
   prepared = false;
+  told = [];
   jobs = [];
   over = false;
   closed = false;
@@ -57,19 +61,19 @@ new_job number text prepared = record { number = number; text = text; prepared =
 abbrev pub with_value : List ℕ → Job → Job
 with_value value job = record job { values = job.values ++ value ∷ [] }
 
-abbrev pub due_of_job : Setup → Job → List (ℕ × List ℕ)
-due_of_job setup job = map (λ line. (job.number, line)) (lines_in setup job)
+abbrev pub due_of_job : Setup → List (List ℕ) → Job → List (ℕ × List ℕ)
+due_of_job setup told job = map (λ line. (job.number, line)) (lines_in setup told job)
 
-abbrev pub due_of : Setup → Option Job → List (ℕ × List ℕ)
-due_of setup None = []
-due_of setup (Some job) = due_of_job setup job
+abbrev pub due_of : Setup → List (List ℕ) → Option Job → List (ℕ × List ℕ)
+due_of setup told None = []
+due_of setup told (Some job) = due_of_job setup told job
 
 abbrev pub with_request : Setup → Standing → Job → Standing
-with_request setup s job = record s { due = due_of_job setup job; tagged = s.tagged || starts_tags (request_of job); jobs = s.jobs ++ job ∷ [] }
+with_request setup s job = record s { due = due_of_job setup s.told job; tagged = s.tagged || starts_tags (request_of job); jobs = s.jobs ++ job ∷ [] }
 
 abbrev pub with_told : Setup → Standing → ℕ → List ℕ → Standing
 with_told setup s number value =
-    record s { due = due_of setup (job_of (with_job number (with_value value) s.jobs) number); jobs = with_job number (with_value value) s.jobs }
+    record s { due = due_of setup s.told (job_of (with_job number (with_value value) s.jobs) number); jobs = with_job number (with_value value) s.jobs }
 
 abbrev pub heard_as : Setup → Standing → List ℕ → Hearing → Standing
 heard_as setup s text Foul = record s { over = true }
@@ -87,12 +91,16 @@ abbrev pub is_some_due : List (ℕ × List ℕ) → Bool
 is_some_due [] = false
 is_some_due (due ∷ rest) = true
 
+-- the values that are told of from then on: those of a PREPARE, if it left the kit prepared
+abbrev pub told_by : Bool → Job → List (List ℕ) → List (List ℕ)
+told_by prepared job told = if prepared && is_prepare (request_of job) then job.values else told
+
 -- it settles the job, unless more lines are due, it asks for a value, or it was the kit's last word
 abbrev pub said_in : Setup → Standing → Option Job → Standing
 said_in setup s None = s
 said_in setup s (Some job) =
     if is_some_due s.due || s.over || is_awaiting setup job then s
-    else record s { jobs = without_job job.number s.jobs }
+    else record s { told = told_by s.prepared job s.told; jobs = without_job job.number s.jobs }
 
 -- ---- a call
 
@@ -110,7 +118,7 @@ abbrev pub called_in : Setup → Standing → Said → Option Job → Standing
 called_in setup s said None = s
 called_in setup s said (Some job) = record s {
   due = answer_due setup job said s.over;
-  prepared = s.prepared || prepares setup job said;
+  prepared = prepared_after setup job said s.prepared;
   jobs = with_job job.number (with_call (settles setup job said)) s.jobs;
 }
 

@@ -6,7 +6,7 @@ ghost use Rattle.annex_model.specs.Tags.{names_async};
 ghost use Rattle.wire_msg.specs.Shown.{host_shown, remote_shown};
 ghost use Rattle.kit_core.specs.Kits.{asked_by, work_due};
 ghost use Rattle.kit_async_model.specs.Abouts.{lines_by};
-ghost use Rattle.kit_async_model.specs.Jobs.{due_in, lines_in, final_in, job_line, is_for_any, key_in, request_of, spoken};
+ghost use Rattle.kit_async_model.specs.Jobs.{due_in, if_prepared, lines_in, final_in, job_line, is_for_any, key_in, request_of, spoken};
 ghost use Rattle.kit_async_model.specs.Views.{DueOf, file_of};
 
 use crate::job::Job;
@@ -71,7 +71,7 @@ fn for_key<'a>(request: HostMsg<'a>, prepared: bool, file: &[u8]) -> Due<'a>
 }
 
 // The line of the message.
-fn one_line(alloc: Global, message: &RemoteMsg<'_>) -> Result<Lines, NoMemory>
+pub(crate) fn one_line(alloc: Global, message: &RemoteMsg<'_>) -> Result<Lines, NoMemory>
     requires { IsSayable (remote_shown message.now) }
     ensures { IfOk result (λ lines. lines ≡ remote_line (remote_shown message.now) ∷ []) }
 {
@@ -126,14 +126,22 @@ impl Job {
         }
     }
 
-    /// The lines that are to be said next in it without a call; without their tags.
-    pub fn lines(&self, alloc: Global, setup: &Setup) -> Result<Lines, NoMemory>
-        ensures { IfOk result (λ lines. lines ≡ lines_in setup.now self.now) }
+    // The values that may be told of, once the kit is prepared.
+    fn if_prepared<'a>(&self, told: &'a [Bytes]) -> &'a [Bytes]
+        ensures { result.now ≡ if_prepared self.now.prepared told.entry.now }
+    {
+        if self.prepared { told } else { &[] }
+    }
+
+    /// The lines that are to be said next in it without a call, where the host told these values to the last PREPARE that succeeded;
+    /// without their tags.
+    pub fn lines(&self, alloc: Global, setup: &Setup, told: &[Bytes]) -> Result<Lines, NoMemory>
+        ensures { IfOk result (λ lines. lines ≡ lines_in setup.now told.now self.now) }
     {
         let Some(about) = &setup.about else {
             return self.due_lines(alloc, setup);
         };
-        match about.answer(alloc, self.request())? {
+        match about.answer(alloc, self.if_prepared(told), self.request())? {
             Some(lines) => Ok(lines),
             None => self.due_lines(alloc, setup),
         }

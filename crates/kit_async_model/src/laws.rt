@@ -4,7 +4,7 @@ ghost use Rattle.kit_core.specs.declared.call.Said.TheVariants.{Yes, No, Failure
 ghost use Rattle.kit_async_model.specs.declared.entry.Entry.TheVariants.{Heard, Take, Call, Say, Wrote, Close, Lack};
 ghost use Rattle.kit_async_model.specs.Laws.{FrontsAreLegal, OverIsLast, UnwrittenAre, StepsAreLegal, StepsAreMade};
 ghost use Rattle.kit_async_model.specs.Legality.{is_legal, is_done};
-ghost use Rattle.kit_async_model.specs.Rows.{two, bare, known, version, error, tagging, asking, readying, ready, check_a, check_b, absent_a, crossed, whole, plain, plain_check, configs, first_config, last_config, strange, unsupported};
+ghost use Rattle.kit_async_model.specs.Rows.{two, bare, known, version, error, tagging, asking, readying, ready, check_a, check_b, absent_a, crossed, whole, plain, plain_check, configs, first_config, last_config, info, kind_told, directory_told, info_end, unready, strange, unsupported};
 ghost use Rattle.kit_async_model.specs.Standings.{standing};
 
 /// Journals that a kit may have: two checks at once, answered in either order, and a host that tags no line.
@@ -100,6 +100,16 @@ pub fn worked_abouts()
     ensures wrong_order { is_legal known (ready ++ configs ∷ last_config ∷ first_config ∷ []) ≡ false }
     ensures too_much { is_legal known (ready ++ configs ∷ first_config ∷ last_config ∷ last_config ∷ []) ≡ false }
     ensures untold { is_legal two (ready ++ configs ∷ unsupported ∷ []) ≡ true }
+{}
+
+/// Facts about the remotes, and once a remote didn't get ready.
+pub fn worked_facts()
+    ensures before { is_legal known (tagging ++ info ∷ kind_told ++ info_end ∷ []) ≡ true }
+    ensures told { is_legal known (ready ++ info ∷ kind_told ++ directory_told ++ info_end ∷ []) ≡ true }
+    ensures left_out { is_legal known (ready ++ info ∷ kind_told ++ info_end ∷ []) ≡ false }
+    ensures no_longer { is_legal known (unready ++ info ∷ kind_told ++ info_end ∷ []) ≡ true }
+    ensures not_prepared { is_legal two (unready ++ check_a ∷ Say 2 (codes "J 2 CHECKPRESENT-UNKNOWN WORM--a not prepared") ∷ []) ≡ true }
+    ensures not_worked { is_legal two (unready ++ check_a ∷ Take 2 1 ∷ []) ≡ false }
 {}
 
 /// Requests that have one line, and lines that spell no message.

@@ -14,7 +14,7 @@ pub mod jobs;
 pub mod laws;
 mod setup;
 
-pub use about::About;
+pub use about::{About, Fact, Facts};
 pub use entries::Entries;
 pub use entry::Entry;
 pub use event::{Event, Reply};

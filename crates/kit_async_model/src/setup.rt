@@ -7,7 +7,7 @@ use ann_key::{Bytes, NoMemory};
 use kit_core::{Remote, Values};
 use std::alloc::Global;
 
-/// The names of the first remote's settings, how many remotes there are, and what the first says of itself, if the kit tells it.
+/// The names of the first remote's settings, how many remotes there are, and what is said of them, if anything is.
 #[derive(Drop)]
 pub struct Setup {
     pub settings: Values,

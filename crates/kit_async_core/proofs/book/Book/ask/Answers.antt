@@ -15,7 +15,7 @@ pub returns-clause-ok : goal.returns-clause-ok
 returns-clause-ok c =
     let line : List ℕ = c.args.line in
     let i = c.self.inside in
-    let s : Standing = record { due = []; tagged = i.tagged; prepared = i.prepared; jobs = i.jobs.items; over = i.over; closed = i.closed; unwritten = i.unwritten.items } in
+    let s : Standing = record { due = []; tagged = i.tagged; prepared = i.prepared; told = i.told; jobs = i.jobs.items; over = i.over; closed = i.closed; unwritten = i.unwritten.items } in
     let job : Job = c.args.job in
     let said : List (List ℕ) = c.args.said.items in
     let tagged = c.tags_with-tagged.ensures ∙ ap (λ (v : BookValue). v.stands.tagged || starts_tags (request_of job)) (sym c.self.view_is) in

@@ -15,7 +15,7 @@ pub returns-clause-ok : goal.returns-clause-ok
 returns-clause-ok c =
     let line : List ℕ = c.args.line in
     let i = c.self.inside in
-    let s : Standing = record { due = []; tagged = i.tagged; prepared = i.prepared; jobs = i.jobs.items; over = i.over; closed = i.closed; unwritten = i.unwritten.items } in
+    let s : Standing = record { due = []; tagged = i.tagged; prepared = i.prepared; told = i.told; jobs = i.jobs.items; over = i.over; closed = i.closed; unwritten = i.unwritten.items } in
     let said : List ℕ = unexpected_line in
     let error : c.in_ok-error.error ≡ unexpected_line = c.in_ok-error.ensures.line in
     unexpected_took c.args.setup.now c.args.self.now _ line c.requires.may c.requires.is

@@ -49,7 +49,7 @@ returns-clause-ok c =
     let setup = c.args.setup.now in
     let old = c.args.self.now in
     let i = c.self.inside in
-    let s : Standing = record { due = []; tagged = i.tagged; prepared = i.prepared; jobs = i.jobs.items; over = i.over; closed = i.closed; unwritten = i.unwritten.items } in
+    let s : Standing = record { due = []; tagged = i.tagged; prepared = i.prepared; told = i.told; jobs = i.jobs.items; over = i.over; closed = i.closed; unwritten = i.unwritten.items } in
     let remote : ℕ = c.args.remote in
     let place : ℕ = c.in-Some-first_free.at in
     let none = found_none (is_turn_of setup old.stands.jobs remote) old.stands.jobs (ap (λ (v : BookValue). position (is_turn_of setup v.stands.jobs c.args.remote) v.stands.jobs) (sym c.self.view_is)

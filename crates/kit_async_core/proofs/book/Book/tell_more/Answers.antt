@@ -15,7 +15,7 @@ pub returns-clause-ok : goal.returns-clause-ok
 returns-clause-ok c =
     let line : List ℕ = c.args.line in
     let i = c.self.inside in
-    let s : Standing = record { due = []; tagged = i.tagged; prepared = i.prepared; jobs = i.jobs.items; over = i.over; closed = i.closed; unwritten = i.unwritten.items } in
+    let s : Standing = record { due = []; tagged = i.tagged; prepared = i.prepared; told = i.told; jobs = i.jobs.items; over = i.over; closed = i.closed; unwritten = i.unwritten.items } in
     let values : List (List ℕ) = c.args.values in
     let place : ℕ = c.args.at in
     let there = subst (λ (v : BookValue). slice_get v.stands.jobs place ≡ Some c.requires.is.job) (sym c.self.view_is) c.requires.is.there in
