@@ -76,11 +76,11 @@ message_small a o b n m h =
     (if_small a (Replies n) _ h
     (if_small (o || (is_readying (Some m) && b)) Unexpected (Asks n) tt h)))
 
-strange_small : (x a o : Bool) (n : ℕ) → n < 2 ^ 64 → SmallHearing (strange_heard x a o n)
-strange_small x a o n h = if_small (not x) Foul _ tt (if_small (a || o) Unexpected (Asks n) tt h)
+strange_small : (x o : Bool) (n : ℕ) → n < 2 ^ 64 → SmallHearing (strange_heard x o n)
+strange_small x o n h = if_small (x && not o) (Asks n) Foul h tt
 
 reading_small : (x a o b : Bool) (n : ℕ) (m : Option HostMessage) → n < 2 ^ 64 → SmallHearing (reading_heard x a o b n m)
-reading_small x a o b n None h = strange_small x a o n h
+reading_small x a o b n None h = strange_small x o n h
 reading_small x a o b n (Some m) h = message_small a o b n m h
 
 text_small : (x a o b : Bool) (n : ℕ) (text : List ℕ) → n < 2 ^ 64 → SmallHearing (text_heard x a o b n text)
