@@ -1,6 +1,6 @@
 -- No two open jobs have one number.
-use Rattle.std.proofs.Common.{◌≡◌, ℕ, List, [], ◌∷◌, ◌++◌, refl, sym, ap, subst, ◌∙◌, Bool, true, false, not, ◌==◌, cond, Some, None, Option, arith}
-use Rattle.std.specs.Prelude.{◌&&◌, ◌||◌, find, filter, fold}
+use Rattle.std.proofs.Common.{◌≡◌, ℕ, List, [], ◌∷◌, ◌++◌, refl, ap, subst, ◌∙◌, Bool, true, false, not, ◌==◌, cond, Some, None, Option, arith}
+use Rattle.std.specs.Prelude.{◌&&◌, ◌||◌, filter, fold}
 use Rattle.std.specs.List.{list_any}
 use Rattle.std.proofs.lemmas.Bool.Decides.{nat_tests}
 use Rattle.annex_model.specs.Messages.{HostMessage, host_reading}
@@ -12,7 +12,7 @@ use Rattle.kit_async_model.specs.declared.entry.Entry.{Entry}
 use Rattle.kit_async_model.specs.declared.entry.Entry.TheVariants.{Heard, Take, Call, Say, Wrote, Close, Lack}
 use Rattle.kit_async_model.specs.declared.hearing.Hearing.{Hearing}
 use Rattle.kit_async_model.specs.declared.hearing.Hearing.TheVariants.{Foul, Unexpected, Aside, Asks, Replies}
-use Rattle.kit_async_model.specs.Jobs.{has_number, job_of, with_job, without_job, is_awaiting, settles}
+use Rattle.kit_async_model.specs.Jobs.{has_number, job_of, with_job, is_awaiting, settles}
 use Rattle.kit_async_model.specs.Hearings.{parted, is_export, message_heard, strange_heard, reading_heard, text_heard, answers_strange, part_heard, hearing_of, awaits_in, is_open, has_some, text_in, value_told}
 use Rattle.kit_async_model.specs.Standings.{Standing, opening, new_job, with_value, with_taken, with_call, called_in, is_some_due, said_in, heard_as, after, standing}
 use Rattle.kit_async_model.specs.Books.{AreApart}

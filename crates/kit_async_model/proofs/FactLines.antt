@@ -1,11 +1,9 @@
 -- The lines of facts.
-use Rattle.std.proofs.Common.{◌≡◌, ℕ, suc, ◌+◌, ◌<◌, ◌==◌, true, false, List, [], ◌∷◌, ◌++◌, length, take, get_or, refl, sym, ap, ◌∙◌, append_assoc, arith}
+use Rattle.std.proofs.Common.{◌≡◌, ℕ, suc, ◌+◌, ◌<◌, ◌==◌, false, List, [], ◌∷◌, ◌++◌, length, take, get_or, refl, sym, ap, ◌∙◌, append_assoc, arith}
 use Rattle.std.proofs.lemmas.Bool.Decides.{nat_tests}
 use Rattle.std.proofs.lemmas.List.{take_more, append-nil}
 use Rattle.kit_async_model.specs.declared.about.Fact.{Fact}
-use Rattle.annex_model.specs.Messages.{Infoend, remote_line}
-use Rattle.kit_async_model.specs.Abouts.{fact_lines, all_facts, ended}
-use Rattle.kit_async_model.proofs.Askings.{never}
+use Rattle.kit_async_model.specs.Abouts.{fact_lines, all_facts}
 
 facts-append : (told : List (List ℕ)) (xs ys : List Fact) → all_facts told (xs ++ ys) ≡ all_facts told xs ++ all_facts told ys
 facts-append told [] ys = refl
@@ -20,14 +18,5 @@ facts_next told facts n fact within is =
     ∙ facts-append told (take n facts) (get_or facts n fact ∷ [])
     ∙ ap (λ (ls : List (List ℕ)). all_facts told (take n facts) ++ ls) (append-nil (fact_lines told (get_or facts n fact)) ∙ ap (fact_lines told) (sym is))
 
--- the end of the list
 pub not_zero : (n : ℕ) → (suc n == 0) ≡ false
 not_zero n = grind (arith, nat_tests)
-
-pub ended_none : (lines : List (List ℕ)) → (length lines == 0) ≡ true → ended lines ≡ lines
-ended_none [] h = refl
-ended_none (line ∷ lines) h = absurd (never (suc (length lines) == 0) h (not_zero (length lines)))
-
-pub ended_some : (lines : List (List ℕ)) → (length lines == 0) ≡ false → ended lines ≡ lines ++ remote_line Infoend ∷ []
-ended_some [] h = absurd cc
-ended_some (line ∷ lines) h = refl

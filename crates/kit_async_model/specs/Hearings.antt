@@ -2,7 +2,7 @@
 use Rattle.std.specs.Prelude.{ℕ, ◌==◌, ◌&&◌, ◌||◌, not, Bool, true, false, if◌then◌else◌, List, [], ◌∷◌, Option, Some, None, is_some, codes, take, drop, bytes_eq}
 use Rattle.annex_model.specs.Messages.{HostMessage, Value, host_reading, is_space}
 use Rattle.annex_model.specs.Tags.{untag}
-use Rattle.kit_core.specs.Kits.{is_value, is_error, is_unexpected, is_readying}
+use Rattle.kit_core.specs.Kits.{is_error, is_unexpected, is_readying}
 use Rattle.kit_async_model.specs.declared.setup.Setup.{Setup}
 use Rattle.kit_async_model.specs.declared.job.Job.{Job}
 use Rattle.kit_async_model.specs.declared.hearing.Hearing.{Hearing}
