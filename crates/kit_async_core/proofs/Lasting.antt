@@ -133,7 +133,7 @@ found_due setup told over job jobs n h = go (job_of jobs n) refl
 heard_lasts : (setup : Setup) (r : ℕ) (s : Standing) (text : List ℕ) (job : Job) (h : Hearing) → find (at_work r) s.jobs ≡ Some job → s.due ≡ []
     → ((n : ℕ) → h ≡ Asks n → has_number n job ≡ false) → ((n : ℕ) → h ≡ Replies n → has_number n job ≡ false) → Lasts setup r (heard_as setup s text h) job
 heard_lasts setup r s text job Foul f d new told = (inl f, rw d tt)
-heard_lasts setup r s text job Unexpected f d new told = (inl f, inl refl, tt)
+heard_lasts setup r s text job Unexpected f d new told = (inl f, (inl refl, tt))
 heard_lasts setup r s text job Aside f d new told = (inl f, rw d tt)
 heard_lasts setup r s text job (Asks n) f d new told = (
   last_keeps setup r (new_job n text s.prepared) s.jobs job refl (inl f),
