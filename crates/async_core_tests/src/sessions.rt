@@ -1,13 +1,13 @@
 use ann_key::{Bytes, NoMemory};
 use kit_async_core::{KitCore, READER, WRITER};
-use kit_async_model::{Event, Reply, Setup};
-use kit_core::{Asked, Said, Values};
+use kit_async_model::{About, Event, Fact, Facts, Reply, Setup};
+use kit_core::{Asked, Lines, Said, Values};
 use std::alloc::Global;
 use std::process::Abort;
 use std::test::Fail;
 
-// Two remotes with one setting.
-fn begun(alloc: Global) -> Result<KitCore, NoMemory> {
+// Two remotes with one setting, of which that is told.
+fn begun_with(alloc: Global, about: Option<About>) -> Result<KitCore, NoMemory> {
     let mut settings = Vec::new(alloc);
     settings.push(Bytes::copy(alloc, b"directory")?)?;
     let settings = Values::new(settings);
@@ -16,8 +16,30 @@ fn begun(alloc: Global) -> Result<KitCore, NoMemory> {
         Setup {
             settings,
             remotes: 2,
+            about,
         },
     )
+}
+
+fn begun(alloc: Global) -> Result<KitCore, NoMemory> {
+    begun_with(alloc, None)
+}
+
+// Its cost, and the directory as the one fact.
+fn known(alloc: Global) -> Result<About, NoMemory> {
+    let mut cost = Vec::new(alloc);
+    cost.push(Bytes::copy(alloc, b"COST 100")?)?;
+    let mut facts = Vec::new(alloc);
+    facts.push(Fact::Setting {
+        name: Bytes::copy(alloc, b"directory")?,
+        number: 0,
+    })?;
+    Ok(About {
+        configs: Lines::new(Vec::new(alloc)),
+        cost: Lines::new(cost),
+        availability: Lines::new(Vec::new(alloc)),
+        facts: Facts::new(facts),
+    })
 }
 
 fn hear(alloc: Global, core: &mut KitCore, line: &[u8]) -> Result<Reply, NoMemory> {
@@ -117,4 +139,34 @@ fn say_nothing_more(rt: &impl Abort, alloc: Global, core: &mut KitCore) -> Resul
 fn nothing_follows_what_is_unexpected(rt: HostRuntime) -> Result<(), Fail> {
     let mut core = begun(rt.alloc())?;
     say_nothing_more(&rt, rt.alloc(), &mut core)
+}
+
+fn tell_of_them(rt: &impl Abort, alloc: Global, core: &mut KitCore) -> Result<(), Fail> {
+    get_ready(alloc, core)?;
+    for line in [
+        b"J 2 GETCOST".as_slice(),
+        b"J 2 LISTCONFIGS".as_slice(),
+        b"J 2 GETINFO".as_slice(),
+        b"J 2 CLAIMURL http://a".as_slice(),
+    ] {
+        let reply = hear(alloc, core, line)?;
+        assert!(rt; matches!(reply, Reply::Done));
+    }
+    let mut out = Vec::new(alloc);
+    write_all(core, &mut out)?;
+    assert_eq!(rt;
+        out.as_slice(),
+        b"VERSION 1\nEXTENSIONS ASYNC\nJ 1 GETCONFIG directory\nJ 1 PREPARE-SUCCESS\n\
+          J 2 COST 100\nJ 2 UNSUPPORTED-REQUEST\nJ 2 INFOFIELD directory\nJ 2 INFOVALUE d\nJ 2 INFOEND\n\
+          J 2 UNSUPPORTED-REQUEST\n"
+            .as_slice()
+    );
+    Ok(())
+}
+
+#[test]
+fn what_is_told_of_the_remotes(rt: HostRuntime) -> Result<(), Fail> {
+    let about = known(rt.alloc())?;
+    let mut core = begun_with(rt.alloc(), Some(about))?;
+    tell_of_them(&rt, rt.alloc(), &mut core)
 }

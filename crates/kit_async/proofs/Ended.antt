@@ -16,7 +16,7 @@ use Rattle.kit_async_model.specs.Hearings.{hearing_of, text_in}
 use Rattle.kit_async_model.specs.Jobs.{is_awaiting, job_of, without_job}
 use Rattle.kit_async_model.specs.Legality.{IsFinished, is_lack}
 use Rattle.kit_async_model.specs.Lines.{count_wrotes, said_lines}
-use Rattle.kit_async_model.specs.Standings.{Standing, after, called_in, heard_as, opening, said_in, said_line, standing}
+use Rattle.kit_async_model.specs.Standings.{Standing, after, called_in, heard_as, is_some_due, opening, said_in, said_line, standing}
 use Rattle.kit_async_model.proofs.Places.{neither}
 use Rattle.kit_async_model.proofs.Unwritten.{unwritten_are}
 use Rattle.kit_async_roles.specs.Writing.{written_lines}
@@ -64,13 +64,13 @@ pub called_over : (setup : Setup) (s : Standing) (said : Said) (o : Option Job) 
 called_over setup s said None = refl
 called_over setup s said (Some job) = refl
 
-kept_over : (b : Bool) (s : Standing) (jobs : List Job) → (if b then s else record s { jobs = jobs }).over ≡ s.over
-kept_over true s jobs = refl
-kept_over false s jobs = refl
+kept_over : (b : Bool) (s t : Standing) → t.over ≡ s.over → (if b then s else t).over ≡ s.over
+kept_over true s t e = refl
+kept_over false s t e = e
 
 pub said_over : (setup : Setup) (s : Standing) (o : Option Job) → (said_in setup s o).over ≡ s.over
 said_over setup s None = refl
-said_over setup s (Some job) = kept_over (s.over || is_awaiting setup job) s (without_job job.number s.jobs)
+said_over setup s (Some job) = kept_over (is_some_due s.due || s.over || is_awaiting setup job) s _ refl
 
 step_over : (setup : Setup) (s : Standing) (e : Entry) → (after setup s e).over ≡ (s.over || (is_heard_so is_ending setup s e || is_lack e))
 step_over setup s (Heard line) =

@@ -1,13 +1,17 @@
 -- What follows of a kit that served: of its status, of what was written, of its jobs, and of its first and last word.
-use Rattle.std.specs.Prelude.{ℕ, ◌≡◌, ◌⊎◌, ◌<◌, ◌||◌, Bool, true, false, List, [], ◌∷◌, ◌++◌, length, codes, bytes_eq}
+use Rattle.std.specs.Prelude.{ℕ, ◌≡◌, ◌⊎◌, ◌<◌, ◌||◌, Bool, true, false, List, [], ◌∷◌, ◌++◌, length, codes, bytes_eq, Option, Some, None}
 use Rattle.std.specs.List.{list_any, list_all}
 use Rattle.annex_model.specs.Lines.{has_newline}
 use Rattle.kit_serve.specs.Limits.{longest_line, next_line}
+use Rattle.kit_core.specs.Descriptions.{Description}
+use Rattle.kit_async_model.specs.declared.about.About.{About}
+use Rattle.kit_async_model.specs.declared.about.Fact.{Fact}
 use Rattle.kit_async_model.specs.declared.setup.Setup.{Setup}
 use Rattle.kit_async_model.specs.declared.entry.Entry.{Entry}
 use Rattle.kit_async_model.specs.declared.entry.Entry.TheVariants.{Heard, Say}
 use Rattle.kit_async_model.specs.declared.hearing.Hearing.{Hearing}
 use Rattle.kit_async_model.specs.declared.hearing.Hearing.TheVariants.{Foul, Unexpected}
+use Rattle.kit_async_model.specs.Abouts.{about_of}
 use Rattle.kit_async_model.specs.Hearings.{hearing_of}
 use Rattle.kit_async_model.specs.Jobs.{is_awaiting}
 use Rattle.kit_async_model.specs.Lines.{said_lines}
@@ -83,14 +87,27 @@ JobsAreSettled =
 abbrev pub is_own_word : List ℕ → Bool
 is_own_word line = bytes_eq line (codes "VERSION 1") || bytes_eq line unexpected_line
 
+-- the lines that the kit has about its remotes; its facts are told on lines of their own kind
+abbrev pub about_lines : Option About → List (List ℕ)
+about_lines None = []
+about_lines (Some about) = about.configs ++ about.cost ++ about.availability
+
+-- none of them is such a word
+abbrev pub TellsNoWord : Setup → Type 0
+TellsNoWord setup = list_any is_own_word (about_lines setup.about) ≡ false
+
+-- so it is where they are those of a description
+abbrev pub DescriptionsTellNoWord : Type 0
+DescriptionsTellNoWord = (setup : Setup) (d : Description) (facts : List Fact) → setup.about ≡ Some (about_of d facts) → TellsNoWord setup
+
 -- these lines are answers, and then, where something was unexpected, the error
 abbrev pub AreSaidTo : Bool → List (List ℕ) → Type 0
 AreSaidTo true lines = (front : List (List ℕ)) × (lines ≡ front ++ unexpected_line ∷ []) × (list_any is_own_word front ≡ false)
 AreSaidTo false lines = list_any is_own_word lines ≡ false
 
--- Then the version is said before all else and never again, and the error exactly once, as the last line, where something unexpected was
+-- Where none of what it has about its remotes is such a word, the version is said before all else and never again, and the error exactly once, as the last line, where something unexpected was
 -- heard.
 abbrev pub WordsAreSaid : Type 0
 WordsAreSaid =
-    (setup : Setup) (old new : Tells) (journal : JournalValue) → Serves setup old new journal → is_whole journal.why ≡ true
+    (setup : Setup) (old new : Tells) (journal : JournalValue) → TellsNoWord setup → Serves setup old new journal → is_whole journal.why ≡ true
     → (rest : List Entry) × (journal.entries ≡ Say 0 (codes "VERSION 1") ∷ rest) × AreSaidTo (unexpected_heard setup journal.entries) (said_lines rest)

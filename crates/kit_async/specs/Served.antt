@@ -5,7 +5,9 @@ use Rattle.std.specs.Io.KnownBytes.{Appends}
 use Rattle.ann_outside.specs.Causes.{Rose, StaysUntold}
 use Rattle.annex_model.specs.Lines.{text, has_newline, Cut}
 use Rattle.kit_core.specs.declared.call.Call.{Call as RemoteCall}
+use Rattle.kit_core.specs.Descriptions.{Description}
 use Rattle.kit_serve.specs.Limits.{longest_line, is_short, next_line}
+use Rattle.kit_async_model.specs.declared.about.Fact.{Fact}
 use Rattle.kit_async_model.specs.declared.setup.Setup.{Setup}
 use Rattle.kit_async.specs.declared.why.Why.{Why}
 use Rattle.kit_async.specs.declared.why.Why.TheVariants.{Eof, ReadFault, WriteFault, Bad, Memory}
@@ -13,6 +15,7 @@ use Rattle.kit_async_model.specs.declared.entry.Entry.{Entry}
 use Rattle.kit_async_model.specs.declared.entry.Entry.TheVariants.{Heard, Take, Call, Say, Wrote, Close, Lack}
 use Rattle.kit_async.specs.declared.lent.KitEntry.{KitEntry}
 use Rattle.kit_async.specs.declared.lent.KitEntry.TheVariants.{Heard as HeardShown, Take as TakeShown, Call as CallShown, Say as SayShown, Wrote as WroteShown, Close as CloseShown, Lack as LackShown, Stop as StopShown}
+use Rattle.kit_async_model.specs.Abouts.{about_of}
 use Rattle.kit_async_model.specs.Callings.{calls_of}
 use Rattle.kit_async_model.specs.Legality.{is_legal, is_lack, IsFinished}
 use Rattle.kit_async_model.specs.Lines.{heard_lines}
@@ -114,7 +117,7 @@ pub record Serves (setup : Setup) (old new : Tells) (journal : JournalValue) : T
   pub rest : List ℕ
   pub legal : is_legal setup journal.entries ≡ true
   pub begins : (journal.why ≡ Memory → ⊥) → Begins journal.entries
-  pub told : (journal.why ≡ Memory → ⊥) → (standing setup journal.entries).due ≡ None
+  pub told : (journal.why ≡ Memory → ⊥) → (standing setup journal.entries).due ≡ []
   pub gave : Appends old.given new.given given × StaysUntold old.given new.given
   pub cut : Cut given (heard_lines journal.entries) rest
   pub short : IsTrue (list_all is_short (heard_lines journal.entries))
@@ -125,5 +128,10 @@ pub record Serves (setup : Setup) (old new : Tells) (journal : JournalValue) : T
 
 -- the settings of the first remote, and how many there are
 abbrev pub setup_of : {K : Type 0} → (K → List (List ℕ)) → List K → Setup
-setup_of settings [] = record { settings = []; remotes = 0 }
-setup_of settings (k ∷ ks) = record { settings = settings k; remotes = length ks + 1 }
+setup_of settings [] = record { settings = []; remotes = 0; about = None }
+setup_of settings (k ∷ ks) = record { settings = settings k; remotes = length ks + 1; about = None }
+
+-- the same, with what the first remote says of itself, and these facts
+abbrev pub described_setup : {K : Type 0} → (K → List (List ℕ)) → (K → Description) → List Fact → List K → Setup
+described_setup settings description facts [] = setup_of settings []
+described_setup settings description facts (k ∷ ks) = record (setup_of settings (k ∷ ks)) { about = Some (about_of (description k) facts) }

@@ -1,7 +1,7 @@
 // What the roles of a kit promise, each of its own pass, is what the kit promises, and what follows of that: laws, each the contract of a
 // function with nothing to do.
 ghost use Rattle.kit_async.specs.Endings.{RolesServe};
-ghost use Rattle.kit_async.specs.Laws.{AllIsWritten, JobsAreSettled, StatusIsHeard, WordsAreSaid};
+ghost use Rattle.kit_async.specs.Laws.{AllIsWritten, DescriptionsTellNoWord, JobsAreSettled, StatusIsHeard, WordsAreSaid};
 
 /// Where each role did what it promises, the kit served as it promises.
 pub fn roles_serve()
@@ -23,7 +23,12 @@ pub fn jobs_are_settled()
     ensures { JobsAreSettled }
 {}
 
-/// The version is said first and once, and the error to what is unexpected last and once.
+/// What a kit has of a remote's description is neither the version nor the error.
+pub fn descriptions_tell_no_word()
+    ensures { DescriptionsTellNoWord }
+{}
+
+/// The version is said first and once, and the error to what is unexpected last and once, unless the remotes' own lines are such words.
 pub fn words_are_said()
     ensures { WordsAreSaid }
 {}

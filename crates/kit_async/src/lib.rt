@@ -14,5 +14,5 @@ mod why;
 
 pub use journal::KitJournal;
 pub use lent::KitEntry;
-pub use serving::{AsyncEnd, serve_async, serve_async_some};
+pub use serving::{AsyncEnd, serve_async, serve_async_described, serve_async_some};
 pub use why::Why;

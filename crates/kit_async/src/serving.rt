@@ -6,7 +6,7 @@ ghost use Rattle.kit_async_model.specs.declared.setup.Setup.{Setup};
 ghost use Rattle.kit_async_model.specs.Events.{IsMadeBy, MayStep};
 ghost use Rattle.kit_async.specs.Dealt.{AreFresh};
 ghost use Rattle.kit_async.specs.Endings.{why_stopped};
-ghost use Rattle.kit_async.specs.Served.{HasCauses, Serves, setup_of, status_of};
+ghost use Rattle.kit_async.specs.Served.{HasCauses, Serves, described_setup, setup_of, status_of};
 
 use crate::dealt::Site;
 use crate::journal::KitJournal;
@@ -16,9 +16,9 @@ use ann_key::NoMemory;
 use ann_outside::{Sink, Source};
 use hall::{Hall, Pass};
 use kit_async_core::KitCore;
-use kit_async_model::Setup;
+use kit_async_model::{About, Fact, Setup};
 use kit_async_roles::Why as RoleWhy;
-use kit_core::Remote;
+use kit_core::{Describe, Remote};
 use std::alloc::Global;
 use std::marker::{Send, Sync};
 use std::sync::Wait;
@@ -82,20 +82,46 @@ fn why_stopped(ends: RoleEnds, core: &KitCore) -> Why
     }
 }
 
-// The hall of the kit's core, and its passes.
-fn begin<K: Remote>(
+// What doesn't change while these are served.
+fn setup<K: Remote>(alloc: Global, remotes: &[K]) -> Result<Setup, NoMemory>
+    requires { (0 < length remotes.now) × (length remotes.now ≤ 64) }
+    ensures { IfOk result (λ setup. setup ≡ setup_of K.settings remotes.now) }
+{
+    let seats = remotes.len() as u32;
+    Setup::of(alloc, &remotes[0], seats)
+}
+
+// The same, with what the first of them says of itself, and these facts.
+fn described_setup<K: Remote + Describe>(
     alloc: Global,
     remotes: &[K],
-) -> Result<(Hall<KitCore>, Vec<Pass<KitCore>>), NoMemory>
+    facts: Vec<Fact>,
+) -> Result<Setup, NoMemory>
     requires { (0 < length remotes.now) × (length remotes.now ≤ 64) }
-    ensures hall { IfOk result (λ h. (h.0.start ≡ Say 0 (codes "VERSION 1") ∷ []) × (h.0.fixed ≡ setup_of K.settings remotes.now)) }
-    ensures seats { IfOk result (λ h. (length h.1.items ≡ h.0.seats) × (length h.1.items ≡ 2 + length remotes.now)) }
-    ensures fresh { IfOk result (λ h. AreFresh h.0 1 h.1.items) }
+    ensures { IfOk result (λ setup. setup ≡ described_setup K.settings K.description facts.items remotes.now) }
 {
     let seats = remotes.len() as u32;
     let setup = Setup::of(alloc, &remotes[0], seats)?;
+    let about = About::of(alloc, &remotes[0], facts)?;
+    Ok(Setup {
+        about: Some(about),
+        ..setup
+    })
+}
+
+// The hall of a kit's core, and the passes of its reader, its writer and so many remotes.
+fn begin(
+    alloc: Global,
+    setup: Setup,
+    remotes: u32,
+) -> Result<(Hall<KitCore>, Vec<Pass<KitCore>>), NoMemory>
+    requires { (0 < remotes) × (remotes ≤ 64) }
+    ensures hall { IfOk result (λ h. (h.0.start ≡ Say 0 (codes "VERSION 1") ∷ []) × (h.0.fixed ≡ setup)) }
+    ensures seats { IfOk result (λ h. (length h.1.items ≡ h.0.seats) × (length h.1.items ≡ 2 + remotes)) }
+    ensures fresh { IfOk result (λ h. AreFresh h.0 1 h.1.items) }
+{
     let core = KitCore::new(alloc, setup)?;
-    match Hall::begin(alloc, core, seats + 2) {
+    match Hall::begin(alloc, core, remotes + 2) {
         Ok(begun) => Ok(begun),
         Err(_) => Err(NoMemory),
     }
@@ -132,6 +158,49 @@ fn end<K: Remote + Drop, S: Source, W: Sink>(
     }
 }
 
+// Serves the remotes by that setup, with no more threads than `most` tried.
+fn serve_over<
+    K: Remote + Send + Drop,
+    S: Source + Send + Drop,
+    W: Sink + Send + Drop,
+    R: Threads + Wait + Sync,
+>(
+    rt: &R,
+    alloc: Global,
+    most: usize,
+    setup: Setup,
+    remotes: Vec<K>,
+    source: S,
+    sink: W,
+) -> AsyncEnd<K, S, W>
+    requires remotes { (0 < vec_len remotes) × (vec_len remotes ≤ 64) }
+    requires open { (S.is_open source ≡ true) × (W.is_open sink ≡ true) }
+    ensures serves { Serves setup
+        (record { given = S.given source; left = S.left source; taken = W.taken sink; calls = map K.calls remotes.items })
+        (record { given = S.given result.source; left = S.left result.source; taken = W.taken result.sink; calls = map K.calls result.remotes.items }) result.journal }
+    ensures status { result.status ≡ status_of result.journal.why }
+    ensures causes { HasCauses result.journal.why (S.faults source) (S.faults result.source) (W.faults sink) (W.faults result.sink) }
+    ensures open { (S.is_open result.source ≡ true) × (W.is_open result.sink ≡ true) }
+    ensures settings { map K.settings result.remotes.items ≡ map K.settings remotes.items }
+{
+    let Ok((hall, passes)) = begin(alloc, setup, remotes.len() as u32) else {
+        return unserved(alloc, remotes, source, sink);
+    };
+    let site = Site {
+        rt,
+        alloc,
+        hall: &hall,
+    };
+    let kit = Kit {
+        passes,
+        remotes,
+        source,
+        sink,
+    };
+    let (kit, ends) = play(&site, most, kit);
+    end(hall, kit, ends)
+}
+
 /// The same as [`serve_async`], with no more threads than `most` tried: where not all of them can be started, the calling thread does
 /// all.
 pub fn serve_async_some<
@@ -150,22 +219,10 @@ pub fn serve_async_some<
     ensures open { (S.is_open result.source ≡ true) × (W.is_open result.sink ≡ true) }
     ensures settings { map K.settings result.remotes.items ≡ map K.settings remotes.items }
 {
-    let Ok((hall, passes)) = begin(alloc, &remotes) else {
+    let Ok(setup) = setup(alloc, &remotes) else {
         return unserved(alloc, remotes, source, sink);
     };
-    let site = Site {
-        rt,
-        alloc,
-        hall: &hall,
-    };
-    let kit = Kit {
-        passes,
-        remotes,
-        source,
-        sink,
-    };
-    let (kit, ends) = play(&site, most, kit);
-    end(hall, kit, ends)
+    serve_over(rt, alloc, most, setup, remotes, source, sink)
 }
 
 /// Serves the remotes, 1 to 64, to the host behind the source and the sink until one of them ends it, and hands all back.
@@ -189,4 +246,30 @@ pub fn serve_async<
     ensures settings { map K.settings result.remotes.items ≡ map K.settings remotes.items }
 {
     serve_async_some(rt, alloc, usize::MAX, remotes, source, sink)
+}
+
+/// The same as [`serve_async`] where the remotes say what they are. It differs in this alone: LISTCONFIGS, GETCOST, GETAVAILABILITY and
+/// GETINFO are answered by what the first remote says of itself before it is served, and by these facts after its own; and a line that
+/// spells no message by UNSUPPORTED-REQUEST, so that a host may ask for what the remotes don't know. WHEREIS is UNSUPPORTED-REQUEST: its
+/// answer depends on the key.
+pub fn serve_async_described<
+    K: Remote + Describe + Send + Drop,
+    S: Source + Send + Drop,
+    W: Sink + Send + Drop,
+    R: Threads + Wait + Sync,
+>(rt: &R, alloc: Global, remotes: Vec<K>, facts: Vec<Fact>, source: S, sink: W) -> AsyncEnd<K, S, W>
+    requires remotes { (0 < vec_len remotes) × (vec_len remotes ≤ 64) }
+    requires open { (S.is_open source ≡ true) × (W.is_open sink ≡ true) }
+    ensures serves { Serves (described_setup K.settings K.description facts.items remotes.items)
+        (record { given = S.given source; left = S.left source; taken = W.taken sink; calls = map K.calls remotes.items })
+        (record { given = S.given result.source; left = S.left result.source; taken = W.taken result.sink; calls = map K.calls result.remotes.items }) result.journal }
+    ensures status { result.status ≡ status_of result.journal.why }
+    ensures causes { HasCauses result.journal.why (S.faults source) (S.faults result.source) (W.faults sink) (W.faults result.sink) }
+    ensures open { (S.is_open result.source ≡ true) × (W.is_open result.sink ≡ true) }
+    ensures settings { map K.settings result.remotes.items ≡ map K.settings remotes.items }
+{
+    let Ok(setup) = described_setup(alloc, &remotes, facts) else {
+        return unserved(alloc, remotes, source, sink);
+    };
+    serve_over(rt, alloc, usize::MAX, setup, remotes, source, sink)
 }

@@ -1,6 +1,6 @@
 -- What the steps of a remote come to.
-use Rattle.std.proofs.Common.{zero, suc, ◌≡◌, ◌⊎◌, inl, inr, ℕ, ◌+◌, ◌-◌, ◌*◌, ◌≤◌, ◌<◌, List, [], ◌∷◌, ◌++◌, refl, sym, ap, subst, ◌∙◌, Bool, true, false, not, ◌==◌, cond, Some, None, Option, length, get_or, length-append, append_assoc, arith}
-use Rattle.std.specs.Prelude.{Result, Ok, Err, IfOk, ◌&&◌, ◌||◌, find, position, fold, set, remove, slice_get, nat_lt, option_map, IfSome}
+use Rattle.std.proofs.Common.{zero, suc, ◌≡◌, ℕ, ◌+◌, ◌-◌, ◌*◌, ◌≤◌, ◌<◌, List, [], ◌∷◌, ◌++◌, refl, sym, ap, subst, ◌∙◌, Bool, true, false, not, ◌==◌, cond, Some, None, Option, length, get_or, length-append, append_assoc, arith}
+use Rattle.std.specs.Prelude.{Result, Ok, Err, IfOk, ◌&&◌, ◌||◌, find, position, fold, set, remove, slice_get, nat_lt, IfSome}
 use Rattle.std.proofs.lemmas.Bool.Decides.{nat_tests}
 use Rattle.std.proofs.lemmas.List.{append-nil, length-set}
 use Rattle.std.proofs.lemmas.Option.{slice_get_within}
@@ -13,11 +13,11 @@ use Rattle.kit_async_model.specs.declared.entry.Entry.{Entry}
 use Rattle.kit_async_model.specs.declared.entry.Entry.TheVariants.{Take, Call, Say, Lack}
 use Rattle.kit_async_model.specs.declared.event.Reply.{Reply}
 use Rattle.kit_async_model.specs.declared.event.Reply.TheVariants.{Done, Odd, Unsaid}
-use Rattle.kit_async_model.specs.Jobs.{is_making_ready, is_awaiting, is_worked_by, settles, prepares, final_in, job_line, job_of, with_job, without_job}
-use Rattle.kit_async_model.specs.Standings.{Standing, with_taken, with_call, answer_due, called_in, said_line, said_in, after}
+use Rattle.kit_async_model.specs.Jobs.{is_making_ready, is_awaiting, is_worked_by, settles, prepared_after, final_in, job_line, job_of, with_job, without_job}
+use Rattle.kit_async_model.specs.Standings.{Standing, with_taken, with_call, answer_due, called_in, told_by, said_line, said_in, after}
 use Rattle.kit_async_model.specs.Legality.{is_idle, is_free, is_turn_of, is_called, is_done}
-use Rattle.kit_async_model.specs.Events.{Stepped, waiting, due_said, work_in, first_free, free_step, turn_step, take_step, called_then, called_step, call_step, IsUnsaid}
-use Rattle.kit_async_model.specs.Books.{IsAsBefore, AnswerKept, AnswerBegun, BookValue, AreApart, most_calls, calls_owed, room_owed, Took, Lacked, IsCalledAt, CallNoted}
+use Rattle.kit_async_model.specs.Events.{Stepped, waiting, due_said, work_in, first_free, free_step, turn_step, take_step, called_then, called_step, call_step}
+use Rattle.kit_async_model.specs.Books.{BookIsAsBefore, AnswerKept, AnswerBegun, BookValue, AreApart, most_calls, calls_owed, room_owed, Took, Lacked, IsCalledAt, CallNoted}
 use Rattle.kit_async_model.proofs.Fronts.{both}
 use Rattle.kit_async_model.proofs.Places.{Found, found_place, found_none, read_is, job_there, job_changed, change_there, removal_there, removal_changed, calls_set, calls_remove, passes_of}
 
@@ -68,7 +68,7 @@ record Knows (setup : Setup) (s : Standing) (remote : ℕ) (said : Said) (place 
   step : call_step setup s remote said ≡ called_then (after setup s (Call job.number remote said)) (Call job.number remote said)
   after_is : after setup s (Call job.number remote said) ≡ record s {
     due = answer_due setup job said s.over;
-    prepared = s.prepared || prepares setup job said;
+    prepared = prepared_after setup job said s.prepared;
     jobs = set s.jobs place (with_call (settles setup job said) job);
   }
   owed : calls_owed setup (set s.jobs place (with_call (settles setup job said) job)) + 1 ≡ calls_owed setup s.jobs
@@ -84,7 +84,7 @@ knows setup s remote said place a k =
     record {
       step = rw (k.line, k.called) refl;
       after_is = ap (called_in setup s said) (job_there s.jobs place job a k.there)
-          ∙ ap (λ (js : List Job). record s { due = answer_due setup job said s.over; prepared = s.prepared || prepares setup job said; jobs = js })
+          ∙ ap (λ (js : List Job). record s { due = answer_due setup job said s.over; prepared = prepared_after setup job said s.prepared; jobs = js })
           (change_there (with_call (settles setup job said)) s.jobs place job a k.there);
       owed = one_fewer (calls_owed setup (set s.jobs place new)) (calls_owed setup s.jobs) (most_calls setup job) job.calls
           (calls_set setup s.jobs place job new k.there) k.few;
@@ -96,7 +96,7 @@ same_job : (setup : Setup) (old new : BookValue) (remote : ℕ) (said : Said) (p
 same_job setup old new remote said place k n = let both_are : Some n.job ≡ Some k.job = sym n.there ∙ k.there in cc
 
 -- after a call the due line, if there is one
-called_took : (setup : Setup) (old new : BookValue) (remote : ℕ) (said : Said) (job : Job) (t : Standing) (due : Option (ℕ × List ℕ))
+called_took : (setup : Setup) (old new : BookValue) (remote : ℕ) (said : Said) (job : Job) (t : Standing) (due : List (ℕ × List ℕ))
     → call_step setup old.stands remote said ≡ called_then (after setup old.stands (Call job.number remote said)) (Call job.number remote said)
     → after setup old.stands (Call job.number remote said) ≡ t → t.due ≡ due
     → new.journal ≡ old.journal ++ Call job.number remote said ∷ due_said due
@@ -106,7 +106,7 @@ called_took : (setup : Setup) (old new : BookValue) (remote : ℕ) (said : Said)
 called_took setup old new remote said job t due is ts d j s room =
     let call : Entry = Call job.number remote said in
     let whole : call_step setup old.stands remote said ≡ record { group = call ∷ due_said due; reply = Done } =
-    is ∙ ap (λ (u : Standing). called_then u call) ts ∙ ap (λ (o : Option (ℕ × List ℕ)). record { group = call ∷ due_said o; reply = Done }) d in
+    is ∙ ap (λ (u : Standing). called_then u call) ts ∙ ap (λ (o : List (ℕ × List ℕ)). record { group = call ∷ due_said o; reply = Done }) d in
     record {
       reply_is = sym (ap (λ (step : Stepped). step.reply) whole);
       journal = j ∙ sym (ap (λ (step : Stepped). old.journal ++ step.group) whole);
@@ -115,14 +115,14 @@ called_took setup old new remote said job t due is ts d j s room =
       room = room;
     }
 
-unanswered : (setup : Setup) (job : Job) (said : Said) (over : Bool) → (not over && settles setup job said) ≡ false → answer_due setup job said over ≡ None
+unanswered : (setup : Setup) (job : Job) (said : Said) (over : Bool) → (not over && settles setup job said) ≡ false → answer_due setup job said over ≡ []
 unanswered setup job said over h = rw h refl
 
 answered : (setup : Setup) (job : Job) (said : Said) (over : Bool) → over ≡ false → settles setup job said ≡ true
-    → answer_due setup job said over ≡ Some (job.number, final_in job said)
+    → answer_due setup job said over ≡ (job.number, final_in job said) ∷ []
 answered setup job said over o h = rw (o, h) refl
 
-pub noted_took : (setup : Setup) (old new : BookValue) (remote : ℕ) (said : Said) (place : ℕ) → old.stands.due ≡ None → AreApart old.stands.jobs
+pub noted_took : (setup : Setup) (old new : BookValue) (remote : ℕ) (said : Said) (place : ℕ) → old.stands.due ≡ [] → AreApart old.stands.jobs
     → (k : IsCalledAt setup old.stands remote said place) → CallNoted setup old new remote said place
     → (not old.stands.over && settles setup k.job said) ≡ false
     → Took setup old new (call_step setup old.stands remote said) Done
@@ -131,14 +131,14 @@ noted_took setup old new remote said place d a k n h =
     let w = knows setup old.stands remote said place a k in
     let is = same_job setup old new remote said place k n in
     let jobs : List Job = set old.stands.jobs place (with_call (settles setup job said) job) in
-    let s : new.stands ≡ record old.stands { prepared = old.stands.prepared || prepares setup job said; jobs = jobs } =
-    n.stands ∙ ap (λ (j : Job). record old.stands { prepared = old.stands.prepared || prepares setup j said; jobs = set old.stands.jobs place (with_call (settles setup j said) j) }) is in
-    let silent : answer_due setup job said old.stands.over ≡ None = unanswered setup job said old.stands.over h in
+    let s : new.stands ≡ record old.stands { prepared = prepared_after setup job said old.stands.prepared; jobs = jobs } =
+    n.stands ∙ ap (λ (j : Job). record old.stands { prepared = prepared_after setup j said old.stands.prepared; jobs = set old.stands.jobs place (with_call (settles setup j said) j) }) is in
+    let silent : answer_due setup job said old.stands.over ≡ [] = unanswered setup job said old.stands.over h in
     called_took setup old new remote said job
-    (record old.stands { due = answer_due setup job said old.stands.over; prepared = old.stands.prepared || prepares setup job said; jobs = jobs })
-    None w.step w.after_is silent
+    (record old.stands { due = answer_due setup job said old.stands.over; prepared = prepared_after setup job said old.stands.prepared; jobs = jobs })
+    [] w.step w.after_is silent
     (n.journal ∙ ap (λ (j : Job). old.journal ++ Call j.number remote said ∷ []) is)
-    (s ∙ ap (λ (o : Option (ℕ × List ℕ)). record old.stands { due = o; prepared = old.stands.prepared || prepares setup job said; jobs = jobs }) (d ∙ sym silent))
+    (s ∙ ap (λ (o : List (ℕ × List ℕ)). record old.stands { due = o; prepared = prepared_after setup job said old.stands.prepared; jobs = jobs }) (d ∙ sym silent))
     (λ l.
     let e : room_owed setup new.stands ≡ 3 * calls_owed setup jobs + length old.stands.unwritten = ap (room_owed setup) s in
     omega (arith, e, l, n.room, w.owed))
@@ -156,8 +156,9 @@ pub settled_took : (setup : Setup) (old new : BookValue) (remote : ℕ) (said : 
     → line ≡ job_line k.job.number (final_in k.job said)
     → new.journal ≡ old.journal ++ Call k.job.number remote said ∷ Say k.job.number line ∷ []
     → new.stands ≡ record old.stands {
-      due = None;
-      prepared = old.stands.prepared || prepares setup k.job said;
+      due = [];
+      prepared = prepared_after setup k.job said old.stands.prepared;
+      told = told_by (prepared_after setup k.job said old.stands.prepared) k.job old.stands.told;
       jobs = remove old.stands.jobs place;
       unwritten = old.stands.unwritten ++ line ∷ [];
     }
@@ -167,9 +168,12 @@ settled_took setup old new remote said place line a k o h l j s r =
     let job : Job = k.job in
     let w = knows setup old.stands remote said place a k in
     let jobs : List Job = set old.stands.jobs place (with_call (settles setup job said) job) in
-    let t : Standing = record old.stands { due = answer_due setup job said old.stands.over; prepared = old.stands.prepared || prepares setup job said; jobs = jobs } in
-    let due : t.due ≡ Some (job.number, final_in job said) = answered setup job said old.stands.over o h in
+    let due : List (ℕ × List ℕ) = (job.number, final_in job said) ∷ [] in
+    let t : Standing = record old.stands { due = due; prepared = prepared_after setup job said old.stands.prepared; jobs = jobs } in
+    let after_is : after setup old.stands (Call job.number remote said) ≡ t =
+    w.after_is ∙ ap (λ (o : List (ℕ × List ℕ)). record old.stands { due = o; prepared = prepared_after setup job said old.stands.prepared; jobs = jobs }) (answered setup job said old.stands.over o h) in
     let u : Standing = said_line t (job_line job.number (final_in job said)) in
+    let told : List (List ℕ) = told_by (prepared_after setup job said old.stands.prepared) job old.stands.told in
     let changed : with_job job.number (with_call (settles setup job said)) old.stands.jobs ≡ jobs = change_there (with_call (settles setup job said)) old.stands.jobs place job a k.there in
     let found : job_of jobs job.number ≡ Some (with_call (settles setup job said) job) =
     ap (λ (js : List Job). job_of js job.number) (sym changed)
@@ -179,11 +183,11 @@ settled_took setup old new remote said place line a k o h l j s r =
     ∙ removal_changed (with_call (settles setup job said)) old.stands.jobs job.number (λ x. refl)
     ∙ removal_there old.stands.jobs place job a k.there in
     let waits : is_awaiting setup (with_call (settles setup job said) job) ≡ false = called_waits setup old.stands.jobs remote job (passes_of (is_called setup old.stands.jobs remote) old.stands.jobs job k.called) in
-    let closes : said_in setup u (Some (with_call (settles setup job said) job)) ≡ record u { jobs = without_job job.number jobs } = rw (o, waits) refl in
-    called_took setup old new remote said job t (Some (job.number, final_in job said)) w.step w.after_is due
+    let closes : said_in setup u (Some (with_call (settles setup job said) job)) ≡ record u { told = told; jobs = without_job job.number jobs } = rw (o, waits) refl in
+    called_took setup old new remote said job t due w.step after_is refl
     (j ∙ ap (λ (x : List ℕ). old.journal ++ Call job.number remote said ∷ Say job.number x ∷ []) l)
-    (s ∙ ap (λ (x : List ℕ). record (said_line t x) { jobs = remove old.stands.jobs place }) l
-    ∙ ap (λ (js : List Job). record u { jobs = js }) (sym gone)
+    (s ∙ ap (λ (x : List ℕ). record (said_line t x) { told = told; jobs = remove old.stands.jobs place }) l
+    ∙ ap (λ (js : List Job). record u { told = told; jobs = js }) (sym gone)
     ∙ sym closes
     ∙ sym (ap (said_in setup u) found))
     (λ m.
@@ -196,8 +200,8 @@ pub settled_lacked : (setup : Setup) (old new : BookValue) (remote : ℕ) (said 
     → (k : IsCalledAt setup old.stands remote said place) → old.stands.over ≡ false → settles setup k.job said ≡ true
     → new.journal ≡ old.journal ++ Call k.job.number remote said ∷ Lack ∷ []
     → new.stands ≡ record old.stands {
-      due = None;
-      prepared = old.stands.prepared || prepares setup k.job said;
+      due = [];
+      prepared = prepared_after setup k.job said old.stands.prepared;
       jobs = set old.stands.jobs place (with_call (settles setup k.job said) k.job);
       over = true;
     }
@@ -208,8 +212,8 @@ settled_lacked setup old new remote said place a k o h j s r =
     let call : Entry = Call job.number remote said in
     let w = knows setup old.stands remote said place a k in
     let jobs : List Job = set old.stands.jobs place (with_call (settles setup job said) job) in
-    let t : Standing = record old.stands { due = answer_due setup job said old.stands.over; prepared = old.stands.prepared || prepares setup job said; jobs = jobs } in
-    let due : t.due ≡ Some (job.number, final_in job said) = answered setup job said old.stands.over o h in
+    let t : Standing = record old.stands { due = answer_due setup job said old.stands.over; prepared = prepared_after setup job said old.stands.prepared; jobs = jobs } in
+    let due : t.due ≡ (job.number, final_in job said) ∷ [] = answered setup job said old.stands.over o h in
     record {
       group = call ∷ Lack ∷ [];
       unsaid = record {
@@ -217,12 +221,12 @@ settled_lacked setup old new remote said place a k o h j s r =
         answer = Say job.number (job_line job.number (final_in job said));
         whole = ap (λ (step : Stepped). step.group) w.step
             ∙ ap (λ (u : Standing). call ∷ due_said u.due) w.after_is
-            ∙ ap (λ (x : Option (ℕ × List ℕ)). call ∷ due_said x) due;
+            ∙ ap (λ (x : List (ℕ × List ℕ)). call ∷ due_said x) due;
         reply_is = refl;
         group_is = refl;
       };
       journal = j;
-      stands = s ∙ ap (λ (u : Standing). record u { due = None; over = true }) (sym w.after_is);
+      stands = s ∙ ap (λ (u : Standing). record u { due = []; over = true }) (sym w.after_is);
       room = λ m.
           let e : room_owed setup new.stands ≡ 3 * calls_owed setup jobs + length old.stands.unwritten = ap (room_owed setup) s in
           omega (arith, e, m, r, w.owed);
@@ -263,11 +267,11 @@ take_took setup old new remote place a none o idle f j s r =
 -- ---- a call that settles its job, in its parts
 
 -- what is known once its answer was begun, whether or not memory was found for it
-pub record Begun (old mid : BookValue) : Type 0 where
+pub record CoreBegun (old mid : BookValue) : Type 0 where
   pub room : old.room ≤ mid.room
   pub jobs : mid.stands.jobs ≡ old.stands.jobs
 
-pub begun_is : (old mid : BookValue) (place : ℕ) (said : Said) (o : Option (List ℕ)) → AnswerBegun old mid place said o → Begun old mid
+pub begun_is : (old mid : BookValue) (place : ℕ) (said : Said) (o : Option (List ℕ)) → AnswerBegun old mid place said o → CoreBegun old mid
 begun_is old mid place said None b = record { room = b.room; jobs = ap (λ (t : Standing). t.jobs) b.stands }
 begun_is old mid place said (Some line) b = record { room = omega (arith, b.room); jobs = ap (λ (t : Standing). t.jobs) b.stands }
 
@@ -278,7 +282,7 @@ some_room setup old remote said place k r =
     omega (arith, removed, k.few, r)
 
 -- the job stands there still
-pub still_within : (setup : Setup) (old mid noted : BookValue) (remote : ℕ) (said : Said) (place : ℕ) → IsCalledAt setup old.stands remote said place → Begun old mid
+pub still_within : (setup : Setup) (old mid noted : BookValue) (remote : ℕ) (said : Said) (place : ℕ) → IsCalledAt setup old.stands remote said place → CoreBegun old mid
     → CallNoted setup mid noted remote said place → place < length noted.stands.jobs
 still_within setup old mid noted remote said place k b n =
     let within : place < length old.stands.jobs = slice_get_within old.stands.jobs place k.job k.there in
@@ -293,34 +297,45 @@ mid_job : (setup : Setup) (old mid noted : BookValue) (remote : ℕ) (said : Sai
 mid_job setup old mid noted remote said place k j n =
     let both_are : Some n.job ≡ Some k.job = sym n.there ∙ ap (λ (js : List Job). slice_get js place) j ∙ k.there in cc
 
+-- what was put at a place stands there
+set_there : (jobs : List Job) (place : ℕ) (old new : Job) → slice_get jobs place ≡ Some old → slice_get (set jobs place new) place ≡ Some new
+set_there [] place old new h = absurd cc
+set_there (x ∷ xs) zero old new h = refl
+set_there (x ∷ xs) (suc k) old new h = set_there xs k old new h
+
 pub answered_settles : (setup : Setup) (old mid noted new : BookValue) (remote : ℕ) (said : Said) (place number : ℕ) (line : List ℕ) → AreApart old.stands.jobs
     → (k : IsCalledAt setup old.stands remote said place) → old.stands.over ≡ false → settles setup k.job said ≡ true → number ≡ k.job.number
     → AnswerKept old mid place said line → CallNoted setup mid noted remote said place
     → new.journal ≡ noted.journal ++ Say number line ∷ []
-    → new.stands ≡ record noted.stands { due = None; jobs = remove noted.stands.jobs place }
+    → IfSome (slice_get noted.stands.jobs place) (λ job. new.stands ≡ record noted.stands { due = []; told = told_by noted.stands.prepared job noted.stands.told; jobs = remove noted.stands.jobs place })
     → new.room + 1 ≡ noted.room
     → Took setup old new (call_step setup old.stands remote said) Done
 answered_settles setup old mid noted new remote said place number line a k o h num b n j s r =
     let is : n.job ≡ k.job = mid_job setup old mid noted remote said place k (ap (λ (t : Standing). t.jobs) b.stands) n in
+    let called : Job = with_call (settles setup n.job said) n.job in
+    let there : slice_get noted.stands.jobs place ≡ Some called =
+    ap (λ (t : Standing). slice_get t.jobs place) n.stands ∙ set_there mid.stands.jobs place n.job called n.there in
+    let stands : new.stands ≡ record noted.stands { due = []; told = told_by noted.stands.prepared called noted.stands.told; jobs = remove noted.stands.jobs place } =
+    subst (λ (x : Option Job). IfSome x (λ job. new.stands ≡ record noted.stands { due = []; told = told_by noted.stands.prepared job noted.stands.told; jobs = remove noted.stands.jobs place })) there s in
     let answer : line ≡ job_line k.job.number (final_in k.job said) = subst (λ (x : Option Job). IfSome x (λ job. line ≡ job_line job.number (final_in job said))) k.there b.answer in
     settled_took setup old new remote said place line a k o h answer
     (j ∙ ap (λ (es : List Entry). es ++ Say number line ∷ []) (n.journal ∙ ap (λ (es : List Entry). es ++ Call n.job.number remote said ∷ []) b.journal)
     ∙ append_assoc old.journal (Call n.job.number remote said ∷ []) (Say number line ∷ [])
     ∙ ap (λ (x : Job). old.journal ++ Call x.number remote said ∷ Say number line ∷ []) is
     ∙ ap (λ (m : ℕ). old.journal ++ Call k.job.number remote said ∷ Say m line ∷ []) num)
-    (s
-    ∙ ap (λ (t : Standing). record t { due = None; jobs = remove t.jobs place }) n.stands
-    ∙ ap (λ (t : Standing). record t { due = None; prepared = t.prepared || prepares setup n.job said; jobs = remove (set t.jobs place (with_call (settles setup n.job said) n.job)) place }) b.stands
-    ∙ ap (λ (js : List Job). record old.stands { due = None; prepared = old.stands.prepared || prepares setup n.job said; jobs = js; unwritten = old.stands.unwritten ++ line ∷ [] })
-    (remove_set old.stands.jobs place (with_call (settles setup n.job said) n.job))
-    ∙ ap (λ (x : Job). record old.stands { due = None; prepared = old.stands.prepared || prepares setup x said; jobs = remove old.stands.jobs place; unwritten = old.stands.unwritten ++ line ∷ [] }) is)
+    (stands
+    ∙ ap (λ (t : Standing). record t { due = []; told = told_by t.prepared called t.told; jobs = remove t.jobs place }) n.stands
+    ∙ ap (λ (t : Standing). record t { due = []; prepared = prepared_after setup n.job said t.prepared; told = told_by (prepared_after setup n.job said t.prepared) called t.told; jobs = remove (set t.jobs place called) place }) b.stands
+    ∙ ap (λ (js : List Job). record old.stands { due = []; prepared = prepared_after setup n.job said old.stands.prepared; told = told_by (prepared_after setup n.job said old.stands.prepared) called old.stands.told; jobs = js; unwritten = old.stands.unwritten ++ line ∷ [] })
+    (remove_set old.stands.jobs place called)
+    ∙ ap (λ (x : Job). record old.stands { due = []; prepared = prepared_after setup x said old.stands.prepared; told = told_by (prepared_after setup x said old.stands.prepared) x old.stands.told; jobs = remove old.stands.jobs place; unwritten = old.stands.unwritten ++ line ∷ [] }) is)
     (omega (arith, r, n.room, b.room))
 
 pub lacking_settles : (setup : Setup) (old mid noted new : BookValue) (remote : ℕ) (said : Said) (place : ℕ) → AreApart old.stands.jobs
     → (k : IsCalledAt setup old.stands remote said place) → old.stands.over ≡ false → settles setup k.job said ≡ true
-    → IsAsBefore old mid → CallNoted setup mid noted remote said place
+    → BookIsAsBefore old mid → CallNoted setup mid noted remote said place
     → new.journal ≡ noted.journal ++ Lack ∷ []
-    → new.stands ≡ record noted.stands { due = None; over = true }
+    → new.stands ≡ record noted.stands { due = []; over = true }
     → new.room + 1 ≡ noted.room
     → Lacked setup old new (call_step setup old.stands remote said) Unsaid
 lacking_settles setup old mid noted new remote said place a k o h b n j s r =
@@ -330,9 +345,9 @@ lacking_settles setup old mid noted new remote said place a k o h b n j s r =
     ∙ append_assoc old.journal (Call n.job.number remote said ∷ []) (Lack ∷ [])
     ∙ ap (λ (x : Job). old.journal ++ Call x.number remote said ∷ Lack ∷ []) is)
     (s
-    ∙ ap (λ (t : Standing). record t { due = None; over = true }) n.stands
-    ∙ ap (λ (t : Standing). record t { due = None; prepared = t.prepared || prepares setup n.job said; jobs = set t.jobs place (with_call (settles setup n.job said) n.job); over = true }) b.stands
-    ∙ ap (λ (x : Job). record old.stands { due = None; prepared = old.stands.prepared || prepares setup x said; jobs = set old.stands.jobs place (with_call (settles setup x said) x); over = true }) is)
+    ∙ ap (λ (t : Standing). record t { due = []; over = true }) n.stands
+    ∙ ap (λ (t : Standing). record t { due = []; prepared = prepared_after setup n.job said t.prepared; jobs = set t.jobs place (with_call (settles setup n.job said) n.job); over = true }) b.stands
+    ∙ ap (λ (x : Job). record old.stands { due = []; prepared = prepared_after setup x said old.stands.prepared; jobs = set old.stands.jobs place (with_call (settles setup x said) x); over = true }) is)
     (omega (arith, r, n.room, b.room))
 
 -- ---- what is asked for

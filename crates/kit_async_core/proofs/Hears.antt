@@ -1,10 +1,11 @@
 -- What the steps of a line of the host come to.
-use Rattle.std.proofs.Common.{◌≡◌, ℕ, ◌+◌, ◌*◌, ◌≤◌, List, [], ◌∷◌, ◌++◌, refl, sym, ap, subst, ◌∙◌, Bool, true, false, not, cond, Some, None, Option, length, get_or, length-append, arith}
-use Rattle.std.specs.Prelude.{◌&&◌, ◌||◌, find, position, fold, set, slice_get, option_map, IfSome}
+use Rattle.std.proofs.Common.{suc, ◌≡◌, ℕ, ◌+◌, ◌*◌, ◌≤◌, List, [], ◌∷◌, ◌++◌, refl, sym, ap, subst, ◌∙◌, Bool, true, false, not, ◌==◌, cond, Some, None, Option, length, get_or, length-append, append_assoc, arith}
+use Rattle.std.specs.Prelude.{◌&&◌, ◌||◌, position, drop, map, fold, set, slice_get, option_map, is_some, IfSome}
 use Rattle.std.specs.List.{list_any}
 use Rattle.annex_model.specs.Messages.{Getconfig, host_reading, remote_line}
 use Rattle.annex_model.specs.Messages.{HostMessage, AskExtensions, Prepare, Initremote, Transfer, Checkpresent, Remove, Listconfigs, Getcost, Getavailability, Getinfo, Whereis, Exportsupported, Export, Transferexport, Checkpresentexport, Removeexport, Renameexport, Value, Creds, HostError}
-use Rattle.kit_core.specs.Kits.{is_readying}
+use Rattle.kit_core.specs.Kits.{Due, is_prepare, is_readying}
+use Rattle.kit_async_model.specs.declared.about.About.{About}
 use Rattle.kit_async_model.specs.declared.setup.Setup.{Setup}
 use Rattle.kit_async_model.specs.declared.job.Job.{Job}
 use Rattle.kit_async_model.specs.declared.entry.Entry.{Entry}
@@ -13,15 +14,18 @@ use Rattle.kit_async_model.specs.declared.event.Reply.{Reply}
 use Rattle.kit_async_model.specs.declared.event.Reply.TheVariants.{Done, Last}
 use Rattle.kit_async_model.specs.declared.hearing.Hearing.{Hearing}
 use Rattle.kit_async_model.specs.declared.hearing.Hearing.TheVariants.{Foul, Unexpected, Aside, Asks, Replies}
-use Rattle.kit_async_model.specs.Jobs.{request_of, request_due, line_by, is_making_ready, is_awaiting, line_in, job_line, has_number, job_of, with_job, without_job}
+use Rattle.kit_async_model.specs.Abouts.{told_of, lines_by, lines_or, lines_about}
+use Rattle.kit_async_model.specs.Jobs.{request_of, request_due, due_in, is_making_ready, next_name, is_awaiting, if_prepared, lines_in, job_line, has_number, job_of, with_job, without_job}
 use Rattle.kit_async_model.specs.Hearings.{text_in, hearing_of, value_told}
-use Rattle.kit_async_model.specs.Standings.{Standing, unexpected_line, starts_tags, new_job, with_value, due_of_job, due_of, with_request, with_told, said_line, said_in, heard_as, after}
-use Rattle.kit_async_model.specs.Legality.{may_hear, holds_back}
+use Rattle.kit_async_model.specs.Standings.{Standing, unexpected_line, starts_tags, with_value, due_of_job, due_of, with_request, is_some_due, told_by, said_line, said_in, heard_as, after}
+use Rattle.kit_async_model.specs.Legality.{may_hear, holds_back, is_some_line}
 use Rattle.kit_async_model.specs.Events.{Stepped, due_said, heard_reply, heard_step, hear_step}
 use Rattle.kit_async_model.specs.Books.{BookValue, AreApart, most_calls, calls_owed, room_owed, Took, IsRequest, IsValue}
 use Rattle.kit_async_model.proofs.Fronts.{both}
 use Rattle.kit_async_model.proofs.Places.{found_none, found_place, read_is, equal, job_last, removal_last, job_there, job_changed, change_there, calls_append, calls_set}
 use Rattle.kit_async_model.proofs.Apart.{asks_new, replies_awaited}
+use Rattle.kit_async_model.proofs.Askings.{never}
+use Rattle.kit_async_model.proofs.FactLines.{not_zero}
 
 not_true : (b : Bool) → not b ≡ true → b ≡ false
 not_true true h = absurd cc
@@ -36,19 +40,19 @@ live setup s m =
 -- ---- any line
 
 -- the standing after the line, what is due there, and all that is said of it
-record After (setup : Setup) (s : Standing) (line : List ℕ) (t : Standing) (due : Option (ℕ × List ℕ)) : Type 0 where
+record After (setup : Setup) (s : Standing) (line : List ℕ) (t : Standing) (due : List (ℕ × List ℕ)) : Type 0 where
   may : may_hear setup s ≡ true
   after_is : after setup s (Heard line) ≡ t
   due_is : t.due ≡ due
 
-heard_is : (setup : Setup) (s : Standing) (line : List ℕ) (t : Standing) (due : Option (ℕ × List ℕ)) → After setup s line t due
+heard_is : (setup : Setup) (s : Standing) (line : List ℕ) (t : Standing) (due : List (ℕ × List ℕ)) → After setup s line t due
     → hear_step setup s line ≡ record { group = Heard line ∷ due_said due; reply = heard_reply t.over }
 heard_is setup s line t due a =
     rw a.may
     (ap (λ (u : Standing). heard_step u line) a.after_is
-    ∙ ap (λ (o : Option (ℕ × List ℕ)). record { group = Heard line ∷ due_said o; reply = heard_reply t.over }) a.due_is)
+    ∙ ap (λ (o : List (ℕ × List ℕ)). record { group = Heard line ∷ due_said o; reply = heard_reply t.over }) a.due_is)
 
-heard_took : (setup : Setup) (old new : BookValue) (line : List ℕ) (t : Standing) (due : Option (ℕ × List ℕ)) (reply : Reply)
+heard_took : (setup : Setup) (old new : BookValue) (line : List ℕ) (t : Standing) (due : List (ℕ × List ℕ)) (reply : Reply)
     → After setup old.stands line t due
     → reply ≡ heard_reply t.over
     → new.journal ≡ old.journal ++ Heard line ∷ due_said due
@@ -70,149 +74,85 @@ heard_of setup s line h e = ap (heard_as setup s (text_in s.tagged line)) e
 
 -- ---- lines that are no request
 
-pub foul_took : (setup : Setup) (old new : BookValue) (line : List ℕ) → old.stands.due ≡ None → may_hear setup old.stands ≡ true
+pub foul_took : (setup : Setup) (old new : BookValue) (line : List ℕ) → old.stands.due ≡ [] → may_hear setup old.stands ≡ true
     → hearing_of setup old.stands.jobs old.stands.tagged line ≡ Foul
     → new.journal ≡ old.journal ++ Heard line ∷ [] → new.stands ≡ record old.stands { over = true } → new.room ≡ old.room
     → Took setup old new (hear_step setup old.stands line) Last
 foul_took setup old new line d m h j s r =
-    heard_took setup old new line (record old.stands { over = true }) None Last
+    heard_took setup old new line (record old.stands { over = true }) [] Last
     (record { may = m; after_is = heard_of setup old.stands line Foul h; due_is = d }) refl j s
     (λ k. let e : room_owed setup new.stands ≡ room_owed setup old.stands = ap (room_owed setup) s in omega (arith, e, k, r))
 
-pub aside_took : (setup : Setup) (old new : BookValue) (line : List ℕ) → old.stands.due ≡ None → may_hear setup old.stands ≡ true
+pub aside_took : (setup : Setup) (old new : BookValue) (line : List ℕ) → old.stands.due ≡ [] → may_hear setup old.stands ≡ true
     → hearing_of setup old.stands.jobs old.stands.tagged line ≡ Aside
     → new.journal ≡ old.journal ++ Heard line ∷ [] → new.stands ≡ old.stands → new.room ≡ old.room
     → Took setup old new (hear_step setup old.stands line) Done
 aside_took setup old new line d m h j s r =
-    heard_took setup old new line old.stands None Done
+    heard_took setup old new line old.stands [] Done
     (record { may = m; after_is = heard_of setup old.stands line Aside h; due_is = d }) (ap heard_reply (sym (live setup old.stands m))) j s
     (λ k. let e : room_owed setup new.stands ≡ room_owed setup old.stands = ap (room_owed setup) s in omega (arith, e, k, r))
 
 over_said : (setup : Setup) (u : Standing) (o : Option Job) → u.over ≡ true → said_in setup u o ≡ u
 over_said setup u None h = refl
-over_said setup u (Some job) h = rw h refl
+over_said setup u (Some job) h = go (is_some_due u.due) u.over h
+  where
+    go : (a b : Bool) → b ≡ true → cond (a || b || is_awaiting setup job) u (record u { told = told_by u.prepared job u.told; jobs = without_job job.number u.jobs }) ≡ u
+    go true b k = refl
+    go false true k = refl
+    go false false k = absurd cc
 
 pub unexpected_took : (setup : Setup) (old new : BookValue) (line : List ℕ) → may_hear setup old.stands ≡ true
     → hearing_of setup old.stands.jobs old.stands.tagged line ≡ Unexpected
     → new.journal ≡ old.journal ++ Heard line ∷ Say 0 unexpected_line ∷ []
-    → new.stands ≡ record old.stands { due = None; over = true; unwritten = old.stands.unwritten ++ unexpected_line ∷ [] } → new.room ≡ old.room + 1
+    → new.stands ≡ record old.stands { due = []; over = true; unwritten = old.stands.unwritten ++ unexpected_line ∷ [] } → new.room ≡ old.room + 1
     → Took setup old new (hear_step setup old.stands line) Last
 unexpected_took setup old new line m h j s r =
-    let t : Standing = record old.stands { over = true; due = Some (0, unexpected_line) } in
-    heard_took setup old new line t (Some (0, unexpected_line)) Last
+    let t : Standing = record old.stands { over = true; due = (0, unexpected_line) ∷ [] } in
+    heard_took setup old new line t ((0, unexpected_line) ∷ []) Last
     (record { may = m; after_is = heard_of setup old.stands line Unexpected h; due_is = refl }) refl j
     (s ∙ sym (over_said setup (said_line t unexpected_line) (job_of t.jobs 0) refl))
     (λ k.
     let e : room_owed setup new.stands ≡ 3 * calls_owed setup old.stands.jobs + length (old.stands.unwritten ++ unexpected_line ∷ []) = ap (room_owed setup) s in
     omega (arith, e, k, r, length-append old.stands.unwritten (unexpected_line ∷ [])))
 
--- ---- requests
+-- ---- requests to get ready
 
-request_after : (setup : Setup) (s : Standing) (line : List ℕ) (job : Job) → IsRequest setup s line job → after setup s (Heard line) ≡ with_request setup s job
-request_after setup s line job is = heard_of setup s line (Asks job.number) is.hearing ∙ ap (with_request setup s) (sym is.job_is)
+-- the line that asks for a setting, if there is one
+abbrev pub asks_for : Option (List ℕ) → List (List ℕ)
+asks_for None = []
+asks_for (Some name) = remote_line (Getconfig name) ∷ []
 
-fresh_calls : (setup : Setup) (s : Standing) (line : List ℕ) (job : Job) → IsRequest setup s line job → job.calls ≡ 0
-fresh_calls setup s line job is = ap (λ (j : Job). j.calls) is.job_is
+-- a request to get ready is none about the remotes
+ready_told : (about : About) (told : List (List ℕ)) (r : Option HostMessage) → is_readying r ≡ true → told_of about told r ≡ None
+ready_told about told None h = absurd cc
+ready_told about told (Some Prepare) h = refl
+ready_told about told (Some Initremote) h = refl
+ready_told about told (Some (AskExtensions names)) h = absurd cc
+ready_told about told (Some (Transfer store key file)) h = absurd cc
+ready_told about told (Some (Checkpresent key)) h = absurd cc
+ready_told about told (Some (Remove key)) h = absurd cc
+ready_told about told (Some Listconfigs) h = absurd cc
+ready_told about told (Some Getcost) h = absurd cc
+ready_told about told (Some Getavailability) h = absurd cc
+ready_told about told (Some Getinfo) h = absurd cc
+ready_told about told (Some (Whereis key)) h = absurd cc
+ready_told about told (Some Exportsupported) h = absurd cc
+ready_told about told (Some (Export name)) h = absurd cc
+ready_told about told (Some (Transferexport store key file)) h = absurd cc
+ready_told about told (Some (Checkpresentexport key)) h = absurd cc
+ready_told about told (Some (Removeexport key)) h = absurd cc
+ready_told about told (Some (Renameexport key onto)) h = absurd cc
+ready_told about told (Some (Value value)) h = absurd cc
+ready_told about told (Some (Creds user password)) h = absurd cc
+ready_told about told (Some (HostError text)) h = absurd cc
 
--- what is said of a job, by the line that is due
-mapped_none : (setup : Setup) (job : Job) → line_in setup job ≡ None → due_of_job setup job ≡ None
-mapped_none setup job e = ap (option_map (λ (line : List ℕ). (job.number, line))) e
+ready_lines : (about : Option About) (told : List (List ℕ)) (due : Due) (r : Option HostMessage) → is_readying r ≡ true → lines_about about told due r ≡ lines_by due
+ready_lines None told due r h = refl
+ready_lines (Some about) told due r h = ap (lines_or due) (ready_told about told r h)
 
-record SomeLine (setup : Setup) (job : Job) (said : List ℕ) : Type 0 where
-  text : List ℕ
-  line : line_in setup job ≡ Some text
-  wired : job_line job.number text ≡ said
-
-some_line : (setup : Setup) (job : Job) (said : List ℕ) → option_map (job_line job.number) (line_in setup job) ≡ Some said → SomeLine setup job said
-some_line setup job said e = go (line_in setup job) refl e
-  where
-    go : (o : Option (List ℕ)) → line_in setup job ≡ o → option_map (job_line job.number) o ≡ Some said → SomeLine setup job said
-    go None h k = absurd cc
-    go (Some text) h k = record { text = text; line = h; wired = let is : job_line job.number text ≡ said = cc in is }
-
-pub begin_took : (setup : Setup) (old new : BookValue) (line : List ℕ) (job : Job) → may_hear setup old.stands ≡ true
-    → IsRequest setup old.stands line job → line_in setup job ≡ None
-    → new.journal ≡ old.journal ++ Heard line ∷ []
-    → new.stands ≡ record old.stands { due = None; tagged = old.stands.tagged || starts_tags (request_of job); jobs = old.stands.jobs ++ job ∷ [] }
-    → new.room ≡ old.room + 3 * most_calls setup job
-    → Took setup old new (hear_step setup old.stands line) Done
-begin_took setup old new line job m is silent j s r =
-    let t : Standing = with_request setup old.stands job in
-    let due : t.due ≡ None = mapped_none setup job silent in
-    heard_took setup old new line t None Done
-    (record { may = m; after_is = request_after setup old.stands line job is; due_is = due })
-    (ap heard_reply (sym (live setup old.stands m))) j
-    (s ∙ ap (λ (o : Option (ℕ × List ℕ)). record old.stands { due = o; tagged = old.stands.tagged || starts_tags (request_of job); jobs = old.stands.jobs ++ job ∷ [] }) (sym due))
-    (λ k.
-    let e : room_owed setup new.stands ≡ 3 * calls_owed setup (old.stands.jobs ++ job ∷ []) + length old.stands.unwritten = ap (room_owed setup) s in
-    omega (arith, e, k, r, calls_append setup old.stands.jobs job, fresh_calls setup old.stands line job is))
-
--- what stands after a line that is said for a new job
-said_new : (setup : Setup) (s : Standing) (line : List ℕ) (job : Job) (said : List ℕ) → IsRequest setup s line job
-    → said_in setup (said_line (with_request setup s job) said) (job_of (with_request setup s job).jobs job.number) ≡ said_in setup (said_line (with_request setup s job) said) (Some job)
-said_new setup s line job said is =
-    ap (said_in setup (said_line (with_request setup s job) said)) (job_last s.jobs job (asks_new setup s.jobs s.tagged line job.number is.hearing))
-
-said_stays : (setup : Setup) (u : Standing) (job : Job) → is_awaiting setup job ≡ true → said_in setup u (Some job) ≡ u
-said_stays setup u job a = go u.over
-  where
-    go : (b : Bool) → cond (b || is_awaiting setup job) u (record u { jobs = without_job job.number u.jobs }) ≡ u
-    go true = refl
-    go false = rw a refl
-
-said_goes : (setup : Setup) (u : Standing) (job : Job) → u.over ≡ false → is_awaiting setup job ≡ false → said_in setup u (Some job) ≡ record u { jobs = without_job job.number u.jobs }
-said_goes setup u job o a = rw (o, a) refl
-
-pub ask_took : (setup : Setup) (old new : BookValue) (line : List ℕ) (job : Job) (said : List ℕ) → may_hear setup old.stands ≡ true
-    → IsRequest setup old.stands line job → option_map (job_line job.number) (line_in setup job) ≡ Some said → is_awaiting setup job ≡ true
-    → new.journal ≡ old.journal ++ Heard line ∷ Say job.number said ∷ []
-    → new.stands ≡ record old.stands { due = None; tagged = old.stands.tagged || starts_tags (request_of job); jobs = old.stands.jobs ++ job ∷ []; unwritten = old.stands.unwritten ++ said ∷ [] }
-    → new.room ≡ old.room + 1 + 3 * most_calls setup job
-    → Took setup old new (hear_step setup old.stands line) Done
-ask_took setup old new line job said m is e a j s r =
-    let some = some_line setup job said e in
-    let t : Standing = with_request setup old.stands job in
-    let due : t.due ≡ Some (job.number, some.text) = ap (option_map (λ (text : List ℕ). (job.number, text))) some.line in
-    heard_took setup old new line t (Some (job.number, some.text)) Done
-    (record { may = m; after_is = request_after setup old.stands line job is; due_is = due })
-    (ap heard_reply (sym (live setup old.stands m)))
-    (j ∙ ap (λ (l : List ℕ). old.journal ++ Heard line ∷ Say job.number l ∷ []) (sym some.wired))
-    (s ∙ ap (λ (l : List ℕ). said_line t l) (sym some.wired)
-    ∙ sym (said_stays setup (said_line t (job_line job.number some.text)) job a)
-    ∙ sym (said_new setup old.stands line job (job_line job.number some.text) is))
-    (λ k.
-    let f : room_owed setup new.stands ≡ 3 * calls_owed setup (old.stands.jobs ++ job ∷ []) + length (old.stands.unwritten ++ said ∷ []) = ap (room_owed setup) s in
-    omega (arith, f, k, r, calls_append setup old.stands.jobs job, fresh_calls setup old.stands line job is, length-append old.stands.unwritten (said ∷ [])))
-
-pub answered_took : (setup : Setup) (old new : BookValue) (line : List ℕ) (job : Job) (said : List ℕ) → may_hear setup old.stands ≡ true
-    → IsRequest setup old.stands line job → option_map (job_line job.number) (line_in setup job) ≡ Some said → is_awaiting setup job ≡ false
-    → new.journal ≡ old.journal ++ Heard line ∷ Say job.number said ∷ []
-    → new.stands ≡ record old.stands { due = None; tagged = old.stands.tagged || starts_tags (request_of job); unwritten = old.stands.unwritten ++ said ∷ [] }
-    → new.room ≡ old.room + 1
-    → Took setup old new (hear_step setup old.stands line) Done
-answered_took setup old new line job said m is e a j s r =
-    let some = some_line setup job said e in
-    let t : Standing = with_request setup old.stands job in
-    let due : t.due ≡ Some (job.number, some.text) = ap (option_map (λ (text : List ℕ). (job.number, text))) some.line in
-    let u : Standing = said_line t (job_line job.number some.text) in
-    let gone : without_job job.number (old.stands.jobs ++ job ∷ []) ≡ old.stands.jobs = removal_last old.stands.jobs job (asks_new setup old.stands.jobs old.stands.tagged line job.number is.hearing) in
-    heard_took setup old new line t (Some (job.number, some.text)) Done
-    (record { may = m; after_is = request_after setup old.stands line job is; due_is = due })
-    (ap heard_reply (sym (live setup old.stands m)))
-    (j ∙ ap (λ (l : List ℕ). old.journal ++ Heard line ∷ Say job.number l ∷ []) (sym some.wired))
-    (s ∙ ap (λ (l : List ℕ). record (said_line t l) { jobs = old.stands.jobs }) (sym some.wired)
-    ∙ ap (λ (jobs : List Job). record u { jobs = jobs }) (sym gone)
-    ∙ sym (said_goes setup u job (live setup old.stands m) a)
-    ∙ sym (said_new setup old.stands line job (job_line job.number some.text) is))
-    (λ k.
-    let f : room_owed setup new.stands ≡ 3 * calls_owed setup old.stands.jobs + length (old.stands.unwritten ++ said ∷ []) = ap (room_owed setup) s in
-    omega (arith, f, k, r, length-append old.stands.unwritten (said ∷ [])))
-
--- ---- values
-
--- a request to get ready asks for the next setting, if there is one
+-- it asks for the next setting, if there is one
 ready_due : (next : Option (List ℕ)) (values : List (List ℕ)) (prepared : Bool) (r : Option HostMessage) → is_readying r ≡ true
-    → line_by (request_due next values prepared r) ≡ option_map (λ name. remote_line (Getconfig name)) next
+    → lines_by (request_due next values prepared r) ≡ asks_for next
 ready_due next values prepared None h = absurd cc
 ready_due None values prepared (Some Prepare) h = refl
 ready_due (Some name) values prepared (Some Prepare) h = refl
@@ -237,6 +177,202 @@ ready_due next values prepared (Some (Value value)) h = absurd cc
 ready_due next values prepared (Some (Creds user password)) h = absurd cc
 ready_due next values prepared (Some (HostError text)) h = absurd cc
 
+-- the lines of a request to get ready
+ready_in : (setup : Setup) (told : List (List ℕ)) (job : Job) → is_making_ready job ≡ true → lines_in setup told job ≡ asks_for (next_name setup job)
+ready_in setup told job h =
+    ready_lines setup.about (if_prepared job.prepared told) (due_in setup job) (request_of job) h
+    ∙ ready_due (next_name setup job) job.values job.prepared (request_of job) h
+
+prepare_readies : (r : Option HostMessage) → is_prepare r ≡ true → is_readying r ≡ true
+prepare_readies None h = absurd cc
+prepare_readies (Some Prepare) h = refl
+prepare_readies (Some Initremote) h = absurd cc
+prepare_readies (Some (AskExtensions names)) h = absurd cc
+prepare_readies (Some (Transfer store key file)) h = absurd cc
+prepare_readies (Some (Checkpresent key)) h = absurd cc
+prepare_readies (Some (Remove key)) h = absurd cc
+prepare_readies (Some Listconfigs) h = absurd cc
+prepare_readies (Some Getcost) h = absurd cc
+prepare_readies (Some Getavailability) h = absurd cc
+prepare_readies (Some Getinfo) h = absurd cc
+prepare_readies (Some (Whereis key)) h = absurd cc
+prepare_readies (Some Exportsupported) h = absurd cc
+prepare_readies (Some (Export name)) h = absurd cc
+prepare_readies (Some (Transferexport store key file)) h = absurd cc
+prepare_readies (Some (Checkpresentexport key)) h = absurd cc
+prepare_readies (Some (Removeexport key)) h = absurd cc
+prepare_readies (Some (Renameexport key onto)) h = absurd cc
+prepare_readies (Some (Value value)) h = absurd cc
+prepare_readies (Some (Creds user password)) h = absurd cc
+prepare_readies (Some (HostError text)) h = absurd cc
+
+-- a PREPARE that is answered at once asks for a value, so nothing more is told of where a request is answered and closed
+not_told : (setup : Setup) (told : List (List ℕ)) (job : Job) (text : List ℕ) (rest : List (List ℕ)) → lines_in setup told job ≡ text ∷ rest → is_awaiting setup job ≡ false
+    → (prepared : Bool) → told_by prepared job told ≡ told
+not_told setup told job text rest lines a prepared = go (is_prepare (request_of job)) refl prepared
+  where
+    none : (next : Option (List ℕ)) → (true && is_some next) ≡ false → asks_for next ≡ text ∷ rest → ⊥
+    none None h k = cc
+    none (Some name) h k = cc
+
+    go : (b : Bool) → is_prepare (request_of job) ≡ b → (p : Bool) → told_by p job told ≡ told
+    go true e p =
+        let ready : is_making_ready job ≡ true = prepare_readies (request_of job) e in
+        absurd (none (next_name setup job) (ap (λ (b : Bool). b && is_some (next_name setup job)) (sym ready) ∙ a) (sym (ready_in setup told job ready) ∙ lines))
+    go false e true = rw e refl
+    go false e false = refl
+
+-- ---- requests
+
+request_after : (setup : Setup) (s : Standing) (line : List ℕ) (job : Job) → IsRequest setup s line job → after setup s (Heard line) ≡ with_request setup s job
+request_after setup s line job is = heard_of setup s line (Asks job.number) is.hearing ∙ ap (with_request setup s) (sym is.job_is)
+
+fresh_calls : (setup : Setup) (s : Standing) (line : List ℕ) (job : Job) → IsRequest setup s line job → job.calls ≡ 0
+fresh_calls setup s line job is = ap (λ (j : Job). j.calls) is.job_is
+
+-- what is said of a job, by the line that is due
+abbrev with_number : ℕ → List (List ℕ) → List (ℕ × List ℕ)
+with_number n lines = map (λ line. (n, line)) lines
+
+mapped_none : (setup : Setup) (told : List (List ℕ)) (job : Job) → lines_in setup told job ≡ [] → due_of_job setup told job ≡ []
+mapped_none setup told job e = ap (with_number job.number) e
+
+-- these lines, said for a job
+abbrev pub say_all : ℕ → List (List ℕ) → List Entry
+say_all n lines = map (λ line. Say n line) lines
+
+-- some line is due, and these stand on the wire
+record SomeLine (setup : Setup) (told : List (List ℕ)) (job : Job) (said : List (List ℕ)) : Type 0 where
+  text : List ℕ
+  rest : List (List ℕ)
+  lines : lines_in setup told job ≡ text ∷ rest
+  wired : map (job_line job.number) (text ∷ rest) ≡ said
+
+some_line : (setup : Setup) (told : List (List ℕ)) (job : Job) (said : List (List ℕ)) → map (job_line job.number) (lines_in setup told job) ≡ said → is_some_line said ≡ true → SomeLine setup told job said
+some_line setup told job said e some = go (lines_in setup told job) refl e
+  where
+    go : (lines : List (List ℕ)) → lines_in setup told job ≡ lines → map (job_line job.number) lines ≡ said → SomeLine setup told job said
+    go [] h k = let none : is_some_line said ≡ false = ap is_some_line (sym k) in absurd cc
+    go (text ∷ rest) h k = record { text = text; rest = rest; lines = h; wired = k }
+
+pub some_there : (lines : List (List ℕ)) → (length lines == 0) ≡ false → is_some_line lines ≡ true
+some_there [] h = absurd cc
+some_there (line ∷ lines) h = refl
+
+pub none_wired : (n : ℕ) (lines said : List (List ℕ)) → map (job_line n) lines ≡ said → (length said == 0) ≡ true → lines ≡ []
+none_wired n [] said e h = refl
+none_wired n (line ∷ lines) said e h =
+    let some : (suc (length (map (job_line n) lines)) == 0) ≡ true = subst (λ (ls : List (List ℕ)). (length ls == 0) ≡ true) (sym e) h in
+    absurd (never (suc (length (map (job_line n) lines)) == 0) some (not_zero (length (map (job_line n) lines))))
+
+each_said : (n : ℕ) (lines : List (List ℕ)) → due_said (with_number n lines) ≡ say_all n (map (job_line n) lines)
+each_said n [] = refl
+each_said n (line ∷ lines) = ap (λ (es : List Entry). Say n (job_line n line) ∷ es) (each_said n lines)
+
+-- where they are said one after the other, the job is open until the last of them
+said_through : (setup : Setup) (t : Standing) (job : Job) (line : List ℕ) (lines : List (List ℕ)) → t.due ≡ with_number job.number (line ∷ lines)
+    → job_of t.jobs job.number ≡ Some job
+    → fold (after setup) t (due_said (with_number job.number (line ∷ lines)))
+        ≡ said_in setup (record t { due = []; unwritten = t.unwritten ++ map (job_line job.number) (line ∷ lines) }) (Some job)
+said_through setup t job line [] d f =
+    let l : List ℕ = job_line job.number line in
+    ap (λ (due : List (ℕ × List ℕ)). said_in setup (record t { due = drop 1 due; unwritten = t.unwritten ++ l ∷ [] }) (job_of t.jobs job.number)) d
+    ∙ ap (said_in setup (record t { due = []; unwritten = t.unwritten ++ l ∷ [] })) f
+said_through setup t job line (next ∷ rest) d f =
+    let l : List ℕ = job_line job.number line in
+    let u : Standing = record t { due = with_number job.number (next ∷ rest); unwritten = t.unwritten ++ l ∷ [] } in
+    let first : after setup t (Say job.number l) ≡ u =
+    ap (λ (due : List (ℕ × List ℕ)). said_in setup (record t { due = drop 1 due; unwritten = t.unwritten ++ l ∷ [] }) (job_of t.jobs job.number)) d
+    ∙ ap (said_in setup u) f in
+    ap (λ (v : Standing). fold (after setup) v (due_said (with_number job.number (next ∷ rest)))) first
+    ∙ said_through setup u job next rest refl f
+    ∙ ap (λ (ls : List (List ℕ)). said_in setup (record t { due = []; unwritten = ls }) (Some job)) (append_assoc t.unwritten (l ∷ []) (map (job_line job.number) (next ∷ rest)))
+
+pub begin_took : (setup : Setup) (old new : BookValue) (line : List ℕ) (job : Job) → may_hear setup old.stands ≡ true
+    → IsRequest setup old.stands line job → lines_in setup old.stands.told job ≡ []
+    → new.journal ≡ old.journal ++ Heard line ∷ []
+    → new.stands ≡ record old.stands { due = []; tagged = old.stands.tagged || starts_tags (request_of job); jobs = old.stands.jobs ++ job ∷ [] }
+    → new.room ≡ old.room + 3 * most_calls setup job
+    → Took setup old new (hear_step setup old.stands line) Done
+begin_took setup old new line job m is silent j s r =
+    let t : Standing = with_request setup old.stands job in
+    let due : t.due ≡ [] = mapped_none setup old.stands.told job silent in
+    heard_took setup old new line t [] Done
+    (record { may = m; after_is = request_after setup old.stands line job is; due_is = due })
+    (ap heard_reply (sym (live setup old.stands m))) j
+    (s ∙ ap (λ (o : List (ℕ × List ℕ)). record old.stands { due = o; tagged = old.stands.tagged || starts_tags (request_of job); jobs = old.stands.jobs ++ job ∷ [] }) (sym due))
+    (λ k.
+    let e : room_owed setup new.stands ≡ 3 * calls_owed setup (old.stands.jobs ++ job ∷ []) + length old.stands.unwritten = ap (room_owed setup) s in
+    omega (arith, e, k, r, calls_append setup old.stands.jobs job, fresh_calls setup old.stands line job is))
+
+-- what stands after the lines that are said for a new job
+said_new : (setup : Setup) (s : Standing) (line : List ℕ) (job : Job) (said : List (List ℕ)) → IsRequest setup s line job → (some : SomeLine setup s.told job said)
+    → fold (after setup) (with_request setup s job) (due_said (with_number job.number (some.text ∷ some.rest)))
+        ≡ said_in setup (record (with_request setup s job) { due = []; unwritten = s.unwritten ++ said }) (Some job)
+said_new setup s line job said is some =
+    said_through setup (with_request setup s job) job some.text some.rest (ap (with_number job.number) some.lines) (job_last s.jobs job (asks_new setup s.jobs s.tagged line job.number is.hearing))
+    ∙ ap (λ (ls : List (List ℕ)). said_in setup (record (with_request setup s job) { due = []; unwritten = s.unwritten ++ ls }) (Some job)) some.wired
+
+said_stays : (setup : Setup) (u : Standing) (job : Job) → is_awaiting setup job ≡ true → said_in setup u (Some job) ≡ u
+said_stays setup u job w = go (is_some_due u.due) u.over
+  where
+    go : (a b : Bool) → cond (a || b || is_awaiting setup job) u (record u { told = told_by u.prepared job u.told; jobs = without_job job.number u.jobs }) ≡ u
+    go true b = refl
+    go false true = refl
+    go false false = rw w refl
+
+said_goes : (setup : Setup) (u : Standing) (job : Job) → is_some_due u.due ≡ false → u.over ≡ false → is_awaiting setup job ≡ false
+    → said_in setup u (Some job) ≡ record u { told = told_by u.prepared job u.told; jobs = without_job job.number u.jobs }
+said_goes setup u job d o a = rw (d, o, a) refl
+
+pub ask_took : (setup : Setup) (old new : BookValue) (line : List ℕ) (job : Job) (said : List (List ℕ)) → may_hear setup old.stands ≡ true
+    → IsRequest setup old.stands line job → map (job_line job.number) (lines_in setup old.stands.told job) ≡ said → is_some_line said ≡ true → is_awaiting setup job ≡ true
+    → new.journal ≡ old.journal ++ Heard line ∷ say_all job.number said
+    → new.stands ≡ record old.stands { due = []; tagged = old.stands.tagged || starts_tags (request_of job); jobs = old.stands.jobs ++ job ∷ []; unwritten = old.stands.unwritten ++ said }
+    → new.room ≡ old.room + length said + 3 * most_calls setup job
+    → Took setup old new (hear_step setup old.stands line) Done
+ask_took setup old new line job said m is e n a j s r =
+    let some = some_line setup old.stands.told job said e n in
+    let t : Standing = with_request setup old.stands job in
+    let u : Standing = record t { due = []; unwritten = old.stands.unwritten ++ said } in
+    let due : List (ℕ × List ℕ) = with_number job.number (some.text ∷ some.rest) in
+    heard_took setup old new line t due Done
+    (record { may = m; after_is = request_after setup old.stands line job is; due_is = ap (with_number job.number) some.lines })
+    (ap heard_reply (sym (live setup old.stands m)))
+    (j ∙ ap (λ (ls : List (List ℕ)). old.journal ++ Heard line ∷ say_all job.number ls) (sym some.wired)
+    ∙ ap (λ (es : List Entry). old.journal ++ Heard line ∷ es) (sym (each_said job.number (some.text ∷ some.rest))))
+    (s ∙ sym (said_stays setup u job a) ∙ sym (said_new setup old.stands line job said is some))
+    (λ k.
+    let f : room_owed setup new.stands ≡ 3 * calls_owed setup (old.stands.jobs ++ job ∷ []) + length (old.stands.unwritten ++ said) = ap (room_owed setup) s in
+    omega (arith, f, k, r, calls_append setup old.stands.jobs job, fresh_calls setup old.stands line job is, length-append old.stands.unwritten said))
+
+pub answered_took : (setup : Setup) (old new : BookValue) (line : List ℕ) (job : Job) (said : List (List ℕ)) → may_hear setup old.stands ≡ true
+    → IsRequest setup old.stands line job → map (job_line job.number) (lines_in setup old.stands.told job) ≡ said → is_some_line said ≡ true → is_awaiting setup job ≡ false
+    → new.journal ≡ old.journal ++ Heard line ∷ say_all job.number said
+    → new.stands ≡ record old.stands { due = []; tagged = old.stands.tagged || starts_tags (request_of job); unwritten = old.stands.unwritten ++ said }
+    → new.room ≡ old.room + length said
+    → Took setup old new (hear_step setup old.stands line) Done
+answered_took setup old new line job said m is e n a j s r =
+    let some = some_line setup old.stands.told job said e n in
+    let t : Standing = with_request setup old.stands job in
+    let u : Standing = record t { due = []; unwritten = old.stands.unwritten ++ said } in
+    let due : List (ℕ × List ℕ) = with_number job.number (some.text ∷ some.rest) in
+    let gone : without_job job.number (old.stands.jobs ++ job ∷ []) ≡ old.stands.jobs = removal_last old.stands.jobs job (asks_new setup old.stands.jobs old.stands.tagged line job.number is.hearing) in
+    heard_took setup old new line t due Done
+    (record { may = m; after_is = request_after setup old.stands line job is; due_is = ap (with_number job.number) some.lines })
+    (ap heard_reply (sym (live setup old.stands m)))
+    (j ∙ ap (λ (ls : List (List ℕ)). old.journal ++ Heard line ∷ say_all job.number ls) (sym some.wired)
+    ∙ ap (λ (es : List Entry). old.journal ++ Heard line ∷ es) (sym (each_said job.number (some.text ∷ some.rest))))
+    (s ∙ ap (λ (jobs : List Job). record u { jobs = jobs }) (sym gone)
+    ∙ ap (λ (told : List (List ℕ)). record u { told = told; jobs = without_job job.number u.jobs }) (sym (not_told setup old.stands.told job some.text some.rest some.lines a u.prepared))
+    ∙ sym (said_goes setup u job refl (live setup old.stands m) a)
+    ∙ sym (said_new setup old.stands line job said is some))
+    (λ k.
+    let f : room_owed setup new.stands ≡ 3 * calls_owed setup old.stands.jobs + length (old.stands.unwritten ++ said) = ap (room_owed setup) s in
+    omega (arith, f, k, r, length-append old.stands.unwritten said))
+
+-- ---- values
+
 -- the job with those values
 abbrev with_values : List (List ℕ) → Job → Job
 with_values values job = record job { values = values }
@@ -244,9 +380,9 @@ with_values values job = record job { values = values }
 -- what is known of the job that a value is told to
 record ToldTo (setup : Setup) (s : Standing) (line : List ℕ) (place : ℕ) (values : List (List ℕ)) (job : Job) : Type 0 where
   ready : is_making_ready job ≡ true
-  after_is : after setup s (Heard line) ≡ record s { due = due_of_job setup (with_values values job); jobs = set s.jobs place (with_values values job) }
+  after_is : after setup s (Heard line) ≡ record s { due = due_of_job setup s.told (with_values values job); jobs = set s.jobs place (with_values values job) }
   found : job_of (set s.jobs place (with_values values job)) job.number ≡ Some (with_values values job)
-  line_is : line_in setup (with_values values job) ≡ option_map (λ name. remote_line (Getconfig name)) (slice_get setup.settings (length values))
+  lines_are : lines_in setup s.told (with_values values job) ≡ asks_for (slice_get setup.settings (length values))
   calls : calls_owed setup (set s.jobs place (with_values values job)) ≡ calls_owed setup s.jobs
 
 told_to : (setup : Setup) (s : Standing) (line : List ℕ) (place : ℕ) (values : List (List ℕ)) → AreApart s.jobs → (v : IsValue setup s line place values)
@@ -268,29 +404,29 @@ told_to setup s line place values a v =
     record {
       ready = ready;
       after_is = heard_of setup s line (Replies job.number) v.hearing
-          ∙ ap (λ (o : Option Job). record s { due = due_of setup o; jobs = with_job job.number (with_value value) s.jobs }) found
-          ∙ ap (λ (js : List Job). record s { due = due_of_job setup (with_values values job); jobs = js }) jobs;
+          ∙ ap (λ (o : Option Job). record s { due = due_of setup s.told o; jobs = with_job job.number (with_value value) s.jobs }) found
+          ∙ ap (λ (js : List Job). record s { due = due_of_job setup s.told (with_values values job); jobs = js }) jobs;
       found = ap (λ (js : List Job). job_of js job.number) (sym jobs) ∙ found;
-      line_is = ready_due (slice_get setup.settings (length values)) values job.prepared (request_of job) ready;
+      lines_are = ready_in setup s.told (with_values values job) ready;
       calls = omega (arith, owed);
     }
 
 pub told_last_took : (setup : Setup) (old new : BookValue) (line : List ℕ) (place : ℕ) (values : List (List ℕ)) → may_hear setup old.stands ≡ true
     → AreApart old.stands.jobs → (v : IsValue setup old.stands line place values) → slice_get setup.settings (length values) ≡ None
     → new.journal ≡ old.journal ++ Heard line ∷ []
-    → new.stands ≡ record old.stands { due = None; jobs = set old.stands.jobs place (record v.job { values = values }) }
+    → new.stands ≡ record old.stands { due = []; jobs = set old.stands.jobs place (record v.job { values = values }) }
     → new.room ≡ old.room
     → Took setup old new (hear_step setup old.stands line) Done
 told_last_took setup old new line place values m a v last j s r =
     let k = told_to setup old.stands line place values a v in
     let job : Job = with_values values v.job in
-    let t : Standing = record old.stands { due = due_of_job setup job; jobs = set old.stands.jobs place job } in
-    let silent : line_in setup job ≡ None = k.line_is ∙ ap (option_map (λ (name : List ℕ). remote_line (Getconfig name))) last in
-    let due : t.due ≡ None = mapped_none setup job silent in
-    heard_took setup old new line t None Done
+    let t : Standing = record old.stands { due = due_of_job setup old.stands.told job; jobs = set old.stands.jobs place job } in
+    let silent : lines_in setup old.stands.told job ≡ [] = k.lines_are ∙ ap asks_for last in
+    let due : t.due ≡ [] = mapped_none setup old.stands.told job silent in
+    heard_took setup old new line t [] Done
     (record { may = m; after_is = k.after_is; due_is = due })
     (ap heard_reply (sym (live setup old.stands m))) j
-    (s ∙ ap (λ (o : Option (ℕ × List ℕ)). record old.stands { due = o; jobs = set old.stands.jobs place job }) (sym due))
+    (s ∙ ap (λ (o : List (ℕ × List ℕ)). record old.stands { due = o; jobs = set old.stands.jobs place job }) (sym due))
     (λ h.
     let e : room_owed setup new.stands ≡ 3 * calls_owed setup (set old.stands.jobs place job) + length old.stands.unwritten = ap (room_owed setup) s in
     omega (arith, e, h, r, k.calls))
@@ -312,7 +448,7 @@ pub told_more_took : (setup : Setup) (old new : BookValue) (line : List ℕ) (pl
     → AreApart old.stands.jobs → (v : IsValue setup old.stands line place values)
     → option_map (λ name. job_line v.job.number (remote_line (Getconfig name))) (slice_get setup.settings (length values)) ≡ Some said
     → new.journal ≡ old.journal ++ Heard line ∷ Say v.job.number said ∷ []
-    → new.stands ≡ record old.stands { due = None; jobs = set old.stands.jobs place (record v.job { values = values }); unwritten = old.stands.unwritten ++ said ∷ [] }
+    → new.stands ≡ record old.stands { due = []; jobs = set old.stands.jobs place (record v.job { values = values }); unwritten = old.stands.unwritten ++ said ∷ [] }
     → new.room ≡ old.room + 1
     → Took setup old new (hear_step setup old.stands line) Done
 told_more_took setup old new line place values said m a v e j s r =
@@ -320,12 +456,13 @@ told_more_took setup old new line place values said m a v e j s r =
     let some = some_name setup (length values) v.job.number said e in
     let job : Job = with_values values v.job in
     let text : List ℕ = remote_line (Getconfig some.name) in
-    let t : Standing = record old.stands { due = due_of_job setup job; jobs = set old.stands.jobs place job } in
-    let asks : line_in setup job ≡ Some text = k.line_is ∙ ap (option_map (λ (name : List ℕ). remote_line (Getconfig name))) some.there in
-    let due : t.due ≡ Some (job.number, text) = ap (option_map (λ (l : List ℕ). (job.number, l))) asks in
+    let due : List (ℕ × List ℕ) = (job.number, text) ∷ [] in
+    let asks : due_of_job setup old.stands.told job ≡ due = ap (with_number job.number) (k.lines_are ∙ ap asks_for some.there) in
+    let t : Standing = record old.stands { due = due; jobs = set old.stands.jobs place job } in
+    let after_is : after setup old.stands (Heard line) ≡ t = k.after_is ∙ ap (λ (o : List (ℕ × List ℕ)). record old.stands { due = o; jobs = set old.stands.jobs place job }) asks in
     let awaits : is_awaiting setup job ≡ true = rw (k.ready, some.there) refl in
-    heard_took setup old new line t (Some (job.number, text)) Done
-    (record { may = m; after_is = k.after_is; due_is = due })
+    heard_took setup old new line t due Done
+    (record { may = m; after_is = after_is; due_is = refl })
     (ap heard_reply (sym (live setup old.stands m)))
     (j ∙ ap (λ (l : List ℕ). old.journal ++ Heard line ∷ Say job.number l ∷ []) (sym some.wired))
     (s ∙ ap (λ (l : List ℕ). said_line t l) (sym some.wired)

@@ -1,6 +1,6 @@
 -- Entries of others leave a remote what it is to be called for.
-use Rattle.std.proofs.Common.{◌≡◌, ◌≢◌, ◌⊎◌, inl, inr, ℕ, ◌+◌, ◌-◌, List, [], ◌∷◌, ◌++◌, refl, sym, ap, subst, ◌∙◌, append_assoc, append-nil, Bool, true, false, not, ◌==◌, cond, Some, None, Option, IfSome, arith}
-use Rattle.std.specs.Prelude.{◌&&◌, ◌||◌, All, find, filter, fold, map, nat_lt, nat_le, is_none, is_some, option_map}
+use Rattle.std.proofs.Common.{◌≡◌, ◌≢◌, ◌⊎◌, inl, inr, ℕ, ◌+◌, List, [], ◌∷◌, ◌++◌, refl, sym, ap, subst, ◌∙◌, append_assoc, append-nil, Bool, true, false, not, ◌==◌, cond, Some, None, Option, arith}
+use Rattle.std.specs.Prelude.{◌&&◌, ◌||◌, All, drop, find, filter, fold, map, nat_lt, is_none, is_some}
 use Rattle.std.specs.List.{list_any}
 use Rattle.std.proofs.lemmas.Bool.Decides.{nat_tests}
 use Rattle.std.proofs.lemmas.List.Elements.{All-head, All-tail}
@@ -17,18 +17,17 @@ use Rattle.kit_async_model.specs.declared.entry.Entry.{Entry}
 use Rattle.kit_async_model.specs.declared.entry.Entry.TheVariants.{Heard, Take, Call, Say, Wrote, Close, Lack}
 use Rattle.kit_async_model.specs.declared.hearing.Hearing.{Hearing}
 use Rattle.kit_async_model.specs.declared.hearing.Hearing.TheVariants.{Foul, Unexpected, Aside, Asks, Replies}
-use Rattle.kit_async_model.specs.Jobs.{is_making_ready, is_awaiting, is_for_any, is_number, is_worked_by, is_first_of_key, is_job_line, has_number, job_of, with_job, without_job, settles, line_in, due_in, final_in}
+use Rattle.kit_async_model.specs.Jobs.{is_making_ready, is_awaiting, is_for_any, is_number, is_worked_by, is_first_of_key, is_job_line, has_number, job_of, with_job, without_job, settles, lines_in, due_in}
 use Rattle.kit_async_model.specs.Hearings.{hearing_of, text_in, value_told}
-use Rattle.kit_async_model.specs.Legality.{Legal, holds_back, may_hear, is_idle, is_free, some_job, may_take, is_turn_of, is_called, may_call, is_said, may_come, comes_where, follows, legal_from}
-use Rattle.kit_async_model.specs.Standings.{Standing, new_job, with_value, with_taken, with_call, due_of_job, due_of, answer_due, called_in, said_line, said_in, heard_as, after, standing, unexpected_line}
+use Rattle.kit_async_model.specs.Legality.{Legal, holds_back, is_idle, is_free, some_job, is_turn_of, is_called, is_said, may_come, comes_where, follows, legal_from}
+use Rattle.kit_async_model.specs.Standings.{Standing, new_job, with_value, with_taken, with_call, due_of, answer_due, called_in, is_some_due, said_line, said_in, heard_as, after, standing}
 use Rattle.kit_async_model.specs.Events.{IsMadeBy, MayStep}
 use Rattle.kit_async_model.specs.Books.{AreApart}
 use Rattle.kit_async_model.specs.Callings.{call_of, calls_from, calls_of}
 use Rattle.kit_async_model.proofs.Apart.{Awaits, asks_new, replies_awaited, after_apart, standing_apart}
 use Rattle.kit_async_model.proofs.Fronts.{both, parts, standing_append}
-use Rattle.kit_async_core.proofs.KitHalls.{legal_log}
-use Rattle.kit_async_model.proofs.Places.{neither, passes_of}
-use Rattle.kit_async_model.proofs.Askings.{Busy, InTurn, at_work, at_turn, decided, never, equal_is, unequal_by, no_more, found_any, found_not, found_changed, found_kept, found_more, none_changed, none_kept, none_last, only_job, only_passes}
+use Rattle.kit_async_model.proofs.Places.{passes_of}
+use Rattle.kit_async_model.proofs.Askings.{Busy, InTurn, at_work, decided, never, equal_is, unequal_by, no_more, found_not, found_changed, found_kept, found_more, none_changed, none_kept, none_last, only_job, only_passes}
 
 -- ---- what is done to the jobs
 
@@ -76,17 +75,17 @@ listed : (setup : Setup) (r : ℕ) (jobs : List Job) (job : Job) → Busy setup 
 listed setup r jobs job (inl f) = record { test = at_work r; found = f }
 listed setup r jobs job (inr t) = record { test = is_making_ready; found = t.found }
 
--- the line that is due isn't its
-abbrev pub DueApart : Option (ℕ × List ℕ) → Bool → Job → Type 0
-DueApart None over job = Unit {0}
-DueApart (Some d) over job = (over ≡ true) ⊎ (has_number d.0 job ≡ false)
+-- the lines that are due aren't its
+abbrev pub DueApart : List (ℕ × List ℕ) → Bool → Job → Type 0
+DueApart [] over job = Unit {0}
+DueApart (d ∷ rest) over job = ((over ≡ true) ⊎ (has_number d.0 job ≡ false)) × DueApart rest over job
 
 abbrev Lasts : Setup → ℕ → Standing → Job → Type 0
 Lasts setup r s job = Busy setup r s.jobs job × DueApart s.due s.over job
 
-mapped_apart : (over : Bool) (job : Job) (n : ℕ) (o : Option (List ℕ)) → has_number n job ≡ false → DueApart (option_map (λ line. (n, line)) o) over job
-mapped_apart over job n None h = tt
-mapped_apart over job n (Some line) h = inr h
+mapped_apart : (over : Bool) (job : Job) (n : ℕ) (lines : List (List ℕ)) → has_number n job ≡ false → DueApart (map (λ line. (n, line)) lines) over job
+mapped_apart over job n [] h = tt
+mapped_apart over job n (line ∷ lines) h = (inr h, mapped_apart over job n lines h)
 
 -- ---- a line is heard
 
@@ -121,27 +120,27 @@ awaits_other setup r jobs job n a f w = decided (has_number n job) same
         let k : not (is_making_ready job) ≡ true = (both (not (is_making_ready job)) (is_worked_by r job) (passes_of (at_work r) jobs job f)).0 in
         not_both (is_making_ready job) m k
 
-found_due : (setup : Setup) (over : Bool) (job : Job) (jobs : List Job) (n : ℕ) → has_number n job ≡ false → DueApart (due_of setup (job_of jobs n)) over job
-found_due setup over job jobs n h = go (job_of jobs n) refl
+found_due : (setup : Setup) (told : List (List ℕ)) (over : Bool) (job : Job) (jobs : List Job) (n : ℕ) → has_number n job ≡ false → DueApart (due_of setup told (job_of jobs n)) over job
+found_due setup told over job jobs n h = go (job_of jobs n) refl
   where
-    go : (o : Option Job) → job_of jobs n ≡ o → DueApart (due_of setup o) over job
+    go : (o : Option Job) → job_of jobs n ≡ o → DueApart (due_of setup told o) over job
     go None e = tt
     go (Some j) e =
         let is : j.number ≡ n = equal_is j.number n (passes_of (has_number n) jobs j e) in
-        mapped_apart over job j.number (line_in setup j) (subst (λ (m : ℕ). has_number m job ≡ false) (sym is) h)
+        mapped_apart over job j.number (lines_in setup told j) (subst (λ (m : ℕ). has_number m job ≡ false) (sym is) h)
 
-heard_lasts : (setup : Setup) (r : ℕ) (s : Standing) (text : List ℕ) (job : Job) (h : Hearing) → find (at_work r) s.jobs ≡ Some job → s.due ≡ None
+heard_lasts : (setup : Setup) (r : ℕ) (s : Standing) (text : List ℕ) (job : Job) (h : Hearing) → find (at_work r) s.jobs ≡ Some job → s.due ≡ []
     → ((n : ℕ) → h ≡ Asks n → has_number n job ≡ false) → ((n : ℕ) → h ≡ Replies n → has_number n job ≡ false) → Lasts setup r (heard_as setup s text h) job
 heard_lasts setup r s text job Foul f d new told = (inl f, rw d tt)
-heard_lasts setup r s text job Unexpected f d new told = (inl f, inl refl)
+heard_lasts setup r s text job Unexpected f d new told = (inl f, (inl refl, tt))
 heard_lasts setup r s text job Aside f d new told = (inl f, rw d tt)
 heard_lasts setup r s text job (Asks n) f d new told = (
   last_keeps setup r (new_job n text s.prepared) s.jobs job refl (inl f),
-  mapped_apart s.over job n (line_in setup (new_job n text s.prepared)) (new n refl),
+  mapped_apart s.over job n (lines_in setup s.told (new_job n text s.prepared)) (new n refl),
 )
 heard_lasts setup r s text job (Replies n) f d new told = (
   change_keeps setup r n (with_value (value_told (host_reading text))) (λ x. refl) (λ x t. t) s.jobs job (told n refl) (inl f),
-  found_due setup s.over job (with_job n (with_value (value_told (host_reading text))) s.jobs) n (told n refl),
+  found_due setup s.told s.over job (with_job n (with_value (value_told (host_reading text))) s.jobs) n (told n refl),
 )
 
 -- ---- a request is taken up, or a remote called
@@ -212,10 +211,10 @@ answer_apart : (setup : Setup) (j : Job) (said : Said) (over now : Bool) (job : 
 answer_apart setup j said over now job h = go (not over && settles setup j said) refl
   where
     go : (b : Bool) → (not over && settles setup j said) ≡ b → DueApart (answer_due setup j said over) now job
-    go true e = rw e (inr h)
+    go true e = rw e (inr h, tt)
     go false e = rw e tt
 
-called_lasts : (setup : Setup) (r n : ℕ) (s : Standing) (said : Said) (job : Job) → has_number n job ≡ false → s.due ≡ None → Busy setup r s.jobs job
+called_lasts : (setup : Setup) (r n : ℕ) (s : Standing) (said : Said) (job : Job) → has_number n job ≡ false → s.due ≡ [] → Busy setup r s.jobs job
     → Lasts setup r (called_in setup s said (job_of s.jobs n)) job
 called_lasts setup r n s said job other d b = go (job_of s.jobs n) refl
   where
@@ -236,29 +235,31 @@ called_lasts setup r n s said job other d b = go (job_of s.jobs n) refl
 not_number : (n k : ℕ) (job : Job) → n ≡ k → has_number k job ≡ false → not (has_number n job) ≡ true
 not_number n k job e h = ap (λ (m : ℕ). not (has_number m job)) e ∙ ap not h
 
-said_lasts : (setup : Setup) (r : ℕ) (s : Standing) (n : ℕ) (line : List ℕ) (job : Job) → (s.over ≡ true) ⊎ (has_number n job ≡ false) → Busy setup r s.jobs job
+said_lasts : (setup : Setup) (r : ℕ) (s : Standing) (n : ℕ) (line : List ℕ) (job : Job) → (s.over ≡ true) ⊎ (has_number n job ≡ false) → DueApart (drop 1 s.due) s.over job
+    → Busy setup r s.jobs job
     → Lasts setup r (said_in setup (said_line s line) (job_of s.jobs n)) job
-said_lasts setup r s n line job apart b = go (job_of s.jobs n) refl
+said_lasts setup r s n line job apart more b = go (job_of s.jobs n) refl
   where
-    over_or : (b c : Bool) → b ≡ true → (b || c) ≡ false → ⊥
-    over_or true c x y = cc
-    over_or false c x y = cc
+    over_or : (a b c : Bool) → b ≡ true → (a || b || c) ≡ false → ⊥
+    over_or true b c x y = cc
+    over_or false true c x y = cc
+    over_or false false c x y = cc
 
-    kept : (j : Job) → j.number ≡ n → (s.over || is_awaiting setup j) ≡ false → (s.over ≡ true) ⊎ (has_number n job ≡ false) → Busy setup r (without_job j.number s.jobs) job
-    kept j is e (inl o) = absurd (over_or s.over (is_awaiting setup j) o e)
+    kept : (j : Job) → j.number ≡ n → (is_some_due (drop 1 s.due) || s.over || is_awaiting setup j) ≡ false → (s.over ≡ true) ⊎ (has_number n job ≡ false) → Busy setup r (without_job j.number s.jobs) job
+    kept j is e (inl o) = absurd (over_or (is_some_due (drop 1 s.due)) s.over (is_awaiting setup j) o e)
     kept j is e (inr h) = filter_keeps setup r (λ x. not (has_number j.number x)) s.jobs job (not_number j.number n job is h) b
 
-    settle : (j : Job) → j.number ≡ n → (t : Bool) → (s.over || is_awaiting setup j) ≡ t → Lasts setup r (said_in setup (said_line s line) (Some j)) job
-    settle j is true e = rw e (b, tt)
-    settle j is false e = rw e (kept j is e apart, tt)
+    settle : (j : Job) → j.number ≡ n → (t : Bool) → (is_some_due (drop 1 s.due) || s.over || is_awaiting setup j) ≡ t → Lasts setup r (said_in setup (said_line s line) (Some j)) job
+    settle j is true e = rw e (b, more)
+    settle j is false e = rw e (kept j is e apart, more)
 
     go : (o : Option Job) → job_of s.jobs n ≡ o → Lasts setup r (said_in setup (said_line s line) o) job
-    go None e = (b, tt)
-    go (Some j) e = settle j (equal_is j.number n (passes_of (has_number n) s.jobs j e)) (s.over || is_awaiting setup j) refl
+    go None e = (b, more)
+    go (Some j) e = settle j (equal_is j.number n (passes_of (has_number n) s.jobs j e)) (is_some_due (drop 1 s.due) || s.over || is_awaiting setup j) refl
 
 -- ---- any entry of another
 
-comes_lasts : (setup : Setup) (r by : ℕ) (s : Standing) (e : Entry) (job : Job) → by ≢ r + 3 → AreApart s.jobs → Busy setup r s.jobs job → s.due ≡ None → IsMadeBy by e
+comes_lasts : (setup : Setup) (r by : ℕ) (s : Standing) (e : Entry) (job : Job) → by ≢ r + 3 → AreApart s.jobs → Busy setup r s.jobs job → s.due ≡ [] → IsMadeBy by e
     → may_come setup s e ≡ true → Lasts setup r (after setup s e) job
 comes_lasts setup r by s (Heard line) job other a b d made m =
     let quiet = both (not s.over && not s.closed) (not (list_any (holds_back setup s.tagged) s.jobs)) m in
@@ -286,29 +287,30 @@ comes_lasts setup r by s Wrote job other a b d made m = (b, rw d tt)
 comes_lasts setup r by s Close job other a b d made m = (b, rw d tt)
 comes_lasts setup r by s Lack job other a b d made m = cc
 
-due_lasts : (setup : Setup) (r : ℕ) (s : Standing) (d : ℕ × List ℕ) (e : Entry) (job : Job) → Busy setup r s.jobs job → (s.over ≡ true) ⊎ (has_number d.0 job ≡ false) → is_said d e ≡ true
-    → Lasts setup r (after setup s e) job
-due_lasts setup r s d (Heard line) job b apart m = cc
-due_lasts setup r s d (Take n o) job b apart m = cc
-due_lasts setup r s d (Call n o said) job b apart m = cc
-due_lasts setup r s d (Say n line) job b apart m =
+due_lasts : (setup : Setup) (r : ℕ) (s : Standing) (d : ℕ × List ℕ) (rest : List (ℕ × List ℕ)) (e : Entry) (job : Job) → Busy setup r s.jobs job → s.due ≡ d ∷ rest
+    → DueApart (d ∷ rest) s.over job → is_said d e ≡ true → Lasts setup r (after setup s e) job
+due_lasts setup r s d rest (Heard line) job b k apart m = cc
+due_lasts setup r s d rest (Take n o) job b k apart m = cc
+due_lasts setup r s d rest (Call n o said) job b k apart m = cc
+due_lasts setup r s d rest (Say n line) job b k apart m =
     let is : n ≡ d.0 = equal_is n d.0 (both (n == d.0) (is_job_line n d.1 line) m).0 in
-    said_lasts setup r s n line job (moved apart is) b
+    let more : DueApart (drop 1 s.due) s.over job = subst (λ (due : List (ℕ × List ℕ)). DueApart (drop 1 due) s.over job) (sym k) apart.1 in
+    said_lasts setup r s n line job (moved apart.0 is) more b
   where
     moved : (s.over ≡ true) ⊎ (has_number d.0 job ≡ false) → n ≡ d.0 → (s.over ≡ true) ⊎ (has_number n job ≡ false)
     moved (inl o) is = inl o
     moved (inr h) is = inr (subst (λ (k : ℕ). has_number k job ≡ false) (sym is) h)
-due_lasts setup r s d Wrote job b apart m = cc
-due_lasts setup r s d Close job b apart m = cc
-due_lasts setup r s d Lack job b apart m = (b, tt)
+due_lasts setup r s d rest Wrote job b k apart m = cc
+due_lasts setup r s d rest Close job b k apart m = cc
+due_lasts setup r s d rest Lack job b k apart m = (b, tt)
 
 entry_lasts : (setup : Setup) (r by : ℕ) (s : Standing) (e : Entry) (job : Job) → by ≢ r + 3 → AreApart s.jobs → Lasts setup r s job → IsMadeBy by e → follows setup s e ≡ true
     → Lasts setup r (after setup s e) job
 entry_lasts setup r by s e job other a l made f = go s.due refl l.1 f
   where
-    go : (due : Option (ℕ × List ℕ)) → s.due ≡ due → DueApart due s.over job → comes_where setup s due e ≡ true → Lasts setup r (after setup s e) job
-    go None k apart m = comes_lasts setup r by s e job other a l.0 k made m
-    go (Some d) k apart m = due_lasts setup r s d e job l.0 apart m
+    go : (due : List (ℕ × List ℕ)) → s.due ≡ due → DueApart due s.over job → comes_where setup s due e ≡ true → Lasts setup r (after setup s e) job
+    go [] k apart m = comes_lasts setup r by s e job other a l.0 k made m
+    go (d ∷ rest) k apart m = due_lasts setup r s d rest e job l.0 k apart m
 
 group_lasts : (setup : Setup) (r by : ℕ) (s : Standing) (group : List Entry) (job : Job) → by ≢ r + 3 → AreApart s.jobs → Lasts setup r s job → All (IsMadeBy by) group
     → legal_from setup s group ≡ true → Lasts setup r (fold (after setup) s group) job
@@ -327,9 +329,9 @@ log_lasts setup r past (k ∷ ks) job h n l b =
     subst (λ (j : List Entry). Busy setup r (standing setup j).jobs job) (append_assoc past k.group (flat ks))
     (log_lasts setup r (past ++ k.group) ks job h.1 n.1 legal (subst (λ (s : Standing). Busy setup r s.jobs job) (sym (standing_append setup past k.group)) more.0))
   where
-    told : (due : Option (ℕ × List ℕ)) → due ≡ None → DueApart due (standing setup past).over job
-    told None e = tt
-    told (Some d) e = cc
+    told : (due : List (ℕ × List ℕ)) → due ≡ [] → DueApart due (standing setup past).over job
+    told [] e = tt
+    told (d ∷ rest) e = cc
 
 -- ---- others make no call of this remote
 

@@ -1,14 +1,15 @@
 // A journal that is being written, and how a kit stands after it.
-ghost use Rattle.std.specs.Prelude.{◌≡◌, ◌≤◌, ◌∷◌, [], IfOk, OnErr, None, codes};
+ghost use Rattle.std.specs.Prelude.{◌≡◌, ◌≤◌, ◌∷◌, [], IfOk, OnErr, codes};
 ghost use Rattle.kit_async_model.specs.declared.entry.Entry.TheVariants.{Say};
 ghost use Rattle.kit_async_model.specs.Standings.{opening};
 ghost use Rattle.kit_async_model.specs.Legality.{may_hear, is_done};
 ghost use Rattle.kit_async_model.specs.Events.{waiting, next_reply, wrote_step, close_step};
-ghost use Rattle.kit_async_model.specs.Books.{Took, IsAsBefore, room_owed};
+ghost use Rattle.kit_async_model.specs.Books.{Took, BookIsAsBefore, room_owed};
 
 use ann_key::{Bytes, NoMemory};
 use kit_async_model::jobs::{all_await, hold_back};
 use kit_async_model::{Entries, Entry, Job, Reply, Setup};
+use kit_core::Values;
 use std::alloc::Global;
 use std::marker::Model;
 
@@ -20,6 +21,8 @@ pub(crate) struct Book {
     pub(crate) jobs: Vec<Job>,
     pub(crate) tagged: bool,
     pub(crate) prepared: bool,
+    // The values of the last PREPARE that succeeded.
+    pub(crate) told: Values,
     pub(crate) over: bool,
     pub(crate) closed: bool,
     // What was said and isn't written yet.
@@ -27,7 +30,7 @@ pub(crate) struct Book {
 }
 
 impl Model for Book {
-    ghost use Rattle.std.specs.Prelude.{None};
+    ghost use Rattle.std.specs.Prelude.{[]};
     ghost use Rattle.kit_async_model.specs.Books.{BookValue};
 
     ghost Value = { BookValue };
@@ -35,7 +38,7 @@ impl Model for Book {
     ghost view = { λ b. record {
       journal = b.journal.entries;
       room = b.journal.room;
-      stands = record { due = None; tagged = b.tagged; prepared = b.prepared; jobs = b.jobs.items; over = b.over; closed = b.closed; unwritten = b.unwritten.items };
+      stands = record { due = []; tagged = b.tagged; prepared = b.prepared; told = b.told; jobs = b.jobs.items; over = b.over; closed = b.closed; unwritten = b.unwritten.items };
     } };
 }
 
@@ -50,7 +53,7 @@ impl Book {
     /// That of a kit that says its version.
     pub(crate) fn new(alloc: Global) -> Result<Book, NoMemory>
         ensures journal { IfOk result (λ b. b.journal ≡ Say 0 (codes "VERSION 1") ∷ []) }
-        ensures stands { IfOk result (λ b. b.stands ≡ record opening { due = None; unwritten = codes "VERSION 1" ∷ [] }) }
+        ensures stands { IfOk result (λ b. b.stands ≡ record opening { due = []; unwritten = codes "VERSION 1" ∷ [] }) }
         ensures room { IfOk result (λ b. b.room ≡ 1) }
     {
         let line = Bytes::copy(alloc, b"VERSION 1")?;
@@ -66,6 +69,7 @@ impl Book {
             jobs: Vec::new(alloc),
             tagged: false,
             prepared: false,
+            told: Values::new(Vec::new(alloc)),
             over: false,
             closed: false,
             unwritten,
@@ -112,7 +116,7 @@ impl Book {
     /// No more is heard.
     pub(crate) fn close_ears(&mut self, setup: &Setup) -> Result<Reply, NoMemory>
         ensures ok { IfOk result (Took setup.now self.old self.new (close_step self.old.stands)) }
-        ensures err { OnErr result (IsAsBefore self.old self.new) }
+        ensures err { OnErr result (BookIsAsBefore self.old self.new) }
     {
         if self.over || self.closed {
             return Ok(Reply::Done);

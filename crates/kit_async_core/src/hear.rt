@@ -1,14 +1,14 @@
 // The steps of a line of the host.
-ghost use Rattle.std.specs.Prelude.{◌≡◌, ◌||◌, ◌+◌, ◌++◌, ◌∷◌, [], IfOk, IfSome, OnOk, OnErr, Some, None, true, false, length, option_map, slice_get};
+ghost use Rattle.std.specs.Prelude.{◌≡◌, ◌≤◌, ◌||◌, ◌+◌, ◌*◌, ◌++◌, ◌∷◌, [], IfOk, IfSome, OnOk, OnErr, Some, None, true, false, length, map, option_map, slice_get};
 ghost use Rattle.annex_model.specs.Messages.{Getconfig, host_reading, remote_line};
 ghost use Rattle.wire_msg.specs.Shown.{host_shown};
 ghost use Rattle.kit_async_model.specs.declared.entry.Entry.TheVariants.{Heard, Say};
 ghost use Rattle.kit_async_model.specs.declared.hearing.Hearing.TheVariants.{Foul, Unexpected, Aside, Asks, Replies};
-ghost use Rattle.kit_async_model.specs.Books.{Took, IsAsBefore, AreApart, IsRequest, IsValue};
+ghost use Rattle.kit_async_model.specs.Books.{Took, BookIsAsBefore, AreApart, IsRequest, IsValue};
 ghost use Rattle.kit_async_model.specs.Events.{hear_step};
 ghost use Rattle.kit_async_model.specs.Hearings.{hearing_of, value_told};
-ghost use Rattle.kit_async_model.specs.Jobs.{request_of, job_line, line_in, is_awaiting};
-ghost use Rattle.kit_async_model.specs.Legality.{may_hear};
+ghost use Rattle.kit_async_model.specs.Jobs.{request_of, job_line, lines_in, is_awaiting};
+ghost use Rattle.kit_async_model.specs.Legality.{may_hear, is_some_line};
 ghost use Rattle.kit_async_model.specs.Standings.{starts_tags};
 
 use crate::book::{Book, waiting};
@@ -59,6 +59,83 @@ fn wired(alloc: Global, number: u64, text: Option<Bytes>) -> Result<Option<Bytes
         Some(text) => Ok(Some(job_line(alloc, number, text)?)),
         None => Ok(None),
     }
+}
+
+// The same of several.
+fn all_wired(alloc: Global, number: u64, texts: &[Bytes]) -> Result<Vec<Bytes>, NoMemory>
+    ensures { IfOk result (λ lines. lines.items ≡ map (job_line number) texts.now) }
+{
+    let mut lines = Vec::new(alloc);
+    for text in texts {
+        let text = Bytes::copy(alloc, text.view())?;
+        lines.push(job_line(alloc, number, text)?)?;
+    }
+    Ok(lines)
+}
+
+fn copies(alloc: Global, lines: &[Bytes]) -> Result<Vec<Bytes>, NoMemory>
+    ensures { IfOk result (λ copies. copies.items ≡ lines.now) }
+{
+    let mut copies = Vec::new(alloc);
+    for line in lines {
+        copies.push(Bytes::copy(alloc, line.view())?)?;
+    }
+    Ok(copies)
+}
+
+// These lines are said for that job. There is room for them.
+fn say_all(journal: &mut Entries, number: u64, said: Vec<Bytes>)
+    requires { length said.items ≤ journal.old.room }
+    ensures entries { journal.new.entries ≡ journal.old.entries ++ map (λ line. Say number line) said.items }
+    ensures room { journal.new.room + length said.items ≡ journal.old.room }
+{
+    for line in said {
+        journal.push(Entry::Say { job: number, line });
+    }
+}
+
+// Room for a line that is heard, and for so many that are said and to be written.
+fn take_room(journal: &mut Entries, said: usize, more: usize) -> Result<(), NoMemory>
+    ensures entries { journal.new.entries ≡ journal.old.entries }
+    ensures ok { OnOk result (journal.new.room ≡ journal.old.room + 1 + 2 * said + more) }
+    ensures err { OnErr result (journal.new.room ≡ journal.old.room) }
+{
+    let Some(twice) = said.checked_mul(2) else {
+        return Err(NoMemory);
+    };
+    let Some(whole) = twice.checked_add(more) else {
+        return Err(NoMemory);
+    };
+    let Some(room) = whole.checked_add(1) else {
+        return Err(NoMemory);
+    };
+    journal.take_room(room)
+}
+
+// A line was heard and these were said for that job, which are to be written.
+fn note_all_said(
+    alloc: Global,
+    journal: &mut Entries,
+    unwritten: &mut Vec<Bytes>,
+    line: Bytes,
+    number: u64,
+    said: Vec<Bytes>,
+    more: usize,
+) -> Result<(), NoMemory>
+    ensures journal { OnOk result (journal.new.entries ≡ journal.old.entries ++ Heard line ∷ map (λ line. Say number line) said.items) }
+    ensures unwritten { OnOk result (unwritten.new.items ≡ unwritten.old.items ++ said.items) }
+    ensures room { OnOk result (journal.new.room ≡ journal.old.room + length said.items + more) }
+    ensures err { OnErr result ((journal.new ≡ journal.old) × (unwritten.new.items ≡ unwritten.old.items)) }
+{
+    let mut copies = copies(alloc, said.as_slice())?;
+    unwritten.reserve(copies.len())?;
+    take_room(journal, said.len(), more)?;
+    let Ok(()) = unwritten.append(&mut copies) else {
+        unreachable!()
+    };
+    journal.push(Entry::Heard { line });
+    say_all(journal, number, said);
+    Ok(())
 }
 
 // A line was heard and one was said for that job, which is to be written.
@@ -118,9 +195,9 @@ impl Book {
     fn begin(&mut self, setup: &Setup, line: Bytes, job: Job) -> Result<Reply, NoMemory>
         requires may { may_hear setup.now self.old.stands ≡ true }
         requires is { IsRequest setup.now self.old.stands line job }
-        requires silent { line_in setup.now job ≡ None }
+        requires silent { lines_in setup.now self.old.stands.told job ≡ [] }
         ensures ok { IfOk result (Took setup.now self.old self.new (hear_step setup.now self.old.stands line)) }
-        ensures err { OnErr result (IsAsBefore self.old self.new) }
+        ensures err { OnErr result (BookIsAsBefore self.old self.new) }
     {
         let calls = 3 * job.most_calls(setup) as usize;
         let tagged = self.tags_with(&job);
@@ -132,19 +209,26 @@ impl Book {
     }
 
     // The first setting is asked for, and the job is open.
-    fn ask(&mut self, setup: &Setup, line: Bytes, job: Job, said: Bytes) -> Result<Reply, NoMemory>
+    fn ask(
+        &mut self,
+        setup: &Setup,
+        line: Bytes,
+        job: Job,
+        said: Vec<Bytes>,
+    ) -> Result<Reply, NoMemory>
         requires may { may_hear setup.now self.old.stands ≡ true }
         requires is { IsRequest setup.now self.old.stands line job }
-        requires said { option_map (job_line job.number) (line_in setup.now job) ≡ Some said }
+        requires said { map (job_line job.number) (lines_in setup.now self.old.stands.told job) ≡ said.items }
+        requires some { is_some_line said.items ≡ true }
         requires awaits { is_awaiting setup.now job ≡ true }
         ensures ok { IfOk result (Took setup.now self.old self.new (hear_step setup.now self.old.stands line)) }
-        ensures err { OnErr result (IsAsBefore self.old self.new) }
+        ensures err { OnErr result (BookIsAsBefore self.old self.new) }
     {
         let calls = 3 * job.most_calls(setup) as usize;
         let tagged = self.tags_with(&job);
         let number = job.number;
         self.jobs.reserve(1)?;
-        note_said(
+        note_all_said(
             self.alloc,
             &mut self.journal,
             &mut self.unwritten,
@@ -164,17 +248,18 @@ impl Book {
         setup: &Setup,
         line: Bytes,
         job: &Job,
-        said: Bytes,
+        said: Vec<Bytes>,
     ) -> Result<Reply, NoMemory>
         requires may { may_hear setup.now self.old.stands ≡ true }
         requires is { IsRequest setup.now self.old.stands line job.now }
-        requires said { option_map (job_line job.now.number) (line_in setup.now job.now) ≡ Some said }
+        requires said { map (job_line job.now.number) (lines_in setup.now self.old.stands.told job.now) ≡ said.items }
+        requires some { is_some_line said.items ≡ true }
         requires awaits { is_awaiting setup.now job.now ≡ false }
         ensures ok { IfOk result (Took setup.now self.old self.new (hear_step setup.now self.old.stands line)) }
-        ensures err { OnErr result (IsAsBefore self.old self.new) }
+        ensures err { OnErr result (BookIsAsBefore self.old self.new) }
     {
         let tagged = self.tags_with(job);
-        note_said(
+        note_all_said(
             self.alloc,
             &mut self.journal,
             &mut self.unwritten,
@@ -191,7 +276,7 @@ impl Book {
         requires may { may_hear setup.now self.old.stands ≡ true }
         requires is { hearing_of setup.now self.old.stands.jobs self.old.stands.tagged line ≡ Asks number }
         ensures ok { IfOk result (Took setup.now self.old self.new (hear_step setup.now self.old.stands line)) }
-        ensures err { OnErr result (IsAsBefore self.old self.new) }
+        ensures err { OnErr result (BookIsAsBefore self.old self.new) }
     {
         let job = Job::new(
             self.alloc,
@@ -199,16 +284,14 @@ impl Book {
             text_in(self.tagged, line.view()),
             self.prepared,
         )?;
-        let text = job.line(self.alloc, setup)?;
-        match wired(self.alloc, number, text)? {
-            None => self.begin(setup, line, job),
-            Some(said) => {
-                if job.is_awaiting(setup) {
-                    self.ask(setup, line, job, said)
-                } else {
-                    self.answer_at_once(setup, line, &job, said)
-                }
-            }
+        let texts = job.lines(self.alloc, setup, self.told.view())?;
+        let said = all_wired(self.alloc, number, texts.view())?;
+        if said.is_empty() {
+            self.begin(setup, line, job)
+        } else if job.is_awaiting(setup) {
+            self.ask(setup, line, job, said)
+        } else {
+            self.answer_at_once(setup, line, &job, said)
         }
     }
 }
@@ -228,7 +311,7 @@ impl Book {
         requires is { IsValue setup.now self.old.stands line at values }
         requires last { slice_get setup.now.settings (length values) ≡ None }
         ensures ok { IfOk result (Took setup.now self.old self.new (hear_step setup.now self.old.stands line)) }
-        ensures err { OnErr result (IsAsBefore self.old self.new) }
+        ensures err { OnErr result (BookIsAsBefore self.old self.new) }
     {
         note_heard(&mut self.journal, line, 0)?;
         self.jobs[at].values = values;
@@ -249,7 +332,7 @@ impl Book {
         requires is { IsValue setup.now self.old.stands line at values }
         requires more { IfSome (slice_get self.old.stands.jobs at) (λ job. option_map (λ name. job_line job.number (remote_line (Getconfig name))) (slice_get setup.now.settings (length values)) ≡ Some said) }
         ensures ok { IfOk result (Took setup.now self.old self.new (hear_step setup.now self.old.stands line)) }
-        ensures err { OnErr result (IsAsBefore self.old self.new) }
+        ensures err { OnErr result (BookIsAsBefore self.old self.new) }
     {
         let number = self.jobs[at].number;
         note_said(
@@ -270,7 +353,7 @@ impl Book {
         requires apart { AreApart self.old.stands.jobs }
         requires is { hearing_of setup.now self.old.stands.jobs self.old.stands.tagged line ≡ Replies number }
         ensures ok { IfOk result (Took setup.now self.old self.new (hear_step setup.now self.old.stands line)) }
-        ensures err { OnErr result (IsAsBefore self.old self.new) }
+        ensures err { OnErr result (BookIsAsBefore self.old self.new) }
     {
         let Some(at) = place_of(self.jobs.as_slice(), number) else {
             unreachable!()
@@ -292,7 +375,7 @@ impl Book {
         requires may { may_hear setup.now self.old.stands ≡ true }
         requires is { hearing_of setup.now self.old.stands.jobs self.old.stands.tagged line ≡ Foul }
         ensures ok { IfOk result (Took setup.now self.old self.new (hear_step setup.now self.old.stands line)) }
-        ensures err { OnErr result (IsAsBefore self.old self.new) }
+        ensures err { OnErr result (BookIsAsBefore self.old self.new) }
     {
         note_heard(&mut self.journal, line, 0)?;
         self.over = true;
@@ -304,7 +387,7 @@ impl Book {
         requires may { may_hear setup.now self.old.stands ≡ true }
         requires is { hearing_of setup.now self.old.stands.jobs self.old.stands.tagged line ≡ Unexpected }
         ensures ok { IfOk result (Took setup.now self.old self.new (hear_step setup.now self.old.stands line)) }
-        ensures err { OnErr result (IsAsBefore self.old self.new) }
+        ensures err { OnErr result (BookIsAsBefore self.old self.new) }
     {
         let error = write_remote(self.alloc, &RemoteMsg::Error(b"unexpected message"))?;
         note_said(
@@ -325,7 +408,7 @@ impl Book {
         requires may { may_hear setup.now self.old.stands ≡ true }
         requires is { hearing_of setup.now self.old.stands.jobs self.old.stands.tagged line ≡ Aside }
         ensures ok { IfOk result (Took setup.now self.old self.new (hear_step setup.now self.old.stands line)) }
-        ensures err { OnErr result (IsAsBefore self.old self.new) }
+        ensures err { OnErr result (BookIsAsBefore self.old self.new) }
     {
         note_heard(&mut self.journal, line, 0)?;
         Ok(Reply::Done)
@@ -335,7 +418,7 @@ impl Book {
     pub(crate) fn hear(&mut self, setup: &Setup, line: Bytes) -> Result<Reply, NoMemory>
         requires apart { AreApart self.old.stands.jobs }
         ensures ok { IfOk result (Took setup.now self.old self.new (hear_step setup.now self.old.stands line)) }
-        ensures err { OnErr result (IsAsBefore self.old self.new) }
+        ensures err { OnErr result (BookIsAsBefore self.old self.new) }
     {
         if !self.may_hear(setup) {
             return Ok(waiting(self.over || self.closed));

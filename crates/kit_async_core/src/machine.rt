@@ -3,7 +3,7 @@ ghost use Rattle.std.specs.Prelude.{◌≡◌, ◌≤◌, ◌||◌, ◌++◌, �
 ghost use Rattle.std.specs.List.{list_any};
 ghost use Rattle.kit_async_model.specs.declared.entry.Entry.{Entry};
 ghost use Rattle.kit_async_model.specs.declared.entry.Entry.TheVariants.{Say};
-ghost use Rattle.kit_async_model.specs.Books.{AreApart, IsAsBefore, TookEvent, room_owed};
+ghost use Rattle.kit_async_model.specs.Books.{AreApart, BookIsAsBefore, TookEvent, room_owed};
 ghost use Rattle.kit_async_model.specs.Events.{MayStep, IsMadeBy, can_break, takes_no_memory, is_break, is_of_remote, remote_of};
 ghost use Rattle.kit_async_model.specs.Legality.{Legal, is_finished, is_lack};
 ghost use Rattle.kit_async_model.specs.Standings.{standing};
@@ -74,7 +74,7 @@ impl Book {
         requires apart { AreApart self.old.stands.jobs }
         requires room { room_owed setup.now self.old.stands ≤ self.old.room }
         ensures ok { IfOk result (TookEvent setup.now self.old self.new by event) }
-        ensures err { OnErr result (IsAsBefore self.old self.new) }
+        ensures err { OnErr result (BookIsAsBefore self.old self.new) }
         ensures free { takes_no_memory event ≡ true → IsOk result }
     {
         match event {

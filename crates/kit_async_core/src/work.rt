@@ -1,11 +1,11 @@
 // The steps of a remote: what it takes up, and what it says.
-ghost use Rattle.std.specs.Prelude.{◌≡◌, ◌⊎◌, ◌<◌, ◌≤◌, ◌+◌, ◌^◌, ◌||◌, IfOk, IfSome, OnErr, false, true, not, ◌&&◌, length, slice_get};
+ghost use Rattle.std.specs.Prelude.{◌≡◌, ◌⊎◌, ◌<◌, ◌≤◌, ◌+◌, ◌^◌, IfOk, IfSome, OnErr, false, true, not, ◌&&◌, length, remove, slice_get};
 ghost use Rattle.kit_core.specs.Calls.{is_line_said};
-ghost use Rattle.kit_async_model.specs.Books.{Took, Lacked, IsAsBefore, AreApart, room_owed, IsCalledAt, CallNoted, AnswerBegun};
+ghost use Rattle.kit_async_model.specs.Books.{Took, Lacked, BookIsAsBefore, AreApart, room_owed, IsCalledAt, CallNoted, AnswerBegun};
 ghost use Rattle.kit_async_model.specs.Legality.{is_idle};
 ghost use Rattle.kit_async_model.specs.Events.{take_step, call_step, work_in};
-ghost use Rattle.kit_async_model.specs.Jobs.{final_in, job_line, prepares, settles};
-ghost use Rattle.kit_async_model.specs.Standings.{with_call};
+ghost use Rattle.kit_async_model.specs.Jobs.{final_in, job_line, prepared_after, settles};
+ghost use Rattle.kit_async_model.specs.Standings.{told_by, with_call};
 
 use crate::book::{Book, waiting};
 use ann_key::{Bytes, NoMemory};
@@ -47,7 +47,7 @@ impl Book {
     pub(crate) fn take(&mut self, setup: &Setup, remote: u32) -> Result<Reply, NoMemory>
         requires apart { AreApart self.old.stands.jobs }
         ensures ok { IfOk result (Took setup.now self.old self.new (take_step setup.now self.old.stands remote)) }
-        ensures err { OnErr result (IsAsBefore self.old self.new) }
+        ensures err { OnErr result (BookIsAsBefore self.old self.new) }
     {
         if let Some(at) = turn_of(setup, self.jobs.as_slice(), remote) {
             return work(self.alloc, setup, &self.jobs[at]);
@@ -82,11 +82,11 @@ fn note_in(job: &mut Job, settles: bool)
 
 // What a remote said.
 impl Book {
-    // Whether the kit is prepared, once the remote said so for the job.
+    // Whether the kit is prepared, once a remote said that for the job.
     fn prepared_by(&self, setup: &Setup, job: &Job, said: &Said) -> bool
-        ensures { result ≡ (self.now.stands.prepared || prepares setup.now job.now said.now) }
+        ensures { result ≡ prepared_after setup.now job.now said.now self.now.stands.prepared }
     {
-        self.prepared || job.prepares(setup, said)
+        job.prepared_after(setup, said, self.prepared)
     }
 
     // Notes the call for the job at that place.
@@ -144,6 +144,19 @@ impl Book {
         !self.over && settles
     }
 
+    // The job at that place is closed. If it left the kit prepared, its values are told of from now on.
+    fn close_job(&mut self, at: usize)
+        requires { at < length self.old.stands.jobs }
+        ensures journal { self.new.journal ≡ self.old.journal }
+        ensures room { self.new.room ≡ self.old.room }
+        ensures stands { IfSome (slice_get self.old.stands.jobs at) (λ job. self.new.stands ≡ record self.old.stands { told = told_by self.old.stands.prepared job self.old.stands.told; jobs = remove self.old.stands.jobs at }) }
+    {
+        let job = self.jobs.remove(at);
+        if self.prepared && job.is_prepare() {
+            self.told = job.values;
+        }
+    }
+
     // The call settles the job, and is answered.
     fn settle(&mut self, setup: &Setup, remote: u32, said: Said, at: usize) -> Reply
         requires apart { AreApart self.old.stands.jobs }
@@ -160,7 +173,7 @@ impl Book {
         match answer {
             Some(line) => {
                 self.journal.push(Entry::Say { job: number, line });
-                self.jobs.remove(at);
+                self.close_job(at);
                 Reply::Done
             }
             None => {

@@ -1,6 +1,6 @@
 -- No two open jobs have one number.
-use Rattle.std.proofs.Common.{◌≡◌, ℕ, List, [], ◌∷◌, ◌++◌, refl, sym, ap, subst, ◌∙◌, Bool, true, false, not, ◌==◌, cond, Some, None, Option, arith}
-use Rattle.std.specs.Prelude.{◌&&◌, ◌||◌, find, filter, fold}
+use Rattle.std.proofs.Common.{◌≡◌, ℕ, List, [], ◌∷◌, ◌++◌, refl, ap, subst, ◌∙◌, Bool, true, false, not, ◌==◌, cond, Some, None, Option, arith}
+use Rattle.std.specs.Prelude.{◌&&◌, ◌||◌, filter, fold}
 use Rattle.std.specs.List.{list_any}
 use Rattle.std.proofs.lemmas.Bool.Decides.{nat_tests}
 use Rattle.annex_model.specs.Messages.{HostMessage, host_reading}
@@ -12,9 +12,9 @@ use Rattle.kit_async_model.specs.declared.entry.Entry.{Entry}
 use Rattle.kit_async_model.specs.declared.entry.Entry.TheVariants.{Heard, Take, Call, Say, Wrote, Close, Lack}
 use Rattle.kit_async_model.specs.declared.hearing.Hearing.{Hearing}
 use Rattle.kit_async_model.specs.declared.hearing.Hearing.TheVariants.{Foul, Unexpected, Aside, Asks, Replies}
-use Rattle.kit_async_model.specs.Jobs.{has_number, job_of, with_job, without_job, is_awaiting, settles}
-use Rattle.kit_async_model.specs.Hearings.{parted, is_export, message_heard, reading_heard, text_heard, part_heard, hearing_of, awaits_in, is_open, has_some, text_in, value_told}
-use Rattle.kit_async_model.specs.Standings.{Standing, opening, new_job, with_value, with_taken, with_call, called_in, said_in, heard_as, after, standing}
+use Rattle.kit_async_model.specs.Jobs.{has_number, job_of, with_job, is_awaiting, settles}
+use Rattle.kit_async_model.specs.Hearings.{parted, is_export, message_heard, strange_heard, reading_heard, text_heard, answers_strange, part_heard, hearing_of, awaits_in, is_open, has_some, text_in, value_told}
+use Rattle.kit_async_model.specs.Standings.{Standing, opening, new_job, with_value, with_taken, with_call, called_in, is_some_due, said_in, heard_as, after, standing}
 use Rattle.kit_async_model.specs.Books.{AreApart}
 use Rattle.kit_async_model.proofs.Places.{neither, none_open}
 
@@ -35,15 +35,21 @@ asks_message a o b number n m e =
     let is : number ≡ n = let last : Asks number ≡ Asks n = four.1 in cc in
     ((neither o (is_readying (Some m) && b) four.0).0, is)
 
-asks_reading : (a o b : Bool) (number n : ℕ) (m : Option HostMessage) → reading_heard a o b number m ≡ Asks n → (o ≡ false) × (number ≡ n)
-asks_reading a o b number n None e = absurd cc
-asks_reading a o b number n (Some m) e = asks_message a o b number n m e
+-- so does a line that spells no message
+asks_strange : (x o : Bool) (number n : ℕ) → strange_heard x o number ≡ Asks n → (o ≡ false) × (number ≡ n)
+asks_strange true false number n e = let last : Asks number ≡ Asks n = e in (refl, cc)
+asks_strange true true number n e = absurd cc
+asks_strange false o number n e = absurd cc
 
-asks_text : (a o b : Bool) (number n : ℕ) (text : List ℕ) → text_heard a o b number text ≡ Asks n → (o ≡ false) × (number ≡ n)
-asks_text a o b number n text e = go (is_export text) refl e
+asks_reading : (x a o b : Bool) (number n : ℕ) (m : Option HostMessage) → reading_heard x a o b number m ≡ Asks n → (o ≡ false) × (number ≡ n)
+asks_reading x a o b number n None e = asks_strange x o number n e
+asks_reading x a o b number n (Some m) e = asks_message a o b number n m e
+
+asks_text : (x a o b : Bool) (number n : ℕ) (text : List ℕ) → text_heard x a o b number text ≡ Asks n → (o ≡ false) × (number ≡ n)
+asks_text x a o b number n text e = go (is_export text) refl e
   where
-    go : (t : Bool) → is_export text ≡ t → cond t (cond a Unexpected Aside) (reading_heard a o b number (host_reading text)) ≡ Asks n → (o ≡ false) × (number ≡ n)
-    go false h k = asks_reading a o b number n (host_reading text) k
+    go : (t : Bool) → is_export text ≡ t → cond t (cond a Unexpected Aside) (reading_heard x a o b number (host_reading text)) ≡ Asks n → (o ≡ false) × (number ≡ n)
+    go false h k = asks_reading x a o b number n (host_reading text) k
     go true h k = none a k
       where
         none : (t : Bool) → cond t Unexpected Aside ≡ Asks n → (o ≡ false) × (number ≡ n)
@@ -63,7 +69,7 @@ asks_new setup jobs tagged line n e = go (parted tagged line) e
     go : (o : Option (ℕ × List ℕ)) → part_heard setup jobs o ≡ Asks n → list_any (has_number n) jobs ≡ false
     go None k = absurd cc
     go (Some t) k =
-        let is = asks_text (awaits_in setup (job_of jobs t.0)) (is_open (job_of jobs t.0)) (has_some jobs) t.0 n t.1 k in
+        let is = asks_text (answers_strange setup) (awaits_in setup (job_of jobs t.0)) (is_open (job_of jobs t.0)) (has_some jobs) t.0 n t.1 k in
         none_open n jobs (subst (λ (m : ℕ). job_of jobs m ≡ None) is.1 (not_open jobs t.0 is.0))
 
 -- A value comes for a job that awaits one.
@@ -81,19 +87,25 @@ replies_message a o b number n m e =
     go true h k = (h, cc)
     go false h k = absurd (last (o || (is_readying (Some m) && b)) k)
 
-replies_reading : (a o b : Bool) (number n : ℕ) (m : Option HostMessage) → reading_heard a o b number m ≡ Replies n → (a ≡ true) × (number ≡ n)
-replies_reading a o b number n None e = absurd cc
-replies_reading a o b number n (Some m) e = replies_message a o b number n m e
+-- none comes as a line that spells no message
+replies_strange : (x o : Bool) (number n : ℕ) → strange_heard x o number ≡ Replies n → ⊥
+replies_strange true false number n e = absurd cc
+replies_strange true true number n e = absurd cc
+replies_strange false o number n e = absurd cc
 
-replies_text : (a o b : Bool) (number n : ℕ) (text : List ℕ) → text_heard a o b number text ≡ Replies n → (a ≡ true) × (number ≡ n)
-replies_text a o b number n text e = go (is_export text) e
+replies_reading : (x a o b : Bool) (number n : ℕ) (m : Option HostMessage) → reading_heard x a o b number m ≡ Replies n → (a ≡ true) × (number ≡ n)
+replies_reading x a o b number n None e = absurd (replies_strange x o number n e)
+replies_reading x a o b number n (Some m) e = replies_message a o b number n m e
+
+replies_text : (x a o b : Bool) (number n : ℕ) (text : List ℕ) → text_heard x a o b number text ≡ Replies n → (a ≡ true) × (number ≡ n)
+replies_text x a o b number n text e = go (is_export text) e
   where
     none : (t : Bool) → cond t Unexpected Aside ≡ Replies n → (a ≡ true) × (number ≡ n)
     none true l = absurd cc
     none false l = absurd cc
 
-    go : (t : Bool) → cond t (cond a Unexpected Aside) (reading_heard a o b number (host_reading text)) ≡ Replies n → (a ≡ true) × (number ≡ n)
-    go false k = replies_reading a o b number n (host_reading text) k
+    go : (t : Bool) → cond t (cond a Unexpected Aside) (reading_heard x a o b number (host_reading text)) ≡ Replies n → (a ≡ true) × (number ≡ n)
+    go false k = replies_reading x a o b number n (host_reading text) k
     go true k = none a k
 
 pub record Awaits (setup : Setup) (jobs : List Job) (n : ℕ) : Type 0 where
@@ -114,7 +126,7 @@ replies_awaited setup jobs tagged line n e = go (parted tagged line) e
     go : (o : Option (ℕ × List ℕ)) → part_heard setup jobs o ≡ Replies n → Awaits setup jobs n
     go None k = absurd cc
     go (Some t) k =
-        let is = replies_text (awaits_in setup (job_of jobs t.0)) (is_open (job_of jobs t.0)) (has_some jobs) t.0 n t.1 k in
+        let is = replies_text (answers_strange setup) (awaits_in setup (job_of jobs t.0)) (is_open (job_of jobs t.0)) (has_some jobs) t.0 n t.1 k in
         subst (λ (m : ℕ). Awaits setup jobs m) is.1 (awaits_some setup jobs t.0 is.0)
 
 -- ---- lists of jobs
@@ -181,9 +193,9 @@ heard_apart setup s text (Replies number) new a = apart_changed number (with_val
 
 said_apart : (setup : Setup) (s : Standing) (o : Option Job) → AreApart s.jobs → AreApart (said_in setup s o).jobs
 said_apart setup s None a = a
-said_apart setup s (Some job) a = go (s.over || is_awaiting setup job) refl
+said_apart setup s (Some job) a = go (is_some_due s.due || s.over || is_awaiting setup job) refl
   where
-    go : (b : Bool) → (s.over || is_awaiting setup job) ≡ b → AreApart (said_in setup s (Some job)).jobs
+    go : (b : Bool) → (is_some_due s.due || s.over || is_awaiting setup job) ≡ b → AreApart (said_in setup s (Some job)).jobs
     go true e = rw e a
     go false e = rw e (apart_kept (λ j. not (has_number job.number j)) s.jobs a)
 

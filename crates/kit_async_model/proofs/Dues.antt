@@ -1,5 +1,5 @@
 -- What a request for a key makes due.
-use Rattle.std.proofs.Common.{◌≡◌, ◌⊎◌, inl, inr, ℕ, List, [], ◌∷◌, refl, sym, ap, subst, ◌∙◌, Bool, true, false, cond, Some, None, Option}
+use Rattle.std.proofs.Common.{◌≡◌, ◌⊎◌, inl, inr, ℕ, List, [], ◌∷◌, refl, sym, ap, subst, ◌∙◌, Bool, true, false, Some, None, Option}
 use Rattle.std.specs.Prelude.{codes, is_some}
 use Rattle.std.specs.Str.{is_utf8}
 use Rattle.std.proofs.lemmas.Str.{IsUtf8-nil, is_utf8-from_IsUtf8}
@@ -7,10 +7,11 @@ use Rattle.annex_model.specs.Messages.{RemoteMessage, remote_line, HostMessage, 
 use Rattle.wire_msg.specs.declared.remote.RemoteMsg.{RemoteMsg}
 use Rattle.wire_msg.specs.Shown.{remote_shown}
 use Rattle.kit_core.specs.declared.call.Said.TheVariants.{Failure}
-use Rattle.kit_core.specs.Kits.{Due, Silence, Line, Asks, asked_by, final_line, refusal, transfer_asked, work_due}
+use Rattle.kit_core.specs.Kits.{Due, Silence, Line, Asks, asked_by, final_line, refusal, work_due}
 use Rattle.kit_async_model.specs.declared.due.Due.{Due as CodeDue}
 use Rattle.kit_async_model.specs.declared.due.Due.TheVariants.{Silence as NoDue, Line as LineDue, Call as CallDue}
-use Rattle.kit_async_model.specs.Jobs.{key_in, line_by}
+use Rattle.kit_async_model.specs.Abouts.{lines_by}
+use Rattle.kit_async_model.specs.Jobs.{key_in}
 use Rattle.kit_async_model.specs.Views.{DueOf, file_of}
 
 -- the line of a message whose fields are of their classes
@@ -131,9 +132,9 @@ some_asked Silence h = absurd h
 some_asked (Line line) h = absurd h
 some_asked (Asks asked) h = refl
 
-pub line_of : (message : RemoteMsg) (due : Due) → DueOf (LineDue message) due → Some (remote_line (remote_shown message)) ≡ line_by due
+pub line_of : (message : RemoteMsg) (due : Due) → DueOf (LineDue message) due → remote_line (remote_shown message) ∷ [] ≡ lines_by due
 line_of message Silence h = absurd h
-line_of message (Line line) h = ap (λ (m : RemoteMessage). Some (remote_line m)) h.0
+line_of message (Line line) h = ap (λ (m : RemoteMessage). remote_line m ∷ []) h.0
 line_of message (Asks asked) h = absurd h
 
 pub sayable_of : (message : RemoteMsg) (due : Due) → DueOf (LineDue message) due → IsSayable (remote_shown message)
@@ -141,7 +142,7 @@ sayable_of message Silence h = absurd h
 sayable_of message (Line line) h = subst IsSayable (sym h.0) h.1
 sayable_of message (Asks asked) h = absurd h
 
-pub no_line : (d : CodeDue) (due : Due) → DueOf d due → (d ≡ NoDue) ⊎ (d ≡ CallDue) → None ≡ line_by due
+pub no_line : (d : CodeDue) (due : Due) → DueOf d due → (d ≡ NoDue) ⊎ (d ≡ CallDue) → [] ≡ lines_by due
 no_line d Silence h n = refl
 no_line d (Asks asked) h n = refl
 no_line d (Line line) h (inl e) = absurd (subst (λ (x : CodeDue). DueOf x (Line line)) e h)

@@ -1,6 +1,6 @@
 -- Where no memory is found for the answer to a call, the journal stays legal.
-use Rattle.std.proofs.Common.{◌≡◌, ℕ, List, [], ◌∷◌, ◌++◌, refl, sym, ap, subst, ◌∙◌, Bool, true, false, cond, Some, None, Option}
-use Rattle.std.specs.Prelude.{◌&&◌, find, fold}
+use Rattle.std.proofs.Common.{◌≡◌, ℕ, List, [], ◌∷◌, ◌++◌, refl, sym, subst, Bool, true, false, cond, Some, None, Option}
+use Rattle.std.specs.Prelude.{find}
 use Rattle.kit_core.specs.declared.call.Said.{Said}
 use Rattle.kit_core.specs.Calls.{is_line_said}
 use Rattle.kit_async_model.specs.declared.setup.Setup.{Setup}
@@ -11,21 +11,21 @@ use Rattle.kit_async_model.specs.declared.event.Event.TheVariants.{Called}
 use Rattle.kit_async_model.specs.declared.event.Reply.{Reply}
 use Rattle.kit_async_model.specs.declared.event.Reply.TheVariants.{Odd}
 use Rattle.kit_async_model.specs.Standings.{Standing, after, standing}
-use Rattle.kit_async_model.specs.Legality.{is_called, is_said, comes_where, follows, legal_from, is_legal, Legal}
+use Rattle.kit_async_model.specs.Legality.{is_called, comes_where, follows, legal_from, is_legal, Legal}
 use Rattle.kit_async_model.specs.Events.{only, remote_of, is_of_remote, due_said, called_step, call_step, if_it_is, event_step, step_of, IsUnsaid}
 use Rattle.kit_async_model.proofs.Fronts.{both, parts, standing_append}
 use Rattle.kit_async_model.proofs.Stepping.{join_from, steps_are_legal}
 
 abbrev SomeDue : Setup → Standing → Entry → Type 0
-SomeDue setup s call = (d : ℕ × List ℕ) × ((after setup s call).due ≡ Some d)
+SomeDue setup s call = (d : ℕ × List ℕ) × (rest : List (ℕ × List ℕ)) × ((after setup s call).due ≡ d ∷ rest)
 
 -- a call after which something is said made that due
 said_due : (setup : Setup) (s : Standing) (by : ℕ) (said : Said) (call answer : Entry) → (event_step setup s by (Called said)).group ≡ call ∷ answer ∷ [] → SomeDue setup s call
 said_due setup s by said call answer e = go (is_of_remote setup by) e
   where
-    dues : (c : Entry) (o : Option (ℕ × List ℕ)) → (after setup s c).due ≡ o → c ∷ due_said o ≡ call ∷ answer ∷ [] → SomeDue setup s call
-    dues c None e k = absurd cc
-    dues c (Some d) e k = (d, let is : c ≡ call = cc in subst (λ (x : Entry). (after setup s x).due ≡ Some d) is e)
+    dues : (c : Entry) (o : List (ℕ × List ℕ)) → (after setup s c).due ≡ o → c ∷ due_said o ≡ call ∷ answer ∷ [] → SomeDue setup s call
+    dues c [] e k = absurd cc
+    dues c (d ∷ rest) e k = (d, rest, let is : c ≡ call = cc in subst (λ (x : Entry). (after setup s x).due ≡ d ∷ rest) is e)
 
     found : (o : Option Job) → (called_step setup s (remote_of by) said o).group ≡ call ∷ answer ∷ [] → SomeDue setup s call
     found None k = absurd cc
@@ -41,7 +41,7 @@ said_due setup s by said call answer e = go (is_of_remote setup by) e
 
 lack_follows : (setup : Setup) (s : Standing) (call : Entry) → follows setup s call ≡ true → SomeDue setup s call → legal_from setup s (call ∷ Lack ∷ []) ≡ true
 lack_follows setup s call f d =
-    let lack : follows setup (after setup s call) Lack ≡ true = subst (λ (o : Option (ℕ × List ℕ)). comes_where setup (after setup s call) o Lack ≡ true) (sym d.1) refl in
+    let lack : follows setup (after setup s call) Lack ≡ true = subst (λ (o : List (ℕ × List ℕ)). comes_where setup (after setup s call) o Lack ≡ true) (sym d.2) refl in
     rw (f, lack) refl
 
 pub unsaid_is_legal : (setup : Setup) (past : List Entry) (by : ℕ) (said : Said) (group : List Entry) (reply : Reply)
@@ -54,5 +54,5 @@ unsaid_is_legal setup past by said group reply l u =
     subst (λ (g : List Entry). Legal setup (past ++ g)) (sym u.group_is)
     (record {
       follow = join_from setup _ past (u.call ∷ Lack ∷ []) l.follow rest;
-      told = subst (λ (t : Standing). t.due ≡ None) (sym (standing_append setup past (u.call ∷ Lack ∷ []))) refl;
+      told = subst (λ (t : Standing). t.due ≡ []) (sym (standing_append setup past (u.call ∷ Lack ∷ []))) refl;
     })

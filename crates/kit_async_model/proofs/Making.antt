@@ -1,6 +1,6 @@
 -- Each step of a core makes what its number may make.
-use Rattle.std.proofs.Common.{◌≡◌, ◌⊎◌, inl, inr, ℕ, ◌+◌, ◌-◌, ◌≤◌, List, [], ◌∷◌, refl, sym, subst, Bool, true, false, ◌==◌, Some, None, Option, arith}
-use Rattle.std.specs.Prelude.{◌&&◌, ◌||◌, not, All, find, nat_lt, nat_le}
+use Rattle.std.proofs.Common.{◌≡◌, ◌⊎◌, inl, inr, ℕ, ◌+◌, ◌≤◌, List, [], ◌∷◌, refl, sym, subst, Bool, true, false, ◌==◌, Some, None, Option, arith}
+use Rattle.std.specs.Prelude.{◌||◌, All, find, nat_lt, nat_le}
 use Rattle.std.proofs.lemmas.Bool.Decides.{nat_tests}
 use Rattle.std.proofs.lemmas.List.Elements.{All-nil, All-cons, All-head}
 use Rattle.kit_core.specs.declared.call.Said.{Said}
@@ -21,9 +21,9 @@ use Rattle.kit_async_model.proofs.Fronts.{both}
 one_of : (by : ℕ) (e : Entry) → IsMadeBy by e → All (IsMadeBy by) (e ∷ [])
 one_of by e h = All-cons (IsMadeBy by) e [] h (All-nil (IsMadeBy by))
 
-due_made : (by : ℕ) → (by ≡ 1) ⊎ (3 ≤ by) → (due : Option (ℕ × List ℕ)) → All (IsMadeBy by) (due_said due)
-due_made by h None = All-nil (IsMadeBy by)
-due_made by h (Some d) = one_of by (Say d.0 (job_line d.0 d.1)) h
+due_made : (by : ℕ) → (by ≡ 1) ⊎ (3 ≤ by) → (due : List (ℕ × List ℕ)) → All (IsMadeBy by) (due_said due)
+due_made by h [] = All-nil (IsMadeBy by)
+due_made by h (d ∷ rest) = All-cons (IsMadeBy by) (Say d.0 (job_line d.0 d.1)) (due_said rest) h (due_made by h rest)
 
 if_made : (by : ℕ) (step : Stepped) (b : Bool) → (b ≡ true → All (IsMadeBy by) step.group) → All (IsMadeBy by) (if_it_is b step).group
 if_made by step true f = f refl

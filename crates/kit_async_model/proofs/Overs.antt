@@ -1,5 +1,5 @@
 -- What may come once a kit is over, or once nothing more can come.
-use Rattle.std.proofs.Common.{◌≡◌, ◌⊎◌, inl, inr, ℕ, List, [], ◌∷◌, ◌++◌, refl, sym, subst, ◌∙◌, Bool, true, false, not, ◌==◌, Some, None, Option}
+use Rattle.std.proofs.Common.{◌≡◌, ◌⊎◌, inl, inr, ℕ, List, [], ◌∷◌, ◌++◌, refl, sym, subst, ◌∙◌, Bool, true, false, not, Some, None, Option}
 use Rattle.std.specs.Prelude.{◌&&◌, ◌||◌, fold, nat_lt, is_some}
 use Rattle.std.specs.List.{list_any, list_all}
 use Rattle.kit_core.specs.declared.call.Said.{Said}
@@ -29,14 +29,14 @@ either false b h = inr (refl, h)
 record Kept (s t : Standing) (e : Entry) : Type 0 where
   silent : is_spoken e ≡ false
   over : t.over ≡ true
-  due : t.due ≡ None
+  due : t.due ≡ []
 
-called_over : (setup : Setup) (s : Standing) (said : Said) (o : Option Job) → s.over ≡ true → s.due ≡ None
-    → ((called_in setup s said o).over ≡ true) × ((called_in setup s said o).due ≡ None)
+called_over : (setup : Setup) (s : Standing) (said : Said) (o : Option Job) → s.over ≡ true → s.due ≡ []
+    → ((called_in setup s said o).over ≡ true) × ((called_in setup s said o).due ≡ [])
 called_over setup s said None o d = (o, d)
 called_over setup s said (Some job) o d = (o, rw o refl)
 
-over_step : (setup : Setup) (s : Standing) (e : Entry) → s.over ≡ true → s.due ≡ None → may_come setup s e ≡ true → Kept s (after setup s e) e
+over_step : (setup : Setup) (s : Standing) (e : Entry) → s.over ≡ true → s.due ≡ [] → may_come setup s e ≡ true → Kept s (after setup s e) e
 over_step setup s (Heard line) o d m = let shut : may_hear setup s ≡ false = rw o refl in absurd cc
 over_step setup s (Take job remote) o d m = let shut : may_take setup s job remote ≡ false = rw o refl in absurd cc
 over_step setup s (Call job remote said) o d m =
@@ -48,10 +48,10 @@ over_step setup s Close o d m = let shut : may_come setup s Close ≡ false = rw
 over_step setup s Lack o d m = absurd cc
 
 -- where nothing is due, what follows may come
-comes : (setup : Setup) (s : Standing) (e : Entry) → s.due ≡ None → follows setup s e ≡ true → may_come setup s e ≡ true
-comes setup s e d h = subst (λ (due : Option (ℕ × List ℕ)). comes_where setup s due e ≡ true) d h
+comes : (setup : Setup) (s : Standing) (e : Entry) → s.due ≡ [] → follows setup s e ≡ true → may_come setup s e ≡ true
+comes setup s e d h = subst (λ (due : List (ℕ × List ℕ)). comes_where setup s due e ≡ true) d h
 
-over_from : (setup : Setup) (s : Standing) (rest : List Entry) → s.over ≡ true → s.due ≡ None → legal_from setup s rest ≡ true → list_any is_spoken rest ≡ false
+over_from : (setup : Setup) (s : Standing) (rest : List Entry) → s.over ≡ true → s.due ≡ [] → legal_from setup s rest ≡ true → list_any is_spoken rest ≡ false
 over_from setup s [] o d h = refl
 over_from setup s (e ∷ rest) o d h =
     let b = both (follows setup s e) (legal_from setup (after setup s e) rest) h in
@@ -59,7 +59,7 @@ over_from setup s (e ∷ rest) o d h =
     rw (k.silent, over_from setup (after setup s e) rest k.over k.due b.1) refl
 
 pub over_is_last : (setup : Setup) (past rest : List Entry) → is_legal setup (past ++ rest) ≡ true
-    → (standing setup past).over ≡ true → (standing setup past).due ≡ None → list_any is_spoken rest ≡ false
+    → (standing setup past).over ≡ true → (standing setup past).due ≡ [] → list_any is_spoken rest ≡ false
 over_is_last setup past rest h o d = over_from setup (standing setup past) rest o d (parts setup past rest h).1
 
 -- ---- all open jobs await a value
@@ -91,7 +91,7 @@ record Stays (s t : Standing) (e : Entry) (setup : Setup) : Type 0 where
   silent : is_spoken e ≡ false
   done : is_done setup t ≡ true
   written : t.unwritten ≡ []
-  due : t.due ≡ None
+  due : t.due ≡ []
 
 -- nothing may come after a kit that hears no more and whose open jobs await a value
 nothing : (setup : Setup) (s : Standing) (e : Entry) → s.closed ≡ true → list_all (is_awaiting setup) s.jobs ≡ true → s.unwritten ≡ [] → may_come setup s e ≡ true → ⊥
@@ -129,7 +129,7 @@ over_unwritten setup s Lack o w m = w
 over_done : (setup : Setup) (s : Standing) → s.over ≡ true → is_done setup s ≡ true
 over_done setup s o = rw o refl
 
-done_step : (setup : Setup) (s : Standing) (e : Entry) → is_done setup s ≡ true → s.unwritten ≡ [] → s.due ≡ None → may_come setup s e ≡ true → Stays s (after setup s e) e setup
+done_step : (setup : Setup) (s : Standing) (e : Entry) → is_done setup s ≡ true → s.unwritten ≡ [] → s.due ≡ [] → may_come setup s e ≡ true → Stays s (after setup s e) e setup
 done_step setup s e n w d m = go (either s.over (s.closed && list_all (is_awaiting setup) s.jobs) n)
   where
     go : (s.over ≡ true) ⊎ ((s.over ≡ false) × ((s.closed && list_all (is_awaiting setup) s.jobs) ≡ true)) → Stays s (after setup s e) e setup
@@ -140,7 +140,7 @@ done_step setup s e n w d m = go (either s.over (s.closed && list_all (is_awaiti
         let b = both s.closed (list_all (is_awaiting setup) s.jobs) c.1 in
         absurd (nothing setup s e b.0 b.1 w m)
 
-done_from : (setup : Setup) (s : Standing) (rest : List Entry) → is_done setup s ≡ true → s.unwritten ≡ [] → s.due ≡ None → legal_from setup s rest ≡ true
+done_from : (setup : Setup) (s : Standing) (rest : List Entry) → is_done setup s ≡ true → s.unwritten ≡ [] → s.due ≡ [] → legal_from setup s rest ≡ true
     → IsFinished setup (fold (after setup) s rest) × (list_any is_spoken rest ≡ false)
 done_from setup s [] n w d h = (record { done = n; written = w }, refl)
 done_from setup s (e ∷ rest) n w d h =
@@ -149,7 +149,7 @@ done_from setup s (e ∷ rest) n w d h =
     let more = done_from setup (after setup s e) rest k.done k.written k.due b.1 in
     (more.0, rw (k.silent, more.1) refl)
 
-pub finished_stays : (setup : Setup) (past rest : List Entry) → is_legal setup (past ++ rest) ≡ true → IsFinished setup (standing setup past) → (standing setup past).due ≡ None
+pub finished_stays : (setup : Setup) (past rest : List Entry) → is_legal setup (past ++ rest) ≡ true → IsFinished setup (standing setup past) → (standing setup past).due ≡ []
     → IsFinished setup (standing setup (past ++ rest)) × (list_any is_spoken rest ≡ false)
 finished_stays setup past rest h f d =
     let more = done_from setup (standing setup past) rest f.done f.written d (parts setup past rest h).1 in

@@ -1,11 +1,11 @@
 -- The numbers of jobs have 64 bits.
-use Rattle.std.proofs.Common.{◌≡◌, ℕ, ◌<◌, ◌^◌, List, [], ◌∷◌, ◌++◌, refl, sym, ap, subst, ◌∙◌, Bool, true, false, not, ◌==◌, cond, Some, None, Option, arith}
-use Rattle.std.specs.Prelude.{◌&&◌, ◌||◌, fold, map, filter, find, nat_lt, nat_le, length, option_map}
+use Rattle.std.proofs.Common.{◌≡◌, ℕ, ◌<◌, ◌^◌, List, [], ◌∷◌, ◌++◌, refl, sym, subst, Bool, true, false, not, ◌==◌, cond, Some, None, Option, arith}
+use Rattle.std.specs.Prelude.{◌&&◌, ◌||◌, fold, map, filter, nat_lt, nat_le, length}
 use Rattle.std.specs.List.{list_all}
 use Rattle.std.proofs.lemmas.Bool.Decides.{nat_tests}
-use Rattle.ann_key.specs.Numbers.{is_digit, is_number, value_of}
+use Rattle.ann_key.specs.Numbers.{is_digit, value_of}
 use Rattle.annex_model.specs.Messages.{HostMessage, host_reading}
-use Rattle.annex_model.specs.Tags.{untag, Tagged}
+use Rattle.annex_model.specs.Tags.{untag}
 use Rattle.annex_model.proofs.TagReadings.{tagged_of_read}
 use Rattle.kit_core.specs.declared.call.Said.{Said}
 use Rattle.kit_core.specs.Kits.{is_error, is_unexpected, is_readying}
@@ -15,9 +15,9 @@ use Rattle.kit_async_model.specs.declared.entry.Entry.{Entry}
 use Rattle.kit_async_model.specs.declared.entry.Entry.TheVariants.{Heard, Take, Call, Say, Wrote, Close, Lack}
 use Rattle.kit_async_model.specs.declared.hearing.Hearing.{Hearing}
 use Rattle.kit_async_model.specs.declared.hearing.Hearing.TheVariants.{Foul, Unexpected, Aside, Asks, Replies}
-use Rattle.kit_async_model.specs.Jobs.{has_number, job_of, with_job, without_job, is_awaiting, line_in, settles, final_in}
-use Rattle.kit_async_model.specs.Hearings.{nonzero, parted, is_export, message_heard, reading_heard, text_heard, part_heard, hearing_of, awaits_in, is_open, has_some, text_in, value_told}
-use Rattle.kit_async_model.specs.Standings.{Standing, opening, new_job, with_value, with_taken, with_call, due_of_job, due_of, answer_due, called_in, said_in, heard_as, after, standing}
+use Rattle.kit_async_model.specs.Jobs.{has_number, job_of, with_job, is_awaiting, lines_in, settles}
+use Rattle.kit_async_model.specs.Hearings.{nonzero, parted, is_export, message_heard, strange_heard, reading_heard, text_heard, answers_strange, part_heard, hearing_of, awaits_in, is_open, has_some, text_in, value_told}
+use Rattle.kit_async_model.specs.Standings.{Standing, opening, new_job, with_value, with_taken, with_call, due_of, answer_due, called_in, is_some_due, said_in, heard_as, after, standing}
 use Rattle.kit_async_model.proofs.Fronts.{both}
 
 pub zero_small : 0 < 2 ^ 64
@@ -76,17 +76,20 @@ message_small a o b n m h =
     (if_small a (Replies n) _ h
     (if_small (o || (is_readying (Some m) && b)) Unexpected (Asks n) tt h)))
 
-reading_small : (a o b : Bool) (n : ℕ) (m : Option HostMessage) → n < 2 ^ 64 → SmallHearing (reading_heard a o b n m)
-reading_small a o b n None h = tt
-reading_small a o b n (Some m) h = message_small a o b n m h
+strange_small : (x o : Bool) (n : ℕ) → n < 2 ^ 64 → SmallHearing (strange_heard x o n)
+strange_small x o n h = if_small (x && not o) (Asks n) Foul h tt
 
-text_small : (a o b : Bool) (n : ℕ) (text : List ℕ) → n < 2 ^ 64 → SmallHearing (text_heard a o b n text)
-text_small a o b n text h =
-    if_small (is_export text) (cond a Unexpected Aside) _ (if_small a Unexpected Aside tt tt) (reading_small a o b n (host_reading text) h)
+reading_small : (x a o b : Bool) (n : ℕ) (m : Option HostMessage) → n < 2 ^ 64 → SmallHearing (reading_heard x a o b n m)
+reading_small x a o b n None h = strange_small x o n h
+reading_small x a o b n (Some m) h = message_small a o b n m h
+
+text_small : (x a o b : Bool) (n : ℕ) (text : List ℕ) → n < 2 ^ 64 → SmallHearing (text_heard x a o b n text)
+text_small x a o b n text h =
+    if_small (is_export text) (cond a Unexpected Aside) _ (if_small a Unexpected Aside tt tt) (reading_small x a o b n (host_reading text) h)
 
 part_small : (setup : Setup) (jobs : List Job) (o : Option (ℕ × List ℕ)) → SmallPart o → SmallHearing (part_heard setup jobs o)
 part_small setup jobs None h = tt
-part_small setup jobs (Some t) h = text_small (awaits_in setup (job_of jobs t.0)) (is_open (job_of jobs t.0)) (has_some jobs) t.0 t.1 h
+part_small setup jobs (Some t) h = text_small (answers_strange setup) (awaits_in setup (job_of jobs t.0)) (is_open (job_of jobs t.0)) (has_some jobs) t.0 t.1 h
 
 pub hearing_small : (setup : Setup) (jobs : List Job) (tagged : Bool) (line : List ℕ) → SmallHearing (hearing_of setup jobs tagged line)
 hearing_small setup jobs tagged line = part_small setup jobs (parted tagged line) (parted_small tagged line)
@@ -134,9 +137,9 @@ heard_small setup s text (Replies number) n a = changed_small number (with_value
 
 said_small : (setup : Setup) (s : Standing) (o : Option Job) → AllSmall s.jobs → AllSmall (said_in setup s o).jobs
 said_small setup s None a = a
-said_small setup s (Some job) a = go (s.over || is_awaiting setup job) refl
+said_small setup s (Some job) a = go (is_some_due s.due || s.over || is_awaiting setup job) refl
   where
-    go : (b : Bool) → (s.over || is_awaiting setup job) ≡ b → AllSmall (said_in setup s (Some job)).jobs
+    go : (b : Bool) → (is_some_due s.due || s.over || is_awaiting setup job) ≡ b → AllSmall (said_in setup s (Some job)).jobs
     go true e = rw e a
     go false e = rw e (kept_small (λ j. not (has_number job.number j)) s.jobs a)
 
@@ -163,39 +166,39 @@ standing_small setup journal = small_from setup opening journal refl
 
 -- ---- of what is due
 
-abbrev pub SmallDue : Option (ℕ × List ℕ) → Type 0
-SmallDue None = Unit {0}
-SmallDue (Some due) = due.0 < 2 ^ 64
+abbrev pub SmallDue : List (ℕ × List ℕ) → Type 0
+SmallDue [] = Unit {0}
+SmallDue (due ∷ rest) = (due.0 < 2 ^ 64) × SmallDue rest
 
-mapped_small : (n : ℕ) → n < 2 ^ 64 → (o : Option (List ℕ)) → SmallDue (option_map (λ line. (n, line)) o)
-mapped_small n h None = tt
-mapped_small n h (Some line) = h
+mapped_small : (n : ℕ) → n < 2 ^ 64 → (lines : List (List ℕ)) → SmallDue (map (λ line. (n, line)) lines)
+mapped_small n h [] = tt
+mapped_small n h (line ∷ lines) = (h, mapped_small n h lines)
 
 -- the job of a small number
-found_small : (setup : Setup) (jobs : List Job) (n : ℕ) → n < 2 ^ 64 → SmallDue (due_of setup (job_of jobs n))
-found_small setup [] n h = tt
-found_small setup (job ∷ jobs) n h = go (has_number n job) refl (found_small setup jobs n h)
+found_small : (setup : Setup) (told : List (List ℕ)) (jobs : List Job) (n : ℕ) → n < 2 ^ 64 → SmallDue (due_of setup told (job_of jobs n))
+found_small setup told [] n h = tt
+found_small setup told (job ∷ jobs) n h = go (has_number n job) refl (found_small setup told jobs n h)
   where
-    go : (b : Bool) → has_number n job ≡ b → SmallDue (due_of setup (job_of jobs n)) → SmallDue (due_of setup (job_of (job ∷ jobs) n))
-    go true e more = rw e (mapped_small job.number (subst (λ (m : ℕ). m < 2 ^ 64) (sym (equal_number job.number n e)) h) (line_in setup job))
+    go : (b : Bool) → has_number n job ≡ b → SmallDue (due_of setup told (job_of jobs n)) → SmallDue (due_of setup told (job_of (job ∷ jobs) n))
+    go true e more = rw e (mapped_small job.number (subst (λ (m : ℕ). m < 2 ^ 64) (sym (equal_number job.number n e)) h) (lines_in setup told job))
     go false e more = rw e more
 
-pub heard_due : (setup : Setup) (s : Standing) (text : List ℕ) (h : Hearing) → SmallHearing h → s.due ≡ None → SmallDue (heard_as setup s text h).due
+pub heard_due : (setup : Setup) (s : Standing) (text : List ℕ) (h : Hearing) → SmallHearing h → s.due ≡ [] → SmallDue (heard_as setup s text h).due
 heard_due setup s text Foul n d = rw d tt
-heard_due setup s text Unexpected n d = zero_small
+heard_due setup s text Unexpected n d = (zero_small, tt)
 heard_due setup s text Aside n d = rw d tt
-heard_due setup s text (Asks number) n d = mapped_small number n (line_in setup (new_job number text s.prepared))
-heard_due setup s text (Replies number) n d = found_small setup (with_job number (with_value (value_told (host_reading text))) s.jobs) number n
+heard_due setup s text (Asks number) n d = mapped_small number n (lines_in setup s.told (new_job number text s.prepared))
+heard_due setup s text (Replies number) n d = found_small setup s.told (with_job number (with_value (value_told (host_reading text))) s.jobs) number n
 
 answer_small : (setup : Setup) (job : Job) (said : Said) (over : Bool) → job.number < 2 ^ 64 → SmallDue (answer_due setup job said over)
 answer_small setup job said over h = go (not over && settles setup job said) refl
   where
     go : (b : Bool) → (not over && settles setup job said) ≡ b → SmallDue (answer_due setup job said over)
-    go true e = rw e h
+    go true e = rw e (h, tt)
     go false e = rw e tt
 
 -- the job of any number, among small ones
-called_due_from : (setup : Setup) (s : Standing) (said : Said) (jobs : List Job) (n : ℕ) → AllSmall jobs → s.due ≡ None → SmallDue (called_in setup s said (job_of jobs n)).due
+called_due_from : (setup : Setup) (s : Standing) (said : Said) (jobs : List Job) (n : ℕ) → AllSmall jobs → s.due ≡ [] → SmallDue (called_in setup s said (job_of jobs n)).due
 called_due_from setup s said [] n a d = rw d tt
 called_due_from setup s said (job ∷ jobs) n a d =
     let b = both (has_small job) (list_all has_small jobs) a in
@@ -206,5 +209,5 @@ called_due_from setup s said (job ∷ jobs) n a d =
     go true e k more = rw e (answer_small setup job said s.over k)
     go false e k more = rw e more
 
-pub called_due : (setup : Setup) (s : Standing) (said : Said) (n : ℕ) → AllSmall s.jobs → s.due ≡ None → SmallDue (called_in setup s said (job_of s.jobs n)).due
+pub called_due : (setup : Setup) (s : Standing) (said : Said) (n : ℕ) → AllSmall s.jobs → s.due ≡ [] → SmallDue (called_in setup s said (job_of s.jobs n)).due
 called_due setup s said n a d = called_due_from setup s said s.jobs n a d

@@ -1,27 +1,26 @@
 -- Each step of a core leaves its journal legal.
-use Rattle.std.proofs.Common.{◌≡◌, ◌⊎◌, inl, inr, ℕ, ◌+◌, ◌-◌, ◌≤◌, ◌<◌, ◌^◌, List, [], ◌∷◌, ◌++◌, refl, sym, ap, subst, ◌∙◌, Bool, true, false, not, ◌==◌, cond, Some, None, Option, arith}
-use Rattle.std.specs.Prelude.{◌&&◌, ◌||◌, fold, find, nat_lt, nat_le, slice_index, bytes_eq, decimal, length, get_or}
-use Rattle.std.specs.List.{list_any}
+use Rattle.std.proofs.Common.{◌≡◌, ℕ, ◌<◌, ◌^◌, List, [], ◌∷◌, ◌++◌, refl, sym, ap, subst, Bool, true, false, not, ◌==◌, cond, Some, None, Option, arith}
+use Rattle.std.specs.Prelude.{◌&&◌, ◌||◌, drop, fold, find, nat_lt, nat_le, slice_index, bytes_eq, decimal, length, get_or}
 use Rattle.std.proofs.lemmas.Bool.Decides.{nat_tests}
 use Rattle.std.proofs.lemmas.Fmt.{first_decimal, decimal_nonempty}
 use Rattle.std.proofs.lemmas.Slice.Eq.{bytes_eq-Decides}
-use Rattle.annex_model.specs.Tags.{untag, tagged_line}
+use Rattle.annex_model.specs.Tags.{tagged_line}
 use Rattle.annex_model.proofs.TagReadings.{untag_of_tagged}
 use Rattle.kit_core.specs.declared.call.Said.{Said}
 use Rattle.kit_core.specs.Calls.{is_line_said}
 use Rattle.kit_async_model.specs.declared.setup.Setup.{Setup}
 use Rattle.kit_async_model.specs.declared.job.Job.{Job}
 use Rattle.kit_async_model.specs.declared.entry.Entry.{Entry}
-use Rattle.kit_async_model.specs.declared.entry.Entry.TheVariants.{Heard, Take, Call, Say, Wrote, Close, Lack}
+use Rattle.kit_async_model.specs.declared.entry.Entry.TheVariants.{Heard, Take, Call, Say, Wrote, Close}
 use Rattle.kit_async_model.specs.declared.event.Event.{Event}
 use Rattle.kit_async_model.specs.declared.event.Event.TheVariants.{Hear, Take as TakeUp, Called, Next, Wrote as Written, Close as Deafen, Break}
 use Rattle.kit_async_model.specs.Jobs.{is_awaiting, is_job_line, job_line, has_number, job_of}
 use Rattle.kit_async_model.specs.Hearings.{text_in, hearing_of}
-use Rattle.kit_async_model.specs.Standings.{Standing, after, said_line, said_in, standing}
-use Rattle.kit_async_model.specs.Legality.{may_hear, is_idle, is_free, some_job, may_take, is_turn_of, is_called, may_come, comes_where, follows, legal_from, is_legal, Legal, is_done}
-use Rattle.kit_async_model.specs.Events.{IsMadeBy, Stepped, only, reader, writer, remote_of, is_of_remote, due_said, heard_step, hear_step, free_step, first_free, turn_step, take_step, called_step, call_step, next_reply, wrote_step, close_step, if_it_is, event_step, step_of}
+use Rattle.kit_async_model.specs.Standings.{Standing, after, is_some_due, said_line, said_in, standing}
+use Rattle.kit_async_model.specs.Legality.{may_hear, is_idle, is_free, some_job, may_take, is_turn_of, is_called, may_come, comes_where, follows, legal_from, Legal, is_done}
+use Rattle.kit_async_model.specs.Events.{Stepped, only, reader, writer, remote_of, is_of_remote, due_said, hear_step, free_step, first_free, turn_step, take_step, called_step, call_step, next_reply, wrote_step, close_step, if_it_is, event_step, step_of}
 use Rattle.kit_async_model.proofs.Fronts.{both, standing_append}
-use Rattle.kit_async_model.proofs.Smalls.{AllSmall, SmallDue, standing_small, hearing_small, heard_due, called_due, equal_number}
+use Rattle.kit_async_model.proofs.Smalls.{AllSmall, SmallDue, standing_small, hearing_small, heard_due, called_due}
 
 -- ---- tests
 
@@ -70,36 +69,39 @@ job_line_is n text h = go (n == 0) refl
 -- the entries may stand there, and leave nothing due
 record Fits (setup : Setup) (s : Standing) (group : List Entry) : Type 0 where
   legal : legal_from setup s group ≡ true
-  told : (fold (after setup) s group).due ≡ None
+  told : (fold (after setup) s group).due ≡ []
 
-none_fits : (setup : Setup) (s : Standing) → s.due ≡ None → Fits setup s []
+none_fits : (setup : Setup) (s : Standing) → s.due ≡ [] → Fits setup s []
 none_fits setup s d = record { legal = refl; told = d }
 
 -- what may come where nothing is due follows
-follows_of : (setup : Setup) (s : Standing) (e : Entry) → s.due ≡ None → may_come setup s e ≡ true → follows setup s e ≡ true
-follows_of setup s e d m = subst (λ (due : Option (ℕ × List ℕ)). comes_where setup s due e ≡ true) (sym d) m
+follows_of : (setup : Setup) (s : Standing) (e : Entry) → s.due ≡ [] → may_come setup s e ≡ true → follows setup s e ≡ true
+follows_of setup s e d m = subst (λ (due : List (ℕ × List ℕ)). comes_where setup s due e ≡ true) (sym d) m
 
 cons_fits : (setup : Setup) (s : Standing) (e : Entry) (group : List Entry) → follows setup s e ≡ true → Fits setup (after setup s e) group → Fits setup s (e ∷ group)
 cons_fits setup s e group f k = record { legal = rw (f, k.legal) refl; told = k.told }
 
-said_due : (setup : Setup) (s : Standing) (o : Option Job) → s.due ≡ None → (said_in setup s o).due ≡ None
-said_due setup s None d = d
-said_due setup s (Some job) d = go (s.over || is_awaiting setup job) refl
+said_due : (setup : Setup) (s : Standing) (o : Option Job) (due : List (ℕ × List ℕ)) → s.due ≡ due → (said_in setup s o).due ≡ due
+said_due setup s None due d = d
+said_due setup s (Some job) due d = go (is_some_due s.due || s.over || is_awaiting setup job) refl
   where
-    go : (b : Bool) → (s.over || is_awaiting setup job) ≡ b → (said_in setup s (Some job)).due ≡ None
+    go : (b : Bool) → (is_some_due s.due || s.over || is_awaiting setup job) ≡ b → (said_in setup s (Some job)).due ≡ due
     go true e = rw e d
     go false e = rw e d
 
-due_fits : (setup : Setup) (t : Standing) (due : Option (ℕ × List ℕ)) → t.due ≡ due → SmallDue due → Fits setup t (due_said due)
-due_fits setup t None e small = none_fits setup t e
-due_fits setup t (Some d) e small = record {
-  legal = rw (e, same d.0, job_line_is d.0 d.1 small) refl;
-  told = said_due setup (said_line t (job_line d.0 d.1)) (job_of t.jobs d.0) refl;
-}
+due_fits : (setup : Setup) (t : Standing) (due : List (ℕ × List ℕ)) → t.due ≡ due → SmallDue due → Fits setup t (due_said due)
+due_fits setup t [] e small = none_fits setup t e
+due_fits setup t (d ∷ rest) e small =
+    let line : List ℕ = job_line d.0 d.1 in
+    let f : follows setup t (Say d.0 line) ≡ true =
+    subst (λ (due : List (ℕ × List ℕ)). comes_where setup t due (Say d.0 line) ≡ true) (sym e) (rw (same d.0, job_line_is d.0 d.1 small.0) refl) in
+    let more : (after setup t (Say d.0 line)).due ≡ rest =
+    said_due setup (said_line t line) (job_of t.jobs d.0) rest (ap (λ (due : List (ℕ × List ℕ)). drop 1 due) e) in
+    cons_fits setup t (Say d.0 line) (due_said rest) f (due_fits setup (after setup t (Say d.0 line)) rest more small.1)
 
 -- ---- each event
 
-hear_fits : (setup : Setup) (s : Standing) (line : List ℕ) → s.due ≡ None → Fits setup s (hear_step setup s line).group
+hear_fits : (setup : Setup) (s : Standing) (line : List ℕ) → s.due ≡ [] → Fits setup s (hear_step setup s line).group
 hear_fits setup s line d = go (may_hear setup s) refl
   where
     small : SmallDue (after setup s (Heard line)).due
@@ -123,7 +125,7 @@ found_some test (x ∷ xs) job h = go (test x) refl h (found_some test xs job)
         subst (λ (j : Job). some_job test j.number (x ∷ xs) ≡ true) is (rw (same x.number, e) refl)
     go false e f more = or_right (has_number job.number x && test x) (some_job test job.number xs) (more f)
 
-free_fits : (setup : Setup) (s : Standing) (remote : ℕ) → s.due ≡ None → nat_lt remote setup.remotes ≡ true
+free_fits : (setup : Setup) (s : Standing) (remote : ℕ) → s.due ≡ [] → nat_lt remote setup.remotes ≡ true
     → (o : Option Job) → first_free setup s remote ≡ o → Fits setup s (free_step setup s remote o).group
 free_fits setup s remote d few None e = none_fits setup s d
 free_fits setup s remote d few (Some job) e = go (s.over || not (is_idle s.jobs remote)) refl e
@@ -137,11 +139,11 @@ free_fits setup s remote d few (Some job) e = go (s.over || not (is_idle s.jobs 
         let m : may_take setup s job.number remote ≡ true = rw (n.0, few, idle, found_some (is_free setup s.jobs) s.jobs job g) refl in
         cons_fits setup s (Take job.number remote) [] (follows_of setup s (Take job.number remote) d m) (none_fits setup (after setup s (Take job.number remote)) d)
 
-turn_fits : (setup : Setup) (s : Standing) (remote : ℕ) → s.due ≡ None → nat_lt remote setup.remotes ≡ true → (o : Option Job) → Fits setup s (turn_step setup s remote o).group
+turn_fits : (setup : Setup) (s : Standing) (remote : ℕ) → s.due ≡ [] → nat_lt remote setup.remotes ≡ true → (o : Option Job) → Fits setup s (turn_step setup s remote o).group
 turn_fits setup s remote d few None = free_fits setup s remote d few (first_free setup s remote) refl
 turn_fits setup s remote d few (Some job) = none_fits setup s d
 
-call_fits : (setup : Setup) (s : Standing) (remote : ℕ) (said : Said) → s.due ≡ None → AllSmall s.jobs → Fits setup s (call_step setup s remote said).group
+call_fits : (setup : Setup) (s : Standing) (remote : ℕ) (said : Said) → s.due ≡ [] → AllSmall s.jobs → Fits setup s (call_step setup s remote said).group
 call_fits setup s remote said d a = go (is_line_said said) refl
   where
     found : is_line_said said ≡ true → (o : Option Job) → find (is_called setup s.jobs remote) s.jobs ≡ o → Fits setup s (called_step setup s remote said o).group
@@ -155,13 +157,13 @@ call_fits setup s remote said d a = go (is_line_said said) refl
     go true e = rw e (found e (find (is_called setup s.jobs remote) s.jobs) refl)
     go false e = rw e (none_fits setup s d)
 
-wrote_fits : (setup : Setup) (s : Standing) → s.due ≡ None → (lines : List (List ℕ)) → s.unwritten ≡ lines → Fits setup s (wrote_step lines).group
+wrote_fits : (setup : Setup) (s : Standing) → s.due ≡ [] → (lines : List (List ℕ)) → s.unwritten ≡ lines → Fits setup s (wrote_step lines).group
 wrote_fits setup s d [] e = none_fits setup s d
 wrote_fits setup s d (line ∷ lines) e =
     let m : may_come setup s Wrote ≡ true = rw e refl in
     cons_fits setup s Wrote [] (follows_of setup s Wrote d m) (none_fits setup (after setup s Wrote) d)
 
-close_fits : (setup : Setup) (s : Standing) → s.due ≡ None → Fits setup s (close_step s).group
+close_fits : (setup : Setup) (s : Standing) → s.due ≡ [] → Fits setup s (close_step s).group
 close_fits setup s d = go (s.over || s.closed) refl
   where
     go : (b : Bool) → (s.over || s.closed) ≡ b → Fits setup s (close_step s).group
@@ -171,11 +173,11 @@ close_fits setup s d = go (s.over || s.closed) refl
         let m : may_come setup s Close ≡ true = rw (n.0, n.1) refl in
         rw e (cons_fits setup s Close [] (follows_of setup s Close d m) (none_fits setup (after setup s Close) d))
 
-if_fits : (setup : Setup) (s : Standing) (step : Stepped) → s.due ≡ None → (b : Bool) → (b ≡ true → Fits setup s step.group) → Fits setup s (if_it_is b step).group
+if_fits : (setup : Setup) (s : Standing) (step : Stepped) → s.due ≡ [] → (b : Bool) → (b ≡ true → Fits setup s step.group) → Fits setup s (if_it_is b step).group
 if_fits setup s step d true f = f refl
 if_fits setup s step d false f = none_fits setup s d
 
-event_fits : (setup : Setup) (s : Standing) (by : ℕ) (event : Event) → s.due ≡ None → AllSmall s.jobs → Fits setup s (event_step setup s by event).group
+event_fits : (setup : Setup) (s : Standing) (by : ℕ) (event : Event) → s.due ≡ [] → AllSmall s.jobs → Fits setup s (event_step setup s by event).group
 event_fits setup s by (Hear line) d a = if_fits setup s (hear_step setup s line) d (by == reader) (λ _. hear_fits setup s line d)
 event_fits setup s by TakeUp d a =
     if_fits setup s (take_step setup s (remote_of by)) d (is_of_remote setup by)
@@ -200,5 +202,5 @@ steps_are_legal setup past by event l =
     let k = event_fits setup (standing setup past) by event l.told (standing_small setup past) in
     record {
       follow = join_from setup _ past (step_of setup past by event).group l.follow k.legal;
-      told = subst (λ (s : Standing). s.due ≡ None) (sym (standing_append setup past (step_of setup past by event).group)) k.told;
+      told = subst (λ (s : Standing). s.due ≡ []) (sym (standing_append setup past (step_of setup past by event).group)) k.told;
     }

@@ -1,6 +1,6 @@
 -- What is not written yet is what was said after the lines that are.
 use Rattle.std.proofs.Common.{◌≡◌, ℕ, zero, suc, ◌+◌, ◌≤◌, List, [], ◌∷◌, ◌++◌, refl, sym, ap, subst, ◌∙◌, append_assoc, append-nil, length, length-append, drop, drop-drop, Bool, true, false, Some, None, Option, arith}
-use Rattle.std.specs.Prelude.{◌&&◌, ◌||◌, fold}
+use Rattle.std.specs.Prelude.{◌||◌, fold}
 use Rattle.std.proofs.lemmas.List.{drop-append-le}
 use Rattle.kit_core.specs.declared.call.Said.{Said}
 use Rattle.kit_async_model.specs.declared.setup.Setup.{Setup}
@@ -13,7 +13,7 @@ use Rattle.kit_async_model.specs.Hearings.{text_in, hearing_of}
 use Rattle.kit_async_model.specs.Jobs.{is_awaiting, job_of}
 use Rattle.kit_async_model.specs.Legality.{is_some_line, comes_where, follows, legal_from, is_legal}
 use Rattle.kit_async_model.specs.Lines.{count_wrotes, said_lines}
-use Rattle.kit_async_model.specs.Standings.{Standing, opening, heard_as, said_line, said_in, called_in, after, standing}
+use Rattle.kit_async_model.specs.Standings.{Standing, opening, heard_as, is_some_due, said_line, said_in, called_in, after, standing}
 use Rattle.kit_async_model.proofs.Fronts.{both}
 
 heard_unwritten : (setup : Setup) (s : Standing) (text : List ℕ) (h : Hearing) → (heard_as setup s text h).unwritten ≡ s.unwritten
@@ -29,9 +29,9 @@ called_unwritten setup s said (Some job) = refl
 
 said_unwritten : (setup : Setup) (s : Standing) (o : Option Job) → (said_in setup s o).unwritten ≡ s.unwritten
 said_unwritten setup s None = refl
-said_unwritten setup s (Some job) = go (s.over || is_awaiting setup job) refl
+said_unwritten setup s (Some job) = go (is_some_due s.due || s.over || is_awaiting setup job) refl
   where
-    go : (b : Bool) → (s.over || is_awaiting setup job) ≡ b → (said_in setup s (Some job)).unwritten ≡ s.unwritten
+    go : (b : Bool) → (is_some_due s.due || s.over || is_awaiting setup job) ≡ b → (said_in setup s (Some job)).unwritten ≡ s.unwritten
     go true e = rw e refl
     go false e = rw e refl
 
@@ -42,9 +42,9 @@ room_left zero (x ∷ xs) h = omega arith
 room_left (suc k) [] h = absurd cc
 room_left (suc k) (x ∷ xs) h = let l = room_left k xs h in omega (arith, l)
 
-wrote_some : (setup : Setup) (s : Standing) (due : Option (ℕ × List ℕ)) → comes_where setup s due Wrote ≡ true → is_some_line s.unwritten ≡ true
-wrote_some setup s None h = h
-wrote_some setup s (Some d) h = absurd cc
+wrote_some : (setup : Setup) (s : Standing) (due : List (ℕ × List ℕ)) → comes_where setup s due Wrote ≡ true → is_some_line s.unwritten ≡ true
+wrote_some setup s [] h = h
+wrote_some setup s (d ∷ rest) h = absurd cc
 
 abbrev Left : List (List ℕ) → ℕ → List (List ℕ) → Type 0
 Left unwritten k xs = (unwritten ≡ drop k xs) × (k ≤ length xs)

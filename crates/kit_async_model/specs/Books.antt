@@ -1,5 +1,5 @@
 -- A journal that is being written, with how a kit stands after it, and what a step does to both.
-use Rattle.std.specs.Prelude.{ℕ, ◌≡◌, ◌⊎◌, ◌+◌, ◌-◌, ◌*◌, ◌≤◌, ◌<◌, ◌||◌, Bool, true, false, if◌then◌else◌, List, [], ◌∷◌, ◌++◌, fold, find, set, length, slice_get, Option, Some, None, IfSome}
+use Rattle.std.specs.Prelude.{ℕ, ◌≡◌, ◌⊎◌, ◌+◌, ◌-◌, ◌*◌, ◌≤◌, ◌<◌, Bool, true, false, if◌then◌else◌, List, [], ◌∷◌, ◌++◌, fold, find, set, length, slice_get, Option, Some, None, IfSome}
 use Rattle.std.specs.List.{list_any}
 use Rattle.annex_model.specs.Messages.{host_reading}
 use Rattle.kit_core.specs.declared.call.Said.{Said}
@@ -11,7 +11,7 @@ use Rattle.kit_async_model.specs.declared.entry.Entry.TheVariants.{Call}
 use Rattle.kit_async_model.specs.declared.event.Event.{Event}
 use Rattle.kit_async_model.specs.declared.event.Reply.{Reply}
 use Rattle.kit_async_model.specs.declared.hearing.Hearing.TheVariants.{Asks, Replies}
-use Rattle.kit_async_model.specs.Jobs.{is_making_ready, has_number, settles, prepares, final_in, job_line}
+use Rattle.kit_async_model.specs.Jobs.{is_making_ready, has_number, settles, prepared_after, final_in, job_line}
 use Rattle.kit_async_model.specs.Hearings.{hearing_of, text_in, value_told}
 use Rattle.kit_async_model.specs.Standings.{Standing, new_job, with_call, after, standing}
 use Rattle.kit_async_model.specs.Legality.{Legal, is_called}
@@ -79,7 +79,7 @@ TookEvent setup old new by event reply =
     ⊎ ((is_call event ≡ true) × Lacked setup old new (event_step setup old.stands by event) reply)
 
 -- nothing was done, but that there may be more room
-pub record IsAsBefore (old new : BookValue) : Type 0 where
+pub record BookIsAsBefore (old new : BookValue) : Type 0 where
   pub journal : new.journal ≡ old.journal
   pub stands : new.stands ≡ old.stands
   pub room : old.room ≤ new.room
@@ -115,7 +115,7 @@ pub record CallNoted (setup : Setup) (old new : BookValue) (remote : ℕ) (said 
   pub journal : new.journal ≡ old.journal ++ Call job.number remote said ∷ []
   pub room : new.room + 1 ≡ old.room
   pub stands : new.stands ≡ record old.stands {
-    prepared = old.stands.prepared || prepares setup job said;
+    prepared = prepared_after setup job said old.stands.prepared;
     jobs = set old.stands.jobs place (with_call (settles setup job said) job);
   }
 
@@ -131,5 +131,5 @@ pub record AnswerKept (old new : BookValue) (place : ℕ) (said : Said) (line : 
 
 -- The answer to the job is among the lines that are to be written; or no memory was found for it.
 abbrev pub AnswerBegun : BookValue → BookValue → ℕ → Said → Option (List ℕ) → Type 0
-AnswerBegun old new place said None = IsAsBefore old new
+AnswerBegun old new place said None = BookIsAsBefore old new
 AnswerBegun old new place said (Some line) = AnswerKept old new place said line

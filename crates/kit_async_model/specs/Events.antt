@@ -55,10 +55,10 @@ abbrev pub waiting : Bool → Reply
 waiting true = Over
 waiting false = Wait
 
--- what is due, said
-abbrev pub due_said : Option (ℕ × List ℕ) → List Entry
-due_said None = []
-due_said (Some due) = Say due.0 (job_line due.0 due.1) ∷ []
+-- all that is due, said
+abbrev pub due_said : List (ℕ × List ℕ) → List Entry
+due_said [] = []
+due_said (due ∷ rest) = Say due.0 (job_line due.0 due.1) ∷ due_said rest
 
 -- ---- a line of the host
 

@@ -3,9 +3,10 @@ use Rattle.std.specs.Prelude.{ℕ, ◌+◌, ◌==◌, ◌&&◌, ◌||◌, not, B
 use Rattle.annex_model.specs.Messages.{Extensions, HostMessage, AskExtensions, Transfer, Checkpresent, Remove, host_reading, remote_line}
 use Rattle.annex_model.specs.Tags.{names_async, untag, tagged_line}
 use Rattle.kit_core.specs.declared.call.Said.{Said}
-use Rattle.kit_core.specs.Kits.{Due, Silence, Line, Asks, is_readying, is_prepare, is_yes, work_due, final_line, asked_by}
+use Rattle.kit_core.specs.Kits.{Due, Silence, Line, is_readying, is_prepare, is_yes, work_due, final_line, asked_by}
 use Rattle.kit_async_model.specs.declared.setup.Setup.{Setup}
 use Rattle.kit_async_model.specs.declared.job.Job.{Job}
+use Rattle.kit_async_model.specs.Abouts.{lines_about}
 
 -- ---- its request
 
@@ -66,14 +67,15 @@ due_in setup job = request_due (next_name setup job) job.values job.prepared (re
 abbrev pub is_for_any : Setup → Job → Bool
 is_for_any setup job = not (is_making_ready job) && is_some (asked_by (due_in setup job))
 
--- the line that is to be said next in the job without a call, if one is; all lines here are without tags
-abbrev pub line_by : Due → Option (List ℕ)
-line_by Silence = None
-line_by (Line message) = Some (remote_line message)
-line_by (Asks asked) = None
+-- the values that may be told of, once the kit is prepared
+abbrev pub if_prepared : Bool → List (List ℕ) → List (List ℕ)
+if_prepared true told = told
+if_prepared false told = []
 
-abbrev pub line_in : Setup → Job → Option (List ℕ)
-line_in setup job = line_by (due_in setup job)
+-- The lines that are to be said next in the job without a call, where the host told these values to the last PREPARE that succeeded. All
+-- lines here are without tags.
+abbrev pub lines_in : Setup → List (List ℕ) → Job → List (List ℕ)
+lines_in setup told job = lines_about setup.about (if_prepared job.prepared told) (due_in setup job) (request_of job)
 
 -- The remote's word settles the job. Where all are to get ready, it is the first that isn't Yes, or else the last one's.
 abbrev pub settles : Setup → Job → Said → Bool
@@ -86,6 +88,10 @@ final_in job said = remote_line (final_line (request_of job) said)
 -- the kit is prepared by it
 abbrev pub prepares : Setup → Job → Said → Bool
 prepares setup job said = is_prepare (request_of job) && is_yes said && settles setup job said
+
+-- whether it is so then: once a remote didn't get ready it isn't, since the others have values of their own
+abbrev pub prepared_after : Setup → Job → Said → Bool → Bool
+prepared_after setup job said prepared = if is_making_ready job && not (is_yes said) then false else prepared || prepares setup job said
 
 -- ---- its lines
 

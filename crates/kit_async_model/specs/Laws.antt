@@ -1,5 +1,5 @@
 -- What holds of every legal journal.
-use Rattle.std.specs.Prelude.{ℕ, ◌≡◌, ◌≤◌, All, drop, length, Bool, true, false, List, ◌++◌, None}
+use Rattle.std.specs.Prelude.{ℕ, ◌≡◌, ◌≤◌, All, drop, length, Bool, true, false, List, [], ◌++◌}
 use Rattle.std.specs.List.{list_any}
 use Rattle.kit_async_model.specs.declared.setup.Setup.{Setup}
 use Rattle.kit_async_model.specs.declared.entry.Entry.{Entry}
@@ -24,13 +24,13 @@ FrontsAreLegal = (setup : Setup) (past rest : List Entry) → is_legal setup (pa
 abbrev pub OverIsLast : Type 0
 OverIsLast =
     (setup : Setup) (past rest : List Entry) → is_legal setup (past ++ rest) ≡ true
-    → (standing setup past).over ≡ true → (standing setup past).due ≡ None → list_any is_spoken rest ≡ false
+    → (standing setup past).over ≡ true → (standing setup past).due ≡ [] → list_any is_spoken rest ≡ false
 
 -- once nothing more can come and all is written, it stays so, and nothing more is heard or said
 abbrev pub FinishedStays : Type 0
 FinishedStays =
     (setup : Setup) (past rest : List Entry) → is_legal setup (past ++ rest) ≡ true
-    → IsFinished setup (standing setup past) → (standing setup past).due ≡ None
+    → IsFinished setup (standing setup past) → (standing setup past).due ≡ []
     → IsFinished setup (standing setup (past ++ rest)) × (list_any is_spoken rest ≡ false)
 
 -- each step of a core leaves its journal legal

@@ -1,5 +1,5 @@
 -- Which journals a kit may have.
-use Rattle.std.specs.Prelude.{ℕ, ◌≡◌, ◌⊎◌, ◌==◌, ◌&&◌, ◌||◌, not, nat_lt, Bool, true, false, if◌then◌else◌, List, [], ◌∷◌, Option, Some, None, is_none}
+use Rattle.std.specs.Prelude.{ℕ, ◌≡◌, ◌==◌, ◌&&◌, ◌||◌, not, nat_lt, Bool, true, false, if◌then◌else◌, List, [], ◌∷◌, is_none}
 use Rattle.std.specs.List.{list_any, list_all}
 use Rattle.kit_core.specs.declared.call.Said.{Said}
 use Rattle.kit_core.specs.Calls.{is_line_said}
@@ -74,9 +74,9 @@ is_said due (Say job line) = job == due.0 && is_job_line job due.1 line
 is_said due Lack = true
 is_said due entry = false
 
-abbrev pub comes_where : Setup → Standing → Option (ℕ × List ℕ) → Entry → Bool
-comes_where setup s None entry = may_come setup s entry
-comes_where setup s (Some due) entry = is_said due entry
+abbrev pub comes_where : Setup → Standing → List (ℕ × List ℕ) → Entry → Bool
+comes_where setup s [] entry = may_come setup s entry
+comes_where setup s (due ∷ rest) entry = is_said due entry
 
 -- what is due comes next, and else what may come
 abbrev pub follows : Setup → Standing → Entry → Bool
@@ -93,7 +93,7 @@ is_legal setup journal = legal_from setup opening journal
 -- and nothing is left due
 pub record Legal (setup : Setup) (journal : List Entry) : Type 0 where
   pub follow : is_legal setup journal ≡ true
-  pub told : (standing setup journal).due ≡ None
+  pub told : (standing setup journal).due ≡ []
 
 -- ---- the end
 

@@ -1,3 +1,4 @@
+pub mod Abouts
 pub mod Books
 pub mod Callings
 pub mod Entries

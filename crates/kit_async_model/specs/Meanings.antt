@@ -1,5 +1,5 @@
 -- What the lines and the calls of one job mean: what a kit that serves one job at a time says to its request.
-use Rattle.std.specs.Prelude.{ℕ, ◌≡◌, ◌⊎◌, ◌+◌, ◌==◌, ◌&&◌, Bool, true, false, if◌then◌else◌, List, [], ◌∷◌, ◌++◌, length, option_map, Option, Some, None, IsTrue}
+use Rattle.std.specs.Prelude.{ℕ, ◌≡◌, ◌⊎◌, ◌+◌, ◌==◌, ◌&&◌, Bool, true, false, if◌then◌else◌, List, [], ◌∷◌, ◌++◌, map, length, Option, Some, None, IsTrue}
 use Rattle.std.specs.List.{list_all}
 use Rattle.annex_model.specs.Messages.{HostMessage, Value, Getconfig, host_reading, remote_line}
 use Rattle.annex_model.specs.Tags.{untag, without_tag}
@@ -7,10 +7,11 @@ use Rattle.kit_core.specs.declared.call.Said.{Said}
 use Rattle.kit_core.specs.Kits.{Due, Silence, Line, Asks, is_readying, is_yes, final_line}
 use Rattle.kit_async_model.specs.declared.setup.Setup.{Setup}
 use Rattle.kit_async_model.specs.declared.entry.Entry.{Entry}
-use Rattle.kit_async_model.specs.declared.entry.Entry.TheVariants.{Heard, Take, Call, Say, Wrote, Close}
+use Rattle.kit_async_model.specs.declared.entry.Entry.TheVariants.{Heard, Call, Say}
 use Rattle.kit_async_model.specs.declared.hearing.Hearing.{Hearing}
-use Rattle.kit_async_model.specs.declared.hearing.Hearing.TheVariants.{Foul, Unexpected, Aside, Asks as AsksJob, Replies}
-use Rattle.kit_async_model.specs.Jobs.{request_due, job_of}
+use Rattle.kit_async_model.specs.declared.hearing.Hearing.TheVariants.{Asks as AsksJob, Replies}
+use Rattle.kit_async_model.specs.Abouts.{lines_about}
+use Rattle.kit_async_model.specs.Jobs.{request_due, if_prepared, job_of}
 use Rattle.kit_async_model.specs.Hearings.{text_in, is_open, hearing_of}
 use Rattle.kit_async_model.specs.Standings.{Standing, after, standing}
 use Rattle.kit_async_model.specs.Legality.{is_legal}
@@ -81,45 +82,49 @@ calls_from remote [] = []
 calls_from remote (said ∷ more) = Calls remote said ∷ calls_from (remote + 1) more
 
 -- PREPARE and INITREMOTE: with all values, the remotes are called in order, until one doesn't say Yes.
-pub record IsReadied (setup : Setup) (request : HostMessage) (items : List Item) : Type 0 where
+pub record IsReadied (setup : Setup) (request : Option HostMessage) (items : List Item) : Type 0 where
   pub values : List (List ℕ)
   pub firsts : List Said
   pub last : Said
   pub all : length values ≡ length setup.settings
   pub agree : IsTrue (list_all is_yes firsts)
   pub ends : (is_yes last ≡ false) ⊎ (length firsts + 1 ≡ setup.remotes)
-  pub are : items ≡ Told (Some request) ∷ asked_values setup.settings values ++ calls_from 0 (firsts ++ last ∷ []) ++ Says (remote_line (final_line (Some request) last)) ∷ []
+  pub are : items ≡ Told request ∷ asked_values setup.settings values ++ calls_from 0 (firsts ++ last ∷ []) ++ Says (remote_line (final_line request last)) ∷ []
 
 -- a request for a key: one call of one remote, and the line for what it said
-pub record IsWorked (request : HostMessage) (items : List Item) : Type 0 where
+pub record IsWorked (request : Option HostMessage) (items : List Item) : Type 0 where
   pub remote : ℕ
   pub said : Said
-  pub are : items ≡ Told (Some request) ∷ Calls remote said ∷ Says (remote_line (final_line (Some request) said)) ∷ []
+  pub are : items ≡ Told request ∷ Calls remote said ∷ Says (remote_line (final_line request said)) ∷ []
 
-abbrev pub IsByDue : Due → HostMessage → List Item → Type 0
-IsByDue Silence request items = ⊥
-IsByDue (Line line) request items = items ≡ Told (Some request) ∷ Says (remote_line line) ∷ []
-IsByDue (Asks asked) request items = IsWorked request items
+-- a request that is answered at once: its lines in their order, of which there is one at least
+abbrev pub IsSaid : List (List ℕ) → Option HostMessage → List Item → Type 0
+IsSaid [] request items = ⊥
+IsSaid (line ∷ lines) request items = items ≡ Told request ∷ map (λ l. Says l) (line ∷ lines)
 
-abbrev pub IsSettledBy : Bool → Setup → Bool → HostMessage → List Item → Type 0
-IsSettledBy true setup prepared request items = IsReadied setup request items
-IsSettledBy false setup prepared request items = IsByDue (request_due None [] prepared (Some request)) request items
+abbrev pub IsByDue : Setup → List (List ℕ) → Due → Option HostMessage → List Item → Type 0
+IsByDue setup told Silence request items = IsSaid (lines_about setup.about told Silence request) request items
+IsByDue setup told (Line line) request items = IsSaid (lines_about setup.about told (Line line) request) request items
+IsByDue setup told (Asks asked) request items = IsWorked request items
 
--- the items of a settled job, whose request was heard when the kit was prepared or not
-abbrev pub IsSettled : Setup → Bool → HostMessage → List Item → Type 0
-IsSettled setup prepared request items = IsSettledBy (is_readying (Some request)) setup prepared request items
+abbrev pub IsSettledBy : Bool → Setup → Standing → Option HostMessage → List Item → Type 0
+IsSettledBy true setup s request items = IsReadied setup request items
+IsSettledBy false setup s request items = IsByDue setup (if_prepared s.prepared s.told) (request_due None [] s.prepared request) request items
+
+-- the items of a settled job, whose request was heard when the kit stood so; None where its line spells no message
+abbrev pub IsSettled : Setup → Standing → Option HostMessage → List Item → Type 0
+IsSettled setup s request items = IsSettledBy (is_readying request) setup s request items
 
 -- of a job that isn't settled they go on to such ones
-abbrev pub IsMeant : Setup → Bool → HostMessage → List Item → Type 0
-IsMeant setup prepared request items = (more : List Item) × IsSettled setup prepared request (items ++ more)
+abbrev pub IsMeant : Setup → Standing → Option HostMessage → List Item → Type 0
+IsMeant setup s request items = (more : List Item) × IsSettled setup s request (items ++ more)
 
 -- ---- what is to be shown of a legal journal
 
 -- each job of it is as it is meant to be
 abbrev pub JobsAreMeant : Type 0
 JobsAreMeant =
-    (setup : Setup) (past rest : List Entry) (line : List ℕ) (number : ℕ) (request : HostMessage)
+    (setup : Setup) (past rest : List Entry) (line : List ℕ) (number : ℕ)
     → is_legal setup (past ++ Heard line ∷ rest) ≡ true
     → hearing_of setup (standing setup past).jobs (standing setup past).tagged line ≡ AsksJob number
-    → host_reading (text_in (standing setup past).tagged line) ≡ Some request
-    → IsMeant setup (standing setup past).prepared request (job_items setup past line number rest)
+    → IsMeant setup (standing setup past) (host_reading (text_in (standing setup past).tagged line)) (job_items setup past line number rest)

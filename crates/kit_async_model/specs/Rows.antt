@@ -1,17 +1,31 @@
 -- Worked journals of a kit, each of which is legal or isn't.
-use Rattle.std.specs.Prelude.{ℕ, List, [], ◌∷◌, ◌++◌, codes}
-use Rattle.kit_core.specs.declared.call.Said.{Said}
-use Rattle.kit_core.specs.declared.call.Said.TheVariants.{Yes, No, Failure}
+use Rattle.std.specs.Prelude.{List, [], ◌∷◌, ◌++◌, Some, None, codes}
+use Rattle.kit_core.specs.declared.call.Said.TheVariants.{Yes, No}
 use Rattle.kit_async_model.specs.declared.setup.Setup.{Setup}
+use Rattle.kit_async_model.specs.declared.about.Fact.TheVariants.{Fixed, Setting}
 use Rattle.kit_async_model.specs.declared.entry.Entry.{Entry}
 use Rattle.kit_async_model.specs.declared.entry.Entry.TheVariants.{Heard, Take, Call, Say, Wrote, Close}
 
 -- two remotes with one setting, and one without any
 abbrev pub two : Setup
-two = record { settings = codes "directory" ∷ []; remotes = 2 }
+two = record { settings = codes "directory" ∷ []; remotes = 2; about = None }
 
 abbrev pub bare : Setup
-bare = record { settings = []; remotes = 1 }
+bare = record { settings = []; remotes = 1; about = None }
+
+-- the same two, of which it is known what they say of themselves
+abbrev pub known : Setup
+known = record {
+  settings = codes "directory" ∷ [];
+  remotes = 2;
+  about = Some
+      (record {
+        configs = codes "CONFIG directory where files are kept" ∷ codes "CONFIGEND" ∷ [];
+        cost = codes "COST 100" ∷ [];
+        availability = codes "AVAILABILITY LOCAL" ∷ [];
+        facts = Fixed (codes "kind") (codes "a folder") ∷ Setting (codes "directory") 0 ∷ [];
+      });
+}
 
 abbrev pub version : Entry
 version = Say 0 (codes "VERSION 1")
@@ -56,7 +70,44 @@ crossed = ready ++ check_a ∷ check_b ∷ Take 2 0 ∷ Take 3 1 ∷ Call 3 1 Ye
 abbrev pub whole : List Entry
 whole = crossed ++ Close ∷ Wrote ∷ Wrote ∷ Wrote ∷ Wrote ∷ Wrote ∷ Wrote ∷ []
 
--- ---- a host that doesn't
+-- ---- a host that asks about the remotes
+
+abbrev pub configs : Entry
+configs = Heard (codes "J 4 LISTCONFIGS")
+
+abbrev pub first_config : Entry
+first_config = Say 4 (codes "J 4 CONFIG directory where files are kept")
+
+abbrev pub last_config : Entry
+last_config = Say 4 (codes "J 4 CONFIGEND")
+
+abbrev pub info : Entry
+info = Heard (codes "J 4 GETINFO")
+
+abbrev pub kind_told : List Entry
+kind_told = Say 4 (codes "J 4 INFOFIELD kind") ∷ Say 4 (codes "J 4 INFOVALUE a folder") ∷ []
+
+-- of the value that was told to PREPARE
+abbrev pub directory_told : List Entry
+directory_told = Say 4 (codes "J 4 INFOFIELD directory") ∷ Say 4 (codes "J 4 INFOVALUE d") ∷ []
+
+abbrev pub info_end : Entry
+info_end = Say 4 (codes "J 4 INFOEND")
+
+-- a second PREPARE, which the first remote doesn't get ready for
+abbrev pub unready : List Entry
+unready =
+    ready ++ Heard (codes "J 5 PREPARE") ∷ Say 5 (codes "J 5 GETCONFIG directory") ∷ Heard (codes "J 5 VALUE e")
+    ∷ Call 5 0 No ∷ Say 5 (codes "J 5 PREPARE-FAILURE ") ∷ []
+
+-- it spells no message
+abbrev pub strange : Entry
+strange = Heard (codes "J 4 CLAIMURL http://a")
+
+abbrev pub unsupported : Entry
+unsupported = Say 4 (codes "J 4 UNSUPPORTED-REQUEST")
+
+-- ---- a host that doesn't tag its lines
 
 -- each request is answered before the next is heard
 abbrev pub plain : List Entry

@@ -1,17 +1,18 @@
 // What is due in a job.
-ghost use Rattle.std.specs.Prelude.{◌≡◌, [], IfOk, Some, None, is_some, true, bytes_eq, codes};
+ghost use Rattle.std.specs.Prelude.{◌≡◌, ◌∷◌, [], IfOk, Some, None, is_some, true, bytes_eq, codes};
 ghost use Rattle.std.specs.Str.{is_utf8};
-ghost use Rattle.annex_model.specs.Messages.{Extensions, IsAskable};
+ghost use Rattle.annex_model.specs.Messages.{Extensions, IsAskable, IsSayable, remote_line};
 ghost use Rattle.annex_model.specs.Tags.{names_async};
-ghost use Rattle.wire_msg.specs.Shown.{host_shown};
+ghost use Rattle.wire_msg.specs.Shown.{host_shown, remote_shown};
 ghost use Rattle.kit_core.specs.Kits.{asked_by, work_due};
-ghost use Rattle.kit_async_model.specs.Jobs.{due_in, line_in, final_in, job_line, is_for_any, key_in, request_of, spoken};
+ghost use Rattle.kit_async_model.specs.Abouts.{lines_by};
+ghost use Rattle.kit_async_model.specs.Jobs.{due_in, if_prepared, lines_in, final_in, job_line, is_for_any, key_in, request_of, spoken};
 ghost use Rattle.kit_async_model.specs.Views.{DueOf, file_of};
 
 use crate::job::Job;
 use crate::setup::Setup;
 use ann_key::{Bytes, Key, NoMemory, Text};
-use kit_core::{Asked, Said, failed, final_message};
+use kit_core::{Asked, Lines, Said, failed, final_message};
 use std::alloc::Global;
 use std::str;
 use wire_msg::{HostMsg, RemoteMsg, tag, write_remote};
@@ -69,6 +70,16 @@ fn for_key<'a>(request: HostMsg<'a>, prepared: bool, file: &[u8]) -> Due<'a>
     }
 }
 
+// The line of the message.
+pub(crate) fn one_line(alloc: Global, message: &RemoteMsg<'_>) -> Result<Lines, NoMemory>
+    requires { IsSayable (remote_shown message.now) }
+    ensures { IfOk result (λ lines. lines ≡ remote_line (remote_shown message.now) ∷ []) }
+{
+    let mut lines = Vec::new(alloc);
+    lines.push(write_remote(alloc, message)?)?;
+    Ok(Lines::new(lines))
+}
+
 impl Job {
     /// What is due in it.
     pub(crate) fn due<'a>(&'a self, setup: &'a Setup) -> Due<'a>
@@ -105,13 +116,34 @@ impl Job {
         !self.is_making_ready() && matches!(self.due(setup), Due::Call)
     }
 
-    /// The line that is to be said next in it without a call, if one is; without its tag.
-    pub fn line(&self, alloc: Global, setup: &Setup) -> Result<Option<Bytes>, NoMemory>
-        ensures { IfOk result (λ line. line ≡ line_in setup.now self.now) }
+    // The line that is due in it without a call, if one is.
+    fn due_lines(&self, alloc: Global, setup: &Setup) -> Result<Lines, NoMemory>
+        ensures { IfOk result (λ lines. lines ≡ lines_by (due_in setup.now self.now)) }
     {
         match self.due(setup) {
-            Due::Line(message) => Ok(Some(write_remote(alloc, &message)?)),
-            Due::Silence | Due::Call => Ok(None),
+            Due::Line(message) => one_line(alloc, &message),
+            Due::Silence | Due::Call => Ok(Lines::new(Vec::new(alloc))),
+        }
+    }
+
+    // The values that may be told of, once the kit is prepared.
+    fn if_prepared<'a>(&self, told: &'a [Bytes]) -> &'a [Bytes]
+        ensures { result.now ≡ if_prepared self.now.prepared told.entry.now }
+    {
+        if self.prepared { told } else { &[] }
+    }
+
+    /// The lines that are to be said next in it without a call, where the host told these values to the last PREPARE that succeeded;
+    /// without their tags.
+    pub fn lines(&self, alloc: Global, setup: &Setup, told: &[Bytes]) -> Result<Lines, NoMemory>
+        ensures { IfOk result (λ lines. lines ≡ lines_in setup.now told.now self.now) }
+    {
+        let Some(about) = &setup.about else {
+            return self.due_lines(alloc, setup);
+        };
+        match about.answer(alloc, self.if_prepared(told), self.request())? {
+            Some(lines) => Ok(lines),
+            None => self.due_lines(alloc, setup),
         }
     }
 

@@ -1,7 +1,7 @@
 // What a line of the host is to the kit.
 ghost use Rattle.std.specs.Prelude.{◌≡◌, Some, option_map, option_copied};
 ghost use Rattle.wire_msg.specs.Shown.{host_shown};
-ghost use Rattle.kit_async_model.specs.Hearings.{parted, text_in, is_export, message_heard, text_heard, awaits_in, is_open, has_some, part_heard, hearing_of};
+ghost use Rattle.kit_async_model.specs.Hearings.{parted, text_in, is_export, message_heard, text_heard, strange_heard, awaits_in, is_open, has_some, part_heard, hearing_of};
 
 use crate::job::Job;
 use crate::jobs::job_of;
@@ -79,8 +79,26 @@ fn message_heard(
     }
 }
 
-fn text_heard(awaiting: bool, opened: bool, busy: bool, number: u64, text: &[u8]) -> Hearing
-    ensures { result ≡ text_heard awaiting opened busy number text.now }
+// A line that spells no message, where the kit answers such lines or doesn't.
+fn strange_heard(answers: bool, opened: bool, number: u64) -> Hearing
+    ensures { result ≡ strange_heard answers opened number }
+{
+    if answers && !opened {
+        Hearing::Asks(number)
+    } else {
+        Hearing::Foul
+    }
+}
+
+fn text_heard(
+    answers: bool,
+    awaiting: bool,
+    opened: bool,
+    busy: bool,
+    number: u64,
+    text: &[u8],
+) -> Hearing
+    ensures { result ≡ text_heard answers awaiting opened busy number text.now }
 {
     if is_export(text) {
         return if awaiting {
@@ -91,7 +109,7 @@ fn text_heard(awaiting: bool, opened: bool, busy: bool, number: u64, text: &[u8]
     }
     match read_host(text) {
         Some(message) => message_heard(awaiting, opened, busy, number, message),
-        None => Hearing::Foul,
+        None => strange_heard(answers, opened, number),
     }
 }
 
@@ -125,6 +143,7 @@ fn part_heard(setup: &Setup, jobs: &[Job], number: u64, text: &[u8]) -> Hearing
 {
     let job = job_of(jobs, number);
     text_heard(
+        setup.answers_strange(),
         awaits_in(setup, job),
         is_open(job),
         has_some(jobs),

@@ -3,10 +3,10 @@ ghost use Rattle.std.specs.Prelude.{◌≡◌, IfOk, IfSome, option_copied, opti
 ghost use Rattle.annex_model.specs.Messages.{IsAskable};
 ghost use Rattle.ann_key.specs.KeyRefs.{text_of};
 ghost use Rattle.wire_msg.specs.Shown.{host_shown};
-ghost use Rattle.kit_async_model.specs.Jobs.{request_of, is_making_ready, next_name, is_awaiting, key_in, settles, prepares, is_worked_by};
+ghost use Rattle.kit_async_model.specs.Jobs.{request_of, is_making_ready, next_name, is_awaiting, key_in, settles, prepares, prepared_after, is_worked_by};
 ghost use Rattle.kit_async_model.specs.Standings.{new_job};
 ghost use Rattle.kit_async_model.specs.Books.{most_calls};
-ghost use Rattle.kit_core.specs.Kits.{is_readying};
+ghost use Rattle.kit_core.specs.Kits.{is_readying, is_prepare};
 
 use crate::setup::Setup;
 use ann_key::{Bytes, KeyRef, NoMemory};
@@ -113,13 +113,29 @@ impl Job {
             || u64::from(self.calls) + 1 == u64::from(setup.remotes)
     }
 
-    /// Whether that word leaves the kit prepared.
-    pub fn prepares(&self, setup: &Setup, said: &Said) -> bool
-        ensures { result ≡ prepares setup.now self.now said.now }
+    /// Whether it is PREPARE.
+    pub fn is_prepare(&self) -> bool
+        ensures { result ≡ is_prepare (request_of self.now) }
     {
         matches!(self.request(), Some(HostMsg::Prepare))
-            && matches!(said, Said::Yes)
-            && self.settles(setup, said)
+    }
+
+    // Whether the kit is prepared by that word.
+    fn prepares(&self, setup: &Setup, said: &Said) -> bool
+        ensures { result ≡ prepares setup.now self.now said.now }
+    {
+        self.is_prepare() && matches!(said, Said::Yes) && self.settles(setup, said)
+    }
+
+    /// Whether the kit is prepared then, which was so before or wasn't.
+    pub fn prepared_after(&self, setup: &Setup, said: &Said, prepared: bool) -> bool
+        ensures { result ≡ prepared_after setup.now self.now said.now prepared }
+    {
+        if self.is_making_ready() && !matches!(said, Said::Yes) {
+            false
+        } else {
+            prepared || self.prepares(setup, said)
+        }
     }
 
     /// How many calls are made for it in the end, at most.

@@ -4,7 +4,7 @@ ghost use Rattle.kit_core.specs.declared.call.Said.TheVariants.{Yes, No, Failure
 ghost use Rattle.kit_async_model.specs.declared.entry.Entry.TheVariants.{Heard, Take, Call, Say, Wrote, Close, Lack};
 ghost use Rattle.kit_async_model.specs.Laws.{FrontsAreLegal, OverIsLast, UnwrittenAre, StepsAreLegal, StepsAreMade};
 ghost use Rattle.kit_async_model.specs.Legality.{is_legal, is_done};
-ghost use Rattle.kit_async_model.specs.Rows.{two, bare, version, error, tagging, asking, readying, ready, check_a, check_b, absent_a, crossed, whole, plain, plain_check};
+ghost use Rattle.kit_async_model.specs.Rows.{two, bare, known, version, error, tagging, asking, readying, ready, check_a, check_b, absent_a, crossed, whole, plain, plain_check, configs, first_config, last_config, info, kind_told, directory_told, info_end, unready, strange, unsupported};
 ghost use Rattle.kit_async_model.specs.Standings.{standing};
 
 /// Journals that a kit may have: two checks at once, answered in either order, and a host that tags no line.
@@ -89,6 +89,40 @@ pub fn worked_asides()
     ensures export_for_a_value { is_legal two (asking ++ Heard (codes "J 1 EXPORT a b") ∷ error ∷ []) ≡ true }
     ensures plain_waits { is_legal two (plain ++ plain_check ∷ Heard (codes "GETCOST") ∷ []) ≡ false }
     ensures late_tags { is_legal two (plain ++ Heard (codes "EXTENSIONS ASYNC") ∷ Say 0 (codes "EXTENSIONS ASYNC") ∷ Heard (codes "J 1 GETCOST") ∷ Say 1 (codes "J 1 UNSUPPORTED-REQUEST") ∷ []) ≡ true }
+{}
+
+/// Requests about the remotes: all lines of an answer in their order, and nothing between them.
+pub fn worked_abouts()
+    ensures whole { is_legal known (ready ++ configs ∷ first_config ∷ last_config ∷ check_a ∷ []) ≡ true }
+    ensures half { is_legal known (ready ++ configs ∷ first_config ∷ check_a ∷ []) ≡ false }
+    ensures asked_again { is_legal known (ready ++ configs ∷ first_config ∷ last_config ∷ configs ∷ first_config ∷ last_config ∷ []) ≡ true }
+    ensures half_twice { is_legal known (ready ++ configs ∷ first_config ∷ configs ∷ error ∷ []) ≡ false }
+    ensures wrong_order { is_legal known (ready ++ configs ∷ last_config ∷ first_config ∷ []) ≡ false }
+    ensures too_much { is_legal known (ready ++ configs ∷ first_config ∷ last_config ∷ last_config ∷ []) ≡ false }
+    ensures untold { is_legal two (ready ++ configs ∷ unsupported ∷ []) ≡ true }
+{}
+
+/// Facts about the remotes, and once a remote didn't get ready.
+pub fn worked_facts()
+    ensures before { is_legal known (tagging ++ info ∷ kind_told ++ info_end ∷ []) ≡ true }
+    ensures told { is_legal known (ready ++ info ∷ kind_told ++ directory_told ++ info_end ∷ []) ≡ true }
+    ensures left_out { is_legal known (ready ++ info ∷ kind_told ++ info_end ∷ []) ≡ false }
+    ensures no_longer { is_legal known (unready ++ info ∷ kind_told ++ info_end ∷ []) ≡ true }
+    ensures not_prepared { is_legal two (unready ++ check_a ∷ Say 2 (codes "J 2 CHECKPRESENT-UNKNOWN WORM--a not prepared") ∷ []) ≡ true }
+    ensures not_worked { is_legal two (unready ++ check_a ∷ Take 2 1 ∷ []) ≡ false }
+{}
+
+/// Requests that have one line, and lines that spell no message.
+pub fn worked_strangers()
+    ensures cost { is_legal known (ready ++ Heard (codes "J 4 GETCOST") ∷ Say 4 (codes "J 4 COST 100") ∷ []) ≡ true }
+    ensures cost_left_out { is_legal known (ready ++ Heard (codes "J 4 GETCOST") ∷ unsupported ∷ []) ≡ false }
+    ensures whereis { is_legal known (ready ++ Heard (codes "J 4 WHEREIS WORM--a") ∷ unsupported ∷ []) ≡ true }
+    ensures strange { is_legal known (ready ++ strange ∷ unsupported ∷ check_a ∷ []) ≡ true }
+    ensures strange_again { is_legal known (ready ++ strange ∷ unsupported ∷ strange ∷ unsupported ∷ []) ≡ true }
+    ensures strange_awaited { (standing known (asking ++ Heard (codes "J 1 CLAIMURL http://a") ∷ [])).over ≡ true }
+    ensures strange_open { is_legal known (ready ++ check_a ∷ Heard (codes "J 2 CLAIMURL http://a") ∷ Say 2 (codes "J 2 UNSUPPORTED-REQUEST") ∷ []) ≡ false }
+    ensures strange_unknown { is_legal two (ready ++ strange ∷ unsupported ∷ []) ≡ false }
+    ensures strange_ends { (standing two (ready ++ strange ∷ [])).over ≡ true }
 {}
 
 /// Writing: each write is of a line that was said, in their order. And when all is done.

@@ -3,6 +3,7 @@
 //! <https://git-annex.branchable.com/design/external_special_remote_protocol/async_appendix/>
 #![tactic(auto)]
 
+mod about;
 pub mod due;
 mod entries;
 mod entry;
@@ -13,6 +14,7 @@ pub mod jobs;
 pub mod laws;
 mod setup;
 
+pub use about::{About, Fact, Facts};
 pub use entries::Entries;
 pub use entry::Entry;
 pub use event::{Event, Reply};

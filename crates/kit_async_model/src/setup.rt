@@ -1,15 +1,18 @@
 // What doesn't change while a kit serves.
-ghost use Rattle.std.specs.Prelude.{◌≡◌, IfOk, option_copied, slice_get};
+ghost use Rattle.std.specs.Prelude.{◌≡◌, IfOk, None, option_copied, slice_get};
+ghost use Rattle.kit_async_model.specs.Hearings.{answers_strange};
 
+use crate::about::About;
 use ann_key::{Bytes, NoMemory};
 use kit_core::{Remote, Values};
 use std::alloc::Global;
 
-/// The names of the first remote's settings, and how many remotes there are.
+/// The names of the first remote's settings, how many remotes there are, and what is said of them, if anything is.
 #[derive(Drop)]
 pub struct Setup {
     pub settings: Values,
     pub remotes: u32,
+    pub about: Option<About>,
 }
 
 // The names of the remote's settings, in their order.
@@ -28,13 +31,25 @@ fn names<R: Remote>(alloc: Global, remote: &R) -> Result<Values, NoMemory>
 }
 
 impl Setup {
-    /// That of so many remotes, of which this is the first.
+    /// That of so many remotes, of which this is the first. Nothing is told about them.
     pub fn of<R: Remote>(alloc: Global, first: &R, remotes: u32) -> Result<Setup, NoMemory>
         ensures settings { IfOk result (λ s. s.settings ≡ R.settings first.now) }
         ensures remotes { IfOk result (λ s. s.remotes ≡ remotes) }
+        ensures about { IfOk result (λ s. s.about ≡ None) }
     {
         let settings = names(alloc, first)?;
-        Ok(Setup { settings, remotes })
+        Ok(Setup {
+            settings,
+            remotes,
+            about: None,
+        })
+    }
+
+    /// Whether a line that spells no message is answered.
+    pub(crate) fn answers_strange(&self) -> bool
+        ensures { result ≡ answers_strange self.now }
+    {
+        self.about.is_some()
     }
 
     /// The name of the setting of that number, from 0.

@@ -1,6 +1,4 @@
-use Rattle.std.proofs.Common.{◌≡◌, ◌∙◌, ℕ, List, [], ◌∷◌, map, refl, sym, ap, subst, true, length, arith}
-use Rattle.std.specs.Prelude.{All, reverse}
-use Rattle.std.proofs.lemmas.List.{length-map}
+use Rattle.std.proofs.Common.{◌≡◌, [], refl, sym, subst, true, length, arith}
 use Rattle.crew_round.proofs.Dealing.{pairwise_length}
 use Rattle.hall.specs.Passes.{IsPassOf}
 use Rattle.kit_async_core.specs.Halls.{KitHall}

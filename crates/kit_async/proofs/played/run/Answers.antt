@@ -1,4 +1,4 @@
-use Rattle.std.proofs.Common.{◌≡◌, None, Option, true, refl, sym, subst, map, ap, ◌∙◌, length, arith}
+use Rattle.std.proofs.Common.{◌≡◌, Option, true, refl, sym, subst, map, ap, ◌∙◌, length, arith}
 use Rattle.std.specs.Prelude.{All}
 use Rattle.crew_round.specs.BackRole.{role_of}
 use Rattle.crew_round.proofs.Dealing.{pairwise_length}

@@ -1,13 +1,12 @@
-use Rattle.std.proofs.Common.{◌≡◌, ◌∙◌, inl, inr, ◌++◌, ◌∷◌, [], List, ℕ, None, Some, Option, Bool, true, false, sym, ap, subst, refl, length, get_or, rules, tests, arith}
-use Rattle.std.specs.Prelude.{position, set, not, ◌&&◌, slice_get, IfSome}
+use Rattle.std.proofs.Common.{◌≡◌, ◌∙◌, inl, [], List, Option, true, sym, ap, subst, refl, rules, tests, arith}
+use Rattle.std.specs.Prelude.{position, not, ◌&&◌, IfSome}
 use Rattle.kit_core.specs.Calls.{is_line_said}
 use Rattle.kit_async_model.specs.declared.job.Job.{Job}
 use Rattle.kit_async_model.specs.Books.{BookValue}
 use Rattle.kit_async_model.specs.Jobs.{settles}
 use Rattle.kit_async_model.specs.Legality.{is_called}
-use Rattle.kit_async_model.proofs.Fronts.{both}
 use Rattle.kit_async_model.proofs.Places.{found_place}
-use Rattle.kit_async_core.proofs.Calls.{not_false, odd_line, odd_call, called_at, some_room, noted_took}
+use Rattle.kit_async_core.proofs.Calls.{odd_call, called_at, some_room, noted_took}
 use Rattle.kit_async_core.proofs.book.Book.call.Goals as goal
 
 pub returns-in_default : goal.returns-in_default
@@ -52,4 +51,4 @@ returns c =
     let owed : c.is_owed.result ≡ (not old.stands.over && settles setup k.job c.args.said) =
     subst (λ (o : Option Job). IfSome o (λ job. c.is_owed.result ≡ (not old.stands.over && settles setup job c.args.said))) k.there c.is_owed.ensures in
     inl (noted_took setup old c.note_call.new.self c.args.remote c.args.said c.in-Some.at
-    (subst (λ (v : BookValue). v.stands.due ≡ None) c.self.view_is refl) c.requires.apart k c.note_call.ensures (sym owed ∙ c.if-is_owed.false))
+    (subst (λ (v : BookValue). v.stands.due ≡ []) c.self.view_is refl) c.requires.apart k c.note_call.ensures (sym owed ∙ c.if-is_owed.false))

@@ -1,12 +1,11 @@
-use Rattle.std.proofs.Common.{◌≡◌, ◌∙◌, ◌++◌, ◌∷◌, ◌+◌, ◌*◌, [], List, ℕ, None, Some, Option, Bool, true, sym, ap, subst, refl, length, rules, arith}
-use Rattle.std.specs.Prelude.{◌||◌, set, slice_get, option_map, IfSome}
+use Rattle.std.proofs.Common.{◌≡◌, ◌∙◌, ◌++◌, ◌∷◌, [], List, ℕ, Some, Option, sym, ap, subst, length, arith}
+use Rattle.std.specs.Prelude.{set, slice_get, option_map, IfSome}
 use Rattle.annex_model.specs.Messages.{Getconfig, remote_line}
-use Rattle.kit_async_model.specs.declared.entry.Entry.{Entry}
 use Rattle.kit_async_model.specs.declared.entry.Entry.TheVariants.{Heard, Say}
 use Rattle.kit_async_model.specs.declared.job.Job.{Job}
-use Rattle.kit_async_model.specs.Books.{BookValue, most_calls}
-use Rattle.kit_async_model.specs.Jobs.{request_of, job_line}
-use Rattle.kit_async_model.specs.Standings.{Standing, unexpected_line, starts_tags}
+use Rattle.kit_async_model.specs.Books.{BookValue}
+use Rattle.kit_async_model.specs.Jobs.{job_line}
+use Rattle.kit_async_model.specs.Standings.{Standing}
 use Rattle.kit_async_model.proofs.Places.{read_is}
 use Rattle.kit_async_core.proofs.Hears.{told_more_took}
 use Rattle.kit_async_core.proofs.book.Book.tell_more.Goals as goal
@@ -15,7 +14,7 @@ pub returns-clause-ok : goal.returns-clause-ok
 returns-clause-ok c =
     let line : List ℕ = c.args.line in
     let i = c.self.inside in
-    let s : Standing = record { due = None; tagged = i.tagged; prepared = i.prepared; jobs = i.jobs.items; over = i.over; closed = i.closed; unwritten = i.unwritten.items } in
+    let s : Standing = record { due = []; tagged = i.tagged; prepared = i.prepared; told = i.told; jobs = i.jobs.items; over = i.over; closed = i.closed; unwritten = i.unwritten.items } in
     let values : List (List ℕ) = c.args.values in
     let place : ℕ = c.args.at in
     let there = subst (λ (v : BookValue). slice_get v.stands.jobs place ≡ Some c.requires.is.job) (sym c.self.view_is) c.requires.is.there in
@@ -30,5 +29,5 @@ returns-clause-ok c =
     ∙ ap (λ (v : BookValue). v.journal ++ Heard line ∷ Say c.requires.is.job.number said ∷ []) c.self.view_is)
     (ap (λ (us : List (List ℕ)). record s { jobs = set s.jobs place (record c.index_mut.result.now { values = values }); unwritten = us }) c.in_ok-note_said.ensures.unwritten
     ∙ ap (λ (j : Job). record s { jobs = set s.jobs place (record j { values = values }); unwritten = s.unwritten ++ said ∷ [] }) job
-    ∙ ap (λ (v : BookValue). record v.stands { due = None; jobs = set v.stands.jobs place (record c.requires.is.job { values = values }); unwritten = v.stands.unwritten ++ said ∷ [] }) c.self.view_is)
+    ∙ ap (λ (v : BookValue). record v.stands { due = []; jobs = set v.stands.jobs place (record c.requires.is.job { values = values }); unwritten = v.stands.unwritten ++ said ∷ [] }) c.self.view_is)
     (omega (arith, c.in_ok-note_said.ensures.room, ap (λ (v : BookValue). v.room) c.self.view_is))

@@ -1,12 +1,11 @@
-use Rattle.std.proofs.Common.{◌∙◌, [], map, ap, sym, subst}
+use Rattle.std.proofs.Common.{[], map, sym, subst}
 use Rattle.kit_async_roles.specs.Calling.{hand_of}
 use Rattle.kit_async_roles.specs.Passes.{half_of}
 use Rattle.kit_async_roles.specs.Reading.{ear_of}
 use Rattle.kit_async_roles.specs.Writing.{mouth_of}
 use Rattle.kit_async.specs.Endings.{AllWorked, ReaderDid, WriterDid}
-use Rattle.kit_async.specs.Served.{setup_of}
 use Rattle.kit_async.proofs.Kept.{caused, same_settings, served}
-use Rattle.kit_async.proofs.serving.serve_async_some.Goals as goal
+use Rattle.kit_async.proofs.serving.serve_over.Goals as goal
 
 pub returns-clause-serves : goal.returns-clause-serves
 returns-clause-serves g c =
@@ -19,7 +18,7 @@ returns-clause-serves g c =
     (subst (λ x. WriterDid c.in-Ok.hall c.play-kit.result.0.passes.items (mouth_of (g.W.Sink.taken c.args.sink) (half_of (g.W.Sink.faults c.args.sink) (g.W.Sink.is_open c.args.sink) (g.W.Sink.number c.args.sink))) (mouth_of (g.W.Sink.taken x) (half_of (g.W.Sink.faults x) (g.W.Sink.is_open x) (g.W.Sink.number x))) c.play-kit.result.1.wrote) (sym e.kept.2) p.wrote)
     (subst (λ x. AllWorked c.in-Ok.hall c.play-kit.result.0.passes.items 0 (map (λ k. hand_of (g.K.Remote.calls k) (g.K.Remote.settings k)) c.args.remotes.items) (map (λ k. hand_of (g.K.Remote.calls k) (g.K.Remote.settings k)) x.items)) (sym e.kept.0) p.worked)
     e.why
-    (setup_of g.K.Remote.settings c.args.remotes.items) e.closed b.0 (b.1 ∙ ap (setup_of g.K.Remote.settings) c.deref.ensures.value)
+    c.args.setup e.closed b.0 b.1
 
 pub returns-clause-causes : goal.returns-clause-causes
 returns-clause-causes g c =
