@@ -1,5 +1,5 @@
 -- What the lines and the calls of one job mean: what a kit that serves one job at a time says to its request.
-use Rattle.std.specs.Prelude.{ℕ, ◌≡◌, ◌⊎◌, ◌+◌, ◌==◌, ◌&&◌, Bool, true, false, if◌then◌else◌, List, [], ◌∷◌, ◌++◌, map, length, Option, Some, None, IsTrue}
+use Rattle.std.specs.Prelude.{ℕ, ◌≡◌, ◌⊎◌, ◌+◌, ◌-◌, ◌≤◌, ◌==◌, ◌&&◌, Bool, true, false, if◌then◌else◌, List, [], ◌∷◌, ◌++◌, map, length, Option, Some, None, IsTrue}
 use Rattle.std.specs.List.{list_all}
 use Rattle.annex_model.specs.Messages.{HostMessage, Value, Getconfig, host_reading, remote_line}
 use Rattle.annex_model.specs.Tags.{untag, without_tag}
@@ -62,6 +62,13 @@ items_until setup s number (entry ∷ rest) =
     if begins_job setup s number entry then []
     else of_job number (item_of setup s entry) ++ items_until setup (after setup s entry) number rest
 
+-- the job of that number is open after the entries, or before its number's next
+abbrev pub stays_open : Setup → Standing → ℕ → List Entry → Bool
+stays_open setup s number [] = is_open (job_of s.jobs number)
+stays_open setup s number (entry ∷ rest) =
+    if begins_job setup s number entry then is_open (job_of s.jobs number)
+    else stays_open setup (after setup s entry) number rest
+
 -- the items of the job that the line begins, which was heard after the past
 abbrev pub job_items : Setup → List Entry → List ℕ → ℕ → List Entry → List Item
 job_items setup past line number rest =
@@ -87,14 +94,17 @@ pub record IsReadied (setup : Setup) (request : Option HostMessage) (items : Lis
   pub firsts : List Said
   pub last : Said
   pub all : length values ≡ length setup.settings
+  -- the last that is called is one of them
+  pub few : length firsts ≤ setup.remotes - 1
   pub agree : IsTrue (list_all is_yes firsts)
   pub ends : (is_yes last ≡ false) ⊎ (length firsts + 1 ≡ setup.remotes)
   pub are : items ≡ Told request ∷ asked_values setup.settings values ++ calls_from 0 (firsts ++ last ∷ []) ++ Says (remote_line (final_line request last)) ∷ []
 
 -- a request for a key: one call of one remote, and the line for what it said
-pub record IsWorked (request : Option HostMessage) (items : List Item) : Type 0 where
+pub record IsWorked (setup : Setup) (request : Option HostMessage) (items : List Item) : Type 0 where
   pub remote : ℕ
   pub said : Said
+  pub among : remote ≤ setup.remotes - 1
   pub are : items ≡ Told request ∷ Calls remote said ∷ Says (remote_line (final_line request said)) ∷ []
 
 -- a request that is answered at once: its lines in their order, of which there is one at least
@@ -105,7 +115,7 @@ IsSaid (line ∷ lines) request items = items ≡ Told request ∷ map (λ l. Sa
 abbrev pub IsByDue : Setup → List (List ℕ) → Due → Option HostMessage → List Item → Type 0
 IsByDue setup told Silence request items = IsSaid (lines_about setup.about told Silence request) request items
 IsByDue setup told (Line line) request items = IsSaid (lines_about setup.about told (Line line) request) request items
-IsByDue setup told (Asks asked) request items = IsWorked request items
+IsByDue setup told (Asks asked) request items = IsWorked setup request items
 
 abbrev pub IsSettledBy : Bool → Setup → Standing → Option HostMessage → List Item → Type 0
 IsSettledBy true setup s request items = IsReadied setup request items
@@ -116,8 +126,13 @@ abbrev pub IsSettled : Setup → Standing → Option HostMessage → List Item �
 IsSettled setup s request items = IsSettledBy (is_readying request) setup s request items
 
 -- of a job that isn't settled they go on to such ones
-abbrev pub IsMeant : Setup → Standing → Option HostMessage → List Item → Type 0
-IsMeant setup s request items = (more : List Item) × IsSettled setup s request (items ++ more)
+abbrev pub GoesOn : Setup → Standing → Option HostMessage → List Item → Type 0
+GoesOn setup s request items = (more : List Item) × IsSettled setup s request (items ++ more)
+
+-- of a job that is open, or that is settled
+abbrev pub IsMeant : Bool → Setup → Standing → Option HostMessage → List Item → Type 0
+IsMeant true setup s request items = GoesOn setup s request items
+IsMeant false setup s request items = IsSettled setup s request items
 
 -- ---- what is to be shown of a legal journal
 
@@ -127,4 +142,5 @@ JobsAreMeant =
     (setup : Setup) (past rest : List Entry) (line : List ℕ) (number : ℕ)
     → is_legal setup (past ++ Heard line ∷ rest) ≡ true
     → hearing_of setup (standing setup past).jobs (standing setup past).tagged line ≡ AsksJob number
-    → IsMeant setup (standing setup past) (host_reading (text_in (standing setup past).tagged line)) (job_items setup past line number rest)
+    → IsMeant (stays_open setup (after setup (standing setup past) (Heard line)) number rest) setup (standing setup past) (host_reading (text_in (standing setup past).tagged line))
+    (job_items setup past line number rest)
