@@ -1,5 +1,5 @@
 -- A line of the host, and an open job.
-use Rattle.std.proofs.Common.{◌≡◌, ◌⊎◌, inl, inr, ℕ, List, [], ◌∷◌, refl, sym, ap, subst, ◌∙◌, Bool, true, false, ◌==◌, Some, Option, arith}
+use Rattle.std.proofs.Common.{◌≡◌, ◌⊎◌, inl, inr, ℕ, List, [], ◌∷◌, refl, sym, ap, subst, ◌∙◌, Bool, true, false, ◌==◌, Some, Option, arith, ◌++◌}
 use Rattle.std.specs.Prelude.{map}
 use Rattle.std.specs.List.{list_any}
 use Rattle.annex_model.specs.Messages.{HostMessage, Value, Getconfig, host_reading, remote_line}
@@ -25,47 +25,48 @@ use Rattle.kit_async_laws.proofs.Steps.{Steps, Moves, job_other, due_other, of_o
 -- ---- a value for the job
 
 -- what is due after the value
-pub told_in : (setup : Setup) (told : List (List ℕ)) (n : ℕ) (request : Option HostMessage) (job : Job) (over : Bool) (names : List (List ℕ)) → job.number ≡ n
-    → IsReadying setup request job names 0 → IsIn setup n request job (due_of_job setup told job) over (asking names)
-told_in setup told n request job over [] is r =
-    let silent : lines_in setup told job ≡ [] = readying_lines setup told request job [] 0 r in
+pub told_in : (setup : Setup) (told : List (List ℕ)) (n : ℕ) (request : Option HostMessage) (job : Job) (over : Bool) (values names : List (List ℕ)) → job.number ≡ n
+    → IsReadying setup request job values names 0 → IsIn setup n request job (due_of_job setup told job) over (asking values names)
+told_in setup told n request job over values [] is r =
+    let silent : lines_in setup told job ≡ [] = readying_lines setup told request job values [] 0 r in
     let none : due_of_job setup told job ≡ [] = ap (map (λ (line : List ℕ). (job.number, line))) silent in
     (r, omega arith, inr (none_due n (due_of_job setup told job) none))
-told_in setup told n request job over (name ∷ names) is r =
-    let asks : lines_in setup told job ≡ remote_line (Getconfig name) ∷ [] = readying_lines setup told request job (name ∷ names) 0 r in
+told_in setup told n request job over values (name ∷ names) is r =
+    let asks : lines_in setup told job ≡ remote_line (Getconfig name) ∷ [] = readying_lines setup told request job values (name ∷ names) 0 r in
     (r, inr (ap (map (λ (line : List ℕ). (job.number, line))) asks ∙ ap (λ (k : ℕ). (k, remote_line (Getconfig name)) ∷ []) is))
 
-told_moves : (setup : Setup) (s : Standing) (n : ℕ) (request : Option HostMessage) (text : List ℕ) (names : List (List ℕ)) (name : List ℕ) (job : Job)
-    → Tells text → job_of s.jobs n ≡ Some job → IsReadying setup request job (name ∷ names) 0
-    → Moves setup n request (Awaiting names) (of_job n (Some (n, Told (host_reading text)))) (with_told setup s n (value_told (host_reading text)))
-told_moves setup s n request text names name job t found r =
-    let value : List ℕ = value_told (host_reading text) in
-    let now : job_of (with_job n (with_value value) s.jobs) n ≡ Some (with_value value job) = job_changed (with_value value) s.jobs n job (λ j. refl) found in
-    let due : due_of_job setup s.told (with_value value job) ≡ (with_told setup s n value).due = ap (due_of setup s.told) (sym now) in
+told_moves : (setup : Setup) (s : Standing) (n : ℕ) (request : Option HostMessage) (text : List ℕ) (values names : List (List ℕ)) (name : List ℕ) (job : Job)
+    → (t : Tells text) → job_of s.jobs n ≡ Some job → IsReadying setup request job values (name ∷ names) 0
+    → Moves setup n request (Awaiting values names) (of_job n (Some (n, Told (host_reading text)))) (with_told setup s n t.value)
+told_moves setup s n request text values names name job t found r =
+    let now : job_of (with_job n (with_value t.value) s.jobs) n ≡ Some (with_value t.value job) = job_changed (with_value t.value) s.jobs n job (λ j. refl) found in
+    let due : due_of_job setup s.told (with_value t.value job) ≡ (with_told setup s n t.value).due = ap (due_of setup s.told) (sym now) in
     record {
-      to = asking names;
+      to = asking (values ++ t.value ∷ []) names;
       item = Told (Some (Value t.value));
       are = of_own n (Told (host_reading text)) (same_number n) ∙ ap (λ (m : Option HostMessage). Told m ∷ []) t.reads;
       at = record {
-        job = with_value value job;
+        job = with_value t.value job;
         found = now;
-        is = subst (λ (d : List (ℕ × List ℕ)). IsIn setup n request (with_value value job) d s.over (asking names)) due
-            (told_in setup s.told n request (with_value value job) s.over names (number_of s.jobs n job found) (readying_value setup request job value name names 0 r));
+        is = subst (λ (d : List (ℕ × List ℕ)). IsIn setup n request (with_value t.value job) d s.over (asking (values ++ t.value ∷ []) names)) due
+            (told_in setup s.told n request (with_value t.value job) s.over (values ++ t.value ∷ []) names (number_of s.jobs n job found) (readying_value setup request job values t.value name names 0 r));
       };
-      left = told_left setup request t.value names;
+      left = told_left setup request values t.value names;
     }
 
 told_own : (setup : Setup) (s : Standing) (n : ℕ) (request : Option HostMessage) (text : List ℕ) (p : Phase) (job : Job) → Tells text → job_of s.jobs n ≡ Some job
     → is_awaiting setup job ≡ true → s.due ≡ [] → s.over ≡ false → IsIn setup n request job s.due s.over p
     → Steps setup n request p (of_job n (Some (n, Told (host_reading text)))) (with_told setup s n (value_told (host_reading text)))
 told_own setup s n request text (Saying line lines) job t found a d o k = absurd (never (is_awaiting setup job) a k.0.told)
-told_own setup s n request text Working job t found a d o k = absurd (never (is_awaiting setup job) a (rw k.0.unready refl))
-told_own setup s n request text (Calling remote) job t found a d o k = absurd (never (is_awaiting setup job) a (readying_told setup request job remote k.0))
-told_own setup s n request text (Awaiting names) job t found a d o k = inr (inl (told_moves setup s n request text names k.0.0 job t found k.0.1))
-told_own setup s n request text (Asking name names) job t found a d o k = unasked k.1
+told_own setup s n request text (Working asked) job t found a d o k = absurd (never (is_awaiting setup job) a (rw k.0.unready refl))
+told_own setup s n request text (Calling values remote) job t found a d o k = absurd (never (is_awaiting setup job) a (readying_told setup request job values remote k.0))
+told_own setup s n request text (Awaiting values names) job t found a d o k =
+    inr (inl (subst (λ (value : List ℕ). Moves setup n request (Awaiting values names) (of_job n (Some (n, Told (host_reading text)))) (with_told setup s n value)) (sym (ap value_told t.reads))
+    (told_moves setup s n request text values names k.0.0 job t found k.0.1)))
+told_own setup s n request text (Asking values name names) job t found a d o k = unasked k.1
   where
     unasked : (s.over ≡ true) ⊎ (s.due ≡ (n, remote_line (Getconfig name)) ∷ [])
-        → Steps setup n request (Asking name names) (of_job n (Some (n, Told (host_reading text)))) (with_told setup s n (value_told (host_reading text)))
+        → Steps setup n request (Asking values name names) (of_job n (Some (n, Told (host_reading text)))) (with_told setup s n (value_told (host_reading text)))
     unasked (inl e) = absurd cc
     unasked (inr e) = absurd cc
 

@@ -3,7 +3,7 @@ use Rattle.std.proofs.Common.{◌≡◌, inl, inr, ℕ, List, [], ◌∷◌, ◌
 use Rattle.std.specs.Prelude.{◌&&◌, map}
 use Rattle.std.specs.List.{list_any}
 use Rattle.annex_model.specs.Messages.{HostMessage, host_reading}
-use Rattle.kit_core.specs.Kits.{Due, Silence, Line, Asks, is_readying}
+use Rattle.kit_core.specs.Kits.{asked_by, Due, Silence, Line, Asks, is_readying}
 use Rattle.kit_async_model.specs.declared.setup.Setup.{Setup}
 use Rattle.kit_async_model.specs.declared.job.Job.{Job}
 use Rattle.kit_async_model.specs.declared.entry.Entry.{Entry}
@@ -110,22 +110,22 @@ left_from setup s n request p (e ∷ rest) a at h =
 
 -- what comes next of a request: its lines, or a call
 abbrev said_phase : List (List ℕ) → Phase
-said_phase [] = Working
+said_phase [] = Saying [] []
 said_phase (line ∷ lines) = Saying line lines
 
 abbrev phase_by : Setup → List (List ℕ) → Due → Option HostMessage → Phase
 phase_by setup told Silence request = said_phase (lines_about setup.about told Silence request)
 phase_by setup told (Line line) request = said_phase (lines_about setup.about told (Line line) request)
-phase_by setup told (Asks asked) request = Working
+phase_by setup told (Asks asked) request = Working asked
 
 abbrev phase_of : Setup → List (List ℕ) → Bool → Option HostMessage → Bool → Phase
-phase_of setup told prepared request true = asking setup.settings
+phase_of setup told prepared request true = asking [] setup.settings
 phase_of setup told prepared request false = phase_by setup told (request_due None [] prepared request) request
 
 -- a job that is new
 new_readying : (setup : Setup) (n : ℕ) (text : List ℕ) (prepared : Bool) → is_readying (host_reading text) ≡ true
-    → IsReadying setup (host_reading text) (new_job n text prepared) setup.settings 0
-new_readying setup n text prepared r = record { request_is = refl; ready = r; left_is = refl; calls_are = refl; unsettled = refl }
+    → IsReadying setup (host_reading text) (new_job n text prepared) [] setup.settings 0
+new_readying setup n text prepared r = record { request_is = refl; ready = r; values_are = refl; left_is = refl; calls_are = refl; unsettled = refl }
 
 said_in_phase : (setup : Setup) (n : ℕ) (request : Option HostMessage) (job : Job) (due : List (ℕ × List ℕ)) (over : Bool) (lines : List (List ℕ)) → SomeLines lines
     → due ≡ map (λ line. (n, line)) lines → IsLast setup job → IsIn setup n request job due over (said_phase lines)
@@ -161,14 +161,14 @@ new_other_in setup n text prepared told over r b = go (request_due None [] prepa
     go (Asks asked) e =
         let none : lines_about setup.about (if_prepared prepared told) (Asks asked) (host_reading text) ≡ [] =
         answers setup (if_prepared prepared told) prepared (host_reading text) b (Asks asked) e in (
-          record { request_is = refl; unready = r; among = λ remote h. absurd cc },
+          record { request_is = refl; asks = ap asked_by (due ∙ e); unready = r; among = λ remote h. absurd cc },
           inr (none_due n (due_of_job setup told job) (lines (Asks asked) e ∙ ap (map (λ (line : List ℕ). (n, line))) none)),
         )
 
 new_in : (setup : Setup) (n : ℕ) (text : List ℕ) (prepared : Bool) (told : List (List ℕ)) (over : Bool) → Begins setup (host_reading text) → (b : Bool) → is_readying (host_reading text) ≡ b
     → IsIn setup n (host_reading text) (new_job n text prepared) (due_of_job setup told (new_job n text prepared)) over
     (phase_of setup (if_prepared prepared told) prepared (host_reading text) b)
-new_in setup n text prepared told over b true r = told_in setup told n (host_reading text) (new_job n text prepared) over setup.settings refl (new_readying setup n text prepared r)
+new_in setup n text prepared told over b true r = told_in setup told n (host_reading text) (new_job n text prepared) over [] setup.settings refl (new_readying setup n text prepared r)
 new_in setup n text prepared told over b false r = new_other_in setup n text prepared told over r b
 
 -- ---- a whole job
@@ -184,11 +184,11 @@ due_settled setup told prepared request b Silence e items k =
     said_settled setup request (lines_about setup.about told Silence request) (answers setup told prepared request b Silence e) items k
 due_settled setup told prepared request b (Line line) e items k =
     said_settled setup request (lines_about setup.about told (Line line) request) (answers setup told prepared request b (Line line) e) items k
-due_settled setup told prepared request b (Asks asked) e items k = worked setup request items k
+due_settled setup told prepared request b (Asks asked) e items k = worked setup asked request items k
 
 settled_by : (setup : Setup) (s : Standing) (request : Option HostMessage) → Begins setup request → (b : Bool) → (items : List Item)
     → IsLeft setup request (phase_of setup (if_prepared s.prepared s.told) s.prepared request b) items → IsSettledBy b setup s request (Told request ∷ items)
-settled_by setup s request b true items k = readied setup request items (asking_left setup request setup.settings items k)
+settled_by setup s request b true items k = readied setup request items (asking_left setup request [] setup.settings items k)
 settled_by setup s request b false items k =
     due_settled setup (if_prepared s.prepared s.told) s.prepared request b (request_due None [] s.prepared request) refl items k
 

@@ -6,7 +6,8 @@ use Rattle.annex_model.specs.Messages.{RemoteMessage, Getconfig, UnsupportedRequ
 use Rattle.annex_model.specs.Messages.{HostMessage, Prepare, Initremote, Transfer, Listconfigs, Getcost, Getavailability, Getinfo, Export, Value, Creds, HostError}
 use Rattle.annex_model.proofs.Readings.{spelled_of_host}
 use Rattle.kit_core.specs.declared.call.Asked.{Asked}
-use Rattle.kit_core.specs.Kits.{Due, Silence, Line, Asks, is_value, is_creds, is_error, is_unexpected, is_readying, refusal, transfer_asked}
+use Rattle.kit_core.specs.declared.call.Asked.TheVariants.{Prepare as AskPrepare}
+use Rattle.kit_core.specs.Kits.{Due, Silence, Line, Asks, is_value, is_creds, is_error, is_unexpected, is_readying, refusal, transfer_asked, asked_by}
 use Rattle.kit_async_model.specs.declared.about.About.{About}
 use Rattle.kit_async_model.specs.declared.hearing.Hearing.{Hearing}
 use Rattle.kit_async_model.specs.declared.hearing.Hearing.TheVariants.{Foul, Unexpected, Aside, Asks as AsksJob, Replies}
@@ -37,6 +38,13 @@ ready_lines None told (Some name) values prepared (Some Initremote) h = refl
 ready_lines (Some about) told None values prepared (Some Initremote) h = refl
 ready_lines (Some about) told (Some name) values prepared (Some Initremote) h = refl
 ready_lines about told next values prepared (Some m) h = absurd cc
+
+-- and else the remotes for these values
+pub ready_asked : (values : List (List ℕ)) (prepared : Bool) (r : Option HostMessage) → is_readying r ≡ true → asked_by (request_due None values prepared r) ≡ Some (AskPrepare values)
+ready_asked values prepared None h = absurd cc
+ready_asked values prepared (Some Prepare) h = refl
+ready_asked values prepared (Some Initremote) h = refl
+ready_asked values prepared (Some m) h = absurd cc
 
 -- ---- what a request is
 

@@ -131,20 +131,20 @@ more_said setup s n request line text next lines job found o k d t =
       left = said_left setup request text next lines;
     }
 
-asked_said : (setup : Setup) (s : Standing) (n : ℕ) (request : Option HostMessage) (line name : List ℕ) (names : List (List ℕ)) (job : Job) → job_of s.jobs n ≡ Some job → s.over ≡ false
-    → IsIn setup n request job s.due s.over (Asking name names) → s.due ≡ (n, remote_line (Getconfig name)) ∷ [] → said_text n line ≡ remote_line (Getconfig name)
-    → Moves setup n request (Asking name names) (of_job n (said_item s n line)) (said_in setup (said_line s line) (Some job))
-asked_said setup s n request line name names job found o k d t =
-    let awaits : is_awaiting setup job ≡ true = readying_awaits setup request job name names 0 k.0 in
+asked_said : (setup : Setup) (s : Standing) (n : ℕ) (request : Option HostMessage) (line name : List ℕ) (values names : List (List ℕ)) (job : Job) → job_of s.jobs n ≡ Some job → s.over ≡ false
+    → IsIn setup n request job s.due s.over (Asking values name names) → s.due ≡ (n, remote_line (Getconfig name)) ∷ [] → said_text n line ≡ remote_line (Getconfig name)
+    → Moves setup n request (Asking values name names) (of_job n (said_item s n line)) (said_in setup (said_line s line) (Some job))
+asked_said setup s n request line name values names job found o k d t =
+    let awaits : is_awaiting setup job ≡ true = readying_awaits setup request job values name names 0 k.0 in
     let none : drop 1 s.due ≡ [] = ap (drop 1) d in
     let e : (is_some_due (drop 1 s.due) || s.over || is_awaiting setup job) ≡ true = rw (none, o, awaits) refl in
     let stays : said_in setup (said_line s line) (Some job) ≡ said_line s line = rw e refl in
     record {
-      to = Awaiting names;
+      to = Awaiting values names;
       item = Says (remote_line (Getconfig name));
       are = said_own n s job line (remote_line (Getconfig name)) found o t;
-      at = subst (λ (u : Standing). At setup u n request (Awaiting names)) (sym stays) (record { job = job; found = found; is = ((name, k.0), inr (ap (is_due_of n) none)) });
-      left = asked_left setup request name names;
+      at = subst (λ (u : Standing). At setup u n request (Awaiting values names)) (sym stays) (record { job = job; found = found; is = ((name, k.0), inr (ap (is_due_of n) none)) });
+      left = asked_left setup request values name names;
     }
 
 own_said : (setup : Setup) (s : Standing) (n : ℕ) (request : Option HostMessage) (line : List ℕ) (p : Phase) (job : Job) (d : ℕ × List ℕ) (rest : List (ℕ × List ℕ)) → job_of s.jobs n ≡ Some job
@@ -156,12 +156,12 @@ own_said setup s n request line (Saying text []) job d rest found o e h l k =
 own_said setup s n request line (Saying text (next ∷ lines)) job d rest found o e h l k =
     let due : s.due ≡ map (λ (t : List ℕ). (n, t)) (text ∷ next ∷ lines) = owed_due n (text ∷ next ∷ lines) s.due s.over o k.1 in
     inr (inl (more_said setup s n request line text next lines job found o k due (own_text n text line s.due (map (λ (t : List ℕ). (n, t)) (next ∷ lines)) rest d e due l)))
-own_said setup s n request line (Asking name names) job d rest found o e h l k =
+own_said setup s n request line (Asking values name names) job d rest found o e h l k =
     let due : s.due ≡ (n, remote_line (Getconfig name)) ∷ [] = owed_due n (remote_line (Getconfig name) ∷ []) s.due s.over o k.1 in
-    inr (inl (asked_said setup s n request line name names job found o k due (own_text n (remote_line (Getconfig name)) line s.due [] rest d e due l)))
-own_said setup s n request line Working job d rest found o e h l k = due_never n s.due rest d s.over e h o k.1
-own_said setup s n request line (Awaiting names) job d rest found o e h l k = due_never n s.due rest d s.over e h o k.1
-own_said setup s n request line (Calling remote) job d rest found o e h l k = due_never n s.due rest d s.over e h o k.2
+    inr (inl (asked_said setup s n request line name values names job found o k due (own_text n (remote_line (Getconfig name)) line s.due [] rest d e due l)))
+own_said setup s n request line (Working asked) job d rest found o e h l k = due_never n s.due rest d s.over e h o k.1
+own_said setup s n request line (Awaiting values names) job d rest found o e h l k = due_never n s.due rest d s.over e h o k.1
+own_said setup s n request line (Calling values remote) job d rest found o e h l k = due_never n s.due rest d s.over e h o k.2
 
 -- ---- any line
 

@@ -14,7 +14,7 @@ use Rattle.kit_async_model.specs.Jobs.{is_awaiting, job_of, settles}
 use Rattle.kit_async_model.specs.Hearings.{text_in, value_told, hearing_of, is_open}
 use Rattle.kit_async_model.specs.Legality.{some_job, is_called, may_come, comes_where, follows, legal_from}
 use Rattle.kit_async_model.specs.Standings.{Standing, new_job, with_value, with_taken, with_call, called_in, said_line, said_in, heard_as, after, is_some_due}
-use Rattle.kit_async_model.specs.Meanings.{Item, Told, Says, Calls, told_item, said_item, item_of, of_job, asks_for, begins_job, items_until, stays_open, said_text}
+use Rattle.kit_async_model.specs.Meanings.{asked_in, Item, Told, Says, Calls, told_item, said_item, item_of, of_job, asks_for, begins_job, items_until, stays_open, said_text}
 use Rattle.kit_async_model.proofs.Apart.{Awaits, replies_awaited}
 use Rattle.kit_async_model.proofs.Askings.{equal_is, decided, never}
 use Rattle.kit_async_model.proofs.Fronts.{both}
@@ -70,7 +70,7 @@ comes_rests setup s n (Call m remote said) g b h =
     let other : (m == n) ≡ false =
     decided (m == n)
     (λ (e : (m == n) ≡ true). never (some_job (is_called setup s.jobs remote) n s.jobs) (subst (λ (k : ℕ). some_job (is_called setup s.jobs remote) k s.jobs ≡ true) (equal_is m n e) some) (none_passes (is_called setup s.jobs remote) s.jobs n g)) in
-    record { none = of_other m n (Calls remote said) other; gone = called_rests setup s n said (job_of s.jobs m) g }
+    record { none = of_other m n (Calls remote (asked_in setup (job_of s.jobs m)) said) other; gone = called_rests setup s n said (job_of s.jobs m) g }
 comes_rests setup s n (Say m line) g b h = absurd cc
 comes_rests setup s n Wrote g b h = record { none = refl; gone = g }
 comes_rests setup s n Close g b h = record { none = refl; gone = g }

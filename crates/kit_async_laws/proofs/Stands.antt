@@ -3,9 +3,11 @@ use Rattle.std.proofs.Common.{◌≡◌, ◌⊎◌, inl, inr, ℕ, ◌-◌, ◌�
 use Rattle.std.specs.Prelude.{nat_lt, map}
 use Rattle.std.specs.List.{list_any}
 use Rattle.annex_model.specs.Messages.{HostMessage, Getconfig, remote_line}
+use Rattle.kit_core.specs.declared.call.Asked.{Asked}
+use Rattle.kit_core.specs.Kits.{asked_by}
 use Rattle.kit_async_model.specs.declared.setup.Setup.{Setup}
 use Rattle.kit_async_model.specs.declared.job.Job.{Job}
-use Rattle.kit_async_model.specs.Jobs.{request_of, is_making_ready, is_awaiting, is_number, job_of}
+use Rattle.kit_async_model.specs.Jobs.{due_in, request_of, is_making_ready, is_awaiting, is_number, job_of}
 use Rattle.kit_async_model.specs.Legality.{is_called}
 use Rattle.kit_async_model.specs.Standings.{Standing}
 use Rattle.kit_async_model.proofs.Places.{neither}
@@ -27,10 +29,11 @@ IsQuiet n due over = (over ≡ true) ⊎ (is_due_of n due ≡ false)
 
 -- ---- each phase
 
--- a job to get ready, which these settings are left of
-pub record IsReadying (setup : Setup) (request : Option HostMessage) (job : Job) (left : List (List ℕ)) (calls : ℕ) : Type 0 where
+-- a job to get ready, with these values, of which these settings are left
+pub record IsReadying (setup : Setup) (request : Option HostMessage) (job : Job) (values left : List (List ℕ)) (calls : ℕ) : Type 0 where
   pub request_is : request_of job ≡ request
   pub ready : is_making_ready job ≡ true
+  pub values_are : job.values ≡ values
   pub left_is : drop (length job.values) setup.settings ≡ left
   pub calls_are : job.calls ≡ calls
   pub unsettled : job.settled ≡ false
@@ -40,21 +43,22 @@ pub record IsLast (setup : Setup) (job : Job) : Type 0 where
   pub told : is_awaiting setup job ≡ false
   pub uncalled : (jobs : List Job) (remote : ℕ) → is_called setup jobs remote job ≡ false
 
-pub record IsWork (setup : Setup) (request : Option HostMessage) (job : Job) : Type 0 where
+pub record IsWork (setup : Setup) (asked : Asked) (request : Option HostMessage) (job : Job) : Type 0 where
   pub request_is : request_of job ≡ request
+  pub asks : asked_by (due_in setup job) ≡ Some asked
   pub unready : is_making_ready job ≡ false
   pub among : (remote : ℕ) → is_number remote job.taken ≡ true → nat_lt remote setup.remotes ≡ true
 
-abbrev pub AwaitsSome : Setup → Option HostMessage → Job → List (List ℕ) → Type 0
-AwaitsSome setup request job names = (name : List ℕ) × IsReadying setup request job (name ∷ names) 0
+abbrev pub AwaitsSome : Setup → Option HostMessage → Job → List (List ℕ) → List (List ℕ) → Type 0
+AwaitsSome setup request job values names = (name : List ℕ) × IsReadying setup request job values (name ∷ names) 0
 
 -- the job, with what is due and whether the kit is over
 abbrev pub IsIn : Setup → ℕ → Option HostMessage → Job → List (ℕ × List ℕ) → Bool → Phase → Type 0
 IsIn setup n request job due over (Saying line lines) = IsLast setup job × IsOwed n (line ∷ lines) due over
-IsIn setup n request job due over Working = IsWork setup request job × IsQuiet n due over
-IsIn setup n request job due over (Asking name names) = IsReadying setup request job (name ∷ names) 0 × IsOwed n (remote_line (Getconfig name) ∷ []) due over
-IsIn setup n request job due over (Awaiting names) = AwaitsSome setup request job names × IsQuiet n due over
-IsIn setup n request job due over (Calling remote) = IsReadying setup request job [] remote × (remote ≤ setup.remotes - 1) × IsQuiet n due over
+IsIn setup n request job due over (Working asked) = IsWork setup asked request job × IsQuiet n due over
+IsIn setup n request job due over (Asking values name names) = IsReadying setup request job values (name ∷ names) 0 × IsOwed n (remote_line (Getconfig name) ∷ []) due over
+IsIn setup n request job due over (Awaiting values names) = AwaitsSome setup request job values names × IsQuiet n due over
+IsIn setup n request job due over (Calling values remote) = IsReadying setup request job values [] remote × (remote ≤ setup.remotes - 1) × IsQuiet n due over
 
 pub record At (setup : Setup) (s : Standing) (n : ℕ) (request : Option HostMessage) (p : Phase) : Type 0 where
   pub job : Job
@@ -62,11 +66,11 @@ pub record At (setup : Setup) (s : Standing) (n : ℕ) (request : Option HostMes
   pub is : IsIn setup n request job s.due s.over p
 
 pub within_of : (setup : Setup) (n : ℕ) (request : Option HostMessage) (job : Job) (due : List (ℕ × List ℕ)) (over : Bool) (p : Phase) → IsIn setup n request job due over p → Within setup p
-within_of setup n request job due over (Calling remote) k = k.1
+within_of setup n request job due over (Calling values remote) k = k.1
 within_of setup n request job due over (Saying line lines) k = tt
-within_of setup n request job due over Working k = tt
-within_of setup n request job due over (Asking name names) k = tt
-within_of setup n request job due over (Awaiting names) k = tt
+within_of setup n request job due over (Working asked) k = tt
+within_of setup n request job due over (Asking values name names) k = tt
+within_of setup n request job due over (Awaiting values names) k = tt
 
 -- ---- what others do
 
@@ -74,10 +78,10 @@ within_of setup n request job due over (Awaiting names) k = tt
 pub is_in_over : (setup : Setup) (n : ℕ) (request : Option HostMessage) (job : Job) (due next : List (ℕ × List ℕ)) (over now : Bool) (p : Phase) → now ≡ true → IsIn setup n request job due over p
     → IsIn setup n request job next now p
 is_in_over setup n request job due next over now (Saying line lines) h k = (k.0, inl h)
-is_in_over setup n request job due next over now Working h k = (k.0, inl h)
-is_in_over setup n request job due next over now (Asking name names) h k = (k.0, inl h)
-is_in_over setup n request job due next over now (Awaiting names) h k = (k.0, inl h)
-is_in_over setup n request job due next over now (Calling remote) h k = (k.0, k.1, inl h)
+is_in_over setup n request job due next over now (Working asked) h k = (k.0, inl h)
+is_in_over setup n request job due next over now (Asking values name names) h k = (k.0, inl h)
+is_in_over setup n request job due next over now (Awaiting values names) h k = (k.0, inl h)
+is_in_over setup n request job due next over now (Calling values remote) h k = (k.0, k.1, inl h)
 
 -- nothing is due, and then none or another's
 owed_never : (n : ℕ) (line : List ℕ) (lines : List (List ℕ)) (due next : List (ℕ × List ℕ)) (over : Bool) → due ≡ [] → IsOwed n (line ∷ lines) due over → IsOwed n (line ∷ lines) next over
@@ -91,10 +95,10 @@ quiet_still n due next over h (inr e) = inr h
 pub is_in_still : (setup : Setup) (n : ℕ) (request : Option HostMessage) (job : Job) (due next : List (ℕ × List ℕ)) (over : Bool) (p : Phase) → due ≡ [] → is_due_of n next ≡ false
     → IsIn setup n request job due over p → IsIn setup n request job next over p
 is_in_still setup n request job due next over (Saying line lines) d e k = (k.0, owed_never n line lines due next over d k.1)
-is_in_still setup n request job due next over Working d e k = (k.0, quiet_still n due next over e k.1)
-is_in_still setup n request job due next over (Asking name names) d e k = (k.0, owed_never n (remote_line (Getconfig name)) [] due next over d k.1)
-is_in_still setup n request job due next over (Awaiting names) d e k = (k.0, quiet_still n due next over e k.1)
-is_in_still setup n request job due next over (Calling remote) d e k = (k.0, k.1, quiet_still n due next over e k.2)
+is_in_still setup n request job due next over (Working asked) d e k = (k.0, quiet_still n due next over e k.1)
+is_in_still setup n request job due next over (Asking values name names) d e k = (k.0, owed_never n (remote_line (Getconfig name)) [] due next over d k.1)
+is_in_still setup n request job due next over (Awaiting values names) d e k = (k.0, quiet_still n due next over e k.1)
+is_in_still setup n request job due next over (Calling values remote) d e k = (k.0, k.1, quiet_still n due next over e k.2)
 
 -- another's line is said, and the rest is due
 owed_other : (n : ℕ) (line : List ℕ) (lines : List (List ℕ)) (d : ℕ × List ℕ) (rest : List (ℕ × List ℕ)) (over : Bool) → (d.0 == n) ≡ false → IsOwed n (line ∷ lines) (d ∷ rest) over
@@ -112,7 +116,7 @@ quiet_rest n d rest over (inr e) = inr (neither (d.0 == n) (is_due_of n rest) e)
 pub is_in_rest : (setup : Setup) (n : ℕ) (request : Option HostMessage) (job : Job) (d : ℕ × List ℕ) (rest : List (ℕ × List ℕ)) (over : Bool) (p : Phase) → (d.0 == n) ≡ false
     → IsIn setup n request job (d ∷ rest) over p → IsIn setup n request job rest over p
 is_in_rest setup n request job d rest over (Saying line lines) h k = (k.0, owed_other n line lines d rest over h k.1)
-is_in_rest setup n request job d rest over Working h k = (k.0, quiet_rest n d rest over k.1)
-is_in_rest setup n request job d rest over (Asking name names) h k = (k.0, owed_other n (remote_line (Getconfig name)) [] d rest over h k.1)
-is_in_rest setup n request job d rest over (Awaiting names) h k = (k.0, quiet_rest n d rest over k.1)
-is_in_rest setup n request job d rest over (Calling remote) h k = (k.0, k.1, quiet_rest n d rest over k.2)
+is_in_rest setup n request job d rest over (Working asked) h k = (k.0, quiet_rest n d rest over k.1)
+is_in_rest setup n request job d rest over (Asking values name names) h k = (k.0, owed_other n (remote_line (Getconfig name)) [] d rest over h k.1)
+is_in_rest setup n request job d rest over (Awaiting values names) h k = (k.0, quiet_rest n d rest over k.1)
+is_in_rest setup n request job d rest over (Calling values remote) h k = (k.0, k.1, quiet_rest n d rest over k.2)

@@ -33,11 +33,11 @@ taken_in setup n request job remote due over (Saying line lines) h d o k = never
     never : (over ≡ true) ⊎ (due ≡ map (λ l. (n, l)) (line ∷ lines)) → IsIn setup n request (with_taken remote job) due over (Saying line lines)
     never (inl e) = absurd cc
     never (inr e) = absurd cc
-taken_in setup n request job remote due over Working h d o k =
-    (record { request_is = k.0.request_is; unready = k.0.unready; among = λ other e. taken_among setup remote other h e }, k.1)
-taken_in setup n request job remote due over (Asking name names) h d o k = (readying_taken setup request job remote (name ∷ names) 0 k.0, k.1)
-taken_in setup n request job remote due over (Awaiting names) h d o k = ((k.0.0, readying_taken setup request job remote (k.0.0 ∷ names) 0 k.0.1), k.1)
-taken_in setup n request job remote due over (Calling calls) h d o k = (readying_taken setup request job remote [] calls k.0, k.1, k.2)
+taken_in setup n request job remote due over (Working asked) h d o k =
+    (record { request_is = k.0.request_is; asks = k.0.asks; unready = k.0.unready; among = λ other e. taken_among setup remote other h e }, k.1)
+taken_in setup n request job remote due over (Asking values name names) h d o k = (readying_taken setup request job remote values (name ∷ names) 0 k.0, k.1)
+taken_in setup n request job remote due over (Awaiting values names) h d o k = ((k.0.0, readying_taken setup request job remote values (k.0.0 ∷ names) 0 k.0.1), k.1)
+taken_in setup n request job remote due over (Calling values calls) h d o k = (readying_taken setup request job remote values [] calls k.0, k.1, k.2)
 
 pub not_true : (b : Bool) → not b ≡ true → b ≡ false
 not_true true h = absurd cc
@@ -121,9 +121,9 @@ work_last setup job settled u = record {
   uncalled = λ jobs remote. rw (u, no_more job.calls) (and_false (is_number remote job.taken));
 }
 
-pub ready_last : (setup : Setup) (request : Option HostMessage) (job : Job) (calls : ℕ) → IsReadying setup request job [] calls → IsLast setup (with_call true job)
-ready_last setup request job calls r = record {
-  told = readying_told setup request job calls r;
+pub ready_last : (setup : Setup) (request : Option HostMessage) (job : Job) (values : List (List ℕ)) (calls : ℕ) → IsReadying setup request job values [] calls → IsLast setup (with_call true job)
+ready_last setup request job values calls r = record {
+  told = readying_told setup request job values calls r;
   uncalled = λ jobs remote. rw r.ready (shut (not (is_some (next_name setup (with_call true job)))) (job.calls + 1 == remote) (nat_lt remote setup.remotes) (is_idle jobs remote));
 }
 
