@@ -1,5 +1,5 @@
 -- What the steps of a line of the host come to.
-use Rattle.std.proofs.Common.{◌≡◌, ℕ, ◌+◌, ◌*◌, ◌≤◌, List, [], ◌∷◌, ◌++◌, refl, sym, ap, subst, ◌∙◌, Bool, true, false, not, ◌==◌, cond, Some, None, Option, length, get_or, length-append, append_assoc, arith}
+use Rattle.std.proofs.Common.{suc, ◌≡◌, ℕ, ◌+◌, ◌*◌, ◌≤◌, List, [], ◌∷◌, ◌++◌, refl, sym, ap, subst, ◌∙◌, Bool, true, false, not, ◌==◌, cond, Some, None, Option, length, get_or, length-append, append_assoc, arith}
 use Rattle.std.specs.Prelude.{◌&&◌, ◌||◌, find, position, drop, map, fold, set, slice_get, option_map, is_some, IfSome}
 use Rattle.std.specs.List.{list_any}
 use Rattle.annex_model.specs.Messages.{Getconfig, host_reading, remote_line}
@@ -24,7 +24,8 @@ use Rattle.kit_async_model.specs.Books.{BookValue, AreApart, most_calls, calls_o
 use Rattle.kit_async_model.proofs.Fronts.{both}
 use Rattle.kit_async_model.proofs.Places.{found_none, found_place, read_is, equal, job_last, removal_last, job_there, job_changed, change_there, calls_append, calls_set}
 use Rattle.kit_async_model.proofs.Apart.{asks_new, replies_awaited}
-use Rattle.kit_async_model.proofs.Askings.{never, no_more}
+use Rattle.kit_async_model.proofs.Askings.{never}
+use Rattle.kit_async_model.proofs.FactLines.{not_zero}
 
 not_true : (b : Bool) → not b ≡ true → b ≡ false
 not_true true h = absurd cc
@@ -261,8 +262,8 @@ some_there (line ∷ lines) h = refl
 pub none_wired : (n : ℕ) (lines said : List (List ℕ)) → map (job_line n) lines ≡ said → (length said == 0) ≡ true → lines ≡ []
 none_wired n [] said e h = refl
 none_wired n (line ∷ lines) said e h =
-    let some : (length (map (job_line n) lines) + 1 == 0) ≡ true = subst (λ (ls : List (List ℕ)). (length ls == 0) ≡ true) (sym e) h in
-    absurd (never (length (map (job_line n) lines) + 1 == 0) some (no_more (length (map (job_line n) lines))))
+    let some : (suc (length (map (job_line n) lines)) == 0) ≡ true = subst (λ (ls : List (List ℕ)). (length ls == 0) ≡ true) (sym e) h in
+    absurd (never (suc (length (map (job_line n) lines)) == 0) some (not_zero (length (map (job_line n) lines))))
 
 each_said : (n : ℕ) (lines : List (List ℕ)) → due_said (with_number n lines) ≡ say_all n (map (job_line n) lines)
 each_said n [] = refl

@@ -1,6 +1,6 @@
 -- No two open jobs have one number.
-use Rattle.std.proofs.Common.{◌≡◌, ℕ, List, [], ◌∷◌, ◌++◌, refl, sym, ap, subst, ◌∙◌, Bool, true, false, not, ◌==◌, cond, Some, None, Option, arith}
-use Rattle.std.specs.Prelude.{◌&&◌, ◌||◌, find, filter, fold}
+use Rattle.std.proofs.Common.{◌≡◌, ℕ, List, [], ◌∷◌, ◌++◌, refl, ap, subst, ◌∙◌, Bool, true, false, not, ◌==◌, cond, Some, None, Option, arith}
+use Rattle.std.specs.Prelude.{◌&&◌, ◌||◌, filter, fold}
 use Rattle.std.specs.List.{list_any}
 use Rattle.std.proofs.lemmas.Bool.Decides.{nat_tests}
 use Rattle.annex_model.specs.Messages.{HostMessage, host_reading}
@@ -12,7 +12,7 @@ use Rattle.kit_async_model.specs.declared.entry.Entry.{Entry}
 use Rattle.kit_async_model.specs.declared.entry.Entry.TheVariants.{Heard, Take, Call, Say, Wrote, Close, Lack}
 use Rattle.kit_async_model.specs.declared.hearing.Hearing.{Hearing}
 use Rattle.kit_async_model.specs.declared.hearing.Hearing.TheVariants.{Foul, Unexpected, Aside, Asks, Replies}
-use Rattle.kit_async_model.specs.Jobs.{has_number, job_of, with_job, without_job, is_awaiting, settles}
+use Rattle.kit_async_model.specs.Jobs.{has_number, job_of, with_job, is_awaiting, settles}
 use Rattle.kit_async_model.specs.Hearings.{parted, is_export, message_heard, strange_heard, reading_heard, text_heard, answers_strange, part_heard, hearing_of, awaits_in, is_open, has_some, text_in, value_told}
 use Rattle.kit_async_model.specs.Standings.{Standing, opening, new_job, with_value, with_taken, with_call, called_in, is_some_due, said_in, heard_as, after, standing}
 use Rattle.kit_async_model.specs.Books.{AreApart}
@@ -36,15 +36,13 @@ asks_message a o b number n m e =
     ((neither o (is_readying (Some m) && b) four.0).0, is)
 
 -- so does a line that spells no message
-asks_strange : (x a o : Bool) (number n : ℕ) → strange_heard x a o number ≡ Asks n → (o ≡ false) × (number ≡ n)
-asks_strange x a o number n e =
-    let one = skip (not x) Foul _ (Asks n) (λ (k : Foul ≡ Asks n). absurd cc) e in
-    let two = skip (a || o) Unexpected (Asks number) (Asks n) (λ (k : Unexpected ≡ Asks n). absurd cc) one.1 in
-    let is : number ≡ n = let last : Asks number ≡ Asks n = two.1 in cc in
-    ((neither a o two.0).1, is)
+asks_strange : (x o : Bool) (number n : ℕ) → strange_heard x o number ≡ Asks n → (o ≡ false) × (number ≡ n)
+asks_strange true false number n e = let last : Asks number ≡ Asks n = e in (refl, cc)
+asks_strange true true number n e = absurd cc
+asks_strange false o number n e = absurd cc
 
 asks_reading : (x a o b : Bool) (number n : ℕ) (m : Option HostMessage) → reading_heard x a o b number m ≡ Asks n → (o ≡ false) × (number ≡ n)
-asks_reading x a o b number n None e = asks_strange x a o number n e
+asks_reading x a o b number n None e = asks_strange x o number n e
 asks_reading x a o b number n (Some m) e = asks_message a o b number n m e
 
 asks_text : (x a o b : Bool) (number n : ℕ) (text : List ℕ) → text_heard x a o b number text ≡ Asks n → (o ≡ false) × (number ≡ n)
@@ -90,17 +88,13 @@ replies_message a o b number n m e =
     go false h k = absurd (last (o || (is_readying (Some m) && b)) k)
 
 -- none comes as a line that spells no message
-replies_strange : (x a o : Bool) (number n : ℕ) → strange_heard x a o number ≡ Replies n → ⊥
-replies_strange x a o number n e =
-    let one = skip (not x) Foul _ (Replies n) (λ (k : Foul ≡ Replies n). absurd cc) e in
-    last (a || o) one.1
-  where
-    last : (t : Bool) → cond t Unexpected (Asks number) ≡ Replies n → ⊥
-    last true k = absurd cc
-    last false k = absurd cc
+replies_strange : (x o : Bool) (number n : ℕ) → strange_heard x o number ≡ Replies n → ⊥
+replies_strange true false number n e = absurd cc
+replies_strange true true number n e = absurd cc
+replies_strange false o number n e = absurd cc
 
 replies_reading : (x a o b : Bool) (number n : ℕ) (m : Option HostMessage) → reading_heard x a o b number m ≡ Replies n → (a ≡ true) × (number ≡ n)
-replies_reading x a o b number n None e = absurd (replies_strange x a o number n e)
+replies_reading x a o b number n None e = absurd (replies_strange x o number n e)
 replies_reading x a o b number n (Some m) e = replies_message a o b number n m e
 
 replies_text : (x a o b : Bool) (number n : ℕ) (text : List ℕ) → text_heard x a o b number text ≡ Replies n → (a ≡ true) × (number ≡ n)

@@ -1,25 +1,22 @@
 -- What a remote is to be called for stays so, whatever others do.
-use Rattle.std.proofs.Common.{◌≡◌, ◌≢◌, ◌⊎◌, inl, inr, ℕ, ◌+◌, ◌-◌, List, [], ◌∷◌, ◌++◌, refl, sym, ap, subst, ◌∙◌, append_assoc, append-nil, Bool, true, false, not, ◌==◌, cond, Some, None, Option, IfSome, arith}
-use Rattle.std.specs.Prelude.{◌&&◌, ◌||◌, All, find, filter, fold, map, nat_lt, is_none, is_some, option_map}
+use Rattle.std.proofs.Common.{◌≡◌, ◌≢◌, ◌⊎◌, inl, inr, ℕ, ◌+◌, List, [], ◌∷◌, ◌++◌, refl, sym, ap, subst, ◌∙◌, Bool, true, false, not, ◌==◌, cond, Some, None, Option, arith}
+use Rattle.std.specs.Prelude.{◌&&◌, ◌||◌, find, filter, fold, nat_lt}
 use Rattle.std.specs.List.{list_any}
 use Rattle.std.proofs.lemmas.Bool.Decides.{nat_tests}
 use Rattle.annex_model.specs.Messages.{HostMessage, host_reading}
 use Rattle.kit_core.specs.declared.call.Said.{Said}
-use Rattle.kit_core.specs.Calls.{is_line_said}
-use Rattle.kit_core.specs.Kits.{is_error, is_unexpected, is_readying, asked_by}
+use Rattle.kit_core.specs.Kits.{is_error, is_unexpected, is_readying}
 use Rattle.kit_async_model.specs.declared.setup.Setup.{Setup}
 use Rattle.kit_async_model.specs.declared.job.Job.{Job}
 use Rattle.kit_async_model.specs.declared.entry.Entry.{Entry}
 use Rattle.kit_async_model.specs.declared.entry.Entry.TheVariants.{Heard, Take, Call, Say, Wrote, Close, Lack}
 use Rattle.kit_async_model.specs.declared.hearing.Hearing.{Hearing}
 use Rattle.kit_async_model.specs.declared.hearing.Hearing.TheVariants.{Foul, Unexpected, Aside, Asks, Replies}
-use Rattle.kit_async_model.specs.Jobs.{is_making_ready, is_awaiting, is_for_any, is_number, is_worked_by, is_first_of_key, is_job_line, has_number, job_of, with_job, without_job, settles, lines_in, due_in, final_in}
+use Rattle.kit_async_model.specs.Jobs.{is_making_ready, is_awaiting, is_worked_by, has_number, job_of, with_job, settles}
 use Rattle.kit_async_model.specs.Hearings.{parted, text_by, is_export, message_heard, reading_heard, text_heard, answers_strange, part_heard, hearing_of, awaits_in, is_open, has_some, text_in, value_told}
-use Rattle.kit_async_model.specs.Legality.{holds_back, may_hear, is_idle, is_free, some_job, may_take, is_turn_of, is_called, may_call, is_said, comes_where, follows, legal_from}
-use Rattle.kit_async_model.specs.Standings.{Standing, opening, new_job, with_value, with_taken, with_call, due_of_job, due_of, answer_due, called_in, is_some_due, said_line, said_in, heard_as, after, standing}
-use Rattle.kit_async_model.specs.Events.{IsMadeBy}
+use Rattle.kit_async_model.specs.Legality.{is_idle, some_job, is_turn_of, is_called}
+use Rattle.kit_async_model.specs.Standings.{Standing, opening, new_job, with_value, with_taken, with_call, called_in, is_some_due, said_in, heard_as, after, standing}
 use Rattle.kit_async_model.specs.Books.{AreApart}
-use Rattle.kit_async_model.proofs.Apart.{Awaits, asks_new, replies_awaited, after_apart}
 use Rattle.kit_async_model.proofs.Fronts.{both}
 use Rattle.kit_async_model.proofs.Places.{neither, passes_of}
 

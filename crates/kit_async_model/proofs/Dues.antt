@@ -1,5 +1,5 @@
 -- What a request for a key makes due.
-use Rattle.std.proofs.Common.{◌≡◌, ◌⊎◌, inl, inr, ℕ, List, [], ◌∷◌, refl, sym, ap, subst, ◌∙◌, Bool, true, false, cond, Some, None, Option}
+use Rattle.std.proofs.Common.{◌≡◌, ◌⊎◌, inl, inr, ℕ, List, [], ◌∷◌, refl, sym, ap, subst, ◌∙◌, Bool, true, false, Some, None, Option}
 use Rattle.std.specs.Prelude.{codes, is_some}
 use Rattle.std.specs.Str.{is_utf8}
 use Rattle.std.proofs.lemmas.Str.{IsUtf8-nil, is_utf8-from_IsUtf8}
@@ -7,7 +7,7 @@ use Rattle.annex_model.specs.Messages.{RemoteMessage, remote_line, HostMessage, 
 use Rattle.wire_msg.specs.declared.remote.RemoteMsg.{RemoteMsg}
 use Rattle.wire_msg.specs.Shown.{remote_shown}
 use Rattle.kit_core.specs.declared.call.Said.TheVariants.{Failure}
-use Rattle.kit_core.specs.Kits.{Due, Silence, Line, Asks, asked_by, final_line, refusal, transfer_asked, work_due}
+use Rattle.kit_core.specs.Kits.{Due, Silence, Line, Asks, asked_by, final_line, refusal, work_due}
 use Rattle.kit_async_model.specs.declared.due.Due.{Due as CodeDue}
 use Rattle.kit_async_model.specs.declared.due.Due.TheVariants.{Silence as NoDue, Line as LineDue, Call as CallDue}
 use Rattle.kit_async_model.specs.Abouts.{lines_by}

@@ -1,5 +1,5 @@
 -- A legal journal, entry by entry.
-use Rattle.std.proofs.Common.{◌≡◌, List, [], ◌∷◌, ◌++◌, refl, sym, ap, subst, ◌∙◌, Bool, true, false}
+use Rattle.std.proofs.Common.{◌≡◌, List, [], ◌∷◌, ◌++◌, refl, Bool, true, false}
 use Rattle.std.specs.Prelude.{◌&&◌, fold}
 use Rattle.std.proofs.lemmas.List.Sums.{fold-append}
 use Rattle.kit_async_model.specs.declared.setup.Setup.{Setup}

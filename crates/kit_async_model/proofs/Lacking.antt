@@ -1,6 +1,6 @@
 -- Where no memory is found for the answer to a call, the journal stays legal.
-use Rattle.std.proofs.Common.{◌≡◌, ℕ, List, [], ◌∷◌, ◌++◌, refl, sym, ap, subst, ◌∙◌, Bool, true, false, cond, Some, None, Option}
-use Rattle.std.specs.Prelude.{◌&&◌, find, fold}
+use Rattle.std.proofs.Common.{◌≡◌, ℕ, List, [], ◌∷◌, ◌++◌, refl, sym, subst, Bool, true, false, cond, Some, None, Option}
+use Rattle.std.specs.Prelude.{find}
 use Rattle.kit_core.specs.declared.call.Said.{Said}
 use Rattle.kit_core.specs.Calls.{is_line_said}
 use Rattle.kit_async_model.specs.declared.setup.Setup.{Setup}
@@ -11,7 +11,7 @@ use Rattle.kit_async_model.specs.declared.event.Event.TheVariants.{Called}
 use Rattle.kit_async_model.specs.declared.event.Reply.{Reply}
 use Rattle.kit_async_model.specs.declared.event.Reply.TheVariants.{Odd}
 use Rattle.kit_async_model.specs.Standings.{Standing, after, standing}
-use Rattle.kit_async_model.specs.Legality.{is_called, is_said, comes_where, follows, legal_from, is_legal, Legal}
+use Rattle.kit_async_model.specs.Legality.{is_called, comes_where, follows, legal_from, is_legal, Legal}
 use Rattle.kit_async_model.specs.Events.{only, remote_of, is_of_remote, due_said, called_step, call_step, if_it_is, event_step, step_of, IsUnsaid}
 use Rattle.kit_async_model.proofs.Fronts.{both, parts, standing_append}
 use Rattle.kit_async_model.proofs.Stepping.{join_from, steps_are_legal}

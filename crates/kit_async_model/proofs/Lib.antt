@@ -1,6 +1,7 @@
 pub mod Apart
 pub mod Askings
 pub mod Dues
+pub mod FactLines
 pub mod Fronts
 pub mod Lacking
 pub mod Making

@@ -1,5 +1,5 @@
 -- What may come once a kit is over, or once nothing more can come.
-use Rattle.std.proofs.Common.{◌≡◌, ◌⊎◌, inl, inr, ℕ, List, [], ◌∷◌, ◌++◌, refl, sym, subst, ◌∙◌, Bool, true, false, not, ◌==◌, Some, None, Option}
+use Rattle.std.proofs.Common.{◌≡◌, ◌⊎◌, inl, inr, ℕ, List, [], ◌∷◌, ◌++◌, refl, sym, subst, ◌∙◌, Bool, true, false, not, Some, None, Option}
 use Rattle.std.specs.Prelude.{◌&&◌, ◌||◌, fold, nat_lt, is_some}
 use Rattle.std.specs.List.{list_any, list_all}
 use Rattle.kit_core.specs.declared.call.Said.{Said}

@@ -1,11 +1,11 @@
 -- The numbers of jobs have 64 bits.
-use Rattle.std.proofs.Common.{◌≡◌, ℕ, ◌<◌, ◌^◌, List, [], ◌∷◌, ◌++◌, refl, sym, ap, subst, ◌∙◌, Bool, true, false, not, ◌==◌, cond, Some, None, Option, arith}
-use Rattle.std.specs.Prelude.{◌&&◌, ◌||◌, fold, map, filter, find, nat_lt, nat_le, length}
+use Rattle.std.proofs.Common.{◌≡◌, ℕ, ◌<◌, ◌^◌, List, [], ◌∷◌, ◌++◌, refl, sym, subst, Bool, true, false, not, ◌==◌, cond, Some, None, Option, arith}
+use Rattle.std.specs.Prelude.{◌&&◌, ◌||◌, fold, map, filter, nat_lt, nat_le, length}
 use Rattle.std.specs.List.{list_all}
 use Rattle.std.proofs.lemmas.Bool.Decides.{nat_tests}
-use Rattle.ann_key.specs.Numbers.{is_digit, is_number, value_of}
+use Rattle.ann_key.specs.Numbers.{is_digit, value_of}
 use Rattle.annex_model.specs.Messages.{HostMessage, host_reading}
-use Rattle.annex_model.specs.Tags.{untag, Tagged}
+use Rattle.annex_model.specs.Tags.{untag}
 use Rattle.annex_model.proofs.TagReadings.{tagged_of_read}
 use Rattle.kit_core.specs.declared.call.Said.{Said}
 use Rattle.kit_core.specs.Kits.{is_error, is_unexpected, is_readying}
@@ -15,9 +15,9 @@ use Rattle.kit_async_model.specs.declared.entry.Entry.{Entry}
 use Rattle.kit_async_model.specs.declared.entry.Entry.TheVariants.{Heard, Take, Call, Say, Wrote, Close, Lack}
 use Rattle.kit_async_model.specs.declared.hearing.Hearing.{Hearing}
 use Rattle.kit_async_model.specs.declared.hearing.Hearing.TheVariants.{Foul, Unexpected, Aside, Asks, Replies}
-use Rattle.kit_async_model.specs.Jobs.{has_number, job_of, with_job, without_job, is_awaiting, lines_in, settles, final_in}
+use Rattle.kit_async_model.specs.Jobs.{has_number, job_of, with_job, is_awaiting, lines_in, settles}
 use Rattle.kit_async_model.specs.Hearings.{nonzero, parted, is_export, message_heard, strange_heard, reading_heard, text_heard, answers_strange, part_heard, hearing_of, awaits_in, is_open, has_some, text_in, value_told}
-use Rattle.kit_async_model.specs.Standings.{Standing, opening, new_job, with_value, with_taken, with_call, due_of_job, due_of, answer_due, called_in, is_some_due, said_in, heard_as, after, standing}
+use Rattle.kit_async_model.specs.Standings.{Standing, opening, new_job, with_value, with_taken, with_call, due_of, answer_due, called_in, is_some_due, said_in, heard_as, after, standing}
 use Rattle.kit_async_model.proofs.Fronts.{both}
 
 pub zero_small : 0 < 2 ^ 64
@@ -76,11 +76,11 @@ message_small a o b n m h =
     (if_small a (Replies n) _ h
     (if_small (o || (is_readying (Some m) && b)) Unexpected (Asks n) tt h)))
 
-strange_small : (x a o : Bool) (n : ℕ) → n < 2 ^ 64 → SmallHearing (strange_heard x a o n)
-strange_small x a o n h = if_small (not x) Foul _ tt (if_small (a || o) Unexpected (Asks n) tt h)
+strange_small : (x o : Bool) (n : ℕ) → n < 2 ^ 64 → SmallHearing (strange_heard x o n)
+strange_small x o n h = if_small (x && not o) (Asks n) Foul h tt
 
 reading_small : (x a o b : Bool) (n : ℕ) (m : Option HostMessage) → n < 2 ^ 64 → SmallHearing (reading_heard x a o b n m)
-reading_small x a o b n None h = strange_small x a o n h
+reading_small x a o b n None h = strange_small x o n h
 reading_small x a o b n (Some m) h = message_small a o b n m h
 
 text_small : (x a o b : Bool) (n : ℕ) (text : List ℕ) → n < 2 ^ 64 → SmallHearing (text_heard x a o b n text)

@@ -1,27 +1,26 @@
 -- Each step of a core leaves its journal legal.
-use Rattle.std.proofs.Common.{◌≡◌, ◌⊎◌, inl, inr, ℕ, ◌+◌, ◌-◌, ◌≤◌, ◌<◌, ◌^◌, List, [], ◌∷◌, ◌++◌, refl, sym, ap, subst, ◌∙◌, Bool, true, false, not, ◌==◌, cond, Some, None, Option, arith}
+use Rattle.std.proofs.Common.{◌≡◌, ℕ, ◌<◌, ◌^◌, List, [], ◌∷◌, ◌++◌, refl, sym, ap, subst, Bool, true, false, not, ◌==◌, cond, Some, None, Option, arith}
 use Rattle.std.specs.Prelude.{◌&&◌, ◌||◌, drop, fold, find, nat_lt, nat_le, slice_index, bytes_eq, decimal, length, get_or}
-use Rattle.std.specs.List.{list_any}
 use Rattle.std.proofs.lemmas.Bool.Decides.{nat_tests}
 use Rattle.std.proofs.lemmas.Fmt.{first_decimal, decimal_nonempty}
 use Rattle.std.proofs.lemmas.Slice.Eq.{bytes_eq-Decides}
-use Rattle.annex_model.specs.Tags.{untag, tagged_line}
+use Rattle.annex_model.specs.Tags.{tagged_line}
 use Rattle.annex_model.proofs.TagReadings.{untag_of_tagged}
 use Rattle.kit_core.specs.declared.call.Said.{Said}
 use Rattle.kit_core.specs.Calls.{is_line_said}
 use Rattle.kit_async_model.specs.declared.setup.Setup.{Setup}
 use Rattle.kit_async_model.specs.declared.job.Job.{Job}
 use Rattle.kit_async_model.specs.declared.entry.Entry.{Entry}
-use Rattle.kit_async_model.specs.declared.entry.Entry.TheVariants.{Heard, Take, Call, Say, Wrote, Close, Lack}
+use Rattle.kit_async_model.specs.declared.entry.Entry.TheVariants.{Heard, Take, Call, Say, Wrote, Close}
 use Rattle.kit_async_model.specs.declared.event.Event.{Event}
 use Rattle.kit_async_model.specs.declared.event.Event.TheVariants.{Hear, Take as TakeUp, Called, Next, Wrote as Written, Close as Deafen, Break}
 use Rattle.kit_async_model.specs.Jobs.{is_awaiting, is_job_line, job_line, has_number, job_of}
 use Rattle.kit_async_model.specs.Hearings.{text_in, hearing_of}
 use Rattle.kit_async_model.specs.Standings.{Standing, after, is_some_due, said_line, said_in, standing}
-use Rattle.kit_async_model.specs.Legality.{may_hear, is_idle, is_free, some_job, may_take, is_turn_of, is_called, may_come, comes_where, follows, legal_from, is_legal, Legal, is_done}
-use Rattle.kit_async_model.specs.Events.{IsMadeBy, Stepped, only, reader, writer, remote_of, is_of_remote, due_said, heard_step, hear_step, free_step, first_free, turn_step, take_step, called_step, call_step, next_reply, wrote_step, close_step, if_it_is, event_step, step_of}
+use Rattle.kit_async_model.specs.Legality.{may_hear, is_idle, is_free, some_job, may_take, is_turn_of, is_called, may_come, comes_where, follows, legal_from, Legal, is_done}
+use Rattle.kit_async_model.specs.Events.{Stepped, only, reader, writer, remote_of, is_of_remote, due_said, hear_step, free_step, first_free, turn_step, take_step, called_step, call_step, next_reply, wrote_step, close_step, if_it_is, event_step, step_of}
 use Rattle.kit_async_model.proofs.Fronts.{both, standing_append}
-use Rattle.kit_async_model.proofs.Smalls.{AllSmall, SmallDue, standing_small, hearing_small, heard_due, called_due, equal_number}
+use Rattle.kit_async_model.proofs.Smalls.{AllSmall, SmallDue, standing_small, hearing_small, heard_due, called_due}
 
 -- ---- tests
 

@@ -1,6 +1,6 @@
 -- What is not written yet is what was said after the lines that are.
 use Rattle.std.proofs.Common.{◌≡◌, ℕ, zero, suc, ◌+◌, ◌≤◌, List, [], ◌∷◌, ◌++◌, refl, sym, ap, subst, ◌∙◌, append_assoc, append-nil, length, length-append, drop, drop-drop, Bool, true, false, Some, None, Option, arith}
-use Rattle.std.specs.Prelude.{◌&&◌, ◌||◌, fold}
+use Rattle.std.specs.Prelude.{◌||◌, fold}
 use Rattle.std.proofs.lemmas.List.{drop-append-le}
 use Rattle.kit_core.specs.declared.call.Said.{Said}
 use Rattle.kit_async_model.specs.declared.setup.Setup.{Setup}

@@ -2,7 +2,7 @@
 use Rattle.std.specs.Prelude.{ℕ, ◌==◌, ◌&&◌, ◌||◌, not, Bool, true, false, if◌then◌else◌, List, [], ◌∷◌, Option, Some, None, is_some, codes, take, drop, bytes_eq}
 use Rattle.annex_model.specs.Messages.{HostMessage, Value, host_reading, is_space}
 use Rattle.annex_model.specs.Tags.{untag}
-use Rattle.kit_core.specs.Kits.{is_value, is_error, is_unexpected, is_readying}
+use Rattle.kit_core.specs.Kits.{is_error, is_unexpected, is_readying}
 use Rattle.kit_async_model.specs.declared.setup.Setup.{Setup}
 use Rattle.kit_async_model.specs.declared.job.Job.{Job}
 use Rattle.kit_async_model.specs.declared.hearing.Hearing.{Hearing}
@@ -56,15 +56,12 @@ message_heard awaiting opened busy number m =
     else if opened || (is_readying (Some m) && busy) then Unexpected
     else Asks number
 
--- a line that spells no message, where the kit answers such lines as any other request
-abbrev pub strange_heard : Bool → Bool → Bool → ℕ → Hearing
-strange_heard answers awaiting opened number =
-    if not answers then Foul
-    else if awaiting || opened then Unexpected
-    else Asks number
+-- A line that spells no message. Where the kit answers such lines it is a request, unless a job with its number is open.
+abbrev pub strange_heard : Bool → Bool → ℕ → Hearing
+strange_heard answers opened number = if answers && not opened then Asks number else Foul
 
 abbrev pub reading_heard : Bool → Bool → Bool → Bool → ℕ → Option HostMessage → Hearing
-reading_heard answers awaiting opened busy number None = strange_heard answers awaiting opened number
+reading_heard answers awaiting opened busy number None = strange_heard answers opened number
 reading_heard answers awaiting opened busy number (Some m) = message_heard awaiting opened busy number m
 
 abbrev pub text_heard : Bool → Bool → Bool → Bool → ℕ → List ℕ → Hearing

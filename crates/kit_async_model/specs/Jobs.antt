@@ -3,7 +3,7 @@ use Rattle.std.specs.Prelude.{ℕ, ◌+◌, ◌==◌, ◌&&◌, ◌||◌, not, B
 use Rattle.annex_model.specs.Messages.{Extensions, HostMessage, AskExtensions, Transfer, Checkpresent, Remove, host_reading, remote_line}
 use Rattle.annex_model.specs.Tags.{names_async, untag, tagged_line}
 use Rattle.kit_core.specs.declared.call.Said.{Said}
-use Rattle.kit_core.specs.Kits.{Due, Silence, Line, Asks, is_readying, is_prepare, is_yes, work_due, final_line, asked_by}
+use Rattle.kit_core.specs.Kits.{Due, Silence, Line, is_readying, is_prepare, is_yes, work_due, final_line, asked_by}
 use Rattle.kit_async_model.specs.declared.setup.Setup.{Setup}
 use Rattle.kit_async_model.specs.declared.job.Job.{Job}
 use Rattle.kit_async_model.specs.Abouts.{lines_about}

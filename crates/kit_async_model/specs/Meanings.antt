@@ -10,9 +10,9 @@ use Rattle.kit_core.specs.Kits.{Due, Silence, Line, Asks, is_readying, is_yes, f
 use Rattle.kit_async_model.specs.declared.setup.Setup.{Setup}
 use Rattle.kit_async_model.specs.declared.job.Job.{Job}
 use Rattle.kit_async_model.specs.declared.entry.Entry.{Entry}
-use Rattle.kit_async_model.specs.declared.entry.Entry.TheVariants.{Heard, Take, Call, Say, Wrote, Close}
+use Rattle.kit_async_model.specs.declared.entry.Entry.TheVariants.{Heard, Call, Say}
 use Rattle.kit_async_model.specs.declared.hearing.Hearing.{Hearing}
-use Rattle.kit_async_model.specs.declared.hearing.Hearing.TheVariants.{Foul, Unexpected, Aside, Asks as AsksJob, Replies}
+use Rattle.kit_async_model.specs.declared.hearing.Hearing.TheVariants.{Asks as AsksJob, Replies}
 use Rattle.kit_async_model.specs.Abouts.{lines_about}
 use Rattle.kit_async_model.specs.Jobs.{request_due, due_in, if_prepared, job_of}
 use Rattle.kit_async_model.specs.Hearings.{text_in, is_open, hearing_of}

@@ -1,7 +1,6 @@
 -- Worked journals of a kit, each of which is legal or isn't.
-use Rattle.std.specs.Prelude.{ℕ, List, [], ◌∷◌, ◌++◌, Some, None, codes}
-use Rattle.kit_core.specs.declared.call.Said.{Said}
-use Rattle.kit_core.specs.declared.call.Said.TheVariants.{Yes, No, Failure}
+use Rattle.std.specs.Prelude.{List, [], ◌∷◌, ◌++◌, Some, None, codes}
+use Rattle.kit_core.specs.declared.call.Said.TheVariants.{Yes, No}
 use Rattle.kit_async_model.specs.declared.setup.Setup.{Setup}
 use Rattle.kit_async_model.specs.declared.about.Fact.TheVariants.{Fixed, Setting}
 use Rattle.kit_async_model.specs.declared.entry.Entry.{Entry}

@@ -1,5 +1,5 @@
 // What a kit says of its remotes.
-ghost use Rattle.std.specs.Prelude.{◌≡◌, ◌++◌, IfOk, OnOk, map, option_map};
+ghost use Rattle.std.specs.Prelude.{◌≡◌, ◌++◌, IfOk, OnOk, map, option_copied, option_map, slice_get};
 ghost use Rattle.wire_msg.specs.Shown.{host_shown};
 ghost use Rattle.kit_core.specs.declared.describe.Pair.{Pair};
 ghost use Rattle.kit_async_model.specs.declared.about.Fact.TheVariants.{Fixed};
@@ -85,13 +85,23 @@ fn push_pair(
     name: &[u8],
     text: Option<&[u8]>,
 ) -> Result<(), NoMemory>
-    ensures { OnOk result (lines.new.items ≡ lines.old.items ++ pair_lines name.now (option_map (λ t. t.now) text.entry)) }
+    ensures { OnOk result (lines.new.items ≡ lines.old.items ++ pair_lines name.now (option_copied text.entry)) }
 {
     if let Some(text) = text {
         lines.push(write_remote(alloc, &RemoteMsg::Infofield(name))?)?;
         lines.push(write_remote(alloc, &RemoteMsg::Infovalue(text))?)?;
     }
     Ok(())
+}
+
+// The value of the setting of that number, if it was told.
+fn value(told: &[Bytes], number: u32) -> Option<&[u8]>
+    ensures { option_copied result ≡ slice_get told.now number }
+{
+    match told.get(number as usize) {
+        Some(value) => Some(value.view()),
+        None => None,
+    }
 }
 
 fn push_fact(
@@ -104,10 +114,9 @@ fn push_fact(
 {
     match fact {
         Fact::Fixed { name, text } => push_pair(alloc, lines, name.view(), Some(text.view())),
-        Fact::Setting { name, number } => match told.get(*number as usize) {
-            Some(text) => push_pair(alloc, lines, name.view(), Some(text.view())),
-            None => Ok(()),
-        },
+        Fact::Setting { name, number } => {
+            push_pair(alloc, lines, name.view(), value(told, *number))
+        }
     }
 }
 

@@ -80,15 +80,13 @@ fn message_heard(
 }
 
 // A line that spells no message, where the kit answers such lines or doesn't.
-fn strange_heard(answers: bool, awaiting: bool, opened: bool, number: u64) -> Hearing
-    ensures { result ≡ strange_heard answers awaiting opened number }
+fn strange_heard(answers: bool, opened: bool, number: u64) -> Hearing
+    ensures { result ≡ strange_heard answers opened number }
 {
-    if !answers {
-        Hearing::Foul
-    } else if awaiting || opened {
-        Hearing::Unexpected
-    } else {
+    if answers && !opened {
         Hearing::Asks(number)
+    } else {
+        Hearing::Foul
     }
 }
 
@@ -111,7 +109,7 @@ fn text_heard(
     }
     match read_host(text) {
         Some(message) => message_heard(awaiting, opened, busy, number, message),
-        None => strange_heard(answers, awaiting, opened, number),
+        None => strange_heard(answers, opened, number),
     }
 }
 

@@ -118,7 +118,9 @@ pub fn worked_strangers()
     ensures cost_left_out { is_legal known (ready ++ Heard (codes "J 4 GETCOST") ∷ unsupported ∷ []) ≡ false }
     ensures whereis { is_legal known (ready ++ Heard (codes "J 4 WHEREIS WORM--a") ∷ unsupported ∷ []) ≡ true }
     ensures strange { is_legal known (ready ++ strange ∷ unsupported ∷ check_a ∷ []) ≡ true }
-    ensures strange_awaited { is_legal known (asking ++ Heard (codes "J 1 CLAIMURL http://a") ∷ error ∷ []) ≡ true }
+    ensures strange_again { is_legal known (ready ++ strange ∷ unsupported ∷ strange ∷ unsupported ∷ []) ≡ true }
+    ensures strange_awaited { (standing known (asking ++ Heard (codes "J 1 CLAIMURL http://a") ∷ [])).over ≡ true }
+    ensures strange_open { is_legal known (ready ++ check_a ∷ Heard (codes "J 2 CLAIMURL http://a") ∷ Say 2 (codes "J 2 UNSUPPORTED-REQUEST") ∷ []) ≡ false }
     ensures strange_unknown { is_legal two (ready ++ strange ∷ unsupported ∷ []) ≡ false }
     ensures strange_ends { (standing two (ready ++ strange ∷ [])).over ≡ true }
 {}

@@ -1,4 +1,4 @@
-use Rattle.std.proofs.Common.{◌≡◌, ◌∙◌, sym, ap, true, false, Bool, rules, tests, refl}
+use Rattle.std.proofs.Common.{◌≡◌, sym, ap, true, false, Bool, rules, tests, refl}
 use Rattle.std.specs.Prelude.{is_some, not, ◌&&◌}
 use Rattle.kit_core.specs.Kits.{asked_by}
 use Rattle.kit_async_model.specs.Jobs.{due_in, is_making_ready}
