@@ -247,9 +247,9 @@ ended_free (line ∷ lines) h = both_free (line ∷ lines) (remote_line Infoend 
 
 told_free : (about : About) (told : List (List ℕ)) → AreFree (about.configs ++ about.cost ++ about.availability) → (r : Option HostMessage) → ToldFree (told_of about told r)
 told_free about told h None = refl
-told_free about told h (Some Listconfigs) = left_free about.configs _ h
-told_free about told h (Some Getcost) = left_free about.cost _ (right_free about.configs _ h)
-told_free about told h (Some Getavailability) = right_free about.cost about.availability (right_free about.configs _ h)
+told_free about told h (Some Listconfigs) = left_free about.configs (about.cost ++ about.availability) h
+told_free about told h (Some Getcost) = left_free about.cost about.availability (right_free about.configs (about.cost ++ about.availability) h)
+told_free about told h (Some Getavailability) = right_free about.cost about.availability (right_free about.configs (about.cost ++ about.availability) h)
 told_free about told h (Some Getinfo) = ended_free (all_facts told about.facts) (facts_free told about.facts)
 told_free about told h (Some (AskExtensions names)) = tt
 told_free about told h (Some Prepare) = tt
@@ -307,9 +307,13 @@ availability_answer (Some Local) = refl
 
 pub descriptions_tell_no_word : (setup : Setup) (d : Description) (facts : List Fact) → setup.about ≡ Some (about_of d facts) → TellsNoWord setup
 descriptions_tell_no_word setup d facts e =
+    let configs : List (List ℕ) = map remote_line (list_messages config_message Configend d.configs) in
+    let cost : List (List ℕ) = map remote_line (cost_message d.cost ∷ []) in
+    let availability : List (List ℕ) = map remote_line (availability_message d.availability ∷ []) in
     subst (λ (o : Option About). AreFree (about_lines o)) (sym e)
-    (both_free _ _ (messages_free (list_messages config_message Configend d.configs) (listed_configs d.configs))
-    (both_free _ _ (messages_free (cost_message d.cost ∷ []) (cost_answer d.cost)) (messages_free (availability_message d.availability ∷ []) (availability_answer d.availability))))
+    (both_free configs (cost ++ availability) (messages_free (list_messages config_message Configend d.configs) (listed_configs d.configs))
+    (both_free cost availability (messages_free (cost_message d.cost ∷ []) (cost_answer d.cost))
+    (messages_free (availability_message d.availability ∷ []) (availability_answer d.availability))))
 
 -- ---- what an entry makes due
 

@@ -1,6 +1,6 @@
 -- What a remote takes up, and the calls that it is noted to have had.
-use Rattle.std.proofs.Common.{◌≡◌, ◌≢◌, ◌⊎◌, inl, inr, ℕ, ◌+◌, ◌-◌, List, [], ◌∷◌, ◌++◌, refl, sym, ap, subst, ◌∙◌, append_assoc, append-nil, Bool, true, false, not, ◌==◌, cond, Some, None, Option, arith}
-use Rattle.std.specs.Prelude.{◌&&◌, ◌||◌, All, find, filter, fold, map, nat_lt, nat_le, is_none}
+use Rattle.std.proofs.Common.{◌≡◌, ◌⊎◌, inl, inr, ℕ, ◌+◌, List, [], ◌∷◌, ◌++◌, refl, sym, ap, subst, ◌∙◌, append-nil, Bool, true, false, not, ◌==◌, cond, Some, None, Option, arith}
+use Rattle.std.specs.Prelude.{◌&&◌, ◌||◌, find, fold, nat_lt, nat_le, is_none}
 use Rattle.std.specs.List.{list_any}
 use Rattle.std.proofs.lemmas.Bool.Decides.{nat_tests}
 use Rattle.hall.specs.Log.{flat, NotBy}
@@ -13,23 +13,22 @@ use Rattle.kit_core.specs.Kits.{asked_by}
 use Rattle.kit_async_model.specs.declared.setup.Setup.{Setup}
 use Rattle.kit_async_model.specs.declared.job.Job.{Job}
 use Rattle.kit_async_model.specs.declared.entry.Entry.{Entry}
-use Rattle.kit_async_model.specs.declared.entry.Entry.TheVariants.{Heard, Take, Call, Say, Wrote, Close, Lack}
+use Rattle.kit_async_model.specs.declared.entry.Entry.TheVariants.{Call, Say, Lack}
 use Rattle.kit_async_model.specs.declared.event.Event.{Event}
-use Rattle.kit_async_model.specs.declared.event.Event.TheVariants.{Hear, Take as TakeUp, Called, Next, Wrote as Written, Close as Deafen, Break}
+use Rattle.kit_async_model.specs.declared.event.Event.TheVariants.{Take as TakeUp, Called, Break}
 use Rattle.kit_async_model.specs.declared.event.Reply.{Reply}
-use Rattle.kit_async_model.specs.declared.event.Reply.TheVariants.{Done, Last, Wait, Over, Odd, Unsaid, Broken, Work, Line}
-use Rattle.kit_async_model.specs.Jobs.{is_making_ready, is_awaiting, is_for_any, is_number, is_worked_by, is_first_of_key, job_line, has_number, job_of, with_job, due_in}
+use Rattle.kit_async_model.specs.declared.event.Reply.TheVariants.{Odd, Broken, Work}
+use Rattle.kit_async_model.specs.Jobs.{is_making_ready, is_awaiting, is_for_any, is_worked_by, is_first_of_key, job_line, has_number, job_of, with_job, due_in}
 use Rattle.kit_async_model.specs.Legality.{Legal, is_idle, is_free, is_turn_of, is_called, is_done}
 use Rattle.kit_async_model.specs.Standings.{Standing, with_taken, after, standing}
-use Rattle.kit_async_model.specs.Events.{IsMadeBy, MayStep, Stepped, IsStepped, IsBrokenOff, IsUnsaid, is_call, only, waiting, due_said, work_by, work_in, first_free, free_step, turn_step, take_step, called_then, called_step, call_step, if_it_is, is_of_remote, remote_of, step_of}
+use Rattle.kit_async_model.specs.Events.{IsMadeBy, MayStep, Stepped, IsStepped, IsBrokenOff, IsUnsaid, is_call, only, waiting, due_said, work_by, first_free, free_step, turn_step, take_step, called_then, called_step, call_step, if_it_is, is_of_remote, remote_of, step_of}
 use Rattle.kit_async_core.specs.Halls.{KitHall, KitPass}
 use Rattle.kit_async_model.specs.Books.{AreApart}
-use Rattle.kit_async_model.specs.Callings.{call_with, call_for, call_of, calls_from, calls_of, IsAsked}
+use Rattle.kit_async_model.specs.Callings.{call_of, calls_from, calls_of, IsAsked}
 use Rattle.kit_async_model.proofs.Apart.{standing_apart}
 use Rattle.kit_async_model.proofs.Fronts.{both, standing_append}
-use Rattle.kit_async_core.proofs.KitHalls.{legal_log}
 use Rattle.kit_async_model.proofs.Places.{neither, passes_of}
-use Rattle.kit_async_model.proofs.Askings.{Busy, InTurn, FirstReady, at_work, at_turn, standing_first, busy_called, not_idle, work_called, found_same, found_any, found_not, only_job, apart_head, same_number, never, decided}
+use Rattle.kit_async_model.proofs.Askings.{Busy, FirstReady, at_work, standing_first, busy_called, work_called, found_same, found_any, only_job, apart_head, same_number, never}
 use Rattle.kit_async_core.proofs.Lasting.{log_lasts, uncalled_log, calls_of-append}
 
 -- ---- what a remote is to be called for

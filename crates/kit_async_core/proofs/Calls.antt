@@ -1,6 +1,6 @@
 -- What the steps of a remote come to.
-use Rattle.std.proofs.Common.{zero, suc, ◌≡◌, ◌⊎◌, inl, inr, ℕ, ◌+◌, ◌-◌, ◌*◌, ◌≤◌, ◌<◌, List, [], ◌∷◌, ◌++◌, refl, sym, ap, subst, ◌∙◌, Bool, true, false, not, ◌==◌, cond, Some, None, Option, length, get_or, length-append, append_assoc, arith}
-use Rattle.std.specs.Prelude.{Result, Ok, Err, IfOk, ◌&&◌, ◌||◌, find, position, fold, set, remove, slice_get, nat_lt, option_map, IfSome}
+use Rattle.std.proofs.Common.{zero, suc, ◌≡◌, ℕ, ◌+◌, ◌-◌, ◌*◌, ◌≤◌, ◌<◌, List, [], ◌∷◌, ◌++◌, refl, sym, ap, subst, ◌∙◌, Bool, true, false, not, ◌==◌, cond, Some, None, Option, length, get_or, length-append, append_assoc, arith}
+use Rattle.std.specs.Prelude.{Result, Ok, Err, IfOk, ◌&&◌, ◌||◌, find, position, fold, set, remove, slice_get, nat_lt, IfSome}
 use Rattle.std.proofs.lemmas.Bool.Decides.{nat_tests}
 use Rattle.std.proofs.lemmas.List.{append-nil, length-set}
 use Rattle.std.proofs.lemmas.Option.{slice_get_within}
@@ -16,7 +16,7 @@ use Rattle.kit_async_model.specs.declared.event.Reply.TheVariants.{Done, Odd, Un
 use Rattle.kit_async_model.specs.Jobs.{is_making_ready, is_awaiting, is_worked_by, settles, prepared_after, final_in, job_line, job_of, with_job, without_job}
 use Rattle.kit_async_model.specs.Standings.{Standing, with_taken, with_call, answer_due, called_in, told_by, said_line, said_in, after}
 use Rattle.kit_async_model.specs.Legality.{is_idle, is_free, is_turn_of, is_called, is_done}
-use Rattle.kit_async_model.specs.Events.{Stepped, waiting, due_said, work_in, first_free, free_step, turn_step, take_step, called_then, called_step, call_step, IsUnsaid}
+use Rattle.kit_async_model.specs.Events.{Stepped, waiting, due_said, work_in, first_free, free_step, turn_step, take_step, called_then, called_step, call_step}
 use Rattle.kit_async_model.specs.Books.{BookIsAsBefore, AnswerKept, AnswerBegun, BookValue, AreApart, most_calls, calls_owed, room_owed, Took, Lacked, IsCalledAt, CallNoted}
 use Rattle.kit_async_model.proofs.Fronts.{both}
 use Rattle.kit_async_model.proofs.Places.{Found, found_place, found_none, read_is, job_there, job_changed, change_there, removal_there, removal_changed, calls_set, calls_remove, passes_of}

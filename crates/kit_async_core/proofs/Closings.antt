@@ -1,6 +1,5 @@
 -- What a pass has seen, and what stands when the hall is closed.
 use Rattle.std.proofs.Common.{◌≡◌, ◌≢◌, ℕ, List, [], ◌∷◌, ◌++◌, refl, sym, ap, subst, ◌∙◌, append-nil, Bool, true, false, ◌==◌, cond, Some, slice_get, eq-eqb}
-use Rattle.std.specs.Prelude.{All}
 use Rattle.std.proofs.lemmas.List.{append_cancel_left}
 use Rattle.std.proofs.lemmas.List.Elements.{filter_map-append}
 use Rattle.hall.specs.declared.view.Link.{Link}

@@ -1,6 +1,6 @@
 -- What the steps of a line of the host come to.
 use Rattle.std.proofs.Common.{suc, ◌≡◌, ℕ, ◌+◌, ◌*◌, ◌≤◌, List, [], ◌∷◌, ◌++◌, refl, sym, ap, subst, ◌∙◌, Bool, true, false, not, ◌==◌, cond, Some, None, Option, length, get_or, length-append, append_assoc, arith}
-use Rattle.std.specs.Prelude.{◌&&◌, ◌||◌, find, position, drop, map, fold, set, slice_get, option_map, is_some, IfSome}
+use Rattle.std.specs.Prelude.{◌&&◌, ◌||◌, position, drop, map, fold, set, slice_get, option_map, is_some, IfSome}
 use Rattle.std.specs.List.{list_any}
 use Rattle.annex_model.specs.Messages.{Getconfig, host_reading, remote_line}
 use Rattle.annex_model.specs.Messages.{HostMessage, AskExtensions, Prepare, Initremote, Transfer, Checkpresent, Remove, Listconfigs, Getcost, Getavailability, Getinfo, Whereis, Exportsupported, Export, Transferexport, Checkpresentexport, Removeexport, Renameexport, Value, Creds, HostError}
@@ -17,7 +17,7 @@ use Rattle.kit_async_model.specs.declared.hearing.Hearing.TheVariants.{Foul, Une
 use Rattle.kit_async_model.specs.Abouts.{told_of, lines_by, lines_or, lines_about}
 use Rattle.kit_async_model.specs.Jobs.{request_of, request_due, due_in, is_making_ready, next_name, is_awaiting, if_prepared, lines_in, job_line, has_number, job_of, with_job, without_job}
 use Rattle.kit_async_model.specs.Hearings.{text_in, hearing_of, value_told}
-use Rattle.kit_async_model.specs.Standings.{Standing, unexpected_line, starts_tags, new_job, with_value, due_of_job, due_of, with_request, with_told, is_some_due, told_by, said_line, said_in, heard_as, after}
+use Rattle.kit_async_model.specs.Standings.{Standing, unexpected_line, starts_tags, with_value, due_of_job, due_of, with_request, is_some_due, told_by, said_line, said_in, heard_as, after}
 use Rattle.kit_async_model.specs.Legality.{may_hear, holds_back, is_some_line}
 use Rattle.kit_async_model.specs.Events.{Stepped, due_said, heard_reply, heard_step, hear_step}
 use Rattle.kit_async_model.specs.Books.{BookValue, AreApart, most_calls, calls_owed, room_owed, Took, IsRequest, IsValue}

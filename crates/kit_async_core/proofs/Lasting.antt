@@ -1,6 +1,6 @@
 -- Entries of others leave a remote what it is to be called for.
-use Rattle.std.proofs.Common.{◌≡◌, ◌≢◌, ◌⊎◌, inl, inr, ℕ, ◌+◌, ◌-◌, List, [], ◌∷◌, ◌++◌, refl, sym, ap, subst, ◌∙◌, append_assoc, append-nil, Bool, true, false, not, ◌==◌, cond, Some, None, Option, IfSome, arith}
-use Rattle.std.specs.Prelude.{◌&&◌, ◌||◌, All, drop, find, filter, fold, map, nat_lt, nat_le, is_none, is_some}
+use Rattle.std.proofs.Common.{◌≡◌, ◌≢◌, ◌⊎◌, inl, inr, ℕ, ◌+◌, List, [], ◌∷◌, ◌++◌, refl, sym, ap, subst, ◌∙◌, append_assoc, append-nil, Bool, true, false, not, ◌==◌, cond, Some, None, Option, arith}
+use Rattle.std.specs.Prelude.{◌&&◌, ◌||◌, All, drop, find, filter, fold, map, nat_lt, is_none, is_some}
 use Rattle.std.specs.List.{list_any}
 use Rattle.std.proofs.lemmas.Bool.Decides.{nat_tests}
 use Rattle.std.proofs.lemmas.List.Elements.{All-head, All-tail}
@@ -17,18 +17,17 @@ use Rattle.kit_async_model.specs.declared.entry.Entry.{Entry}
 use Rattle.kit_async_model.specs.declared.entry.Entry.TheVariants.{Heard, Take, Call, Say, Wrote, Close, Lack}
 use Rattle.kit_async_model.specs.declared.hearing.Hearing.{Hearing}
 use Rattle.kit_async_model.specs.declared.hearing.Hearing.TheVariants.{Foul, Unexpected, Aside, Asks, Replies}
-use Rattle.kit_async_model.specs.Jobs.{is_making_ready, is_awaiting, is_for_any, is_number, is_worked_by, is_first_of_key, is_job_line, has_number, job_of, with_job, without_job, settles, lines_in, due_in, final_in}
+use Rattle.kit_async_model.specs.Jobs.{is_making_ready, is_awaiting, is_for_any, is_number, is_worked_by, is_first_of_key, is_job_line, has_number, job_of, with_job, without_job, settles, lines_in, due_in}
 use Rattle.kit_async_model.specs.Hearings.{hearing_of, text_in, value_told}
-use Rattle.kit_async_model.specs.Legality.{Legal, holds_back, may_hear, is_idle, is_free, some_job, may_take, is_turn_of, is_called, may_call, is_said, may_come, comes_where, follows, legal_from}
-use Rattle.kit_async_model.specs.Standings.{Standing, new_job, with_value, with_taken, with_call, due_of_job, due_of, answer_due, called_in, is_some_due, said_line, said_in, heard_as, after, standing, unexpected_line}
+use Rattle.kit_async_model.specs.Legality.{Legal, holds_back, is_idle, is_free, some_job, is_turn_of, is_called, is_said, may_come, comes_where, follows, legal_from}
+use Rattle.kit_async_model.specs.Standings.{Standing, new_job, with_value, with_taken, with_call, due_of, answer_due, called_in, is_some_due, said_line, said_in, heard_as, after, standing}
 use Rattle.kit_async_model.specs.Events.{IsMadeBy, MayStep}
 use Rattle.kit_async_model.specs.Books.{AreApart}
 use Rattle.kit_async_model.specs.Callings.{call_of, calls_from, calls_of}
 use Rattle.kit_async_model.proofs.Apart.{Awaits, asks_new, replies_awaited, after_apart, standing_apart}
 use Rattle.kit_async_model.proofs.Fronts.{both, parts, standing_append}
-use Rattle.kit_async_core.proofs.KitHalls.{legal_log}
-use Rattle.kit_async_model.proofs.Places.{neither, passes_of}
-use Rattle.kit_async_model.proofs.Askings.{Busy, InTurn, at_work, at_turn, decided, never, equal_is, unequal_by, no_more, found_any, found_not, found_changed, found_kept, found_more, none_changed, none_kept, none_last, only_job, only_passes}
+use Rattle.kit_async_model.proofs.Places.{passes_of}
+use Rattle.kit_async_model.proofs.Askings.{Busy, InTurn, at_work, decided, never, equal_is, unequal_by, no_more, found_not, found_changed, found_kept, found_more, none_changed, none_kept, none_last, only_job, only_passes}
 
 -- ---- what is done to the jobs
 
@@ -133,7 +132,7 @@ found_due setup told over job jobs n h = go (job_of jobs n) refl
 heard_lasts : (setup : Setup) (r : ℕ) (s : Standing) (text : List ℕ) (job : Job) (h : Hearing) → find (at_work r) s.jobs ≡ Some job → s.due ≡ []
     → ((n : ℕ) → h ≡ Asks n → has_number n job ≡ false) → ((n : ℕ) → h ≡ Replies n → has_number n job ≡ false) → Lasts setup r (heard_as setup s text h) job
 heard_lasts setup r s text job Foul f d new told = (inl f, rw d tt)
-heard_lasts setup r s text job Unexpected f d new told = (inl f, inl refl, tt)
+heard_lasts setup r s text job Unexpected f d new told = (inl f, (inl refl, tt))
 heard_lasts setup r s text job Aside f d new told = (inl f, rw d tt)
 heard_lasts setup r s text job (Asks n) f d new told = (
   last_keeps setup r (new_job n text s.prepared) s.jobs job refl (inl f),

@@ -1,6 +1,6 @@
 -- The lines that were heard are those that the reader told and the core took.
-use Rattle.std.proofs.Common.{◌≡◌, ◌≢◌, ◌⊎◌, inl, inr, ℕ, List, [], ◌∷◌, ◌++◌, refl, sym, ap, subst, ◌∙◌, append-nil, Bool, true, false, not, ◌==◌, Some, None, Option}
-use Rattle.std.specs.Prelude.{◌&&◌, ◌||◌, All, filter_map}
+use Rattle.std.proofs.Common.{◌≡◌, ◌≢◌, ◌⊎◌, inl, inr, ℕ, List, [], ◌∷◌, ◌++◌, refl, ap, subst, ◌∙◌, append-nil, Bool, true, false, None}
+use Rattle.std.specs.Prelude.{◌||◌, All}
 use Rattle.std.proofs.lemmas.List.Elements.{filter_map-append, All-head, All-tail}
 use Rattle.hall.specs.declared.view.Link.{Link}
 use Rattle.hall.specs.Log.{flat, NotBy, Allowed, Legal as LegalLog}
@@ -11,7 +11,7 @@ use Rattle.kit_async_model.specs.declared.entry.Entry.TheVariants.{Heard, Take, 
 use Rattle.kit_async_model.specs.declared.event.Event.{Event}
 use Rattle.kit_async_model.specs.declared.event.Event.TheVariants.{Hear, Take as TakeUp, Called, Next, Wrote as Written, Close as Deafen, Break}
 use Rattle.kit_async_model.specs.declared.event.Reply.{Reply}
-use Rattle.kit_async_model.specs.declared.event.Reply.TheVariants.{Done, Last, Wait, Over, Odd, Unsaid, Broken, Work, Line}
+use Rattle.kit_async_model.specs.declared.event.Reply.TheVariants.{Broken}
 use Rattle.kit_async_model.specs.Standings.{Standing, after, standing}
 use Rattle.kit_async_model.specs.Legality.{may_hear}
 use Rattle.kit_async_model.specs.Events.{IsMadeBy, MayStep, IsStepped, IsBrokenOff, IsUnsaid, is_call, due_said, heard_reply, hear_step, waiting, close_step, event_step, step_of}

@@ -1,22 +1,19 @@
 -- What a core that keeps its book keeps true, and what comes of an event.
-use Rattle.std.proofs.Common.{◌≡◌, ◌⊎◌, inl, inr, ℕ, ◌≤◌, List, [], ◌∷◌, ◌++◌, refl, sym, ap, subst, ◌∙◌, Bool, true, false, Some, None, Option, length, arith}
-use Rattle.std.specs.Prelude.{All, fold, Result, Ok, Err, IfOk, OnErr, IsTrue}
+use Rattle.std.proofs.Common.{◌≡◌, inl, inr, ℕ, ◌≤◌, List, [], ◌++◌, refl, sym, ap, subst, ◌∙◌, true, arith}
+use Rattle.std.specs.Prelude.{All, fold, Result, Ok, Err, IfOk, OnErr}
 use Rattle.std.proofs.lemmas.List.{append-nil}
-use Rattle.std.proofs.lemmas.List.Elements.{All-nil, All-cons}
+use Rattle.std.proofs.lemmas.List.Elements.{All-nil}
 use Rattle.ann_key.specs.declared.bytes.NoMemory.{NoMemory}
-use Rattle.kit_core.specs.declared.call.Said.{Said}
 use Rattle.kit_async_model.specs.declared.setup.Setup.{Setup}
-use Rattle.kit_async_model.specs.declared.job.Job.{Job}
 use Rattle.kit_async_model.specs.declared.entry.Entry.{Entry}
-use Rattle.kit_async_model.specs.declared.entry.Entry.TheVariants.{Lack}
 use Rattle.kit_async_model.specs.declared.event.Event.{Event}
 use Rattle.kit_async_model.specs.declared.event.Event.TheVariants.{Hear, Take, Called, Next, Wrote, Close, Break}
 use Rattle.kit_async_model.specs.declared.event.Reply.{Reply}
 use Rattle.kit_async_model.specs.declared.event.Reply.TheVariants.{Broken}
 use Rattle.kit_async_model.specs.Standings.{Standing, after, standing}
 use Rattle.kit_async_model.specs.Legality.{Legal}
-use Rattle.kit_async_model.specs.Events.{IsMadeBy, Stepped, event_step, step_of, is_call, can_break, IsUnsaid, IsBrokenOff, MayStep}
-use Rattle.kit_async_model.specs.Books.{BookValue, AreApart, room_owed, Took, Lacked, TookEvent, BookIsAsBefore, IsBook}
+use Rattle.kit_async_model.specs.Events.{IsMadeBy, Stepped, event_step, step_of, is_call, can_break, IsUnsaid, MayStep}
+use Rattle.kit_async_model.specs.Books.{BookValue, AreApart, room_owed, TookEvent, BookIsAsBefore, IsBook}
 use Rattle.kit_async_model.proofs.Fronts.{standing_append}
 use Rattle.kit_async_model.proofs.Apart.{standing_apart}
 use Rattle.kit_async_model.proofs.Making.{steps_are_made, lacks_are_made}

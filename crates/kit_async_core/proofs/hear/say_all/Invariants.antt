@@ -1,4 +1,4 @@
-use Rattle.std.proofs.Common.{◌≡◌, ◌≤◌, ◌+◌, ◌++◌, length, map}
+use Rattle.std.proofs.Common.{◌≡◌, ◌+◌, ◌++◌, length, map}
 use Rattle.std.specs.Vec.Iter.{into_iter_items}
 use Rattle.kit_async_model.specs.declared.entry.Entry.TheVariants.{Say}
 use Rattle.kit_async_core.proofs.hear.say_all.Given as goal

@@ -1,13 +1,10 @@
-use Rattle.std.proofs.Common.{◌≡◌, ◌∙◌, ◌++◌, ◌∷◌, ◌+◌, ◌*◌, [], List, ℕ, None, Some, Option, Bool, true, sym, ap, subst, refl, length, rules, arith}
+use Rattle.std.proofs.Common.{◌∙◌, ◌++◌, ◌∷◌, [], List, ℕ, Bool, sym, ap, arith}
 use Rattle.std.specs.Prelude.{◌||◌, map}
-use Rattle.annex_model.specs.Messages.{Getconfig, remote_line}
-use Rattle.kit_async_model.specs.declared.entry.Entry.{Entry}
 use Rattle.kit_async_model.specs.declared.entry.Entry.TheVariants.{Heard, Say}
 use Rattle.kit_async_model.specs.declared.job.Job.{Job}
-use Rattle.kit_async_model.specs.Books.{BookValue, most_calls}
-use Rattle.kit_async_model.specs.Jobs.{request_of, job_line}
-use Rattle.kit_async_model.specs.Standings.{Standing, unexpected_line, starts_tags}
-use Rattle.kit_async_model.proofs.Places.{read_is}
+use Rattle.kit_async_model.specs.Books.{BookValue}
+use Rattle.kit_async_model.specs.Jobs.{request_of}
+use Rattle.kit_async_model.specs.Standings.{Standing, starts_tags}
 use Rattle.kit_async_core.proofs.Hears.{answered_took}
 use Rattle.kit_async_core.proofs.book.Book.answer_at_once.Goals as goal
 

@@ -1,13 +1,12 @@
-use Rattle.std.proofs.Common.{◌≡◌, ◌∙◌, inl, inr, ◌++◌, ◌∷◌, [], List, ℕ, None, Some, Option, Bool, true, false, sym, ap, subst, refl, length, get_or, rules, tests, arith}
-use Rattle.std.specs.Prelude.{position, set, not, ◌&&◌, slice_get, IfSome}
+use Rattle.std.proofs.Common.{◌≡◌, ◌∙◌, inl, [], List, Option, true, sym, ap, subst, refl, rules, tests, arith}
+use Rattle.std.specs.Prelude.{position, not, ◌&&◌, IfSome}
 use Rattle.kit_core.specs.Calls.{is_line_said}
 use Rattle.kit_async_model.specs.declared.job.Job.{Job}
 use Rattle.kit_async_model.specs.Books.{BookValue}
 use Rattle.kit_async_model.specs.Jobs.{settles}
 use Rattle.kit_async_model.specs.Legality.{is_called}
-use Rattle.kit_async_model.proofs.Fronts.{both}
 use Rattle.kit_async_model.proofs.Places.{found_place}
-use Rattle.kit_async_core.proofs.Calls.{not_false, odd_line, odd_call, called_at, some_room, noted_took}
+use Rattle.kit_async_core.proofs.Calls.{odd_call, called_at, some_room, noted_took}
 use Rattle.kit_async_core.proofs.book.Book.call.Goals as goal
 
 pub returns-in_default : goal.returns-in_default

@@ -1,4 +1,4 @@
-use Rattle.std.proofs.Common.{◌≡◌, ◌∙◌, ◌++◌, ◌∷◌, [], List, ℕ, None, Some, Option, sym, ap, subst, length, get_or, rules}
+use Rattle.std.proofs.Common.{◌≡◌, ◌∙◌, ◌++◌, ◌∷◌, [], List, ℕ, Option, sym, ap, subst, length, get_or}
 use Rattle.std.specs.Prelude.{position, slice_get, option_map}
 use Rattle.annex_model.specs.Messages.{Getconfig, host_reading, remote_line}
 use Rattle.kit_async_model.specs.declared.job.Job.{Job}

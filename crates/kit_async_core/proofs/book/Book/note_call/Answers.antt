@@ -1,5 +1,5 @@
-use Rattle.std.proofs.Common.{◌≡◌, ◌∙◌, ◌++◌, ◌∷◌, ◌+◌, ◌<◌, [], List, ℕ, None, Some, Option, Bool, sym, ap, subst, refl, length, get_or, arith}
-use Rattle.std.specs.Prelude.{◌||◌, set, slice_get}
+use Rattle.std.proofs.Common.{◌≡◌, ◌∙◌, ◌++◌, ◌∷◌, [], ℕ, Some, Bool, sym, ap, subst, arith}
+use Rattle.std.specs.Prelude.{set, slice_get}
 use Rattle.kit_async_model.specs.declared.entry.Entry.TheVariants.{Call}
 use Rattle.kit_async_model.specs.declared.job.Job.{Job}
 use Rattle.kit_async_model.specs.Books.{BookValue, most_calls}

@@ -1,6 +1,5 @@
-use Rattle.std.proofs.Common.{◌≡◌, ◌∙◌, inl, inr, ◌++◌, ◌∷◌, ◌+◌, ◌<◌, ◌≤◌, [], List, ℕ, None, Some, Option, Bool, true, sym, ap, subst, refl, length, get_or, arith}
+use Rattle.std.proofs.Common.{◌≡◌, ◌∙◌, inl, inr, ◌++◌, ◌∷◌, [], List, ℕ, None, Some, Option, true, ap, subst, length, arith}
 use Rattle.std.specs.Prelude.{slice_get, IfSome, remove}
-use Rattle.kit_async_model.specs.declared.entry.Entry.{Entry}
 use Rattle.kit_async_model.specs.declared.entry.Entry.TheVariants.{Say, Lack}
 use Rattle.kit_async_model.specs.declared.job.Job.{Job}
 use Rattle.kit_async_model.specs.Books.{BookValue}
@@ -22,7 +21,7 @@ push-requires c =
     let old = c.args.self.now in
     let mid = c.begin_answer-answer.new.self in
     let b = begun_is old mid c.args.at c.args.said (Some c.in-Some.line) c.in-Some.ensures in
-    omega (arith, some_room c.args.setup.now old c.args.remote c.args.said c.args.at c.requires.is c.requires.room, b.room, c.note_call.ensures.room, ap (λ (v : BookValue). v.room) c.self-2.view_is)
+    omega (arith, some_room c.args.setup.now old c.args.remote c.args.said c.args.at c.requires.is c.requires.room, b.room, c.note_call.ensures.room, ap (λ (v : BookValue). v.room) c.self-in-Some.view_is)
 
 pub close_job-requires : goal.close_job-requires
 close_job-requires c =
@@ -30,14 +29,14 @@ close_job-requires c =
     let mid = c.begin_answer-answer.new.self in
     let b = begun_is old mid c.args.at c.args.said (Some c.in-Some.line) c.in-Some.ensures in
     let within = still_within c.args.setup.now old mid c.note_call.new.self c.args.remote c.args.said c.args.at c.requires.is b c.note_call.ensures in
-    omega (arith, within, ap (λ (v : BookValue). length v.stands.jobs) c.self-2.view_is)
+    omega (arith, within, ap (λ (v : BookValue). length v.stands.jobs) c.self-in-Some.view_is)
 
 pub push-requires-in-None : goal.push-requires-in-None
 push-requires-in-None c =
     let old = c.args.self.now in
     let mid = c.begin_answer-answer.new.self in
     let b = begun_is old mid c.args.at c.args.said None c.in-None.ensures in
-    omega (arith, some_room c.args.setup.now old c.args.remote c.args.said c.args.at c.requires.is c.requires.room, b.room, c.note_call.ensures.room, ap (λ (v : BookValue). v.room) c.self-2.view_is)
+    omega (arith, some_room c.args.setup.now old c.args.remote c.args.said c.args.at c.requires.is c.requires.room, b.room, c.note_call.ensures.room, ap (λ (v : BookValue). v.room) c.self-in-None.view_is)
 
 pub returns-in-Some : goal.returns-in-Some
 returns-in-Some c =
@@ -55,10 +54,10 @@ returns-in-Some c =
     let number : n ≡ k.job.number = ap (λ (j : Job). j.number) (read_is c.self.inside.jobs.items place k.job c.index.result.now there c.index.ensures) in
     inl (answered_settles setup old mid c.note_call.new.self _ c.args.remote c.args.said place n line c.requires.apart k c.requires.live settled number
     c.in-Some.ensures c.note_call.ensures
-    (c.close_job.ensures.journal ∙ c.push.ensures.entries ∙ ap (λ (v : BookValue). v.journal ++ Say n line ∷ []) c.self-2.view_is)
+    (c.close_job.ensures.journal ∙ c.push.ensures.entries ∙ ap (λ (v : BookValue). v.journal ++ Say n line ∷ []) c.self-in-Some.view_is)
     (subst (λ (v : BookValue). IfSome (slice_get v.stands.jobs place) (λ job. c.close_job.new.self.stands ≡ record v.stands { due = []; told = told_by v.stands.prepared job v.stands.told; jobs = remove v.stands.jobs place }))
-    c.self-2.view_is c.close_job.ensures.stands)
-    (omega (arith, c.close_job.ensures.room, c.push.ensures.room, ap (λ (v : BookValue). v.room) c.self-2.view_is)))
+    c.self-in-Some.view_is c.close_job.ensures.stands)
+    (omega (arith, c.close_job.ensures.room, c.push.ensures.room, ap (λ (v : BookValue). v.room) c.self-in-Some.view_is)))
 
 pub returns-in-None : goal.returns-in-None
 returns-in-None c =
@@ -66,10 +65,10 @@ returns-in-None c =
     let old = c.args.self.now in
     let mid = c.begin_answer-answer.new.self in
     let k = c.requires.is in
-    let i = c.self-2.inside in
+    let i = c.self-in-None.inside in
     let settled : settles setup k.job c.args.said ≡ true = subst (λ (o : Option Job). IfSome o (λ job. settles setup job c.args.said ≡ true)) k.there c.requires.settles in
     inr (lacking_settles setup old mid c.note_call.new.self _ c.args.remote c.args.said c.args.at c.requires.apart k c.requires.live settled
     c.in-None.ensures c.note_call.ensures
-    (c.push-in-None.ensures.entries ∙ ap (λ (v : BookValue). v.journal ++ Lack ∷ []) c.self-2.view_is)
-    (ap (λ (v : BookValue). record v.stands { due = []; over = true }) c.self-2.view_is)
-    (omega (arith, c.push-in-None.ensures.room, ap (λ (v : BookValue). v.room) c.self-2.view_is)))
+    (c.push-in-None.ensures.entries ∙ ap (λ (v : BookValue). v.journal ++ Lack ∷ []) c.self-in-None.view_is)
+    (ap (λ (v : BookValue). record v.stands { due = []; over = true }) c.self-in-None.view_is)
+    (omega (arith, c.push-in-None.ensures.room, ap (λ (v : BookValue). v.room) c.self-in-None.view_is)))

@@ -1,12 +1,11 @@
-use Rattle.std.proofs.Common.{◌≡◌, ◌∙◌, ◌++◌, ◌∷◌, [], List, ℕ, None, Some, Option, Bool, true, false, sym, ap, subst, refl, length, get_or, rules, tests, arith}
-use Rattle.std.specs.Prelude.{position, set, not, ◌&&◌, slice_get}
+use Rattle.std.proofs.Common.{◌≡◌, ◌∙◌, ◌++◌, ◌∷◌, [], List, ℕ, Some, sym, ap, subst, get_or, arith}
+use Rattle.std.specs.Prelude.{position, set, not, slice_get}
 use Rattle.kit_async_model.specs.declared.entry.Entry.{Entry}
 use Rattle.kit_async_model.specs.declared.entry.Entry.TheVariants.{Take}
-use Rattle.kit_async_model.specs.declared.event.Reply.{Reply}
 use Rattle.kit_async_model.specs.declared.job.Job.{Job}
 use Rattle.kit_async_model.specs.Books.{BookValue, Took}
 use Rattle.kit_async_model.specs.Events.{take_step, work_in, waiting}
-use Rattle.kit_async_model.specs.Legality.{is_idle, is_free, is_turn_of, is_done}
+use Rattle.kit_async_model.specs.Legality.{is_idle, is_free, is_turn_of}
 use Rattle.kit_async_model.specs.Standings.{Standing}
 use Rattle.kit_async_model.proofs.Fronts.{both}
 use Rattle.kit_async_model.proofs.Places.{found_place, found_none, read_is}
