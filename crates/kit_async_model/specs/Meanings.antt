@@ -1,28 +1,31 @@
 -- What the lines and the calls of one job mean: what a kit that serves one job at a time says to its request.
-use Rattle.std.specs.Prelude.{ℕ, ◌≡◌, ◌⊎◌, ◌+◌, ◌==◌, ◌&&◌, Bool, true, false, if◌then◌else◌, List, [], ◌∷◌, ◌++◌, map, length, Option, Some, None, IsTrue}
+use Rattle.std.specs.Prelude.{ℕ, ◌≡◌, ◌⊎◌, ◌+◌, ◌-◌, ◌≤◌, ◌==◌, ◌&&◌, Bool, true, false, if◌then◌else◌, List, [], ◌∷◌, ◌++◌, map, length, Option, Some, None, IsTrue}
 use Rattle.std.specs.List.{list_all}
 use Rattle.annex_model.specs.Messages.{HostMessage, Value, Getconfig, host_reading, remote_line}
 use Rattle.annex_model.specs.Tags.{untag, without_tag}
 use Rattle.kit_core.specs.declared.call.Said.{Said}
-use Rattle.kit_core.specs.Kits.{Due, Silence, Line, Asks, is_readying, is_yes, final_line}
+use Rattle.kit_core.specs.declared.call.Asked.{Asked}
+use Rattle.kit_core.specs.declared.call.Asked.TheVariants.{Prepare as AskPrepare}
+use Rattle.kit_core.specs.Kits.{Due, Silence, Line, Asks, is_readying, is_yes, final_line, asked_by}
 use Rattle.kit_async_model.specs.declared.setup.Setup.{Setup}
+use Rattle.kit_async_model.specs.declared.job.Job.{Job}
 use Rattle.kit_async_model.specs.declared.entry.Entry.{Entry}
 use Rattle.kit_async_model.specs.declared.entry.Entry.TheVariants.{Heard, Call, Say}
 use Rattle.kit_async_model.specs.declared.hearing.Hearing.{Hearing}
 use Rattle.kit_async_model.specs.declared.hearing.Hearing.TheVariants.{Asks as AsksJob, Replies}
 use Rattle.kit_async_model.specs.Abouts.{lines_about}
-use Rattle.kit_async_model.specs.Jobs.{request_due, if_prepared, job_of}
+use Rattle.kit_async_model.specs.Jobs.{request_due, due_in, if_prepared, job_of}
 use Rattle.kit_async_model.specs.Hearings.{text_in, is_open, hearing_of}
 use Rattle.kit_async_model.specs.Standings.{Standing, after, standing}
 use Rattle.kit_async_model.specs.Legality.{is_legal}
 
 -- ---- the lines of a job, and its calls
 
--- a message of the host, a line that is said, both without a tag; or a call of a remote
+-- a message of the host, a line that is said, both without a tag; or a call of a remote, what it was called for, and what it said
 pub data Item : Type 0 where
   Told : (message : Option HostMessage) → Item
   Says : (line : List ℕ) → Item
-  Calls : (remote : ℕ) (said : Said) → Item
+  Calls : (remote : ℕ) (asked : Option Asked) (said : Said) → Item
 
 abbrev pub said_text : ℕ → List ℕ → List ℕ
 said_text number line = if number == 0 then line else without_tag line (untag line)
@@ -35,10 +38,15 @@ told_item text hearing = None
 abbrev pub said_item : Standing → ℕ → List ℕ → Option (ℕ × Item)
 said_item s job line = if is_open (job_of s.jobs job) && (if s.over then false else true) then Some (job, Says (said_text job line)) else None
 
+-- what a remote is called for in the job
+abbrev pub asked_in : Setup → Option Job → Option Asked
+asked_in setup None = None
+asked_in setup (Some job) = asked_by (due_in setup job)
+
 -- What an entry is to which job. A line that ended the kit belongs to none, nor do the version and the last words.
 abbrev pub item_of : Setup → Standing → Entry → Option (ℕ × Item)
 item_of setup s (Heard line) = told_item (text_in s.tagged line) (hearing_of setup s.jobs s.tagged line)
-item_of setup s (Call job remote said) = Some (job, Calls remote said)
+item_of setup s (Call job remote said) = Some (job, Calls remote (asked_in setup (job_of s.jobs job)) said)
 item_of setup s (Say job line) = said_item s job line
 item_of setup s entry = None
 
@@ -62,6 +70,13 @@ items_until setup s number (entry ∷ rest) =
     if begins_job setup s number entry then []
     else of_job number (item_of setup s entry) ++ items_until setup (after setup s entry) number rest
 
+-- the job of that number is open after the entries, or before its number's next
+abbrev pub stays_open : Setup → Standing → ℕ → List Entry → Bool
+stays_open setup s number [] = is_open (job_of s.jobs number)
+stays_open setup s number (entry ∷ rest) =
+    if begins_job setup s number entry then is_open (job_of s.jobs number)
+    else stays_open setup (after setup s entry) number rest
+
 -- the items of the job that the line begins, which was heard after the past
 abbrev pub job_items : Setup → List Entry → List ℕ → ℕ → List Entry → List Item
 job_items setup past line number rest =
@@ -76,26 +91,29 @@ asked_values [] values = []
 asked_values (name ∷ names) [] = []
 asked_values (name ∷ names) (value ∷ values) = Says (remote_line (Getconfig name)) ∷ Told (Some (Value value)) ∷ asked_values names values
 
--- one remote after the other was called, from this one on
-abbrev pub calls_from : ℕ → List Said → List Item
-calls_from remote [] = []
-calls_from remote (said ∷ more) = Calls remote said ∷ calls_from (remote + 1) more
+-- one remote after the other was called for the same, from this one on
+abbrev pub calls_from : ℕ → Asked → List Said → List Item
+calls_from remote asked [] = []
+calls_from remote asked (said ∷ more) = Calls remote (Some asked) said ∷ calls_from (remote + 1) asked more
 
--- PREPARE and INITREMOTE: with all values, the remotes are called in order, until one doesn't say Yes.
+-- PREPARE and INITREMOTE: with all values that were told, the remotes are called in order, until one doesn't say Yes.
 pub record IsReadied (setup : Setup) (request : Option HostMessage) (items : List Item) : Type 0 where
   pub values : List (List ℕ)
   pub firsts : List Said
   pub last : Said
   pub all : length values ≡ length setup.settings
+  -- the last that is called is one of them
+  pub few : length firsts ≤ setup.remotes - 1
   pub agree : IsTrue (list_all is_yes firsts)
   pub ends : (is_yes last ≡ false) ⊎ (length firsts + 1 ≡ setup.remotes)
-  pub are : items ≡ Told request ∷ asked_values setup.settings values ++ calls_from 0 (firsts ++ last ∷ []) ++ Says (remote_line (final_line request last)) ∷ []
+  pub are : items ≡ Told request ∷ asked_values setup.settings values ++ calls_from 0 (AskPrepare values) (firsts ++ last ∷ []) ++ Says (remote_line (final_line request last)) ∷ []
 
 -- a request for a key: one call of one remote, and the line for what it said
-pub record IsWorked (request : Option HostMessage) (items : List Item) : Type 0 where
+pub record IsWorked (setup : Setup) (asked : Asked) (request : Option HostMessage) (items : List Item) : Type 0 where
   pub remote : ℕ
   pub said : Said
-  pub are : items ≡ Told request ∷ Calls remote said ∷ Says (remote_line (final_line request said)) ∷ []
+  pub among : remote ≤ setup.remotes - 1
+  pub are : items ≡ Told request ∷ Calls remote (Some asked) said ∷ Says (remote_line (final_line request said)) ∷ []
 
 -- a request that is answered at once: its lines in their order, of which there is one at least
 abbrev pub IsSaid : List (List ℕ) → Option HostMessage → List Item → Type 0
@@ -105,7 +123,7 @@ IsSaid (line ∷ lines) request items = items ≡ Told request ∷ map (λ l. Sa
 abbrev pub IsByDue : Setup → List (List ℕ) → Due → Option HostMessage → List Item → Type 0
 IsByDue setup told Silence request items = IsSaid (lines_about setup.about told Silence request) request items
 IsByDue setup told (Line line) request items = IsSaid (lines_about setup.about told (Line line) request) request items
-IsByDue setup told (Asks asked) request items = IsWorked request items
+IsByDue setup told (Asks asked) request items = IsWorked setup asked request items
 
 abbrev pub IsSettledBy : Bool → Setup → Standing → Option HostMessage → List Item → Type 0
 IsSettledBy true setup s request items = IsReadied setup request items
@@ -116,8 +134,13 @@ abbrev pub IsSettled : Setup → Standing → Option HostMessage → List Item �
 IsSettled setup s request items = IsSettledBy (is_readying request) setup s request items
 
 -- of a job that isn't settled they go on to such ones
-abbrev pub IsMeant : Setup → Standing → Option HostMessage → List Item → Type 0
-IsMeant setup s request items = (more : List Item) × IsSettled setup s request (items ++ more)
+abbrev pub GoesOn : Setup → Standing → Option HostMessage → List Item → Type 0
+GoesOn setup s request items = (more : List Item) × IsSettled setup s request (items ++ more)
+
+-- of a job that is open, or that is settled
+abbrev pub IsMeant : Bool → Setup → Standing → Option HostMessage → List Item → Type 0
+IsMeant true setup s request items = GoesOn setup s request items
+IsMeant false setup s request items = IsSettled setup s request items
 
 -- ---- what is to be shown of a legal journal
 
@@ -127,4 +150,5 @@ JobsAreMeant =
     (setup : Setup) (past rest : List Entry) (line : List ℕ) (number : ℕ)
     → is_legal setup (past ++ Heard line ∷ rest) ≡ true
     → hearing_of setup (standing setup past).jobs (standing setup past).tagged line ≡ AsksJob number
-    → IsMeant setup (standing setup past) (host_reading (text_in (standing setup past).tagged line)) (job_items setup past line number rest)
+    → IsMeant (stays_open setup (after setup (standing setup past) (Heard line)) number rest) setup (standing setup past) (host_reading (text_in (standing setup past).tagged line))
+    (job_items setup past line number rest)

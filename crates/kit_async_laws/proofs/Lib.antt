@@ -1,0 +1,14 @@
+pub mod Belonging
+pub mod Callings
+pub mod Heards
+pub mod Meant
+pub mod Numbers
+pub mod Phases
+pub mod Readying
+pub mod Refusals
+pub mod Requests
+pub mod Sayings
+pub mod Settled
+pub mod Stands
+pub mod Steps
+pub mod Workings
