@@ -5,16 +5,17 @@
 mod sweeping;
 mod swept;
 
-ghost use Rattle.std.specs.Prelude.{◌≡◌, true, IfSome};
+ghost use Rattle.std.specs.Prelude.{◌≡◌, true, vec_len, IfOk, IfSome};
 ghost use Rattle.dir_remote.specs.Contents.{IsMark};
 
-use ann_key::Text;
-use ann_os::{OsClock, OsDesks, OsErrors, OsInput, OsOutput};
+use ann_key::{Bytes, NoMemory, Text};
+use ann_os::{OsClock, OsDesk, OsDesks, OsErrors, OsInput, OsOutput};
 use ann_outside::{Clock, Desks, Sink, write_all};
 use dir_remote::{DirRemote, is_mark};
-use kit_serve::serve_described;
+use kit_async::serve_async_described;
+use kit_async_model::Fact;
 use std::alloc::Global;
-use std::io::{ErrorKind, Stdout};
+use std::io::ErrorKind;
 use std::process::ExitCode;
 use std::rt::Env;
 use std::{env, process};
@@ -87,12 +88,12 @@ fn waits<R: Env + AllocGlobal>(rt: &R) -> bool {
     }
 }
 
-// A mark that no other remote of this machine has: the process, the time and the number of the remote in this process. None is want
-// of memory.
-fn mark_of(alloc: Global, process: u32, micros: u64) -> Option<Text>
+// A mark that no other remote of this machine has: the process, the time and the number of the remote in this process. None is out of
+// memory.
+fn mark_of(alloc: Global, process: u32, micros: u64, number: u32) -> Option<Text>
     ensures { IfSome result IsMark }
 {
-    let Ok(mark) = format!(in alloc; "{process}.{micros}.1") else {
+    let Ok(mark) = format!(in alloc; "{process}.{micros}.{number}") else {
         return None;
     };
     let mark = Text::from_string(mark);
@@ -103,37 +104,65 @@ fn mark_of(alloc: Global, process: u32, micros: u64) -> Option<Text>
     }
 }
 
-// The remote's status at its end; 7: out of memory.
-fn serve_directory(rt: &HostRuntime, out: &mut OsOutput<Stdout>) -> u8
-    requires { ⟦<OsOutput<Stdout> as Sink>⟧.is_open out.old ≡ true }
-{
-    let mut input = OsInput::new(rt.stdin());
-    let Some(mark) = mark_of(
-        rt.alloc(),
-        process::id(rt.process()),
-        OsClock::new(rt).now(),
-    ) else {
-        return 7;
+// A remote over a desk of its own, with a mark of its own.
+type Directory<'a> = Swept<&'a HostRuntime, OsDesk<&'a HostRuntime>>;
+
+fn directory<'a>(
+    rt: &'a HostRuntime,
+    desks: &mut OsDesks<&'a HostRuntime>,
+    micros: u64,
+    number: u32,
+) -> Result<Directory<'a>, NoMemory> {
+    let process = process::id(rt.process());
+    let Some(mark) = mark_of(rt.alloc(), process, micros, number) else {
+        return Err(NoMemory);
     };
+    let desk = desks.desk(number)?;
+    Ok(Swept::new(rt, DirRemote::apart(rt.alloc(), desk, mark)))
+}
+
+// Four, so that so many requests are worked on at the same time.
+fn directories(rt: &HostRuntime) -> Result<Vec<Directory<'_>>, NoMemory>
+    ensures { IfOk result (λ remotes. vec_len remotes ≡ 4) }
+{
+    let micros = OsClock::new(rt).now();
     let mut desks = if waits(rt) {
         OsDesks::new(rt)
     } else {
         OsDesks::unsynced(rt)
     };
-    let Ok(desk) = desks.desk(1) else {
-        return 7;
-    };
-    let remote = Swept::new(rt, DirRemote::apart(rt.alloc(), desk, mark));
-    serve_described(rt.alloc(), remote, &mut input, out).status
+    let mut remotes = Vec::new(rt.alloc());
+    remotes.push(directory(rt, &mut desks, micros, 1)?)?;
+    remotes.push(directory(rt, &mut desks, micros, 2)?)?;
+    remotes.push(directory(rt, &mut desks, micros, 3)?)?;
+    remotes.push(directory(rt, &mut desks, micros, 4)?)?;
+    Ok(remotes)
+}
+
+// Its directory, which is the value of its one setting.
+fn facts(alloc: Global) -> Result<Vec<Fact>, NoMemory> {
+    let mut facts = Vec::new(alloc);
+    facts.push(Fact::Setting {
+        name: Bytes::copy(alloc, b"directory")?,
+        number: 0,
+    })?;
+    Ok(facts)
 }
 
 fn main(rt: HostRuntime) -> ExitCode {
-    let mut out = OsOutput::new(rt.stdout());
+    let alloc = rt.alloc();
     let status = match read_wish(&rt) {
         None => 7,
-        Some(Wish::Print(text)) => print(&mut out, text, 0),
+        Some(Wish::Print(text)) => print(&mut OsOutput::new(rt.stdout()), text, 0),
         Some(Wish::Refused) => print(&mut OsErrors::new(rt.stderr()), USAGE, 2),
-        Some(Wish::Serve) => serve_directory(&rt, &mut out),
+        Some(Wish::Serve) => match (directories(&rt), facts(alloc)) {
+            (Ok(remotes), Ok(facts)) => {
+                let input = OsInput::new(rt.stdin());
+                let output = OsOutput::new(rt.stdout());
+                serve_async_described(&rt, alloc, remotes, facts, input, output).status
+            }
+            _ => 7,
+        },
     };
     ExitCode::from(status)
 }
