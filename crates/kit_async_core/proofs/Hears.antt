@@ -273,7 +273,7 @@ each_said n (line ∷ lines) = ap (λ (es : List Entry). Say n (job_line n line)
 said_through : (setup : Setup) (t : Standing) (job : Job) (line : List ℕ) (lines : List (List ℕ)) → t.due ≡ with_number job.number (line ∷ lines)
     → job_of t.jobs job.number ≡ Some job
     → fold (after setup) t (due_said (with_number job.number (line ∷ lines)))
-        ≡ said_in setup (record t { due = []; unwritten = t.unwritten ++ map (job_line job.number) (line ∷ lines) }) (Some job)
+    ≡ said_in setup (record t { due = []; unwritten = t.unwritten ++ map (job_line job.number) (line ∷ lines) }) (Some job)
 said_through setup t job line [] d f =
     let l : List ℕ = job_line job.number line in
     ap (λ (due : List (ℕ × List ℕ)). said_in setup (record t { due = drop 1 due; unwritten = t.unwritten ++ l ∷ [] }) (job_of t.jobs job.number)) d
@@ -308,7 +308,7 @@ begin_took setup old new line job m is silent j s r =
 -- what stands after the lines that are said for a new job
 said_new : (setup : Setup) (s : Standing) (line : List ℕ) (job : Job) (said : List (List ℕ)) → IsRequest setup s line job → (some : SomeLine setup s.told job said)
     → fold (after setup) (with_request setup s job) (due_said (with_number job.number (some.text ∷ some.rest)))
-        ≡ said_in setup (record (with_request setup s job) { due = []; unwritten = s.unwritten ++ said }) (Some job)
+    ≡ said_in setup (record (with_request setup s job) { due = []; unwritten = s.unwritten ++ said }) (Some job)
 said_new setup s line job said is some =
     said_through setup (with_request setup s job) job some.text some.rest (ap (with_number job.number) some.lines) (job_last s.jobs job (asks_new setup s.jobs s.tagged line job.number is.hearing))
     ∙ ap (λ (ls : List (List ℕ)). said_in setup (record (with_request setup s job) { due = []; unwritten = s.unwritten ++ ls }) (Some job)) some.wired

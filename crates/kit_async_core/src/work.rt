@@ -149,7 +149,8 @@ impl Book {
         requires { at < length self.old.stands.jobs }
         ensures journal { self.new.journal ≡ self.old.journal }
         ensures room { self.new.room ≡ self.old.room }
-        ensures stands { IfSome (slice_get self.old.stands.jobs at) (λ job. self.new.stands ≡ record self.old.stands { told = told_by self.old.stands.prepared job self.old.stands.told; jobs = remove self.old.stands.jobs at }) }
+        ensures stands { IfSome (slice_get self.old.stands.jobs at)
+            (λ job. self.new.stands ≡ record self.old.stands { told = told_by self.old.stands.prepared job self.old.stands.told; jobs = remove self.old.stands.jobs at }) }
     {
         let job = self.jobs.remove(at);
         if self.prepared && job.is_prepare() {
