@@ -104,7 +104,8 @@ fn mark_of(alloc: Global, process: u32, micros: u64, number: u32) -> Option<Text
     }
 }
 
-// A remote over a desk of its own, with a mark of its own.
+// A remote over a desk of its own, with a mark of its own, so that no two put a content together in one file. The first one clears the
+// folder of old temporary files.
 type Directory<'a> = Swept<&'a HostRuntime, OsDesk<&'a HostRuntime>>;
 
 fn directory<'a>(
@@ -118,7 +119,8 @@ fn directory<'a>(
         return Err(NoMemory);
     };
     let desk = desks.desk(number)?;
-    Ok(Swept::new(rt, DirRemote::apart(rt.alloc(), desk, mark)))
+    let remote = DirRemote::apart(rt.alloc(), desk, mark);
+    Ok(Swept::new(rt, remote, number == 1))
 }
 
 // Four, so that so many requests are worked on at the same time.

@@ -10,16 +10,17 @@ use std::alloc::{AllocGlobal, Global};
 use std::rt::{Clock, Files};
 use std::str;
 
-/// Hands each call on to the directory remote.
+/// Hands each call on to the directory remote. One of several that use a folder clears it.
 #[derive(Drop)]
 pub struct Swept<R, D: Desk> {
     rt: R,
     remote: DirRemote<D>,
+    sweeps: bool,
 }
 
 impl<R: Files + AllocGlobal + Clock + Clone + Drop, D: Desk> Swept<R, D> {
-    pub fn new(rt: R, remote: DirRemote<D>) -> Swept<R, D> {
-        Swept { rt, remote }
+    pub fn new(rt: R, remote: DirRemote<D>, sweeps: bool) -> Swept<R, D> {
+        Swept { rt, remote, sweeps }
     }
 
     // Old files of the directory that the values name.
@@ -43,7 +44,7 @@ impl<R: Files + AllocGlobal + Clock + Clone + Drop, D: Desk> Remote for Swept<R,
 
     fn prepare(&mut self, values: &Values) -> Result<Said, NoMemory> {
         let said = self.remote.prepare(values)?;
-        if let Said::Yes = &said {
+        if self.sweeps && matches!(said, Said::Yes) {
             self.sweep(values);
         }
         Ok(said)
