@@ -63,7 +63,7 @@ StandsAt spoke over foul lacks begun voice told held (Some end) = Talked spoke o
 
 -- What the source gave is what the voice heard, and what it said to that is what is read of it.
 pub record IsChild {S V : Type 0} (given : S → Option (List ℕ)) (is_open : S → Bool) (spoke : Spoken V) (over : V → Bool) (foul : V → List ℕ → Type 0) (lacks : V → V → List ℕ → Type 0)
-  (c : ChildValue S V) : Type 0 where
+    (c : ChildValue S V) : Type 0 where
   pub opened : is_open c.source ≡ true
   pub stands : StandsAt spoke over foul lacks c.begun c.voice (record { given = given c.source; taken = c.said }) c.held c.end
   pub within : IfSome c.said (λ said. c.read ≤ length said)

@@ -46,14 +46,14 @@ impl<S: Source, V: Voice> Model for Child<S, V> {
 
     ghost invariant = { λ c. (c.splitter.limit ≡ longest_line) × (⟦<MemSink as Sink>⟧.is_open c.said ≡ true)
         × IsChild S.given S.is_open V.spoke V.is_over V.is_foul V.lacks (record {
-      source = c.source;
-      begun = c.begun.value;
-      voice = c.voice;
-      held = c.splitter.bytes;
-      said = ⟦<MemSink as Sink>⟧.taken c.said;
-      read = c.read;
-      end = c.end;
-    }) };
+          source = c.source;
+          begun = c.begun.value;
+          voice = c.voice;
+          held = c.splitter.bytes;
+          said = ⟦<MemSink as Sink>⟧.taken c.said;
+          read = c.read;
+          end = c.end;
+        }) };
 }
 
 // Copies as much as fits, and answers how much.

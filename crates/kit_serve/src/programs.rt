@@ -93,7 +93,8 @@ impl<'a, T: Wait, R: Remote> Source for KitOutlet<'a, T, R> {
         ensures bound { ReadsAtMost result buf.new }
         ensures bytes { ReadConsumes (⟦<KitOutlet<'a, T, R> as Source>⟧.left self.old) (⟦<KitOutlet<'a, T, R> as Source>⟧.left self.new) result buf.new }
         ensures given { WriteAppends (⟦<KitOutlet<'a, T, R> as Source>⟧.given self.old) (⟦<KitOutlet<'a, T, R> as Source>⟧.given self.new) result buf.new }
-        ensures silent { StaysUntold (⟦<KitOutlet<'a, T, R> as Source>⟧.left self.old) (⟦<KitOutlet<'a, T, R> as Source>⟧.left self.new) × StaysUntold (⟦<KitOutlet<'a, T, R> as Source>⟧.given self.old) (⟦<KitOutlet<'a, T, R> as Source>⟧.given self.new) }
+        ensures silent { StaysUntold (⟦<KitOutlet<'a, T, R> as Source>⟧.left self.old) (⟦<KitOutlet<'a, T, R> as Source>⟧.left self.new)
+            × StaysUntold (⟦<KitOutlet<'a, T, R> as Source>⟧.given self.old) (⟦<KitOutlet<'a, T, R> as Source>⟧.given self.new) }
         ensures cause { HasCause (⟦<KitOutlet<'a, T, R> as Source>⟧.faults self.old) (⟦<KitOutlet<'a, T, R> as Source>⟧.faults self.new) result }
         ensures open { ⟦<KitOutlet<'a, T, R> as Source>⟧.is_open self.new ≡ true }
         ensures number { ⟦<KitOutlet<'a, T, R> as Source>⟧.number self.new ≡ ⟦<KitOutlet<'a, T, R> as Source>⟧.number self.old }

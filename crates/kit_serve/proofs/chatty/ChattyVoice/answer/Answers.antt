@@ -12,9 +12,11 @@ returns-then-step-clause-replies g c =
     let n = c.self.inside.progress in
     let r = replied (Spoke settings calls) (λ kit. is_last kit.stage) (λ kit line. host_reading line ≡ None) c.self.inside.kit c.answer.new.self c.args.line.now c.in_ok-step.field-0 c.in-Some.step
     c.in-Some.is c.in_ok-step.ensures.replies in
-    rw (← c.self.view_is)
-    (chats_utter settings calls (record { kit = c.self.inside.kit; progress = n }) (record { kit = c.answer.new.self; progress = n }) c.args.line.now c.in-Some.step.say c.in-Some.step.say
-    r.0 refl (mixed_same n c.in-Some.step.say), r.1)
+    rw (← c.self.view_is) (
+      chats_utter settings calls (record { kit = c.self.inside.kit; progress = n }) (record { kit = c.answer.new.self; progress = n }) c.args.line.now c.in-Some.step.say c.in-Some.step.say
+          r.0 refl (mixed_same n c.in-Some.step.say),
+      r.1,
+    )
 
 pub returns-clause-replies : goal.returns-clause-replies
 returns-clause-replies g c =
@@ -23,6 +25,8 @@ returns-clause-replies g c =
     let n = c.self.inside.progress in
     let r = replied (Spoke settings calls) (λ kit. is_last kit.stage) (λ kit line. host_reading line ≡ None) c.self.inside.kit c.answer.new.self c.args.line.now c.in_ok-step.field-0 c.in-Some.step
     c.in-Some.is c.in_ok-step.ensures.replies in
-    rw (← c.self.view_is)
-    (chats_utter settings calls (record { kit = c.self.inside.kit; progress = n }) (record { kit = c.answer.new.self; progress = n }) c.args.line.now c.in-Some.step.say c.in_ok-say.say
-    r.0 refl c.in_ok-say.ensures, sym c.if-step.false ∙ r.1)
+    rw (← c.self.view_is) (
+      chats_utter settings calls (record { kit = c.self.inside.kit; progress = n }) (record { kit = c.answer.new.self; progress = n }) c.args.line.now c.in-Some.step.say c.in_ok-say.say
+          r.0 refl c.in_ok-say.ensures,
+      sym c.if-step.false ∙ r.1,
+    )
