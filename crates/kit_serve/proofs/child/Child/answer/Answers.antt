@@ -1,7 +1,7 @@
 use Rattle.std.proofs.Common.{ap, ◌∙◌}
 use Rattle.annex_model.specs.Lines.{has_newline}
 use Rattle.wire_msg.specs.Shown.{host_shown}
-use Rattle.kit_serve.proofs.Fields.{spelled_fields}
+use Rattle.kit_core.proofs.Fields.{spelled_fields}
 use Rattle.kit_core.proofs.FirstLines.{before_whole}
 use Rattle.kit_serve.proofs.child.Child.answer.Goals as goal
 

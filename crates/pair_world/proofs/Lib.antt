@@ -1,0 +1,4 @@
+mod Kits
+mod Taking
+mod Journals
+mod Standing
