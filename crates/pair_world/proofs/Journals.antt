@@ -5,7 +5,7 @@ use Rattle.std.specs.List.{list_all, cons_option}
 use Rattle.std.proofs.Math.Seq.{take-add}
 use Rattle.std.proofs.lemmas.List.Elements.{filter-append}
 use Rattle.std.proofs.lemmas.List.{map-append}
-use Rattle.annex_model.specs.Lines.{text}
+use Rattle.annex_model.specs.Lines.{text, has_newline}
 use Rattle.annex_model.specs.Messages.{HostMessage, host_line}
 use Rattle.task_text.specs.declared.task.Task.{Task}
 use Rattle.journal_model.specs.declared.verdict.Why.{Why}
@@ -16,8 +16,8 @@ use Rattle.journal_model.specs.declared.entry.What.{What}
 use Rattle.journal_model.specs.declared.entry.What.TheVariants.{Claim, Start, NoStart, Ask, Put, Sent, Mute, Got, End, Verdict as Settled, Lost, Answer as Answered, Note as Noted}
 use Rattle.journal_model.specs.declared.entry.Entry.{Entry}
 use Rattle.journal_model.specs.declared.opening.Opening.{Opening}
-use Rattle.journal_model.specs.Journal.{each_of, sends, writes, is_started, is_ended, is_mute, got_lines, unsent, open_jobs, verdict_of, on_wire}
-use Rattle.journal_model.specs.Legality.{count, is_start, is_claimed_by, is_prepared, least_free, task_of}
+use Rattle.journal_model.specs.Journal.{each_of, sends, writes, is_started, is_ended, is_mute, is_full, got_lines, unsent, open_jobs, verdict_of, on_wire}
+use Rattle.journal_model.specs.Legality.{is_empty, count, is_start, is_claimed_by, is_prepared, least_free, task_of}
 use Rattle.journal_model.specs.Due.{due_by, due_by_got, made_by}
 use Rattle.journal_model.specs.Wires.{sent_lines}
 use Rattle.journal_model.proofs.Looks.{same, either_left, either_right, each_of-append, any-append}
@@ -29,11 +29,11 @@ use Rattle.talk_serial.specs.Requests.{message_of}
 use Rattle.host_core.specs.declared.event.Event.{Event}
 use Rattle.host_core.specs.declared.event.Event.TheVariants.{Claim as ClaimEvent, Start as StartEvent, NoStart as NoStartEvent, Ask as AskEvent, Lookup, Look, Listen, Fetch, Got as GotEvent, Stop, Sent as SentEvent, Mute as MuteEvent, Answer as AnswerEvent, Note as NoteEvent, Layouts as LayoutsEvent, Shut}
 use Rattle.host_core.specs.declared.event.Reply.{Reply}
-use Rattle.host_core.specs.declared.event.Reply.TheVariants.{Job, Read, Wait, NoTask, Over, Done}
-use Rattle.host_core.specs.Steps.{Step, step_of, group_of, append, odd, only, gone, is_gone, claim, ask, next_job, may_request, may_answer, may_add_note, may_end, is_asked, settled_so, next_line, listening, resting, layouts_for, is_awaited, is_idle, are_all_claimed, told, unless_shut, shut_for}
+use Rattle.host_core.specs.declared.event.Reply.TheVariants.{Task as TaskReply, Child, Job, Read, Wait, NoTask, Gone, Over, Done}
+use Rattle.host_core.specs.Steps.{Step, step_of, group_of, append, odd, only, gone, is_gone, claim, ask, next_job, may_request, may_answer, may_add_note, may_end, is_asked, settled_so, next_line, listening, resting, layouts_for, is_awaited, is_idle, are_all_claimed, told, unless_shut, shut_for, shut_by}
 use Rattle.pair_world.specs.Pairs.{PairValue, new_pair}
 use Rattle.pair_world.specs.Worlds.{IsFed, IsRead}
-use Rattle.pair_world.specs.Moves.{begun_by, is_barred}
+use Rattle.pair_world.specs.Moves.{begun_by, is_barred, is_odd}
 
 -- ---- stretches that neither hear nor cover
 
@@ -219,6 +219,113 @@ grows_event o past by shut event barred =
     let q = quiet_event o past by event barred refl in
     Stays (told_begun past shut event (step_of o past by event).reply ∙ q.0) q.1
 
+-- ---- an event that may not come appends nothing
+
+-- where the step is refused, it appends nothing
+abbrev Refused : Step → Type 0
+Refused s = is_odd s.reply ≡ true → s.group ≡ []
+
+refused_if : (b : Bool) (x y : Step) → Refused x → Refused y → Refused (cond b x y)
+refused_if true x y p q = p
+refused_if false x y p q = q
+
+refused_only : (r : Reply) → Refused (only r)
+refused_only r e = refl
+
+refused_odd : Refused odd
+refused_odd e = refl
+
+-- an entry is answered otherwise
+refused_append : (o : Opening) (past : List Entry) (by : ℕ) (w : What) (r : Reply) → is_odd r ≡ false → Refused (append o past by w r)
+refused_append o past by w r not e = let bad : false ≡ true = sym not ∙ e in absurd cc
+
+refused_claim : (o : Opening) (past : List Entry) (by child : ℕ) (free : Option ℕ) → Refused (claim o past by child free)
+refused_claim o past by child (Some t) = refused_append o past by (Claim t child) (TaskReply t) refl
+refused_claim o past by child None = refused_only (cond (are_all_claimed o past) NoTask Wait)
+
+refused_layouts : (o : Opening) (past : List Entry) (task : Option Task) → Refused (layouts_for o past task)
+refused_layouts o past None e = refl
+refused_layouts o past (Some task) e = refl
+
+refused_step : (o : Opening) (past : List Entry) (by : ℕ) (event : Event) → Refused (step_of o past by event)
+refused_step o past by (ClaimEvent child) =
+    let f = claim o past by child (least_free o past) in
+    refused_if (child == 0 && by == 0) f (cond (not (is_started past child && is_prepared past child)) odd (cond (is_gone past child) (only (gone past child)) f)) (refused_claim o past by child (least_free o past))
+    (refused_if (not (is_started past child && is_prepared past child)) odd (cond (is_gone past child) (only (gone past child)) f) refused_odd
+    (refused_if (is_gone past child) (only (gone past child)) f (refused_only (gone past child)) (refused_claim o past by child (least_free o past))))
+refused_step o past by (StartEvent slot offer) =
+    let n = count is_start past + 1 in
+    refused_if (by == 0 && nat_lt (count is_start past) 4294967295) (append o past by (Start n slot offer) (Child n)) odd (refused_append o past by (Start n slot offer) (Child n) refl) refused_odd
+refused_step o past by (NoStartEvent slot) = refused_if (by == 0) (append o past by (NoStart slot) Done) odd (refused_append o past by (NoStart slot) Done refl) refused_odd
+refused_step o past by (AskEvent child task request) =
+    let q = message_of request in
+    let job = next_job past child in
+    let lost = append o past by (Lost child task) (gone past child) in
+    let asked = append o past by (Ask child job task (on_wire past child job (host_line q))) (Job job) in
+    refused_if (may_request past by task child q) (ask o past by task child q) odd
+    (refused_if (is_gone past child) lost asked (refused_append o past by (Lost child task) (gone past child) refl)
+    (refused_append o past by (Ask child job task (on_wire past child job (host_line q))) (Job job) refl)) refused_odd
+refused_step o past by (Lookup child job) = refused_if (is_asked past child job) (only (settled_so (verdict_of past child job))) odd (refused_only (settled_so (verdict_of past child job))) refused_odd
+refused_step o past by (Look child) =
+    refused_if (not (is_started past child)) odd (cond (is_gone past child) (only (gone past child)) (only Done)) refused_odd
+    (refused_if (is_gone past child) (only (gone past child)) (only Done) (refused_only (gone past child)) (refused_only Done))
+refused_step o past by (Listen child) =
+    refused_if (not (is_started past child)) odd (cond (is_ended past child) (only Over) (only (listening o past child))) refused_odd
+    (refused_if (is_ended past child) (only Over) (only (listening o past child)) (refused_only Over) (refused_only (listening o past child)))
+refused_step o past by (Fetch child) =
+    let next = next_line (resting o past child) (unsent past child) in
+    refused_if (not (is_started past child)) odd (cond (is_gone past child) (only Over) (only next)) refused_odd
+    (refused_if (is_gone past child) (only Over) (only next) (refused_only Over) (refused_only next))
+refused_step o past by (GotEvent child line) =
+    let full = append o past by (End child Full) (Gone (Some Full)) in
+    let got = append o past by (Got child line) Done in
+    refused_if (not (is_started past child) || has_newline line) odd (cond (is_ended past child) (only (gone past child)) (cond (is_full past) full got)) refused_odd
+    (refused_if (is_ended past child) (only (gone past child)) (cond (is_full past) full got) (refused_only (gone past child))
+    (refused_if (is_full past) full got (refused_append o past by (End child Full) (Gone (Some Full)) refl) (refused_append o past by (Got child line) Done refl)))
+refused_step o past by (Stop child why) =
+    let end = append o past by (End child why) Done in
+    refused_if (not (is_started past child && may_end past child why)) odd (cond (is_ended past child) (only (gone past child)) end) refused_odd
+    (refused_if (is_ended past child) (only (gone past child)) end (refused_only (gone past child)) (refused_append o past by (End child why) Done refl))
+refused_step o past by (SentEvent child) = refused_if (is_empty (unsent past child)) odd (append o past by (Sent child) Done) refused_odd (refused_append o past by (Sent child) Done refl)
+refused_step o past by (MuteEvent child) =
+    refused_if (is_started past child && not (is_mute past child)) (append o past by (Mute child) Done) odd (refused_append o past by (Mute child) Done refl) refused_odd
+refused_step o past by (AnswerEvent task answer) =
+    refused_if (may_answer past by task) (append o past by (Answered task answer) Done) odd (refused_append o past by (Answered task answer) Done refl) refused_odd
+refused_step o past by (NoteEvent task chunk n) =
+    refused_if (may_add_note o past by task chunk) (append o past by (Noted task chunk n) Done) odd (refused_append o past by (Noted task chunk n) Done refl) refused_odd
+refused_step o past by (LayoutsEvent task) = refused_if (is_claimed_by past by task) (layouts_for o past (task_of o task)) odd (refused_layouts o past (task_of o task)) refused_odd
+refused_step o past by (Shut on) = refused_if (nat_le by 1) (only Done) odd (refused_only Done) refused_odd
+
+told_odd : (past : List Entry) (shut : Bool) (event : Event) (r : Reply) → is_odd (told past shut event r) ≡ is_odd r
+told_odd past shut (Listen child) r = waits (shut_for past shut (Listen child)) r
+  where
+    waits : (b : Bool) (r : Reply) → is_odd (unless_shut b r) ≡ is_odd r
+    waits true Wait = refl
+    waits false Wait = refl
+    waits b r = refl
+told_odd past shut (Fetch child) r = waits (shut_for past shut (Fetch child)) r
+  where
+    waits : (b : Bool) (r : Reply) → is_odd (unless_shut b r) ≡ is_odd r
+    waits true Wait = refl
+    waits false Wait = refl
+    waits b r = refl
+told_odd past shut event r = refl
+
+odd_shut : (o : Opening) (past : List Entry) (by : ℕ) (shut : Bool) (event : Event) → is_odd (step_of o past by event).reply ≡ true → shut_by by event shut ≡ shut
+odd_shut o past by shut (Shut on) e = go (nat_le by 1) refl e
+  where
+    go : (b : Bool) → nat_le by 1 ≡ b → is_odd (cond b (only Done) odd).reply ≡ true → cond b on shut ≡ shut
+    go true k f = absurd cc
+    go false k f = refl
+odd_shut o past by shut event e = refl
+
+-- an odd event leaves the journal and whether the core is shut
+pub odd_stays : (o : Opening) (past : List Entry) (by : ℕ) (shut : Bool) (event : Event) → is_odd (told past shut event (step_of o past by event).reply) ≡ true
+    → ((step_of o past by event).group ≡ []) × (shut_by by event shut ≡ shut)
+odd_stays o past by shut event e =
+    let odd_reply : is_odd (step_of o past by event).reply ≡ true = sym (told_odd past shut event (step_of o past by event).reply) ∙ e in
+    (refused_step o past by event odd_reply, odd_shut o past by shut event odd_reply)
+
 -- ---- one child behind a stretch
 
 pub fed_on : (past more : List Entry) (c : ℕ) (p : PairValue) → sent_count more c ≡ 0 → IsFed past c p → IsFed (past ++ more) c p
@@ -234,6 +341,9 @@ read_on past more c p got h = record {
 
 abbrev Written : Type 0
 Written = List (Option ℕ × List ℕ)
+
+abbrev texts : Written → List (List ℕ)
+texts ws = map (λ w. w.1) ws
 
 -- the next line is covered
 pub sent_one : (past : List Entry) (by c : ℕ) (w : Option ℕ × List ℕ) (ws : Written) → unsent past c ≡ w ∷ ws
@@ -253,9 +363,6 @@ sent_one past by c w ws next covered =
           ∙ map-append (λ (y : Option ℕ × List ℕ). y.1) (take S W) (w ∷ []),
       omega (arith, n, ap (λ (x : Written). length x) w', length-drop S W, ap (λ (x : Written). length x) next, covered),
     )
-  where
-    abbrev texts : Written → List (List ℕ)
-    texts xs = map (λ w. w.1) xs
 
 -- a line is got
 pub got_one : (o : Opening) (past : List Entry) (by c : ℕ) (line : List ℕ)

@@ -38,7 +38,7 @@ tail_of [] = []
 tail_of (x ∷ xs) = xs
 
 told_apart : (c d : CueValue) → told_calls c ≡ told_calls d → (c.word ≡ d.word) × (c.calls ≡ d.calls)
-unfolding head_said, tail_of
+unfolding head_said tail_of
 told_apart c d t = (ap (head_said c.word) t, ap tail_of t)
 
 -- a cue that told its word and nothing else tells this call behind it

@@ -1,3 +1,7 @@
+mod Lines
+mod CueCalls
+mod Sides
+mod Made
 mod Kits
 mod Taking
 mod Journals

@@ -1,15 +1,15 @@
 -- Each move leaves the world standing.
 use Rattle.std.proofs.Common.{ℕ, ◌≡◌, ◌+◌, ◌-◌, ◌<◌, ◌≤◌, ◌^◌, zero, suc, Bool, true, false, not, cond, List, [], ◌∷◌, ◌++◌, length, take, drop, get_or, Option, Some, None, refl, sym, ap, subst, ◌∙◌, arith, append_assoc, append-nil, length-append}
-use Rattle.std.specs.Prelude.{◌||◌, ◌&&◌, ◌==◌, nat_le, nat_lt, map, filter, codes, is_some}
+use Rattle.std.specs.Prelude.{◌||◌, ◌&&◌, ◌==◌, nat_le, nat_lt, map, filter, codes, is_some, Result, Ok, Err, IfOk, OnOk}
 use Rattle.std.proofs.Math.Seq.{get_or-append_seam}
 use Rattle.std.proofs.lemmas.Bool.Decides.{nat_tests}
-use Rattle.std.proofs.lemmas.List.{map-append, take-append-drop, take_all, length-set, get_or_append_left, get_or-set_same, get_or-set_other, get_or_past}
+use Rattle.std.proofs.lemmas.List.{map-append, take-append-drop, length-set, get_or_append_left, get_or-set_same, get_or-set_other, get_or_past}
 use Rattle.std.proofs.lemmas.List.Elements.{filter-append}
 use Rattle.std.proofs.lemmas.List.Folds.{list_all-append}
 use Rattle.annex_model.specs.Lines.{text, has_newline}
 use Rattle.annex_model.specs.Messages.{HostMessage, host_reading}
 use Rattle.wire_line.specs.HeldBytes.{first_line, after_line}
-use Rattle.wire_line.proofs.Firsts.{end_of, split_line, no_newline_before}
+use Rattle.pair_world.proofs.Lines.{first_false, second_false, first_all, first_split, first_whole}
 use Rattle.journal_model.specs.declared.verdict.Why.{Why}
 use Rattle.journal_model.specs.declared.verdict.Why.TheVariants.{Eof, LongLine, Full}
 use Rattle.journal_model.specs.declared.entry.What.TheVariants.{Start, Sent, Got, End}
@@ -171,17 +171,6 @@ linked_written past by c p w ws next h =
     }
 
 -- ---- a line that is taken
-
-has_end : (bytes : List ℕ) → has_newline bytes ≡ true → end_of bytes < length bytes
-has_end [] h = cc
-has_end (x ∷ xs) h = go (x == 10) refl
-  where
-    go : (b : Bool) → (x == 10) ≡ b → cond (not b) (1 + end_of xs) 0 < length (x ∷ xs)
-    go true e = omega arith
-    go false e = let r = has_end xs (rw e at h) in omega (arith, r)
-
-pub first_split : (side : List ℕ) → has_newline side ≡ true → side ≡ first_line side ++ 10 ∷ after_line side
-first_split side h = split_line side (has_end side h)
 
 -- the text of one line more, before what waits and what is on its way
 taken_bytes : (front line rest pipe : List ℕ) → front ++ (line ++ 10 ∷ rest) ++ pipe ≡ front ++ (line ++ 10 ∷ []) ++ rest ++ pipe
@@ -390,19 +379,20 @@ drop_none : (n : ℕ) → drop n (let e : List (Option ℕ × List ℕ) = [] in 
 drop_none zero = refl
 drop_none (suc n) = refl
 
+-- with no child of that number, no line is to be written
+pub none_unsent : (w : WorldValue) (c : ℕ) → Stands w → is_child w.pairs c ≡ false → unsent w.journal c ≡ []
+none_unsent w c h e =
+    let n = fresh w.opening w.journal h.legal c (h.started c ∙ e) in
+    ap (λ (ws : List (Option ℕ × List ℕ)). drop (sent_count w.journal c) ws) n.written ∙ drop_none (sent_count w.journal c)
+
 -- the next line to the child is in its pipe and covered
 stands_write : (old : WorldValue) (c : ℕ) (reply : Reply) (new : WorldValue) → is_empty (unsent old.journal c) ≡ false → DoesWrite old c reply new
     → Stands old → length new.journal < 2 ^ 64 → Stands new
 stands_write old c reply new some d h few = go (unsent old.journal c) refl
   where
-    nothing_unsent : is_child old.pairs c ≡ false → unsent old.journal c ≡ []
-    nothing_unsent e =
-        let n = fresh old.opening old.journal h.legal c (h.started c ∙ e) in
-        ap (λ (ws : List (Option ℕ × List ℕ)). drop (sent_count old.journal c) ws) n.written ∙ drop_none (sent_count old.journal c)
-
     is_there : (ws : List (Option ℕ × List ℕ)) → unsent old.journal c ≡ ws → is_empty ws ≡ false → (b : Bool) → is_child old.pairs c ≡ b → b ≡ true
     is_there ws e f true k = refl
-    is_there ws e f false k = let bad : true ≡ false = ap is_empty (sym (nothing_unsent k) ∙ e) ∙ f in cc
+    is_there ws e f false k = let bad : true ≡ false = ap is_empty (sym (none_unsent old c h k) ∙ e) ∙ f in cc
 
     go : (ws : List (Option ℕ × List ℕ)) → unsent old.journal c ≡ ws → Stands new
     go [] e = let bad : true ≡ false = sym (ap is_empty e) ∙ some in absurd cc
@@ -436,26 +426,6 @@ stands_work old c (Some m) reply new e d k h =
     stands_still old new c t.pair h k
     (t.goes ∙ ap (λ (w : WorldValue). let x : WorldValue = record old { keys = w.keys; files = w.files; pairs = with_pair old.pairs c t.pair; answers = w.answers } in x) (sym t.goes))
     (linked_taken old.journal c old.keys old.files (pair_of old.pairs c) t.pair m t.asked t.line r.0 r.1 t.takes (h.linked c k))
-
-first_false : (a b : Bool) → (a || b) ≡ false → a ≡ false
-first_false true b e = cc
-first_false false b e = refl
-
-second_false : (a b : Bool) → (a || b) ≡ false → b ≡ false
-second_false true b e = cc
-second_false false b e = e
-
--- without a line end all is the first line
-first_all : (side : List ℕ) → has_newline side ≡ false → first_line side ≡ side
-first_all side none = ap (λ (n : ℕ). take n side) (all_of side none) ∙ take_all (length side) side (omega arith)
-  where
-    all_of : (xs : List ℕ) → has_newline xs ≡ false → end_of xs ≡ length xs
-    all_of [] e = refl
-    all_of (x ∷ xs) e = go (x == 10) refl (second_false (x == 10) (has_newline xs) e) (first_false (x == 10) (has_newline xs) e)
-      where
-        go : (b : Bool) → (x == 10) ≡ b → has_newline xs ≡ false → b ≡ false → cond (not b) (1 + end_of xs) 0 ≡ length (x ∷ xs)
-        go true k n f = cc
-        go false k n f = let r = all_of xs n in omega (arith, r)
 
 -- where something is at the host's side and its first line isn't too long, the line is whole
 not_silent : (side : List ℕ) → is_silent side ≡ false → is_long side ≡ false → has_newline side ≡ true
@@ -522,7 +492,7 @@ stands_hear old c reply new live some d k h few = by_length (is_long (pair_of ol
         let whole : has_newline p.at_host ≡ true = not_silent p.at_host some short in
         let event : heard_event c p.at_host ≡ GotEvent c (first_line p.at_host) = rw short refl in
         stands_got old c reply new p (is_full old.journal) refl short whole
-        (step_got old.opening old.journal c (first_line p.at_host) (is_full old.journal) (h.started c ∙ k) (no_newline_before p.at_host) live refl)
+        (step_got old.opening old.journal c (first_line p.at_host) (is_full old.journal) (h.started c ∙ k) (first_whole p.at_host) live refl)
         (d.reply_is ∙ ap (λ (e : Event). reply_to old 0 e) event)
         (d.goes ∙ ap (λ (e : Event). let x : WorldValue = record (stepped old 0 e) { pairs = with_pair old.pairs c (record p { at_host = left_at reply p.at_host }) } in x) event)
         k h few
@@ -569,3 +539,21 @@ stands_moved old (Hear c) moved new is h few =
 stands_moved old (EndMove c) moved new is h few =
     by_made (is_unended old c) old (DoesEnd old c) moved new is h
     (λ reply b d. stands_stop old new c Eof (ap (λ (w : WorldValue). w.journal) d.goes) (ap (λ (w : WorldValue). w.opening) d.goes) (ap (λ (w : WorldValue). w.pairs) d.goes) h few)
+
+pub stands_ok : {E : Type 0} (old new : WorldValue) (step : Move) (r : Result Moved E) → IfOk r (λ moved. Moves old step moved new) → OnOk r (length new.journal < 2 ^ 64)
+    → Stands old → OnOk r (Stands new)
+stands_ok old new step (Ok moved) m few h = stands_moved old step moved new m h few
+stands_ok old new step (Err e) m few h = tt
+
+-- a world with no child stands
+pub stands_begun : (o : Opening) (files : Items) → Stands (record { opening = o; journal = []; shut = false; keys = []; files = files; pairs = []; answers = [] })
+stands_begun o files = record {
+  legal = record { stands = tt; nothing_due = refl };
+  few = omega arith;
+  numbers = refl;
+  started = λ c. sym (none c);
+  linked = λ c is. (let bad : true ≡ false = sym is ∙ none c in absurd cc);
+}
+  where
+    none : (c : ℕ) → (not (c == 0) && nat_le c 0) ≡ false
+    none c = grind (arith, nat_tests)

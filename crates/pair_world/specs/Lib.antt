@@ -6,3 +6,4 @@ pub mod Outcomes
 pub mod Worlds
 pub mod Moves
 pub mod Shown
+pub mod Rows

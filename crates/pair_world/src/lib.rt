@@ -3,6 +3,7 @@
 
 mod answer;
 mod cue;
+pub mod laws;
 mod pair;
 mod pipe;
 mod shelf;

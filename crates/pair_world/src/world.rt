@@ -1,9 +1,10 @@
-ghost use Rattle.std.specs.Prelude.{◌≡◌, ◌≢◌, ◌+◌, ◌<◌, [], ◌∷◌, true, false, length, map, option_copied, option_map, IsTrue, MatchOption, IfOk, IfSome, OnOk, slice_get, Some, None};
+ghost use Rattle.std.specs.Prelude.{◌≡◌, ◌+◌, ◌++◌, ◌<◌, ◌^◌, ◌||◌, not, [], true, false, length, option_copied, MatchOption, IfOk, OnOk, slice_get, None, Some};
 ghost use Rattle.journal_model.specs.Beginnings.{MayBegin};
 ghost use Rattle.pair_world.specs.Shelves.{content};
 ghost use Rattle.pair_world.specs.Pairs.{is_child};
 ghost use Rattle.pair_world.specs.Worlds.{Stands};
-ghost use Rattle.pair_world.specs.Moves.{Moves, is_barred, is_silent, is_long, heard_event};
+ghost use Rattle.pair_world.specs.Moves.{Moves, is_barred, is_silent, is_long, is_gone, heard_event, left_at};
+ghost use Rattle.pair_world.specs.Works.{answered};
 ghost use Rattle.pair_world.specs.Shown.{AreDistinct};
 ghost use Rattle.pair_world.specs.declared.step.Move.TheVariants.{Event as EventMove, Write, ToKit, Work as WorkMove, ToHost, Hear, End};
 
@@ -83,15 +84,60 @@ fn heard(alloc: Global, pair: &Pair, child: u32) -> Result<Option<Event>, NoMemo
     }
 }
 
+// Whether the line that was heard is gone from the host's side.
+fn is_used_up(pair: &Pair, reply: &Reply) -> bool
+    requires { is_silent pair.now.at_host ≡ false }
+    ensures { result ≡ not (is_long pair.now.at_host || is_gone reply.now) }
+{
+    match pair.line() {
+        Some(line) => line.len() <= LONGEST_LINE && !matches!(reply, Reply::Gone { .. }),
+        None => false,
+    }
+}
+
+// What was heard goes from the host's side, unless the child was gone.
+fn settle(pair: &mut Pair, reply: &Reply)
+    requires { is_silent pair.old.at_host ≡ false }
+    ensures { pair.new ≡ record pair.old { at_host = left_at reply.now pair.old.at_host } }
+{
+    if is_used_up(pair, reply) {
+        pair.drop_line();
+    }
+}
+
 // The files by names as bytes.
 fn named(alloc: Global, files: Vec<(Text, Bytes)>) -> Result<Vec<(Bytes, Bytes)>, NoMemory>
     ensures { IfOk result (λ items. items.items ≡ files.items) }
 {
     let mut items = Vec::new(alloc);
-    for (name, bytes) in files {
+    for file in files {
+        let (name, bytes) = file;
         items.push((Bytes::copy(alloc, name.view().as_bytes())?, bytes))?;
     }
     Ok(items)
+}
+
+// The answer of a kit is added, where it gave one.
+fn keep_answer(
+    alloc: Global,
+    answers: &mut Vec<Answer>,
+    child: u32,
+    request: &[u8],
+    line: Option<Bytes>,
+    bytes: Bytes,
+) -> Result<(), NoMemory>
+    ensures { OnOk result (answers.new.items ≡ answers.old.items ++ answered child request.now line bytes) }
+{
+    if let Some(line) = line {
+        let request = Bytes::copy(alloc, request)?;
+        answers.push(Answer {
+            child,
+            request,
+            line,
+            bytes,
+        })?;
+    }
+    Ok(())
 }
 
 impl World {
@@ -118,7 +164,9 @@ impl World {
     }
 
     fn event(&mut self, by: u32, event: Event) -> Result<Moved, NoMemory>
-        ensures { IfOk result (λ moved. Moves self.old (EventMove by event) moved self.new) }
+        requires { Stands self.old }
+        ensures moves { IfOk result (λ moved. Moves self.old (EventMove by event) moved self.new) }
+        ensures few { OnOk result (length self.new.journal < 2 ^ 64) }
     {
         if is_barred(&event) {
             return Ok(Moved::Not);
@@ -136,7 +184,8 @@ impl World {
 
     fn write(&mut self, child: u32) -> Result<Moved, NoMemory>
         requires { Stands self.old }
-        ensures { IfOk result (λ moved. Moves self.old (Write child) moved self.new) }
+        ensures moves { IfOk result (λ moved. Moves self.old (Write child) moved self.new) }
+        ensures few { OnOk result (length self.new.journal < 2 ^ 64) }
     {
         let Some(at) = place(self.pairs.as_slice(), child) else {
             return Ok(Moved::Not);
@@ -154,7 +203,9 @@ impl World {
     }
 
     fn to_kit(&mut self, child: u32, n: u32) -> Result<Moved, NoMemory>
-        ensures { IfOk result (λ moved. Moves self.old (ToKit child n) moved self.new) }
+        requires { Stands self.old }
+        ensures moves { IfOk result (λ moved. Moves self.old (ToKit child n) moved self.new) }
+        ensures few { OnOk result (length self.new.journal < 2 ^ 64) }
     {
         let Some(at) = place(self.pairs.as_slice(), child) else {
             return Ok(Moved::Not);
@@ -169,7 +220,9 @@ impl World {
     }
 
     fn to_host(&mut self, child: u32, n: u32) -> Result<Moved, NoMemory>
-        ensures { IfOk result (λ moved. Moves self.old (ToHost child n) moved self.new) }
+        requires { Stands self.old }
+        ensures moves { IfOk result (λ moved. Moves self.old (ToHost child n) moved self.new) }
+        ensures few { OnOk result (length self.new.journal < 2 ^ 64) }
     {
         let Some(at) = place(self.pairs.as_slice(), child) else {
             return Ok(Moved::Not);
@@ -185,7 +238,8 @@ impl World {
 
     fn work(&mut self, child: u32) -> Result<Moved, NoMemory>
         requires { Stands self.old }
-        ensures { IfOk result (λ moved. Moves self.old (WorkMove child) moved self.new) }
+        ensures moves { IfOk result (λ moved. Moves self.old (WorkMove child) moved self.new) }
+        ensures few { OnOk result (length self.new.journal < 2 ^ 64) }
     {
         let Some(at) = place(self.pairs.as_slice(), child) else {
             return Ok(Moved::Not);
@@ -194,28 +248,18 @@ impl World {
         match pair.work(&mut self.keys, &mut self.files)? {
             Work::Nothing => return Ok(Moved::Not),
             Work::Over => {}
-            Work::Line {
-                answer: None,
-                bytes: _,
-            } => {}
-            Work::Line {
-                answer: Some(line),
-                bytes,
-            } => {
-                let request = Bytes::copy(self.alloc, pair.request())?;
-                self.answers.push(Answer {
-                    child,
-                    request,
-                    line,
-                    bytes,
-                })?;
+            Work::Line { answer, bytes } => {
+                let answers = &mut self.answers;
+                keep_answer(self.alloc, answers, child, pair.request(), answer, bytes)?;
             }
         }
         Ok(Moved::Did(Reply::Done))
     }
 
     fn hear(&mut self, child: u32) -> Result<Moved, NoMemory>
-        ensures { IfOk result (λ moved. Moves self.old (Hear child) moved self.new) }
+        requires { Stands self.old }
+        ensures moves { IfOk result (λ moved. Moves self.old (Hear child) moved self.new) }
+        ensures few { OnOk result (length self.new.journal < 2 ^ 64) }
     {
         let Some(at) = place(self.pairs.as_slice(), child) else {
             return Ok(Moved::Not);
@@ -227,17 +271,15 @@ impl World {
         let Some(event) = heard(self.alloc, pair, child)? else {
             return Ok(Moved::Not);
         };
-        let is_line = matches!(event, Event::Got { .. });
         let reply = self.core.step(0, event)?;
-        if is_line && !matches!(reply, Reply::Gone { .. }) {
-            pair.drop_line();
-        }
+        settle(pair, &reply);
         Ok(Moved::Did(reply))
     }
 
     fn end(&mut self, child: u32) -> Result<Moved, NoMemory>
         requires { Stands self.old }
-        ensures { IfOk result (λ moved. Moves self.old (End child) moved self.new) }
+        ensures moves { IfOk result (λ moved. Moves self.old (End child) moved self.new) }
+        ensures few { OnOk result (length self.new.journal < 2 ^ 64) }
     {
         let Some(at) = place(self.pairs.as_slice(), child) else {
             return Ok(Moved::Not);
@@ -255,11 +297,10 @@ impl World {
         Ok(Moved::Did(reply))
     }
 
-    /// Makes the move, where it can be made. After `NoMemory` the world isn't used again.
-    pub fn step(&mut self, step: Move) -> Result<Moved, NoMemory>
+    fn make(&mut self, step: Move) -> Result<Moved, NoMemory>
         requires { Stands self.old }
         ensures moves { IfOk result (λ moved. Moves self.old step moved self.new) }
-        ensures stands { OnOk result (Stands self.new) }
+        ensures few { OnOk result (length self.new.journal < 2 ^ 64) }
     {
         match step {
             Move::Event { by, event } => self.event(by, event),
@@ -270,6 +311,15 @@ impl World {
             Move::Hear { child } => self.hear(child),
             Move::End { child } => self.end(child),
         }
+    }
+
+    /// Makes the move, where it can be made. After `NoMemory` the world isn't used again.
+    pub fn step(&mut self, step: Move) -> Result<Moved, NoMemory>
+        requires { Stands self.old }
+        ensures moves { IfOk result (λ moved. Moves self.old step moved self.new) }
+        ensures stands { OnOk result (Stands self.new) }
+    {
+        self.make(step)
     }
 
     /// The core. It takes no memory.
