@@ -18,39 +18,39 @@ second_false false b e = e
 -- where the first line ends within the bytes, there is a line end
 pub has_of : (bytes : List ℕ) → end_of bytes < length bytes → has_newline bytes ≡ true
 has_of [] h = absurd (omega (arith, h))
-has_of (x ∷ xs) h = go (x == 10) refl h
+has_of (x ∷ xs) h = go (x == 10) h (λ k. has_of xs k)
   where
-    go : (b : Bool) → (x == 10) ≡ b → cond (not b) (1 + end_of xs) 0 < length (x ∷ xs) → (b || has_newline xs) ≡ true
-    go true e k = refl
-    go false e k = has_of xs (omega (arith, k))
+    go : (b : Bool) → cond (not b) (1 + end_of xs) 0 < length (x ∷ xs) → (end_of xs < length xs → has_newline xs ≡ true) → (b || has_newline xs) ≡ true
+    go true k r = refl
+    go false k r = r (omega (arith, k))
 
 pub has_end : (bytes : List ℕ) → has_newline bytes ≡ true → end_of bytes < length bytes
 has_end [] h = cc
-has_end (x ∷ xs) h = go (x == 10) h
+has_end (x ∷ xs) h = go (x == 10) h (λ k. has_end xs k)
   where
-    go : (b : Bool) → (b || has_newline xs) ≡ true → cond (not b) (1 + end_of xs) 0 < length (x ∷ xs)
-    go true k = omega arith
-    go false k = let r = has_end xs k in omega (arith, r)
+    go : (b : Bool) → (b || has_newline xs) ≡ true → (has_newline xs ≡ true → end_of xs < length xs) → cond (not b) (1 + end_of xs) 0 < length (x ∷ xs)
+    go true k r = omega arith
+    go false k r = let s = r k in omega (arith, s)
 
 pub lacks_of : (bytes : List ℕ) → end_of bytes ≡ length bytes → has_newline bytes ≡ false
 lacks_of [] h = refl
-lacks_of (x ∷ xs) h = go (x == 10) h
+lacks_of (x ∷ xs) h = go (x == 10) h (λ k. lacks_of xs k)
   where
-    go : (b : Bool) → cond (not b) (1 + end_of xs) 0 ≡ length (x ∷ xs) → (b || has_newline xs) ≡ false
-    go true k = absurd (omega (arith, k))
-    go false k = lacks_of xs (omega (arith, k))
+    go : (b : Bool) → cond (not b) (1 + end_of xs) 0 ≡ length (x ∷ xs) → (end_of xs ≡ length xs → has_newline xs ≡ false) → (b || has_newline xs) ≡ false
+    go true k r = absurd (omega (arith, k))
+    go false k r = r (omega (arith, k))
 
 -- without a line end all is the first line
+all_of : (xs : List ℕ) → has_newline xs ≡ false → end_of xs ≡ length xs
+all_of [] e = refl
+all_of (x ∷ xs) e = go (x == 10) e (λ k. all_of xs k)
+  where
+    go : (b : Bool) → (b || has_newline xs) ≡ false → (has_newline xs ≡ false → end_of xs ≡ length xs) → cond (not b) (1 + end_of xs) 0 ≡ length (x ∷ xs)
+    go true k r = cc
+    go false k r = let s = r k in omega (arith, s)
+
 pub first_all : (side : List ℕ) → has_newline side ≡ false → first_line side ≡ side
 first_all side none = ap (λ (n : ℕ). take n side) (all_of side none) ∙ take_all (length side) side (omega arith)
-  where
-    all_of : (xs : List ℕ) → has_newline xs ≡ false → end_of xs ≡ length xs
-    all_of [] e = refl
-    all_of (x ∷ xs) e = go (x == 10) e
-      where
-        go : (b : Bool) → (b || has_newline xs) ≡ false → cond (not b) (1 + end_of xs) 0 ≡ length (x ∷ xs)
-        go true k = cc
-        go false k = let r = all_of xs k in omega (arith, r)
 
 -- the bytes are the first line, its byte 10 and what stands behind
 pub first_split : (side : List ℕ) → has_newline side ≡ true → side ≡ first_line side ++ 10 ∷ after_line side

@@ -97,16 +97,16 @@ stands_pair : (old new : WorldValue) (c : ℕ) (p : PairValue) (more : List Entr
     → new.journal ≡ old.journal ++ more → new.pairs ≡ with_pair old.pairs c p → Legal new.opening new.journal → length new.journal < 2 ^ 64
     → count is_start more ≡ 0 → ((d : ℕ) → is_started more d ≡ false) → ((d : ℕ) → (c == d) ≡ false → Calm d more)
     → IsLinked (old.journal ++ more) c p → Stands new
-stands_pair old new c p more h k journal pairs legal few starts started calm linked = record {
+stands_pair old new c p more h k journal pairs legal few none started calm linked = record {
   legal = legal;
   few = few;
-  numbers = omega (arith, ap (count is_start) journal, count-append old.journal more, starts, h.numbers, ap (λ (ps : List PairValue). length ps) pairs, length-set old.pairs (c - 1) p);
+  numbers = omega (arith, ap (count is_start) journal, count-append old.journal more, none, h.numbers, ap (λ (ps : List PairValue). length ps) pairs, length-set old.pairs (c - 1) p);
   started = λ d.
       ap (λ (j : List Entry). is_started j d) journal ∙ any-append (starts d) old.journal more ∙ ap (λ (b : Bool). is_started old.journal d || b) (started d)
       ∙ or_false (is_started old.journal d) ∙ h.started d ∙ sym (ap (λ (ps : List PairValue). is_child ps d) pairs ∙ is_child_set old.pairs c d p);
   linked = λ d is. subst (λ (j : List Entry). IsLinked j d (pair_of new.pairs d)) (sym journal)
       (subst (λ (ps : List PairValue). IsLinked (old.journal ++ more) d (pair_of ps d)) (sym pairs)
-      (one d (sym (is_child_set old.pairs c d p) ∙ sym (ap (λ (ps : List PairValue). is_child ps d) pairs) ∙ is) (c == d) refl));
+      (one d (sym (is_child_set old.pairs c d p) ∙ (sym (ap (λ (ps : List PairValue). is_child ps d) pairs) ∙ is)) (c == d) refl));
 }
   where
     one : (d : ℕ) → is_child old.pairs d ≡ true → (b : Bool) → (c == d) ≡ b → IsLinked (old.journal ++ more) d (pair_of (with_pair old.pairs c p) d)
@@ -179,6 +179,9 @@ taken_bytes front line rest pipe =
 
 text_line : (lines : List (List ℕ)) (line : List ℕ) → text (lines ++ line ∷ []) ≡ text lines ++ (line ++ 10 ∷ [])
 text_line lines line = text-append lines (line ∷ [])
+
+all_more : (taken : List Taken) (x : Taken) → are_spelled taken ≡ true → is_spelled x ≡ true → are_spelled (taken ++ x ∷ []) ≡ true
+all_more taken x a b = list_all-append is_spelled taken (x ∷ []) ∙ ap (λ (p : Bool). p && (is_spelled x && true)) a ∙ ap (λ (p : Bool). p && true) b
 
 linked_taken : (journal : List Entry) (c : ℕ) (keys files : Items) (old new : PairValue) (m : HostMessage) (asked : Option Asked) (answer : Option (List ℕ))
     → has_newline old.at_kit ≡ true → host_reading (first_line old.at_kit) ≡ Some m → Takes keys files old new m asked answer → IsLinked journal c old → IsLinked journal c new
@@ -255,7 +258,7 @@ no_child pairs c h = go (c == 0) refl
     go false e = let past : length pairs ≤ c - 1 = grind (arith, nat_tests) in get_or_past pairs (c - 1) no_pair past
 
 -- so a child whose pipe or side passes a test that nothing passes is there
-there : {A : Type 0} (pairs : List PairValue) (c : ℕ) (f : PairValue → Bool) → f no_pair ≡ true → f (pair_of pairs c) ≡ false → is_child pairs c ≡ true
+there : (pairs : List PairValue) (c : ℕ) (f : PairValue → Bool) → f no_pair ≡ true → f (pair_of pairs c) ≡ false → is_child pairs c ≡ true
 there pairs c f none some = go (is_child pairs c) refl
   where
     go : (b : Bool) → is_child pairs c ≡ b → b ≡ true
@@ -327,7 +330,7 @@ stands_start old new by slot offer h journal pairs legal few =
           ∙ ap (λ (b : Bool). b || (n + 1 == d)) (h.started d) ∙ is_child_more old.pairs new_pair n d h.numbers ∙ sym (ap (λ (ps : List PairValue). is_child ps d) pairs);
       linked = λ d is. subst (λ (j : List Entry). IsLinked j d (pair_of new.pairs d)) (sym journal)
           (subst (λ (ps : List PairValue). IsLinked (old.journal ++ one) d (pair_of ps d)) (sym pairs)
-          (each d one refl refl (is_child old.pairs d) refl (sym (is_child_more old.pairs new_pair n d h.numbers) ∙ is_child_now d is)));
+          (each d one refl refl (is_child old.pairs d) refl (is_child_more old.pairs new_pair n d h.numbers ∙ is_child_now d is)));
     }
   where
     is_child_now : (d : ℕ) → is_child new.pairs d ≡ true → is_child (old.pairs ++ new_pair ∷ []) d ≡ true
@@ -546,14 +549,17 @@ stands_ok old new step (Ok moved) m few h = stands_moved old step moved new m h 
 stands_ok old new step (Err e) m few h = tt
 
 -- a world with no child stands
-pub stands_begun : (o : Opening) (files : Items) → Stands (record { opening = o; journal = []; shut = false; keys = []; files = files; pairs = []; answers = [] })
-stands_begun o files = record {
-  legal = record { stands = tt; nothing_due = refl };
-  few = omega arith;
-  numbers = refl;
-  started = λ c. sym (none c);
+pub stands_empty : (w : WorldValue) → w.journal ≡ [] → w.pairs ≡ [] → Stands w
+stands_empty w journal pairs = record {
+  legal = subst (Legal w.opening) (sym journal) (record { stands = tt; nothing_due = refl });
+  few = omega (arith, ap (λ (j : List Entry). length j) journal);
+  numbers = ap (count is_start) journal ∙ sym (ap (λ (ps : List PairValue). length ps) pairs);
+  started = λ c. ap (λ (j : List Entry). is_started j c) journal ∙ sym (none c);
   linked = λ c is. (let bad : true ≡ false = sym is ∙ none c in absurd cc);
 }
   where
-    none : (c : ℕ) → (not (c == 0) && nat_le c 0) ≡ false
-    none c = grind (arith, nat_tests)
+    nobody : (c : ℕ) → (not (c == 0) && nat_le c 0) ≡ false
+    nobody c = grind (arith, nat_tests)
+
+    none : (c : ℕ) → is_child w.pairs c ≡ false
+    none c = ap (λ (ps : List PairValue). is_child ps c) pairs ∙ nobody c

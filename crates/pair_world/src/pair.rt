@@ -10,7 +10,7 @@ ghost use Rattle.kit_core.specs.Stages.{Follows};
 ghost use Rattle.pair_world.specs.Cues.{settings};
 ghost use Rattle.pair_world.specs.Pairs.{heard, new_pair, moved_to_kit, moved_to_host, written_to};
 ghost use Rattle.pair_world.specs.Shelves.{content};
-ghost use Rattle.pair_world.specs.Works.{is_waiting, has_whole, word_for, put_found, bytes_found, Serves, last_said, StepsBy};
+ghost use Rattle.pair_world.specs.Works.{is_waiting, has_whole, word_for, put_found, bytes_found, Serves, request_with, last_said, StepsBy};
 ghost use Rattle.pair_world.specs.Outcomes.{Worked};
 
 use crate::cue::Cue;
@@ -182,6 +182,21 @@ fn serve(
     }
 }
 
+// The line of the request that is answered: a VALUE belongs to the one before it.
+fn request_with(
+    alloc: Global,
+    request: &Bytes,
+    message: &HostMsg<'_>,
+    line: &[u8],
+) -> Result<Bytes, NoMemory>
+    ensures { IfOk result (λ r. r ≡ request_with request.now (host_shown message.now) line.now) }
+{
+    match message {
+        HostMsg::Value(_) => Bytes::copy(alloc, request.view()),
+        _ => Bytes::copy(alloc, line),
+    }
+}
+
 // Whether there is nothing to take at a kit's side.
 fn is_waiting(side: &Pipe) -> bool
     ensures { result ≡ is_waiting side.now }
@@ -290,14 +305,12 @@ impl Pair {
         let Some(message) = read_host(line.view()) else {
             return Ok(Work::Over);
         };
-        let is_value = matches!(message, HostMsg::Value(_));
+        let request = request_with(self.alloc, &self.request, &message, line.view())?;
         let word = word_for(self.alloc, keys, files, &message)?;
         let (call, say) = step_kit(self.alloc, &mut self.kit, &message, word)?;
         let bytes = serve(self.alloc, keys, files, &call)?;
         let answer = last_said(self.alloc, self.kit.is_free(), &say)?;
-        if !is_value {
-            self.request = Bytes::copy(self.alloc, line.view())?;
-        }
+        self.request = request;
         push_lines(&mut self.to_host, &say)?;
         self.at_kit.drop_line();
         self.taken.push(Taken { line, call })?;

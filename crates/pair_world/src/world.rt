@@ -246,14 +246,14 @@ impl World {
         };
         let pair = &mut self.pairs[at];
         match pair.work(&mut self.keys, &mut self.files)? {
-            Work::Nothing => return Ok(Moved::Not),
-            Work::Over => {}
+            Work::Nothing => Ok(Moved::Not),
+            Work::Over => Ok(Moved::Did(Reply::Done)),
             Work::Line { answer, bytes } => {
                 let answers = &mut self.answers;
                 keep_answer(self.alloc, answers, child, pair.request(), answer, bytes)?;
+                Ok(Moved::Did(Reply::Done))
             }
         }
-        Ok(Moved::Did(Reply::Done))
     }
 
     fn hear(&mut self, child: u32) -> Result<Moved, NoMemory>
