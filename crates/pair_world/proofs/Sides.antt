@@ -29,9 +29,9 @@ long_rest side some none =
 -- the line that was heard is gone from the side
 pub dropped : (old new : PairValue) (reply : Reply) → is_silent old.at_host ≡ false → (b : Bool) → b ≡ not (is_long old.at_host || is_gone reply) → b ≡ true
     → (has_newline old.at_host ≡ true → new ≡ record old { at_host = after_line old.at_host }) → new ≡ record old { at_host = left_at reply old.at_host }
-dropped old new reply some b is yes drops = go (is_long old.at_host || is_gone reply) refl (has_newline old.at_host) refl
+dropped old new reply some b is used drops = go (is_long old.at_host || is_gone reply) refl (has_newline old.at_host) refl
   where
     go : (k : Bool) → (is_long old.at_host || is_gone reply) ≡ k → (n : Bool) → has_newline old.at_host ≡ n → new ≡ record old { at_host = left_at reply old.at_host }
-    go true k n e = let bad : false ≡ true = sym (is ∙ ap not k) ∙ yes in cc
+    go true k n e = let bad : false ≡ true = sym (is ∙ ap not k) ∙ used in cc
     go false k true e = drops e ∙ ap (λ (l : Bool). let p : PairValue = record old { at_host = cond l old.at_host (after_line old.at_host) } in p) (sym k)
     go false k false e = let bad : true ≡ false = sym (long_rest old.at_host some e) ∙ first_false (is_long old.at_host) (is_gone reply) k in cc
