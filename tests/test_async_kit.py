@@ -112,6 +112,14 @@ def case_an_output_that_is_closed_is_status_5(room):
     expect((process.returncode, as_text(err)), (5, ""))
 
 
+def case_an_input_that_cannot_be_read_is_status_4(room):
+    folder = os.open(room.path(), os.O_RDONLY)
+    process = start([ANNEX_REMOTE_DIR], cwd=room.folder, stdin=folder)
+    os.close(folder)
+    out, err = process.communicate()
+    expect((process.returncode, as_text(out), as_text(err)), (4, "VERSION 1\n", ""))
+
+
 class Host:
     """A host that keeps several numbers busy. Each answer is handed to whoever asked under its number."""
 
@@ -139,6 +147,26 @@ class Host:
     def end(self):
         self.process.stdin.close()
         expect((self.process.stdout.read(), self.process.stderr.read(), self.process.wait()), (b"", b"", 0))
+
+
+def case_a_check_is_answered_while_a_store_waits_for_its_file(room):
+    os.mkfifo(room.path("pipe"))
+    host = Host(room)
+    host.say("J 2 TRANSFER STORE WORM-s5--a pipe")
+    for n in range(3, 13):
+        host.say(f"J {n} CHECKPRESENT WORM--{n}")
+        expect(host.hear(), (n, f"CHECKPRESENT-FAILURE WORM--{n}"))
+    # Another request on the key that is stored waits, and others don't.
+    host.say("J 3 CHECKPRESENT WORM-s5--a")
+    host.say("J 4 CHECKPRESENT WORM--b")
+    expect(host.hear(), (4, "CHECKPRESENT-FAILURE WORM--b"))
+    # Whoever writes to the pipe lets the store go on, which fails: a pipe can't be read at a place.
+    writer = os.open(room.path("pipe"), os.O_WRONLY)
+    number, text = host.hear()
+    require(number == 2 and text.startswith("TRANSFER-FAILURE STORE WORM-s5--a "), f"the store of a pipe: {number} {text}")
+    expect(host.hear(), (3, "CHECKPRESENT-FAILURE WORM-s5--a"))
+    os.close(writer)
+    host.end()
 
 
 def play(room, seed):
