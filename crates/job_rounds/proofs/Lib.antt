@@ -11,7 +11,10 @@ pub mod Objects
 pub mod Ends
 pub mod Rounding
 pub mod PoolPosts
+pub mod Since
+pub mod Pairing
 pub mod Posting
+pub mod Unpaired
 pub mod PoolTags
 pub mod PoolClosings
 pub mod PoolMiddle

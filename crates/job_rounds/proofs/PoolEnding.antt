@@ -9,7 +9,7 @@ use Rattle.journal_model.specs.declared.opening.Opening.{Opening}
 use Rattle.journal_model.specs.declared.verdict.Why.TheVariants.{Closed}
 use Rattle.journal_model.specs.Journal.{any, is_started, is_tagged}
 use Rattle.journal_model.specs.Legality.{Legal, count, is_start, may_stop}
-use Rattle.journal_model.specs.Shares.{is_of_child}
+use Rattle.journal_model.specs.Shares.{are_by, is_of_child}
 use Rattle.link_roles.specs.Alone.{Closes}
 use Rattle.child_end.specs.Programs.{ProgramsValue}
 use Rattle.child_end.specs.Wires.{IsHeld, IsLaid, WireValue, came}
@@ -25,12 +25,13 @@ use Rattle.pool_rounds.specs.Pool.{AreSameLinks}
 use Rattle.pool_starts.specs.Pools.{IsPool, IsUngathered, SeatValue, Serves}
 use Rattle.job_rounds.specs.Pools.{PoolServed}
 use Rattle.job_rounds.specs.PoolSteps.{AreLaid, ClosesAll, RoundsPool, ServesFirst, ServesLinks, StarvedLinks, serving}
+use Rattle.job_rounds.specs.Posts.{since_start}
 use Rattle.job_rounds.specs.Servings.{CanBeServed}
 use Rattle.job_rounds.proofs.PoolClosings.{closes_held}
 use Rattle.job_rounds.proofs.PoolLinks.{link_same}
 use Rattle.job_rounds.proofs.PoolMiddle.{Middle, middle_alone, middle_none, middle_round}
 use Rattle.job_rounds.proofs.PoolTags.{later_ascend, seated_serving}
-use Rattle.job_rounds.proofs.PoolWhole.{pool_can, pool_low, pool_served, pool_untagged}
+use Rattle.job_rounds.proofs.PoolWhole.{pool_can, pool_low, pool_mains, pool_served, pool_untagged}
 use Rattle.job_rounds.proofs.PoolWires.{Settled, leaves_pool, wire_stays}
 
 -- a link for each seat that serves
@@ -94,8 +95,11 @@ whole_ends {wanted} {wanted'} o setup limit jobs program old g new first before 
     untagged : All (λ (l : LinkValue). is_tagged g l.ear.child ≡ false) (first ∷ p.more)
     untagged = pool_untagged o setup limit old g g g first p.more desks desks true before.starts p.others its can.can.legal p.gathered p.by.seated can.can.prepared (sym can.tag)
 
+    mains : All (λ (l : LinkValue). are_by 0 (since_start l.ear.child g) ≡ true) (first ∷ p.more)
+    mains = pool_mains o setup limit old g g g first p.more desks desks true before.starts p.others its can.can.legal p.gathered p.by.seated can.can.started can.mains
+
     middle : RoundsPool o setup g s'.mid (first ∷ p.more) links' desks desks' ⊎ ServesFirst o setup (first ∷ p.more) g s'.mid desks desks' → Middle o setup limit first.ear.child (first ∷ p.more) g s'.mid desks desks' true
-    middle (inl r) = middle_round o setup limit first.ear.child g s'.mid (first ∷ p.more) links' desks desks' legal_g p.gathered.can low untagged (subst (λ (ls : List LinkValue). AreSameLinks ls links') p.links_are same) r
+    middle (inl r) = middle_round o setup limit first.ear.child g s'.mid (first ∷ p.more) links' desks desks' legal_g p.gathered.can low untagged mains (subst (λ (ls : List LinkValue). AreSameLinks ls links') p.links_are same) r
     middle (inr a) = middle_alone o setup limit first.ear.child g s'.mid first p.more desks desks' legal_g p.gathered.can low (s'.legal legal_g) a
 
 -- ---- no memory was found to start a child: all are closed

@@ -12,11 +12,11 @@ use Rattle.journal_model.specs.declared.entry.What.{What}
 use Rattle.journal_model.specs.declared.entry.What.TheVariants.{Claim, Start, NoStart, Ask, Put, Sent, Mute, Got, End, Verdict as Settled, Lost, Answer as Answered, Note as Noted}
 use Rattle.journal_model.specs.declared.entry.Entry.{Entry}
 use Rattle.journal_model.specs.declared.opening.Opening.{Opening}
-use Rattle.journal_model.specs.Journal.{any, asked_jobs, is_ended, is_mute, is_tagged, open_jobs, verdict_of, why_of}
+use Rattle.journal_model.specs.Journal.{any, asked_jobs, is_ended, is_mute, is_started, is_tagged, open_jobs, verdict_of, why_of}
 use Rattle.journal_model.specs.Legality.{Legal, count, is_busy, is_done, is_prepared, prepares}
 use Rattle.journal_model.specs.Makers.{made_by_number}
 use Rattle.journal_model.specs.Output.{answer_in, answers_in}
-use Rattle.journal_model.specs.Shares.{is_of_child}
+use Rattle.journal_model.specs.Shares.{are_by, is_of_child}
 use Rattle.journal_model.proofs.Idling.{asks_none, mains_ask}
 use Rattle.journal_model.proofs.Linking.{why_is_end, why_of-append}
 use Rattle.journal_model.proofs.Looks.{any-append, both, differ, each_of-append, either_left, is_asked, same_number}
@@ -49,10 +49,11 @@ use Rattle.pool_starts.specs.Pools.{is_claim}
 use Rattle.pool_starts.specs.Slots.{in_pool, is_lost}
 use Rattle.job_rounds.specs.Desks.{DesksDid, HaveDesks, claims_for}
 use Rattle.job_rounds.specs.PoolSteps.{RoundsPool}
-use Rattle.job_rounds.specs.Posts.{AllPosted}
+use Rattle.job_rounds.specs.Posts.{AllPosted, since_start}
 use Rattle.job_rounds.specs.Servings.{ServesAlone}
 use Rattle.job_rounds.proofs.Desks.{desks_main, desks_nothing, have_main}
 use Rattle.job_rounds.proofs.PoolPosts.{pool_asks, pool_claims, pool_desks, pool_stands, pool_within, start_is_mains}
+use Rattle.job_rounds.proofs.Pairing.{paired_first}
 use Rattle.job_rounds.proofs.Posting.{none_main, posted_main, posted_pool}
 use Rattle.job_rounds.proofs.PoolTags.{prepared_on, starts_offer, tag_stays}
 use Rattle.job_rounds.proofs.RoundDid.{any_round_did, in_range, lost_unclosed}
@@ -196,7 +197,8 @@ abbrev Behind : List Entry → List Entry → Type 0
 Behind g past = (more : List Entry) × (past ≡ g ++ more) × (any is_any_start more ≡ false)
 
 module _ (o : Opening) (setup : Setup) (limit first : ℕ) (g mid : List Entry) (links links' : List LinkValue) (desks desks' : List DeskTells) (legal : Legal o g) (can : PoolCan o g links)
-    (low : All (λ (l : LinkValue). first ≤ l.ear.child) links) (untagged : All (λ (l : LinkValue). is_tagged g l.ear.child ≡ false) links) (same : AreSameLinks links links') (r : RoundsPool o setup g mid links links' desks desks') where
+    (low : All (λ (l : LinkValue). first ≤ l.ear.child) links) (untagged : All (λ (l : LinkValue). is_tagged g l.ear.child ≡ false) links) (mains : All (λ (l : LinkValue). are_by 0 (since_start l.ear.child g) ≡ true) links)
+    (same : AreSameLinks links links') (r : RoundsPool o setup g mid links links' desks desks') where
   abbrev rest : List Entry
   rest = r.round.0
 
@@ -211,6 +213,9 @@ module _ (o : Opening) (setup : Setup) (limit first : ℕ) (g mid : List Entry) 
 
   numbers : All (λ (l : LinkValue). 0 < l.ear.child) links
   numbers = All-weaker (MayServe o g) (λ (l : LinkValue). 0 < l.ear.child) (λ l h. h.serves.number) links can.each
+
+  begun : All (λ (l : LinkValue). is_started g l.ear.child ≡ true) links
+  begun = All-weaker (MayServe o g) (λ (l : LinkValue). is_started g l.ear.child ≡ true) (λ l h. h.serves.started) links can.each
 
   ready : All (λ (l : LinkValue). is_prepared g l.ear.child ≡ true) links
   ready = All-weaker (MayServe o g) (λ (l : LinkValue). is_prepared g l.ear.child ≡ true) (λ l h. h.serves.prepared) links can.each
@@ -272,7 +277,7 @@ module _ (o : Opening) (setup : Setup) (limit first : ℕ) (g mid : List Entry) 
     within = pool_within links first low rest rounded.posts;
     asks = pool_asks links rest later rounded.posts (all-split (λ (e : Entry). not (asks_none e.what) || e.by == 0) g rest (mains_ask o (g ++ rest) rounded.legal)).1;
     lost = lost_others g rest (none_main (1 + length links) rest rounded.numbered);
-    posts = posted_pool links (Behind g) behind_on (λ past b. both_tags past b links ready untagged) g rest here no_starts rounded.posts;
+    posts = posted_pool links (Behind g) behind_on (λ past b. both_tags past b links ready untagged) can.differ g rest here (paired_first links g begun mains) no_starts rounded.posts;
     quiet = λ w. absurd cc;
     legal = rounded.legal;
     calm = rounded.at_rest;

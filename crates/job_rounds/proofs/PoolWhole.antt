@@ -9,14 +9,16 @@ use Rattle.journal_model.specs.declared.entry.What.{What}
 use Rattle.journal_model.specs.declared.entry.What.TheVariants.{Claim, Start, NoStart, Ask, Put, Sent, Mute, Got, End, Verdict as Settled, Lost, Answer as Answered, Note as Noted}
 use Rattle.journal_model.specs.declared.entry.Entry.{Entry}
 use Rattle.journal_model.specs.declared.opening.Opening.{Opening}
-use Rattle.journal_model.specs.Journal.{any, is_ended, is_tagged}
+use Rattle.journal_model.specs.Journal.{any, is_ended, is_started, is_tagged}
 use Rattle.journal_model.specs.Legality.{Legal, count, is_prepared, is_start}
+use Rattle.journal_model.specs.Shares.{are_by}
 use Rattle.journal_model.proofs.Looks.{any-append, both, each_of-append, same_number}
 use Rattle.journal_model.proofs.Testing.{all-each, all-join, any-more, by_either, neither, or_left, or_right}
 use Rattle.host_core.specs.Steps.{are_all_claimed}
 use Rattle.link_roles.proofs.Linked.{any_narrower}
 use Rattle.child_end.specs.Programs.{ProgramsValue}
 use Rattle.child_end.specs.Wires.{WireValue, came}
+use Rattle.child_start.proofs.Begun.{later_unstarted}
 use Rattle.gathering.specs.Laws.{Distinct, children_of}
 use Rattle.gathering.specs.Rounds.{LinkValue}
 use Rattle.task_run.specs.declared.setup.Setup.{Setup}
@@ -33,13 +35,14 @@ use Rattle.pool_starts.proofs.SlotLaws.{IsFilled, filled_on, turn_both, turn_fil
 use Rattle.job_rounds.specs.Desks.{DesksDid, HaveDesks}
 use Rattle.job_rounds.specs.Pools.{LeavesPool, PoolServed}
 use Rattle.job_rounds.specs.PoolSteps.{ClosesAll}
-use Rattle.job_rounds.specs.Posts.{AllPosted}
+use Rattle.job_rounds.specs.Posts.{AllPosted, since_start}
 use Rattle.job_rounds.specs.Servings.{CanBeServed}
 use Rattle.job_rounds.proofs.Desks.{desks_join, desks_nothing, desks_on, have_both, have_none}
 use Rattle.job_rounds.proofs.PoolClosings.{Closings, closings, closings_calm, closings_ask, closings_claim, closings_lose, closings_start, closings_take, closings_within}
 use Rattle.job_rounds.proofs.PoolMiddle.{Middle, lost_on}
 use Rattle.job_rounds.proofs.Posting.{posted_both, posted_main}
 use Rattle.job_rounds.proofs.PoolTags.{later_ascend, later_untagged, seated_above, seated_any, tag_stays, tags_offer}
+use Rattle.job_rounds.proofs.Since.{since_main, since_more, since_new}
 
 -- ---- what is gathered
 
@@ -113,6 +116,13 @@ module _ (o : Opening) (setup : Setup) (limit : ℕ) (old g mid new : List Entry
       (ap (λ (j : List Entry). is_tagged j c) at.is ∙ tag_stays o old at.later c legal ready (tags_offer at.later c at.untagged) ∙ tag)
       (All-weaker (λ (l : LinkValue). count is_start old < l.ear.child) (λ (l : LinkValue). is_tagged g l.ear.child ≡ false)
       (λ l h. ap (λ (j : List Entry). is_tagged j l.ear.child) at.is ∙ later_untagged o old at.later l.ear.child legal h at.untagged) links above)
+
+  -- since their starts the main thread alone made anything
+  pub pool_mains : is_started old c ≡ true → are_by 0 (since_start c old) ≡ true → All (λ (l : LinkValue). are_by 0 (since_start l.ear.child g) ≡ true) (first ∷ links)
+  pool_mains begun mains = All-cons (λ (l : LinkValue). are_by 0 (since_start l.ear.child g) ≡ true) first links
+      (ap (λ (j : List Entry). are_by 0 (since_start c j)) at.is ∙ ap (are_by 0) (since_more c old at.later begun) ∙ all-join (λ (e : Entry). e.by == 0) (since_start c old) at.later mains at.main)
+      (All-weaker (λ (l : LinkValue). count is_start old < l.ear.child) (λ (l : LinkValue). are_by 0 (since_start l.ear.child g) ≡ true)
+      (λ l h. ap (λ (j : List Entry). are_by 0 (since_start l.ear.child j)) at.is ∙ ap (are_by 0) (since_new l.ear.child old at.later (later_unstarted o old legal l.ear.child h)) ∙ since_main l.ear.child at.later at.main) links above)
 
   module _ (m : Middle o setup limit c (first ∷ links) g mid desks desks' whole) (closed : ClosesAll (children_of (first ∷ links)) mid new) (legal' : Legal o new) where
     k : Closings (children_of (first ∷ links)) mid new

@@ -1,5 +1,5 @@
 -- Entries that are made at a post, along the journal.
-use Rattle.std.proofs.Common.{◌≡◌, ℕ, List, [], ◌∷◌, ◌++◌, refl, sym, ap, subst, append_assoc, append-nil, true, false, ◌==◌, arith, ◌∙◌}
+use Rattle.std.proofs.Common.{◌≡◌, ℕ, ◌+◌, List, [], ◌∷◌, ◌++◌, refl, sym, ap, subst, append_assoc, append-nil, true, false, ◌==◌, arith, ◌∙◌}
 use Rattle.std.specs.Prelude.{◌-◌, not, nat_lt, All}
 use Rattle.std.specs.List.{list_all, list_any, range_with_len}
 use Rattle.std.proofs.lemmas.Bool.Decides.{nat_tests}
@@ -8,11 +8,12 @@ use Rattle.journal_model.specs.declared.entry.Entry.{Entry}
 use Rattle.journal_model.specs.Journal.{any, is_tagged}
 use Rattle.journal_model.specs.Shares.{are_by}
 use Rattle.journal_model.proofs.Looks.{both, differ, either_left, either_right, same_number}
-use Rattle.gathering.specs.Laws.{children_of}
+use Rattle.gathering.specs.Laws.{Distinct, children_of}
 use Rattle.gathering.specs.Posts.{makes, pool_crew, serves, tagged_crew}
 use Rattle.gathering.specs.Rounds.{LinkValue}
 use Rattle.lone_rounds.specs.Starting.{is_any_start}
-use Rattle.job_rounds.specs.Posts.{AllPosted, post_over}
+use Rattle.job_rounds.specs.Posts.{AllPosted, are_paired, post_over}
+use Rattle.job_rounds.proofs.Pairing.{ArePaired, paired_on, tagged_started}
 use Rattle.job_rounds.proofs.PoolPosts.{Posted, are_posted, at_place, posted}
 use Rattle.job_rounds.proofs.RoundDid.{in_range}
 
@@ -33,7 +34,7 @@ posted_tagged c past [] f h = tt
 posted_tagged c past (e ∷ xs) f h =
     let t = both (makes (tagged_crew c e.by) e.what) (list_all (λ (x : Entry). makes (tagged_crew c x.by) x.what) xs) h in
     let here : is_tagged past c ≡ true = ap (λ (j : List Entry). is_tagged j c) (sym (append-nil past)) ∙ f [] (e ∷ xs) refl in (
-      λ some. (c, rw here t.0),
+      λ some. (c, record { started = tagged_started past c here; made = rw here t.0; paired = λ plain. absurd (let bad : true ≡ false = sym here ∙ plain in cc) }),
       posted_tagged c (past ++ e ∷ []) xs
           (λ front rest is. ap (λ (j : List Entry). is_tagged j c) (append_assoc past (e ∷ []) front) ∙ f (e ∷ front) rest (ap (λ (l : List Entry). e ∷ l) is)) t.1,
     )
@@ -45,16 +46,19 @@ has_alone past by c w tag far h = rw (tag, far) h
 -- those of a pool, whose children take no tags, and go on so
 module _ (links : List LinkValue) (Untagged : List Entry → Type 0) (on : (past : List Entry) (e : Entry) → is_any_start e.what ≡ false → Untagged past → Untagged (past ++ e ∷ []))
     (none_tagged : (past : List Entry) → Untagged past → All (λ (l : LinkValue). is_tagged past l.ear.child ≡ false) links) where
-  pub posted_pool : (past xs : List Entry) → Untagged past → any is_any_start xs ≡ false → are_posted (children_of links) xs ≡ true → AllPosted past xs
-  posted_pool past [] u z h = tt
-  posted_pool past (e ∷ xs) u z h =
+  pub posted_pool : Distinct (children_of links) → (past xs : List Entry) → Untagged past → ArePaired (children_of links) past → any is_any_start xs ≡ false → are_posted (children_of links) xs ≡ true → AllPosted past xs
+  posted_pool apart past [] u a z h = tt
+  posted_pool apart past (e ∷ xs) u a z h =
       let t = both (makes (pool_crew (children_of links) e.by) e.what) (are_posted (children_of links) xs) h in
       let p : Posted (children_of links) e.by e.what = posted (children_of links) e.by e.what t.0 in
       let tag : is_tagged past p.child ≡ false = at_place (λ (c : ℕ). is_tagged past c ≡ false) links (e.by - 2) p.child (none_tagged past u) p.place in
       let high = p.high in
-      let far : nat_lt e.by 2 ≡ false = grind (arith, nat_tests) in (
-        λ some. (p.child, has_alone past e.by p.child e.what tag far p.serves_it),
-        posted_pool (past ++ e ∷ []) xs (on past e (either_left (is_any_start e.what) (any is_any_start xs) z) u) (either_right (is_any_start e.what) (any is_any_start xs) z) t.1,
+      let far : nat_lt e.by 2 ≡ false = grind (arith, nat_tests) in
+      let number : (e.by - 2) + 2 ≡ e.by = omega (arith, high) in
+      let its = a (e.by - 2) p.child p.place in (
+        λ some. (p.child, record { started = its.0; made = has_alone past e.by p.child e.what tag far p.serves_it; paired = λ plain. subst (λ (n : ℕ). are_paired past p.child n ≡ true) number its.1 }),
+        posted_pool apart (past ++ e ∷ []) xs (on past e (either_left (is_any_start e.what) (any is_any_start xs) z) u) (paired_on (children_of links) apart past e.by e.what p a)
+        (either_right (is_any_start e.what) (any is_any_start xs) z) t.1,
       )
 
 -- none of a round's entries is the main thread's

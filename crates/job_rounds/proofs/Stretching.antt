@@ -25,6 +25,7 @@ use Rattle.link_roles.specs.Writings.{LoneWired}
 use Rattle.link_roles.proofs.Linked.{any_narrower}
 use Rattle.gathering.specs.Rounds.{IsAtRest}
 use Rattle.child_start.specs.Greetings.{Greeted, IsReady, is_of_greeting}
+use Rattle.child_start.proofs.Begun.{later_unstarted}
 use Rattle.child_start.proofs.Jobs.{idle_on}
 use Rattle.child_end.specs.Programs.{ProgramsValue}
 use Rattle.child_end.specs.Wires.{WireValue}
@@ -43,12 +44,13 @@ use Rattle.pool_starts.specs.Pools.{is_claim}
 use Rattle.pool_starts.specs.Slots.{AllInTurn, IsManned, has_pool, in_pool, offers_tags, spends}
 use Rattle.pool_starts.proofs.SlotLaws.{first_started, none_first, pool_of as pool_is, turn_quiet}
 use Rattle.job_rounds.specs.Desks.{DesksDid, HaveDesks}
-use Rattle.job_rounds.specs.Posts.{AllPosted}
+use Rattle.job_rounds.specs.Posts.{AllPosted, since_start}
 use Rattle.job_rounds.specs.Servings.{CanBeServed}
 use Rattle.job_rounds.specs.Starts.{JobStretch, OneJobStart, StartsAll}
 use Rattle.job_rounds.proofs.Desks.{desks_main, have_main}
 use Rattle.job_rounds.proofs.Posting.{posted_main}
 use Rattle.job_rounds.proofs.Shutting.{AreShut, rest_shut, shut_next, shut_open}
+use Rattle.job_rounds.proofs.Since.{since_begun}
 use Rattle.job_rounds.proofs.Slots.{manned_none, manned_one, pool_failed, pool_of, stint_pool, turn_both, turn_manned}
 use Rattle.job_rounds.proofs.Spent.{own_spends, prepared_on}
 
@@ -337,11 +339,17 @@ module _ (o : Opening) (old g : List Entry) (offer : Bool) (c : ℕ) (greeted : 
       let bad : false ≡ true = ap is_unclosed (sym why) ∙ unclosed in
       absurd cc
 
+  greeted_mains : are_by 0 (since_start c g) ≡ true
+  greeted_mains =
+      let next = greeted.next in
+      ap (λ (j : List Entry). are_by 0 (since_start c j)) greeted.grown ∙ ap (are_by 0) (since_begun c 0 offer old greeted.more (later_unstarted o old legal c (omega (arith, next)))) ∙ greeted.main
+
   pub can_be_served : (ear : EarValue) (mouth : MouthValue) (tagged : Bool) → ear.child ≡ c → IsReady g c → tagged ≡ is_tagged g c → IsBook o.notes → IsAtRest old → LoneWired g ear mouth → CanBeServed o g ear mouth tagged
   can_be_served ear mouth tagged is ready tag book calm wired = record {
     can = subst (λ (k : ℕ). CanWork o k g) (sym is) (greeting_works old g offer c greeted o legal' ready book calm.idle);
     calm = record { idle = greeting_rests old g offer c greeted calm.idle; shut = shut_open g (greeted_shut (rest_shut old calm)) };
     wired = wired;
     unclosed = subst (λ (k : ℕ). why_of g k ≡ Some Closed → ⊥) (sym is) greeted_unclosed;
+    mains = subst (λ (k : ℕ). are_by 0 (since_start k g) ≡ true) (sym is) greeted_mains;
     tag = tag ∙ ap (is_tagged g) (sym is);
   }

@@ -15,7 +15,8 @@ use Rattle.job_rounds.specs.Desks.{DesksDid, HaveDesks}
 use Rattle.job_rounds.specs.Posts.{AllPosted}
 
 -- The journal is legal. Each child was started in its slot and its turn, and has ended. Job 0 and job 1 are the greeting's, each later one is a task's. The
--- main thread loses a request of no task in a greeting alone, and what it didn't make was made at a post over some child.
+-- main thread loses a request of no task in a greeting alone. What it didn't make was made at a post over some child, and one without tags
+-- is one number's alone.
 -- No task is left unanswered that was claimed, and no job open. Each task was run by the number that claimed it, with its worker's desk, which made the calls of
 -- its tasks, in the order of their claims, and no others. With one desk, all entries are the main thread's.
 pub record RanJobs (o : Opening) (setup : Setup) (may : Bool) (limit : ℕ) (journal : List Entry) (desks desks' : List DeskTells) : Type 0 where

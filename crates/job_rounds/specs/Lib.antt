@@ -8,4 +8,5 @@ pub mod Unserved
 pub mod JobsWell
 pub mod JobsKeep
 pub mod Posts
+pub mod PostRows
 pub mod Completeness

@@ -6,6 +6,7 @@ use Rattle.journal_model.specs.declared.entry.Entry.{Entry}
 use Rattle.journal_model.specs.declared.opening.Opening.{Opening}
 use Rattle.journal_model.specs.Halves.{EarValue, MouthValue}
 use Rattle.journal_model.specs.Journal.{is_tagged, why_of}
+use Rattle.journal_model.specs.Shares.{are_by}
 use Rattle.link_roles.specs.Alone.{Closes}
 use Rattle.link_roles.specs.Writings.{LoneWired}
 use Rattle.gathering.specs.Laws.{GoesOn}
@@ -17,13 +18,16 @@ use Rattle.child_end.specs.Programs.{ProgramsValue}
 use Rattle.child_end.specs.Wires.{WireValue}
 use Rattle.lone_rounds.specs.Stints.{HasServed}
 use Rattle.job_rounds.specs.Pools.{LeavesPool, PoolServed}
+use Rattle.job_rounds.specs.Posts.{since_start}
 
--- the child is ready and idle, no task is busy and no job is open, and its link is wired; it takes tags or not
+-- The child is ready and idle, no task is busy and no job is open, and its link is wired; since its start the main thread alone made
+-- anything. It takes tags or not.
 pub record CanBeServed (o : Opening) (journal : List Entry) (ear : EarValue) (mouth : MouthValue) (tagged : Bool) : Type 0 where
   pub can : CanWork o ear.child journal
   pub calm : IsAtRest journal
   pub wired : LoneWired journal ear mouth
   pub unclosed : why_of journal ear.child ≡ Some Closed → ⊥
+  pub mains : are_by 0 (since_start ear.child journal) ≡ true
   pub tag : tagged ≡ is_tagged journal ear.child
 
 -- the main thread did tasks with the first desk until the child was gone or all were claimed, and closed it

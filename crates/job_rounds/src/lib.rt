@@ -4,6 +4,7 @@
 mod bench;
 pub mod laws;
 mod pooling;
+pub mod rows;
 mod running;
 mod serving;
 mod starting;
