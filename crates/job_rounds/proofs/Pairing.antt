@@ -1,6 +1,6 @@
 -- A child without tags and the number that has it: they are paired from the round's begin on.
-use Rattle.std.proofs.Common.{◌≡◌, ℕ, ◌+◌, ◌-◌, ◌<◌, List, [], ◌∷◌, ◌++◌, refl, sym, ap, subst, ◌∙◌, Bool, true, false, not, ◌==◌, Some, arith}
-use Rattle.std.specs.Prelude.{◌&&◌, ◌||◌, All, slice_get}
+use Rattle.std.proofs.Common.{◌≡◌, ℕ, ◌+◌, ◌-◌, ◌<◌, List, [], ◌∷◌, ◌++◌, refl, sym, ap, subst, ◌∙◌, true, false, not, ◌==◌, Some, arith}
+use Rattle.std.specs.Prelude.{◌&&◌, All, slice_get}
 use Rattle.std.specs.List.{list_all}
 use Rattle.journal_model.specs.declared.entry.What.{What}
 use Rattle.journal_model.specs.declared.entry.What.TheVariants.{Claim, Start, Ask, Put, Sent, Mute, Got, End, Verdict as Settled, Lost}
@@ -80,7 +80,7 @@ paired_on cs apart past n w p h i c place =
     let k = h i c place in (
       any-append (starts c) past (entry n w ∷ []) ∙ or_left (is_started past c) (is_started (entry n w ∷ []) c) k.0,
       ap (list_all (is_paired c (i + 2))) (since_more c past (entry n w ∷ []) k.0)
-      ∙ all-join (is_paired c (i + 2)) (since_start c past) (entry n w ∷ []) k.1 (rw (entry_paired cs apart i c place n w p) refl),
+          ∙ all-join (is_paired c (i + 2)) (since_start c past) (entry n w ∷ []) k.1 (rw (entry_paired cs apart i c place n w p) refl),
     )
 
 -- where the main thread alone made anything since the child's start, any other number may have it

@@ -58,7 +58,7 @@ module _ (links : List LinkValue) (Untagged : List Entry → Type 0) (on : (past
       let its = a (e.by - 2) p.child p.place in (
         λ some. (p.child, record { started = its.0; made = has_alone past e.by p.child e.what tag far p.serves_it; paired = λ plain. subst (λ (n : ℕ). are_paired past p.child n ≡ true) number its.1 }),
         posted_pool apart (past ++ e ∷ []) xs (on past e (either_left (is_any_start e.what) (any is_any_start xs) z) u) (paired_on (children_of links) apart past e.by e.what p a)
-        (either_right (is_any_start e.what) (any is_any_start xs) z) t.1,
+            (either_right (is_any_start e.what) (any is_any_start xs) z) t.1,
       )
 
 -- none of a round's entries is the main thread's

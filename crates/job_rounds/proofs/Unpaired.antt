@@ -3,9 +3,9 @@ use Rattle.std.proofs.Common.{◌≡◌, ℕ, ◌<◌, List, [], ◌∷◌, ◌+
 use Rattle.std.specs.Prelude.{nat_lt}
 use Rattle.journal_model.specs.declared.entry.What.{What}
 use Rattle.journal_model.specs.declared.entry.Entry.{Entry}
-use Rattle.journal_model.specs.Journal.{is_started, is_tagged}
+use Rattle.journal_model.specs.Journal.{is_tagged}
 use Rattle.gathering.specs.Posts.{Idle, Lone, makes, serves, tagged_crew}
-use Rattle.job_rounds.specs.Posts.{AllPosted, IsPosted, PostedOver, are_paired, post_over}
+use Rattle.job_rounds.specs.Posts.{AllPosted, IsPosted, PostedOver, are_paired}
 
 -- the last of the entries
 pub last_posted : (past xs : List Entry) (e : Entry) → AllPosted past (xs ++ e ∷ []) → IsPosted (past ++ xs) e.by e.what

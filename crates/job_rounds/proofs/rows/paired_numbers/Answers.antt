@@ -1,4 +1,4 @@
-use Rattle.std.proofs.Common.{◌≡◌, ℕ, ◌<◌, List, [], refl, true, arith}
+use Rattle.std.proofs.Common.{◌≡◌, ℕ, List, refl, true, arith}
 use Rattle.journal_model.specs.declared.entry.What.{What}
 use Rattle.journal_model.specs.declared.entry.Entry.{Entry}
 use Rattle.journal_model.specs.Journal.{is_started}
@@ -17,5 +17,22 @@ pub returns-clause-two : goal.returns-clause-two
 returns-clause-two f = (own _ _, (own _ _, (over _ 2 1 _ refl refl refl, (over _ 3 2 _ refl refl refl, (over _ 3 2 _ refl refl refl, (over _ 2 1 _ refl refl refl, tt))))))
 
 pub returns-clause-next : goal.returns-clause-next
-returns-clause-next f = (own _ _, (own _ _, (over _ 2 1 _ refl refl refl, (over _ 3 2 _ refl refl refl, (over _ 3 2 _ refl refl refl, (over _ 2 1 _ refl refl refl,
-    (over _ 3 2 _ refl refl refl, (over _ 3 2 _ refl refl refl, (own _ _, (own _ _, (own _ _, (over _ 2 3 _ refl refl refl, tt))))))))))))
+returns-clause-next f = (
+  own _ _,
+  (
+    own _ _,
+    (
+      over _ 2 1 _ refl refl refl,
+      (
+        over _ 3 2 _ refl refl refl,
+        (
+          over _ 3 2 _ refl refl refl,
+          (
+            over _ 2 1 _ refl refl refl,
+            (over _ 3 2 _ refl refl refl, (over _ 3 2 _ refl refl refl, (own _ _, (own _ _, (own _ _, (over _ 2 3 _ refl refl refl, tt)))))),
+          ),
+        ),
+      ),
+    ),
+  ),
+)

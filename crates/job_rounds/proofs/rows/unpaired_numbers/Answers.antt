@@ -1,8 +1,7 @@
-use Rattle.std.proofs.Common.{◌≡◌, ℕ, ◌<◌, List, [], ◌∷◌, ◌++◌, refl, sym, ◌∙◌, Bool, true, false, ◌==◌, arith}
-use Rattle.std.specs.Prelude.{◌||◌, codes}
+use Rattle.std.proofs.Common.{◌≡◌, [], ◌∷◌, ◌++◌, refl, sym, ◌∙◌, true, false, ◌==◌, arith}
+use Rattle.std.specs.Prelude.{codes}
 use Rattle.journal_model.specs.declared.answer.Answer.TheVariants.{Present}
 use Rattle.journal_model.specs.declared.entry.What.TheVariants.{Claim, Got, Answer as Answered}
-use Rattle.journal_model.specs.declared.entry.Entry.{Entry}
 use Rattle.journal_model.proofs.Looks.{same_number}
 use Rattle.journal_model.proofs.Testing.{or_false}
 use Rattle.job_rounds.specs.PostRows.{made_by, two_children, two_workers}
