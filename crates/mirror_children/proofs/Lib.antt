@@ -1,0 +1,4 @@
+pub mod Fronts
+mod Answering
+mod Told
+mod Serving
