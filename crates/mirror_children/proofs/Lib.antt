@@ -1,4 +1,4 @@
 pub mod Fronts
-mod Answering
+pub mod Answering
 mod Told
 mod Serving
