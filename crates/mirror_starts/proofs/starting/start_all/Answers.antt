@@ -1,4 +1,4 @@
-use Rattle.std.proofs.Common.{◌≡◌, ◌∙◌, [], List, ap, refl, subst, sym}
+use Rattle.std.proofs.Common.{refl}
 use Rattle.child_end.specs.Programs.{ProgramsValue, programs_value}
 use Rattle.mirror_starts.proofs.Settled.{IsFreshFor, begun_settles, begun_sound, begun_stop, none_kept, nothing_kept, ready_kept, ready_settles, roomless_settles}
 use Rattle.mirror_starts.proofs.starting.start_all.Goals as goal
@@ -40,7 +40,22 @@ stop_begun-requires-clause-may g c κs within =
     rw c.replace-begun.ensures.value (begun_stop c.args.plans.now c.make_room.new.stopped fresh before after c.begin_all.new.children.items c.in-Err.cause c.in-Err.ensures.begins)
 
 pub returns-in-Err-clause-starts : goal.returns-in-Err-clause-starts
-returns-in-Err-clause-starts g c = ?
+returns-in-Err-clause-starts g c =
+    let before : ProgramsValue = programs_value (g.P.Programs.starts c.args.programs.now) (g.P.Programs.faults c.args.programs.now) in
+    let mid : ProgramsValue = programs_value (g.P.Programs.starts c.begin_all.new.programs) (g.P.Programs.faults c.begin_all.new.programs) in
+    let after : ProgramsValue = programs_value (g.P.Programs.starts c.stop_begun.new.programs) (g.P.Programs.faults c.stop_begun.new.programs) in
+    let fresh : IsFreshFor c.args.plans.now c.make_room.new.stopped = record { logs = c.make_room.ensures.none.1; spare = c.in-Ok.ensures.room.1 } in
+    let stops = rw c.replace-begun.ensures.value at c.stop_begun.ensures.stops in
+    rw (c.stop_begun.ensures.standing, c.replace-begun.ensures.after, c.new.ensures.items)
+    (begun_settles c.args.plans.now c.make_room.new.stopped c.stop_begun.new.stopped before mid after c.begin_all.new.children.items c.args.children.now.items c.args.stopped.now.logs fresh
+    c.stop_begun.ensures.starts c.stop_begun.ensures.later c.in-Err.cause c.in-Err.ensures.begins stops)
 
 pub returns-in-Err-clause-kept : goal.returns-in-Err-clause-kept
-returns-in-Err-clause-kept g c = ?
+returns-in-Err-clause-kept g c =
+    let before : ProgramsValue = programs_value (g.P.Programs.starts c.args.programs.now) (g.P.Programs.faults c.args.programs.now) in
+    let mid : ProgramsValue = programs_value (g.P.Programs.starts c.begin_all.new.programs) (g.P.Programs.faults c.begin_all.new.programs) in
+    let fresh : IsFreshFor c.args.plans.now c.make_room.new.stopped = record { logs = c.make_room.ensures.none.1; spare = c.in-Ok.ensures.room.1 } in
+    let stops = rw c.replace-begun.ensures.value at c.stop_begun.ensures.stops in
+    rw (c.replace-begun.ensures.after, c.new.ensures.items)
+    (none_kept c.stop_begun.new.stopped.spare c.stop_begun.new.stopped.logs
+    (begun_sound c.args.plans.now c.make_room.new.stopped c.stop_begun.new.stopped before mid c.begin_all.new.children.items fresh c.in-Err.cause c.in-Err.ensures.begins stops))
