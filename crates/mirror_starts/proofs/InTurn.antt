@@ -95,7 +95,7 @@ module _ (plans : List Plan) (i : ℕ) (p : Plan) (cs cs' : List ChildValue) (be
 
   -- it isn't ready, for any cause
   pub begun_until : (cause : Cause) → before.faults ≤ mid.faults → BeginsAs p mid after cs cs' (Err cause) → BeginsAllAs plans before after cs' (Err cause)
-  begun_until (Unready n) later (number, j, cause) = unready_to j n number cause
+  begun_until (Unready n) later (number, (j, cause)) = unready_to j n number cause
   begun_until (Unstarted n core) later (number, same, none, one, rose) = subst (BegunUpTo plans n core before after) (sym same) (unstarted_to n core number none one later rose)
   begun_until NoMemory later (inl j) = starved_some j
   begun_until NoMemory later (inr (same, h)) = subst (BegunSome plans before after) (sym same) (lacking_some h)

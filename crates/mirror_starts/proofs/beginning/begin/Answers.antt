@@ -32,13 +32,13 @@ returns-in-Refused-clause-begins g c =
     let keeps = c.in-Refused.ensures.core in
     let greeted = c.in-Refused.ensures.tells.0 in (
       refl,
-      record {
+      (record {
         child = child_value p.number new ear mouth;
         are = c.push_reserved-in-Refused.ensures.items;
         greeted = greeted_as p old new ear mouth c.in-Ok.ensures.empty c.in-Ok.ensures.opening keeps greeted c.in-Refused.ensures.wired c.in-Refused.link.one_child;
         starts = adds_of (g.P.Programs.starts c.args.programs.now) (g.P.Programs.starts c.greet.new.programs) p.program _ true c.view-program.ensures c.in-Refused.ensures.starts;
       },
-      refused_as p old new ear mouth c.in-Ok.ensures.empty c.in-Ok.ensures.opening keeps greeted c.in-Refused.verdict c.in-Refused.ensures.tells.1,
+      refused_as p old new ear mouth c.in-Ok.ensures.empty c.in-Ok.ensures.opening keeps greeted c.in-Refused.verdict c.in-Refused.ensures.tells.1),
     )
 
 pub returns-then-is_memory-clause-begins : goal.returns-then-is_memory-clause-begins
@@ -67,13 +67,13 @@ returns-else-is_memory-clause-begins g c =
     let keeps = c.in-Ended.ensures.core in
     let greeted = c.in-Ended.ensures.tells.0 in (
       refl,
-      record {
+      (record {
         child = child_value p.number new ear mouth;
         are = c.push_reserved-in-Ended.ensures.items;
         greeted = greeted_as p old new ear mouth c.in-Ok.ensures.empty c.in-Ok.ensures.opening keeps greeted c.in-Ended.ensures.wired c.in-Ended.link.one_child;
         starts = adds_of (g.P.Programs.starts c.args.programs.now) (g.P.Programs.starts c.greet.new.programs) p.program _ true c.view-program.ensures c.in-Ended.ensures.starts;
       },
-      ended_as p old new ear mouth c.in-Ok.ensures.empty c.in-Ok.ensures.opening keeps greeted c.in-Ended.why c.in-Ended.ensures.tells.1 (sym c.is_memory.ensures ∙ c.if-is_memory.false),
+      ended_as p old new ear mouth c.in-Ok.ensures.empty c.in-Ok.ensures.opening keeps greeted c.in-Ended.why c.in-Ended.ensures.tells.1 (sym c.is_memory.ensures ∙ c.if-is_memory.false)),
     )
 
 pub returns-in-Unsent-clause-begins : goal.returns-in-Unsent-clause-begins
@@ -86,13 +86,13 @@ returns-in-Unsent-clause-begins g c =
     let keeps = c.in-Unsent.ensures.core in
     let greeted = c.in-Unsent.ensures.tells.0 in (
       refl,
-      record {
+      (record {
         child = child_value p.number new ear mouth;
         are = c.push_reserved-in-Unsent.ensures.items;
         greeted = greeted_as p old new ear mouth c.in-Ok.ensures.empty c.in-Ok.ensures.opening keeps greeted c.in-Unsent.ensures.wired c.in-Unsent.link.one_child;
         starts = adds_of (g.P.Programs.starts c.args.programs.now) (g.P.Programs.starts c.greet.new.programs) p.program _ true c.view-program.ensures c.in-Unsent.ensures.starts;
       },
-      unsent_as p old new ear mouth c.in-Ok.ensures.empty c.in-Ok.ensures.opening keeps greeted c.in-Unsent.ensures.tells.1,
+      unsent_as p old new ear mouth c.in-Ok.ensures.empty c.in-Ok.ensures.opening keeps greeted c.in-Unsent.ensures.tells.1),
     )
 
 pub returns-in-StartFault-clause-begins : goal.returns-in-StartFault-clause-begins

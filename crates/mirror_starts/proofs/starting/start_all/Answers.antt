@@ -16,19 +16,19 @@ returns-in_default-clause-kept g c =
 
 -- ---- each child is ready
 
-pub returns-in-Ok-clause-starts : goal.returns-in-Ok-clause-starts
-returns-in-Ok-clause-starts g c =
+pub returns-in-Ok-begin_all-clause-starts : goal.returns-in-Ok-begin_all-clause-starts
+returns-in-Ok-begin_all-clause-starts g c =
     let before : ProgramsValue = programs_value (g.P.Programs.starts c.args.programs.now) (g.P.Programs.faults c.args.programs.now) in
     let after : ProgramsValue = programs_value (g.P.Programs.starts c.begin_all.new.programs) (g.P.Programs.faults c.begin_all.new.programs) in
     let fresh : IsFreshFor c.args.plans.now c.make_room.new.stopped = record { logs = c.make_room.ensures.none.1; spare = c.in-Ok.ensures.room.1 } in
-    ready_settles c.args.plans.now c.make_room.new.stopped before after c.begin_all.new.children.items c.args.children.now.items c.args.stopped.now.logs fresh c.in-Ok-2.ensures.begins
+    ready_settles c.args.plans.now c.make_room.new.stopped before after c.begin_all.new.children.items c.args.children.now.items c.args.stopped.now.logs fresh c.in-Ok-begin_all.ensures.begins
 
-pub returns-in-Ok-clause-kept : goal.returns-in-Ok-clause-kept
-returns-in-Ok-clause-kept g c =
+pub returns-in-Ok-begin_all-clause-kept : goal.returns-in-Ok-begin_all-clause-kept
+returns-in-Ok-begin_all-clause-kept g c =
     let before : ProgramsValue = programs_value (g.P.Programs.starts c.args.programs.now) (g.P.Programs.faults c.args.programs.now) in
     let after : ProgramsValue = programs_value (g.P.Programs.starts c.begin_all.new.programs) (g.P.Programs.faults c.begin_all.new.programs) in
     let fresh : IsFreshFor c.args.plans.now c.make_room.new.stopped = record { logs = c.make_room.ensures.none.1; spare = c.in-Ok.ensures.room.1 } in
-    ready_kept c.args.plans.now c.make_room.new.stopped before after c.begin_all.new.children.items fresh c.in-Ok-2.ensures.begins
+    ready_kept c.args.plans.now c.make_room.new.stopped before after c.begin_all.new.children.items fresh c.in-Ok-begin_all.ensures.begins
 
 -- ---- one isn't ready
 
