@@ -9,11 +9,13 @@ use Rattle.kit_core.specs.declared.call.Said.TheVariants.{Yes}
 use Rattle.mirror_plan.specs.declared.plan.Plan.{Plan}
 use Rattle.mirror_plan.specs.Settings.{first_bad, plans_in}
 use Rattle.mirror_children.specs.Rule.{failure, mirror_failure}
+use Rattle.mirror_starts.specs.declared.starting.Standing.{Standing}
+use Rattle.mirror_starts.specs.declared.starting.Standing.TheVariants.{Ready, Unready, NoMemory as Lacking}
 use Rattle.mirror_starts.specs.Readiness.{IsUnreadyAs, IsUnstartedAs, starts_of}
-use Rattle.mirror_starts.specs.Outcomes.{AreAllReady, Empties, IsCutShort, IsStuck, MirrorValue}
+use Rattle.mirror_starts.specs.Outcomes.{AreAllReady, Empties, IsCutShort, IsStuck, MirrorValue, StartsAs}
 use Rattle.mirror_starts.proofs.Begun.{rose_later, stays_adds, stays_both}
 use Rattle.mirror_starts.proofs.Preparing.{cut_none, nothing_done, stuck_cut}
-use Rattle.mirror_remote.specs.Mirrors.{Begins, BeginsTo, Prepares, PreparesTo}
+use Rattle.mirror_remote.specs.Mirrors.{Begins, BeginsTo, Prepares, PreparesTo, Says}
 
 -- ---- what is said of it
 
@@ -23,14 +25,21 @@ none_begins [] m (Ok said) none children logs h = (nothing_done m m refl childre
 none_begins [] m (Err e) none children logs h = cut_none [] m m (nothing_done m m refl children logs)
 none_begins (p ∷ ps) m r none children logs h = absurd (let bad : suc (length ps) ≡ 0 = none in omega (arith, bad))
 
-pub ready_begins : (plans : List Plan) (old new : MirrorValue) → 0 < length plans → AreAllReady plans old new → Begins plans old new (Ok Yes)
+ready_begins : (plans : List Plan) (old new : MirrorValue) → 0 < length plans → AreAllReady plans old new → Begins plans old new (Ok Yes)
 ready_begins [] old new some a = absurd (omega (arith, some))
 ready_begins (p ∷ ps) old new some a = inl (a, refl)
 
-pub stuck_begins : (plans : List Plan) (n : ℕ) (old new : MirrorValue) (r : Result Said NoMemory) → 0 < length plans → IsStuck plans n old new → IfOk r (λ said. said ≡ mirror_failure n (codes "not ready")) → Begins plans old new r
+stuck_begins : (plans : List Plan) (n : ℕ) (old new : MirrorValue) (r : Result Said NoMemory) → 0 < length plans → IsStuck plans n old new → IfOk r (λ said. said ≡ mirror_failure n (codes "not ready")) → Begins plans old new r
 stuck_begins [] n old new r some s h = absurd (omega (arith, some))
 stuck_begins (p ∷ ps) n old new (Ok said) some s h = inr (n, s, h)
 stuck_begins (p ∷ ps) n old new (Err e) some s h = stuck_cut (p ∷ ps) n old new s
+
+-- by how starting them ended
+pub standing_begins : (plans : List Plan) (old new : MirrorValue) (standing : Standing) (r : Result Said NoMemory) → 0 < length plans → StartsAs plans old new standing → Says standing r → Begins plans old new r
+standing_begins plans old new Ready r some a is = subst (Begins plans old new) (sym is) (ready_begins plans old new some a)
+standing_begins plans old new (Unready n) r some s h = stuck_begins plans n old new r some s h
+standing_begins plans old new Lacking (Ok said) some cut h = absurd cc
+standing_begins plans old new Lacking (Err e) some cut h = cut
 
 -- ---- after the children of before were stopped
 

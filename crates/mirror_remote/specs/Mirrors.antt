@@ -1,5 +1,5 @@
 -- What prepare and finish of a mirror leave.
-use Rattle.std.specs.Prelude.{ℕ, ◌≡◌, ◌⊎◌, ◌≤◌, List, [], ◌∷◌, ◌++◌, map, Option, Some, None, Result, Ok, Err, codes}
+use Rattle.std.specs.Prelude.{ℕ, ◌≡◌, ◌⊎◌, ◌≤◌, List, [], ◌∷◌, ◌++◌, map, Option, Some, None, Result, Ok, Err, IfOk, IsErr, codes}
 use Rattle.ann_key.specs.declared.bytes.NoMemory.{NoMemory}
 use Rattle.ann_outside.specs.Causes.{Stays}
 use Rattle.journal_model.specs.declared.entry.Entry.{Entry}
@@ -10,6 +10,8 @@ use Rattle.kit_core.specs.declared.call.Said.TheVariants.{Yes}
 use Rattle.mirror_plan.specs.declared.plan.Plan.{Plan}
 use Rattle.mirror_plan.specs.Settings.{first_bad, plans_in}
 use Rattle.mirror_children.specs.Rule.{failure, mirror_failure}
+use Rattle.mirror_starts.specs.declared.starting.Standing.{Standing}
+use Rattle.mirror_starts.specs.declared.starting.Standing.TheVariants.{Ready, Unready, NoMemory as Lacking}
 use Rattle.mirror_starts.specs.Stops.{LogValue, AreClosed, AreSoundChildren, AreSoundLogs, AreWired}
 use Rattle.mirror_starts.specs.Outcomes.{AreAllReady, Empties, IsCutShort, IsStuck, MirrorValue}
 
@@ -19,6 +21,12 @@ pub record IsSoundMirror (m : MirrorValue) : Type 0 where
   pub logs : AreSoundLogs m.logs
 
 -- ---- prepare
+
+-- what is said of a start that ended so
+abbrev pub Says : Standing → Result Said NoMemory → Type 0
+Says Ready r = r ≡ Ok Yes
+Says (Unready n) r = IfOk r (λ said. said ≡ mirror_failure n (codes "not ready"))
+Says Lacking r = IsErr r
 
 -- There is no plan; or each plan's child is ready; or the first that isn't is told.
 abbrev pub BeginsTo : List Plan → MirrorValue → MirrorValue → Said → Type 0

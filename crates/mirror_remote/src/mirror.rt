@@ -9,7 +9,7 @@ ghost use Rattle.mirror_plan.specs.Settings.{names};
 ghost use Rattle.std.specs.Option.{option_copied};
 ghost use Rattle.mirror_children.specs.Rule.{RulesAll, RulesCheck, RulesRetrieve};
 ghost use Rattle.mirror_starts.specs.Outcomes.{Empties};
-ghost use Rattle.mirror_remote.specs.Mirrors.{Begins, Finishes, IsSoundMirror, Prepares, journals_of};
+ghost use Rattle.mirror_remote.specs.Mirrors.{Begins, Finishes, IsSoundMirror, Prepares, Says, journals_of};
 
 use crate::requests::{check_of, remove_of, transfer_of};
 use ann_key::{KeyRef, NoMemory};
@@ -130,6 +130,18 @@ where
     let (_journals, _wires) = stopped.finish();
 }
 
+// What is said of a start that ended so.
+fn answer(alloc: Global, standing: Standing) -> Result<Said, NoMemory>
+    ensures says { Says standing result }
+    ensures line { IfOk result (λ said. IsTrue (is_line_said said)) }
+{
+    match standing {
+        Standing::Ready => Ok(Said::Yes),
+        Standing::Unready(number) => mirror_failure(alloc, number, b"not ready"),
+        Standing::NoMemory => Err(NoMemory),
+    }
+}
+
 // Starts the children of these plans. Where one isn't ready, all are stopped.
 fn begin<P: Programs>(mirror: &mut MirrorRemote<P>, plans: &[Plan]) -> Result<Said, NoMemory>
 where
@@ -144,17 +156,14 @@ where
     if plans.is_empty() {
         return Said::failure(mirror.alloc, b"no mirrors");
     }
-    match start_all(
+    let standing = start_all(
         mirror.alloc,
         &mut mirror.programs,
         plans,
         &mut mirror.children,
         &mut mirror.stopped,
-    ) {
-        Standing::Ready => Ok(Said::Yes),
-        Standing::Unready(number) => mirror_failure(mirror.alloc, number, b"not ready"),
-        Standing::NoMemory => Err(NoMemory),
-    }
+    );
+    answer(mirror.alloc, standing)
 }
 
 // These are the calls of a remote. They aren't a `Remote`'s, since no trait's method can hand on a bound whose halves may go to a thread:
