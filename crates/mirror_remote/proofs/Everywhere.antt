@@ -1,6 +1,6 @@
 -- What follows of a Yes, and of a list of calls.
-use Rattle.std.proofs.Common.{◌≡◌, ◌⊎◌, inl, inr, ◌∙◌, ℕ, suc, List, [], ◌∷◌, refl, sym, ap, subst, Bool, true, false, not, ◌==◌, Option, Some, None, length, cond, arith}
-use Rattle.std.specs.Prelude.{◌&&◌, ◌||◌, codes, Result, Ok, Err, IfOk}
+use Rattle.std.proofs.Common.{◌≡◌, inl, inr, ◌∙◌, ℕ, List, [], ◌∷◌, refl, sym, ap, subst, Bool, true, false, not, ◌==◌, Option, Some, None, length, cond, arith}
+use Rattle.std.specs.Prelude.{◌||◌, codes, Result, Ok, Err, IfOk}
 use Rattle.ann_key.specs.declared.bytes.NoMemory.{NoMemory}
 use Rattle.std.specs.List.{list_all, list_any}
 use Rattle.annex_model.specs.Messages.{HostMessage, Transfer, Checkpresent, Remove}
@@ -12,9 +12,10 @@ use Rattle.kit_core.specs.declared.call.Asked.{Asked}
 use Rattle.kit_core.specs.declared.call.Asked.TheVariants.{Prepare as AskPrepare, Store as AskStore, Retrieve as AskRetrieve, Check as AskCheck, Remove as AskRemove}
 use Rattle.mirror_plan.specs.declared.plan.Plan.{Plan}
 use Rattle.mirror_plan.specs.Settings.{first_bad, plans_in}
-use Rattle.mirror_remote.specs.Children.{ChildValue}
-use Rattle.mirror_remote.specs.Rule.{all_said, check_said, failure, retrieve_said, Rules, is_absent, is_done, is_enough, last_refusal, Answers, AreAsBefore, AsksFront, GoesOn}
-use Rattle.mirror_remote.specs.Mirrors.{BeginsTo, MirrorValue, PreparesTo}
+use Rattle.mirror_children.specs.Children.{ChildValue}
+use Rattle.mirror_children.specs.Rule.{all_said, check_said, failure, retrieve_said, Rules, is_absent, is_done, is_enough, last_refusal, Answers, AsksFront, GoesOn}
+use Rattle.mirror_remote.specs.Mirrors.{BeginsTo, PreparesTo}
+use Rattle.mirror_starts.specs.Outcomes.{MirrorValue}
 use Rattle.mirror_remote.specs.Sessions.{is_prepare, is_prepared_after, prepared_by, AllDid, AreCalls, Called, IsFresh, Keeps}
 
 -- a refusal is no Yes

@@ -5,8 +5,10 @@ use Rattle.std.proofs.lemmas.Bool.{eqb-true}
 use Rattle.std.proofs.lemmas.List.{nil_from_length}
 use Rattle.journal_model.specs.declared.entry.Entry.{Entry}
 use Rattle.child_end.specs.Programs.{ProgramsValue}
-use Rattle.mirror_remote.specs.Children.{ChildValue, LogValue}
-use Rattle.mirror_remote.specs.Mirrors.{MirrorValue, journals_of}
+use Rattle.mirror_children.specs.Children.{ChildValue}
+use Rattle.mirror_starts.specs.Stops.{LogValue}
+use Rattle.mirror_starts.specs.Outcomes.{MirrorValue}
+use Rattle.mirror_remote.specs.Mirrors.{journals_of}
 
 -- whether there are children
 pub no_children : (cs : List ChildValue) (count : ℕ) (b : Bool) → count ≡ length cs → b ≡ (count == 0) → b ≡ true → cs ≡ []

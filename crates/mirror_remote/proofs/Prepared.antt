@@ -1,91 +1,45 @@
 -- What preparing says, by what became of the children.
-use Rattle.std.proofs.Common.{◌≡◌, ◌⊎◌, inl, inr, ◌∙◌, ℕ, suc, ◌≤◌, ◌<◌, List, [], ◌∷◌, ◌++◌, refl, sym, ap, subst, Bool, true, false, Option, Some, None, append-nil, length, arith}
+use Rattle.std.proofs.Common.{◌≡◌, ◌⊎◌, inl, inr, ℕ, suc, ◌<◌, List, [], ◌∷◌, ◌++◌, refl, sym, subst, false, Option, Some, None, length, arith}
 use Rattle.std.specs.Prelude.{codes, Result, Ok, Err, IfOk}
 use Rattle.ann_key.specs.declared.bytes.NoMemory.{NoMemory}
-use Rattle.ann_outside.specs.Causes.{Rose, Stays}
-use Rattle.ann_outside.specs.Starts.{Starts}
-use Rattle.host_core.specs.CoreValue.{CoreValue}
-use Rattle.child_end.specs.Programs.{AddsAll, ProgramsValue}
+use Rattle.ann_outside.specs.Causes.{Rose}
+use Rattle.child_end.specs.Programs.{AddsAll}
 use Rattle.kit_core.specs.declared.call.Said.{Said}
 use Rattle.kit_core.specs.declared.call.Said.TheVariants.{Yes}
 use Rattle.mirror_plan.specs.declared.plan.Plan.{Plan}
 use Rattle.mirror_plan.specs.Settings.{first_bad, plans_in}
-use Rattle.mirror_remote.specs.Children.{log_of, ChildValue, LogValue, StoppedValue, StopsAll}
-use Rattle.mirror_remote.specs.Rule.{failure, mirror_failure}
-use Rattle.mirror_remote.specs.Mirrors.{starts_of, AreAllReady, AreLeftAs, Begins, BeginsTo, Empties, IsCutShort, IsStuck, IsUnreadyAs, IsUnstartedAs, MirrorValue, Prepares, PreparesTo}
-use Rattle.mirror_remote.specs.Beginnings.{BegunUpTo}
-use Rattle.mirror_remote.proofs.Begun.{adds_stays, rose_later, stays_adds, stays_both, stopped_as}
-use Rattle.mirror_remote.proofs.Preparing.{stuck_cut}
-
-rose_on : (a b c : ℕ) → Rose a b → b ≤ c → Rose a c
-rose_on a b c h k = omega (arith, h, k)
-
-stays_refl : {A : Type 0} (a : Option A) → Stays a a
-stays_refl None = tt
-stays_refl (Some x) = refl
-
--- the program of some plan couldn't be started, and all others were stopped
-pub stuck_up_to : (plans : List Plan) (n : ℕ) (core : CoreValue) (old new : MirrorValue) (mid : ProgramsValue) (cs : List ChildValue) (before after : StoppedValue) → before.logs ≡ [] → new.children ≡ []
-    → StopsAll cs before after → new.logs ≡ after.logs ++ log_of core ∷ [] → Stays mid.starts new.programs.starts → mid.faults ≤ new.programs.faults
-    → BegunUpTo plans n core old.programs mid cs → IsStuck plans n old new
-stuck_up_to plans n core old new mid cs before after fresh none stops logs stays later b =
-    let front = stopped_as b.front cs before after b.stands.greeted stops in
-    record {
-      front = b.front;
-      plan = b.plan;
-      back = b.stands.back;
-      are = b.stands.are;
-      number = b.number;
-      none = none;
-      before = front.0;
-      log = log_of core;
-      logs = logs ∙ ap (λ (l : List LogValue). l ++ log_of core ∷ []) (front.1 ∙ ap (λ (l : List LogValue). l ++ front.0) fresh);
-      stopped = front.2;
-      came = inr (
-        record { opening = b.none.opening; only = b.none.only },
-        rose_on old.programs.faults mid.faults new.programs.faults b.rose later,
-        adds_stays old.programs.starts mid.starts new.programs.starts (starts_of b.front ++ (b.plan.program, false) ∷ []) b.starts stays,
-      );
-    }
-
--- nothing was begun
-pub cut_none : (plans : List Plan) (old new : MirrorValue) → Empties old new → IsCutShort plans old new
-cut_none plans old new e = record {
-  front = [];
-  back = plans;
-  are = refl;
-  none = e.children;
-  left = subst (λ (ls : List LogValue). AreLeftAs [] ls) (sym e.logs) tt;
-  told = [];
-  asked = tt;
-  starts = adds old.programs.starts new.programs.starts e.starts;
-}
-  where
-    adds : (a b : Option Starts) → Stays a b → AddsAll a b []
-    adds None None h = tt
-    adds None (Some ys) h = absurd h
-    adds (Some xs) None h = absurd h
-    adds (Some xs) (Some ys) h = h ∙ sym (append-nil xs)
-
-pub empties_same : (m : MirrorValue) → m.children ≡ [] → m.logs ≡ [] → Empties m m
-empties_same m children logs = record { children = children; logs = logs; starts = stays_refl m.programs.starts; later = omega arith }
+use Rattle.mirror_children.specs.Rule.{failure, mirror_failure}
+use Rattle.mirror_starts.specs.declared.starting.Standing.{Standing}
+use Rattle.mirror_starts.specs.declared.starting.Standing.TheVariants.{Ready, Unready, NoMemory as Lacking}
+use Rattle.mirror_starts.specs.Readiness.{IsUnreadyAs, IsUnstartedAs, starts_of}
+use Rattle.mirror_starts.specs.Outcomes.{AreAllReady, Empties, IsCutShort, IsStuck, MirrorValue, StartsAs}
+use Rattle.mirror_starts.proofs.Begun.{rose_later, stays_adds, stays_both}
+use Rattle.mirror_starts.proofs.Preparing.{cut_none, nothing_done, stuck_cut}
+use Rattle.mirror_remote.specs.Mirrors.{Begins, BeginsTo, Prepares, PreparesTo, Says}
 
 -- ---- what is said of it
 
 -- there is no plan
 pub none_begins : (plans : List Plan) (m : MirrorValue) (r : Result Said NoMemory) → length plans ≡ 0 → m.children ≡ [] → m.logs ≡ [] → IfOk r (λ said. said ≡ failure (codes "no mirrors")) → Begins plans m m r
-none_begins [] m (Ok said) none children logs h = (empties_same m children logs, h)
-none_begins [] m (Err e) none children logs h = cut_none [] m m (empties_same m children logs)
+none_begins [] m (Ok said) none children logs h = (nothing_done m m refl children logs, h)
+none_begins [] m (Err e) none children logs h = cut_none [] m m (nothing_done m m refl children logs)
 none_begins (p ∷ ps) m r none children logs h = absurd (let bad : suc (length ps) ≡ 0 = none in omega (arith, bad))
 
-pub ready_begins : (plans : List Plan) (old new : MirrorValue) → 0 < length plans → AreAllReady plans old new → Begins plans old new (Ok Yes)
+ready_begins : (plans : List Plan) (old new : MirrorValue) → 0 < length plans → AreAllReady plans old new → Begins plans old new (Ok Yes)
 ready_begins [] old new some a = absurd (omega (arith, some))
 ready_begins (p ∷ ps) old new some a = inl (a, refl)
 
-pub stuck_begins : (plans : List Plan) (n : ℕ) (old new : MirrorValue) (r : Result Said NoMemory) → 0 < length plans → IsStuck plans n old new → IfOk r (λ said. said ≡ mirror_failure n (codes "not ready")) → Begins plans old new r
+stuck_begins : (plans : List Plan) (n : ℕ) (old new : MirrorValue) (r : Result Said NoMemory) → 0 < length plans → IsStuck plans n old new → IfOk r (λ said. said ≡ mirror_failure n (codes "not ready")) → Begins plans old new r
 stuck_begins [] n old new r some s h = absurd (omega (arith, some))
 stuck_begins (p ∷ ps) n old new (Ok said) some s h = inr (n, s, h)
 stuck_begins (p ∷ ps) n old new (Err e) some s h = stuck_cut (p ∷ ps) n old new s
+
+-- by how starting them ended
+pub standing_begins : (plans : List Plan) (old new : MirrorValue) (standing : Standing) (r : Result Said NoMemory) → 0 < length plans → StartsAs plans old new standing → Says standing r → Begins plans old new r
+standing_begins plans old new Ready r some a is = subst (Begins plans old new) (sym is) (ready_begins plans old new some a)
+standing_begins plans old new (Unready n) r some s h = stuck_begins plans n old new r some s h
+standing_begins plans old new Lacking (Ok said) some cut h = absurd cc
+standing_begins plans old new Lacking (Err e) some cut h = cut
 
 -- ---- after the children of before were stopped
 
@@ -154,3 +108,8 @@ prepares_good values plans old mid new (Err x) e good are b = subst (λ (ps : Li
 pub prepares_bad : (values : List (List ℕ)) (n : ℕ) (old new : MirrorValue) (r : Result Said NoMemory) → Empties old new → first_bad values ≡ Some n → IfOk r (λ said. said ≡ mirror_failure n (codes "bad setting")) → Prepares values old new r
 prepares_bad values n old new (Ok said) e bad h = subst (λ (o : Option ℕ). PreparesTo o (plans_in values) old new said) (sym bad) (e, h)
 prepares_bad values n old new (Err x) e bad h = cut_none (plans_in values) old new e
+
+-- no memory was found for the plans
+pub prepares_cut : (values : List (List ℕ)) (old new : MirrorValue) (r : Result Said NoMemory) (e : NoMemory) → r ≡ Err e → Empties old new → Prepares values old new r
+prepares_cut values old new (Err x) e is empty = cut_none (plans_in values) old new empty
+prepares_cut values old new (Ok said) e is empty = absurd cc

@@ -1,9 +1,4 @@
-pub mod Openings
-pub mod Children
-pub mod Rule
-pub mod Asking
 pub mod Mirrors
-pub mod Beginnings
 pub mod Describing
 pub mod Sessions
 pub mod Rows

@@ -7,9 +7,10 @@ use Rattle.kit_core.specs.declared.call.Said.{Said}
 use Rattle.kit_core.specs.declared.call.Said.TheVariants.{Yes}
 use Rattle.kit_core.specs.declared.call.Asked.{Asked}
 use Rattle.kit_core.specs.declared.call.Asked.TheVariants.{Prepare as AskPrepare, Store as AskStore, Retrieve as AskRetrieve, Check as AskCheck, Remove as AskRemove}
-use Rattle.mirror_remote.specs.Children.{ChildValue}
-use Rattle.mirror_remote.specs.Rule.{IsAsked, is_done, RulesAll, RulesCheck, RulesRetrieve}
-use Rattle.mirror_remote.specs.Mirrors.{MirrorValue, Prepares}
+use Rattle.mirror_children.specs.Children.{ChildValue}
+use Rattle.mirror_children.specs.Rule.{IsAsked, is_done, RulesAll, RulesCheck, RulesRetrieve}
+use Rattle.mirror_starts.specs.Outcomes.{MirrorValue}
+use Rattle.mirror_remote.specs.Mirrors.{Prepares}
 
 -- what was asked of a mirror, and what it answered
 pub record Called : Type 0 where

@@ -1,5 +1,5 @@
 // What a mirror says of itself.
-ghost use Rattle.std.specs.Prelude.{◌≡◌, IfOk};
+ghost use Rattle.std.specs.Prelude.{◌≡◌, ◌++◌, ◌∷◌, [], IfOk, OnOk};
 ghost use Rattle.kit_core.specs.declared.describe.Where.TheVariants.{Untold};
 ghost use Rattle.mirror_remote.specs.Describing.{configs, config_of};
 
@@ -20,6 +20,27 @@ fn config(alloc: Global, name: &[u8]) -> Result<Pair, NoMemory>
     Ok(Pair { name, text })
 }
 
+fn add(alloc: Global, pairs: &mut Vec<Pair>, name: &[u8]) -> Result<(), NoMemory>
+    ensures { OnOk result (pairs.new.items ≡ pairs.old.items ++ config_of name.now ∷ []) }
+{
+    Ok(pairs.push(config(alloc, name)?)?)
+}
+
+// It borrows the list: a function that owns one and returns early so often takes long to check.
+fn add_all(alloc: Global, pairs: &mut Vec<Pair>) -> Result<(), NoMemory>
+    requires { pairs.old.items ≡ [] }
+    ensures { OnOk result (pairs.new.items ≡ configs) }
+{
+    add(alloc, pairs, b"mirror1")?;
+    add(alloc, pairs, b"mirror2")?;
+    add(alloc, pairs, b"mirror3")?;
+    add(alloc, pairs, b"mirror4")?;
+    add(alloc, pairs, b"mirror5")?;
+    add(alloc, pairs, b"mirror6")?;
+    add(alloc, pairs, b"mirror7")?;
+    add(alloc, pairs, b"mirror8")
+}
+
 impl<P: Programs> Describe for MirrorRemote<P> {
     ghost use Rattle.std.specs.Prelude.{None, []};
 
@@ -27,14 +48,7 @@ impl<P: Programs> Describe for MirrorRemote<P> {
 
     fn configs(&self, alloc: Global) -> Result<Vec<Pair>, NoMemory> {
         let mut pairs = Vec::new(alloc);
-        pairs.push(config(alloc, b"mirror1")?)?;
-        pairs.push(config(alloc, b"mirror2")?)?;
-        pairs.push(config(alloc, b"mirror3")?)?;
-        pairs.push(config(alloc, b"mirror4")?)?;
-        pairs.push(config(alloc, b"mirror5")?)?;
-        pairs.push(config(alloc, b"mirror6")?)?;
-        pairs.push(config(alloc, b"mirror7")?)?;
-        pairs.push(config(alloc, b"mirror8")?)?;
+        add_all(alloc, &mut pairs)?;
         Ok(pairs)
     }
 

@@ -2,14 +2,9 @@
 // https://git-annex.branchable.com/design/external_special_remote_protocol/
 #![tactic(auto)]
 
-mod asking;
-mod beginning;
-mod child;
 mod describing;
 pub mod laws;
 mod mirror;
-mod opening;
-mod saying;
-mod stopped;
+mod requests;
 
 pub use mirror::{Ended, MirrorRemote};

@@ -7,24 +7,22 @@ ghost use Rattle.kit_core.specs.Calls.{are_lines, is_line_said};
 ghost use Rattle.child_end.specs.Programs.{programs_value};
 ghost use Rattle.mirror_plan.specs.Settings.{names};
 ghost use Rattle.std.specs.Option.{option_copied};
-ghost use Rattle.mirror_remote.specs.Rule.{RulesAll, RulesCheck, RulesRetrieve};
-ghost use Rattle.mirror_remote.specs.Mirrors.{Begins, Empties, Finishes, IsSoundMirror, Prepares, journals_of};
+ghost use Rattle.mirror_children.specs.Rule.{RulesAll, RulesCheck, RulesRetrieve};
+ghost use Rattle.mirror_starts.specs.Outcomes.{Empties};
+ghost use Rattle.mirror_remote.specs.Mirrors.{Begins, Finishes, IsSoundMirror, Prepares, Says, journals_of};
 
-use crate::asking::{ask_all, ask_any, ask_check};
-use crate::beginning::{Outcome, begin_all};
-use crate::child::Child;
-use crate::saying::mirror_failure;
-use crate::stopped::{Stopped, stop_all};
-use ann_key::{Key, KeyRef, NoMemory, Text};
+use crate::requests::{check_of, remove_of, transfer_of};
+use ann_key::{KeyRef, NoMemory};
 use ann_outside::Programs;
 use journal_look::Journal;
 use kit_core::{Said, Values};
 use link_roles::Wire;
+use mirror_children::{Child, ask_all, ask_any, ask_check, mirror_failure};
 use mirror_plan::{Plan, Plans, read_plans};
+use mirror_starts::{Standing, Stopped, start_all, stop_all};
 use std::alloc::Global;
 use std::marker::Model;
 use std::mem;
-use talk_serial::Request;
 
 /// A remote that keeps each content in up to eight others, which are served by programs that it starts. A content is present where all
 /// have it.
@@ -38,16 +36,14 @@ pub struct MirrorRemote<P: Programs> {
 }
 
 impl<P: Programs> Model for MirrorRemote<P> {
-    ghost use Rattle.std.specs.Prelude.{◌≡◌, ◌⊎◌, ◌≤◌, [], length};
     ghost use Rattle.child_end.specs.Programs.{programs_value};
-    ghost use Rattle.mirror_remote.specs.Children.{AreServing, AreSoundLogs};
-    ghost use Rattle.mirror_remote.specs.Mirrors.{MirrorValue};
+    ghost use Rattle.mirror_starts.specs.Outcomes.{IsKept, MirrorValue, mirror_value};
 
     ghost Value = { MirrorValue };
 
-    ghost view = { λ m. record { programs = programs_value (P.starts m.programs) (P.faults m.programs); children = m.children.items; logs = m.stopped.logs } };
+    ghost view = { λ m. mirror_value (programs_value (P.starts m.programs) (P.faults m.programs)) m.children.items m.stopped.logs };
 
-    ghost invariant = { λ m. AreServing m.children.items × (length m.children.items ≤ m.stopped.spare) × ((m.children.items ≡ []) ⊎ (m.stopped.logs ≡ [])) × AreSoundLogs m.stopped.logs };
+    ghost invariant = { λ m. IsKept m.children.items m.stopped.spare m.stopped.logs };
 }
 
 /// What is left of a mirror: its programs; the journals of the children of the last `prepare`, in order; and a wire for each of them whose
@@ -134,6 +130,18 @@ where
     let (_journals, _wires) = stopped.finish();
 }
 
+// What is said of a start that ended so.
+fn answer(alloc: Global, standing: Standing) -> Result<Said, NoMemory>
+    ensures says { Says standing result }
+    ensures line { IfOk result (λ said. IsTrue (is_line_said said)) }
+{
+    match standing {
+        Standing::Ready => Ok(Said::Yes),
+        Standing::Unready(number) => mirror_failure(alloc, number, b"not ready"),
+        Standing::NoMemory => Err(NoMemory),
+    }
+}
+
 // Starts the children of these plans. Where one isn't ready, all are stopped.
 fn begin<P: Programs>(mirror: &mut MirrorRemote<P>, plans: &[Plan]) -> Result<Said, NoMemory>
 where
@@ -148,31 +156,14 @@ where
     if plans.is_empty() {
         return Said::failure(mirror.alloc, b"no mirrors");
     }
-    let mut children = Vec::with_capacity(mirror.alloc, plans.len())?;
-    let mut stopped = Stopped::with_room(mirror.alloc, plans.len())?;
-    match begin_all(mirror.alloc, &mut mirror.programs, plans, &mut children) {
-        Outcome::Ready => {
-            mirror.children = children;
-            mirror.stopped = stopped;
-            Ok(Said::Yes)
-        }
-        Outcome::Unready(number) => {
-            stop_all(&mut mirror.programs, children, &mut stopped);
-            mirror.stopped = stopped;
-            mirror_failure(mirror.alloc, number, b"not ready")
-        }
-        Outcome::Unstarted(number, core) => {
-            stop_all(&mut mirror.programs, children, &mut stopped);
-            stopped.add_unstarted(core);
-            mirror.stopped = stopped;
-            mirror_failure(mirror.alloc, number, b"not ready")
-        }
-        Outcome::NoMemory => {
-            stop_all(&mut mirror.programs, children, &mut stopped);
-            mirror.stopped = stopped;
-            Err(NoMemory)
-        }
-    }
+    let standing = start_all(
+        mirror.alloc,
+        &mut mirror.programs,
+        plans,
+        &mut mirror.children,
+        &mut mirror.stopped,
+    );
+    answer(mirror.alloc, standing)
 }
 
 // These are the calls of a remote. They aren't a `Remote`'s, since no trait's method can hand on a bound whose halves may go to a thread:
@@ -225,13 +216,7 @@ where
         ensures rest { (self.new.logs ≡ self.old.logs) × (self.new.programs ≡ self.old.programs) }
         ensures sound { IsSoundMirror self.new }
     {
-        let key = Key::copy(self.alloc, key)?;
-        let file = Text::copy(self.alloc, file)?;
-        let request = Request::Transfer {
-            store: true,
-            key,
-            file,
-        };
+        let request = transfer_of(self.alloc, true, key, file)?;
         ask_all(self.alloc, &mut self.children, &request)
     }
 
@@ -244,13 +229,7 @@ where
         ensures rest { (self.new.logs ≡ self.old.logs) × (self.new.programs ≡ self.old.programs) }
         ensures sound { IsSoundMirror self.new }
     {
-        let key = Key::copy(self.alloc, key)?;
-        let file = Text::copy(self.alloc, file)?;
-        let request = Request::Transfer {
-            store: false,
-            key,
-            file,
-        };
+        let request = transfer_of(self.alloc, false, key, file)?;
         ask_any(self.alloc, &mut self.children, &request)
     }
 
@@ -262,8 +241,7 @@ where
         ensures rest { (self.new.logs ≡ self.old.logs) × (self.new.programs ≡ self.old.programs) }
         ensures sound { IsSoundMirror self.new }
     {
-        let key = Key::copy(self.alloc, key)?;
-        let request = Request::CheckPresent { key };
+        let request = check_of(self.alloc, key)?;
         ask_check(self.alloc, &mut self.children, &request)
     }
 
@@ -275,8 +253,7 @@ where
         ensures rest { (self.new.logs ≡ self.old.logs) × (self.new.programs ≡ self.old.programs) }
         ensures sound { IsSoundMirror self.new }
     {
-        let key = Key::copy(self.alloc, key)?;
-        let request = Request::Remove { key };
+        let request = remove_of(self.alloc, key)?;
         ask_all(self.alloc, &mut self.children, &request)
     }
 }

@@ -4,8 +4,7 @@ use Rattle.mirror_plan.specs.declared.plan.Plans.{Plans}
 use Rattle.mirror_plan.specs.Plans.{ReadsAs}
 use Rattle.mirror_plan.specs.Settings.{first_bad, plans_in}
 use Rattle.mirror_remote.specs.Mirrors.{Prepares}
-use Rattle.mirror_remote.proofs.Prepared.{prepares_bad, prepares_good}
-use Rattle.mirror_remote.proofs.Settled.{prepares_cut}
+use Rattle.mirror_remote.proofs.Prepared.{prepares_bad, prepares_cut, prepares_good}
 use Rattle.mirror_remote.proofs.mirror.MirrorRemote.prepare.Goals as goal
 
 pub returns-in_err-asked-clause-prepares : goal.returns-in_err-asked-clause-prepares

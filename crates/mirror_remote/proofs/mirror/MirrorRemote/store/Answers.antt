@@ -1,42 +1,32 @@
-use Rattle.std.proofs.Common.{ap, refl, subst, true}
+use Rattle.std.proofs.Common.{ap, subst, refl, true}
 use Rattle.std.proofs.lemmas.Result.{err_from_is_err_and}
 use Rattle.ann_key.specs.KeyRefs.{text_of}
 use Rattle.annex_model.specs.Messages.{Transfer}
-use Rattle.mirror_remote.specs.Mirrors.{IsSoundMirror, MirrorValue}
-use Rattle.mirror_remote.specs.Rule.{is_done, all_said}
-use Rattle.mirror_remote.proofs.Calls.{nobody_asked, ruled, transfer_mirrored, transfer_same}
+use Rattle.talk_serial.specs.Requests.{message_of}
+use Rattle.mirror_children.specs.Rule.{is_done, all_said}
+use Rattle.mirror_starts.specs.Outcomes.{MirrorValue}
+use Rattle.mirror_starts.proofs.Stopping.{sound_children}
+use Rattle.mirror_remote.specs.Mirrors.{IsSoundMirror}
+use Rattle.mirror_remote.proofs.Calls.{nobody_asked, ruled}
 use Rattle.mirror_remote.proofs.Keeping.{kept_by_rule, sound_mirror}
-use Rattle.mirror_remote.proofs.Stopping.{sound_children}
 use Rattle.mirror_remote.proofs.mirror.MirrorRemote.store.Goals as goal
 
-pub ask_all-requires-clause-mirrored : goal.ask_all-requires-clause-mirrored
-ask_all-requires-clause-mirrored g c =
-    transfer_mirrored true (text_of c.args.key) c.args.file.now c.in_ok-key.key c.in_ok-file.file c.in_ok-key.ensures c.in_ok-file.ensures c.utf8.file c.requires.line c.requires.key
-
-pub returns-in_err-key-clause-rule : goal.returns-in_err-key-clause-rule
-returns-in_err-key-clause-rule g c =
+pub returns-in_err-request-clause-rule : goal.returns-in_err-request-clause-rule
+returns-in_err-request-clause-rule g c =
     let p = err_from_is_err_and c.from_residual.result c.from_residual.ensures.1 in
     nobody_asked is_done (Transfer true (text_of c.args.key) c.args.file.now) all_said c.args.self.now c.args.self.now.children refl c.from_residual.result p.0 p.1
 
-pub returns-in_err-key-clause-sound : goal.returns-in_err-key-clause-sound
-returns-in_err-key-clause-sound g c = subst IsSoundMirror c.self.view_is (sound_mirror _ c.self.invariant.0 c.self.invariant.3)
-
-pub returns-in_err-file-clause-rule : goal.returns-in_err-file-clause-rule
-returns-in_err-file-clause-rule g c =
-    let p = err_from_is_err_and c.from_residual-in_err-file.result c.from_residual-in_err-file.ensures.1 in
-    nobody_asked is_done (Transfer true (text_of c.args.key) c.args.file.now) all_said c.args.self.now c.args.self.now.children refl c.from_residual-in_err-file.result p.0 p.1
-
-pub returns-in_err-file-clause-sound : goal.returns-in_err-file-clause-sound
-returns-in_err-file-clause-sound g c = subst IsSoundMirror c.self.view_is (sound_mirror _ c.self.invariant.0 c.self.invariant.3)
+pub returns-in_err-request-clause-sound : goal.returns-in_err-request-clause-sound
+returns-in_err-request-clause-sound g c = subst IsSoundMirror c.self.view_is (sound_mirror _ c.self.invariant.0 c.self.invariant.3)
 
 pub invariant_of-self : goal.invariant_of-self
 invariant_of-self g c =
-    kept_by_rule is_done (Transfer true c.in_ok-key.key c.in_ok-file.file) all_said c.self.inside.children.items c.ask_all.new.children.items c.ask_all.result c.self.inside.stopped.spare c.self.inside.stopped.logs c.ask_all.ensures.rules c.ask_all.ensures.serving c.self.invariant
+    kept_by_rule is_done (message_of c.in_ok-request.request) all_said c.self.inside.children.items c.ask_all.new.children.items c.ask_all.result c.self.inside.stopped.spare c.self.inside.stopped.logs c.ask_all.ensures.rules c.ask_all.ensures.serving c.self.invariant
 
 pub returns-clause-rule : goal.returns-clause-rule
 returns-clause-rule g c =
-    ruled is_done (Transfer true (text_of c.args.key) c.args.file.now) all_said c.args.self.now c.self.inside.children.items (ap (λ (m : MirrorValue). m.children) c.self.view_is) (Transfer true c.in_ok-key.key c.in_ok-file.file) c.ask_all.new.children.items c.ask_all.result
-    (transfer_same true (text_of c.args.key) c.args.file.now c.in_ok-key.key c.in_ok-file.file c.in_ok-key.ensures c.in_ok-file.ensures) c.ask_all.ensures.rules
+    ruled is_done (Transfer true (text_of c.args.key) c.args.file.now) all_said c.args.self.now c.self.inside.children.items (ap (λ (m : MirrorValue). m.children) c.self.view_is) (message_of c.in_ok-request.request) c.ask_all.new.children.items c.ask_all.result
+    c.in_ok-request.ensures.is c.ask_all.ensures.rules
 
 pub returns-clause-sound : goal.returns-clause-sound
 returns-clause-sound g c = record { children = sound_children c.ask_all.new.children.items c.ask_all.ensures.serving; logs = c.self.invariant.3 }

@@ -1,0 +1,4 @@
+pub mod Fronts
+pub mod Answering
+mod Told
+mod Serving

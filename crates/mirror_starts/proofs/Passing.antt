@@ -1,0 +1,30 @@
+-- Loops that take a list's elements one after the other.
+use Rattle.std.proofs.Common.{◌≡◌, ◌∙◌, ◌+◌, ◌≤◌, ◌<◌, List, [], ◌∷◌, ◌++◌, ap, subst, sym, length, length-append, arith}
+use Rattle.std.proofs.Math.Seq.{append_snoc}
+use Rattle.std.proofs.lemmas.List.{append-nil}
+use Rattle.mirror_children.specs.Children.{ChildValue, AreLinked, IsLinked}
+use Rattle.mirror_starts.specs.Stops.{StoppedValue, StopsAll}
+use Rattle.mirror_starts.proofs.Begun.{spare_left}
+
+-- the next element moves from the rest to what was passed
+pub shifted : {A : Type 0} (passed : List A) (x : A) (all rest next : List A) → all ≡ passed ++ rest → rest ≡ x ∷ next → all ≡ (passed ++ x ∷ []) ++ next
+shifted passed x all rest next whole step = whole ∙ ap (λ r. passed ++ r) step ∙ sym (append_snoc passed x next)
+
+-- nothing is left, so all was passed
+pub all_passed : {A : Type 0} (passed all rest : List A) → all ≡ passed ++ rest → length rest ≡ 0 → passed ≡ all
+all_passed passed all [] whole none = sym (whole ∙ append-nil passed)
+all_passed passed all (x ∷ rest) whole none = absurd (omega arith)
+
+linked_mid : (xs : List ChildValue) (c : ChildValue) (ys : List ChildValue) → AreLinked (xs ++ c ∷ ys) → IsLinked c
+linked_mid [] c ys h = h.0
+linked_mid (x ∷ xs) c ys h = linked_mid xs c ys h.1
+
+-- the child that comes next is linked, and there is room for it
+pub next_linked : (all passed rest next : List ChildValue) (c : ChildValue) → AreLinked all → all ≡ passed ++ rest → rest ≡ c ∷ next → IsLinked c
+next_linked all passed rest next c h whole step = linked_mid passed c next (subst AreLinked (whole ∙ ap (λ (r : List ChildValue). passed ++ r) step) h)
+
+pub next_room : (all passed rest next : List ChildValue) (c : ChildValue) (old now : StoppedValue) → length all ≤ old.spare → all ≡ passed ++ rest → rest ≡ c ∷ next → StopsAll passed old now → 0 < now.spare
+next_room all passed rest next c old now room whole step stops =
+    let left = spare_left passed old now stops in
+    let many : length all ≡ length passed + length (c ∷ next) = ap (λ (r : List ChildValue). length r) (whole ∙ ap (λ (r : List ChildValue). passed ++ r) step) ∙ length-append passed (c ∷ next) in
+    omega (arith, room, left, many)

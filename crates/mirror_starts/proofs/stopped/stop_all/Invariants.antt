@@ -1,0 +1,14 @@
+use Rattle.std.proofs.Common.{◌≡◌, ◌≤◌, ◌++◌}
+use Rattle.std.specs.Vec.Iter.{into_iter_items}
+use Rattle.ann_outside.specs.Causes.{Stays}
+use Rattle.mirror_starts.specs.Stops.{StopsAll}
+use Rattle.mirror_starts.proofs.stopped.stop_all.Given as goal
+
+-- those so far were stopped
+abbrev pub invariant-loop-child : goal.invariant-loop-child
+invariant-loop-child g l = record {
+  all : l.fn.children.items ≡ l.yielded ++ into_iter_items l.child-iterator;
+  stops : StopsAll l.yielded l.fn.stopped l.stopped;
+  starts : Stays (g.P.Programs.starts l.fn.programs) (g.P.Programs.starts l.programs);
+  later : g.P.Programs.faults l.fn.programs ≤ g.P.Programs.faults l.programs;
+}

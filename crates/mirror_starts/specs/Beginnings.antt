@@ -1,0 +1,116 @@
+-- What starting the children comes to, before any of them is stopped.
+use Rattle.std.specs.Prelude.{ℕ, ◌≡◌, ◌⊎◌, ◌<◌, ◌≤◌, Bool, true, false, List, [], ◌∷◌, ◌++◌, length, Result, Ok, Err}
+use Rattle.ann_outside.specs.Causes.{AddsOne, Rose, Stays}
+use Rattle.journal_model.specs.declared.entry.What.TheVariants.{NoStart}
+use Rattle.host_core.specs.CoreValue.{CoreValue}
+use Rattle.child_start.specs.Greetings.{Greeted}
+use Rattle.child_end.specs.Programs.{AddsAll, ProgramsValue}
+use Rattle.mirror_plan.specs.declared.plan.Plan.{Plan}
+use Rattle.mirror_children.specs.Children.{ChildValue, AreLinked, AreServing, IsLinked, IsServing}
+use Rattle.mirror_starts.specs.declared.beginning.Cause.{Cause}
+use Rattle.mirror_starts.specs.declared.beginning.Cause.TheVariants.{Unready, Unstarted, NoMemory}
+use Rattle.mirror_starts.specs.Openings.{mirror_opening}
+use Rattle.mirror_starts.specs.Stops.{IsUnwired, StoppedValue, StopsAll, log_of}
+use Rattle.mirror_starts.specs.Readiness.{IsReadyAs, AreReadyAs, IsUnready, starts_of}
+
+-- ---- one of them
+
+-- the child of this plan was started and greeted, and nothing else was done
+pub record IsGreetedAs (p : Plan) (c : ChildValue) : Type 0 where
+  pub number : c.number ≡ p.number
+  pub opening : c.opening ≡ mirror_opening p.registers
+  pub greeted : Greeted [] c.journal 0 false 1
+  pub linked : IsLinked c
+
+abbrev pub AreGreetedAs : List Plan → List ChildValue → Type 0
+AreGreetedAs [] [] = Unit {0}
+AreGreetedAs (p ∷ ps) (c ∷ cs) = IsGreetedAs p c × AreGreetedAs ps cs
+AreGreetedAs _ _ = ⊥
+
+-- the plan's program was started, and its child was greeted and comes after the others
+pub record Joins (p : Plan) (before after : ProgramsValue) (old new : List ChildValue) : Type 0 where
+  pub child : ChildValue
+  pub are : new ≡ old ++ child ∷ []
+  pub greeted : IsGreetedAs p child
+  pub starts : AddsOne before.starts after.starts (p.program, true)
+
+-- the plan's program couldn't be started
+pub record HasNotStarted (p : Plan) (core : CoreValue) : Type 0 where
+  pub opening : core.opening ≡ mirror_opening p.registers
+  pub only : core.journal ≡ record { by = 0; what = NoStart 0 } ∷ []
+  pub unwired : IsUnwired (log_of core)
+
+-- one more start may have been made for nothing
+abbrev pub MayHaveStarted : ProgramsValue → ProgramsValue → List ℕ → Type 0
+MayHaveStarted before after program = Stays before.starts after.starts ⊎ ((b : Bool) × AddsOne before.starts after.starts (program, b))
+
+-- the plan's child is ready, or it isn't, for this cause
+abbrev pub BeginsAs : Plan → ProgramsValue → ProgramsValue → List ChildValue → List ChildValue → Result (Unit {0}) Cause → Type 0
+BeginsAs p before after old new (Ok u) = (j : Joins p before after old new) × IsReadyAs p j.child × IsServing j.child
+BeginsAs p before after old new (Err (Unready n)) = (n ≡ p.number) × ((j : Joins p before after old new) × IsUnready j.child.journal)
+BeginsAs p before after old new (Err (Unstarted n core)) = (n ≡ p.number) × (new ≡ old) × HasNotStarted p core × AddsOne before.starts after.starts (p.program, false) × Rose before.faults after.faults
+BeginsAs p before after old new (Err NoMemory) = Joins p before after old new ⊎ ((new ≡ old) × MayHaveStarted before after p.program)
+
+-- ---- all of them
+
+-- the first plans, each of whose children is ready, then this one, and those that are left
+pub record Stands (plans front : List Plan) (p : Plan) (cs : List ChildValue) : Type 0 where
+  pub back : List Plan
+  pub are : plans ≡ front ++ p ∷ back
+  pub ready : AreReadyAs front cs
+  pub greeted : AreGreetedAs front cs
+
+pub record BegunAll (plans : List Plan) (before after : ProgramsValue) (cs : List ChildValue) : Type 0 where
+  pub ready : AreReadyAs plans cs
+  pub greeted : AreGreetedAs plans cs
+  pub serving : AreServing cs
+  pub starts : AddsAll before.starts after.starts (starts_of plans)
+
+pub record BegunTo (plans : List Plan) (n : ℕ) (before after : ProgramsValue) (cs : List ChildValue) : Type 0 where
+  pub front : List Plan
+  pub plan : Plan
+  pub first : List ChildValue
+  pub child : ChildValue
+  pub are : cs ≡ first ++ child ∷ []
+  pub stands : Stands plans front plan first
+  pub number : n ≡ plan.number
+  pub greeted : IsGreetedAs plan child
+  pub cause : IsUnready child.journal
+  pub starts : AddsAll before.starts after.starts (starts_of (front ++ plan ∷ []))
+
+pub record BegunUpTo (plans : List Plan) (n : ℕ) (core : CoreValue) (before after : ProgramsValue) (cs : List ChildValue) : Type 0 where
+  pub front : List Plan
+  pub plan : Plan
+  pub stands : Stands plans front plan cs
+  pub number : n ≡ plan.number
+  pub none : HasNotStarted plan core
+  pub rose : Rose before.faults after.faults
+  pub starts : AddsAll before.starts after.starts (starts_of front ++ (plan.program, false) ∷ [])
+
+pub record BegunSome (plans : List Plan) (before after : ProgramsValue) (cs : List ChildValue) : Type 0 where
+  pub front : List Plan
+  pub back : List Plan
+  pub are : plans ≡ front ++ back
+  pub greeted : AreGreetedAs front cs
+  pub starts : AddsAll before.starts after.starts (starts_of front)
+      ⊎ ((program : List ℕ) × (b : Bool) × AddsAll before.starts after.starts (starts_of front ++ (program, b) ∷ []))
+
+abbrev pub BeginsAllAs : List Plan → ProgramsValue → ProgramsValue → List ChildValue → Result (Unit {0}) Cause → Type 0
+BeginsAllAs plans before after cs (Ok u) = BegunAll plans before after cs
+BeginsAllAs plans before after cs (Err (Unready n)) = BegunTo plans n before after cs
+BeginsAllAs plans before after cs (Err (Unstarted n core)) = BegunUpTo plans n core before after cs
+BeginsAllAs plans before after cs (Err NoMemory) = BegunSome plans before after cs
+
+-- ---- they are stopped
+
+-- Those that were begun may be stopped: there is room for each, and for one more where one couldn't be started.
+abbrev pub MayStop : List ChildValue → StoppedValue → Cause → Type 0
+MayStop cs s (Unready n) = AreLinked cs × (length cs ≤ s.spare)
+MayStop cs s (Unstarted n core) = AreLinked cs × (length cs < s.spare) × IsUnwired (log_of core)
+MayStop cs s NoMemory = AreLinked cs × (length cs ≤ s.spare)
+
+-- They were stopped. The core of one that couldn't be started comes after them.
+abbrev pub StopsBegun : List ChildValue → StoppedValue → StoppedValue → Cause → Type 0
+StopsBegun cs old new (Unready n) = StopsAll cs old new
+StopsBegun cs old new (Unstarted n core) = (mid : StoppedValue) × StopsAll cs old mid × (new.logs ≡ mid.logs ++ log_of core ∷ [])
+StopsBegun cs old new NoMemory = StopsAll cs old new

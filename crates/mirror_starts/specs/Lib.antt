@@ -1,0 +1,5 @@
+pub mod Openings
+pub mod Stops
+pub mod Readiness
+pub mod Beginnings
+pub mod Outcomes
