@@ -1,3 +1,4 @@
+pub mod Children
 pub mod DescribedVoices
 pub mod Fields
 pub mod KeyLines

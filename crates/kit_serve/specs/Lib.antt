@@ -1,3 +1,4 @@
+pub mod Children
 pub mod Describing
 pub mod Ends
 pub mod Limits

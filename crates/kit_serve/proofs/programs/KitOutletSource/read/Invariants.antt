@@ -1,0 +1,7 @@
+use Rattle.std.proofs.Common.{◌≡◌, true}
+use Rattle.kit_serve.specs.Children.{read_of}
+use Rattle.kit_serve.proofs.programs.KitOutletSource.read.Given as goal
+
+-- nothing was read yet
+abbrev pub invariant-loop : goal.invariant-loop
+invariant-loop g l = (l.self.is_open ≡ true) × (read_of l.self.child ≡ read_of l.initial.self.child)
