@@ -1,15 +1,17 @@
 -- A child that goes on, and what is read of it.
-use Rattle.std.proofs.Common.{◌≡◌, ℕ, ◌+◌, ◌-◌, ◌≤◌, Bool, true, false, List, [], ◌∷◌, ◌++◌, length, take, drop, Option, Some, None, refl, sym, ap, ◌∙◌, subst, inl, inr, arith, length-append}
-use Rattle.std.proofs.lemmas.List.{take-append-le, take_all, length-drop}
+use Rattle.std.proofs.Common.{◌≡◌, ℕ, ◌+◌, ◌-◌, ◌≤◌, Bool, true, false, List, [], ◌∷◌, ◌++◌, length, take, drop, Option, Some, None, Result, Ok, Err, refl, sym, ap, ◌∙◌, subst, inl, inr, arith, length-append}
+use Rattle.std.proofs.lemmas.List.{append-nil, take-append-le, take_all, length-drop}
+use Rattle.annex_model.specs.Lines.{text}
 use Rattle.std.proofs.Math.Seq.{take-add}
 use Rattle.kit_core.specs.declared.call.Call.{Call}
 use Rattle.kit_core.specs.declared.kit.Step.{Step}
 use Rattle.kit_core.specs.Stages.{KitValue, Follows}
-use Rattle.kit_serve.specs.Children.{StandsAt, IsChild, nothing_told, IsProgress, AreProgress, IsMixed, ChattyValue, Chats}
+use Rattle.kit_serve.specs.Children.{StandsAt, IsChild, Grows, nothing_told, IsProgress, AreProgress, IsMixed, ChattyValue, Chats}
 use Rattle.kit_serve.specs.Sessions.{Spoke}
-use Rattle.kit_serve.specs.Turns.{Grows}
-use Rattle.kit_serve.specs.Voices.{Spoken, Utters, Replies, Bytes, Talking}
+use Rattle.kit_serve.specs.Turns.{end_of}
+use Rattle.kit_serve.specs.Voices.{Spoken, Utters, Replies, Hears, Bytes, Talking}
 use Rattle.kit_serve.specs.declared.end.End.{End}
+use Rattle.kit_serve.specs.declared.end.End.TheVariants.{Eof, Bad, ReadFault, WriteFault, Memory}
 use Rattle.kit_serve.proofs.KitVoices.{begins_spoke}
 
 -- ---- a child
@@ -19,19 +21,48 @@ pub at_talk : {V : Type 0} (spoke : Spoken V) (over : V → Bool) (foul : V → 
 at_talk spoke over foul lacks begun voice told held None s e = s
 at_talk spoke over foul lacks begun voice told held (Some end) s e = absurd cc
 
-pub went_on : {S V : Type 0} (given : S → Option (List ℕ)) (is_open : S → Bool) (spoke : Spoken V) (over : V → Bool) (foul : V → List ℕ → Type 0) (lacks : V → V → List ℕ → Type 0)
+pub went_on : {S V : Type 0} (heard : S → List ℕ) (at_end : S → Bool) (spoke : Spoken V) (over : V → Bool) (foul : V → List ℕ → Type 0) (lacks : V → V → List ℕ → Type 0)
     (source source' : S) (begun voice voice' : V) (held held' said said' : List ℕ) (read : ℕ) (end end' : Option End)
-    → IsChild given is_open spoke over foul lacks (record { source = source; begun = begun; voice = voice; held = held; said = Some said; read = read; end = end })
-    → is_open source' ≡ true → Grows (Some said) (Some said') → StandsAt spoke over foul lacks begun voice' (record { given = given source'; taken = Some said' }) held' end'
-    → IsChild given is_open spoke over foul lacks (record { source = source'; begun = begun; voice = voice'; held = held'; said = Some said'; read = read; end = end' })
-went_on given is_open spoke over foul lacks source source' begun voice voice' held held' said said' read end end' i o g s = record {
-  opened = o;
+    → IsChild heard at_end spoke over foul lacks (record { source = source; begun = begun; voice = voice; held = held; said = Some said; read = read; end = end })
+    → Grows (Some said) (Some said') → StandsAt spoke over foul lacks begun voice' (record { given = Some (heard source'); taken = Some said' }) held' end'
+    → (end' ≡ Some Eof → at_end source' ≡ true)
+    → IsChild heard at_end spoke over foul lacks (record { source = source'; begun = begun; voice = voice'; held = held'; said = Some said'; read = read; end = end' })
+went_on heard at_end spoke over foul lacks source source' begun voice voice' held held' said said' read end end' i g s e = record {
   stands = s;
   within = let l : length said' ≡ length said + length g.0 = ap length g.1 ∙ length-append said g.0 in let w : read ≤ length said = i.within in omega arith;
+  ended = e;
 }
 
 pub read_stays : (read : ℕ) (said said' : List ℕ) → read ≤ length said → Grows (Some said) (Some said') → ◌≡◌ {A = Option (List ℕ)} (Some (take read said')) (Some (take read said))
 read_stays read said said' w g = ap (λ (x : List ℕ). Some x) (ap (λ (x : List ℕ). take read x) g.1 ∙ take-append-le read said g.0 w)
+
+same_grows : (old new : Option (List ℕ)) → new ≡ old → Grows old new
+same_grows None new e = ([], tt)
+same_grows (Some xs) new e = rw e ([], sym (append-nil xs))
+
+-- what is said to a line is taken after what was taken
+pub heard_grows : {V T : Type 0} (spoke : Spoken V) (over : V → Bool) (foul : V → List ℕ → Type 0) (lacks : V → V → List ℕ → Type 0) (old new : V) (taken taken' : Option (List ℕ)) (line : List ℕ)
+    (result : Result T End) → Hears spoke over foul lacks old new taken taken' line result → Grows taken taken'
+heard_grows spoke over foul lacks old new taken taken' line (Ok x) h = (text h.0.say, h.0.took)
+heard_grows spoke over foul lacks old new taken taken' line (Err Bad) (inl h) = (text h.0.say, h.0.took)
+heard_grows spoke over foul lacks old new taken taken' line (Err Bad) (inr h) = same_grows taken taken' h.2
+heard_grows spoke over foul lacks old new taken taken' line (Err WriteFault) h = (take h.n (text h.say), h.took)
+heard_grows spoke over foul lacks old new taken taken' line (Err Memory) h = same_grows taken taken' h.1
+heard_grows spoke over foul lacks old new taken taken' line (Err Eof) h = absurd h
+heard_grows spoke over foul lacks old new taken taken' line (Err ReadFault) h = absurd h
+
+pub stays_grown : (told : Option (List ℕ)) → Grows told told
+stays_grown told = same_grows told told refl
+
+-- no line is the end of what is heard
+pub no_end : {V T : Type 0} (spoke : Spoken V) (over : V → Bool) (foul : V → List ℕ → Type 0) (lacks : V → V → List ℕ → Type 0) (old new : V) (taken taken' : Option (List ℕ)) (line : List ℕ)
+    (result : Result T End) → Hears spoke over foul lacks old new taken taken' line result → end_of result ≡ Some Eof → ⊥
+no_end spoke over foul lacks old new taken taken' line (Ok x) h e = absurd cc
+no_end spoke over foul lacks old new taken taken' line (Err Bad) h e = absurd cc
+no_end spoke over foul lacks old new taken taken' line (Err WriteFault) h e = absurd cc
+no_end spoke over foul lacks old new taken taken' line (Err Memory) h e = absurd cc
+no_end spoke over foul lacks old new taken taken' line (Err Eof) h e = absurd h
+no_end spoke over foul lacks old new taken taken' line (Err ReadFault) h e = absurd h
 
 -- ---- PROGRESS lines
 

@@ -3,6 +3,7 @@ pub mod DescribedVoices
 pub mod Fields
 pub mod KeyLines
 pub mod KitVoices
+pub mod PipeLemmas
 pub mod Talks
 pub mod Texts
 pub mod WholeLines

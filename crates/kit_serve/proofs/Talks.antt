@@ -15,7 +15,7 @@ use Rattle.wire_line.proofs.Firsts.{end_of, end_of-le-length, ends_within, has_l
 use Rattle.kit_serve.specs.Limits.{longest_line, is_short, next_line}
 use Rattle.kit_serve.specs.declared.end.End.{End}
 use Rattle.kit_serve.specs.declared.end.End.TheVariants.{Eof, Bad, ReadFault, WriteFault, Memory}
-use Rattle.kit_serve.specs.Turns.{Grows, ReadsOn, ReadsOnce, Streams, Turned, Half, Leaves}
+use Rattle.kit_serve.specs.Turns.{ReadsOn, ReadsOnce, Streams, Turned, Half, Leaves}
 use Rattle.kit_serve.specs.Voices.{Spoken, Writes, Falters, Hears, opening_text, Bytes, Passes, Talking, IsWritten, EndsBy, Talked}
 use Rattle.kit_serve.proofs.Texts.{text-append}
 
@@ -170,31 +170,14 @@ falters_end spoke over foul lacks begun old given taken taken' voice voice' held
 
 -- ---- what is written and read in a turn
 
-same_grows : (old new : Option (List ℕ)) → new ≡ old → Grows old new
-same_grows None new e = ([], tt)
-same_grows (Some xs) new e = rw e ([], sym (append-nil xs))
-
--- what is said to a line is taken behind what was taken
-pub heard_grows : {V T : Type 0} (spoke : Spoken V) (over : V → Bool) (foul : V → List ℕ → Type 0) (lacks : V → V → List ℕ → Type 0) (old new : V) (taken taken' : Option (List ℕ)) (line : List ℕ)
-    (result : Result T End) → Hears spoke over foul lacks old new taken taken' line result → Grows taken taken'
-heard_grows spoke over foul lacks old new taken taken' line (Ok x) h = (text h.0.say, h.0.took)
-heard_grows spoke over foul lacks old new taken taken' line (Err Bad) (inl h) = (text h.0.say, h.0.took)
-heard_grows spoke over foul lacks old new taken taken' line (Err Bad) (inr h) = same_grows taken taken' h.2
-heard_grows spoke over foul lacks old new taken taken' line (Err WriteFault) h = (take h.n (text h.say), h.took)
-heard_grows spoke over foul lacks old new taken taken' line (Err Memory) h = same_grows taken taken' h.1
-heard_grows spoke over foul lacks old new taken taken' line (Err Eof) h = absurd h
-heard_grows spoke over foul lacks old new taken taken' line (Err ReadFault) h = absurd h
-
-pub turned_line : (old new : Streams) (held : List ℕ) → IsTrue (has_line longest_line held) → new.rooms ≡ old.rooms → new.given ≡ old.given → Grows old.taken new.taken → Turned old new held
-turned_line old new held has rooms given grows = record {
-  grows = grows;
+pub turned_line : (old new : Streams) (held : List ℕ) → IsTrue (has_line longest_line held) → new.rooms ≡ old.rooms → new.given ≡ old.given → Turned old new held
+turned_line old new held has rooms given = record {
   at_line = λ line. (rooms, given);
   at_read = λ none. let this : true ≡ false = sym has ∙ none in cc;
 }
 
 pub turned_read : (old new : Streams) (held : List ℕ) → IsTrue (not (has_line longest_line held)) → new.taken ≡ old.taken → new.flushed ≡ old.flushed → ReadsOnce old.rooms new.rooms → Turned old new held
 turned_read old new held none taken flushed once = record {
-  grows = same_grows old.taken new.taken taken;
   at_line = λ line. absurd (true_not (has_line longest_line held) line none);
   at_read = λ no_line. (taken, flushed, once);
 }

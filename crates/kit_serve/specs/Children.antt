@@ -5,7 +5,9 @@ use Rattle.kit_core.specs.declared.call.Call.{Call}
 use Rattle.kit_core.specs.Stages.{KitValue}
 use Rattle.kit_serve.specs.Sessions.{Spoke, Lacks}
 use Rattle.kit_serve.specs.Voices.{Spoken, Utters, Bytes, Talking, Talked}
+use Rattle.std.specs.Io.KnownBytes.{Appends}
 use Rattle.kit_serve.specs.declared.end.End.{End}
+use Rattle.kit_serve.specs.declared.end.End.TheVariants.{Eof}
 
 -- ---- a kit that says how far a transfer is
 
@@ -52,6 +54,10 @@ pub record ChildValue (S V : Type 0) : Type 0 where
   pub read : ℕ
   pub end : Option End
 
+-- what was told stays, and more may follow
+abbrev pub Grows : Option (List ℕ) → Option (List ℕ) → Type 0
+Grows old new = (bytes : List ℕ) × Appends old new bytes
+
 -- nothing was given and nothing taken
 abbrev pub nothing_told : Bytes
 nothing_told = record { given = Some []; taken = Some [] }
@@ -61,12 +67,13 @@ abbrev pub StandsAt : {V : Type 0} → Spoken V → (V → Bool) → (V → List
 StandsAt spoke over foul lacks begun voice told held None = ((turns : ℕ) × Talking spoke begun nothing_told told voice held turns) × (over voice ≡ false)
 StandsAt spoke over foul lacks begun voice told held (Some end) = Talked spoke over foul lacks begun nothing_told told voice end
 
--- What the source gave is what the voice heard, and what it said to that is what is read of it.
-pub record IsChild {S V : Type 0} (given : S → Option (List ℕ)) (is_open : S → Bool) (spoke : Spoken V) (over : V → Bool) (foul : V → List ℕ → Type 0) (lacks : V → V → List ℕ → Type 0)
+-- What was heard of the source is what the voice heard, and what it said to that is what is read of it. It ends with the source only once that
+-- is at its end.
+pub record IsChild {S V : Type 0} (heard : S → List ℕ) (at_end : S → Bool) (spoke : Spoken V) (over : V → Bool) (foul : V → List ℕ → Type 0) (lacks : V → V → List ℕ → Type 0)
     (c : ChildValue S V) : Type 0 where
-  pub opened : is_open c.source ≡ true
-  pub stands : StandsAt spoke over foul lacks c.begun c.voice (record { given = given c.source; taken = c.said }) c.held c.end
+  pub stands : StandsAt spoke over foul lacks c.begun c.voice (record { given = Some (heard c.source); taken = c.said }) c.held c.end
   pub within : IfSome c.said (λ said. c.read ≤ length said)
+  pub ended : c.end ≡ Some Eof → at_end c.source ≡ true
 
 -- what was read of it
 abbrev pub read_of : {S V : Type 0} → ChildValue S V → Option (List ℕ)

@@ -3,6 +3,7 @@ pub mod Describing
 pub mod Ends
 pub mod Limits
 pub mod LineSinks
+pub mod Pipes
 pub mod Sessions
 pub mod Telling
 pub mod Turns

@@ -26,13 +26,8 @@ pub record Streams : Type 0 where
   pub taken : Option (List ℕ)
   pub flushed : Bool
 
--- what was told stays, and more may follow
-abbrev pub Grows : Option (List ℕ) → Option (List ℕ) → Type 0
-Grows old new = (bytes : List ℕ) × Appends old new bytes
-
--- Where a whole line is held nothing is read. Where none is, nothing is written, and at most one read is made. What was taken stays.
+-- Where a whole line is held nothing is read. Where none is, nothing is written, and at most one read is made.
 pub record Turned (old new : Streams) (held : List ℕ) : Type 0 where
-  pub grows : Grows old.taken new.taken
   pub at_line : has_line longest_line held ≡ true → (new.rooms ≡ old.rooms) × (new.given ≡ old.given)
   pub at_read : has_line longest_line held ≡ false → (new.taken ≡ old.taken) × (new.flushed ≡ old.flushed) × ReadsOnce old.rooms new.rooms
 

@@ -1,14 +1,15 @@
 // A voice in memory, as the child of a host: it hears what its source gives, and what it says waits to be read.
-ghost use Rattle.std.specs.Prelude.{◌≡◌, ◌+◌, ◌≤◌, ◌<◌, ◌++◌, false, length, min, true, [], IfOk, IfSome, None, Some, take};
+ghost use Rattle.std.specs.Prelude.{◌≡◌, ◌+◌, ◌≤◌, ◌<◌, false, length, true, [], IfOk, None, Some, take};
 ghost use Rattle.std.specs.Io.KnownBytes.{Appends};
 ghost use Rattle.kit_serve.specs.Children.{read_of, IsChild, IsReadOut};
 
 use crate::end::End;
-use crate::serving::{LONGEST_LINE, turn};
+use crate::feed::{Feed, turn_over};
+use crate::serving::LONGEST_LINE;
 use crate::voice::Voice;
 use crate::writing::write_version;
 use ann_key::NoMemory;
-use ann_outside::{MemSink, Sink, Source};
+use ann_outside::{MemSink, Sink};
 use std::alloc::Global;
 use std::marker::Model;
 use std::snapshot::Snapshot;
@@ -16,7 +17,7 @@ use wire_line::Splitter;
 
 /// A voice that hears what the source gives. What it says waits until it is read.
 #[derive(Drop)]
-pub struct Child<S: Source, V: Voice> {
+pub struct Child<S: Feed, V: Voice> {
     voice: V,
     begun: Snapshot<V>,
     source: S,
@@ -27,7 +28,7 @@ pub struct Child<S: Source, V: Voice> {
     end: Option<End>,
 }
 
-impl<S: Source, V: Voice> Model for Child<S, V> {
+impl<S: Feed, V: Voice> Model for Child<S, V> {
     ghost use Rattle.std.specs.Prelude.{◌≡◌, true};
     ghost use Rattle.kit_serve.specs.Limits.{longest_line};
     ghost use Rattle.kit_serve.specs.Children.{ChildValue, IsChild};
@@ -45,7 +46,7 @@ impl<S: Source, V: Voice> Model for Child<S, V> {
     } };
 
     ghost invariant = { λ c. (c.splitter.limit ≡ longest_line) × (⟦<MemSink as Sink>⟧.is_open c.said ≡ true)
-        × IsChild S.given S.is_open V.spoke V.is_over V.is_foul V.lacks (record {
+        × IsChild S.heard S.is_at_end V.spoke V.is_over V.is_foul V.lacks (record {
           source = c.source;
           begun = c.begun.value;
           voice = c.voice;
@@ -68,14 +69,13 @@ fn copied(left: &[u8], buf: &mut [u8]) -> usize
     n
 }
 
-impl<S: Source, V: Voice> Child<S, V> {
+impl<S: Feed, V: Voice> Child<S, V> {
     /// A child that has said its version.
     pub(super) fn new(alloc: Global, voice: V, source: S) -> Result<Child<S, V>, NoMemory>
     where
         S: Drop,
         V: Drop,
-        requires open { S.is_open source ≡ true }
-        requires given { S.given source ≡ Some [] }
+        requires heard { S.heard source ≡ [] }
         requires live { V.is_over voice ≡ false }
         requires begins { V.spoke voice voice [] [] }
         ensures begun { IfOk result (λ c. (c.begun ≡ voice) × (c.source ≡ source)) }
@@ -98,7 +98,7 @@ impl<S: Source, V: Voice> Child<S, V> {
 
     /// What it heard and said, as a fact.
     pub(super) fn stands(&self)
-        ensures { IsChild S.given S.is_open V.spoke V.is_over V.is_foul V.lacks self.now }
+        ensures { IsChild S.heard S.is_at_end V.spoke V.is_over V.is_foul V.lacks self.now }
     {
         let _read = self.read;
     }
@@ -116,8 +116,9 @@ impl<S: Source, V: Voice> Child<S, V> {
         requires { self.old.end ≡ None }
         ensures begun { self.new.begun ≡ self.old.begun }
         ensures read { read_of self.new ≡ read_of self.old }
+        ensures source { S.begun self.new.source ≡ S.begun self.old.source }
     {
-        match turn(
+        match turn_over(
             &mut self.voice,
             &mut self.splitter,
             &mut self.source,
@@ -138,5 +139,23 @@ impl<S: Source, V: Voice> Child<S, V> {
         let n = copied(&self.said.taken()[self.read..], buf);
         self.read += n;
         n
+    }
+
+    /// What it hears.
+    pub(super) fn source(self) -> S
+    where
+        V: Drop,
+        ensures { result ≡ self.source }
+    {
+        let Child {
+            voice: _,
+            begun: _,
+            source,
+            splitter: _,
+            said: _,
+            read: _,
+            end: _,
+        } = self;
+        source
     }
 }

@@ -5,6 +5,7 @@ mod chatty;
 mod child;
 mod described;
 mod end;
+mod feed;
 mod line_sink;
 mod pipe;
 mod programs;

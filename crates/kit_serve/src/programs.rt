@@ -1,16 +1,20 @@
 // Programs in memory, each of which is a kit.
-ghost use Rattle.std.specs.Prelude.{◌≡◌, ◌<◌, length, IfOk, None, true};
+ghost use Rattle.std.specs.Prelude.{◌≡◌, ◌<◌, ◌≤◌, ◌++◌, ℕ, List, [], length, Err, IfOk, OnOk, None, Some, true, false};
 ghost use Rattle.std.specs.Io.{ReadsAtMost};
 ghost use Rattle.std.specs.Io.KnownBytes.{ReadConsumes, WriteAppends};
-ghost use Rattle.ann_outside.specs.Causes.{HasCause, StaysUntold};
-ghost use Rattle.kit_serve.specs.Children.{IsReadOut};
+ghost use Rattle.rtrb.specs.Ring.{IsPair};
+ghost use Rattle.ann_outside.specs.Causes.{HasCause, IsBlank, Rose, StaysUntold};
+ghost use Rattle.ann_outside.specs.Starts.{StartAdds, IsNumbered};
+ghost use Rattle.kit_serve.specs.declared.end.End.TheVariants.{Eof};
+ghost use Rattle.kit_serve.specs.Children.{IsReadOut, read_of};
 
 use crate::chatty::Chatty;
 use crate::child::Child;
+use crate::feed::Feed;
 use crate::pipe::{PipeInlet, PipeOutlet, pipe};
 use crate::voice::Voice;
 use ann_key::NoMemory;
-use ann_outside::{Failed, Programs, Source, StartError, Started};
+use ann_outside::{Failed, Programs, Sink, Source, StartError, Started};
 use kit_core::{Kit, Remote};
 use std::alloc::Global;
 use std::marker::{Send, Sync};
@@ -68,16 +72,33 @@ impl<'a, T: Wait, R: Remote> KitOutlet<'a, T, R> {
 
     /// As a fact: what was read of it is the first bytes of what its kit said, and the kit said that to what it heard.
     pub fn stands(&self)
-        ensures { IsChild ⟦<PipeOutlet<'a, T> as Source>⟧.given ⟦<PipeOutlet<'a, T> as Source>⟧.is_open ⟦<Chatty<R> as Voice>⟧.spoke ⟦<Chatty<R> as Voice>⟧.is_over
+        ensures { IsChild ⟦<PipeOutlet<'a, T> as Feed>⟧.heard ⟦<PipeOutlet<'a, T> as Feed>⟧.is_at_end ⟦<Chatty<R> as Voice>⟧.spoke ⟦<Chatty<R> as Voice>⟧.is_over
             ⟦<Chatty<R> as Voice>⟧.is_foul ⟦<Chatty<R> as Voice>⟧.lacks self.now.child }
     {
         self.child.stands();
     }
+
+    /// As a fact, for who holds both halves of a child: what was written begins with what its kit heard, and is all of that where the kit ended
+    /// with it.
+    pub fn settle(self, inlet: &mut PipeInlet<'a, T>)
+    where
+        R: Drop,
+        requires { IsPair inlet.old.ring self.child.source.begun.value }
+        ensures heard { (rest : List ℕ) × (⟦<PipeInlet<'a, T> as Sink>⟧.taken inlet.new ≡ Some (⟦<PipeOutlet<'a, T> as Feed>⟧.heard self.child.source ++ rest)) × (self.child.end ≡ Some Eof → rest ≡ []) }
+        ensures same { ⟦<PipeInlet<'a, T> as Sink>⟧.taken inlet.new ≡ ⟦<PipeInlet<'a, T> as Sink>⟧.taken inlet.old }
+    {
+        self.stands();
+        let KitOutlet {
+            rt: _,
+            child,
+            is_open: _,
+        } = self;
+        let mut heard = child.source();
+        heard.settle(inlet);
+    }
 }
 
 impl<'a, T: Wait, R: Remote> Source for KitOutlet<'a, T, R> {
-    ghost use Rattle.kit_serve.specs.Children.{read_of};
-
     ghost faults = { λ _. 0 };
 
     ghost given = { λ s. read_of s.child };
@@ -93,11 +114,9 @@ impl<'a, T: Wait, R: Remote> Source for KitOutlet<'a, T, R> {
         ensures bound { ReadsAtMost result buf.new }
         ensures bytes { ReadConsumes (⟦<KitOutlet<'a, T, R> as Source>⟧.left self.old) (⟦<KitOutlet<'a, T, R> as Source>⟧.left self.new) result buf.new }
         ensures given { WriteAppends (⟦<KitOutlet<'a, T, R> as Source>⟧.given self.old) (⟦<KitOutlet<'a, T, R> as Source>⟧.given self.new) result buf.new }
-        ensures silent { StaysUntold (⟦<KitOutlet<'a, T, R> as Source>⟧.left self.old) (⟦<KitOutlet<'a, T, R> as Source>⟧.left self.new)
-            × StaysUntold (⟦<KitOutlet<'a, T, R> as Source>⟧.given self.old) (⟦<KitOutlet<'a, T, R> as Source>⟧.given self.new) }
+        ensures silent { StaysUntold (⟦<KitOutlet<'a, T, R> as Source>⟧.left self.old) (⟦<KitOutlet<'a, T, R> as Source>⟧.left self.new) × StaysUntold (⟦<KitOutlet<'a, T, R> as Source>⟧.given self.old) (⟦<KitOutlet<'a, T, R> as Source>⟧.given self.new) }
         ensures cause { HasCause (⟦<KitOutlet<'a, T, R> as Source>⟧.faults self.old) (⟦<KitOutlet<'a, T, R> as Source>⟧.faults self.new) result }
-        ensures open { ⟦<KitOutlet<'a, T, R> as Source>⟧.is_open self.new ≡ true }
-        ensures number { ⟦<KitOutlet<'a, T, R> as Source>⟧.number self.new ≡ ⟦<KitOutlet<'a, T, R> as Source>⟧.number self.old }
+        ensures stays { (⟦<KitOutlet<'a, T, R> as Source>⟧.is_open self.new ≡ true) × (⟦<KitOutlet<'a, T, R> as Source>⟧.number self.new ≡ ⟦<KitOutlet<'a, T, R> as Source>⟧.number self.old) × (self.new.child.source.begun ≡ self.old.child.source.begun) }
         ensures ended { IfOk result (λ n. n ≡ 0 → 0 < length buf.new → (self.new.child.end ≡ None → ⊥) × IsReadOut self.new.child) }
     {
         let rt = self.rt;
@@ -110,7 +129,13 @@ impl<'a, T: Wait, R: Remote> Source for KitOutlet<'a, T, R> {
         Ok(self.child.say(buf))
     }
 
-    fn close(&mut self) {
+    fn close(&mut self)
+        requires { ⟦<KitOutlet<'a, T, R> as Source>⟧.is_open self.old ≡ true }
+        ensures closed { ⟦<KitOutlet<'a, T, R> as Source>⟧.is_open self.new ≡ false }
+        ensures told { (⟦<KitOutlet<'a, T, R> as Source>⟧.left self.new ≡ ⟦<KitOutlet<'a, T, R> as Source>⟧.left self.old) × (⟦<KitOutlet<'a, T, R> as Source>⟧.given self.new ≡ ⟦<KitOutlet<'a, T, R> as Source>⟧.given self.old) }
+        ensures counts { (⟦<KitOutlet<'a, T, R> as Source>⟧.faults self.new ≡ ⟦<KitOutlet<'a, T, R> as Source>⟧.faults self.old) × (⟦<KitOutlet<'a, T, R> as Source>⟧.number self.new ≡ ⟦<KitOutlet<'a, T, R> as Source>⟧.number self.old) }
+        ensures child { self.new.child ≡ self.old.child }
+    {
         self.is_open = false;
     }
 }
@@ -128,8 +153,19 @@ impl<'a, T: Wait + Sync, M: Maker> Programs for KitPrograms<'a, T, M> {
 
     fn start(
         &mut self,
-        _program: &str,
-    ) -> Result<Started<Self::Inlet, Self::Outlet, KitStub>, StartError> {
+        program: &str,
+    ) -> Result<Started<Self::Inlet, Self::Outlet, KitStub>, StartError>
+        ensures faults { ⟦<KitPrograms<'a, T, M> as Programs>⟧.faults self.old ≤ ⟦<KitPrograms<'a, T, M> as Programs>⟧.faults self.new }
+        ensures failed { result ≡ Err StartError.Failed → Rose (⟦<KitPrograms<'a, T, M> as Programs>⟧.faults self.old) (⟦<KitPrograms<'a, T, M> as Programs>⟧.faults self.new) }
+        ensures done { OnOk result (⟦<KitPrograms<'a, T, M> as Programs>⟧.faults self.new ≡ ⟦<KitPrograms<'a, T, M> as Programs>⟧.faults self.old) }
+        ensures starts { StartAdds (⟦<KitPrograms<'a, T, M> as Programs>⟧.starts self.old) (⟦<KitPrograms<'a, T, M> as Programs>⟧.starts self.new) program.now result }
+        ensures inlet { IfOk result (λ s. (⟦<PipeInlet<'a, T> as Sink>⟧.is_open s.inlet ≡ true) × (⟦<PipeInlet<'a, T> as Sink>⟧.faults s.inlet ≡ 0)
+            × IsBlank (⟦<PipeInlet<'a, T> as Sink>⟧.taken s.inlet) × IsNumbered (⟦<KitPrograms<'a, T, M> as Programs>⟧.starts self.new) (⟦<PipeInlet<'a, T> as Sink>⟧.number s.inlet)) }
+        ensures outlet { IfOk result (λ s. (⟦<KitOutlet<'a, T, M::Remote> as Source>⟧.is_open s.outlet ≡ true) × (⟦<KitOutlet<'a, T, M::Remote> as Source>⟧.faults s.outlet ≡ 0)
+            × IsBlank (⟦<KitOutlet<'a, T, M::Remote> as Source>⟧.given s.outlet) × IsNumbered (⟦<KitPrograms<'a, T, M> as Programs>⟧.starts self.new) (⟦<KitOutlet<'a, T, M::Remote> as Source>⟧.number s.outlet)) }
+        ensures pair { IfOk result (λ s. IsPair s.inlet.ring s.outlet.child.source.begun.value) }
+    {
+        let _any = program;
         let Ok(remote) = self.maker.make() else {
             return Err(StartError::NoMemory);
         };

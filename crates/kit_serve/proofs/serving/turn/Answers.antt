@@ -3,7 +3,7 @@ use Rattle.annex_model.specs.Lines.{has_newline}
 use Rattle.kit_core.proofs.FirstLines.{before_whole}
 use Rattle.wire_line.specs.HeldBytes.{has_line}
 use Rattle.kit_serve.specs.Voices.{Hears}
-use Rattle.kit_serve.proofs.Talks.{turned_line, turned_read, heard_grows, heard_goes, heard_ends, long_ends, read_goes, read_ends, no_line, long_line}
+use Rattle.kit_serve.proofs.Talks.{turned_line, turned_read, heard_goes, heard_ends, long_ends, read_goes, read_ends, no_line, long_line}
 use Rattle.kit_serve.proofs.serving.turn.Goals as goal
 
 pub hear-heard-requires-clause-line : goal.hear-heard-requires-clause-line
@@ -55,8 +55,6 @@ pub returns-in-Line-clause-turned : goal.returns-in-Line-clause-turned
 returns-in-Line-clause-turned g c =
     let held = c.args.splitter.now.bytes in
     turned_line _ _ held (subst (λ (n : ℕ). IsTrue (has_line n held)) c.requires.limit c.in-Line.ensures.next.0) refl refl
-    (heard_grows g.V.Voice.spoke g.V.Voice.is_over g.V.Voice.is_foul g.V.Voice.lacks c.args.voice.now c.hear-heard.new.voice (g.W.Sink.taken c.args.sink.now) (g.W.Sink.taken c.hear-heard.new.sink)
-    _ c.hear-heard.result c.hear-heard.ensures.heard)
 
 pub returns-in-More-clause-turned : goal.returns-in-More-clause-turned
 returns-in-More-clause-turned g c =
