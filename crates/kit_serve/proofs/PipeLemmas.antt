@@ -1,6 +1,9 @@
 -- What went through a pipe, one item longer.
-use Rattle.std.proofs.Common.{◌≡◌, ℕ, ◌+◌, ◌<◌, Bool, true, false, not, List, [], ◌∷◌, ◌++◌, length, take, set, get_or, Option, Some, None, refl, sym, ap, ◌∙◌, append_assoc, append-nil}
+use Rattle.std.proofs.Common.{◌≡◌, ℕ, ◌+◌, ◌<◌, ◌≤◌, Bool, true, false, not, List, [], ◌∷◌, ◌++◌, length, take, set, get_or, Option, Some, None, refl, sym, ap, ◌∙◌, append_assoc, append-nil, arith}
 use Rattle.std.proofs.lemmas.Grind.{take_at_read, take-set_at}
+use Rattle.rtrb.specs.declared.consumer.Consumer.{Consumer}
+use Rattle.rtrb.specs.declared.producer.Producer.{Producer}
+use Rattle.rtrb.specs.Ring.{IsPair, SameProducer, SameConsumer, ProducerLooked}
 use Rattle.kit_serve.specs.Pipes.{bytes_in, has_end, is_stream}
 
 pub bytes_both : (xs ys : List (Option ℕ)) → bytes_in (xs ++ ys) ≡ bytes_in xs ++ bytes_in ys
@@ -66,3 +69,27 @@ pub took_more : (old new : List (Option ℕ)) (before buf : List ℕ) (i b : ℕ
 took_more old new before buf i b e h within =
     ap bytes_in e ∙ byte_more old b ∙ ap (λ (x : List ℕ). x ++ b ∷ []) h ∙ append_assoc before (take i buf) (b ∷ [])
     ∙ ap (λ (x : List ℕ). before ++ x) (sym (take-set_at buf i (i + 1) b refl within))
+
+-- who holds both halves: what was written is what was heard and what follows, which is nothing once the end was heard
+pub settled : (live : Bool) (items received known : List (Option ℕ)) → received ++ known ≡ items → is_stream live items ≡ true
+    → (rest : List ℕ) × (bytes_in items ≡ bytes_in received ++ rest) × (has_end received ≡ true → rest ≡ [])
+settled live items received known e s = (
+  bytes_in known,
+  ap bytes_in (sym e) ∙ bytes_both received known,
+  (λ ends. ap bytes_in (nothing_follows live received known (ap (is_stream live) e ∙ s) ends)),
+)
+
+-- ---- the same ring
+
+module _ {T A P : Type 0} where
+  pub consumer_both : (a b c : Consumer T A P) → SameConsumer a b → SameConsumer b c → SameConsumer a c
+  consumer_both a b c p q = ((q.0.0 ∙ p.0.0, q.0.1 ∙ p.0.1, q.0.2 ∙ p.0.2, q.0.3 ∙ p.0.3), q.1 ∙ p.1)
+
+  pub producer_both : (a b c : Producer T A P) → SameProducer a b → SameProducer b c → SameProducer a c
+  producer_both a b c p q = ((q.0.0 ∙ p.0.0, q.0.1 ∙ p.0.1, q.0.2 ∙ p.0.2, q.0.3 ∙ p.0.3), q.1 ∙ p.1)
+
+  pub looked_both : (a b c : Producer T A P) → ProducerLooked a b → ProducerLooked b c → ProducerLooked a c
+  looked_both a b c p q = (producer_both a b c p.0 q.0, q.1 ∙ p.1, omega (arith, p.2, q.2))
+
+  pub pair_now : (p : Producer T A P) (b c : Consumer T A P) → IsPair p b → SameConsumer b c → IsPair p c
+  pair_now p b c pair q = (q.0.0 ∙ pair.0, q.0.1 ∙ pair.1, q.0.2 ∙ pair.2, q.0.3 ∙ pair.3)
