@@ -84,7 +84,7 @@ impl<'a, T: Wait, R: Remote> KitOutlet<'a, T, R> {
     where
         R: Drop,
         requires { IsPair inlet.old.ring self.child.source.begun.value }
-        ensures heard { (rest : List ℕ) × (⟦<PipeInlet<'a, T> as Sink>⟧.taken inlet.new ≡ Some (⟦<PipeOutlet<'a, T> as Feed>⟧.heard self.child.source ++ rest)) × (self.child.end ≡ Some Eof → rest ≡ []) }
+        ensures heard { (rest : List ℕ) × (⟦<PipeInlet<'a, T> as Sink>⟧.taken inlet.new ≡ Some (⟦<PipeOutlet<'a, T> as Feed>⟧.heard self.entry.child.source ++ rest)) × (self.entry.child.end ≡ Some Eof → rest ≡ []) }
         ensures same { ⟦<PipeInlet<'a, T> as Sink>⟧.taken inlet.new ≡ ⟦<PipeInlet<'a, T> as Sink>⟧.taken inlet.old }
     {
         self.stands();
@@ -116,7 +116,7 @@ impl<'a, T: Wait, R: Remote> Source for KitOutlet<'a, T, R> {
         ensures given { WriteAppends (⟦<KitOutlet<'a, T, R> as Source>⟧.given self.old) (⟦<KitOutlet<'a, T, R> as Source>⟧.given self.new) result buf.new }
         ensures silent { StaysUntold (⟦<KitOutlet<'a, T, R> as Source>⟧.left self.old) (⟦<KitOutlet<'a, T, R> as Source>⟧.left self.new) × StaysUntold (⟦<KitOutlet<'a, T, R> as Source>⟧.given self.old) (⟦<KitOutlet<'a, T, R> as Source>⟧.given self.new) }
         ensures cause { HasCause (⟦<KitOutlet<'a, T, R> as Source>⟧.faults self.old) (⟦<KitOutlet<'a, T, R> as Source>⟧.faults self.new) result }
-        ensures stays { (⟦<KitOutlet<'a, T, R> as Source>⟧.is_open self.new ≡ true) × (⟦<KitOutlet<'a, T, R> as Source>⟧.number self.new ≡ ⟦<KitOutlet<'a, T, R> as Source>⟧.number self.old) × (self.new.child.source.begun ≡ self.old.child.source.begun) }
+        ensures stays { (⟦<KitOutlet<'a, T, R> as Source>⟧.is_open self.new ≡ true) × (⟦<KitOutlet<'a, T, R> as Source>⟧.number self.new ≡ ⟦<KitOutlet<'a, T, R> as Source>⟧.number self.old) × (self.new.child.source.begun.value ≡ self.old.child.source.begun.value) }
         ensures ended { IfOk result (λ n. n ≡ 0 → 0 < length buf.new → (self.new.child.end ≡ None → ⊥) × IsReadOut self.new.child) }
     {
         let rt = self.rt;

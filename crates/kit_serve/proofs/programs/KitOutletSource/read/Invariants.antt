@@ -7,5 +7,5 @@ abbrev pub invariant-loop : goal.invariant-loop
 invariant-loop g l = record {
   is_open : l.self.is_open ≡ true;
   read : read_of l.self.child ≡ read_of l.initial.self.child;
-  pipe : l.self.child.source.begun ≡ l.initial.self.child.source.begun;
+  pipe : l.self.child.source.begun.value ≡ l.initial.self.child.source.begun.value;
 }
