@@ -1,7 +1,9 @@
+pub mod Children
 pub mod DescribedVoices
 pub mod Fields
 pub mod KeyLines
 pub mod KitVoices
+pub mod PipeLemmas
 pub mod Talks
 pub mod Texts
 pub mod WholeLines

@@ -1,7 +1,9 @@
+pub mod Children
 pub mod Describing
 pub mod Ends
 pub mod Limits
 pub mod LineSinks
+pub mod Pipes
 pub mod Sessions
 pub mod Telling
 pub mod Turns

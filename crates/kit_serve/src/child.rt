@@ -1,142 +1,161 @@
-// A kit in memory, as the child of a host: it is stepped by what is written to it, and what it says waits to be read.
-ghost use Rattle.std.specs.Prelude.{◌≡◌, ◌≤◌, false, length, true};
-ghost use Rattle.annex_model.specs.Lines.{has_newline};
+// A voice in memory, as the child of a host: it hears what its source gives, and what it says waits to be read.
+ghost use Rattle.std.specs.Prelude.{◌≡◌, ◌+◌, ◌≤◌, ◌<◌, false, length, true, [], IfOk, None, Some, take};
+ghost use Rattle.std.specs.Io.KnownBytes.{Appends};
+ghost use Rattle.kit_serve.specs.Children.{read_of, IsChild, IsReadOut};
 
+use crate::end::End;
+use crate::feed::{Feed, turn_over};
 use crate::serving::LONGEST_LINE;
-use ann_key::{Bytes, NoMemory};
-use kit_core::{Kit, Lines, Remote, Step};
+use crate::voice::Voice;
+use crate::writing::write_version;
+use ann_key::NoMemory;
+use ann_outside::{MemSink, Sink};
 use std::alloc::Global;
-use std::collections::VecDeque;
-use wire_line::{Next, Splitter};
-use wire_msg::{HostMsg, RemoteMsg, read_host, write_remote};
+use std::marker::Model;
+use std::snapshot::Snapshot;
+use wire_line::Splitter;
 
+/// A voice that hears what the source gives. What it says waits until it is read.
 #[derive(Drop)]
-pub(super) struct Child<R: Remote> {
-    alloc: Global,
-    kit: Kit<R>,
+pub struct Child<S: Feed, V: Voice> {
+    voice: V,
+    begun: Snapshot<V>,
+    source: S,
     splitter: Splitter,
-    // What it said and nobody has read.
-    said: VecDeque<u8>,
-    // Said before the end of each transfer.
-    progress: u32,
-    is_over: bool,
-    is_closed: bool,
+    said: MemSink,
+    // How much of what it said was read.
+    read: usize,
+    end: Option<End>,
 }
 
-fn queue(said: &mut VecDeque<u8>, bytes: &[u8]) -> Result<(), NoMemory> {
-    for byte in bytes {
-        said.push_back(*byte)?;
-    }
-    Ok(())
+impl<S: Feed, V: Voice> Model for Child<S, V> {
+    ghost use Rattle.std.specs.Prelude.{◌≡◌, true};
+    ghost use Rattle.kit_serve.specs.Limits.{longest_line};
+    ghost use Rattle.kit_serve.specs.Children.{ChildValue, IsChild};
+
+    ghost Value = { ChildValue S V };
+
+    ghost view = { λ c. record {
+      source = c.source;
+      begun = c.begun.value;
+      voice = c.voice;
+      held = c.splitter.bytes;
+      said = ⟦<MemSink as Sink>⟧.taken c.said;
+      read = c.read;
+      end = c.end;
+    } };
+
+    ghost invariant = { λ c. (c.splitter.limit ≡ longest_line) × (⟦<MemSink as Sink>⟧.is_open c.said ≡ true)
+        × IsChild S.heard S.is_at_end V.spoke V.is_over V.is_foul V.lacks (record {
+          source = c.source;
+          begun = c.begun.value;
+          voice = c.voice;
+          held = c.splitter.bytes;
+          said = ⟦<MemSink as Sink>⟧.taken c.said;
+          read = c.read;
+          end = c.end;
+        }) };
 }
 
-fn queue_line(said: &mut VecDeque<u8>, line: &[u8]) -> Result<(), NoMemory> {
-    queue(said, line)?;
-    queue(said, b"\n")
+// Copies as much as fits, and answers how much.
+fn copied(left: &[u8], buf: &mut [u8]) -> usize
+    ensures bound { result ≤ length buf.new }
+    ensures left { result ≤ length left.now }
+    ensures bytes { take result buf.new ≡ take result left.now }
+    ensures some { result ≡ 0 → 0 < length buf.new → length left.now ≡ 0 }
+{
+    let n = left.len().min(buf.len());
+    buf[..n].copy_from_slice(&left[..n]);
+    n
 }
 
-fn queue_lines(said: &mut VecDeque<u8>, lines: &Lines) -> Result<(), NoMemory> {
-    for line in lines.view() {
-        queue_line(said, line.view())?;
-    }
-    Ok(())
-}
-
-fn is_transfer(message: &HostMsg<'_>) -> bool {
-    matches!(message, HostMsg::Transfer(_, _, _))
-}
-
-impl<R: Remote> Child<R> {
+impl<S: Feed, V: Voice> Child<S, V> {
     /// A child that has said its version.
-    pub(super) fn new(alloc: Global, remote: R, progress: u32) -> Result<Child<R>, NoMemory>
+    pub(super) fn new(alloc: Global, voice: V, source: S) -> Result<Child<S, V>, NoMemory>
     where
-        R: Drop,
+        S: Drop,
+        V: Drop,
+        requires heard { S.heard source ≡ [] }
+        requires live { V.is_over voice ≡ false }
+        requires begins { V.spoke voice voice [] [] }
+        ensures begun { IfOk result (λ c. (c.begun ≡ voice) × (c.source ≡ source)) }
+        ensures read { IfOk result (λ c. read_of c ≡ Some []) }
     {
-        let mut said = VecDeque::new(alloc);
-        queue_line(&mut said, b"VERSION 1")?;
+        let mut said = MemSink::new(alloc, usize::MAX, Vec::new(alloc));
+        if write_version(&mut said).is_err() {
+            return Err(NoMemory);
+        }
         Ok(Child {
-            alloc,
-            kit: Kit::new(alloc, remote),
+            begun: Snapshot::of(&voice),
+            voice,
+            source,
             splitter: Splitter::new(alloc, LONGEST_LINE),
             said,
-            progress,
-            is_over: false,
-            is_closed: false,
+            read: 0,
+            end: None,
         })
     }
 
-    /// Whether a read has to wait: nothing is there, and more may come.
-    pub(super) fn is_silent(&self) -> bool {
-        self.said.is_empty() && !self.is_over && !self.is_closed
-    }
-
-    /// Nothing more is written to it.
-    pub(super) fn close(&mut self) {
-        self.is_closed = true;
-    }
-
-    /// Takes the piece, and says what it says to the lines that end in it. A child that finds no memory is over.
-    pub(super) fn hear(&mut self, piece: &[u8]) {
-        if self.is_over {
-            return;
-        }
-        if self.splitter.push(piece).is_err() {
-            self.is_over = true;
-            return;
-        }
-        for _ in 0..u64::MAX {
-            match self.answer() {
-                Ok(true) => {}
-                Ok(false) => return,
-                Err(NoMemory) => {
-                    self.is_over = true;
-                    return;
-                }
-            }
-        }
-    }
-
-    // Says what it says to the first line, if there is one and the child isn't over.
-    fn answer(&mut self) -> Result<bool, NoMemory> {
-        let Next::Line(line) = self.splitter.first() else {
-            self.is_over = matches!(self.splitter.first(), Next::Long);
-            return Ok(false);
-        };
-        let Some(message) = read_host(line) else {
-            self.is_over = true;
-            return Ok(false);
-        };
-        let step = self.kit.step(&message)?;
-        if is_transfer(&message) && !step.over {
-            say_progress(self.alloc, &mut self.said, self.progress)?;
-        }
-        queue_lines(&mut self.said, &step.say)?;
-        self.is_over = step.over;
-        self.splitter.drop_line();
-        Ok(!self.is_over)
-    }
-
-    /// Moves what it said to the front of `buf`, as much as fits, and answers how much.
-    pub(super) fn say(&mut self, buf: &mut [u8]) -> usize
-        ensures { result ≤ length buf.new }
+    /// What it heard and said, as a fact.
+    pub(super) fn stands(&self)
+        ensures { IsChild S.heard S.is_at_end V.spoke V.is_over V.is_foul V.lacks self.now }
     {
-        let mut n = 0;
-        for place in buf.iter_mut() {
-            let Some(byte) = self.said.pop_front() else {
-                break;
-            };
-            *place = byte;
-            n += 1;
+        let _read = self.read;
+    }
+
+    /// Whether it has to hear more before anything can be read of it.
+    pub(super) fn is_silent(&self) -> bool
+        ensures silent { result ≡ true → self.now.end ≡ None }
+        ensures ended { result ≡ false → IsReadOut self.now → self.now.end ≡ None → ⊥ }
+    {
+        self.read == self.said.taken().len() && self.end.is_none()
+    }
+
+    /// It answers the next line, or hears more.
+    pub(super) fn go_on(&mut self)
+        requires { self.old.end ≡ None }
+        ensures begun { self.new.begun ≡ self.old.begun }
+        ensures read { read_of self.new ≡ read_of self.old }
+        ensures source { S.begun self.new.source ≡ S.begun self.old.source }
+    {
+        match turn_over(
+            &mut self.voice,
+            &mut self.splitter,
+            &mut self.source,
+            &mut self.said,
+        ) {
+            Ok(()) => {}
+            Err(end) => self.end = Some(end),
         }
+    }
+
+    /// Moves what it said and nobody has read to the front of `buf`, as much as fits, and answers how much.
+    pub(super) fn say(&mut self, buf: &mut [u8]) -> usize
+        ensures bound { result ≤ length buf.new }
+        ensures begun { (self.new.begun ≡ self.old.begun) × (self.new.end ≡ self.old.end) × (self.new.source ≡ self.old.source) × (self.new.said ≡ self.old.said) }
+        ensures read { Appends (read_of self.old) (read_of self.new) (take result buf.new) }
+        ensures some { result ≡ 0 → 0 < length buf.new → IsReadOut self.old × IsReadOut self.new }
+    {
+        let n = copied(&self.said.taken()[self.read..], buf);
+        self.read += n;
         n
     }
-}
 
-// The lines `PROGRESS 1` to `PROGRESS lines`.
-fn say_progress(alloc: Global, said: &mut VecDeque<u8>, lines: u32) -> Result<(), NoMemory> {
-    for number in 0..lines {
-        let line = write_remote(alloc, &RemoteMsg::Progress(u64::from(number) + 1))?;
-        queue_line(said, line.view())?;
+    /// What it hears.
+    pub(super) fn source(self) -> S
+    where
+        V: Drop,
+        ensures { result ≡ self.source }
+    {
+        let Child {
+            voice: _,
+            begun: _,
+            source,
+            splitter: _,
+            said: _,
+            read: _,
+            end: _,
+        } = self;
+        source
     }
-    Ok(())
 }

@@ -81,6 +81,104 @@ where
     Ok(bytes)
 }
 
+// Whether the source gives just these bytes next.
+fn gives<S: Source>(source: &mut S, bytes: &[u8]) -> bool
+    requires { S.is_open source.old ≡ true }
+    ensures { S.is_open source.new ≡ true }
+{
+    let mut at = 0;
+    let mut buf = [0u8; 512];
+    for _ in 0..u64::MAX {
+        if at >= bytes.len() {
+            return true;
+        }
+        let most = buf.len().min(bytes.len() - at);
+        let n = source.read(&mut buf[..most]).unwrap_or(0);
+        if n == 0 || !bytes[at..].starts_with(&buf[..n]) {
+            return false;
+        }
+        at += n;
+    }
+    false
+}
+
+fn repeated(alloc: Global, line: &[u8], times: u32) -> Result<Vec<u8>, AllocError> {
+    let mut bytes = Vec::new(alloc);
+    for _ in 0..times {
+        bytes.extend_from_slice(line)?;
+    }
+    Ok(bytes)
+}
+
+// Writes these bytes forty times, and each time reads what the child says to them.
+fn talks<I: Sink, O: Source>(
+    inlet: &mut I,
+    outlet: &mut O,
+    says: &[u8],
+    hears: &[u8],
+) -> bool
+    requires { (I.is_open inlet.old ≡ true) × (O.is_open outlet.old ≡ true) }
+    ensures { (I.is_open inlet.new ≡ true) × (O.is_open outlet.new ≡ true) }
+{
+    for _ in 0..40 {
+        if write_all(inlet, says).is_err() || !gives(outlet, hears) {
+            return false;
+        }
+    }
+    true
+}
+
+// More goes through its pipe than that holds at once, and each read gives less than was written.
+#[test]
+fn a_child_hears_all_that_is_written(rt: HostRuntime) -> Result<(), Fail> {
+    let alloc = rt.alloc();
+    let says = repeated(alloc, b"CHECKPRESENT WORM--a\n", 500)?;
+    let hears = repeated(alloc, b"CHECKPRESENT-FAILURE WORM--a\n", 500)?;
+    let mut programs = KitPrograms::new(&rt, alloc, Empties);
+    let Ok(
+        Started {
+            mut inlet,
+            mut outlet,
+            stub,
+        },
+    ) = programs.start("any")
+    else {
+        panic!(rt; "no child was started")
+    };
+    assert!(rt; write_all(&mut inlet, b"PREPARE\n").is_ok());
+    assert!(rt; gives(&mut outlet, b"VERSION 1\nPREPARE-SUCCESS\n"));
+    assert!(rt; talks(&mut inlet, &mut outlet, says.as_slice(), hears.as_slice()));
+    inlet.close();
+    assert!(rt; heard(alloc, &mut outlet)?.is_empty());
+    outlet.close();
+    assert!(rt; programs.finish(stub).is_ok());
+    Ok(())
+}
+
+// Who holds both halves may settle what was written against what was heard.
+#[test]
+fn halves_of_a_child_are_settled(rt: HostRuntime) -> Result<(), Fail> {
+    let mut programs = KitPrograms::new(&rt, rt.alloc(), Empties);
+    let Ok(
+        Started {
+            mut inlet,
+            mut outlet,
+            stub,
+        },
+    ) = programs.start("any")
+    else {
+        panic!(rt; "no child was started")
+    };
+    assert!(rt; inlet.write(b"PREPARE\n").is_ok());
+    inlet.close();
+    let mut buf = [0u8; 64];
+    assert!(rt; outlet.read(&mut buf).is_ok());
+    outlet.close();
+    outlet.settle(&mut inlet);
+    assert!(rt; programs.finish(stub).is_ok());
+    Ok(())
+}
+
 #[test]
 fn a_child_says_what_its_kit_says(rt: HostRuntime) -> Result<(), Fail> {
     let alloc = rt.alloc();
