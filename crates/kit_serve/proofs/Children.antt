@@ -1,5 +1,6 @@
 -- A child that goes on, and what is read of it.
-use Rattle.std.proofs.Common.{◌≡◌, ℕ, ◌+◌, ◌-◌, ◌≤◌, Bool, true, false, List, [], ◌∷◌, ◌++◌, length, take, drop, Option, Some, None, Result, Ok, Err, refl, sym, ap, ◌∙◌, subst, inl, inr, arith, length-append}
+use Rattle.std.proofs.Common.{◌≡◌, ℕ, ◌+◌, ◌-◌, ◌≤◌, Bool, true, false, List, [], ◌∷◌, ◌++◌, length, take, drop, codes, Option, Some, None, Result, Ok, Err, refl, sym, ap, ◌∙◌, subst, inl, inr, arith, length-append}
+use Rattle.std.specs.Io.KnownBytes.{Appends}
 use Rattle.std.proofs.lemmas.List.{append-nil, take-append-le, take_all, length-drop}
 use Rattle.annex_model.specs.Lines.{text}
 use Rattle.std.proofs.Math.Seq.{take-add}
@@ -13,6 +14,7 @@ use Rattle.kit_serve.specs.Voices.{Spoken, Utters, Replies, Hears, Bytes, Talkin
 use Rattle.kit_serve.specs.declared.end.End.{End}
 use Rattle.kit_serve.specs.declared.end.End.TheVariants.{Eof, Bad, ReadFault, WriteFault, Memory}
 use Rattle.kit_serve.proofs.KitVoices.{begins_spoke}
+use Rattle.kit_serve.proofs.Talks.{talking_begins}
 
 -- ---- a child
 
@@ -22,16 +24,42 @@ at_talk spoke over foul lacks begun voice told held None s e = s
 at_talk spoke over foul lacks begun voice told held (Some end) s e = absurd cc
 
 pub went_on : {S V : Type 0} (heard : S → List ℕ) (at_end : S → Bool) (spoke : Spoken V) (over : V → Bool) (foul : V → List ℕ → Type 0) (lacks : V → V → List ℕ → Type 0)
-    (source source' : S) (begun voice voice' : V) (held held' said said' : List ℕ) (read : ℕ) (end end' : Option End)
-    → IsChild heard at_end spoke over foul lacks (record { source = source; begun = begun; voice = voice; held = held; said = Some said; read = read; end = end })
-    → Grows (Some said) (Some said') → StandsAt spoke over foul lacks begun voice' (record { given = Some (heard source'); taken = Some said' }) held' end'
+    (source source' : S) (voice voice' : V) (held held' said said' : List ℕ) (read : ℕ) (end end' : Option End)
+    → (i : IsChild heard at_end spoke over foul lacks (record { source = source; voice = voice; held = held; said = Some said; read = read; end = end }))
+    → Grows (Some said) (Some said') → StandsAt spoke over foul lacks i.begun voice' (record { given = Some (heard source'); taken = Some said' }) held' end'
     → (end' ≡ Some Eof → at_end source' ≡ true)
-    → IsChild heard at_end spoke over foul lacks (record { source = source'; begun = begun; voice = voice'; held = held'; said = Some said'; read = read; end = end' })
-went_on heard at_end spoke over foul lacks source source' begun voice voice' held held' said said' read end end' i g s e = record {
+    → IsChild heard at_end spoke over foul lacks (record { source = source'; voice = voice'; held = held'; said = Some said'; read = read; end = end' })
+went_on heard at_end spoke over foul lacks source source' voice voice' held held' said said' read end end' i g s e = record {
+  begun = i.begun;
+  begins = i.begins;
   stands = s;
   within = let l : length said' ≡ length said + length g.0 = ap length g.1 ∙ length-append said g.0 in let w : read ≤ length said = i.within in omega arith;
   ended = e;
 }
+
+-- it has said its version, and nothing was heard
+pub child_begins : {S V : Type 0} (heard : S → List ℕ) (at_end : S → Bool) (spoke : Spoken V) (over : V → Bool) (foul : V → List ℕ → Type 0) (lacks : V → V → List ℕ → Type 0)
+    (source : S) (voice : V) (held : List ℕ) (told said : Option (List ℕ)) → heard source ≡ [] → over voice ≡ false → spoke voice voice [] [] → held ≡ []
+    → told ≡ Some [] → Appends told said (codes "VERSION 1" ++ 10 ∷ [])
+    → IsChild heard at_end spoke over foul lacks (record { source = source; voice = voice; held = held; said = said; read = 0; end = None })
+child_begins heard at_end spoke over foul lacks source voice held None said nothing live begins empty fresh took = absurd cc
+child_begins heard at_end spoke over foul lacks source voice held (Some told) None nothing live begins empty fresh took = absurd took
+child_begins heard at_end spoke over foul lacks source voice held (Some told) (Some said) nothing live begins empty fresh took =
+    let none : told ≡ [] = cc in
+    record {
+      begun = voice;
+      begins = begins;
+      stands = (
+        (
+          0,
+          subst (λ (bytes : List ℕ). Talking spoke voice nothing_told (record { given = Some bytes; taken = Some said }) voice held 0) (sym nothing)
+              (talking_begins spoke (Some []) (Some []) (Some said) voice held empty (took ∙ ap (λ (xs : List ℕ). xs ++ (codes "VERSION 1" ++ 10 ∷ [])) none) (λ untold. absurd cc) begins),
+        ),
+        live,
+      );
+      within = omega arith;
+      ended = λ e. absurd cc;
+    }
 
 pub read_stays : (read : ℕ) (said said' : List ℕ) → read ≤ length said → Grows (Some said) (Some said') → ◌≡◌ {A = Option (List ℕ)} (Some (take read said')) (Some (take read said))
 read_stays read said said' w g = ap (λ (x : List ℕ). Some x) (ap (λ (x : List ℕ). take read x) g.1 ∙ take-append-le read said g.0 w)

@@ -1,9 +1,10 @@
 -- What went through a pipe, one item longer.
-use Rattle.std.proofs.Common.{◌≡◌, ℕ, ◌+◌, ◌<◌, ◌≤◌, Bool, true, false, not, List, [], ◌∷◌, ◌++◌, length, take, set, get_or, Option, Some, None, refl, sym, ap, ◌∙◌, append_assoc, append-nil, arith}
+use Rattle.std.proofs.Common.{◌≡◌, ℕ, ◌+◌, ◌<◌, ◌≤◌, Bool, true, false, not, List, [], ◌∷◌, ◌++◌, length, take, set, get_or, Option, Some, None, refl, sym, ap, subst, inl, inr, ◌∙◌, append_assoc, append-nil, arith}
 use Rattle.std.proofs.lemmas.Grind.{take_at_read, take-set_at}
 use Rattle.rtrb.specs.declared.consumer.Consumer.{Consumer}
 use Rattle.rtrb.specs.declared.producer.Producer.{Producer}
 use Rattle.rtrb.specs.Ring.{IsPair, SameProducer, SameConsumer, ProducerLooked}
+use Rattle.kit_serve.specs.Children.{Steps}
 use Rattle.kit_serve.specs.Pipes.{bytes_in, has_end, is_stream}
 
 pub bytes_both : (xs ys : List (Option ℕ)) → bytes_in (xs ++ ys) ≡ bytes_in xs ++ bytes_in ys
@@ -93,3 +94,8 @@ module _ {T A P : Type 0} where
 
   pub pair_now : (p : Producer T A P) (b c : Consumer T A P) → IsPair p b → SameConsumer b c → IsPair p c
   pair_now p b c pair q = (q.0.0 ∙ pair.0, q.0.1 ∙ pair.1, q.0.2 ∙ pair.2, q.0.3 ∙ pair.3)
+
+  -- of what holds one
+  pub stepped : {S : Type 0} (ring : S → Consumer T A P) (old new : S) → Steps (λ a b. SameConsumer (ring a) (ring b)) old new → SameConsumer (ring old) (ring new)
+  stepped {S = S} ring old new (inl e) = subst (λ (x : S). SameConsumer (ring old) (ring x)) (sym e) ((refl, refl, refl, refl), refl)
+  stepped ring old new (inr s) = s

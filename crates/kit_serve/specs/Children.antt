@@ -43,11 +43,9 @@ LacksMore settings_of calls old new line =
 
 -- ---- a child
 
--- what contracts see of a child: what it hears, its voice as it was at first and as it is, the bytes that it holds, what it said, how much of
--- that was read, and its end
+-- what contracts see of a child: what it hears, its voice, the bytes that it holds, what it said, how much of that was read, and its end
 pub record ChildValue (S V : Type 0) : Type 0 where
   pub source : S
-  pub begun : V
   pub voice : V
   pub held : List ℕ
   pub said : Option (List ℕ)
@@ -58,6 +56,10 @@ pub record ChildValue (S V : Type 0) : Type 0 where
 abbrev pub Grows : Option (List ℕ) → Option (List ℕ) → Type 0
 Grows old new = (bytes : List ℕ) × Appends old new bytes
 
+-- the same as before, or what became of it
+abbrev pub Steps : {S : Type 0} → (S → S → Type 0) → S → S → Type 0
+Steps stays old new = (new ≡ old) ⊎ stays old new
+
 -- nothing was given and nothing taken
 abbrev pub nothing_told : Bytes
 nothing_told = record { given = Some []; taken = Some [] }
@@ -67,11 +69,13 @@ abbrev pub StandsAt : {V : Type 0} → Spoken V → (V → Bool) → (V → List
 StandsAt spoke over foul lacks begun voice told held None = ((turns : ℕ) × Talking spoke begun nothing_told told voice held turns) × (over voice ≡ false)
 StandsAt spoke over foul lacks begun voice told held (Some end) = Talked spoke over foul lacks begun nothing_told told voice end
 
--- What was heard of the source is what the voice heard, and what it said to that is what is read of it. It ends with the source only once that
--- is at its end.
+-- It began with a voice that had heard nothing. What was heard of the source is what the voice heard, and what it said to that is what is read
+-- of it. It ends with the source only once that is at its end.
 pub record IsChild {S V : Type 0} (heard : S → List ℕ) (at_end : S → Bool) (spoke : Spoken V) (over : V → Bool) (foul : V → List ℕ → Type 0) (lacks : V → V → List ℕ → Type 0)
     (c : ChildValue S V) : Type 0 where
-  pub stands : StandsAt spoke over foul lacks c.begun c.voice (record { given = Some (heard c.source); taken = c.said }) c.held c.end
+  pub begun : V
+  pub begins : spoke begun begun [] []
+  pub stands : StandsAt spoke over foul lacks begun c.voice (record { given = Some (heard c.source); taken = c.said }) c.held c.end
   pub within : IfSome c.said (λ said. c.read ≤ length said)
   pub ended : c.end ≡ Some Eof → at_end c.source ≡ true
 

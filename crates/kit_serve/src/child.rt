@@ -1,7 +1,7 @@
 // A voice in memory, as the child of a host: it hears what its source gives, and what it says waits to be read.
 ghost use Rattle.std.specs.Prelude.{◌≡◌, ◌+◌, ◌≤◌, ◌<◌, false, length, true, [], IfOk, None, Some, take};
 ghost use Rattle.std.specs.Io.KnownBytes.{Appends};
-ghost use Rattle.kit_serve.specs.Children.{read_of, IsChild, IsReadOut};
+ghost use Rattle.kit_serve.specs.Children.{read_of, IsChild, IsReadOut, Steps};
 
 use crate::end::End;
 use crate::feed::{Feed, turn_over};
@@ -12,14 +12,12 @@ use ann_key::NoMemory;
 use ann_outside::{MemSink, Sink};
 use std::alloc::Global;
 use std::marker::Model;
-use std::snapshot::Snapshot;
 use wire_line::Splitter;
 
 /// A voice that hears what the source gives. What it says waits until it is read.
 #[derive(Drop)]
 pub struct Child<S: Feed, V: Voice> {
     voice: V,
-    begun: Snapshot<V>,
     source: S,
     splitter: Splitter,
     said: MemSink,
@@ -37,7 +35,6 @@ impl<S: Feed, V: Voice> Model for Child<S, V> {
 
     ghost view = { λ c. record {
       source = c.source;
-      begun = c.begun.value;
       voice = c.voice;
       held = c.splitter.bytes;
       said = ⟦<MemSink as Sink>⟧.taken c.said;
@@ -48,7 +45,6 @@ impl<S: Feed, V: Voice> Model for Child<S, V> {
     ghost invariant = { λ c. (c.splitter.limit ≡ longest_line) × (⟦<MemSink as Sink>⟧.is_open c.said ≡ true)
         × IsChild S.heard S.is_at_end V.spoke V.is_over V.is_foul V.lacks (record {
           source = c.source;
-          begun = c.begun.value;
           voice = c.voice;
           held = c.splitter.bytes;
           said = ⟦<MemSink as Sink>⟧.taken c.said;
@@ -71,6 +67,7 @@ fn copied(left: &[u8], buf: &mut [u8]) -> usize
 
 impl<S: Feed, V: Voice> Child<S, V> {
     /// A child that has said its version.
+    #[tactic(auto, using(crate::proofs::Children::child_begins))]
     pub(super) fn new(alloc: Global, voice: V, source: S) -> Result<Child<S, V>, NoMemory>
     where
         S: Drop,
@@ -78,7 +75,7 @@ impl<S: Feed, V: Voice> Child<S, V> {
         requires heard { S.heard source ≡ [] }
         requires live { V.is_over voice ≡ false }
         requires begins { V.spoke voice voice [] [] }
-        ensures begun { IfOk result (λ c. (c.begun ≡ voice) × (c.source ≡ source)) }
+        ensures source { IfOk result (λ c. c.source ≡ source) }
         ensures read { IfOk result (λ c. read_of c ≡ Some []) }
     {
         let mut said = MemSink::new(alloc, usize::MAX, Vec::new(alloc));
@@ -86,7 +83,6 @@ impl<S: Feed, V: Voice> Child<S, V> {
             return Err(NoMemory);
         }
         Ok(Child {
-            begun: Snapshot::of(&voice),
             voice,
             source,
             splitter: Splitter::new(alloc, LONGEST_LINE),
@@ -114,9 +110,8 @@ impl<S: Feed, V: Voice> Child<S, V> {
     /// It answers the next line, or hears more.
     pub(super) fn go_on(&mut self)
         requires { self.old.end ≡ None }
-        ensures begun { self.new.begun ≡ self.old.begun }
         ensures read { read_of self.new ≡ read_of self.old }
-        ensures source { S.begun self.new.source ≡ S.begun self.old.source }
+        ensures source { Steps S.stays self.old.source self.new.source }
     {
         match turn_over(
             &mut self.voice,
@@ -132,7 +127,7 @@ impl<S: Feed, V: Voice> Child<S, V> {
     /// Moves what it said and nobody has read to the front of `buf`, as much as fits, and answers how much.
     pub(super) fn say(&mut self, buf: &mut [u8]) -> usize
         ensures bound { result ≤ length buf.new }
-        ensures begun { (self.new.begun ≡ self.old.begun) × (self.new.end ≡ self.old.end) × (self.new.source ≡ self.old.source) × (self.new.said ≡ self.old.said) }
+        ensures same { (self.new.end ≡ self.old.end) × (self.new.source ≡ self.old.source) × (self.new.said ≡ self.old.said) }
         ensures read { Appends (read_of self.old) (read_of self.new) (take result buf.new) }
         ensures some { result ≡ 0 → 0 < length buf.new → IsReadOut self.old × IsReadOut self.new }
     {
@@ -149,7 +144,6 @@ impl<S: Feed, V: Voice> Child<S, V> {
     {
         let Child {
             voice: _,
-            begun: _,
             source,
             splitter: _,
             said: _,

@@ -1,6 +1,6 @@
 // What a kit in memory hears, and one turn over it.
 ghost use Rattle.std.specs.Prelude.{◌≡◌, ◌≤◌, ◌<◌, ◌+◌, ◌++◌, ℕ, List, Bool, length, take, true, false, Some, Err, OnOk, IfErr};
-ghost use Rattle.kit_serve.specs.Children.{Grows};
+ghost use Rattle.kit_serve.specs.Children.{Grows, Steps};
 ghost use Rattle.kit_serve.specs.Limits.{longest_line};
 ghost use Rattle.kit_serve.specs.declared.end.End.TheVariants.{Eof, Bad, WriteFault};
 ghost use Rattle.kit_serve.specs.Turns.{end_of, ReadsOn};
@@ -15,10 +15,8 @@ use wire_line::{Next, Splitter};
 
 /// Bytes that are heard until their end.
 pub trait Feed {
-    /// What it was at first, as far as that says which one it is.
-    type Begun;
-
-    ghost begun: { Self → Self.Begun };
+    // from the one to the other it is the same feed
+    ghost stays: { Self → Self → Type 0 };
 
     // what was heard
     ghost heard: { Self → List ℕ };
@@ -32,7 +30,7 @@ pub trait Feed {
         ensures bound { result ≤ length buf.new }
         ensures heard { heard self.new ≡ heard self.old ++ take result buf.new }
         ensures end { result ≡ 0 → is_at_end self.new ≡ true }
-        ensures begun { begun self.new ≡ begun self.old };
+        ensures stays { stays self.old self.new };
 }
 
 // Hears once. Room is taken before it for all that it may give, so that no byte is lost.
@@ -41,7 +39,7 @@ fn take_in<S: Feed>(splitter: &mut Splitter, source: &mut S) -> Result<(), End>
     ensures kept { IfErr result (λ _. splitter.new.bytes ≡ splitter.old.bytes) }
     ensures end { end_of result ≡ Some Eof → S.is_at_end source.new ≡ true }
     ensures others { (result ≡ Err Bad → ⊥) × (result ≡ Err WriteFault → ⊥) }
-    ensures begun { S.begun source.new ≡ S.begun source.old }
+    ensures stays { Steps S.stays source.old source.new }
     ensures limit { splitter.new.limit ≡ splitter.old.limit }
 {
     if splitter.reserve(READ_SIZE).is_err() {
@@ -75,7 +73,8 @@ pub fn turn_over<V: Voice, S: Feed, W: Mouth>(
         → Talking V.spoke begun old (record { given = Some (S.heard source.old); taken = W.taken sink.old }) voice.old splitter.old.bytes turns
         → Talked V.spoke V.is_over V.is_foul V.lacks begun old (record { given = Some (S.heard source.new); taken = W.taken sink.new }) voice.new end) }
     ensures end { end_of result ≡ Some Eof → S.is_at_end source.new ≡ true }
-    ensures next { OnOk result (V.is_over voice.new ≡ false) × (splitter.new.limit ≡ longest_line) × (S.begun source.new ≡ S.begun source.old) }
+    ensures next { OnOk result (V.is_over voice.new ≡ false) × (splitter.new.limit ≡ longest_line) }
+    ensures stays { Steps S.stays source.old source.new }
     ensures sink { Grows (W.taken sink.old) (W.taken sink.new) × (W.is_open sink.new ≡ true) }
 {
     match splitter.first() {

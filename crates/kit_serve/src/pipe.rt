@@ -13,7 +13,6 @@ use ann_key::NoMemory;
 use ann_outside::{Failed, Sink};
 use rtrb::{Consumer, Producer, Protocol, RingBuffer};
 use std::alloc::Global;
-use std::snapshot::Snapshot;
 use std::sync::{Arc, Condvar, Mutex, Wait};
 
 /// How much a pipe holds: two of the longest lines. Its end has a place besides.
@@ -82,11 +81,9 @@ pub struct PipeInlet<'a, T> {
 pub struct PipeOutlet<'a, T> {
     rt: &'a T,
     gate: Arc<Gate, Global>,
-    begun: Snapshot<Exit>,
     ring: Exit,
     is_at_end: bool,
     ghost end: { is_at_end ≡ has_end (received ring) },
-    ghost same: { SameConsumer begun.value ring },
 }
 
 /// The halves of a pipe that nothing was written to.
@@ -96,7 +93,7 @@ pub(super) fn pipe<'a, T: Wait>(
 ) -> Result<(PipeInlet<'a, T>, PipeOutlet<'a, T>), NoMemory>
     ensures inlet { IfOk result (λ halves. (halves.0.is_open ≡ true) × (sent halves.0.ring ≡ [])) }
     ensures outlet { IfOk result (λ halves. received halves.1.ring ≡ []) }
-    ensures pair { IfOk result (λ halves. IsPair halves.0.ring halves.1.begun.value) }
+    ensures pair { IfOk result (λ halves. IsPair halves.0.ring halves.1.ring) }
 {
     let gate = Gate {
         moves: Mutex::new(Moves { count: 0 }),
@@ -114,7 +111,6 @@ pub(super) fn pipe<'a, T: Wait>(
     let outlet = PipeOutlet {
         rt,
         gate: two,
-        begun: Snapshot::of(&exit),
         ring: exit,
         is_at_end: false,
     };
@@ -244,9 +240,7 @@ impl<'a, T: Wait> Sink for PipeInlet<'a, T> {
 }
 
 impl<'a, T: Wait> Feed for PipeOutlet<'a, T> {
-    type Begun = Exit;
-
-    ghost begun = { λ s. s.begun.value };
+    ghost stays = { λ old new. SameConsumer old.ring new.ring };
 
     ghost heard = { λ s. bytes_in (received s.ring) };
 
@@ -266,7 +260,7 @@ impl<'a, T: Wait> Feed for PipeOutlet<'a, T> {
 impl<'a, T: Wait> PipeOutlet<'a, T> {
     // Who holds both halves knows that what was heard, and then what wasn't, is what was written; all of it once the end was heard.
     pub(super) fn settle(&mut self, inlet: &mut PipeInlet<'a, T>)
-        requires { IsPair inlet.old.ring self.old.begun.value }
+        requires { IsPair inlet.old.ring self.old.ring }
         ensures heard { (rest : List ℕ) × (bytes_in (sent inlet.new.ring) ≡ bytes_in (received self.new.ring) ++ rest) × (self.new.is_at_end ≡ true → rest ≡ []) }
         ensures same { (received self.new.ring ≡ received self.old.ring) × (sent inlet.new.ring ≡ sent inlet.old.ring) }
     {

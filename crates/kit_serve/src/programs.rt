@@ -2,7 +2,7 @@
 ghost use Rattle.std.specs.Prelude.{◌≡◌, ◌<◌, ◌≤◌, ◌++◌, ℕ, List, [], length, Err, IfOk, OnOk, None, Some, true, false};
 ghost use Rattle.std.specs.Io.{ReadsAtMost};
 ghost use Rattle.std.specs.Io.KnownBytes.{ReadConsumes, WriteAppends};
-ghost use Rattle.rtrb.specs.Ring.{IsPair};
+ghost use Rattle.rtrb.specs.Ring.{IsPair, SameConsumer};
 ghost use Rattle.ann_outside.specs.Causes.{HasCause, IsBlank, Rose, StaysUntold};
 ghost use Rattle.ann_outside.specs.Starts.{StartAdds, IsNumbered};
 ghost use Rattle.kit_serve.specs.declared.end.End.TheVariants.{Eof};
@@ -83,7 +83,7 @@ impl<'a, T: Wait, R: Remote> KitOutlet<'a, T, R> {
     pub fn settle(self, inlet: &mut PipeInlet<'a, T>)
     where
         R: Drop,
-        requires { IsPair inlet.old.ring self.child.source.begun.value }
+        requires { IsPair inlet.old.ring self.child.source.ring }
         ensures heard { (rest : List ℕ) × (⟦<PipeInlet<'a, T> as Sink>⟧.taken inlet.new ≡ Some (⟦<PipeOutlet<'a, T> as Feed>⟧.heard self.entry.child.source ++ rest)) × (self.entry.child.end ≡ Some Eof → rest ≡ []) }
         ensures same { ⟦<PipeInlet<'a, T> as Sink>⟧.taken inlet.new ≡ ⟦<PipeInlet<'a, T> as Sink>⟧.taken inlet.old }
     {
@@ -116,7 +116,7 @@ impl<'a, T: Wait, R: Remote> Source for KitOutlet<'a, T, R> {
         ensures given { WriteAppends (⟦<KitOutlet<'a, T, R> as Source>⟧.given self.old) (⟦<KitOutlet<'a, T, R> as Source>⟧.given self.new) result buf.new }
         ensures silent { StaysUntold (⟦<KitOutlet<'a, T, R> as Source>⟧.left self.old) (⟦<KitOutlet<'a, T, R> as Source>⟧.left self.new) × StaysUntold (⟦<KitOutlet<'a, T, R> as Source>⟧.given self.old) (⟦<KitOutlet<'a, T, R> as Source>⟧.given self.new) }
         ensures cause { HasCause (⟦<KitOutlet<'a, T, R> as Source>⟧.faults self.old) (⟦<KitOutlet<'a, T, R> as Source>⟧.faults self.new) result }
-        ensures stays { (⟦<KitOutlet<'a, T, R> as Source>⟧.is_open self.new ≡ true) × (⟦<KitOutlet<'a, T, R> as Source>⟧.number self.new ≡ ⟦<KitOutlet<'a, T, R> as Source>⟧.number self.old) × (self.new.child.source.begun.value ≡ self.old.child.source.begun.value) }
+        ensures stays { (⟦<KitOutlet<'a, T, R> as Source>⟧.is_open self.new ≡ true) × (⟦<KitOutlet<'a, T, R> as Source>⟧.number self.new ≡ ⟦<KitOutlet<'a, T, R> as Source>⟧.number self.old) × SameConsumer self.old.child.source.ring self.new.child.source.ring }
         ensures ended { IfOk result (λ n. n ≡ 0 → 0 < length buf.new → (self.new.child.end ≡ None → ⊥) × IsReadOut self.new.child) }
     {
         let rt = self.rt;
@@ -163,7 +163,7 @@ impl<'a, T: Wait + Sync, M: Maker> Programs for KitPrograms<'a, T, M> {
             × IsBlank (⟦<PipeInlet<'a, T> as Sink>⟧.taken s.inlet) × IsNumbered (⟦<KitPrograms<'a, T, M> as Programs>⟧.starts self.new) (⟦<PipeInlet<'a, T> as Sink>⟧.number s.inlet)) }
         ensures outlet { IfOk result (λ s. (⟦<KitOutlet<'a, T, M::Remote> as Source>⟧.is_open s.outlet ≡ true) × (⟦<KitOutlet<'a, T, M::Remote> as Source>⟧.faults s.outlet ≡ 0)
             × IsBlank (⟦<KitOutlet<'a, T, M::Remote> as Source>⟧.given s.outlet) × IsNumbered (⟦<KitPrograms<'a, T, M> as Programs>⟧.starts self.new) (⟦<KitOutlet<'a, T, M::Remote> as Source>⟧.number s.outlet)) }
-        ensures pair { IfOk result (λ s. IsPair s.inlet.ring s.outlet.child.source.begun.value) }
+        ensures pair { IfOk result (λ s. IsPair s.inlet.ring s.outlet.child.source.ring) }
     {
         let _any = program;
         let Ok(remote) = self.maker.make() else {

@@ -12,14 +12,14 @@ invariant_of-self g c =
     let live : c.self.inside.end ≡ None = ap (λ (x : ChildValue g.row.S.Denot g.row.V.Denot). x.end) c.self.view_is ∙ c.requires in
     let told : Bytes = record { given = Some (g.S.Feed.heard c.self.inside.source); taken = Some c.self.inside.said.bytes.items } in
     let after : Bytes = record { given = Some (g.S.Feed.heard c.turn_over.new.source); taken = Some c.turn_over.new.sink.bytes.items } in
-    let t = at_talk v.spoke v.is_over v.is_foul v.lacks c.self.inside.begun.value c.self.inside.voice told c.self.inside.splitter.bytes c.self.inside.end i.stands live in (
+    let t = at_talk v.spoke v.is_over v.is_foul v.lacks i.begun c.self.inside.voice told c.self.inside.splitter.bytes c.self.inside.end i.stands live in (
       c.turn_over.ensures.next.1,
       c.turn_over.ensures.sink.1,
-      went_on g.S.Feed.heard g.S.Feed.is_at_end v.spoke v.is_over v.is_foul v.lacks c.self.inside.source c.turn_over.new.source c.self.inside.begun.value c.self.inside.voice c.turn_over.new.voice
+      went_on g.S.Feed.heard g.S.Feed.is_at_end v.spoke v.is_over v.is_foul v.lacks c.self.inside.source c.turn_over.new.source c.self.inside.voice c.turn_over.new.voice
           c.self.inside.splitter.bytes c.turn_over.new.splitter.bytes c.self.inside.said.bytes.items c.turn_over.new.sink.bytes.items c.self.inside.read c.self.inside.end c.self.inside.end
           i c.turn_over.ensures.sink.0
-          (subst (λ (end : Option End). StandsAt v.spoke v.is_over v.is_foul v.lacks c.self.inside.begun.value c.turn_over.new.voice after c.turn_over.new.splitter.bytes end) (sym live)
-          ((t.0.0 + 1, c.in-Ok.ensures.goes c.self.inside.begun.value nothing_told t.0.0 t.0.1), c.in-Ok.ensures.next.0))
+          (subst (λ (end : Option End). StandsAt v.spoke v.is_over v.is_foul v.lacks i.begun c.turn_over.new.voice after c.turn_over.new.splitter.bytes end) (sym live)
+          ((t.0.0 + 1, c.in-Ok.ensures.goes i.begun nothing_told t.0.0 t.0.1), c.in-Ok.ensures.next.0))
           (λ eof. absurd cc),
     )
 
@@ -29,10 +29,10 @@ invariant_of-self-in-Err g c =
     let i = c.self.invariant.2 in
     let live : c.self.inside.end ≡ None = ap (λ (x : ChildValue g.row.S.Denot g.row.V.Denot). x.end) c.self.view_is ∙ c.requires in
     let told : Bytes = record { given = Some (g.S.Feed.heard c.self.inside.source); taken = Some c.self.inside.said.bytes.items } in
-    let t = at_talk v.spoke v.is_over v.is_foul v.lacks c.self.inside.begun.value c.self.inside.voice told c.self.inside.splitter.bytes c.self.inside.end i.stands live in (
+    let t = at_talk v.spoke v.is_over v.is_foul v.lacks i.begun c.self.inside.voice told c.self.inside.splitter.bytes c.self.inside.end i.stands live in (
       c.turn_over.ensures.next.1,
       c.turn_over.ensures.sink.1,
-      went_on g.S.Feed.heard g.S.Feed.is_at_end v.spoke v.is_over v.is_foul v.lacks c.self.inside.source c.turn_over.new.source c.self.inside.begun.value c.self.inside.voice c.turn_over.new.voice
+      went_on g.S.Feed.heard g.S.Feed.is_at_end v.spoke v.is_over v.is_foul v.lacks c.self.inside.source c.turn_over.new.source c.self.inside.voice c.turn_over.new.voice
           c.self.inside.splitter.bytes c.turn_over.new.splitter.bytes c.self.inside.said.bytes.items c.turn_over.new.sink.bytes.items c.self.inside.read c.self.inside.end (Some c.in-Err.end)
-          i c.turn_over.ensures.sink.0 (c.in-Err.ensures.ended c.self.inside.begun.value nothing_told t.0.0 t.0.1) c.in-Err.ensures.end,
+          i c.turn_over.ensures.sink.0 (c.in-Err.ensures.ended i.begun nothing_told t.0.0 t.0.1) c.in-Err.ensures.end,
     )

@@ -1,4 +1,5 @@
 use Rattle.std.proofs.Common.{◌≡◌, true}
+use Rattle.rtrb.specs.Ring.{SameConsumer}
 use Rattle.kit_serve.specs.Children.{read_of}
 use Rattle.kit_serve.proofs.programs.KitOutletSource.read.Given as goal
 
@@ -7,5 +8,5 @@ abbrev pub invariant-loop : goal.invariant-loop
 invariant-loop g l = record {
   is_open : l.self.is_open ≡ true;
   read : read_of l.self.child ≡ read_of l.initial.self.child;
-  pipe : l.self.child.source.begun.value ≡ l.initial.self.child.source.begun.value;
+  pipe : SameConsumer l.initial.self.child.source.ring l.self.child.source.ring;
 }
