@@ -16,8 +16,10 @@ returns-in-Ready-clause-meets g c =
     let greeted = c.in-Ready.ensures.tells.0 in (
       greeted_as p old new ear mouth c.requires.empty c.requires.opening keeps greeted c.in-Ready.ensures.wired c.in-Ready.link.one_child,
       adds_of (g.P.Programs.starts c.args.programs.now) (g.P.Programs.starts c.greet.new.programs) p.program _ true c.view-program.ensures c.in-Ready.ensures.starts,
-      (ready_as p old new ear mouth c.requires.empty c.requires.opening keeps greeted c.in-Ready.ensures.tells.1,
-      serving_as p old new ear mouth c.requires.empty c.requires.opening keeps greeted c.in-Ready.ensures.wired c.in-Ready.link.one_child c.in-Ready.ensures.tells.1),
+      (
+        ready_as p old new ear mouth c.requires.empty c.requires.opening keeps greeted c.in-Ready.ensures.tells.1,
+        serving_as p old new ear mouth c.requires.empty c.requires.opening keeps greeted c.in-Ready.ensures.wired c.in-Ready.link.one_child c.in-Ready.ensures.tells.1,
+      ),
     )
 
 pub returns-in-Refused-clause-meets : goal.returns-in-Refused-clause-meets
