@@ -2,7 +2,7 @@
 ghost use Rattle.std.specs.Prelude.{◌≡◌, [], ◌∷◌, not, true, false, codes, List, Result, IfOk};
 ghost use Rattle.ann_key.specs.declared.bytes.NoMemory.{NoMemory};
 ghost use Rattle.annex_model.specs.Messages.{HostMessage};
-ghost use Rattle.journal_model.specs.declared.verdict.Why.TheVariants.{Eof, Memory};
+ghost use Rattle.journal_model.specs.declared.verdict.Why.TheVariants.{Eof};
 ghost use Rattle.journal_model.specs.declared.verdict.Verdict.TheVariants.{Done, Failed, Absent, Unknown, Unsupported, Ended, Unsent};
 ghost use Rattle.kit_core.specs.declared.call.Asked.{Asked};
 ghost use Rattle.kit_core.specs.declared.call.Said.{Said};

@@ -1,9 +1,11 @@
 -- Children that are started one after the other, and stopped.
 use Rattle.std.proofs.Common.{◌≡◌, ◌⊎◌, inl, inr, ◌∙◌, ℕ, zero, suc, ◌+◌, ◌-◌, ◌<◌, ◌≤◌, List, [], ◌∷◌, ◌++◌, refl, sym, ap, subst, Bool, true, false, Option, Some, None, append_assoc, append-nil, length, take, drop, get_or, add-one, arith}
+use Rattle.std.specs.Prelude.{Result, Ok, Err}
 use Rattle.std.proofs.lemmas.List.{map-append}
 use Rattle.ann_outside.specs.Causes.{AddsOne, Rose, Stays}
 use Rattle.ann_outside.specs.Starts.{Starts}
 use Rattle.journal_model.specs.declared.verdict.Why.{Why}
+use Rattle.journal_model.specs.declared.verdict.Why.TheVariants.{Memory}
 use Rattle.journal_model.specs.declared.verdict.Verdict.{Verdict}
 use Rattle.journal_model.specs.declared.entry.What.TheVariants.{NoStart}
 use Rattle.journal_model.specs.declared.entry.Entry.{Entry}
@@ -15,13 +17,16 @@ use Rattle.host_core.specs.CoreValue.{CoreValue}
 use Rattle.link_roles.specs.Writings.{LoneWired}
 use Rattle.child_start.specs.Cores.{IsSameCore}
 use Rattle.child_start.specs.Greetings.{Greeted, HasEnded, IsReady, IsRefused, IsUnsent}
-use Rattle.child_end.specs.Programs.{AddsAll}
+use Rattle.child_end.specs.Programs.{AddsAll, ProgramsValue}
 use Rattle.mirror_plan.specs.declared.plan.Plan.{Plan}
+use Rattle.mirror_starts.specs.declared.beginning.Cause.{Cause}
+use Rattle.mirror_starts.specs.declared.beginning.Stand.{Stand}
+use Rattle.mirror_starts.specs.declared.beginning.Stand.TheVariants.{Ready, Unready, Starved}
 use Rattle.mirror_starts.specs.Openings.{mirror_opening}
 use Rattle.mirror_children.specs.Children.{child_value, ChildValue, AreLinked, AreServing, IsServing}
 use Rattle.mirror_starts.specs.Stops.{log_of, LogValue, StoppedValue, AreClosed, Stops, StopsAll}
 use Rattle.mirror_starts.specs.Readiness.{AreAskedFor, AreLeftAs, AreReadyAs, AreStoppedAs, IsLeftAs, IsReadyAs, IsStoppedAs, IsUnready, starts_of}
-use Rattle.mirror_starts.specs.Beginnings.{AreGreetedAs, HasNotStarted, IsGreetedAs}
+use Rattle.mirror_starts.specs.Beginnings.{stand_of_end, AreGreetedAs, BeginsAs, HasNotStarted, IsGreetedAs, StandsAs, StoodAs}
 use Rattle.mirror_starts.proofs.Greeting.{first_child, greeted_first, linked_greeted, serving_ready, unwired}
 
 -- ---- the programs' starts
@@ -108,8 +113,12 @@ module _ (p : Plan) (old new : CoreValue) (ear : EarValue) (mouth : MouthValue) 
   pub refused_as : (v : Verdict) → IsRefused new.journal ear.child v → IsUnready new.journal
   refused_as v r = inl (v, subst (λ (k : ℕ). IsRefused new.journal k v) first r)
 
-  pub ended_as : (why : Why) → HasEnded new.journal ear.child why → is_memory why ≡ false → IsUnready new.journal
+  ended_as : (why : Why) → HasEnded new.journal ear.child why → is_memory why ≡ false → IsUnready new.journal
   ended_as why e kept = inr (inl (why, subst (λ (k : ℕ). HasEnded new.journal k why) first e, kept))
+
+  pub ended_stands : (why : Why) → HasEnded new.journal ear.child why → StandsAs p (stand_of_end why) (child_value p.number new ear mouth)
+  ended_stands Memory e = tt
+  ended_stands why e = ended_as why e refl
 
   pub unsent_as : IsUnsent new.journal ear.child → IsUnready new.journal
   unsent_as u = inr (inr (subst (IsUnsent new.journal) first u))
@@ -118,6 +127,15 @@ pub unstarted_as : (p : Plan) (old new : CoreValue) → old.journal ≡ [] → o
 unstarted_as p old new empty opens keeps grown =
     let only : new.journal ≡ record { by = 0; what = NoStart 0 } ∷ [] = grown ∙ ap (λ (j : List Entry). j ++ record { by = 0; what = NoStart 0 } ∷ []) empty in
     record { opening = keeps.opening ∙ opens; only = only; unwired = unwired (log_of new) only (keeps.legal (nothing_legal old.opening old.journal empty)) }
+
+-- the child that was greeted comes after the others
+pub met_begins : (p : Plan) (before after : ProgramsValue) (cs cs' : List ChildValue) (c : ChildValue) (stand : Stand) (r : Result (Unit {0}) Cause) → cs' ≡ cs ++ c ∷ [] → IsGreetedAs p c → AddsOne before.starts after.starts (p.program, true)
+    → StandsAs p stand c → StoodAs stand p.number r → BeginsAs p before after cs cs' r
+met_begins p before after cs cs' c Ready (Ok u) are greeted starts s h = (record { child = c; are = are; greeted = greeted; starts = starts }, s.0, s.1)
+met_begins p before after cs cs' c Ready (Err e) are greeted starts s h = absurd cc
+met_begins p before after cs cs' c Unready r are greeted starts s h =
+    subst (BeginsAs p before after cs cs') (sym h) (refl, (record { child = c; are = are; greeted = greeted; starts = starts }, s))
+met_begins p before after cs cs' c Starved r are greeted starts s h = subst (BeginsAs p before after cs cs') (sym h) (inl (record { child = c; are = are; greeted = greeted; starts = starts }))
 
 -- ---- one more child
 

@@ -1,14 +1,15 @@
 // Starting the children of a mirror, one for each plan.
 ghost use Rattle.std.specs.Prelude.{◌≡◌, ◌≤◌, ◌<◌, ◌+◌, [], length, vec_capacity, vec_len};
-ghost use Rattle.journal_model.specs.Shares.{is_memory};
 ghost use Rattle.child_end.specs.Programs.{programs_value};
-ghost use Rattle.mirror_starts.specs.Beginnings.{BeginsAs, BeginsAllAs};
+ghost use Rattle.mirror_starts.specs.Openings.{mirror_opening};
+ghost use Rattle.mirror_starts.specs.Beginnings.{stand_of_end, BeginsAs, BeginsAllAs, MeetsAs, StoodAs};
 
 use crate::opening::new_core;
 use ann_outside::{Programs, Sink, Source};
 use child_start::{Greeting, Mode, greet};
 use host_core::Core;
 use journal_model::Why;
+use link_roles::Lone;
 use mirror_children::Child;
 use mirror_plan::Plan;
 use std::alloc::Global;
@@ -23,10 +24,75 @@ pub(crate) enum Cause {
     NoMemory,
 }
 
-fn is_memory(why: Why) -> bool
-    ensures { result ≡ is_memory why }
+// How a child that was greeted stands.
+#[derive(Clone, Copy)]
+pub(crate) enum Stand {
+    Ready,
+    Unready,
+    // It ended because memory ran out.
+    Starved,
+}
+
+// What came of greeting a child.
+pub(crate) enum Met<I: Sink, O: Source, S> {
+    Child(Lone<I, O>, S, Stand),
+    // Its program couldn't be started.
+    Unstarted,
+    // No memory was found to start it.
+    NoMemory,
+}
+
+fn stand_of_end(why: Why) -> Stand
+    ensures { result ≡ stand_of_end why }
 {
-    matches!(why, Why::Memory)
+    match why {
+        Why::Memory => Stand::Starved,
+        _ => Stand::Unready,
+    }
+}
+
+// Starts the plan's program, and greets its child. The core is lent: a function that owns one and has many ways out takes long to check.
+fn meet<P: Programs>(
+    alloc: Global,
+    programs: &mut P,
+    plan: &Plan,
+    core: &mut Core,
+) -> Met<P::Inlet, P::Outlet, P::Stub>
+where
+    P::Inlet: Drop,
+    P::Outlet: Drop,
+    requires empty { core.old.journal ≡ [] }
+    requires opening { core.old.opening ≡ mirror_opening plan.now.registers }
+    ensures meets { MeetsAs plan.now (programs_value (P.starts programs.old) (P.faults programs.old)) (programs_value (P.starts programs.new) (P.faults programs.new)) core.new result }
+    ensures later { P.faults programs.old ≤ P.faults programs.new }
+{
+    let program = plan.program.view();
+    match greet(alloc, programs, program, core, 0, false, Mode::Serve) {
+        Greeting::Ready {
+            link,
+            stub,
+            tagged: _,
+        } => Met::Child(link, stub, Stand::Ready),
+        Greeting::Refused {
+            verdict: _,
+            link,
+            stub,
+        } => Met::Child(link, stub, Stand::Unready),
+        Greeting::Ended { why, link, stub } => Met::Child(link, stub, stand_of_end(why)),
+        Greeting::Unsent { link, stub } => Met::Child(link, stub, Stand::Unready),
+        Greeting::StartFault => Met::Unstarted,
+        Greeting::NoMemory => Met::NoMemory,
+    }
+}
+
+fn stood(stand: Stand, number: u32) -> Result<(), Cause>
+    ensures { StoodAs stand number result }
+{
+    match stand {
+        Stand::Ready => Ok(()),
+        Stand::Unready => Err(Cause::Unready(number)),
+        Stand::Starved => Err(Cause::NoMemory),
+    }
 }
 
 // Starts the plan's program, and greets its child, which comes after the others.
@@ -48,58 +114,18 @@ where
     let Ok(mut core) = new_core(alloc, &plan.registers) else {
         return Err(Cause::NoMemory);
     };
-    let program = plan.program.view();
-    match greet(alloc, programs, program, &mut core, 0, false, Mode::Serve) {
-        Greeting::Ready {
-            link,
-            stub,
-            tagged: _,
-        } => {
+    match meet(alloc, programs, plan, &mut core) {
+        Met::Child(link, stub, stand) => {
             children.push_reserved(Child {
                 number,
                 core,
                 link,
                 stub,
             });
-            Ok(())
+            stood(stand, number)
         }
-        Greeting::Refused {
-            verdict: _,
-            link,
-            stub,
-        } => {
-            children.push_reserved(Child {
-                number,
-                core,
-                link,
-                stub,
-            });
-            Err(Cause::Unready(number))
-        }
-        Greeting::Ended { why, link, stub } => {
-            children.push_reserved(Child {
-                number,
-                core,
-                link,
-                stub,
-            });
-            if is_memory(why) {
-                Err(Cause::NoMemory)
-            } else {
-                Err(Cause::Unready(number))
-            }
-        }
-        Greeting::Unsent { link, stub } => {
-            children.push_reserved(Child {
-                number,
-                core,
-                link,
-                stub,
-            });
-            Err(Cause::Unready(number))
-        }
-        Greeting::StartFault => Err(Cause::Unstarted(number, core)),
-        Greeting::NoMemory => Err(Cause::NoMemory),
+        Met::Unstarted => Err(Cause::Unstarted(number, core)),
+        Met::NoMemory => Err(Cause::NoMemory),
     }
 }
 

@@ -1,5 +1,5 @@
 // Starting all children of a mirror, and stopping them where one isn't ready.
-ghost use Rattle.std.specs.Prelude.{◌≡◌, ◌≤◌, [], OnOk, length, vec_capacity};
+ghost use Rattle.std.specs.Prelude.{◌≡◌, ◌≤◌, [], OnOk, vec_capacity};
 ghost use Rattle.ann_outside.specs.Causes.{Stays};
 ghost use Rattle.child_end.specs.Programs.{programs_value};
 ghost use Rattle.mirror_starts.specs.Beginnings.{MayStop, StopsBegun};

@@ -1,4 +1,4 @@
-use Rattle.std.proofs.Common.{length, refl, ap, subst, ◌∙◌}
+use Rattle.std.proofs.Common.{length, refl, subst}
 use Rattle.child_end.specs.Programs.{programs_value}
 use Rattle.mirror_children.proofs.Answering.{none_left, some_left}
 use Rattle.mirror_starts.specs.Outcomes.{mirror_value, MirrorValue, StartsAs}

@@ -1,4 +1,3 @@
-use Rattle.std.proofs.Common.{refl}
 use Rattle.child_end.specs.Programs.{ProgramsValue, programs_value}
 use Rattle.mirror_starts.proofs.Settled.{IsFreshFor, begun_settles, begun_sound, begun_stop, none_kept, nothing_kept, ready_kept, ready_settles, roomless_settles}
 use Rattle.mirror_starts.proofs.starting.start_all.Goals as goal
