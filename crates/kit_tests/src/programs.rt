@@ -111,12 +111,7 @@ fn repeated(alloc: Global, line: &[u8], times: u32) -> Result<Vec<u8>, AllocErro
 }
 
 // Writes these bytes forty times, and each time reads what the child says to them.
-fn talks<I: Sink, O: Source>(
-    inlet: &mut I,
-    outlet: &mut O,
-    says: &[u8],
-    hears: &[u8],
-) -> bool
+fn talks<I: Sink, O: Source>(inlet: &mut I, outlet: &mut O, says: &[u8], hears: &[u8]) -> bool
     requires { (I.is_open inlet.old ≡ true) × (O.is_open outlet.old ≡ true) }
     ensures { (I.is_open inlet.new ≡ true) × (O.is_open outlet.new ≡ true) }
 {
