@@ -15,6 +15,7 @@ pub mod Since
 pub mod Pairing
 pub mod Posting
 pub mod Unpaired
+pub mod OneNumber
 pub mod PoolTags
 pub mod PoolClosings
 pub mod PoolMiddle

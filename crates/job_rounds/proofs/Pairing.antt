@@ -33,7 +33,7 @@ other_child : (child d c : ℕ) → (d == c) ≡ false → (child == d) ≡ true
 other_child child d c far h = subst (λ (x : ℕ). (x == c) ≡ false) (sym (same_number child d h)) far
 
 -- what a worker makes over its child names no other
-serves_names : (d c : ℕ) (w : What) → (d == c) ≡ false → serves d w ≡ true → names c w ≡ false
+pub serves_names : (d c : ℕ) (w : What) → (d == c) ≡ false → serves d w ≡ true → names c w ≡ false
 serves_names d c (Claim task child) far h = other_child child d c far h
 serves_names d c (Ask child job task line) far h = other_child child d c far h
 serves_names d c (Put child job line) far h = other_child child d c far (sym (or_false (child == d)) ∙ h)

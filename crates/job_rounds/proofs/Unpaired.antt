@@ -7,10 +7,10 @@ use Rattle.journal_model.specs.Journal.{is_tagged}
 use Rattle.gathering.specs.Posts.{Idle, Lone, makes, serves, tagged_crew}
 use Rattle.job_rounds.specs.Posts.{AllPosted, IsPosted, PostedOver, are_paired}
 
--- the last of the entries
-pub last_posted : (past xs : List Entry) (e : Entry) → AllPosted past (xs ++ e ∷ []) → IsPosted (past ++ xs) e.by e.what
-last_posted past [] e h = subst (λ (j : List Entry). IsPosted j e.by e.what) (sym (append-nil past)) h.0
-last_posted past (x ∷ xs) e h = subst (λ (j : List Entry). IsPosted j e.by e.what) (append_assoc past (x ∷ []) xs) (last_posted (past ++ x ∷ []) xs e h.1)
+-- one of the entries
+pub posted_at : (past xs : List Entry) (e : Entry) (ys : List Entry) → AllPosted past (xs ++ e ∷ ys) → IsPosted (past ++ xs) e.by e.what
+posted_at past [] e ys h = subst (λ (j : List Entry). IsPosted j e.by e.what) (sym (append-nil past)) h.0
+posted_at past (x ∷ xs) e ys h = subst (λ (j : List Entry). IsPosted j e.by e.what) (append_assoc past (x ∷ []) xs) (posted_at (past ++ x ∷ []) xs e ys h.1)
 
 -- what stands of a child that takes no tags
 pub posted_lone : (past : List Entry) (by : ℕ) (w : What) (c : ℕ) → nat_lt by 2 ≡ false → makes (tagged_crew c by) w ≡ false → PostedOver past by w c → (is_tagged past c ≡ false) × (serves c w ≡ true)

@@ -9,4 +9,5 @@ pub mod JobsWell
 pub mod JobsKeep
 pub mod Posts
 pub mod PostRows
+pub mod PostLaws
 pub mod Completeness

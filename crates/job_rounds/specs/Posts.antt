@@ -23,7 +23,7 @@ abbrev pub since_start : ℕ → List Entry → List Entry
 since_start c [] = []
 since_start c (e ∷ rest) = if starts c e.what then rest else since_start c rest
 
--- of an entry: the number made it over the child; or the main thread made it, or another number, and it doesn't name the child
+-- of an entry: the number made it over the child; or the main thread made it; or another number did, and it doesn't name the child
 abbrev pub is_paired : ℕ → ℕ → Entry → Bool
 is_paired c by e = if e.by == by then serves c e.what else (e.by == 0 || not (names c e.what))
 

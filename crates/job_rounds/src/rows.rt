@@ -1,6 +1,7 @@
-// What is accepted and refused of the entries that numbers make over children without tags. Each law is the contract of a function with
-// nothing to do.
+// What is accepted and refused of the entries that numbers make over children without tags, and what follows. Each law is the contract of a
+// function with nothing to do.
 ghost use Rattle.std.specs.Prelude.{[]};
+ghost use Rattle.job_rounds.specs.PostLaws.{HasOneNumber};
 ghost use Rattle.job_rounds.specs.PostRows.{has_both, has_none, other_claims, other_hears, then_another, two_workers};
 ghost use Rattle.job_rounds.specs.Posts.{AllPosted};
 
@@ -16,4 +17,9 @@ pub fn unpaired_numbers()
     ensures claims { AllPosted [] other_claims → ⊥ }
     ensures both { AllPosted [] has_both → ⊥ }
     ensures none { AllPosted [] has_none → ⊥ }
+{}
+
+/// Of the entries that name a child without tags, all that the main thread didn't make are one number's.
+pub fn one_number()
+    ensures { HasOneNumber }
 {}

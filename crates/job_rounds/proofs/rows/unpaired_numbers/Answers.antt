@@ -5,26 +5,26 @@ use Rattle.journal_model.specs.declared.entry.What.TheVariants.{Claim, Got, Answ
 use Rattle.journal_model.proofs.Looks.{same_number}
 use Rattle.journal_model.proofs.Testing.{or_false}
 use Rattle.job_rounds.specs.PostRows.{made_by, two_children, two_workers}
-use Rattle.job_rounds.proofs.Unpaired.{last_posted, refused}
+use Rattle.job_rounds.proofs.Unpaired.{posted_at, refused}
 use Rattle.job_rounds.proofs.rows.unpaired_numbers.Goals as goal
 
 pub returns-clause-hears : goal.returns-clause-hears
 returns-clause-hears f = λ h.
     refused two_workers 3 1 (Got 1 (codes "CHECKPRESENT-SUCCESS WORM--a")) (omega arith) refl (λ c. refl) (λ c k. same_number 1 c (sym (or_false (1 == c)) ∙ k)) refl refl
-    (last_posted [] two_workers (made_by 3 (Got 1 (codes "CHECKPRESENT-SUCCESS WORM--a"))) h)
+    (posted_at [] two_workers (made_by 3 (Got 1 (codes "CHECKPRESENT-SUCCESS WORM--a"))) [] h)
 
 pub returns-clause-claims : goal.returns-clause-claims
 returns-clause-claims f = λ h.
     refused (two_children ++ made_by 2 (Claim 1 1) ∷ []) 3 1 (Claim 2 1) (omega arith) refl (λ c. refl) (λ c k. same_number 1 c k) refl refl
-    (last_posted [] (two_children ++ made_by 2 (Claim 1 1) ∷ []) (made_by 3 (Claim 2 1)) h)
+    (posted_at [] (two_children ++ made_by 2 (Claim 1 1) ∷ []) (made_by 3 (Claim 2 1)) [] h)
 
 pub returns-clause-both : goal.returns-clause-both
 returns-clause-both f = λ h.
     refused (two_children ++ made_by 2 (Claim 1 1) ∷ []) 2 2 (Claim 2 2) (omega arith) refl (λ c. refl) (λ c k. same_number 2 c k) refl refl
-    (last_posted [] (two_children ++ made_by 2 (Claim 1 1) ∷ []) (made_by 2 (Claim 2 2)) h)
+    (posted_at [] (two_children ++ made_by 2 (Claim 1 1) ∷ []) (made_by 2 (Claim 2 2)) [] h)
 
 pub returns-clause-none : goal.returns-clause-none
 returns-clause-none f = λ h.
-    let over = last_posted [] [] (made_by 2 (Answered 1 Present)) h (omega arith) in
+    let over = posted_at [] [] (made_by 2 (Answered 1 Present)) [] h (omega arith) in
     let bad : false ≡ true = over.1.started in
     cc
