@@ -5,7 +5,7 @@ use Rattle.std.specs.List.{list_any, cons_option, range_with_len}
 use Rattle.task_text.specs.declared.task.Task.{Task}
 use Rattle.journal_model.specs.declared.holder.Holder.{Holder}
 use Rattle.journal_model.specs.declared.entry.What.{What}
-use Rattle.journal_model.specs.declared.entry.What.TheVariants.{Claim, Start, NoStart, Ask, Put, Sent, Mute, Got, End, Verdict as Settled, Lost, Answer as Answered, Note as Noted}
+use Rattle.journal_model.specs.declared.entry.What.TheVariants.{Claim, Start, NoStart, Lead, Ask, Put, Sent, Mute, Got, End, Verdict as Settled, Lost, Answer as Answered, Note as Noted}
 use Rattle.journal_model.specs.declared.entry.Entry.{Entry}
 use Rattle.journal_model.specs.Journal.{each_of}
 use Rattle.journal_model.specs.declared.opening.Opening.{Opening}
@@ -142,6 +142,7 @@ claimed_in (e ∷ past) c t o h = go e.what (claimed_in past c t (turned t o e) 
         answer' false h = inl h
     go (Start child slot offer) (inl h) = inl h
     go (NoStart slot) (inl h) = inl h
+    go (Lead child job line) (inl h) = inl h
     go (Ask child job task line) (inl h) = inl h
     go (Put child job line) (inl h) = inl h
     go (Sent child) (inl h) = inl h

@@ -1,11 +1,11 @@
 // What is asked of a journal, each question by the definition of its name.
 ghost use Rattle.std.specs.Prelude.{IfSome, ℕ, Bool, None, ◌<◌, IsTrue, ◌≡◌, ◌≤◌, ◌==◌, not, length, take, filter, option_copied, option_map, IfOk};
-ghost use Rattle.std.specs.List.{list_any, list_all, prefix_len};
+ghost use Rattle.std.specs.List.{list_any, list_all};
 ghost use Rattle.journal_model.specs.Limits.{most_tasks};
 ghost use Rattle.journal_model.specs.Journal.{offers, first_of, any, is_started, is_ended, is_mute, is_live, has_spoken, asked_jobs, open_jobs, is_open, verdict_of, why_of, line_at, is_tagged, addressed, on_wire, unsent, is_full};
-ghost use Rattle.journal_model.specs.Parts.{part, item_at};
+ghost use Rattle.journal_model.specs.Parts.{item_at};
 ghost use Rattle.journal_model.specs.Legality.{count, is_start, is_empty, is_claimed, numbers_of, least_free, is_prepared, is_greeted, may_ask, is_claimed_by, has_open_job, has_busy_task};
-ghost use Rattle.journal_scan.specs.Looks.{NoneDue, is_hosts, is_no_start, first_text, remote_text, job_at};
+ghost use Rattle.journal_scan.specs.Looks.{NoneDue, is_no_start, asked_at, asked_text, remote_text, job_at};
 
 use crate::journal::Journal;
 use crate::{cursors, dues, jobs, tasks};
@@ -204,12 +204,12 @@ pub fn first_due(journal: &Journal) -> u64
     }
 }
 
-/// The text that the job's part begins with.
-pub fn first_text(journal: &Journal, child: u32, job: u64) -> Option<&[u8]>
-    ensures { option_copied result ≡ first_text (part journal.now.entries child job) }
+/// The text of the job's request.
+pub fn asked_text(journal: &Journal, child: u32, job: u64) -> Option<&[u8]>
+    ensures { option_copied result ≡ asked_text journal.now.entries child job }
 {
     let place = place_of(journal, child, job);
-    talks::first_text(
+    talks::asked_text(
         journal.entries(),
         place,
         !is_offered(journal, child),
@@ -218,9 +218,9 @@ pub fn first_text(journal: &Journal, child: u32, job: u64) -> Option<&[u8]>
     )
 }
 
-/// The place of the host's first line of the job, where it is known without the entries.
+/// The place of the job's request, where it is known without the entries.
 fn place_of(journal: &Journal, child: u32, job: u64) -> Option<usize>
-    ensures { IfSome result (λ at. at ≡ prefix_len (λ e. not (is_hosts child job e.what)) journal.now.entries) }
+    ensures { IfSome result (λ at. at ≡ asked_at journal.now.entries child job) }
 {
     match journal.jobs() {
         Some(list) => jobs::place_of(list, child, job),
