@@ -150,7 +150,7 @@ unstarted o past c by w may off n = go (concerns c w) refl
         (asks_in_turn past child job line (host_reading (addressed past child line).1)) (may_ask past by task child) may)))
     by_kind (Lead child job line) may e =
         clash (here child e (live child (first_of_five (is_live past child) (not (is_mute past child)) (job == length (asked_jobs past child))
-        (says_name past child job line (host_reading (addressed past child line).1)) (may_lead o past by child) may)))
+        (says_name past child job line (host_reading (addressed past child line).1)) (may_lead past by child) may)))
     by_kind (Put child job line) may e = absurd cc
     by_kind (Sent child) may e =
         let none : unsent past c ≡ [] = ap (drop (length (filter (λ (x : Entry). sends c x.what) past))) n.written ∙ drop-nil (length (filter (λ (x : Entry). sends c x.what) past)) in

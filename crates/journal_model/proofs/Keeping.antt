@@ -21,10 +21,10 @@ use Rattle.journal_model.specs.declared.opening.Opening.{Opening}
 use Rattle.journal_model.specs.declared.entry.What.{What}
 use Rattle.journal_model.specs.declared.entry.What.TheVariants.{Lead, Ask, Mute, Got, End, Verdict as Settled}
 use Rattle.journal_model.specs.declared.entry.Entry.{Entry}
-use Rattle.journal_model.specs.Journal.{asks, asked_jobs, first_of, verdict_in, verdict_of, has_spoken, got_from, got_lines, open_jobs, is_open, is_unsent, addressed, on_wire}
+use Rattle.journal_model.specs.Journal.{asks, asked_jobs, each_of, first_of, verdict_in, verdict_of, has_spoken, got_from, got_lines, open_jobs, is_open, is_unsent, addressed, on_wire}
 use Rattle.journal_model.specs.Parts.{part, part_from, is_place, is_for}
 use Rattle.journal_model.specs.Due.{due_after, made_by, ending, replies_at}
-use Rattle.journal_model.specs.Legality.{may_come, may_ask, asks_in_turn, is_in_turn, suits_child, is_text, is_greeted, is_led, says_name, numbers_of}
+use Rattle.journal_model.specs.Legality.{may_come, may_ask, asks_in_turn, is_in_turn, suits_child, is_text, is_greeted, is_led, says_name, claimed_for}
 use Rattle.journal_model.specs.Projection.{Fits, JobFits, PartIsAsked}
 use Rattle.journal_model.proofs.PartsGrow.{part-group, and_false, and_right}
 use Rattle.journal_model.proofs.Asking.{asked_text, text_on_wire, read_askable}
@@ -377,7 +377,7 @@ led_inv o past by child job task name line inv l =
     let four = both _ _ five.0 in
     let three = both _ _ four.0 in
     let allows : is_greeted past child (length (asked_jobs past child)) ≡ true =
-    any_says (λ t. may_ask past by t child) (is_greeted past child (length (asked_jobs past child))) (λ t h. (both _ _ (both _ _ h).0).0) (0 ∷ numbers_of o) (both _ _ five.1).1 in
+    any_says (λ t. may_ask past by t child) (is_greeted past child (length (asked_jobs past child))) (λ t h. (both _ _ (both _ _ h).0).0) (0 ∷ each_of (claimed_for child) past) (both _ _ five.1).1 in
     let says = named_text past child job name (host_reading (addressed past child name).1) refl four.1 in
     let in_turn : asks_in_turn mid child job line (host_reading (addressed mid child line).1) ≡ true = (both _ _ (both _ _ l.second).0).1 in
     let q = asked_text mid child job line (host_reading (addressed mid child line).1) refl in_turn in

@@ -238,10 +238,10 @@ may_ask past by t c =
     is_greeted past c (length (asked_jobs past c)) && may_work past by t c
     && (is_tagged past c || is_empty (open_jobs past c))
 
--- a name may be said by this number before the next job of c: for some task a request may be asked then
-abbrev pub may_lead : Opening → List Entry → ℕ → ℕ → Bool
-may_lead o past by c =
-    is_at Later (length (asked_jobs past c)) && list_any (λ t. may_ask past by t c) (0 ∷ numbers_of o)
+-- a name may be said by this number before the next job of c, which is a later one: for some task a request may be asked then
+abbrev pub may_lead : List Entry → ℕ → ℕ → Bool
+may_lead past by c =
+    is_at Later (length (asked_jobs past c)) && list_any (λ t. may_ask past by t c) (0 ∷ each_of (claimed_for c) past)
 
 -- why a child may be ended where nothing is due: at a full journal instead of taking its line
 abbrev pub may_stop : List Entry → ℕ → Why → Bool
@@ -262,7 +262,7 @@ may_come o past by (Start child slot offer) = by == 0 && child == count is_start
 may_come o past by (NoStart slot) = by == 0
 may_come o past by (Lead child job line) =
     is_live past child && not (is_mute past child) && job == length (asked_jobs past child)
-    && says_name past child job line (host_reading (addressed past child line).1) && may_lead o past by child
+    && says_name past child job line (host_reading (addressed past child line).1) && may_lead past by child
 may_come o past by (Ask child job task line) =
     is_live past child && not (is_mute past child) && job == length (asked_jobs past child)
     && asks_in_turn past child job line (host_reading (addressed past child line).1) && may_ask past by task child
