@@ -5,7 +5,7 @@ ghost use Rattle.journal_model.specs.Limits.{most_tasks};
 ghost use Rattle.journal_model.specs.Journal.{offers, first_of, any, is_started, is_ended, is_mute, is_live, has_spoken, asked_jobs, open_jobs, is_open, verdict_of, why_of, line_at, is_tagged, addressed, on_wire, unsent, is_full};
 ghost use Rattle.journal_model.specs.Parts.{item_at};
 ghost use Rattle.journal_model.specs.Legality.{count, is_start, is_empty, is_claimed, numbers_of, least_free, is_prepared, is_greeted, may_ask, is_claimed_by, has_open_job, has_busy_task};
-ghost use Rattle.journal_scan.specs.Looks.{NoneDue, is_no_start, asked_at, asked_text, remote_text, job_at};
+ghost use Rattle.journal_scan.specs.Looks.{NoneDue, is_no_start, asked_at, request_text, remote_text, job_at};
 
 use crate::journal::Journal;
 use crate::{cursors, dues, jobs, tasks};
@@ -205,11 +205,11 @@ pub fn first_due(journal: &Journal) -> u64
 }
 
 /// The text of the job's request.
-pub fn asked_text(journal: &Journal, child: u32, job: u64) -> Option<&[u8]>
-    ensures { option_copied result ≡ asked_text journal.now.entries child job }
+pub fn request_text(journal: &Journal, child: u32, job: u64) -> Option<&[u8]>
+    ensures { option_copied result ≡ request_text journal.now.entries child job }
 {
     let place = place_of(journal, child, job);
-    talks::asked_text(
+    talks::request_text(
         journal.entries(),
         place,
         !is_offered(journal, child),

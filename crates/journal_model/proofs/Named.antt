@@ -2,7 +2,8 @@
 use Rattle.std.proofs.Common.{◌≡◌, ◌∙◌, ℕ, zero, suc, ◌+◌, ◌<◌, List, [], ◌∷◌, ◌++◌, refl, sym, ap, subst, Bool, true, false, not, ◌==◌, cond, Some, None, Option, length, append-nil, arith, inl, inr}
 use Rattle.std.specs.Prelude.{◌&&◌, ◌||◌, ◌⊎◌, filter, fold, slice_get, bytes_eq}
 use Rattle.std.specs.List.{list_any, cons_option}
-use Rattle.annex_model.specs.Messages.{HostMessage, host_line, host_reading}
+use Rattle.annex_model.specs.Extensions.{names_of}
+use Rattle.annex_model.specs.Messages.{HostMessage, AskExtensions, host_line, host_reading}
 use Rattle.annex_model.specs.Tags.{names_async, untag, tagged_line}
 use Rattle.annex_model.specs.Messages.{remote_reading}
 use Rattle.journal_model.specs.declared.holder.Holder.{Holder}
@@ -152,13 +153,8 @@ module _ (past : List Entry) (by child job : ℕ) (name : List ℕ) where
   same_wire c j line = ap (λ (b : Bool). cond b (tagged_line j line) line) (same_tag c)
 
   same_suits : (c : ℕ) (q : HostMessage) → suits_child named c q ≡ suits_child past c q
-  same_suits c q = by_offer (any (offers c) named) (any (offers c) past) (same_any (offers c) refl)
-    where
-      by_offer : (a b : Bool) → a ≡ b → suits_child named c q ≡ suits_child past c q
-      by_offer a b h = suits q
-        where
-          suits : (q : HostMessage) → suits_child named c q ≡ suits_child past c q
-          suits q = rw (same_any (offers c) refl) refl
+  same_suits c (AskExtensions names) = ap (λ (b : Bool). bytes_eq names (names_of b)) (same_any (offers c) refl)
+  same_suits c q = refl
 
   pub same_turn : (c j : ℕ) (line : List ℕ) (r : Option HostMessage) → asks_in_turn named c j line r ≡ asks_in_turn past c j line r
   same_turn c j line None = refl

@@ -50,8 +50,8 @@ text_after before c None = None
 text_after before c (Some e) = Some (addressed before c (hosts_line e.what)).1
 
 -- the text of the job's request
-abbrev pub asked_text : List Entry → ℕ → ℕ → Option (List ℕ)
-asked_text entries c j = text_after (take (asked_at entries c j) entries) c (slice_get entries (asked_at entries c j))
+abbrev pub request_text : List Entry → ℕ → ℕ → Option (List ℕ)
+request_text entries c j = text_after (take (asked_at entries c j) entries) c (slice_get entries (asked_at entries c j))
 
 -- the text of the item, where the remote says it
 abbrev pub remote_text : Option Item → Option (List ℕ)

@@ -2,7 +2,7 @@
 ghost use Rattle.std.specs.Prelude.{◌≡◌, ◌≤◌, true, false, length, IfSome, option_copied, slice_get};
 ghost use Rattle.journal_model.specs.Journal.{addressed, any, offers};
 ghost use Rattle.journal_model.specs.Parts.{item_of, item_at, ends_at, is_place};
-ghost use Rattle.journal_scan.specs.Looks.{is_hosts, hosts_line, asked_at, asked_text, remote_text};
+ghost use Rattle.journal_scan.specs.Looks.{is_hosts, hosts_line, asked_at, request_text, remote_text};
 
 use crate::{children, lines};
 use journal_model::{Entry, What, Why};
@@ -73,7 +73,7 @@ fn text_of<'a>(past: &[Entry], plain: bool, child: u32, line: &'a [u8]) -> &'a [
 }
 
 /// The text of the job's request. Its place may be known, and that the child was offered no tags.
-pub fn asked_text(
+pub fn request_text(
     entries: &[Entry],
     known: Option<usize>,
     plain: bool,
@@ -82,7 +82,7 @@ pub fn asked_text(
 ) -> Option<&[u8]>
     requires known { IfSome known (λ at. at ≡ asked_at entries.now child job) }
     requires plain { plain ≡ true → any (offers child) entries.now ≡ false }
-    ensures { option_copied result ≡ asked_text entries.now child job }
+    ensures { option_copied result ≡ request_text entries.now child job }
 {
     let at = place(entries, known, child, job);
     match entry_at(entries, at) {

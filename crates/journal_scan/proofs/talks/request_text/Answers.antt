@@ -2,9 +2,9 @@ use Rattle.std.proofs.Common.{◌∙◌, ◌≡◌, ap, sym, subst, Some, None, 
 use Rattle.std.specs.Prelude.{slice_get}
 use Rattle.journal_model.specs.declared.entry.Entry.{Entry}
 use Rattle.journal_model.specs.Journal.{addressed}
-use Rattle.journal_scan.specs.Looks.{asked_text, text_after}
+use Rattle.journal_scan.specs.Looks.{request_text, text_after}
 use Rattle.journal_scan.proofs.NoneBefore.{none_before}
-use Rattle.journal_scan.proofs.talks.asked_text.Goals as goal
+use Rattle.journal_scan.proofs.talks.request_text.Goals as goal
 
 pub returns-in-Some : goal.returns-in-Some
 returns-in-Some c =
