@@ -41,6 +41,10 @@ use Rattle.host_core.proofs.Wiring.{wired_text, wired_turn, few_jobs}
 pub abbrev stands_plain : Opening → List Entry → ℕ → What → Bool
 stands_plain o past by w = not (is_lead w) && (not (needs_lead past w) && may_come o past by w)
 
+pub plain_may : (o : Opening) (past : List Entry) (by : ℕ) (w : What) → stands_plain o past by w ≡ true → may_come o past by w ≡ true
+plain_may o past by w h =
+    (both (not (needs_lead past w)) (may_come o past by w) (both (not (is_lead w)) (not (needs_lead past w) && may_come o past by w) h).1).1
+
 pub record Leads (o : Opening) (past : List Entry) (by : ℕ) (s : Step) : Type 0 where
   pub child : ℕ
   pub job : ℕ
