@@ -353,7 +353,7 @@ ask_inv o past by child job task line inv may unled next in_turn allows =
 -- ---- a name, and the request that it leads
 
 -- the text of a line that says a name is the canonical one
-named_text : (past : List Entry) (c job : ℕ) (line : List ℕ) (r : Option HostMessage) → host_reading (addressed past c line).1 ≡ r → says_name past c job line r ≡ true
+pub named_text : (past : List Entry) (c job : ℕ) (line : List ℕ) (r : Option HostMessage) → host_reading (addressed past c line).1 ≡ r → says_name past c job line r ≡ true
     → (name : List ℕ) × ((addressed past c line).1 ≡ host_line (Export name))
 named_text past c job line None e h = absurd cc
 named_text past c job line (Some (Export name)) e h =
