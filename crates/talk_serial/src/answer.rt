@@ -154,7 +154,7 @@ fn init_remote(message: &RemoteMsg<'_>) -> Option<Final>
 }
 
 fn transfer(store: bool, key: &Key, message: &RemoteMsg<'_>) -> Option<Final>
-    ensures { (file : List ℕ) → result ≡ one_line (Transfer store key.now file) (remote_shown message.now) }
+    ensures plain { (file : List ℕ) → result ≡ one_line (Transfer store key.now file) (remote_shown message.now) }
     ensures exported { (file : List ℕ) → result ≡ one_line (Transferexport store key.now file) (remote_shown message.now) }
 {
     match message {
@@ -172,7 +172,7 @@ fn transfer(store: bool, key: &Key, message: &RemoteMsg<'_>) -> Option<Final>
 }
 
 fn check_present(key: &Key, message: &RemoteMsg<'_>) -> Option<Final>
-    ensures { result ≡ one_line (Checkpresent key.now) (remote_shown message.now) }
+    ensures plain { result ≡ one_line (Checkpresent key.now) (remote_shown message.now) }
     ensures exported { result ≡ one_line (Checkpresentexport key.now) (remote_shown message.now) }
 {
     match message {
@@ -184,7 +184,7 @@ fn check_present(key: &Key, message: &RemoteMsg<'_>) -> Option<Final>
 }
 
 fn remove(key: &Key, message: &RemoteMsg<'_>) -> Option<Final>
-    ensures { result ≡ one_line (Remove key.now) (remote_shown message.now) }
+    ensures plain { result ≡ one_line (Remove key.now) (remote_shown message.now) }
     ensures exported { result ≡ one_line (Removeexport key.now) (remote_shown message.now) }
 {
     match message {

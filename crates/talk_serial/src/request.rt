@@ -136,7 +136,7 @@ fn transfer_export(
             store,
             key: Key::copy(alloc, key)?,
             file,
-            name: Text::from_string(String::new()),
+            name: Text::from_string(String::new(alloc)),
         })),
         None => Ok(None),
     }
@@ -154,7 +154,7 @@ fn rename_export(
     match text(alloc, onto)? {
         Some(onto) => Ok(Some(Request::RenameExport {
             key: Key::copy(alloc, key)?,
-            name: Text::from_string(String::new()),
+            name: Text::from_string(String::new(alloc)),
             onto,
         })),
         None => Ok(None),
@@ -228,14 +228,14 @@ impl Request {
                 let key = Key::copy(alloc, *key)?;
                 Ok(Some(Request::CheckExport {
                     key,
-                    name: Text::from_string(String::new()),
+                    name: Text::from_string(String::new(alloc)),
                 }))
             }
             HostMsg::Removeexport(key) => {
                 let key = Key::copy(alloc, *key)?;
                 Ok(Some(Request::RemoveExport {
                     key,
-                    name: Text::from_string(String::new()),
+                    name: Text::from_string(String::new(alloc)),
                 }))
             }
             HostMsg::Renameexport(key, onto) => rename_export(alloc, *key, onto),
