@@ -37,7 +37,7 @@ any_held p (x ∷ held) h = go (p x.task) refl h (any_held p held)
     go false e h r = let w = r h in (w.0, w.1, more (x.task == w.0) (find (λ (y : Held). y.task == w.0) held) w.2)
 
 -- a task that is found and passes is one of the table's
-found_any : (p : ℕ → Bool) (u : ℕ) (held : List Held) → is_some (find (λ h. h.task == u) held) ≡ true → p u ≡ true → list_any (λ h. p h.task) held ≡ true
+pub found_any : (p : ℕ → Bool) (u : ℕ) (held : List Held) → is_some (find (λ h. h.task == u) held) ≡ true → p u ≡ true → list_any (λ h. p h.task) held ≡ true
 found_any p u [] f h = absurd cc
 found_any p u (x ∷ held) f h = go (x.task == u) refl f (λ k. found_any p u held k h)
   where
@@ -117,7 +117,7 @@ in_way o past held t are = same_bool (list_any (λ (h : Held). way h.task) held)
 
 -- ---- a task that is held for a child
 
-held_found : (c : ℕ) (o : Option Held) → is_held_for c (option_map (λ (h : Held). h.by) o) ≡ true → is_some o ≡ true
+pub held_found : (c : ℕ) (o : Option Held) → is_held_for c (option_map (λ (h : Held). h.by) o) ≡ true → is_some o ≡ true
 held_found c None h = absurd cc
 held_found c (Some x) h = refl
 

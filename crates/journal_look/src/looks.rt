@@ -1,5 +1,5 @@
 // What is asked of a journal, each question by the definition of its name.
-ghost use Rattle.std.specs.Prelude.{IfSome, ℕ, Bool, None, ◌<◌, IsTrue, ◌≡◌, ◌≤◌, ◌==◌, not, length, take, filter, option_copied, option_map, IfOk};
+ghost use Rattle.std.specs.Prelude.{IfSome, IsNone, ℕ, Bool, None, true, false, ◌<◌, IsTrue, ◌≡◌, ◌≤◌, ◌==◌, not, length, take, filter, option_copied, option_map, IfOk};
 ghost use Rattle.std.specs.List.{list_any, list_all};
 ghost use Rattle.journal_model.specs.Limits.{most_tasks};
 ghost use Rattle.journal_model.specs.Journal.{offers, first_of, any, is_started, is_ended, is_mute, is_live, has_spoken, asked_jobs, open_jobs, is_open, verdict_of, why_of, line_at, is_tagged, addressed, on_wire, unsent, is_full};
@@ -183,6 +183,20 @@ pub fn may_ask(journal: &Journal, by: u32, task: u32, child: u32) -> bool
     is_greeted(journal, child, next_job(journal, child))
         && tasks::may_work(journal, by, task, child)
         && (is_tagged(journal, child) || has_no_open_job(journal, child))
+}
+
+/// A task for which the number may make a request as the child's next job, but for the child's end or mute.
+pub fn asking_task(journal: &Journal, by: u32, child: u32) -> Option<u32>
+    ensures some { IfSome result (λ t. may_ask journal.now.entries by t child ≡ true) }
+    ensures none { IsNone result → (t : ℕ) → may_ask journal.now.entries by t child ≡ false }
+{
+    if !is_greeted(journal, child, next_job(journal, child)) {
+        return None;
+    }
+    if !is_tagged(journal, child) && !has_no_open_job(journal, child) {
+        return None;
+    }
+    tasks::work_for(journal, by, child)
 }
 
 /// The job asked at a place of the first n entries, where the child's end after them settles it, or where its mute does.
