@@ -104,7 +104,7 @@ unnamed (RemoveExport key name) h = absurd cc
 unnamed (RenameExport key name onto) h = absurd cc
 unnamed r h = refl
 
-named : (r : Request) (name : List ℕ) → name_of r ≡ Some name → (has_lead (message_of r) ≡ true) × (turn_of (message_of r) ≡ Later)
+pub named : (r : Request) (name : List ℕ) → name_of r ≡ Some name → (has_lead (message_of r) ≡ true) × (turn_of (message_of r) ≡ Later)
 named (TransferExport store key file name) n h = (refl, refl)
 named (CheckExport key name) n h = (refl, refl)
 named (RemoveExport key name) n h = (refl, refl)

@@ -71,21 +71,21 @@ due_none_asks o past e = go e.by e.what
     go by w = refl
 
 -- what is due and asks nothing is what comes
-owed_is : (o : Opening) (past : List Entry) (d e : Entry) → is_ask d.what ≡ false → IsDue o past d.what d e → e ≡ d
+pub owed_is : (o : Opening) (past : List Entry) (d e : Entry) → is_ask d.what ≡ false → IsDue o past d.what d e → e ≡ d
 owed_is o past d e h due = go d.what h due
   where
     go : (w : What) → is_ask w ≡ false → IsDue o past w d e → e ≡ d
     go (Ask child job task line) h due = absurd cc
     go w h due = due
 
-is_owed : (o : Opening) (past : List Entry) (d : Entry) → is_ask d.what ≡ false → IsDue o past d.what d d
+pub is_owed : (o : Opening) (past : List Entry) (d : Entry) → is_ask d.what ≡ false → IsDue o past d.what d d
 is_owed o past d h = go d.what h
   where
     go : (w : What) → is_ask w ≡ false → IsDue o past w d d
     go (Ask child job task line) h = absurd cc
     go w h = refl
 
-no_request : (d : Entry) (ds : List Entry) → none_asks (d ∷ ds) ≡ true → (is_ask d.what ≡ false) × (none_asks ds ≡ true)
+pub no_request : (d : Entry) (ds : List Entry) → none_asks (d ∷ ds) ≡ true → (is_ask d.what ≡ false) × (none_asks ds ≡ true)
 no_request d ds h = let s = both (not (is_ask d.what)) (none_asks ds) h in (off (is_ask d.what) s.0, s.1)
   where
     off : (b : Bool) → not b ≡ true → b ≡ false
@@ -102,7 +102,7 @@ owed_from-owed o past [] = refl
 owed_from-owed o past (d ∷ ds) = owed_from-owed o (past ++ d ∷ []) ds
 
 -- but for a name an entry makes due what it makes due, and no request
-unled : (o : Opening) (past : List Entry) (e : Entry) → is_lead e.what ≡ false → still_owed o past [] e ≡ due_after o past e
+pub unled : (o : Opening) (past : List Entry) (e : Entry) → is_lead e.what ≡ false → still_owed o past [] e ≡ due_after o past e
 unled o past e h = go e.what h
   where
     go : (w : What) → is_lead w ≡ false → due_after o past e ++ led_by e.by w ≡ due_after o past e

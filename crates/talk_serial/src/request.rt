@@ -1,4 +1,4 @@
-ghost use Rattle.std.specs.Prelude.{◌≡◌, true, false, IfOk, IfSome, IsNone, bytes_eq, option_map};
+ghost use Rattle.std.specs.Prelude.{◌≡◌, true, false, None, Some, IfOk, IfSome, IsNone, bytes_eq, option_map};
 ghost use Rattle.std.specs.Str.{is_utf8};
 ghost use Rattle.ann_key.specs.KeyRefs.{text_of};
 ghost use Rattle.annex_model.specs.Messages.{Transfer, Transferexport, Renameexport};
@@ -242,6 +242,30 @@ impl Request {
             HostMsg::Export(_) | HostMsg::Value(_) | HostMsg::Creds(_, _) | HostMsg::Error(_) => {
                 Ok(None)
             }
+        }
+    }
+
+    /// The same request, with this name said before it; None exactly where none is.
+    pub fn with_name(self, name: Text) -> Option<Request>
+        ensures asks { IfSome result (λ r. message_of r ≡ message_of self) }
+        ensures named { IfSome result (λ r. name_of r ≡ Some name) }
+        ensures none { IsNone result → name_of self ≡ None }
+    {
+        match self {
+            Request::TransferExport {
+                store, key, file, ..
+            } => Some(Request::TransferExport {
+                store,
+                key,
+                file,
+                name,
+            }),
+            Request::CheckExport { key, .. } => Some(Request::CheckExport { key, name }),
+            Request::RemoveExport { key, .. } => Some(Request::RemoveExport { key, name }),
+            Request::RenameExport { key, onto, .. } => {
+                Some(Request::RenameExport { key, name, onto })
+            }
+            _ => None,
         }
     }
 
