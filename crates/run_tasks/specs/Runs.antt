@@ -228,7 +228,7 @@ pub record IsAtDesk (words : RunWords) (clock : Option ℕ) (before : OutsideVal
   pub desks : AddsMade before.made after.made (record { number = 0; files = told } ∷ more)
   pub numbers : map (λ m. m.number) more ≡ range_with_len 1 (length workers)
   pub ends : EndsRun words clock told flow table workers made made.end
-  pub named : IfSome table.log (CallsName (IsRunFile words))
+  pub named : IfSome table.log (λ log. CallsName (IsRunFile words) log.calls)
   pub none : IfUnwhole made.end (made.answers ≡ [])
   pub objects : Leaves (made.end ≡ Memory) words.program made.journal before.programs after.programs made.wires
 
