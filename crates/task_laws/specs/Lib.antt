@@ -3,6 +3,7 @@ pub mod Contents
 pub mod Kept
 pub mod Changes
 pub mod Faithful
+pub mod FilesKept
 pub mod Retrieval
 pub mod RunWell
 pub mod Sent
