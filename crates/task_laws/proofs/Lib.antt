@@ -14,3 +14,4 @@ pub mod WithinRuns
 pub mod FileHolds
 pub mod GotFiles
 pub mod LeftFiles
+pub mod FilesStored
