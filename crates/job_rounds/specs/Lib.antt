@@ -9,3 +9,4 @@ pub mod JobsWell
 pub mod JobsKeep
 pub mod Posts
 pub mod Completeness
+pub mod ToldDesks

@@ -19,7 +19,7 @@ use Rattle.task_run.proofs.Texts.{apart, other_name}
 
 -- ---- tests
 
-eq_test : (a b : ℕ) → a ≡ b → (a == b) ≡ true
+pub eq_test : (a b : ℕ) → a ≡ b → (a == b) ≡ true
 eq_test a b e = elim (eqb_tells a b) [ inl h ↦ h.0 | inr h ↦ absurd (h.1 e) ]
 
 le_test : (a b : ℕ) → a ≤ b → nat_le a b ≡ true

@@ -15,3 +15,4 @@ pub mod FileHolds
 pub mod GotFiles
 pub mod LeftFiles
 pub mod FilesStored
+pub mod NoPart
