@@ -152,6 +152,10 @@ pub call_played : (call : Call) (calls calls' : List Call) (a b c : Files) → c
 call_played call calls calls' a b c e d h =
     subst (λ (cs : List Call). ∥ Played cs a c ∥₁) (sym e) (∥∥₁_map h (one_more call calls a b c d))
 
+-- what was looked at alone is as it was
+pub same_played : (calls calls' : List Call) (a b c : Files) → calls' ≡ calls → c ≡ b → ∥ Played calls a b ∥₁ → ∥ Played calls' a c ∥₁
+same_played calls calls' a b c e f h = subst (λ (cs : List Call). ∥ Played cs a c ∥₁) (sym e) (subst (λ (x : Files). ∥ Played calls a x ∥₁) (sym f) h)
+
 pub blank_played : (calls : List Call) (a b : Files) → calls ≡ [] → a ≡ b → ∥ Played calls a b ∥₁
 blank_played calls a b e f = ∣ subst (λ (cs : List Call). Played cs a b) (sym e) (same_stay a b (sym f)) ∣₁
 
