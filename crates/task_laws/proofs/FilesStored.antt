@@ -1,12 +1,14 @@
 -- The file that a get leaves holds what was stored, and goes on to.
 use Rattle.std.proofs.Common.{◌≡◌, ◌∙◌, ℕ, List, [], ◌∷◌, ◌++◌, ap, subst}
 use Rattle.std.specs.Prelude.{map, Some}
+use Rattle.std.proofs.lemmas.List.{map-append}
 use Rattle.ann_key.specs.Keys.{Parts}
 use Rattle.ann_outside.specs.Files.{Files, content}
 use Rattle.journal_model.specs.declared.answer.Answer.{Answer}
 use Rattle.journal_model.specs.declared.answer.Answer.TheVariants as A
 use Rattle.journal_model.specs.declared.entry.Entry.{Entry}
 use Rattle.journal_model.specs.declared.opening.Opening.{Opening}
+use Rattle.lone_work.specs.Works.{TaskDone}
 use Rattle.task_run.specs.declared.setup.Setup.{Setup}
 use Rattle.task_run.specs.Askings.{run_askings, run_notings}
 use Rattle.task_run.specs.Layouts.{sizes_tried}
@@ -16,6 +18,7 @@ use Rattle.task_laws.specs.Faithful.{Told, IsPlayed, AreInTurn, sent}
 use Rattle.task_laws.specs.FilesKept.{HoldsChecked}
 use Rattle.task_laws.specs.Kept.{Keeps}
 use Rattle.task_laws.specs.Retrieval.{AllLeave, GotStored, KeepsContent, FileKeepsStored, FileKeepsContent, LastsToTheEnd}
+use Rattle.task_laws.specs.ToldDesks.{DeskHolds}
 use Rattle.task_laws.proofs.GotFiles.{got_holds}
 use Rattle.task_laws.proofs.LeftFiles.{left_shows}
 use Rattle.task_laws.proofs.OneStore.{keeps_stored_content}
@@ -51,3 +54,15 @@ lasts told name bytes (u ∷ more) old new h is left =
 
 pub lasts_to_the_end : LastsToTheEnd
 lasts_to_the_end told name bytes t earlier later old new h is left = lasts told name bytes later (told.after t) new (later_tasks told t earlier later old new h) is left
+
+played_one : (told : Told) (t : ℕ) (earlier later : List ℕ) (old new : Files) → AreInTurn told (earlier ++ t ∷ later) old new → IsPlayed told t
+played_one told t [] later old new h = h.1
+played_one told t (u ∷ more) later old new h = played_one told t more later (told.after u) new h.2
+
+pub desk_holds : DeskHolds
+desk_holds told earlier later r old new h =
+    let turn : AreInTurn told (map (λ (d : TaskDone). d.task) earlier ++ r.task ∷ map (λ (d : TaskDone). d.task) later) old new =
+    subst (λ (ts : List ℕ). AreInTurn told ts old new) (map-append (λ (d : TaskDone). d.task) earlier (r ∷ later)) h.turn in (
+      played_one told r.task (map (λ (d : TaskDone). d.task) earlier) (map (λ (d : TaskDone). d.task) later) old new turn,
+      λ name bytes is left. lasts_to_the_end told name bytes r.task (map (λ (d : TaskDone). d.task) earlier) (map (λ (d : TaskDone). d.task) later) old new turn is left,
+    )

@@ -9,3 +9,4 @@ pub mod RunWell
 pub mod Sent
 pub mod Rows
 pub mod LoneWell
+pub mod ToldDesks

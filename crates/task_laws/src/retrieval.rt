@@ -1,5 +1,6 @@
 // What a get leaves of what was stored before, where the remote is faithful. Each law is the contract of a function with nothing to do.
 ghost use Rattle.task_laws.specs.Retrieval.{KeepsStored, KeepsStoredContent, FileKeepsStored, FileKeepsContent, LastsToTheEnd};
+ghost use Rattle.task_laws.specs.ToldDesks.{DeskHolds};
 
 /// With a faithful remote a get keeps, as its file, what the STOREs of its keys sent.
 pub fn keeps_stored()
@@ -24,4 +25,9 @@ pub fn file_keeps_content()
 /// A file that a desk's later tasks leave as it is holds that in the end.
 pub fn lasts_to_the_end()
     ensures { LastsToTheEnd }
+{}
+
+/// So it is of each task that a desk did, where it is told.
+pub fn desk_holds()
+    ensures { DeskHolds }
 {}
