@@ -48,6 +48,10 @@ Gained old new calls = new ≡ option_map (λ told. record { origin = told.origi
 abbrev pub IsLogBlank : Option Log → Type 0
 IsLogBlank log = log ≡ option_map (λ told. record { origin = told.origin; calls = [] }) log
 
+-- the files that the log begins with, where one is kept
+abbrev pub log_origin : Option Log → Option (Option Files)
+log_origin log = option_map (λ told. told.origin) log
+
 -- where a log is kept, it begins with these files
 abbrev pub IsLogFrom : Option Log → Option Files → Type 0
-IsLogFrom log files = IfSome log (λ told. told.origin ≡ files)
+IsLogFrom log files = IfSome (log_origin log) (λ origin. origin ≡ files)
