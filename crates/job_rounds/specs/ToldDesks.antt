@@ -6,15 +6,15 @@ use Rattle.journal_model.specs.declared.opening.Opening.{Opening}
 use Rattle.task_run.specs.declared.setup.Setup.{Setup}
 use Rattle.lone_work.specs.Works.{DeskTells}
 use Rattle.task_laws.specs.Faithful.{Told}
-use Rattle.task_laws.specs.ToldDesks.{IsToldOf}
+use Rattle.task_laws.specs.ToldDesks.{IsToldAt}
 use Rattle.job_rounds.specs.Desks.{DesksDid}
 
 -- what is told of the tasks of each desk is what it did, where it tells its calls and has these files in the end
-abbrev pub AreToldOf : (told : Told) (o : Opening) (setup : Setup) (limit : ℕ) (journal past entries : List Entry) (k : ℕ) (desks desks' : List DeskTells) → DesksDid o setup limit journal past entries k desks desks'
+abbrev pub AreToldAt : (told : Told) (o : Opening) (setup : Setup) (limit : ℕ) (journal past entries : List Entry) (k : ℕ) (desks desks' : List DeskTells) → DesksDid o setup limit journal past entries k desks desks'
     → List (Option Files) → Type 0
-AreToldOf told o setup limit journal past entries k [] [] did files = Unit {0}
-AreToldOf told o setup limit journal past entries k [] (e ∷ es) did files = Unit {0}
-AreToldOf told o setup limit journal past entries k (d ∷ ds) [] did files = Unit {0}
-AreToldOf told o setup limit journal past entries k (d ∷ ds) (e ∷ es) did [] = Unit {0}
-AreToldOf told o setup limit journal past entries k (d ∷ ds) (e ∷ es) did (now ∷ more) =
-    IsToldOf told did.0.done e.log now × AreToldOf told o setup limit journal past entries (k + 1) ds es did.1 more
+AreToldAt told o setup limit journal past entries k [] [] did files = Unit {0}
+AreToldAt told o setup limit journal past entries k [] (e ∷ es) did files = Unit {0}
+AreToldAt told o setup limit journal past entries k (d ∷ ds) [] did files = Unit {0}
+AreToldAt told o setup limit journal past entries k (d ∷ ds) (e ∷ es) did [] = Unit {0}
+AreToldAt told o setup limit journal past entries k (d ∷ ds) (e ∷ es) did (now ∷ more) =
+    IsToldAt told did.0.done e.log now × AreToldAt told o setup limit journal past entries (k + 1) ds es did.1 more

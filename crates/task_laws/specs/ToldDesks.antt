@@ -12,9 +12,9 @@ pub record AreToldSo (told : Told) (done : List TaskDone) (old new : Files) : Ty
   pub turn : AreInTurn told (map (λ (r : TaskDone). r.task) done) old new
 
 -- so it is of a desk that tells both its calls and its files: of those with which its log begins these were made
-abbrev pub IsToldOf : Told → List TaskDone → Option Log → Option Files → Type 0
-IsToldOf told done None files = Unit {0}
-IsToldOf told done (Some log) files = from log.origin files
+abbrev pub IsToldAt : Told → List TaskDone → Option Log → Option Files → Type 0
+IsToldAt told done None files = Unit {0}
+IsToldAt told done (Some log) files = from log.origin files
   where
     from : Option Files → Option Files → Type 0
     from (Some old) (Some new) = AreToldSo told done old new
