@@ -245,14 +245,11 @@ pub renamed_holds : (name part to bytes : List ℕ) (calls : List Call) (old new
     → holds name (Some (unwrap_or (content name old) [])) calls ≡ Some bytes → content to new ≡ Some bytes
 renamed_holds name part to bytes calls old new go p last is = by_end (ends_renamed name to calls last)
   where
-    held : Option (List ℕ)
-    held = Some (unwrap_or (content name old) [])
-
     by_end : EndsRenamed name to calls → content to new ≡ Some bytes
     by_end r = by_parts (played_parts r.front (Rename name to (Ok tt) ∷ []) old new (subst (λ (l : List Call). Played l old new) r.is p))
       where
         till : holds name (Some (unwrap_or (content name old) [])) r.front ≡ Some bytes
-        till = by_test (bytes_eq to name) (sym (holds_both name held r.front (Rename name to (Ok tt) ∷ [])) ∙ ap (holds name held) (sym r.is) ∙ is)
+        till = by_test (bytes_eq to name) (sym (holds_both name (Some (unwrap_or (content name old) [])) r.front (Rename name to (Ok tt) ∷ [])) ∙ ap (holds name (Some (unwrap_or (content name old) []))) (sym r.is) ∙ is)
           where
             by_test : (t : Bool) → (if t then None else holds name (Some (unwrap_or (content name old) [])) r.front) ≡ Some bytes → holds name (Some (unwrap_or (content name old) [])) r.front ≡ Some bytes
             by_test true e = absurd cc
