@@ -26,3 +26,4 @@ pub mod Steps
 pub mod NoneUnserved
 pub mod Succeeding
 pub mod Completing
+pub mod TaskFiles

@@ -11,15 +11,16 @@ pub record AreToldSo (told : Told) (done : List TaskDone) (old new : Files) : Ty
   pub calls : All (λ (r : TaskDone). told.calls r.task ≡ r.calls) done
   pub turn : AreInTurn told (map (λ (r : TaskDone). r.task) done) old new
 
+-- so it is where the files at first and in the end are told
+abbrev pub AreToldFrom : Told → List TaskDone → Option Files → Option Files → Type 0
+AreToldFrom told done (Some old) (Some new) = AreToldSo told done old new
+AreToldFrom told done (Some old) None = Unit {0}
+AreToldFrom told done None files = Unit {0}
+
 -- so it is of a desk that tells both its calls and its files: of those with which its log begins these were made
 abbrev pub IsToldAt : Told → List TaskDone → Option Log → Option Files → Type 0
 IsToldAt told done None files = Unit {0}
-IsToldAt told done (Some log) files = from log.origin files
-  where
-    from : Option Files → Option Files → Type 0
-    from (Some old) (Some new) = AreToldSo told done old new
-    from (Some old) None = Unit {0}
-    from None files = Unit {0}
+IsToldAt told done (Some log) files = AreToldFrom told done log.origin files
 
 -- The calls of each of a desk's tasks were played on its files, and what a file holds after one it holds in the end, where each later one
 -- leaves it as it is.
