@@ -1,8 +1,9 @@
 -- Runs in which a key is stored and then got, as examples.
-use Rattle.std.specs.Prelude.{ℕ, ◌==◌, if◌then◌else◌, true, false, List, [], ◌∷◌, ◌++◌, codes, Some, None}
+use Rattle.std.specs.Prelude.{ℕ, ◌==◌, if◌then◌else◌, true, false, List, [], ◌∷◌, ◌++◌, codes, Some, None, Ok}
 use Rattle.ann_key.specs.Keys.{Parts}
 use Rattle.ann_outside.specs.Files.{Files}
 use Rattle.ann_outside.specs.declared.file_desk.Call.{Call}
+use Rattle.ann_outside.specs.declared.file_desk.Call.TheVariants.{Size, Create, Append}
 use Rattle.annex_model.specs.Messages.{Transfer}
 use Rattle.journal_model.specs.declared.answer.Answer.TheVariants.{Stored, Got as GotAnswer}
 use Rattle.journal_model.specs.declared.verdict.Verdict.TheVariants.{Done, Failed}
@@ -90,6 +91,10 @@ told_ho = told_of (codes "ho") got_hi
 -- the second task's desk has these bytes as its file after it
 abbrev pub told_left : List ℕ → Told
 told_left bytes = record { calls = told_hi.calls; before = told_hi.before; after = λ t. (codes "o", bytes) ∷ [] }
+
+-- part is made and filled, and then looked up once more
+abbrev pub filled_early : List Call
+filled_early = Create (codes "o.part") (Ok tt) ∷ Append (codes "o.part") (codes "h") (Ok tt) ∷ Size (codes "o.part") (Ok 1) ∷ []
 
 -- ---- a task stores a key in chunks
 
