@@ -1,4 +1,4 @@
-use Rattle.std.proofs.Common.{◌≡◌, ◌∙◌, ℕ, zero, suc, List, [], ◌∷◌, ◌++◌, take, refl, sym, ap}
+use Rattle.std.proofs.Common.{◌≡◌, ◌∙◌, ℕ, ◌==◌, zero, suc, List, [], ◌∷◌, ◌++◌, take, refl, sym, ap}
 use Rattle.std.specs.Prelude.{codes, bytes_eq, Bool, true, false, Option, Some, None, option_map, unwrap_or, IfSome}
 use Rattle.ann_outside.specs.Files.{content}
 use Rattle.ann_outside.specs.PlayRows.{holding}
@@ -33,7 +33,7 @@ pub returns-clause-nothing : goal.returns-clause-nothing
 returns-clause-nothing c = λ p. let is : Some (codes "ab") ≡ None = p (codes "o") in cc
 
 pub returns-clause-other_length : goal.returns-clause-other_length
-returns-clause-other_length c = λ p. let is : 3 ≡ 2 = p.1.0.1 (codes "ab") refl in cc
+returns-clause-other_length c = λ p. differ (ap (λ (n : ℕ). n == 2) (p.1.0.1 (codes "ab") refl))
 
 pub returns-clause-other_bytes : goal.returns-clause-other_bytes
 returns-clause-other_bytes c = λ p. let is : codes "b" ≡ codes "a" = (p.1.0.1 (codes "ab") refl).0 in differ (ap (λ (l : List ℕ). bytes_eq l (codes "a")) is)
