@@ -2,7 +2,7 @@
 use Rattle.std.proofs.Common.{◌≡◌, ◌∙◌, ◌⊎◌, inl, inr, ℕ, zero, suc, ◌+◌, ◌<◌, ◌≤◌, ◌==◌, Bool, true, false, List, [], ◌∷◌, ◌++◌, length, take, drop, refl, sym, ap, subst, arith, append_assoc}
 use Rattle.std.specs.Prelude.{◌≢◌, ◌&&◌, ◌||◌, if◌then◌else◌, nat_le, nat_lt, bytes_eq, Option, Some, None, is_none, option_map, unwrap_or, Result, Ok, Err}
 use Rattle.std.specs.List.{list_all}
-use Rattle.std.proofs.lemmas.Bool.{and_from, and_parts}
+use Rattle.std.proofs.lemmas.Bool.{and_from, and_parts, or_left}
 use Rattle.std.proofs.lemmas.Bool.Decides.{eqb_tells, leb_tells}
 use Rattle.std.proofs.lemmas.Slice.Eq.{bytes_eq-Decides}
 use Rattle.ann_outside.specs.Files.{Files, content, AllStay, OthersStay, SizeIs, CreateDoes, AppendDoes, CutDoes, RenameDoes, RemoveDoes}
@@ -83,7 +83,7 @@ read_found name other from read b (Some h) s k = by_test (bytes_eq other name) r
   where
     some : (bytes : List ℕ) → (bytes ≡ [] → length h ≤ from) → (nat_lt 0 (length bytes) || nat_le (length h) from) ≡ true
     some [] end = le_test (length h) from (end refl)
-    some (x ∷ more) end = refl
+    some (x ∷ more) end = or_left (nat_lt 0 (length (x ∷ more))) (nat_le (length h) from) (le_test 1 (length (x ∷ more)) (omega arith))
 
     by_test : (t : Bool) → bytes_eq other name ≡ t → unwrap_or (option_map (is_read_of h) (if t then Some (from, read) else None)) true ≡ true
     by_test true e =

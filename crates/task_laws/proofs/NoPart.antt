@@ -50,7 +50,7 @@ module _ (name : List ℕ) (b c : Files) (k : IsEmpty name b) where
   shortened size o (inl e) = inl (ap (option_map (take size)) e)
   shortened size o (inr e) = inr (ap (option_map (take size)) e ∙ ap (λ (z : List ℕ). Some z) (none size))
     where
-      none : (n : ℕ) → take n [] ≡ []
+      none : (n : ℕ) → take {A = ℕ} n [] ≡ []
       none zero = refl
       none (suc n) = refl
 

@@ -51,5 +51,5 @@ returns-clause-hi c = (before, found before refl, (made, (refl, λ other d. rw (
 pub returns-clause-ho : goal.returns-clause-ho
 returns-clause-ho c = λ played.
     let is : Some (codes "ho") ≡ Some (codes "hi") =
-    renamed_holds (codes "o.part") (codes "o.part") (codes "o") (codes "hi") got_hi ((fetched_2_1, codes "hi") ∷ []) ((codes "o", codes "ho") ∷ []) (refl, refl, refl, refl, refl, refl, tt) played refl refl in
+    renamed_holds (codes "o.part") (codes "o.part") (codes "o") (codes "hi") got_hi ((fetched_2_1, codes "hi") ∷ []) ((codes "o", codes "ho") ∷ []) (refl, (refl, (refl, (refl, (refl, (refl, tt)))))) played refl refl in
     cc
