@@ -9,13 +9,13 @@ gained_nothing None = refl
 gained_nothing (Some told) = ap (λ (calls : List Call). Some (record { origin = told.origin; calls = calls })) (sym (append-nil told.calls))
 
 gained_twice : (a : Option Log) (xs ys : List Call)
-    → option_map (λ (told : Log). record { origin = told.origin; calls = told.calls ++ ys }) (option_map (λ (told : Log). record { origin = told.origin; calls = told.calls ++ xs }) a)
-    ≡ option_map (λ (told : Log). record { origin = told.origin; calls = told.calls ++ (xs ++ ys) }) a
+    → option_map {U = Log} (λ (told : Log). record { origin = told.origin; calls = told.calls ++ ys }) (option_map {U = Log} (λ (told : Log). record { origin = told.origin; calls = told.calls ++ xs }) a)
+    ≡ option_map {U = Log} (λ (told : Log). record { origin = told.origin; calls = told.calls ++ (xs ++ ys) }) a
 gained_twice None xs ys = refl
 gained_twice (Some told) xs ys = ap (λ (calls : List Call). Some (record { origin = told.origin; calls = calls })) (append_assoc told.calls xs ys)
 
 pub gained_more : (a b c : Option Log) (xs ys : List Call) → Gained a b xs → Gained b c ys → Gained a c (xs ++ ys)
-gained_more a b c xs ys e f = f ∙ ap (option_map (λ (told : Log). record { origin = told.origin; calls = told.calls ++ ys })) e ∙ gained_twice a xs ys
+gained_more a b c xs ys e f = f ∙ ap (option_map {U = Log} (λ (told : Log). record { origin = told.origin; calls = told.calls ++ ys })) e ∙ gained_twice a xs ys
 
 pub gained_call : (log : Option Log) (call : Call) → lacks_memory call ≡ false → Gained log (logged log call) (call ∷ [])
 gained_call None call e = refl

@@ -60,7 +60,7 @@ names_all {P} {old} {new} blank h = go old blank h.gained
     go : (log : Option Log) → IsLogBlank log → Gained log new h.calls → IfSome new (λ log. CallsName P log.calls)
     go None b g = subst (λ (x : Option Log). IfSome x (λ log. CallsName P log.calls)) (sym g) tt
     go (Some told) b g =
-        subst (λ (x : Option Log). IfSome x (λ log. CallsName P log.calls)) (sym (g ∙ ap (option_map (λ (log : Log). record { origin = log.origin; calls = log.calls ++ h.calls })) b)) h.named
+        subst (λ (x : Option Log). IfSome x (λ log. CallsName P log.calls)) (sym (g ∙ ap (option_map {U = Log} (λ (log : Log). record { origin = log.origin; calls = log.calls ++ h.calls })) b)) h.named
 
 -- ---- reading a file
 

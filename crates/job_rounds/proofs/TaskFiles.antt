@@ -282,7 +282,7 @@ desk_row done (Some log) log' now blank g p =
     subst (λ (x : Option Log). DeskRows done (begun x) now) (sym is) (by_origin log.origin now (subst (λ (x : Option Log). ArePlayed x now) is p))
   where
     is : log' ≡ Some (record { origin = log.origin; calls = all_calls done })
-    is = g ∙ ap (option_map (λ (told : Log). record { origin = told.origin; calls = told.calls ++ all_calls done })) blank
+    is = g ∙ ap (option_map {U = Log} (λ (told : Log). record { origin = told.origin; calls = told.calls ++ all_calls done })) blank
 
     by_origin : (o n : Option Files) → WhereTold o n (Played (all_calls done)) → DeskRows done o n
     by_origin (Some old) (Some new) h = rows_of done old new h

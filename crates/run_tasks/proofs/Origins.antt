@@ -18,7 +18,7 @@ use Rattle.run_tasks.specs.Runs.{ArePlayedAt, BeganAs}
 gained_origin : (old new : Option Log) (calls : List Call) → Gained old new calls → log_origin new ≡ log_origin old
 gained_origin old new calls g = ap log_origin g ∙ same old
   where
-    same : (o : Option Log) → log_origin (option_map (λ (told : Log). record { origin = told.origin; calls = told.calls ++ calls }) o) ≡ log_origin o
+    same : (o : Option Log) → log_origin (option_map {U = Log} (λ (told : Log). record { origin = told.origin; calls = told.calls ++ calls }) o) ≡ log_origin o
     same None = refl
     same (Some told) = refl
 
