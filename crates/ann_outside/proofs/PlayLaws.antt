@@ -163,9 +163,12 @@ blank_played calls a b e f = ∣ subst (λ (cs : List Call). Played cs a b) (sym
 pub read_played : (name : List ℕ) (from : ℕ) (buffer : List ℕ) (result : Result ℕ DeskError) (b c : Files) → ReadsAtMost result buffer → ReadIs name from buffer b result → c ≡ b
     → Does (ReadAt name from (bytes_read buffer result)) b c
 read_played name from buffer (Ok n) b c most told e = (
-  (told.0, λ bytes is.
-    let t = told.1 bytes is in
-    (t.0 ∙ ap (λ (k : ℕ). take k (drop from bytes)) most.1, λ none. t.1 (most.1 ∙ ap length none))),
+  (
+    told.0,
+    λ bytes is.
+        let t = told.1 bytes is in
+        (t.0 ∙ ap (λ (k : ℕ). take k (drop from bytes)) most.1, λ none. t.1 (most.1 ∙ ap length none)),
+  ),
   same_stay b c e,
 )
 read_played name from buffer (Err Missing) b c most told e = (told, same_stay b c e)

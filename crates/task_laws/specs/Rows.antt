@@ -76,8 +76,10 @@ told_of bytes calls = record { calls = of_task; before = held; after = left }
   where
     of_task : ℕ → List Call
     of_task t = if t == 2 then calls else if t == 1 then sized (codes "f") 2 else []
+
     held : ℕ → Files
     held t = if t == 2 then (fetched_2_1, codes "hi") ∷ [] else (codes "f", bytes) ∷ []
+
     left : ℕ → Files
     left t = if t == 2 then (codes "o", codes "hi") ∷ [] else (codes "f", bytes) ∷ []
 

@@ -29,11 +29,7 @@ impl DeskState {
     ghost use Rattle.ann_outside.specs.DeskState.{IsCounted, IsCountedOr, SameButLog, SameButFiles, SameButCounts, SameButRoom, state_counts};
 
     /// These files, on which no call was made.
-    pub fn new(
-        alloc: Global,
-        files: FileList,
-        fails: Vec<u64>,
-    ) -> Result<DeskState, NoMemory>
+    pub fn new(alloc: Global, files: FileList, fails: Vec<u64>) -> Result<DeskState, NoMemory>
         ensures files { IfOk result (λ d. d.files.items ≡ files.items) }
         ensures log { IfOk result (λ d. d.log.items ≡ []) }
         ensures missing { IfOk result (λ d. d.missing ≡ 0) }

@@ -44,9 +44,27 @@ read files is = (
 )
 
 pub returns-clause-hi : goal.returns-clause-hi
-returns-clause-hi c = (before, found before refl, (made, (refl, λ other d. rw (away part other d) refl), (made, read made refl,
-  (filled, ((λ e. absurd cc), refl, λ other d. rw (away part other d) refl), (moved, ((λ e. absurd cc), refl, λ other d. rw (away fetched_2_1 other d) refl),
-  (named, ((λ e. absurd cc), refl, (λ d. refl), λ other d e. rw (away part other d, away (codes "o") other e) refl), λ other. refl))))))
+returns-clause-hi c = (
+  before,
+  found before refl,
+  (
+    made,
+    (refl, λ other d. rw (away part other d) refl),
+    (
+      made,
+      read made refl,
+      (
+        filled,
+        ((λ e. absurd cc), refl, λ other d. rw (away part other d) refl),
+        (
+          moved,
+          ((λ e. absurd cc), refl, λ other d. rw (away fetched_2_1 other d) refl),
+          (named, ((λ e. absurd cc), refl, (λ d. refl), λ other d e. rw (away part other d, away (codes "o") other e) refl), λ other. refl),
+        ),
+      ),
+    ),
+  ),
+)
 
 pub returns-clause-ho : goal.returns-clause-ho
 returns-clause-ho c = λ played.
