@@ -1,8 +1,8 @@
 -- How the calls of a copy and of a store add up.
 use Rattle.std.proofs.Common.{◌≡◌, ◌∙◌, ℕ, zero, suc, ◌+◌, ◌≤◌, List, [], ◌∷◌, ◌++◌, length, refl, sym, ap, subst, arith, append_assoc, append-nil, take, length-append, length-take-le, add-zero}
-use Rattle.std.specs.Prelude.{Bool, true, false, is_some, Option, Some, None, option_map, IfSome, Result, Ok, Err}
+use Rattle.std.specs.Prelude.{Bool, true, false, is_some, Option, Some, None, IfSome, Result, Ok, Err}
 use Rattle.std.specs.List.{concat}
-use Rattle.ann_outside.specs.Calls.{Log, Gained, logged, lacks_memory, bytes_read}
+use Rattle.ann_outside.specs.Calls.{Log, logged, lacks_memory, bytes_read}
 use Rattle.ann_outside.proofs.Gains.{gained_nothing, gained_more, gained_call, gained_without}
 use Rattle.ann_outside.specs.declared.file_desk.DeskError.{DeskError}
 use Rattle.ann_outside.specs.declared.file_desk.DeskError.TheVariants.{Failed, Missing, NoMemory}
