@@ -163,10 +163,10 @@ used (suc n) k past entries t = occurs t (claims_for k past entries) + used n (k
 
 used_none : (n k : ℕ) (past : List Entry) (t : ℕ) → used n k past [] t ≡ 0
 used_none zero k past t = refl
-used_none (suc n) k past t = used_none n (k + 1) past t
+used_none (suc n) k past t = let later = used_none n (k + 1) past t in omega (arith, later)
 
 occurs_cons : (t : ℕ) (o : Option ℕ) (us : List ℕ) → occurs t (cons_option o us) ≡ occurs t (cons_option o []) + occurs t us
-occurs_cons t None us = refl
+occurs_cons t None us = omega arith
 occurs_cons t (Some u) us = omega arith
 
 -- how often they were by one entry
@@ -218,7 +218,7 @@ one_hit (suc n) k past by task child t = by_desk (desk_of past by child == k) re
         let none = late_hit n (k + 1) past by task child t late in
         let one = at_most (task == t) in
         omega (arith, none, one)
-    by_desk false e h = h
+    by_desk false e h = omega (arith, h)
 
 used_few : (n k : ℕ) (past entries : List Entry) (t : ℕ) → used n k past entries t ≤ count (claims t) entries
 used_few n k past [] t = let none = used_none n k past t in omega (arith, none)

@@ -1,5 +1,5 @@
 -- The tasks that are done, as the journal grows.
-use Rattle.std.proofs.Common.{◌≡◌, ℕ, ◌<◌, List, [], ◌∷◌, ◌++◌, refl, sym, ap, subst, ◌∙◌, append_assoc, append-nil, false, Some, None, Option, inl, inr}
+use Rattle.std.proofs.Common.{◌≡◌, ℕ, ◌<◌, List, [], ◌∷◌, ◌++◌, refl, sym, ap, subst, ◌∙◌, append_assoc, false, inl, inr}
 use Rattle.std.specs.Prelude.{map, Ok, All}
 use Rattle.std.proofs.lemmas.List.Elements.{All-nil, All-cons}
 pub use Rattle.ann_outside.proofs.Gains.{gained_nothing, gained_more}
