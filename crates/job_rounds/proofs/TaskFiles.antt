@@ -103,9 +103,13 @@ module _ (all : List Row) where
 
 -- ---- tasks that occur once
 
+abbrev one_if : Bool → ℕ
+one_if true = 1
+one_if false = 0
+
 abbrev occurs : ℕ → List ℕ → ℕ
 occurs t [] = 0
-occurs t (u ∷ us) = (if u == t then 1 else 0) + occurs t us
+occurs t (u ∷ us) = one_if (u == t) + occurs t us
 
 abbrev tasks_of : List Row → List ℕ
 tasks_of rows = map (λ (row : Row). row.task) rows
@@ -120,7 +124,7 @@ same_number a = elim (eqb_tells a a) [ inl h ↦ h.0 | inr h ↦ absurd (h.1 ref
 occurs_there : (row : Row) (rows : List Row) → IsAmong row rows → 1 ≤ occurs row.task (tasks_of rows)
 occurs_there row [] h = absurd h
 occurs_there row (x ∷ xs) (inl e) =
-    let one : (if x.task == row.task then 1 else 0) ≡ 1 = ap (λ (b : Bool). if b then 1 else 0) (ap (λ (y : Row). y.task == row.task) e ∙ same_number row.task) in
+    let one : one_if (x.task == row.task) ≡ 1 = ap one_if (ap (λ (y : Row). y.task == row.task) e ∙ same_number row.task) in
     omega (arith, one)
 occurs_there row (x ∷ xs) (inr h) = let later = occurs_there row xs h in omega (arith, later)
 
@@ -131,7 +135,7 @@ look_there row (x ∷ xs) few h = by_test (x.task == row.task) refl h (look_ther
     by_test : (b : Bool) → (x.task == row.task) ≡ b → IsAmong row (x ∷ xs) → (occurs row.task (tasks_of xs) ≤ 1 → IsAmong row xs → look row.task xs ≡ Some row) → (if b then Some x else look row.task xs) ≡ Some row
     by_test true e (inl is) k = ap (λ (y : Row). Some y) is
     by_test true e (inr in_xs) k =
-        let one : (if x.task == row.task then 1 else 0) ≡ 1 = ap (λ (b : Bool). if b then 1 else 0) e in
+        let one : one_if (x.task == row.task) ≡ 1 = ap one_if e in
         let more = occurs_there row xs in_xs in
         absurd (omega (arith, one, more, few))
     by_test false e (inl is) k = absurd (let t : (x.task == row.task) ≡ true = ap (λ (y : Row). y.task == row.task) is ∙ same_number row.task in let bad : true ≡ false = sym t ∙ e in cc)
@@ -189,7 +193,7 @@ no_hit (suc n) k past by w t h = let here = one w h in let later = no_hit n (k +
     one (Claim task child) h = by_desk (desk_of past by child == k)
       where
         by_desk : (b : Bool) → occurs t (cons_option (if b then Some task else None) []) ≡ 0
-        by_desk true = ap (λ (b : Bool). (if b then 1 else 0) + 0) h
+        by_desk true = ap (λ (b : Bool). one_if b + 0) h
         by_desk false = refl
     one v h = refl
 
@@ -207,7 +211,7 @@ one_hit : (n k : ℕ) (past : List Entry) (by task child t : ℕ) → hits n k p
 one_hit zero k past by task child t = omega arith
 one_hit (suc n) k past by task child t = by_desk (desk_of past by child == k) refl (one_hit n (k + 1) past by task child t)
   where
-    at_most : (b : Bool) → (if b then 1 else 0) ≤ 1
+    at_most : (b : Bool) → one_if b ≤ 1
     at_most true = omega arith
     at_most false = omega arith
 

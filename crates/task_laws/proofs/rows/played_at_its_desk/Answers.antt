@@ -4,7 +4,7 @@ use Rattle.ann_outside.specs.Files.{Files, content}
 use Rattle.ann_outside.specs.Played.{Does}
 use Rattle.ann_outside.specs.declared.file_desk.Call.TheVariants.{Size, ReadAt}
 use Rattle.task_run.specs.Rows.{fetched_2_1, got_hi}
-use Rattle.task_run.proofs.Texts.{other_name}
+use Rattle.task_run.proofs.Texts.{apart, other_name}
 use Rattle.task_laws.proofs.FileHolds.{renamed_holds}
 use Rattle.task_laws.proofs.rows.played_at_its_desk.Goals as goal
 
@@ -70,4 +70,4 @@ pub returns-clause-ho : goal.returns-clause-ho
 returns-clause-ho c = λ played.
     let is : Some (codes "ho") ≡ Some (codes "hi") =
     renamed_holds (codes "o.part") (codes "o.part") (codes "o") (codes "hi") got_hi ((fetched_2_1, codes "hi") ∷ []) ((codes "o", codes "ho") ∷ []) (refl, (refl, (refl, (refl, (refl, (refl, tt)))))) played refl refl in
-    cc
+    apart (ap (λ (o : Option (List ℕ)). bytes_eq (unwrap_or o []) (codes "hi")) is)
