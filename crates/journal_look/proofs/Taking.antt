@@ -1,7 +1,8 @@
 -- The table of claimed tasks, after one more entry, and with more room.
-use Rattle.std.proofs.Common.{◌≡◌, ◌≢◌, ◌∙◌, ℕ, zero, suc, ◌+◌, ◌-◌, ◌<◌, ◌≤◌, List, [], ◌∷◌, ◌++◌, refl, sym, ap, subst, Bool, true, false, length, get_or, set, replicate, arith, inl, inr, get_or-set_other, get_or-set_same}
+use Rattle.std.proofs.Common.{◌≡◌, ◌≢◌, ◌∙◌, ℕ, zero, suc, ◌+◌, ◌-◌, ◌<◌, ◌≤◌, List, [], ◌∷◌, ◌++◌, refl, sym, ap, subst, Bool, true, false, cond, length, get_or, set, take, replicate, arith, inl, inr, get_or-set_other, get_or-set_same}
 use Rattle.std.specs.Prelude.{◌==◌, ◌||◌, ◌⊎◌}
 use Rattle.std.proofs.lemmas.Bool.{eqb-true, eqb-false}
+use Rattle.std.proofs.lemmas.List.{take_all}
 use Rattle.std.proofs.lemmas.List.Folds.{list_any-append}
 use Rattle.journal_model.specs.declared.entry.What.{What}
 use Rattle.journal_model.specs.declared.entry.What.TheVariants.{Claim, Start, NoStart, Ask, Put, Sent, Mute, Got, End, Verdict as Settled, Lost, Answer as Answered, Note as Noted}
@@ -87,3 +88,10 @@ more_room past top taken k low none are = record { each = λ t within. go t (eit
     go : (t : ℕ) → (t < length taken) ⊎ (length taken ≤ t) → get_or (taken ++ replicate k false) t false ≡ is_claimed past t
     go t (inl before) = front taken (replicate k false) t before ∙ are.each t before
     go t (inr past_it) = blank taken k t past_it ∙ sym (none.each t (omega arith))
+
+pub resized : (past : List Entry) (top n len : ℕ) (old new : List Bool) (ok : Bool) → new ≡ cond ok (take n old ++ replicate (n - len) false) old → len ≡ length old → len ≤ n → top ≤ len
+    → AreUnclaimed past top → AreTaken past old → AreTaken past new
+resized past top n len old new true is same more low none are =
+    let whole : take n old ≡ old = take_all n old (omega arith) in
+    subst (AreTaken past) (sym (is ∙ ap (λ (l : List Bool). l ++ replicate (n - len) false) whole)) (more_room past top old (n - len) (omega arith) none are)
+resized past top n len old new false is same more low none are = subst (AreTaken past) (sym is) are

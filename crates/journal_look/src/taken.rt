@@ -60,6 +60,11 @@ pub(super) fn is_taken(entries: &[Entry], taken: &[bool], top: u64, task: u32) -
 {
     match look(taken, task) {
         Some(claimed) => claimed,
-        None => top > u64::from(task) && claims::is_claimed(entries, task),
+        None => {
+            if top <= u64::from(task) {
+                return false;
+            }
+            claims::is_claimed(entries, task)
+        }
     }
 }
