@@ -1,28 +1,25 @@
--- Notes in order: those of a key at a remote stand together.
-use Rattle.std.proofs.Common.{◌≡◌, ℕ, zero, suc, ◌+◌, ◌<◌, ◌≤◌, Bool, true, false, not, cond, List, [], ◌∷◌, length, take, drop, get_or, refl, sym, ap, subst, ◌∙◌, arith}
+-- Notes in order: those of a key at a remote stand together, behind its first place.
+use Rattle.std.proofs.Common.{◌≡◌, ℕ, ◌<◌, Bool, true, false, not, cond, List, [], ◌∷◌, refl, sym, ap, subst, ◌∙◌, arith}
 use Rattle.std.specs.Prelude.{◌&&◌, filter, map, bytes_eq}
-use Rattle.std.specs.List.{list_all, prefix_len}
+use Rattle.std.specs.List.{list_all}
 use Rattle.std.specs.Cmp.Derive.{both_true}
 use Rattle.std.specs.Cmp.Lexicographic.{slice_cmp}
-use Rattle.std.specs.Ordering.{is_lt, nat_cmp, ordering_then}
+use Rattle.std.specs.Ordering.{is_le, is_lt, nat_cmp, ordering_reverse, ordering_then}
 use Rattle.std.specs.declared.cmp.Ordering.{Ordering}
 use Rattle.std.specs.declared.cmp.Ordering.TheVariants.{Less, Equal, Greater}
 use Rattle.std.proofs.lemmas.Bool.{and_parts, false≢true, false_from_ne_true, not-true}
-use Rattle.std.proofs.lemmas.List.{take_all}
 use Rattle.std.proofs.lemmas.Cmp.{nat_list_cmp_total, tied_itself, ranked}
 use Rattle.std.proofs.lemmas.Slice.Eq.{bytes_eq-Decides}
-use Rattle.chunk_log.specs.Current.{first_place, is_at, is_current, standing_of, standings_of}
+use Rattle.chunk_log.specs.Current.{first_place, in_rank, is_at, is_current, ranked_all, standing_of, standings_of}
 use Rattle.chunk_log.specs.NoteBooks.{in_order, is_before, place_cmp}
 use Rattle.chunk_log.specs.declared.note.Note.{Note}
+use Rattle.chunk_log.specs.declared.standing.Standing.{Standing}
 use Rattle.chunk_log.proofs.Places.{less, place_total, same_text, tied}
 
 not_below : (n : ℕ) (o : Ordering) → o ≡ nat_cmp n 0 → is_lt o ≡ false
 not_below n Less h = let less : n < 0 = ranked n 0 Less h in absurd (omega arith)
 not_below n Equal h = refl
 not_below n Greater h = refl
-
-one_more : (n : ℕ) → 1 + n ≡ suc n
-one_more n = omega arith
 
 module _ (key uuid : List ℕ) where
   -- how a note's key and UUID compare with these
@@ -90,60 +87,106 @@ module _ (key uuid : List ℕ) where
   abbrev q : Note → Bool
   q x = is_before x (first_place key uuid)
 
-  pub skipped : (xs : List Note) → filter (is_current key uuid) (drop (prefix_len q xs) xs) ≡ filter (is_current key uuid) xs
-  skipped [] = refl
-  skipped (x ∷ xs) = go (q x) refl (skipped xs)
+  -- ---- the notes from the first place on
+
+  abbrev pub from : Note → Bool
+  from x = is_le (place_cmp (first_place key uuid) x) && not false
+
+  from_is : (x : Note) → from x ≡ not (q x)
+  from_is x = ap (λ (o : Ordering). is_le o && not false) (place_total.antisymm (first_place key uuid) x) ∙ go (place_cmp x (first_place key uuid))
     where
-      go : (b : Bool) → q x ≡ b → filter (is_current key uuid) (drop (prefix_len q xs) xs) ≡ filter (is_current key uuid) xs
-          → filter (is_current key uuid) (drop (cond b (1 + prefix_len q xs) 0) (x ∷ xs)) ≡ filter (is_current key uuid) (x ∷ xs)
-      go true e rest = ap (λ (n : ℕ). filter (is_current key uuid) (drop n (x ∷ xs))) (one_more (prefix_len q xs)) ∙ rest ∙ sym (skip x xs (before_none x e))
-      go false e rest = refl
+      go : (o : Ordering) → (is_le (ordering_reverse o) && not false) ≡ not (is_lt o)
+      go Less = refl
+      go Equal = refl
+      go Greater = refl
+
+  -- the notes of the key at the remote are all among them
+  kept : (xs : List Note) → filter (is_current key uuid) (filter from xs) ≡ filter (is_current key uuid) xs
+  kept [] = refl
+  kept (x ∷ xs) = go (q x) refl (kept xs)
+    where
+      turn : (b : Bool) → q x ≡ b → filter (is_current key uuid) (filter from (x ∷ xs)) ≡ filter (is_current key uuid) (cond (not b) (x ∷ filter from xs) (filter from xs))
+      turn b e = ap (λ (t : Bool). filter (is_current key uuid) (cond t (x ∷ filter from xs) (filter from xs))) (from_is x ∙ ap not e)
+
+      go : (b : Bool) → q x ≡ b → filter (is_current key uuid) (filter from xs) ≡ filter (is_current key uuid) xs
+          → filter (is_current key uuid) (filter from (x ∷ xs)) ≡ filter (is_current key uuid) (x ∷ xs)
+      go true e rest = turn true e ∙ rest ∙ sym (skip x xs (before_none x e))
+      go false e rest = turn false e ∙ ap (λ (l : List Note). cond (is_current key uuid x) (x ∷ l) l) rest
 
   -- notes of which none stands before the first place
   pub record AreBehind (xs : List Note) : Type 0 where
     pub order : in_order xs ≡ true
     pub none_before : list_all (λ x. not (q x)) xs ≡ true
 
-  low_behind : (x : Note) (ys : List Note) → q x ≡ false → list_all (is_before x) ys ≡ true → list_all (λ y. not (q y)) ys ≡ true
-  low_behind x [] low all = refl
-  low_behind x (y ∷ ys) low all =
-      let p = and_parts (is_before x y) (list_all (is_before x) ys) all in
-      let off : q y ≡ false =
-      false_from_ne_true (q y) (λ early. false≢true (sym low ∙ ap is_lt (place_total.trans x y (first_place key uuid) (less (place_cmp x y) p.0) (less (place_cmp y (first_place key uuid)) early)))) in
-      both_true (ap not off) (low_behind x ys low p.1)
-
-  pub are_behind : (xs : List Note) → in_order xs ≡ true → AreBehind (drop (prefix_len q xs) xs)
-  are_behind [] order = record { order = refl; none_before = refl }
-  are_behind (x ∷ xs) order =
-      let p = and_parts (list_all (is_before x) xs) (in_order xs) order in
-      go (q x) refl p.0 (are_behind xs p.1)
+  all_filtered : (test : Note → Bool) (xs : List Note) → list_all test xs ≡ true → list_all test (filter from xs) ≡ true
+  all_filtered test [] all = refl
+  all_filtered test (x ∷ xs) all =
+      let p = and_parts (test x) (list_all test xs) all in go (from x) p.0 (all_filtered test xs p.1)
     where
-      go : (b : Bool) → q x ≡ b → list_all (is_before x) xs ≡ true → AreBehind (drop (prefix_len q xs) xs) → AreBehind (drop (cond b (1 + prefix_len q xs) 0) (x ∷ xs))
-      go true e all rest = subst (λ (n : ℕ). AreBehind (drop n (x ∷ xs))) (sym (one_more (prefix_len q xs))) rest
-      go false e all rest = record { order = order; none_before = both_true (ap not e) (low_behind x xs e all) }
+      go : (b : Bool) → test x ≡ true → list_all test (filter from xs) ≡ true → list_all test (cond b (x ∷ filter from xs) (filter from xs)) ≡ true
+      go true first rest = both_true first rest
+      go false first rest = rest
 
-  -- where one of them is of another key or remote, those of this one came before it
-  all_came : (xs : List Note) (i : ℕ) (x : Note) → AreBehind xs → i < length xs → x ≡ get_or xs i x → is_at key uuid x ≡ false
-      → filter (is_current key uuid) (take i xs) ≡ filter (is_current key uuid) xs
-  all_came [] i x r within is off = absurd (omega arith)
-  all_came (y ∷ ys) zero x r within is off =
-      let p = and_parts (list_all (is_before y) ys) (in_order ys) r.order in
-      let low = and_parts (not (q y)) (list_all (λ z. not (q z)) ys) r.none_before in
-      let away : is_at key uuid y ≡ false = ap (is_at key uuid) (sym is) ∙ off in
-      sym (skip y ys (off_current y away) ∙ none_left y ys (not-true (q y) low.0) away p.0)
-  all_came (y ∷ ys) (suc i) x r within is off =
-      let p = and_parts (list_all (is_before y) ys) (in_order ys) r.order in
-      let low = and_parts (not (q y)) (list_all (λ z. not (q z)) ys) r.none_before in
-      ap (λ (l : List Note). cond (is_current key uuid y) (y ∷ l) l) (all_came ys i x (record { order = p.1; none_before = low.1 }) (omega arith) is off)
+  ordered : (xs : List Note) → in_order xs ≡ true → in_order (filter from xs) ≡ true
+  ordered [] order = refl
+  ordered (x ∷ xs) order =
+      let p = and_parts (list_all (is_before x) xs) (in_order xs) order in go (from x) (all_filtered (is_before x) xs p.0) (ordered xs p.1)
+    where
+      go : (b : Bool) → list_all (is_before x) (filter from xs) ≡ true → in_order (filter from xs) ≡ true → in_order (cond b (x ∷ filter from xs) (filter from xs)) ≡ true
+      go true first rest = both_true first rest
+      go false first rest = rest
 
-  -- The standings of all notes, from those of the notes at and behind the first place: as far as one of another key or remote,
-  -- or to the end.
-  module _ (notes rest : List Note) (i : ℕ) (from : rest ≡ drop (prefix_len q notes) notes) where
-    all_left : filter (is_current key uuid) rest ≡ filter (is_current key uuid) notes
-    all_left = ap (filter (is_current key uuid)) from ∙ skipped notes
+  none_early : (xs : List Note) → list_all (λ x. not (q x)) (filter from xs) ≡ true
+  none_early [] = refl
+  none_early (x ∷ xs) = go (from x) (sym (from_is x)) (none_early xs)
+    where
+      go : (b : Bool) → not (q x) ≡ b → list_all (λ x. not (q x)) (filter from xs) ≡ true → list_all (λ x. not (q x)) (cond b (x ∷ filter from xs) (filter from xs)) ≡ true
+      go true e rest = both_true e rest
+      go false e rest = rest
 
-    pub ended : (x : Note) → in_order notes ≡ true → i < length rest → x ≡ get_or rest i x → is_at key uuid x ≡ false → standings_of (take i rest) key uuid ≡ standings_of notes key uuid
-    ended x order within is off = ap (map standing_of) (all_came rest i x (subst AreBehind (sym from) (are_behind notes order)) within is off ∙ all_left)
+  -- ---- their standings, one after the other
 
-    pub whole : length rest ≤ i → standings_of (take i rest) key uuid ≡ standings_of notes key uuid
-    whole past = ap (map standing_of) (ap (filter (is_current key uuid)) (take_all i rest past) ∙ all_left)
+  -- what is ranked, and what is left to be: in all what stands of the notes
+  pub record AreRanking (notes rest : List Note) (ranks : List Standing) : Type 0 where
+    pub behind : AreBehind rest
+    pub whole : ranked_all (standings_of rest key uuid) ranks ≡ in_rank (standings_of notes key uuid)
+
+  pub begun : (notes rest : List Note) → in_order notes ≡ true → rest ≡ filter from notes → AreRanking notes rest []
+  begun notes rest order is =
+      subst (λ (l : List Note). AreRanking notes l []) (sym is) (record {
+        behind = record { order = ordered notes order; none_before = none_early notes };
+        whole = ap (λ (l : List Note). in_rank (map standing_of l)) (kept notes);
+      })
+
+  behind_first : (x : Note) (rest : List Note) → AreBehind (x ∷ rest) → AreBehind rest
+  behind_first x rest r = record {
+    order = (and_parts (list_all (is_before x) rest) (in_order rest) r.order).1;
+    none_before = (and_parts (not (q x)) (list_all (λ z. not (q z)) rest) r.none_before).1;
+  }
+
+  one_by_one : (x : Note) (rest : List Note) (ranks : List Standing) → ranked_all (standings_of rest key uuid) (ranked_all (standings_of (x ∷ []) key uuid) ranks) ≡ ranked_all (standings_of (x ∷ rest) key uuid) ranks
+  one_by_one x rest ranks = go (is_current key uuid x)
+    where
+      go : (b : Bool) → ranked_all (standings_of rest key uuid) (ranked_all (map standing_of (cond b (x ∷ []) [])) ranks)
+          ≡ ranked_all (map standing_of (cond b (x ∷ filter (is_current key uuid) rest) (filter (is_current key uuid) rest))) ranks
+      go true = refl
+      go false = refl
+
+  pub gone_on : (notes rest more : List Note) (x : Note) (ranks next : List Standing) → AreRanking notes rest ranks → rest ≡ x ∷ more
+      → next ≡ ranked_all (standings_of (x ∷ []) key uuid) ranks → AreRanking notes more next
+  gone_on notes rest more x ranks next r is so =
+      let here : AreRanking notes (x ∷ more) ranks = subst (λ (l : List Note). AreRanking notes l ranks) is r in
+      record {
+        behind = behind_first x more here.behind;
+        whole = ap (λ (l : List Standing). ranked_all (standings_of more key uuid) l) so ∙ one_by_one x more ranks ∙ here.whole;
+      }
+
+  -- where the next one is of another key or remote, all came before it
+  pub ended : (notes rest more : List Note) (x : Note) (ranks : List Standing) → AreRanking notes rest ranks → rest ≡ x ∷ more
+      → is_at key uuid x ≡ false → ranks ≡ in_rank (standings_of notes key uuid)
+  ended notes rest more x ranks r is off =
+      let here : AreRanking notes (x ∷ more) ranks = subst (λ (l : List Note). AreRanking notes l ranks) is r in
+      let p = and_parts (list_all (is_before x) more) (in_order more) here.behind.order in
+      let low = and_parts (not (q x)) (list_all (λ z. not (q z)) more) here.behind.none_before in
+      let none : filter (is_current key uuid) (x ∷ more) ≡ [] = skip x more (off_current x off) ∙ none_left x more (not-true (q x) low.0) off p.0 in
+      sym (ap (λ (l : List Note). ranked_all (map standing_of l) ranks) none) ∙ here.whole

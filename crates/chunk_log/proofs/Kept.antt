@@ -1,8 +1,9 @@
--- What a book keeps as a note is added.
-use Rattle.std.proofs.Common.{◌≡◌, ℕ, Bool, true, false, cond, List, [], ◌∷◌, ◌++◌, Result, Ok, Err, All, None, sym, ap, subst, ◌∙◌}
+-- What a book keeps as a note is added, and what it lends.
+use Rattle.std.proofs.Common.{◌≡◌, ℕ, Bool, true, false, cond, List, [], ◌∷◌, ◌++◌, Bor, Result, Ok, Err, All, None, length, map, sym, ap, subst, ◌∙◌, arith}
 use Rattle.std.specs.Prelude.{OnOk, OnErr, IsTrue}
 use Rattle.std.specs.declared.cmp.Ordering.{Ordering}
 use Rattle.std.specs.declared.cmp.Ordering.TheVariants.{Less, Equal, Greater}
+use Rattle.std.proofs.lemmas.List.{get_or-map, length-map}
 use Rattle.std.proofs.lemmas.List.Elements.{All-cons, All-head, All-nil, All-tail}
 use Rattle.ann_key.specs.declared.bytes.NoMemory.{NoMemory}
 use Rattle.chunk_log.specs.NoteBooks.{counting, in_order, inserted, is_no_later, place_cmp, placed, IsNote}
@@ -34,3 +35,9 @@ pub counted : (r : Result (Unit {0}) NoMemory) (note : Note) (before after : Lis
     → OnOk r ((key uuid : List ℕ) (chunk : ℕ) → counting after key uuid chunk ≡ counting (before ++ note ∷ []) key uuid chunk)
 counted (Ok u) note before after ok order = λ key uuid chunk. ap (λ (l : List Note). counting l key uuid chunk) ok ∙ inserted_counts key uuid chunk note before order None
 counted (Err e) note before after ok order = tt
+
+-- notes that are lent are notes
+pub lent : (ls : List (Bor Note)) (notes : List Note) → map (λ (n : Bor Note). n.now) ls ≡ notes → All IsNote notes → All (λ (n : Bor Note). IsNote n.now) ls
+lent ls notes same all = λ k d within.
+    let long : length (map (λ (n : Bor Note). n.now) ls) ≡ length ls = length-map ls (λ (n : Bor Note). n.now) in
+    subst IsNote (get_or-map (λ (n : Bor Note). n.now) ls k d d.now within) (subst (All IsNote) (sym same) all k d.now (omega arith))

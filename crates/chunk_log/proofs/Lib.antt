@@ -2,7 +2,6 @@ pub mod AtRemote
 pub mod Counting
 pub mod Cuts
 pub mod Digits
-pub mod Halving
 pub mod Inserting
 pub mod InOrder
 pub mod Kept

@@ -7,15 +7,15 @@ use Rattle.std.specs.Ordering.{is_eq, is_lt, nat_cmp, ordering_then}
 use Rattle.std.specs.declared.cmp.Ordering.{Ordering}
 use Rattle.std.specs.declared.cmp.Ordering.TheVariants.{Less, Equal, Greater}
 use Rattle.std.proofs.lemmas.Bool.{and_parts, eqb-true}
-use Rattle.std.proofs.lemmas.Cmp.{nat_cmp_total, nat_list_cmp_total, on_total, then_total, tied_itself, ranked}
+use Rattle.std.proofs.lemmas.Cmp.{tied_itself, ranked}
 use Rattle.std.proofs.lemmas.Map.Text.{is_eq-slice_cmp}
 use Rattle.std.proofs.lemmas.Slice.Eq.{bytes_eq-Decides}
 use Rattle.chunk_log.specs.NoteBooks.{is_of, place_cmp}
+use Rattle.chunk_log.specs.Places.{places_ordered}
 use Rattle.chunk_log.specs.declared.note.Note.{Note}
 
 pub place_total : IsTotalOrder place_cmp
-place_total =
-    then_total (then_total (on_total (λ n. n.key) nat_list_cmp_total) (on_total (λ n. n.line.uuid) nat_list_cmp_total)) (on_total (λ n. n.line.chunk) nat_cmp_total)
+place_total = places_ordered
 
 pub less : (o : Ordering) → is_lt o ≡ true → o ≡ Less
 less Less h = refl

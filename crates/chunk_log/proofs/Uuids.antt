@@ -1,7 +1,7 @@
 -- Texts of UUIDs.
-use Rattle.std.proofs.Common.{◌≡◌, ℕ, List, ◌∷◌, length, replicate, Some, refl, sym, ap, subst, true, false}
+use Rattle.std.proofs.Common.{◌≡◌, ℕ, List, ◌∷◌, length, replicate, refl, sym, ap, subst, true, false}
 use Rattle.std.specs.Prelude.{◌==◌, codes, slice_index}
-use Rattle.uuid.specs.Text.{by_index, hyphenated_text, lower, parsed}
+use Rattle.uuid.specs.Text.{by_index, hyphenated_text, lower}
 use Rattle.chunk_log.specs.ChunkLines.{IsWrittenUuid}
 
 pub nil_written : IsWrittenUuid (codes "00000000-0000-0000-0000-000000000000")

@@ -35,9 +35,12 @@ stands_before a b =
 abbrev pub ranked : Standing → List Standing → List Standing
 ranked s others = insert others (position_or_len (stands_before s) others) s
 
--- all of them, each put in its place among those before it
+-- more of them, each put in its place among those before it
+abbrev pub ranked_all : List Standing → List Standing → List Standing
+ranked_all standing others = fold (λ others s. ranked s others) others standing
+
 abbrev pub in_rank : List Standing → List Standing
-in_rank standing = fold (λ others s. ranked s others) [] standing
+in_rank standing = ranked_all standing []
 
 abbrev pub layout_of : Standing → ℕ × ℕ
 layout_of s = (s.chunk, s.count)

@@ -1,5 +1,5 @@
 -- Which lines of a chunk log count.
-use Rattle.std.specs.Prelude.{ℕ, ◌≡◌, ◌==◌, ◌&&◌, ◌||◌, nat_le, nat_lt, bytes_eq, Bool, true, false, if◌then◌else◌, List, [], ◌∷◌, fold, filter, Option, Some, None}
+use Rattle.std.specs.Prelude.{ℕ, ◌≡◌, ◌==◌, ◌&&◌, ◌||◌, not, nat_le, nat_lt, bytes_eq, Bool, true, false, if◌then◌else◌, List, [], ◌∷◌, filter, find, fold, Option, Some, None}
 use Rattle.std.specs.List.{list_all, list_any}
 use Rattle.std.specs.Ordering.{is_eq, is_lt, nat_cmp, on, then_cmp}
 use Rattle.std.specs.declared.cmp.Ordering.{Ordering}
@@ -53,12 +53,10 @@ abbrev pub inserted : Note → List Note → List Note
 inserted note [] = note ∷ []
 inserted note (first ∷ rest) = placed note first rest (inserted note rest) (place_cmp first note)
 
--- whether the first note has the place of another
-abbrev pub is_taken : Note → List Note → Bool
-is_taken note [] = false
-is_taken note (first ∷ rest) = is_eq (place_cmp first note)
+-- whether the note that was found at the place of another is newer
+abbrev pub is_newer : Note → Option Note → Bool
+is_newer note None = false
+is_newer note (Some there) = not (is_no_later there.line.stamp note.line.stamp)
 
--- the notes with another one in the place of the first, if that one doesn't count any more
-abbrev pub replaced : Note → List Note → List Note
-replaced note [] = []
-replaced note (first ∷ rest) = (if is_no_later first.line.stamp note.line.stamp then note else first) ∷ rest
+abbrev pub is_outdated : Note → List Note → Bool
+is_outdated note notes = is_newer note (find (λ there. is_eq (place_cmp note there)) notes)

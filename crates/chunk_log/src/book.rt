@@ -1,23 +1,25 @@
 // Which lines of a chunk log count.
-ghost use Rattle.std.specs.Prelude.{◌≡◌, ◌≤◌, ◌<◌, ℕ, List, [], ◌∷◌, ◌++◌, length, slice_get, true, false, not, OnOk, OnErr, IfOk, IsTrue, MatchOption, Some, None, option_map, All};
+ghost use Rattle.std.specs.Prelude.{◌≡◌, ◌≤◌, ◌<◌, ℕ, List, [], ◌∷◌, ◌++◌, length, map, slice_get, true, false, not, OnOk, OnErr, IfOk, IsTrue, MatchOption, Some, None, option_map, All};
 ghost use Rattle.std.specs.List.{list_any, prefix_len};
 ghost use Rattle.chunk_log.specs.ChunkLines.{is_space, IsWritable};
 ghost use Rattle.ann_key.specs.KeyRefs.{text_of};
 
 use crate::current::current;
 use crate::insert::{copies, insert};
+use crate::key_text::KeyText;
 use crate::layouts::Layouts;
 use crate::line::ChunkLine;
 use crate::note::Note;
-use ann_key::{Key, KeyRef, NoMemory};
+use ann_key::{KeyRef, NoMemory};
 use std::alloc::Global;
+use std::collections::BTreeSet;
 use std::marker::Model;
 
 /// The lines that count: of each key, UUID and chunk size the newest one, at a tie the one that was added last.
 #[derive(Drop)]
 pub struct NoteBook {
     alloc: Global,
-    notes: Vec<Note>,
+    notes: BTreeSet<Note>,
 }
 
 impl Model for NoteBook {
@@ -28,9 +30,9 @@ impl Model for NoteBook {
 
     ghost use Rattle.chunk_log.specs.NoteBooks.{in_order, IsNote};
 
-    ghost view = { λ b. b.notes.items };
+    ghost view = { λ b. b.notes.keys };
 
-    ghost invariant = { λ b. IsTrue (in_order b.notes.items) × All IsNote b.notes.items };
+    ghost invariant = { λ b. IsTrue (in_order b.notes.keys) × All IsNote b.notes.keys };
 }
 
 impl NoteBook {
@@ -44,7 +46,7 @@ impl NoteBook {
     {
         NoteBook {
             alloc,
-            notes: Vec::new(alloc),
+            notes: BTreeSet::new(alloc),
         }
     }
 
@@ -56,7 +58,7 @@ impl NoteBook {
         ensures counts { OnOk result ((key' uuid : List ℕ) (chunk : ℕ) → counting self.new key' uuid chunk ≡ counting (self.old ++ record { key = text_of key.entry; line = line } ∷ []) key' uuid chunk) }
         ensures err { OnErr result (self.new ≡ self.old) }
     {
-        let key = Key::copy(self.alloc, key)?;
+        let key = KeyText::copy(self.alloc, key)?;
         insert(&mut self.notes, Note { key, line })
     }
 
@@ -82,19 +84,26 @@ impl NoteBook {
         ensures order { IsTrue (in_order self.now) }
         ensures notes { All IsNote self.now }
     {
-        let notes = self.notes.as_slice();
-        if n < notes.len() {
-            let note = &notes[n];
-            Some((note.key.view(), &note.line))
-        } else {
-            None
+        let note = self.notes.iter().nth(n)?;
+        Some((note.key(), note.line()))
+    }
+
+    /// All lines with their keys, lent, in that order: one pass, where `line` counts from the first each time.
+    pub fn lines(&self) -> Result<Vec<&Note>, NoMemory>
+        ensures lines { IfOk result (λ lines. map (λ note. note.now) lines.items ≡ self.now) }
+        ensures notes { All IsNote self.now }
+    {
+        let mut lines = Vec::new(self.alloc);
+        for note in self.notes.iter() {
+            lines.push(note)?;
         }
+        Ok(lines)
     }
 
     /// The layouts in which the remote has chunks of the key: the newest first, then the largest chunks.
     pub fn current(&self, key: KeyRef<'_>, uuid: &str) -> Result<Layouts, NoMemory>
         ensures { IfOk result (λ layouts. layouts ≡ layouts_of self.now (text_of key.entry) uuid.now) }
     {
-        current(self.alloc, &self.notes, key.text(), uuid.as_bytes())
+        current(self.alloc, &self.notes, key, uuid)
     }
 }

@@ -1,43 +1,27 @@
 // The layouts in which a remote has chunks of a key.
-ghost use Rattle.std.specs.Prelude.{◌≡◌, ◌≤◌, ◌<◌, drop, length, IfOk, IsTrue, OnOk, map};
-ghost use Rattle.std.specs.List.{position_or_len, prefix_len};
-ghost use Rattle.chunk_log.specs.Current.{first_place, is_at, is_current, in_rank, layout_of, layouts_of, ranked, standing_of, standings_of, stands_before};
-ghost use Rattle.chunk_log.specs.NoteBooks.{in_order, is_before};
+ghost use Rattle.std.specs.Prelude.{◌≡◌, ◌≤◌, ◌∷◌, [], length, IfOk, IsTrue, OnOk, map};
+ghost use Rattle.std.specs.List.{position_or_len};
+ghost use Rattle.ann_key.specs.KeyRefs.{text_of};
+ghost use Rattle.chunk_log.specs.Current.{first_place, is_at, is_current, in_rank, layout_of, layouts_of, ranked, ranked_all, standing_of, standings_of, stands_before};
+ghost use Rattle.chunk_log.specs.NoteBooks.{in_order};
 
 use crate::layouts::Layouts;
 use crate::note::Note;
 use crate::standing::Standing;
-use ann_key::NoMemory;
+use ann_key::{KeyRef, NoMemory};
 use std::alloc::Global;
+use std::collections::BTreeSet;
 
 fn is_at(note: &Note, key: &[u8], uuid: &[u8]) -> bool
     ensures { result ≡ is_at key.now uuid.now note.now }
 {
-    note.key.view().text() == key && note.line.uuid.view().as_bytes() == uuid
+    note.key.bytes() == key && note.line.uuid.view().as_bytes() == uuid
 }
 
 fn is_current(note: &Note, key: &[u8], uuid: &[u8]) -> bool
     ensures { result ≡ is_current key.now uuid.now note.now }
 {
     is_at(note, key, uuid) && note.line.count != 0
-}
-
-// Whether the note stands before all that are of the key at the remote.
-fn is_earlier(note: &Note, key: &[u8], uuid: &[u8]) -> bool
-    ensures { result ≡ is_before note.now (first_place key.now uuid.now) }
-{
-    let text = note.key.view().text().cmp(key);
-    text.then(note.line.uuid.view().as_bytes().cmp(uuid))
-        .is_lt()
-}
-
-// The notes from the first of the key at the remote on. They stand in order, so it is found by halving.
-fn from_first<'a>(notes: &'a [Note], key: &[u8], uuid: &[u8]) -> &'a [Note]
-    requires { IsTrue (in_order notes.now) }
-    ensures { result.now ≡ drop (prefix_len (λ note. is_before note (first_place key.now uuid.now)) notes.entry.now) notes.entry.now }
-{
-    let at = notes.partition_point(|note| is_earlier(note, key, uuid));
-    &notes[at..]
 }
 
 fn standing_of(note: &Note) -> Standing
@@ -68,30 +52,55 @@ fn rank(others: &mut Vec<Standing>, one: Standing) -> Result<(), NoMemory>
     Ok(())
 }
 
-/// What stands of the key at the remote, in order.
-fn ranks(alloc: Global, notes: &[Note], key: &[u8], uuid: &[u8]) -> Result<Vec<Standing>, NoMemory>
-    requires { IsTrue (in_order notes.now) }
-    ensures { IfOk result (λ ranks. ranks.items ≡ in_rank (standings_of notes.now key.now uuid.now)) }
+fn rank_current(
+    others: &mut Vec<Standing>,
+    note: &Note,
+    key: &[u8],
+    uuid: &[u8],
+) -> Result<(), NoMemory>
+    ensures { OnOk result (others.new.items ≡ ranked_all (standings_of (note.now ∷ []) key.now uuid.now) others.old.items) }
 {
-    let rest = from_first(notes, key, uuid);
+    if is_current(note, key, uuid) {
+        rank(others, standing_of(note))
+    } else {
+        Ok(())
+    }
+}
+
+/// What stands of the key at the remote, in order. Its notes stand together, and the first place is before them.
+fn ranks(
+    alloc: Global,
+    notes: &BTreeSet<Note>,
+    first: Note,
+    key: &[u8],
+    uuid: &[u8],
+) -> Result<Vec<Standing>, NoMemory>
+    requires order { IsTrue (in_order notes.now.keys) }
+    requires first { first ≡ first_place key.now uuid.now }
+    ensures { IfOk result (λ ranks. ranks.items ≡ in_rank (standings_of notes.now.keys key.now uuid.now)) }
+{
     let mut ranks = Vec::new(alloc);
-    for note in rest {
+    for note in notes.range(first..) {
         if !is_at(note, key, uuid) {
             return Ok(ranks);
         }
-        if is_current(note, key, uuid) {
-            rank(&mut ranks, standing_of(note))?;
-        }
+        rank_current(&mut ranks, note, key, uuid)?;
     }
     Ok(ranks)
 }
 
 #[tactic(auto, unfolding(crate::specs::Current::layouts_of))]
-pub fn current(alloc: Global, notes: &[Note], key: &[u8], uuid: &[u8]) -> Result<Layouts, NoMemory>
-    requires { IsTrue (in_order notes.now) }
-    ensures { IfOk result (λ layouts. layouts ≡ layouts_of notes.now key.now uuid.now) }
+pub fn current(
+    alloc: Global,
+    notes: &BTreeSet<Note>,
+    key: KeyRef<'_>,
+    uuid: &str,
+) -> Result<Layouts, NoMemory>
+    requires { IsTrue (in_order notes.now.keys) }
+    ensures { IfOk result (λ layouts. layouts ≡ layouts_of notes.now.keys (text_of key.entry) uuid.now) }
 {
-    let ranks = ranks(alloc, notes, key, uuid)?;
+    let first = Note::first(alloc, key, uuid)?;
+    let ranks = ranks(alloc, notes, first, key.text(), uuid.as_bytes())?;
     pairs(alloc, ranks.as_slice())
 }
 

@@ -26,7 +26,7 @@ pub enum JournalWritten {
 }
 
 /// Makes the file anew, and adds the text of the run to it in pieces of whole lines, of up to 64 KiB. It takes memory for a piece,
-/// and for the list of the registers' lines. At `Done` the text is on the disk.
+/// and for the lists of the registers' lines and of the notes. At `Done` the text is on the disk.
 pub fn write_journal<D: Desk>(
     alloc: Global,
     desk: &mut D,
@@ -80,9 +80,12 @@ fn make_text<D: Desk>(
     let Ok(registers) = opening.registers.lines() else {
         return Err(DeskError::NoMemory);
     };
+    let Ok(notes) = opening.notes.lines() else {
+        return Err(DeskError::NoMemory);
+    };
     let kept = Kept {
         registers: registers.as_slice(),
-        notes: opening.notes.len() as u64,
+        notes: notes.as_slice(),
     };
     let Ok(lines) = line_count(opening, kept, journal) else {
         return Err(DeskError::NoMemory);
@@ -96,12 +99,13 @@ fn make_text<D: Desk>(
 // How many lines the text has.
 fn line_count(opening: &Opening, kept: Kept<'_>, journal: &Journal) -> Result<u64, NoMemory>
     requires registers { map line_of kept.registers.now ≡ lines_of opening.now.registers }
-    requires notes { kept.notes ≡ length opening.now.notes }
+    requires notes { map (λ note. note.now) kept.notes.now ≡ opening.now.notes }
     ensures { IfOk result (λ count. count ≡ length (journal_lines opening.now journal.now.entries)) }
 {
     let tasks = opening.tasks.view().len() as u64;
     let registers = kept.registers.len() as u64;
-    let listed = registers.checked_add(kept.notes).ok_or(NoMemory)?;
+    let notes = kept.notes.len() as u64;
+    let listed = registers.checked_add(notes).ok_or(NoMemory)?;
     let given = tasks.checked_add(listed).ok_or(NoMemory)?;
     let entries = journal.len().checked_add(7).ok_or(NoMemory)?;
     given.checked_add(entries).ok_or(NoMemory)
@@ -119,7 +123,7 @@ fn append_lines<D: Desk>(
     lines: u64,
 ) -> Result<(), DeskError>
     requires registers { map line_of kept.registers.now ≡ lines_of opening.now.registers }
-    requires notes { kept.notes ≡ length opening.now.notes }
+    requires notes { map (λ note. note.now) kept.notes.now ≡ opening.now.notes }
     requires lines { lines ≡ length (journal_lines opening.now journal.now.entries) }
     ensures calls { AppendsLines (D.log desk.old) (D.log desk.new) name.now (journal_lines opening.now journal.now.entries) result }
     ensures files { WhereTold (D.files desk.old) (D.files desk.new) (GrowsBy name.now (journal_text opening.now journal.now.entries) result) }
@@ -177,7 +181,7 @@ fn ended_line(
     n: u64,
 ) -> Result<Vec<u8>, NoMemory>
     requires registers { map line_of kept.registers.now ≡ lines_of opening.now.registers }
-    requires notes { kept.notes ≡ length opening.now.notes }
+    requires notes { map (λ note. note.now) kept.notes.now ≡ opening.now.notes }
     requires within { n < length (journal_lines opening.now journal.now.entries) }
     ensures { IfOk result (λ line. Some line.items ≡ option_map with_end (slice_get (journal_lines opening.now journal.now.entries) n)) }
 {

@@ -1,11 +1,13 @@
 // Printing the text of a run, line by line.
 ghost use Rattle.std.specs.Prelude.{◌≡◌, ◌++◌, ◌∷◌, [], ◌<◌, IfOk, Some, length, map, slice_get};
 ghost use Rattle.reg_file.specs.RegLines.{line_of, lines_of};
+ghost use Rattle.chunk_log.specs.NoteBooks.{IsNote};
 ghost use Rattle.keep_text.specs.KeptFiles.{written_note};
 ghost use Rattle.entry_lines.specs.Entries.{entry_line};
 ghost use Rattle.journal_lines.specs.JournalTexts.{worded, first_lines, last_lines, task_line, keep_line, kept_lines, journal_lines, told, end_line};
 
 use ann_key::{Bytes, NoMemory};
+use chunk_log::Note;
 use entry_lines::print_lent;
 use journal_look::Journal;
 use journal_model::Opening;
@@ -19,8 +21,8 @@ use task_text::write_task;
 pub struct Kept<'a> {
     /// The lines of the registers.
     pub registers: &'a [RegLine<'a>],
-    /// How many notes there are.
-    pub notes: u64,
+    /// The notes.
+    pub notes: &'a [&'a Note],
 }
 
 /// A line of the text, counted from 0, without byte 10; None exactly past the last.
@@ -33,9 +35,10 @@ pub fn print_line(
     ensures { IfOk result (λ line. line ≡ slice_get (journal_lines opening.now journal.now.entries) n) }
 {
     let registers = opening.registers.lines()?;
+    let notes = opening.notes.lines()?;
     let kept = Kept {
         registers: registers.as_slice(),
-        notes: opening.notes.len() as u64,
+        notes: notes.as_slice(),
     };
     print_kept(alloc, opening, kept, journal, n)
 }
@@ -49,7 +52,7 @@ pub fn print_kept(
     n: u64,
 ) -> Result<Option<Bytes>, NoMemory>
     requires registers { map line_of kept.registers.now ≡ lines_of opening.now.registers }
-    requires notes { kept.notes ≡ length opening.now.notes }
+    requires notes { map (λ note. note.now) kept.notes.now ≡ opening.now.notes }
     ensures { IfOk result (λ line. line ≡ slice_get (journal_lines opening.now journal.now.entries) n) }
 {
     if n < 5 {
@@ -97,7 +100,7 @@ fn behind_stamp(
     n: u64,
 ) -> Result<Option<Bytes>, NoMemory>
     requires registers { map line_of kept.registers.now ≡ lines_of opening.now.registers }
-    requires notes { kept.notes ≡ length opening.now.notes }
+    requires notes { map (λ note. note.now) kept.notes.now ≡ opening.now.notes }
     ensures { IfOk result (λ line. line ≡ slice_get (map task_line opening.now.tasks ++ (map keep_line (kept_lines opening.now.registers opening.now.notes) ++ last_lines journal.now.entries)) n) }
 {
     let tasks = opening.tasks.view();
@@ -119,7 +122,7 @@ fn behind_tasks(
     n: u64,
 ) -> Result<Option<Bytes>, NoMemory>
     requires registers { map line_of kept.registers.now ≡ lines_of opening.now.registers }
-    requires notes { kept.notes ≡ length opening.now.notes }
+    requires notes { map (λ note. note.now) kept.notes.now ≡ opening.now.notes }
     ensures { IfOk result (λ line. line ≡ slice_get (map keep_line (kept_lines opening.now.registers opening.now.notes) ++ last_lines journal.now.entries) n) }
 {
     let count = kept.registers.len() as u64;
@@ -135,21 +138,29 @@ fn behind_tasks(
 fn behind_registers(
     alloc: Global,
     opening: &Opening,
-    notes: u64,
+    notes: &[&Note],
     journal: &Journal,
     n: u64,
 ) -> Result<Option<Bytes>, NoMemory>
-    requires { notes ≡ length opening.now.notes }
+    requires { map (λ note. note.now) notes.now ≡ opening.now.notes }
     ensures { IfOk result (λ line. line ≡ slice_get (map keep_line (map written_note opening.now.notes) ++ last_lines journal.now.entries) n) }
 {
-    match opening.notes.line(n as usize) {
-        Some((key, chunks)) => {
-            let written = note_line(alloc, key, chunks)?;
-            let line = worded(alloc, b"keep", written.view())?;
-            Ok(Some(line))
-        }
-        None => last_line(alloc, journal, n - notes),
+    let _known = opening.notes.line(0);
+    let count = notes.len() as u64;
+    if n < count {
+        let line = noted_line(alloc, notes[n as usize])?;
+        Ok(Some(line))
+    } else {
+        last_line(alloc, journal, n - count)
     }
+}
+
+fn noted_line(alloc: Global, note: &Note) -> Result<Bytes, NoMemory>
+    requires { IsNote note.now }
+    ensures { IfOk result (λ line. line ≡ keep_line (written_note note.now)) }
+{
+    let written = note_line(alloc, note.key(), note.line())?;
+    worded(alloc, b"keep", written.view())
 }
 
 // `begin`, a line for each entry, and their number.

@@ -1,14 +1,15 @@
 // Writing a kept file.
-ghost use Rattle.std.specs.Prelude.{◌≡◌, ◌++◌, ◌∷◌, [], IfOk, OnOk, map, filter};
+ghost use Rattle.std.specs.Prelude.{◌≡◌, ◌++◌, ◌∷◌, [], All, IfOk, OnOk, map, filter};
 ghost use Rattle.ann_key.specs.KeyRefs.{text_of};
 ghost use Rattle.annex_model.specs.Lines.{text as text_of_lines};
 ghost use Rattle.reg_file.specs.RegLines.{line_of as register_line, lines_of};
 ghost use Rattle.chunk_log.specs.ChunkLines.{IsWritable, line_text};
+ghost use Rattle.chunk_log.specs.NoteBooks.{IsNote};
 ghost use Rattle.keep_text.specs.KeptLines.{Chunks, line_of as kept_line};
 ghost use Rattle.keep_text.specs.KeptFiles.{kept_text, is_config, is_of_kind, lines_of_kind, written_line, written_note};
 
 use ann_key::{Bytes, KeyRef, NoMemory};
-use chunk_log::{ChunkLine, NoteBook, write_line};
+use chunk_log::{ChunkLine, Note, NoteBook, write_line};
 use reg_file::{RegLine, Registers};
 use std::alloc::Global;
 
@@ -105,9 +106,17 @@ fn push_notes(alloc: Global, text: &mut Vec<u8>, notes: &NoteBook) -> Result<(),
 fn note_lines(alloc: Global, notes: &NoteBook) -> Result<Vec<Bytes>, NoMemory>
     ensures { IfOk result (λ lines. lines.items ≡ map written_note notes.now) }
 {
+    let noted = notes.lines()?;
+    noted_lines(alloc, noted.as_slice())
+}
+
+fn noted_lines(alloc: Global, notes: &[&Note]) -> Result<Vec<Bytes>, NoMemory>
+    requires { All (λ note. IsNote note.now) notes.now }
+    ensures { IfOk result (λ lines. lines.items ≡ map (λ note. written_note note.now) notes.now) }
+{
     let mut lines = Vec::new(alloc);
-    while let Some((key, line)) = notes.line(lines.len()) {
-        lines.push(note_line(alloc, key, line)?)?;
+    for note in notes {
+        lines.push(note_line(alloc, note.key(), note.line())?)?;
     }
     Ok(lines)
 }
