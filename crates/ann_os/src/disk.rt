@@ -285,4 +285,6 @@ impl<R: Files<File = File>> Desk for OsDesk<R> {
         };
         self.counted(done)
     }
+
+    ghost played = { λ d. ∣ tt ∣₁ };
 }

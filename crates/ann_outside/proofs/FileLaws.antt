@@ -7,7 +7,7 @@ use Rattle.ann_outside.specs.Files.{Files, content}
 same_name : (name : List ℕ) → bytes_eq name name ≡ true
 same_name name = (bytes_eq-Decides name name).1 refl
 
-other_name : (a b : List ℕ) → (a ≡ b → ⊥) → bytes_eq a b ≡ false
+pub other_name : (a b : List ℕ) → (a ≡ b → ⊥) → bytes_eq a b ≡ false
 other_name a b h = by_test (bytes_eq a b) refl
   where
     by_test : (t : Bool) → bytes_eq a b ≡ t → bytes_eq a b ≡ false

@@ -14,11 +14,11 @@ desks_left s = drop (length s.numbers.items) s.desks.items
 -- the files of the first of the desks, and which of its calls fail; none has no files
 abbrev pub files_next : List MemDesk → Files
 files_next [] = []
-files_next (desk ∷ later) = desk.files.items
+files_next (desk ∷ later) = desk.state.files.items
 
 abbrev pub fails_next_desk : List MemDesk → List ℕ
 fails_next_desk [] = []
-fails_next_desk (desk ∷ later) = desk.fails.at.items
+fails_next_desk (desk ∷ later) = desk.state.fails.at.items
 
 -- the desks that were made for these numbers, in order
 abbrev pub made_from : List MemDesk → List ℕ → List Made
@@ -27,7 +27,7 @@ made_from desks (number ∷ later) = record { number = number; files = Some (fil
 
 -- a desk without calls, which holds these files, and of which these calls are to fail
 pub record IsBegun (desk : MemDesk) (held : Files) (failing : List ℕ) : Type 0 where
-  pub files : desk.files.items ≡ held
+  pub files : desk.state.files.items ≡ held
   pub fails : Begins (desk_fails desk) failing
-  pub log : desk.log.items ≡ []
-  pub missing : desk.missing ≡ 0
+  pub log : (desk.state.log.items ≡ []) × (desk.origin.value.items ≡ held)
+  pub missing : desk.state.missing ≡ 0

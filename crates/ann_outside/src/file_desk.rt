@@ -5,12 +5,12 @@
 // are meanings that it may or may not tell; a desk in memory tells them, a real one doesn't.
 ghost use Rattle.std.specs.Prelude.{◌≡◌, ℕ, ◌+◌, ◌<◌, ◌^◌, length, List, Option, IfOk, IfSome, MatchResult};
 ghost use Rattle.std.specs.Io.{ReadsAtMost};
-ghost use Rattle.ann_outside.specs.Calls.{logged, bytes_read, IsLogBlank};
+ghost use Rattle.ann_outside.specs.Calls.{Log, logged, bytes_read, IsLogBlank, IsLogFrom};
 ghost use Rattle.ann_outside.specs.Causes.{AddsOne, Stays};
 ghost use Rattle.ann_outside.specs.DeskCauses.{HasCauses, LeavesOther, Counts};
 ghost use Rattle.ann_outside.specs.Desks.{Made, no_counts};
 ghost use Rattle.ann_outside.specs.Files.{Files, WhereTold, CanCut, SizeIs, ReadIs, CreateDoes, CreateNewDoes, AppendDoes, CutDoes, RenameDoes, RemoveDoes, SyncIs};
-ghost use Rattle.ann_outside.specs.declared.file_desk.Call.{Call};
+ghost use Rattle.ann_outside.specs.Played.{ArePlayed};
 ghost use Rattle.ann_outside.specs.declared.file_desk.Call.TheVariants.{Size, ReadAt, Create, Append, Cut, Rename, Remove};
 
 use ann_key::{Bytes, NoMemory, Text};
@@ -72,8 +72,9 @@ pub trait Desk {
     // its files, where it tells them
     ghost files: { Self → Option Files };
 
-    // its calls so far, where it tells them; a call that found no memory isn't among them
-    ghost log: { Self → Option (List Call) };
+    // its calls so far, where it tells them, after the files that it had before the first; a call that found no memory isn't
+    // among them
+    ghost log: { Self → Option Log };
 
     /// The length of the file.
     fn size(&mut self, name: &str) -> Result<u64, DeskError>
@@ -148,6 +149,9 @@ pub trait Desk {
         ensures files { files self.new ≡ files self.old }
         ensures told { IfSome (files self.old) (λ fs. SyncIs name.now fs result) }
         ensures log { log self.new ≡ log self.old };
+
+    // where it tells both, its files are what its calls made, in their order, of those that it had before
+    ghost played: { (d : Self) → ∥ ArePlayed (log d) (files d) ∥₁ };
 }
 
 /// What makes desks, one for each worker.
@@ -157,10 +161,10 @@ pub trait Desks {
     // the desks that it made so far; a call that found no memory isn't among them
     ghost made: { Self → Option (List Made) };
 
-    /// The desk of that worker. It has counted nothing and no call was made on it.
+    /// The desk of that worker. It has counted nothing and no call was made on it, and its log begins with the files that it has.
     fn desk(&mut self, number: u32) -> Result<Self::Desk, NoMemory>
         ensures made { MatchResult result
             (λ d. AddsOne (made self.old) (made self.new) (record { number = number; files = Self.Desk.files d }))
             (λ _. Stays (made self.old) (made self.new)) }
-        ensures fresh { IfOk result (λ d. (Self.Desk.counts d ≡ no_counts) × IsLogBlank (Self.Desk.log d)) };
+        ensures fresh { IfOk result (λ d. (Self.Desk.counts d ≡ no_counts) × IsLogBlank (Self.Desk.log d) × IsLogFrom (Self.Desk.log d) (Self.Desk.files d)) };
 }

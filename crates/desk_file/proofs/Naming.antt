@@ -2,7 +2,7 @@
 use Rattle.std.proofs.Common.{◌≡◌, ◌⊎◌, ℕ, ◌+◌, List, [], ◌∷◌, ◌++◌, length, refl, sym, ap, subst, ◌∙◌, inl, inr, Some, None, Option, Ok, Err}
 use Rattle.std.specs.Prelude.{Result, IfSome, map, option_map}
 use Rattle.ann_key.specs.declared.bytes.NoMemory.{NoMemory}
-use Rattle.ann_outside.specs.Calls.{Gained, IsLogBlank}
+use Rattle.ann_outside.specs.Calls.{Log, Gained, IsLogBlank}
 use Rattle.ann_outside.specs.declared.file_desk.Call.{Call}
 use Rattle.ann_outside.specs.declared.file_desk.Call.TheVariants.{Size, ReadAt, Create, Append, Cut, Rename, Remove}
 use Rattle.ann_outside.specs.declared.file_desk.DeskError.{DeskError}
@@ -43,23 +43,24 @@ calls_back P (x ∷ xs) ys h = calls_back P xs ys h.1
 
 -- ---- logs
 
-pub names_wider : {P Q : List ℕ → Type 0} {old new : Option (List Call)} → ((name : List ℕ) → P name → Q name) → NamesOnly P old new → NamesOnly Q old new
+pub names_wider : {P Q : List ℕ → Type 0} {old new : Option Log} → ((name : List ℕ) → P name → Q name) → NamesOnly P old new → NamesOnly Q old new
 names_wider {P} {Q} f h = record { calls = h.calls; gained = h.gained; named = calls_wider P Q f h.calls h.named }
 
 -- no call was made
-pub names_none : {P : List ℕ → Type 0} {old new : Option (List Call)} → new ≡ old → NamesOnly P old new
+pub names_none : {P : List ℕ → Type 0} {old new : Option Log} → new ≡ old → NamesOnly P old new
 names_none {P} {old} {new} e = record { calls = []; gained = e ∙ gained_nothing old; named = tt }
 
-pub names_both : {P : List ℕ → Type 0} {old mid new : Option (List Call)} → NamesOnly P old mid → NamesOnly P mid new → NamesOnly P old new
+pub names_both : {P : List ℕ → Type 0} {old mid new : Option Log} → NamesOnly P old mid → NamesOnly P mid new → NamesOnly P old new
 names_both {P} {old} {mid} {new} h k = record { calls = h.calls ++ k.calls; gained = gained_more old mid new h.calls k.calls h.gained k.gained; named = calls_both P h.calls k.calls h.named k.named }
 
 -- behind a log that was blank, all of its calls name such files
-pub names_all : {P : List ℕ → Type 0} {old new : Option (List Call)} → IsLogBlank old → NamesOnly P old new → IfSome new (CallsName P)
+pub names_all : {P : List ℕ → Type 0} {old new : Option Log} → IsLogBlank old → NamesOnly P old new → IfSome new (λ log. CallsName P log.calls)
 names_all {P} {old} {new} blank h = go old blank h.gained
   where
-    go : (log : Option (List Call)) → IsLogBlank log → Gained log new h.calls → IfSome new (CallsName P)
-    go None b g = subst (λ (x : Option (List Call)). IfSome x (CallsName P)) (sym g) tt
-    go (Some xs) b g = subst (λ (x : Option (List Call)). IfSome x (CallsName P)) (sym (g ∙ ap (option_map (λ log. log ++ h.calls)) b)) h.named
+    go : (log : Option Log) → IsLogBlank log → Gained log new h.calls → IfSome new (λ log. CallsName P log.calls)
+    go None b g = subst (λ (x : Option Log). IfSome x (λ log. CallsName P log.calls)) (sym g) tt
+    go (Some told) b g =
+        subst (λ (x : Option Log). IfSome x (λ log. CallsName P log.calls)) (sym (g ∙ ap (option_map {U = Log} (λ (log : Log). record { origin = log.origin; calls = log.calls ++ h.calls })) b)) h.named
 
 -- ---- reading a file
 
@@ -75,7 +76,7 @@ ending_named name bytes limit (Ok Fault) calls h = subst (CallsName (λ other. o
 ending_named name bytes limit (Err e) calls (inl h) = subst (CallsName (λ other. other ≡ name)) (sym h) tt
 ending_named name bytes limit (Err e) calls (inr h) = subst (CallsName (λ other. other ≡ name)) (sym h.1) (refl, tt)
 
-pub reads_named : {old new : Option (List Call)} {name : List ℕ} {limit : ℕ} {result : Result FileRead NoMemory} → IsReadBy old new name limit result → NamesOnly (λ other. other ≡ name) old new
+pub reads_named : {old new : Option Log} {name : List ℕ} {limit : ℕ} {result : Result FileRead NoMemory} → IsReadBy old new name limit result → NamesOnly (λ other. other ≡ name) old new
 reads_named {old} {new} {name} {limit} {result} r = record {
   calls = read_calls name 0 r.pieces ++ r.ending;
   gained = r.calls;
@@ -102,7 +103,7 @@ refusal_named P E.Missing (Cut name size answer) calls h r = absurd r
 refusal_named P E.Missing (Remove name answer) calls h r = absurd r
 
 -- of calls that all name such files, those that were made do
-pub makes_named : {P : List ℕ → Type 0} {old new : Option (List Call)} (all : List Call) (result : Result (Unit {0}) DeskError) → CallsName P all → Makes old new all result → NamesOnly P old new
+pub makes_named : {P : List ℕ → Type 0} {old new : Option Log} (all : List Call) (result : Result (Unit {0}) DeskError) → CallsName P all → Makes old new all result → NamesOnly P old new
 makes_named {P} {old} {new} all result h m = go result m
   where
     go : (r : Result (Unit {0}) DeskError) → Makes old new all r → NamesOnly P old new
@@ -124,6 +125,6 @@ appends_named P name (piece ∷ pieces) h = (h, appends_named P name pieces h)
 abbrev IsOwn : List ℕ → List ℕ → Type 0
 IsOwn name other = (other ≡ name) ⊎ (other ≡ new_name name)
 
-pub replaces_named : {old new : Option (List Call)} (name text : List ℕ) (result : Result (Unit {0}) DeskError) → Replaces old new name text result → NamesOnly (λ other. (other ≡ name) ⊎ (other ≡ new_name name)) old new
+pub replaces_named : {old new : Option Log} (name text : List ℕ) (result : Result (Unit {0}) DeskError) → Replaces old new name text result → NamesOnly (λ other. (other ≡ name) ⊎ (other ≡ new_name name)) old new
 replaces_named {old} {new} name text result (pieces, all, makes) =
     makes_named (replace_calls name pieces) result (inr refl, calls_both (IsOwn name) (append_calls (new_name name) pieces) (Rename (new_name name) name (Ok tt) ∷ []) (appends_named (IsOwn name) (new_name name) pieces (inr refl)) ((inr refl, inl refl), tt)) makes

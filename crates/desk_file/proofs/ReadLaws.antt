@@ -5,12 +5,11 @@ use Rattle.std.specs.List.{concat}
 use Rattle.std.proofs.lemmas.List.{take_all, length-take}
 use Rattle.std.proofs.Math.Seq.{take-add}
 use Rattle.ann_key.specs.declared.bytes.NoMemory.{NoMemory}
-use Rattle.ann_outside.specs.Calls.{Gained, logged}
+use Rattle.ann_outside.specs.Calls.{Log, Gained, logged}
 use Rattle.ann_outside.specs.DeskCauses.{Counts, HasCauses}
 use Rattle.ann_outside.specs.Files.{Files, content, ReadIs}
 use Rattle.ann_outside.specs.declared.file_desk.DeskError.{DeskError}
 use Rattle.ann_outside.specs.declared.file_desk.DeskError.TheVariants as E
-use Rattle.ann_outside.specs.declared.file_desk.Call.{Call}
 use Rattle.ann_outside.specs.declared.file_desk.Call.TheVariants.{ReadAt}
 use Rattle.desk_file.specs.declared.reading.FileRead.{FileRead}
 use Rattle.desk_file.specs.declared.reading.FileRead.TheVariants.{Text, TooLarge, Missing, Fault}
@@ -46,12 +45,12 @@ refusal_met name bytes more buffer from files E.Missing h = h
 refusal_met name bytes more buffer from files E.Failed h = tt
 refusal_met name bytes more buffer from files E.NoMemory h = tt
 
-pub step_refused : (old new : Option (List Call)) (name bytes more : List ℕ) (from : ℕ) (e : DeskError) → from ≡ length bytes → new ≡ logged old (ReadAt name from (Err e)) → IsStep old new name bytes more (Err e)
+pub step_refused : (old new : Option Log) (name bytes more : List ℕ) (from : ℕ) (e : DeskError) → from ≡ length bytes → new ≡ logged old (ReadAt name from (Err e)) → IsStep old new name bytes more (Err e)
 step_refused old new name bytes more from E.NoMemory at e = ([], e ∙ gained_without old (ReadAt name from (Err E.NoMemory)) refl, inl refl)
 step_refused old new name bytes more from E.Failed at e = (ReadAt name from (Err E.Failed) ∷ [], e ∙ gained_call old (ReadAt name from (Err E.Failed)) refl, ap (λ (k : ℕ). ReadAt name k (Err E.Failed) ∷ []) at)
 step_refused old new name bytes more from E.Missing at e = (ReadAt name from (Err E.Missing) ∷ [], e ∙ gained_call old (ReadAt name from (Err E.Missing)) refl, ap (λ (k : ℕ). ReadAt name k (Err E.Missing) ∷ []) at)
 
-pub step_unkept : (old new : Option (List Call)) (name bytes more piece : List ℕ) (from : ℕ) → from ≡ length bytes → new ≡ logged old (ReadAt name from (Ok piece)) → IsStep old new name bytes more (Err E.NoMemory)
+pub step_unkept : (old new : Option Log) (name bytes more piece : List ℕ) (from : ℕ) → from ≡ length bytes → new ≡ logged old (ReadAt name from (Ok piece)) → IsStep old new name bytes more (Err E.NoMemory)
 step_unkept old new name bytes more piece from at e =
     (ReadAt name from (Ok piece) ∷ [], e ∙ gained_call old (ReadAt name from (Ok piece)) refl, inr (piece, ap (λ (k : ℕ). ReadAt name k (Ok piece) ∷ []) at))
 
@@ -70,7 +69,7 @@ read_calls-snoc name at (first ∷ more) piece =
     (read_calls-snoc name (at + length first) more piece
     ∙ ap (λ n. read_calls name (at + length first) more ++ ReadAt name n (Ok piece) ∷ []) place)
 
-pub reading_nothing : (log : Option (List Call)) (name bytes : List ℕ) → bytes ≡ [] → IsReading log log name bytes
+pub reading_nothing : (log : Option Log) (name bytes : List ℕ) → bytes ≡ [] → IsReading log log name bytes
 reading_nothing log name bytes e = record { pieces = []; all = sym e; calls = gained_nothing log }
 
 pub reading_nothing_of : (name bytes : List ℕ) (files : Files) → bytes ≡ [] → IsReadingOf name bytes files
@@ -79,7 +78,7 @@ reading_nothing_of name bytes files e = record {
   there = λ some. absurd (let none : length bytes ≡ 0 = ap (λ (l : List ℕ). length l) e in omega (arith, some, none));
 }
 
-pub reading_more : (a b c : Option (List Call)) (name bytes more : List ℕ) (going : Bool) → going ≡ true → IsReading a b name bytes → IsStep b c name bytes more (Ok going) → IsReading a c name more
+pub reading_more : (a b c : Option Log) (name bytes more : List ℕ) (going : Bool) → going ≡ true → IsReading a b name bytes → IsStep b c name bytes more (Ok going) → IsReading a c name more
 reading_more a b c name bytes more false e r s = absurd cc
 reading_more a b c name bytes more true e r (piece, gained, is, some) = record {
   pieces = r.pieces ++ piece ∷ [];
@@ -97,13 +96,13 @@ reading_more_of name bytes more files false e r s = absurd cc
 reading_more_of name bytes more files true e r s = record { first = s.1 r.first; there = λ some. s.0 }
 
 -- the bytes grow
-pub step_grows : (old new : Option (List Call)) (name bytes more : List ℕ) (going : Bool) → going ≡ true → IsStep old new name bytes more (Ok going) → length bytes < length more
+pub step_grows : (old new : Option Log) (name bytes more : List ℕ) (going : Bool) → going ≡ true → IsStep old new name bytes more (Ok going) → length bytes < length more
 step_grows old new name bytes more false e s = absurd cc
 step_grows old new name bytes more true e (piece, gained, is, some) = omega (arith, some, ap (λ (l : List ℕ). length l) is, length-append bytes piece)
 
 -- ---- the end
 
-pub read_whole : (a b c : Option (List Call)) (name bytes more text : List ℕ) (limit : ℕ) (going : Bool) → going ≡ false → IsReading a b name bytes → IsStep b c name bytes more (Ok going) → text ≡ more → length bytes ≤ limit
+pub read_whole : (a b c : Option Log) (name bytes more text : List ℕ) (limit : ℕ) (going : Bool) → going ≡ false → IsReading a b name bytes → IsStep b c name bytes more (Ok going) → text ≡ more → length bytes ≤ limit
     → IsReadBy a c name limit (Ok (Text text))
 read_whole a b c name bytes more text limit true e r s t low = absurd cc
 read_whole a b c name bytes more text limit false e r (gained, same) t low = record {
@@ -120,11 +119,11 @@ pub read_whole_of : (name bytes more text : List ℕ) (limit : ℕ) (files : Fil
 read_whole_of name bytes more text limit files true e same t r s = absurd cc
 read_whole_of name bytes more text limit files false e same t r s = s r.first ∙ ap Some (sym (t ∙ same))
 
-pub step_same : (old new : Option (List Call)) (name bytes more : List ℕ) (going : Bool) → going ≡ false → IsStep old new name bytes more (Ok going) → more ≡ bytes
+pub step_same : (old new : Option Log) (name bytes more : List ℕ) (going : Bool) → going ≡ false → IsStep old new name bytes more (Ok going) → more ≡ bytes
 step_same old new name bytes more true e s = absurd cc
 step_same old new name bytes more false e s = s.1
 
-pub read_past : (a b : Option (List Call)) (name bytes : List ℕ) (limit : ℕ) → IsReading a b name bytes → limit < length bytes → IsReadBy a b name limit (Ok TooLarge)
+pub read_past : (a b : Option Log) (name bytes : List ℕ) (limit : ℕ) → IsReading a b name bytes → limit < length bytes → IsReadBy a b name limit (Ok TooLarge)
 read_past a b name bytes limit r high = record {
   pieces = r.pieces;
   ending = [];
@@ -145,7 +144,7 @@ read_past_of name bytes limit files r high = go (content name files) refl
         go_size : length bytes ≡ length (take (length bytes) all) → limit < length all
         go_size size = omega (arith, high, size, length-take (length bytes) all)
 
-pub read_refused : (a b c : Option (List Call)) (name bytes more : List ℕ) (limit : ℕ) (e : DeskError) → IsReading a b name bytes → IsStep b c name bytes more (Err e) → IsReadBy a c name limit (refusal_of e)
+pub read_refused : (a b c : Option Log) (name bytes more : List ℕ) (limit : ℕ) (e : DeskError) → IsReading a b name bytes → IsStep b c name bytes more (Err e) → IsReadBy a c name limit (refusal_of e)
 read_refused a b c name bytes more limit e r (ending, gained, ends) = record {
   pieces = r.pieces;
   ending = ending;
@@ -163,7 +162,7 @@ read_refused_of name bytes more limit files E.NoMemory h = tt
 read_refused_of name bytes more limit files E.Failed h = tt
 read_refused_of name bytes more limit files E.Missing h = h
 
-pub read_nothing : (log : Option (List Call)) (name : List ℕ) (limit : ℕ) (e : NoMemory) → IsReadBy log log name limit (Err e)
+pub read_nothing : (log : Option Log) (name : List ℕ) (limit : ℕ) (e : NoMemory) → IsReadBy log log name limit (Err e)
 read_nothing log name limit e = record { pieces = []; ending = []; calls = gained_nothing log; ends = inl refl }
 
 -- ---- the causes

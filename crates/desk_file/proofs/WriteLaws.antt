@@ -4,7 +4,7 @@ use Rattle.std.specs.Prelude.{codes, Option, Some, None, option_map, Result, Ok,
 use Rattle.std.specs.List.{concat}
 use Rattle.std.proofs.lemmas.List.{take-append-drop}
 use Rattle.std.proofs.Math.Seq.{take-add}
-use Rattle.ann_outside.specs.Calls.{Gained, logged}
+use Rattle.ann_outside.specs.Calls.{Log, Gained, logged}
 use Rattle.ann_outside.specs.DeskCauses.{Counts, HasCauses}
 use Rattle.ann_outside.specs.Files.{Files, content, WhereTold, OthersStay, CreateDoes, AppendDoes, RenameDoes}
 use Rattle.ann_outside.specs.declared.file_desk.DeskError.{DeskError}
@@ -21,7 +21,7 @@ append_calls-append : (name : List ℕ) (xs ys : List (List ℕ)) → append_cal
 append_calls-append name [] ys = refl
 append_calls-append name (x ∷ xs) ys = ap (λ (l : List Call). Append name x (Ok tt) ∷ l) (append_calls-append name xs ys)
 
-pub appending_nothing : (log : Option (List Call)) (name bytes : List ℕ) → bytes ≡ [] → IsAppending log log name bytes
+pub appending_nothing : (log : Option Log) (name bytes : List ℕ) → bytes ≡ [] → IsAppending log log name bytes
 appending_nothing log name bytes e = record { pieces = []; all = sym e; calls = gained_nothing log }
 
 -- the first bytes of a text, and the next piece
@@ -30,7 +30,7 @@ take_next at end text low =
     let sum : at + (end - at) ≡ end = omega (arith, low) in
     sym (take-add at (end - at) text) ∙ ap (λ (k : ℕ). take k text) sum
 
-pub appending_more : (a b c : Option (List Call)) (name text : List ℕ) (at end : ℕ) → at ≤ end → IsAppending a b name (take at text)
+pub appending_more : (a b c : Option Log) (name text : List ℕ) (at end : ℕ) → at ≤ end → IsAppending a b name (take at text)
     → c ≡ logged b (Append name (take (end - at) (drop at text)) (Ok tt)) → IsAppending a c name (take end text)
 appending_more a b c name text at end low r e =
     let piece : List ℕ = take (end - at) (drop at text) in
@@ -41,16 +41,16 @@ appending_more a b c name text at end low r e =
           (gained_more a b c (append_calls name r.pieces) (Append name piece (Ok tt) ∷ []) r.calls (e ∙ gained_call b (Append name piece (Ok tt)) refl));
     }
 
-pub appends_whole : (a b : Option (List Call)) (name bytes text : List ℕ) → bytes ≡ text → IsAppending a b name bytes → AppendsAll a b name text (Ok tt)
+pub appends_whole : (a b : Option Log) (name bytes text : List ℕ) → bytes ≡ text → IsAppending a b name bytes → AppendsAll a b name text (Ok tt)
 appends_whole a b name bytes text e r = (r.pieces, r.all ∙ e, r.calls)
 
-append_refusal : (b c : Option (List Call)) (name piece : List ℕ) (e : DeskError) → c ≡ logged b (Append name piece (Err e))
+append_refusal : (b c : Option Log) (name piece : List ℕ) (e : DeskError) → c ≡ logged b (Append name piece (Err e))
     → (ending : List Call) × IsRefusal e (Append name piece (Ok tt)) ending × Gained b c ending
 append_refusal b c name piece E.NoMemory e = ([], refl, e ∙ gained_without b (Append name piece (Err E.NoMemory)) refl)
 append_refusal b c name piece E.Failed e = (Append name piece (Err E.Failed) ∷ [], refl, e ∙ gained_call b (Append name piece (Err E.Failed)) refl)
 append_refusal b c name piece E.Missing e = (Append name piece (Err E.Missing) ∷ [], refl, e ∙ gained_call b (Append name piece (Err E.Missing)) refl)
 
-pub appends_refused : (a b c : Option (List Call)) (name text : List ℕ) (at n : ℕ) (e : DeskError) → IsAppending a b name (take at text)
+pub appends_refused : (a b c : Option Log) (name text : List ℕ) (at n : ℕ) (e : DeskError) → IsAppending a b name (take at text)
     → c ≡ logged b (Append name (take n (drop at text)) (Err e)) → AppendsAll a c name text (Err e)
 appends_refused a b c name text at n e r is =
     let piece : List ℕ = take n (drop at text) in
@@ -74,7 +74,7 @@ appends_refused a b c name text at n e r is =
     whole (p ∷ pieces) x y = ap (λ (l : List ℕ). p ++ l) (whole pieces x y) ∙ sym (append_assoc p (concat pieces) (x ++ y))
 
 -- the file was made, the text added, and the name given, or not
-module _ (a : Option (List Call)) (name fresh text : List ℕ) (other : fresh ≡ new_name name) where
+module _ (a : Option Log) (name fresh text : List ℕ) (other : fresh ≡ new_name name) where
   abbrev made : Call
   made = Create fresh (Ok tt)
 
@@ -82,7 +82,7 @@ module _ (a : Option (List Call)) (name fresh text : List ℕ) (other : fresh �
   calls_by : (pieces : List (List ℕ)) → made ∷ append_calls fresh pieces ++ Rename fresh name (Ok tt) ∷ [] ≡ replace_calls name pieces
   calls_by pieces = ap (λ (n : List ℕ). Create n (Ok tt) ∷ append_calls n pieces ++ Rename n name (Ok tt) ∷ []) other
 
-  pub replace_unmade : (b : Option (List Call)) (e : DeskError) → (e ≡ E.Missing → ⊥) → b ≡ logged a (Create fresh (Err e)) → Replaces a b name text (Err e)
+  pub replace_unmade : (b : Option Log) (e : DeskError) → (e ≡ E.Missing → ⊥) → b ≡ logged a (Create fresh (Err e)) → Replaces a b name text (Err e)
   replace_unmade b e found is =
       let refusal = refused e found is in (
         text ∷ [],
@@ -103,11 +103,11 @@ module _ (a : Option (List Call)) (name fresh text : List ℕ) (other : fresh �
       refused E.Failed found e = (Create fresh (Err E.Failed) ∷ [], refl, e ∙ gained_call a (Create fresh (Err E.Failed)) refl)
       refused E.Missing found e = absurd (found refl)
 
-  module _ (b : Option (List Call)) (create : b ≡ logged a (Create fresh (Ok tt))) where
+  module _ (b : Option Log) (create : b ≡ logged a (Create fresh (Ok tt))) where
     begun : Gained a b (made ∷ [])
     begun = create ∙ gained_call a made refl
 
-    pub replace_cut : (c : Option (List Call)) (e : DeskError) → AppendsAll b c fresh text (Err e) → Replaces a c name text (Err e)
+    pub replace_cut : (c : Option Log) (e : DeskError) → AppendsAll b c fresh text (Err e) → Replaces a c name text (Err e)
     replace_cut c e (pieces, all, s) = (
       pieces,
       all,
@@ -122,14 +122,14 @@ module _ (a : Option (List Call)) (name fresh text : List ℕ) (other : fresh �
       },
     )
 
-    module _ (c : Option (List Call)) (appended : AppendsAll b c fresh text (Ok tt)) where
+    module _ (c : Option Log) (appended : AppendsAll b c fresh text (Ok tt)) where
       abbrev written : List Call
       written = made ∷ append_calls fresh appended.0
 
       wrote : Gained a c written
       wrote = gained_more a b c (made ∷ []) (append_calls fresh appended.0) begun appended.2
 
-      pub replace_named : (d : Option (List Call)) (result : Result (Unit {0}) DeskError) → d ≡ logged c (Rename fresh name result) → Replaces a d name text result
+      pub replace_named : (d : Option Log) (result : Result (Unit {0}) DeskError) → d ≡ logged c (Rename fresh name result) → Replaces a d name text result
       replace_named d (Ok tt) is =
           (appended.0, appended.1, subst (Gained a d) (calls_by appended.0) (gained_more a c d written (Rename fresh name (Ok tt) ∷ []) wrote (is ∙ gained_call c (Rename fresh name (Ok tt)) refl)))
       replace_named d (Err e) is =
@@ -273,7 +273,7 @@ pub causes_none : {T : Type 0} (counts : Counts) → HasCauses {T = T} counts co
 causes_none counts = record { faults_later = omega arith; missing_later = omega arith; failed = λ is. cc; missing = λ is. cc; done = tt; no_memory = λ is. refl }
 
 -- nothing was asked of the desk
-pub replace_nothing : (log : Option (List Call)) (name text : List ℕ) → Replaces log log name text (Err E.NoMemory)
+pub replace_nothing : (log : Option Log) (name text : List ℕ) → Replaces log log name text (Err E.NoMemory)
 replace_nothing log name text = (
   text ∷ [],
   append-nil text,

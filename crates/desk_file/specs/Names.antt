@@ -1,6 +1,6 @@
 -- Which files the calls on a desk name.
 use Rattle.std.specs.Prelude.{ℕ, ◌≡◌, List, [], ◌∷◌, Option, IfSome}
-use Rattle.ann_outside.specs.Calls.{Gained}
+use Rattle.ann_outside.specs.Calls.{Log, Gained}
 use Rattle.ann_outside.specs.declared.file_desk.Call.{Call}
 use Rattle.ann_outside.specs.declared.file_desk.Call.TheVariants.{Size, ReadAt, Create, Append, Cut, Rename, Remove}
 
@@ -20,7 +20,7 @@ CallsName P [] = Unit {0}
 CallsName P (call ∷ calls) = CallNames P call × CallsName P calls
 
 -- the log, where one is kept, gained calls that name such files alone
-pub record NamesOnly (P : List ℕ → Type 0) (old new : Option (List Call)) : Type 0 where
+pub record NamesOnly (P : List ℕ → Type 0) (old new : Option Log) : Type 0 where
   pub calls : List Call
   pub gained : Gained old new calls
   pub named : CallsName P calls

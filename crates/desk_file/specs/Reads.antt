@@ -3,7 +3,7 @@ use Rattle.std.specs.Prelude.{ℕ, ◌≡◌, ◌≢◌, ◌≤◌, ◌<◌, ◌
 use Rattle.std.specs.List.{concat}
 use Rattle.ann_key.specs.declared.bytes.NoMemory.{NoMemory}
 use Rattle.ann_outside.specs.Causes.{Rose}
-use Rattle.ann_outside.specs.Calls.{Gained}
+use Rattle.ann_outside.specs.Calls.{Log, Gained}
 use Rattle.ann_outside.specs.DeskCauses.{Counts}
 use Rattle.ann_outside.specs.Files.{Files, content}
 use Rattle.ann_outside.specs.declared.file_desk.DeskError.{DeskError}
@@ -33,7 +33,7 @@ EndsRead name limit bytes (Ok Fault) calls = calls ≡ ReadAt name (length bytes
 EndsRead name limit bytes (Err e) calls = EndsUnkept name (length bytes) calls
 
 -- The file was read from its begin on, piece by piece, and this came of it.
-pub record IsReadBy (old new : Option (List Call)) (name : List ℕ) (limit : ℕ) (result : Result FileRead NoMemory) : Type 0 where
+pub record IsReadBy (old new : Option Log) (name : List ℕ) (limit : ℕ) (result : Result FileRead NoMemory) : Type 0 where
   pub pieces : List (List ℕ)
   pub ending : List Call
   pub calls : Gained old new (read_calls name 0 pieces ++ ending)
@@ -80,7 +80,7 @@ EndsStep name at E.Failed calls = calls ≡ ReadAt name at (Err E.Failed) ∷ []
 EndsStep name at E.Missing calls = calls ≡ ReadAt name at (Err E.Missing) ∷ []
 
 -- one more piece was read, or the end was met, or a call was refused
-abbrev pub IsStep : Option (List Call) → Option (List Call) → List ℕ → List ℕ → List ℕ → Result Bool DeskError → Type 0
+abbrev pub IsStep : Option Log → Option Log → List ℕ → List ℕ → List ℕ → Result Bool DeskError → Type 0
 IsStep old new name bytes bytes' (Ok true) =
     (piece : List ℕ) × Gained old new (ReadAt name (length bytes) (Ok piece) ∷ []) × (bytes' ≡ bytes ++ piece) × (0 < length piece)
 IsStep old new name bytes bytes' (Ok false) = Gained old new (ReadAt name (length bytes) (Ok []) ∷ []) × (bytes' ≡ bytes)
@@ -99,7 +99,7 @@ IsStepOf name bytes bytes' files (Err E.Failed) = ⊤
 IsStepOf name bytes bytes' files (Err E.NoMemory) = ⊤
 
 -- the pieces that were read so far
-pub record IsReading (old new : Option (List Call)) (name bytes : List ℕ) : Type 0 where
+pub record IsReading (old new : Option Log) (name bytes : List ℕ) : Type 0 where
   pub pieces : List (List ℕ)
   pub all : concat pieces ≡ bytes
   pub calls : Gained old new (read_calls name 0 pieces)

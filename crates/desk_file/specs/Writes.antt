@@ -1,7 +1,7 @@
 -- What putting a text in the place of a file asks of a desk, and what it does to its files.
 use Rattle.std.specs.Prelude.{ℕ, ◌≡◌, ◌≢◌, ◌⊎◌, ⊤, List, [], ◌∷◌, ◌++◌, map, codes, Option, Some, None, option_map, Result, Ok, Err}
 use Rattle.std.specs.List.{concat}
-use Rattle.ann_outside.specs.Calls.{Gained}
+use Rattle.ann_outside.specs.Calls.{Log, Gained}
 use Rattle.ann_outside.specs.Files.{Files, content, OthersStay}
 use Rattle.ann_outside.specs.declared.file_desk.DeskError.{DeskError}
 use Rattle.ann_outside.specs.declared.file_desk.DeskError.TheVariants as E
@@ -32,7 +32,7 @@ IsRefusal E.Missing (Rename from to answer) calls = calls ≡ Rename from to (Er
 IsRefusal e call calls = ⊥
 
 -- the first of all these calls were made, and the next was refused
-pub record IsStopped (e : DeskError) (old new : Option (List Call)) (all : List Call) : Type 0 where
+pub record IsStopped (e : DeskError) (old new : Option Log) (all : List Call) : Type 0 where
   pub before : List Call
   pub call : Call
   pub after : List Call
@@ -42,16 +42,16 @@ pub record IsStopped (e : DeskError) (old new : Option (List Call)) (all : List 
   pub calls : Gained old new (before ++ ending)
 
 -- all of these calls were made, or the first of them and then one that was refused
-abbrev pub Makes : Option (List Call) → Option (List Call) → List Call → Result (Unit {0}) DeskError → Type 0
+abbrev pub Makes : Option Log → Option Log → List Call → Result (Unit {0}) DeskError → Type 0
 Makes old new all (Ok done) = Gained old new all
 Makes old new all (Err e) = IsStopped e old new all
 
 -- the text is added to the file in pieces
-abbrev pub AppendsAll : Option (List Call) → Option (List Call) → List ℕ → List ℕ → Result (Unit {0}) DeskError → Type 0
+abbrev pub AppendsAll : Option Log → Option Log → List ℕ → List ℕ → Result (Unit {0}) DeskError → Type 0
 AppendsAll old new name text result = (pieces : List (List ℕ)) × (concat pieces ≡ text) × Makes old new (append_calls name pieces) result
 
 -- it is put in the place of the file
-abbrev pub Replaces : Option (List Call) → Option (List Call) → List ℕ → List ℕ → Result (Unit {0}) DeskError → Type 0
+abbrev pub Replaces : Option Log → Option Log → List ℕ → List ℕ → Result (Unit {0}) DeskError → Type 0
 Replaces old new name text result = (pieces : List (List ℕ)) × (concat pieces ≡ text) × Makes old new (replace_calls name pieces) result
 
 -- ---- the files
@@ -77,7 +77,7 @@ IsReplacedBy name text (Err e) old new = OthersStay (λ other. other ≡ new_nam
 -- ---- on the way
 
 -- the pieces that were added so far
-pub record IsAppending (old new : Option (List Call)) (name bytes : List ℕ) : Type 0 where
+pub record IsAppending (old new : Option Log) (name bytes : List ℕ) : Type 0 where
   pub pieces : List (List ℕ)
   pub all : concat pieces ≡ bytes
   pub calls : Gained old new (append_calls name pieces)

@@ -1,8 +1,9 @@
 -- How the calls of a copy and of a store add up.
 use Rattle.std.proofs.Common.{◌≡◌, ◌∙◌, ℕ, zero, suc, ◌+◌, ◌≤◌, List, [], ◌∷◌, ◌++◌, length, refl, sym, ap, subst, arith, append_assoc, append-nil, take, length-append, length-take-le, add-zero}
-use Rattle.std.specs.Prelude.{Bool, true, false, is_some, Option, Some, None, option_map, IfSome, Result, Ok, Err}
+use Rattle.std.specs.Prelude.{Bool, true, false, is_some, Option, Some, None, IfSome, Result, Ok, Err}
 use Rattle.std.specs.List.{concat}
-use Rattle.ann_outside.specs.Calls.{Gained, logged, lacks_memory, bytes_read}
+use Rattle.ann_outside.specs.Calls.{Log, logged, lacks_memory, bytes_read}
+use Rattle.ann_outside.proofs.Gains.{gained_nothing, gained_more, gained_call, gained_without}
 use Rattle.ann_outside.specs.declared.file_desk.DeskError.{DeskError}
 use Rattle.ann_outside.specs.declared.file_desk.DeskError.TheVariants.{Failed, Missing, NoMemory}
 use Rattle.ann_outside.specs.declared.file_desk.Call.{Call}
@@ -13,46 +14,25 @@ use Rattle.dir_remote.specs.Traces.{Each, piece_calls, copy_calls, IsClearing, I
 use Rattle.dir_remote.specs.declared.outcome.Outcome.{Outcome}
 use Rattle.dir_remote.specs.declared.outcome.Outcome.TheVariants as O
 
--- ---- logs
-
-gained_nothing : (log : Option (List Call)) → Gained log log []
-gained_nothing None = refl
-gained_nothing (Some calls) = ap Some (sym (append-nil calls))
-
-gained_twice : (a : Option (List Call)) (xs ys : List Call) → option_map (λ l. l ++ ys) (option_map (λ l. l ++ xs) a) ≡ option_map (λ l. l ++ (xs ++ ys)) a
-gained_twice None xs ys = refl
-gained_twice (Some l) xs ys = ap Some (append_assoc l xs ys)
-
-gained_more : (a b c : Option (List Call)) (xs ys : List Call) → Gained a b xs → Gained b c ys → Gained a c (xs ++ ys)
-gained_more a b c xs ys e f = f ∙ ap (option_map (λ l. l ++ ys)) e ∙ gained_twice a xs ys
-
-gained_call : (log : Option (List Call)) (call : Call) → lacks_memory call ≡ false → Gained log (logged log call) (call ∷ [])
-gained_call None call e = refl
-gained_call (Some calls) call e = rw e refl
-
-gained_without : (log : Option (List Call)) (call : Call) → lacks_memory call ≡ true → Gained log (logged log call) []
-gained_without None call e = refl
-gained_without (Some calls) call e = rw e (ap Some (sym (append-nil calls)))
-
-pub traced_none : (P : List Call → Type 0) (log : Option (List Call)) → P [] → Traced P log log
+pub traced_none : (P : List Call → Type 0) (log : Option Log) → P [] → Traced P log log
 traced_none P log p = record { calls = []; gained = gained_nothing log; are = p }
 
 -- a call that found memory
-pub traced_call : (P : List Call → Type 0) (a b : Option (List Call)) (call : Call) → lacks_memory call ≡ false → b ≡ logged a call → P (call ∷ []) → Traced P a b
+pub traced_call : (P : List Call → Type 0) (a b : Option Log) (call : Call) → lacks_memory call ≡ false → b ≡ logged a call → P (call ∷ []) → Traced P a b
 traced_call P a b call found e p = record { calls = call ∷ []; gained = e ∙ gained_call a call found; are = p }
 
 -- a call, whatever it answered
-pub traced_one : (Q : Call → Type 0) (a b : Option (List Call)) (call : Call) → b ≡ logged a call → Q call → Traced (Each Q) a b
+pub traced_one : (Q : Call → Type 0) (a b : Option Log) (call : Call) → b ≡ logged a call → Q call → Traced (Each Q) a b
 traced_one Q a b call e q = by_test (lacks_memory call) refl
   where
     by_test : (t : Bool) → lacks_memory call ≡ t → Traced (Each Q) a b
     by_test true h = record { calls = []; gained = e ∙ gained_without a call h; are = tt }
     by_test false h = record { calls = call ∷ []; gained = e ∙ gained_call a call h; are = (q, tt) }
 
-pub traced_then : (P Q R : List Call → Type 0) (a b c : Option (List Call)) → ((xs ys : List Call) → P xs → Q ys → R (xs ++ ys)) → Traced P a b → Traced Q b c → Traced R a c
+pub traced_then : (P Q R : List Call → Type 0) (a b c : Option Log) → ((xs ys : List Call) → P xs → Q ys → R (xs ++ ys)) → Traced P a b → Traced Q b c → Traced R a c
 traced_then P Q R a b c join p q = record { calls = p.calls ++ q.calls; gained = gained_more a b c p.calls q.calls p.gained q.gained; are = join p.calls q.calls p.are q.are }
 
-pub traced_map : (P Q : List Call → Type 0) (a b : Option (List Call)) → ((xs : List Call) → P xs → Q xs) → Traced P a b → Traced Q a b
+pub traced_map : (P Q : List Call → Type 0) (a b : Option Log) → ((xs : List Call) → P xs → Q xs) → Traced P a b → Traced Q a b
 traced_map P Q a b f p = record { calls = p.calls; gained = p.gained; are = f p.calls p.are }
 
 pub each_append : (P : Call → Type 0) (xs ys : List Call) → Each P xs → Each P ys → Each P (xs ++ ys)
@@ -65,12 +45,12 @@ each_map P Q f (x ∷ xs) p = (f x p.0, each_map P Q f xs p.1)
 
 -- ---- one piece
 
-pub piece_end_traced : (file name buffer : List ℕ) (at n : ℕ) (a b : Option (List Call)) → n ≡ 0 → b ≡ logged a (ReadAt file at (bytes_read buffer (Ok n)))
+pub piece_end_traced : (file name buffer : List ℕ) (at n : ℕ) (a b : Option Log) → n ≡ 0 → b ≡ logged a (ReadAt file at (bytes_read buffer (Ok n)))
     → Traced (PieceTraces file name at (Ok 0)) a b
 piece_end_traced file name buffer at (suc n) a b e is = absurd (omega (arith, e))
 piece_end_traced file name buffer at zero a b e is = traced_call (PieceTraces file name at (Ok 0)) a b (ReadAt file at (Ok [])) refl is refl
 
-pub piece_moved_traced : (file name buffer : List ℕ) (at n : ℕ) (a b c : Option (List Call)) → (n ≡ 0 → ⊥) → n ≤ length buffer
+pub piece_moved_traced : (file name buffer : List ℕ) (at n : ℕ) (a b c : Option Log) → (n ≡ 0 → ⊥) → n ≤ length buffer
     → b ≡ logged a (ReadAt file at (bytes_read buffer (Ok n))) → c ≡ logged b (Append name (take n buffer) (Ok tt)) → Traced (PieceTraces file name at (Ok n)) a c
 piece_moved_traced file name buffer at zero a b c some fits read append = absurd (some refl)
 piece_moved_traced file name buffer at (suc n) a b c some fits read append =
@@ -80,10 +60,10 @@ piece_moved_traced file name buffer at (suc n) a b c some fits read append =
       are = (piece, length-take-le (suc n) buffer fits, refl);
     }
 
-pub piece_unread_traced : (file name : List ℕ) (at : ℕ) (e : DeskError) (a b : Option (List Call)) → b ≡ logged a (ReadAt file at (Err e)) → Traced (PieceTraces file name at (Err e)) a b
+pub piece_unread_traced : (file name : List ℕ) (at : ℕ) (e : DeskError) (a b : Option Log) → b ≡ logged a (ReadAt file at (Err e)) → Traced (PieceTraces file name at (Err e)) a b
 piece_unread_traced file name at e a b is = traced_one (IsCopyCall false file name) a b (ReadAt file at (Err e)) is refl
 
-pub piece_unwritten_traced : (file name piece more : List ℕ) (at : ℕ) (e : DeskError) (a b c : Option (List Call)) → b ≡ logged a (ReadAt file at (Ok piece))
+pub piece_unwritten_traced : (file name piece more : List ℕ) (at : ℕ) (e : DeskError) (a b c : Option Log) → b ≡ logged a (ReadAt file at (Ok piece))
     → c ≡ logged b (Append name more (Err e)) → Traced (PieceTraces file name at (Err e)) a c
 piece_unwritten_traced file name piece more at e a b c read append =
     traced_then (Each (IsCopyCall false file name)) (Each (IsCopyCall false file name)) (Each (IsCopyCall false file name)) a b c (each_append (IsCopyCall false file name))
@@ -109,10 +89,10 @@ piece_calls-snoc file name at (first ∷ more) piece =
 abbrev pub SoFar : List ℕ → List ℕ → ℕ → List Call → Type 0
 SoFar file name at calls = (pieces : List (List ℕ)) × (length (concat pieces) ≡ at) × (calls ≡ Create name (Ok tt) ∷ piece_calls file name 0 pieces)
 
-pub copy_begins : (file name : List ℕ) (a b : Option (List Call)) → b ≡ logged a (Create name (Ok tt)) → Traced (SoFar file name 0) a b
+pub copy_begins : (file name : List ℕ) (a b : Option Log) → b ≡ logged a (Create name (Ok tt)) → Traced (SoFar file name 0) a b
 copy_begins file name a b is = traced_call (SoFar file name 0) a b (Create name (Ok tt)) refl is ([], refl, refl)
 
-pub copy_goes_on : (file name : List ℕ) (at n : ℕ) (a b c : Option (List Call)) → (n ≡ 0 → ⊥) → Traced (SoFar file name at) a b → Traced (PieceTraces file name at (Ok n)) b c
+pub copy_goes_on : (file name : List ℕ) (at n : ℕ) (a b c : Option Log) → (n ≡ 0 → ⊥) → Traced (SoFar file name at) a b → Traced (PieceTraces file name at (Ok n)) b c
     → Traced (SoFar file name (at + n)) a c
 copy_goes_on file name at zero a b c some p q = absurd (some refl)
 copy_goes_on file name at (suc n) a b c some p q = traced_then (SoFar file name at) (PieceTraces file name at (Ok (suc n))) (SoFar file name (at + suc n)) a b c join p q
@@ -129,7 +109,7 @@ copy_goes_on file name at (suc n) a b c some p q = traced_then (SoFar file name 
         place : at ≡ 0 + length (concat pieces)
         place = omega (arith, long)
 
-pub copy_ends_traced : (clears : Bool) (file name : List ℕ) (at : ℕ) (a b c : Option (List Call)) → Traced (SoFar file name at) a b → Traced (PieceTraces file name at (Ok 0)) b c
+pub copy_ends_traced : (clears : Bool) (file name : List ℕ) (at : ℕ) (a b c : Option Log) → Traced (SoFar file name at) a b → Traced (PieceTraces file name at (Ok 0)) b c
     → Traced (CopyTraces clears file name (Ok tt)) a c
 copy_ends_traced clears file name at a b c p q = traced_then (SoFar file name at) (PieceTraces file name at (Ok 0)) (CopyTraces clears file name (Ok tt)) a b c join p q
   where
@@ -168,10 +148,10 @@ clearing_call clears file name (Cut n size answer) h = absurd h
 clearing_call clears file name (Rename from to answer) h = absurd h
 clearing_call clears file name (Remove n answer) h = h
 
-pub copy_unmade_traced : (clears : Bool) (file name : List ℕ) (e : DeskError) (a b : Option (List Call)) → b ≡ logged a (Create name (Err e)) → Traced (CopyTraces clears file name (Err e)) a b
+pub copy_unmade_traced : (clears : Bool) (file name : List ℕ) (e : DeskError) (a b : Option Log) → b ≡ logged a (Create name (Err e)) → Traced (CopyTraces clears file name (Err e)) a b
 copy_unmade_traced clears file name e a b is = traced_one (IsCopyCall clears file name) a b (Create name (Err e)) is refl
 
-pub copy_breaks_traced : (clears : Bool) (file name : List ℕ) (at : ℕ) (e : DeskError) (a b c d : Option (List Call)) → Traced (SoFar file name at) a b
+pub copy_breaks_traced : (clears : Bool) (file name : List ℕ) (at : ℕ) (e : DeskError) (a b c d : Option Log) → Traced (SoFar file name at) a b
     → Traced (PieceTraces file name at (Err e)) b c → Traced (Each (IsClearing clears name)) c d → Traced (CopyTraces clears file name (Err e)) a d
 copy_breaks_traced clears file name at e a b c d p q r =
     let Q = IsCopyCall clears file name in
@@ -204,7 +184,7 @@ broken_traces mark directory text file Failed calls h = h
 broken_traces mark directory text file Missing calls h = h
 broken_traces mark directory text file NoMemory calls h = h
 
-pub store_idle_traced : (mark : Option (List ℕ)) (directory text file : List ℕ) (outcome : Outcome) (log : Option (List Call)) → IsUnnamed text outcome
+pub store_idle_traced : (mark : Option (List ℕ)) (directory text file : List ℕ) (outcome : Outcome) (log : Option Log) → IsUnnamed text outcome
     → Traced (StoreTraces mark directory text file outcome) log log
 store_idle_traced mark directory text file O.NotText log h = traced_none (StoreTraces mark directory text file O.NotText) log tt
 store_idle_traced mark directory text file O.NoMemory log h = traced_none (StoreTraces mark directory text file O.NoMemory) log tt
@@ -215,7 +195,7 @@ store_idle_traced mark directory text file O.NoDirectory log h = absurd h
 store_idle_traced mark directory text file O.DiskFailed log h = absurd h
 store_idle_traced mark directory text file O.NoSuchFile log h = absurd h
 
-pub store_done_traced : (mark : Option (List ℕ)) (directory text file beside place : List ℕ) (clears : Bool) (a b c : Option (List Call)) → beside ≡ temporary_name mark directory text
+pub store_done_traced : (mark : Option (List ℕ)) (directory text file beside place : List ℕ) (clears : Bool) (a b c : Option Log) → beside ≡ temporary_name mark directory text
     → IsContentName directory text place → Traced (CopyTraces clears file beside (Ok tt)) a b → c ≡ logged b (Rename beside place (Ok tt)) → Traced (StoreTraces mark directory text file O.Done) a c
 store_done_traced mark directory text file beside place clears a b c at_beside at_place p is =
     traced_then (CopyTraces clears file beside (Ok tt)) (λ ys. ys ≡ Rename beside place (Ok tt) ∷ []) (StoreTraces mark directory text file O.Done) a b c join p
@@ -238,13 +218,13 @@ at_temporary mark directory text file beside clears alone at_beside calls h =
     each_map (IsCopyCall (is_some mark) file (temporary_name mark directory text)) (IsStoreCall mark directory text file) (store_call mark directory text file) calls
     (subst (λ (n : List ℕ). Each (IsCopyCall (is_some mark) file n) calls) at_beside (subst (λ (t : Bool). Each (IsCopyCall t file beside) calls) alone h))
 
-pub store_uncopied_traced : (mark : Option (List ℕ)) (directory text file beside : List ℕ) (clears : Bool) (e : DeskError) (a b : Option (List Call)) → clears ≡ is_some mark
+pub store_uncopied_traced : (mark : Option (List ℕ)) (directory text file beside : List ℕ) (clears : Bool) (e : DeskError) (a b : Option Log) → clears ≡ is_some mark
     → beside ≡ temporary_name mark directory text → Traced (CopyTraces clears file beside (Err e)) a b → Traced (StoreTraces mark directory text file (refusal_of e)) a b
 store_uncopied_traced mark directory text file beside clears e a b alone at_beside p =
     traced_map (CopyTraces clears file beside (Err e)) (StoreTraces mark directory text file (refusal_of e)) a b
     (λ calls h. broken_traces mark directory text file e calls (at_temporary mark directory text file beside clears alone at_beside calls h)) p
 
-pub store_unnamed_traced : (mark : Option (List ℕ)) (directory text file beside place : List ℕ) (clears : Bool) (e : DeskError) (a b c d : Option (List Call)) → clears ≡ is_some mark
+pub store_unnamed_traced : (mark : Option (List ℕ)) (directory text file beside place : List ℕ) (clears : Bool) (e : DeskError) (a b c d : Option Log) → clears ≡ is_some mark
     → beside ≡ temporary_name mark directory text → IsContentName directory text place → Traced (CopyTraces clears file beside (Ok tt)) a b
     → c ≡ logged b (Rename beside place (Err e)) → Traced (Each (IsClearing clears beside)) c d → Traced (StoreTraces mark directory text file (refusal_of e)) a d
 store_unnamed_traced mark directory text file beside place clears e a b c d alone at_beside at_place p is r =
@@ -273,7 +253,7 @@ retrieve_call directory text file place at_place (Cut n size answer) h = absurd 
 retrieve_call directory text file place at_place (Rename from to answer) h = absurd h
 retrieve_call directory text file place at_place (Remove n answer) h = absurd (let bad : false ≡ true = h.0 in cc)
 
-pub retrieve_traced : (directory text file place : List ℕ) (answer : Result ℕ DeskError) (result : Result (Unit {0}) DeskError) (a b c : Option (List Call)) → IsContentName directory text place
+pub retrieve_traced : (directory text file place : List ℕ) (answer : Result ℕ DeskError) (result : Result (Unit {0}) DeskError) (a b c : Option Log) → IsContentName directory text place
     → b ≡ logged a (Size place answer) → Traced (CopyTraces false place file result) b c → Traced (Each (IsRetrieveCall directory text file)) a c
 retrieve_traced directory text file place answer result a b c at_place is p =
     let Q = IsRetrieveCall directory text file in

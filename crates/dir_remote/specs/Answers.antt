@@ -3,6 +3,7 @@ use Rattle.std.specs.Prelude.{ℕ, ◌≡◌, ◌≢◌, ◌⊎◌, Bool, true, 
 use Rattle.std.specs.Str.{IsUtf8}
 use Rattle.ann_key.specs.FileNames.{file_name_of}
 use Rattle.ann_key.specs.declared.bytes.NoMemory.{NoMemory as WithoutMemory}
+use Rattle.ann_outside.specs.Calls.{Log}
 use Rattle.ann_outside.specs.DeskCauses.{Counts}
 use Rattle.ann_outside.specs.Files.{Files, content, OthersStay, AllStay, WhereTold}
 use Rattle.kit_core.specs.declared.call.Said.{Said}
@@ -90,7 +91,7 @@ IsCalm clears old new outcome = (clears ≡ false) ⊎ (outcome ≡ Done) → ou
 -- nothing is done.
 pub record Answers (is_word : Outcome → Bool) (Does : List ℕ → Outcome → Files → Files → Type 0) (Traces : List ℕ → Outcome → List Call → Type 0)
     (clears : Bool) (directory : Option (List ℕ)) (key : List ℕ)
-    (counts counts_after : Counts) (files files_after : Option Files) (log log_after : Option (List Call)) (result : Result Said WithoutMemory) : Type 0 where
+    (counts counts_after : Counts) (files files_after : Option Files) (log log_after : Option Log) (result : Result Said WithoutMemory) : Type 0 where
   pub outcome : Outcome
   pub says : Says outcome result
   pub prepared : PreparedFits directory outcome

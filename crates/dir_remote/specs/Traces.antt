@@ -1,7 +1,7 @@
 -- The calls that a remote makes on its desk.
 use Rattle.std.specs.Prelude.{ℕ, zero, suc, ◌≡◌, ◌+◌, ⊤, Bool, true, false, is_some, List, [], ◌∷◌, ◌++◌, length, Option, Result, Ok, Err}
 use Rattle.std.specs.List.{concat}
-use Rattle.ann_outside.specs.Calls.{Gained}
+use Rattle.ann_outside.specs.Calls.{Log, Gained}
 use Rattle.ann_outside.specs.declared.file_desk.DeskError.{DeskError}
 use Rattle.ann_outside.specs.declared.file_desk.Call.{Call}
 use Rattle.ann_outside.specs.declared.file_desk.Call.TheVariants.{Size, ReadAt, Create, Append, Cut, Rename, Remove}
@@ -57,7 +57,7 @@ CopyTraces clears file name (Ok done) calls = (pieces : List (List ℕ)) × (cal
 CopyTraces clears file name (Err e) calls = Each (IsCopyCall clears file name) calls
 
 -- the log gained calls, of which this holds
-pub record Traced (Are : List Call → Type 0) (old new : Option (List Call)) : Type 0 where
+pub record Traced (Are : List Call → Type 0) (old new : Option Log) : Type 0 where
   pub calls : List Call
   pub gained : Gained old new calls
   pub are : Are calls

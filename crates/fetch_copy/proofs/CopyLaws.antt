@@ -1,11 +1,12 @@
 -- How a copy grows by one piece, and how it ends.
 use Rattle.std.proofs.Common.{◌≡◌, ◌∙◌, ℕ, zero, suc, ◌+◌, ◌-◌, ◌≤◌, List, [], ◌∷◌, ◌++◌, length, refl, sym, ap, subst, arith, append_assoc, append-nil, take, length-append, length-take-le, add-zero}
-use Rattle.std.specs.Prelude.{true, false, Option, Some, None, option_map, Result, Ok, Err}
+use Rattle.std.specs.Prelude.{true, false, Option, Some, None, Result, Ok, Err}
 use Rattle.std.specs.List.{concat}
 use Rattle.ann_key.specs.declared.bytes.NoMemory.{NoMemory}
 use Rattle.ann_digest.specs.declared.checker.Checker.{Checker}
 use Rattle.ann_digest.specs.Checkers.{Holds, taken_of}
-use Rattle.ann_outside.specs.Calls.{Gained, logged, lacks_memory, is_without_memory}
+use Rattle.ann_outside.specs.Calls.{Log, Gained, logged, lacks_memory, is_without_memory}
+pub use Rattle.ann_outside.proofs.Gains.{gained_nothing, gained_more, gained_call, gained_without}
 use Rattle.ann_outside.specs.DeskCauses.{Counts, HasCauses}
 use Rattle.ann_outside.specs.declared.file_desk.DeskError.{DeskError}
 use Rattle.ann_outside.specs.declared.file_desk.DeskError.TheVariants as E
@@ -15,29 +16,6 @@ use Rattle.fetch_copy.specs.declared.copied.Copied.{Copied}
 use Rattle.fetch_copy.specs.declared.copied.Copied.TheVariants.{Done, Fault, Missing}
 use Rattle.fetch_copy.specs.Copies.{copy_calls, Checks, CarryDoes, Moves, Refuses, StepDoes, Moving, Copies, CopyCauses, is_refused, refusal_of, EndsCopy, EndsRefused, CountIs}
 use Rattle.fetch_copy.specs.Resumes.{IsNotBegun}
-
--- ---- logs
-
-pub gained_nothing : (log : Option (List Call)) → Gained log log []
-gained_nothing None = refl
-gained_nothing (Some calls) = ap Some (sym (append-nil calls))
-
-gained_twice : (a : Option (List Call)) (xs ys : List Call)
-    → option_map (λ l. l ++ ys) (option_map (λ l. l ++ xs) a) ≡ option_map (λ l. l ++ (xs ++ ys)) a
-gained_twice None xs ys = refl
-gained_twice (Some l) xs ys = ap Some (append_assoc l xs ys)
-
-pub gained_more : (a b c : Option (List Call)) (xs ys : List Call) → Gained a b xs → Gained b c ys → Gained a c (xs ++ ys)
-gained_more a b c xs ys e f = f ∙ ap (option_map (λ l. l ++ ys)) e ∙ gained_twice a xs ys
-
-pub gained_call : (log : Option (List Call)) (call : Call) → lacks_memory call ≡ false → Gained log (logged log call) (call ∷ [])
-gained_call None call e = refl
-gained_call (Some calls) call e = rw e refl
-
--- a call for which no memory was found isn't in the log
-pub gained_without : (log : Option (List Call)) (call : Call) → lacks_memory call ≡ true → Gained log (logged log call) []
-gained_without None call e = refl
-gained_without (Some calls) call e = rw e (ap Some (sym (append-nil calls)))
 
 -- ---- pieces
 
@@ -71,10 +49,10 @@ checks_more a b c xs ys e f = record {
 
 -- ---- the loop
 
-pub moving_nothing : (log : Option (List Call)) (from to : List ℕ) (checker : Checker) → Moving log log from to checker checker 0
+pub moving_nothing : (log : Option Log) (from to : List ℕ) (checker : Checker) → Moving log log from to checker checker 0
 moving_nothing log from to checker = record { pieces = []; length_is = refl; calls = gained_nothing log; checked = checks_nothing checker }
 
-pub moving_more : (a b c : Option (List Call)) (from to : List ℕ) (before between after : Checker) (at n : ℕ)
+pub moving_more : (a b c : Option Log) (from to : List ℕ) (before between after : Checker) (at n : ℕ)
     → Moving a b from to before between at → Moves b c from to at between after n → Moving a c from to before after (at + n)
 moving_more a b c from to before between after at n m s = record {
   pieces = m.pieces ++ s.piece ∷ [];
@@ -96,7 +74,7 @@ moving_more a b c from to before between after at n m s = record {
 
 -- ---- its ends
 
-pub copies_whole : (a b : Option (List Call)) (from to : List ℕ) (before after : Checker) (at n : ℕ)
+pub copies_whole : (a b : Option Log) (from to : List ℕ) (before after : Checker) (at n : ℕ)
     → Moving a b from to before after at → n ≤ at → at ≤ n → Copies a b from to n before after (Ok (Done at))
 copies_whole a b from to before after at n m low high = record {
   pieces = m.pieces;
@@ -108,7 +86,7 @@ copies_whole a b from to before after at n m low high = record {
   checked = m.checked;
 }
 
-pub copies_short : (a b c : Option (List Call)) (from to : List ℕ) (before between after : Checker) (at n : ℕ)
+pub copies_short : (a b c : Option Log) (from to : List ℕ) (before between after : Checker) (at n : ℕ)
     → Moving a b from to before between at → StepDoes b c from to at between after (Ok 0) → at ≤ n → Copies a c from to n before after (Ok (Done at))
 copies_short a b c from to before between after at n m s high = record {
   pieces = m.pieces;
@@ -125,7 +103,7 @@ ends_refused E.NoMemory from to at left calls h = h
 ends_refused E.Failed from to at left calls h = h
 ends_refused E.Missing from to at left calls h = h
 
-pub copies_refused : (a b c : Option (List Call)) (from to : List ℕ) (before between after : Checker) (at n : ℕ) (e : DeskError)
+pub copies_refused : (a b c : Option Log) (from to : List ℕ) (before between after : Checker) (at n : ℕ) (e : DeskError)
     → Moving a b from to before between at → Refuses b c from to at between after e → at ≤ n → Copies a c from to n before after (refusal_of e)
 copies_refused a b c from to before between after at n e m s high = record {
   pieces = m.pieces;
@@ -142,7 +120,7 @@ copies_refused a b c from to before between after at n e m s high = record {
     count E.Failed = tt
     count E.Missing = tt
 
-pub copies_nothing : (log : Option (List Call)) (from to : List ℕ) (checker : Checker) (n : ℕ) (e : NoMemory) → Copies log log from to n checker checker (Err e)
+pub copies_nothing : (log : Option Log) (from to : List ℕ) (checker : Checker) (n : ℕ) (e : NoMemory) → Copies log log from to n checker checker (Err e)
 copies_nothing log from to checker n e = record {
   pieces = [];
   ending = [];
@@ -169,33 +147,33 @@ causes_refused old new r E.Missing is h = record { faults_later = h.faults_later
 pub causes_from : (old between new : Counts) (result : Result Copied NoMemory) → between ≡ old → CopyCauses between new result → CopyCauses old new result
 causes_from old between new result e h = let P : Counts → Type 0 = λ k. CopyCauses k new result in subst P e h
 
-pub step_moves : (a b : Option (List Call)) (from to : List ℕ) (at : ℕ) (before after : Checker) (n : ℕ)
+pub step_moves : (a b : Option Log) (from to : List ℕ) (at : ℕ) (before after : Checker) (n : ℕ)
     → (n ≡ 0 → ⊥) → StepDoes a b from to at before after (Ok n) → Moves a b from to at before after n
 step_moves a b from to at before after zero ne s = absurd (ne refl)
 step_moves a b from to at before after (suc n) ne s = s
 
-pub step_ends : (a b : Option (List Call)) (from to : List ℕ) (at : ℕ) (before after : Checker) (n : ℕ)
+pub step_ends : (a b : Option Log) (from to : List ℕ) (at : ℕ) (before after : Checker) (n : ℕ)
     → n ≡ 0 → StepDoes a b from to at before after (Ok n) → StepDoes a b from to at before after (Ok 0)
 step_ends a b from to at before after zero e s = s
 step_ends a b from to at before after (suc n) e s = absurd (omega (arith, e))
 
-pub gained_two : (a b c : Option (List Call)) (x y : Call) → b ≡ logged a x → c ≡ logged b y → lacks_memory x ≡ false → lacks_memory y ≡ false → Gained a c (x ∷ y ∷ [])
+pub gained_two : (a b c : Option Log) (x y : Call) → b ≡ logged a x → c ≡ logged b y → lacks_memory x ≡ false → lacks_memory y ≡ false → Gained a c (x ∷ y ∷ [])
 gained_two a b c x y e f p q = gained_more a b c (x ∷ []) (y ∷ []) (e ∙ gained_call a x p) (f ∙ gained_call b y q)
 
-pub carries_piece : (a b c : Option (List Call)) (from to : List ℕ) (at n : ℕ) (buffer : List ℕ)
+pub carries_piece : (a b c : Option Log) (from to : List ℕ) (at n : ℕ) (buffer : List ℕ)
     → b ≡ logged a (ReadAt from at (Ok (take n buffer))) → c ≡ logged b (Append to (take n buffer) (Ok tt)) → (n ≡ 0 → ⊥)
     → CarryDoes a c from to at buffer (Ok n)
 carries_piece a b c from to at zero buffer e f ne = absurd (ne refl)
 carries_piece a b c from to at (suc n) buffer e f ne =
     gained_two a b c (ReadAt from at (Ok (take (suc n) buffer))) (Append to (take (suc n) buffer) (Ok tt)) e f refl refl
 
-pub carries_refused_read : (a b : Option (List Call)) (from to : List ℕ) (at : ℕ) (e : DeskError)
+pub carries_refused_read : (a b : Option Log) (from to : List ℕ) (at : ℕ) (e : DeskError)
     → b ≡ logged a (ReadAt from at (Err e)) → CarryDoes a b from to at [] (Err e)
 carries_refused_read a b from to at E.NoMemory e = ([], e ∙ gained_without a (ReadAt from at (Err E.NoMemory)) refl, tt)
 carries_refused_read a b from to at E.Failed e = (ReadAt from at (Err E.Failed) ∷ [], e ∙ gained_call a (ReadAt from at (Err E.Failed)) refl, refl)
 carries_refused_read a b from to at E.Missing e = (ReadAt from at (Err E.Missing) ∷ [], e ∙ gained_call a (ReadAt from at (Err E.Missing)) refl, refl)
 
-pub carries_refused_append : (a b c : Option (List Call)) (from to : List ℕ) (at : ℕ) (piece : List ℕ) (e : DeskError)
+pub carries_refused_append : (a b c : Option Log) (from to : List ℕ) (at : ℕ) (piece : List ℕ) (e : DeskError)
     → b ≡ logged a (ReadAt from at (Ok piece)) → c ≡ logged b (Append to piece (Err e)) → CarryDoes a c from to at [] (Err e)
 carries_refused_append a b c from to at piece E.NoMemory e f = (
   ReadAt from at (Ok piece) ∷ [],
@@ -213,7 +191,7 @@ carries_refused_append a b c from to at piece E.Missing e f = (
   (piece, refl, refl),
 )
 
-pub moves_piece : (a b : Option (List Call)) (from to : List ℕ) (at n : ℕ) (buffer : List ℕ) (before after : Checker)
+pub moves_piece : (a b : Option Log) (from to : List ℕ) (at n : ℕ) (buffer : List ℕ) (before after : Checker)
     → CarryDoes a b from to at buffer (Ok n) → n ≤ length buffer → (n ≡ 0 → ⊥)
     → Checks before after (take n buffer) → StepDoes a b from to at before after (Ok n)
 moves_piece a b from to at zero buffer before after c most ne k = absurd (ne refl)
@@ -224,18 +202,18 @@ moves_piece a b from to at (suc n) buffer before after c most ne k = record {
   checked = k;
 }
 
-pub moves_nothing : (a b : Option (List Call)) (from to : List ℕ) (at n : ℕ) (buffer : List ℕ) (k : Checker)
+pub moves_nothing : (a b : Option Log) (from to : List ℕ) (at n : ℕ) (buffer : List ℕ) (k : Checker)
     → n ≡ 0 → CarryDoes a b from to at buffer (Ok n) → StepDoes a b from to at k k (Ok 0)
 moves_nothing a b from to at zero buffer k e c = (c, refl)
 moves_nothing a b from to at (suc n) buffer k e c = absurd (omega (arith, e))
 
-pub moves_refused : (a b : Option (List Call)) (from to : List ℕ) (at : ℕ) (k : Checker) (e : DeskError)
+pub moves_refused : (a b : Option Log) (from to : List ℕ) (at : ℕ) (k : Checker) (e : DeskError)
     → CarryDoes a b from to at [] (Err e) → StepDoes a b from to at k k (Err e)
 moves_refused a b from to at k e c = record { ending = c.0; calls = c.1; ends = c.2; same = refl }
 
 -- ---- a call that comes first
 
-pub not_begun : (first : Result (Unit {0}) DeskError → Call) (a b : Option (List Call)) (e : DeskError)
+pub not_begun : (first : Result (Unit {0}) DeskError → Call) (a b : Option Log) (e : DeskError)
     → ((e : DeskError) → lacks_memory (first (Err e)) ≡ is_without_memory {T = Unit {0}} (Err e))
     → b ≡ logged a (first (Err e)) → IsNotBegun first a b (refusal_of e)
 not_begun first a b E.NoMemory known is = is ∙ gained_without a (first (Err E.NoMemory)) (known E.NoMemory)

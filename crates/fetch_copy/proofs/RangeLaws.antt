@@ -6,7 +6,7 @@ use Rattle.std.proofs.lemmas.List.Folds.{list_all-append}
 use Rattle.std.proofs.lemmas.Bool.Decides.{nat_tests}
 use Rattle.ann_key.specs.declared.bytes.NoMemory.{NoMemory}
 use Rattle.ann_outside.specs.Files.{Files, WhereTold}
-use Rattle.ann_outside.specs.Calls.{Gained, logged, bytes_read}
+use Rattle.ann_outside.specs.Calls.{Log, Gained, logged, bytes_read}
 use Rattle.ann_outside.specs.declared.file_desk.DeskError.{DeskError}
 use Rattle.ann_outside.specs.declared.file_desk.DeskError.TheVariants as E
 use Rattle.ann_outside.specs.declared.file_desk.Call.{Call}
@@ -20,13 +20,13 @@ use Rattle.fetch_copy.specs.CopiesOut.{CopiesRange, CopiesOut, CopiesNothing, re
 use Rattle.fetch_copy.proofs.CopyLaws.{gained_nothing, gained_more, gained_call, concat-snoc, copy_calls-snoc, ends_refused, not_begun, carries_refused_read}
 
 -- The pieces that were read from the range's begin on, in their order, were appended.
-pub record Ranging (old new : Option (List Call)) (file name : List ℕ) (from to at : ℕ) : Type 0 where
+pub record Ranging (old new : Option Log) (file name : List ℕ) (from to at : ℕ) : Type 0 where
   pub pieces : List (List ℕ)
   pub place : from + length (concat pieces) ≡ at
   pub calls : Gained old new (copy_calls file name from pieces)
   pub within : list_all (reads_before to) (copy_calls file name from pieces) ≡ true
 
-pub ranging_nothing : (log : Option (List Call)) (file name : List ℕ) (from to : ℕ) → Ranging log log file name from to from
+pub ranging_nothing : (log : Option Log) (file name : List ℕ) (from to : ℕ) → Ranging log log file name from to from
 ranging_nothing log file name from to = record { pieces = []; place = add-zero from; calls = gained_nothing log; within = refl }
 
 lt_true : (a b : ℕ) → a < b → nat_lt a b ≡ true
@@ -35,7 +35,7 @@ lt_true a b h = grind (arith, nat_tests)
 within_more : (to : ℕ) (xs ys : List Call) → list_all (reads_before to) xs ≡ true → list_all (reads_before to) ys ≡ true → list_all (reads_before to) (xs ++ ys) ≡ true
 within_more to xs ys a b = rw (list_all-append (reads_before to) xs ys) (rw (a, b) refl)
 
-pub ranging_more : (a b c : Option (List Call)) (file name : List ℕ) (from to at n : ℕ) (buffer : List ℕ)
+pub ranging_more : (a b c : Option Log) (file name : List ℕ) (from to at n : ℕ) (buffer : List ℕ)
     → Ranging a b file name from to at → at < to → CarryDoes b c file name at buffer (Ok n) → n ≤ length buffer → (n ≡ 0 → ⊥) → Ranging a c file name from to (at + n)
 ranging_more a b c file name from to at zero buffer r low s most ne = absurd (ne refl)
 ranging_more a b c file name from to at (suc n) buffer r low s most ne = record {
@@ -56,7 +56,7 @@ ranging_more a b c file name from to at (suc n) buffer r low s most ne = record 
         copy_calls-snoc file name from r.pieces piece
         ∙ ap (λ k. copy_calls file name from r.pieces ++ ReadAt file k (Ok piece) ∷ Append name piece (Ok tt) ∷ []) r.place
 
-pub range_whole : (a b : Option (List Call)) (file name : List ℕ) (from to at : ℕ)
+pub range_whole : (a b : Option Log) (file name : List ℕ) (from to at : ℕ)
     → Ranging a b file name from to at → to ≤ at → at - from ≤ to - from → CopiesRange [] a b file from to name (Ok (Done (at - from)))
 range_whole a b file name from to at r low high = record {
   pieces = r.pieces;
@@ -68,7 +68,7 @@ range_whole a b file name from to at r low high = record {
   within = rw append-nil r.within;
 }
 
-pub range_short : (a b c : Option (List Call)) (file name : List ℕ) (from to at n : ℕ) (buffer : List ℕ)
+pub range_short : (a b c : Option Log) (file name : List ℕ) (from to at n : ℕ) (buffer : List ℕ)
     → Ranging a b file name from to at → at < to → CarryDoes b c file name at buffer (Ok n) → n ≡ 0 → at - from ≤ to - from
     → CopiesRange [] a c file from to name (Ok (Done (at - from)))
 range_short a b c file name from to at (suc n) buffer r low s e high = absurd (omega (arith, e))
@@ -99,7 +99,7 @@ within_refused file name to at E.NoMemory ending low h = early ending h
 within_refused file name to at E.Failed ending low h = within_refusal file name to at E.Failed ending low h
 within_refused file name to at E.Missing ending low h = within_refusal file name to at E.Missing ending low h
 
-pub range_refused : (a b c : Option (List Call)) (file name : List ℕ) (from to at : ℕ) (e : DeskError)
+pub range_refused : (a b c : Option Log) (file name : List ℕ) (from to at : ℕ) (e : DeskError)
     → Ranging a b file name from to at → at < to → CarryDoes b c file name at [] (Err e) → at - from ≤ to - from
     → CopiesRange [] a c file from to name (refusal_of e)
 range_refused a b c file name from to at e r low s high = record {
@@ -119,7 +119,7 @@ range_refused a b c file name from to at e r low s high = record {
 
 -- ---- behind the call that makes the file
 
-pub out_made : (a b c : Option (List Call)) (f g : Option Files) (file name : List ℕ) (from to : ℕ) (result : Result Copied NoMemory)
+pub out_made : (a b c : Option Log) (f g : Option Files) (file name : List ℕ) (from to : ℕ) (result : Result Copied NoMemory)
     → b ≡ logged a (Create name (Ok tt)) → CopiesRange [] b c file from to name result → WhereTold f g (HoldsRange file name from to result)
     → CopiesOut a c f g file from to name result
 out_made a b c f g file name from to result e r held = inl (
@@ -135,11 +135,11 @@ out_made a b c f g file name from to result e r held = inl (
   held,
 )
 
-pub out_refused : (a b : Option (List Call)) (f g : Option Files) (file name : List ℕ) (from to : ℕ) (e : DeskError)
+pub out_refused : (a b : Option Log) (f g : Option Files) (file name : List ℕ) (from to : ℕ) (e : DeskError)
     → b ≡ logged a (Create name (Err e)) → WhereTold f g (IsUnmade name (refusal_of e)) → CopiesOut a b f g file from to name (refusal_of e)
 out_refused a b f g file name from to e is left = inr (not_begun (λ answer. Create name answer) a b e (λ e. refl) is, left)
 
-pub out_without : (log : Option (List Call)) (f : Option Files) (file name : List ℕ) (from to : ℕ) (e : NoMemory) → CopiesOut log log f f file from to name (Err e)
+pub out_without : (log : Option Log) (f : Option Files) (file name : List ℕ) (from to : ℕ) (e : NoMemory) → CopiesOut log log f f file from to name (Err e)
 out_without log f file name from to e = inr (gained_nothing log, told_still (IsUnmade name (Err e)) f f refl (λ x other. refl))
 
 -- ---- nothing is copied
@@ -151,7 +151,7 @@ nothing_refused E.Missing = tt
 
 -- ---- a file that was emptied
 
-pub nothing_whole : (log : Option (List Call)) (file name : List ℕ) (from to : ℕ) → to ≤ from → CopiesRange [] log log file from to name (Ok (Done 0))
+pub nothing_whole : (log : Option Log) (file name : List ℕ) (from to : ℕ) → to ≤ from → CopiesRange [] log log file from to name (Ok (Done 0))
 nothing_whole log file name from to low = record {
   pieces = [];
   ending = [];
@@ -162,7 +162,7 @@ nothing_whole log file name from to low = record {
   within = refl;
 }
 
-pub nothing_read : (a b : Option (List Call)) (file name buffer : List ℕ) (from to n : ℕ) → from < to → n ≡ 0 → file ≡ name → b ≡ logged a (ReadAt name from (bytes_read buffer (Ok n)))
+pub nothing_read : (a b : Option Log) (file name buffer : List ℕ) (from to n : ℕ) → from < to → n ≡ 0 → file ≡ name → b ≡ logged a (ReadAt name from (bytes_read buffer (Ok n)))
     → CopiesRange [] a b file from to name (Ok (Done 0))
 nothing_read a b file name buffer from to (suc n) low e same is = absurd (omega (arith, e))
 nothing_read a b file name buffer from to zero low e same is = record {
@@ -175,7 +175,7 @@ nothing_read a b file name buffer from to zero low e same is = record {
   within = rw (lt_true from to low) refl;
 }
 
-pub nothing_kept : (a b : Option (List Call)) (file name buffer : List ℕ) (from to n : ℕ) (e : NoMemory) → from < to → file ≡ name → b ≡ logged a (ReadAt name from (bytes_read buffer (Ok n)))
+pub nothing_kept : (a b : Option Log) (file name buffer : List ℕ) (from to n : ℕ) (e : NoMemory) → from < to → file ≡ name → b ≡ logged a (ReadAt name from (bytes_read buffer (Ok n)))
     → CopiesRange [] a b file from to name (Err e)
 nothing_kept a b file name buffer from to n e low same is = record {
   pieces = [];
@@ -187,7 +187,7 @@ nothing_kept a b file name buffer from to n e low same is = record {
   within = rw (lt_true from to low) refl;
 }
 
-pub nothing_refused_read : (a b : Option (List Call)) (file name : List ℕ) (from to : ℕ) (e : DeskError) → from < to → file ≡ name → b ≡ logged a (ReadAt name from (Err e))
+pub nothing_refused_read : (a b : Option Log) (file name : List ℕ) (from to : ℕ) (e : DeskError) → from < to → file ≡ name → b ≡ logged a (ReadAt name from (Err e))
     → CopiesRange [] a b file from to name (refusal_of e)
 nothing_refused_read a b file name from to e low same is =
     range_refused a a b file name from to from e (ranging_nothing a file name from to) low

@@ -4,10 +4,9 @@ use Rattle.std.specs.Prelude.{Option, Result, Ok, Err}
 use Rattle.std.specs.List.{concat}
 use Rattle.ann_key.specs.declared.bytes.NoMemory.{NoMemory}
 use Rattle.ann_digest.specs.declared.checker.Checker.{Checker}
-use Rattle.ann_outside.specs.Calls.{Gained, logged}
+use Rattle.ann_outside.specs.Calls.{Log, Gained, logged}
 use Rattle.ann_outside.specs.declared.file_desk.DeskError.{DeskError}
 use Rattle.ann_outside.specs.declared.file_desk.DeskError.TheVariants as E
-use Rattle.ann_outside.specs.declared.file_desk.Call.{Call}
 use Rattle.ann_outside.specs.declared.file_desk.Call.TheVariants.{ReadAt, Cut}
 use Rattle.fetch_copy.specs.declared.copied.Copied.{Copied}
 use Rattle.fetch_copy.specs.declared.copied.Copied.TheVariants.{Done}
@@ -17,7 +16,7 @@ use Rattle.fetch_copy.proofs.CopyLaws.{gained_nothing, gained_more, gained_call,
 
 -- ---- one piece
 
-pub reads_piece : (a b : Option (List Call)) (file : List ℕ) (at n : ℕ) (buffer : List ℕ) (before after : Checker)
+pub reads_piece : (a b : Option Log) (file : List ℕ) (at n : ℕ) (buffer : List ℕ) (before after : Checker)
     → b ≡ logged a (ReadAt file at (Ok (take n buffer))) → n ≤ length buffer → (n ≡ 0 → ⊥) → Checks before after (take n buffer)
     → ReadDoes a b file at before after (Ok n)
 reads_piece a b file at zero buffer before after e most ne k = absurd (ne refl)
@@ -28,7 +27,7 @@ reads_piece a b file at (suc n) buffer before after e most ne k = record {
   checked = k;
 }
 
-pub reads_refused : (a b : Option (List Call)) (file : List ℕ) (at : ℕ) (k : Checker) (e : DeskError)
+pub reads_refused : (a b : Option Log) (file : List ℕ) (at : ℕ) (k : Checker) (e : DeskError)
     → b ≡ logged a (ReadAt file at (Err e)) → ReadDoes a b file at k k (Err e)
 reads_refused a b file at k E.NoMemory e = (e ∙ gained_without a (ReadAt file at (Err E.NoMemory)) refl, refl)
 reads_refused a b file at k E.Failed e = (e ∙ gained_call a (ReadAt file at (Err E.Failed)) refl, refl)
@@ -46,16 +45,16 @@ read_calls-snoc file at (first ∷ more) piece =
     ∙ ap (λ n. read_calls file (at + length first) more ++ ReadAt file n (Ok piece) ∷ []) place)
 
 -- The pieces that were read, in their order, were checked.
-pub record Reading (old new : Option (List Call)) (file : List ℕ) (before after : Checker) (at : ℕ) : Type 0 where
+pub record Reading (old new : Option Log) (file : List ℕ) (before after : Checker) (at : ℕ) : Type 0 where
   pub pieces : List (List ℕ)
   pub length_is : length (concat pieces) ≡ at
   pub calls : Gained old new (read_calls file 0 pieces)
   pub checked : Checks before after (concat pieces)
 
-pub reading_nothing : (log : Option (List Call)) (file : List ℕ) (checker : Checker) → Reading log log file checker checker 0
+pub reading_nothing : (log : Option Log) (file : List ℕ) (checker : Checker) → Reading log log file checker checker 0
 reading_nothing log file checker = record { pieces = []; length_is = refl; calls = gained_nothing log; checked = checks_nothing checker }
 
-reading_piece : (a b c : Option (List Call)) (file : List ℕ) (before between after : Checker) (at n : ℕ)
+reading_piece : (a b c : Option Log) (file : List ℕ) (before between after : Checker) (at n : ℕ)
     → Reading a b file before between at → ReadsPiece b c file at between after n → Reading a c file before after (at + n)
 reading_piece a b c file before between after at n m s = record {
   pieces = m.pieces ++ s.piece ∷ [];
@@ -73,12 +72,12 @@ reading_piece a b c file before between after at n m s = record {
     calls_are : read_calls file 0 (m.pieces ++ s.piece ∷ []) ≡ read_calls file 0 m.pieces ++ ReadAt file at (Ok s.piece) ∷ []
     calls_are = read_calls-snoc file 0 m.pieces s.piece ∙ ap (λ k. read_calls file 0 m.pieces ++ ReadAt file k (Ok s.piece) ∷ []) place
 
-pub reading_more : (a b c : Option (List Call)) (file : List ℕ) (before between after : Checker) (at n : ℕ)
+pub reading_more : (a b c : Option Log) (file : List ℕ) (before between after : Checker) (at n : ℕ)
     → Reading a b file before between at → ReadDoes b c file at between after (Ok n) → (n ≡ 0 → ⊥) → Reading a c file before after (at + n)
 reading_more a b c file before between after at zero m s ne = absurd (ne refl)
 reading_more a b c file before between after at (suc n) m s ne = reading_piece a b c file before between after at (suc n) m s
 
-pub reads_whole : (a b : Option (List Call)) (file : List ℕ) (before after : Checker) (at n : ℕ)
+pub reads_whole : (a b : Option Log) (file : List ℕ) (before after : Checker) (at n : ℕ)
     → Reading a b file before after at → n ≤ at → at ≤ n → ReadsOn [] a b file n before after (Ok (Done at))
 reads_whole a b file before after at n m low high = record {
   pieces = m.pieces;
@@ -90,7 +89,7 @@ reads_whole a b file before after at n m low high = record {
   checked = m.checked;
 }
 
-pub reads_short : (a b c : Option (List Call)) (file : List ℕ) (before between after : Checker) (at m n : ℕ)
+pub reads_short : (a b c : Option Log) (file : List ℕ) (before between after : Checker) (at m n : ℕ)
     → Reading a b file before between at → ReadDoes b c file at between after (Ok m) → m ≡ 0 → at ≤ n → ReadsOn [] a c file n before after (Ok (Done at))
 reads_short a b c file before between after at (suc m) n r s e high = absurd (omega (arith, e))
 reads_short a b c file before between after at zero n r s e high = record {
@@ -108,7 +107,7 @@ ends_reading E.NoMemory file at left = refl
 ends_reading E.Failed file at left = refl
 ends_reading E.Missing file at left = refl
 
-pub reads_stopped : (a b c : Option (List Call)) (file : List ℕ) (before between after : Checker) (at n : ℕ) (e : DeskError)
+pub reads_stopped : (a b c : Option Log) (file : List ℕ) (before between after : Checker) (at n : ℕ) (e : DeskError)
     → Reading a b file before between at → ReadDoes b c file at between after (Err e) → at ≤ n → ReadsOn [] a c file n before after (refusal_of e)
 reads_stopped a b c file before between after at n e r s high = record {
   pieces = r.pieces;
@@ -127,7 +126,7 @@ reads_stopped a b c file before between after at n e r s high = record {
 
 -- ---- behind the cut
 
-pub resumed : (a b c : Option (List Call)) (part : List ℕ) (keep : ℕ) (before after : Checker) (result : Result Copied NoMemory)
+pub resumed : (a b c : Option Log) (part : List ℕ) (keep : ℕ) (before after : Checker) (result : Result Copied NoMemory)
     → b ≡ logged a (Cut part keep (Ok tt)) → ReadsOn [] b c part keep before after result → Resumes a c part keep before after result
 resumed a b c part keep before after result e r = inl record {
   pieces = r.pieces;
@@ -139,9 +138,9 @@ resumed a b c part keep before after result e r = inl record {
   checked = r.checked;
 }
 
-pub not_resumed : (a b : Option (List Call)) (part : List ℕ) (keep : ℕ) (checker : Checker) (e : DeskError)
+pub not_resumed : (a b : Option Log) (part : List ℕ) (keep : ℕ) (checker : Checker) (e : DeskError)
     → b ≡ logged a (Cut part keep (Err e)) → Resumes a b part keep checker checker (refusal_of e)
 not_resumed a b part keep checker e is = inr (not_begun (λ answer. Cut part keep answer) a b e (λ e. refl) is, refl)
 
-pub never_resumed : (log : Option (List Call)) (part : List ℕ) (keep : ℕ) (checker : Checker) (e : NoMemory) → Resumes log log part keep checker checker (Err e)
+pub never_resumed : (log : Option Log) (part : List ℕ) (keep : ℕ) (checker : Checker) (e : NoMemory) → Resumes log log part keep checker checker (Err e)
 never_resumed log part keep checker e = inr (gained_nothing log, refl)

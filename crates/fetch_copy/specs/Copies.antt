@@ -6,7 +6,7 @@ use Rattle.ann_key.specs.declared.bytes.NoMemory.{NoMemory}
 use Rattle.ann_digest.specs.Checkers.{Holds, taken_of}
 use Rattle.ann_digest.specs.declared.checker.Checker.{Checker}
 use Rattle.ann_outside.specs.Causes.{Rose}
-use Rattle.ann_outside.specs.Calls.{Gained}
+use Rattle.ann_outside.specs.Calls.{Log, Gained}
 use Rattle.ann_outside.specs.DeskCauses.{Counts}
 use Rattle.ann_outside.specs.declared.file_desk.DeskError.{DeskError}
 use Rattle.ann_outside.specs.declared.file_desk.DeskError.TheVariants as E
@@ -73,27 +73,27 @@ pub record Checks (before after : Checker) (bytes : List ℕ) : Type 0 where
 -- ---- one piece
 
 -- These bytes at the front of a buffer were read and appended; of none the read alone was made. Else a call was refused.
-abbrev pub CarryDoes : Option (List Call) → Option (List Call) → List ℕ → List ℕ → ℕ → List ℕ → Result ℕ DeskError → Type 0
+abbrev pub CarryDoes : Option Log → Option Log → List ℕ → List ℕ → ℕ → List ℕ → Result ℕ DeskError → Type 0
 CarryDoes old new from to at buffer (Ok zero) = Gained old new (ReadAt from at (Ok []) ∷ [])
 CarryDoes old new from to at buffer (Ok (suc n)) =
     Gained old new (ReadAt from at (Ok (take (suc n) buffer)) ∷ Append to (take (suc n) buffer) (Ok tt) ∷ [])
 CarryDoes old new from to at buffer (Err e) = (ending : List Call) × Gained old new ending × EndsRefused e from to at ending
 
 -- a piece of n bytes was read, appended and checked
-pub record Moves (old new : Option (List Call)) (from to : List ℕ) (at : ℕ) (before after : Checker) (n : ℕ) : Type 0 where
+pub record Moves (old new : Option Log) (from to : List ℕ) (at : ℕ) (before after : Checker) (n : ℕ) : Type 0 where
   pub piece : List ℕ
   pub size : length piece ≡ n
   pub calls : Gained old new (ReadAt from at (Ok piece) ∷ Append to piece (Ok tt) ∷ [])
   pub checked : Checks before after piece
 
 -- a call was refused, and nothing was checked
-pub record Refuses (old new : Option (List Call)) (from to : List ℕ) (at : ℕ) (before after : Checker) (e : DeskError) : Type 0 where
+pub record Refuses (old new : Option Log) (from to : List ℕ) (at : ℕ) (before after : Checker) (e : DeskError) : Type 0 where
   pub ending : List Call
   pub calls : Gained old new ending
   pub ends : EndsRefused e from to at ending
   pub same : after ≡ before
 
-abbrev pub StepDoes : Option (List Call) → Option (List Call) → List ℕ → List ℕ → ℕ → Checker → Checker → Result ℕ DeskError → Type 0
+abbrev pub StepDoes : Option Log → Option Log → List ℕ → List ℕ → ℕ → Checker → Checker → Result ℕ DeskError → Type 0
 StepDoes old new from to at before after (Ok zero) = Gained old new (ReadAt from at (Ok []) ∷ []) × (after ≡ before)
 StepDoes old new from to at before after (Ok (suc n)) = Moves old new from to at before after (suc n)
 StepDoes old new from to at before after (Err e) = Refuses old new from to at before after e
@@ -101,14 +101,14 @@ StepDoes old new from to at before after (Err e) = Refuses old new from to at be
 -- ---- many
 
 -- The pieces that were read, in their order, were appended and checked.
-pub record Moving (old new : Option (List Call)) (from to : List ℕ) (before after : Checker) (at : ℕ) : Type 0 where
+pub record Moving (old new : Option Log) (from to : List ℕ) (before after : Checker) (at : ℕ) : Type 0 where
   pub pieces : List (List ℕ)
   pub length_is : length (concat pieces) ≡ at
   pub calls : Gained old new (copy_calls from to 0 pieces)
   pub checked : Checks before after (concat pieces)
 
 -- The pieces that were read, in their order, were appended and checked: of no more than n bytes.
-pub record Copies (old new : Option (List Call)) (from to : List ℕ) (n : ℕ) (before after : Checker) (result : Result Copied NoMemory) : Type 0 where
+pub record Copies (old new : Option Log) (from to : List ℕ) (n : ℕ) (before after : Checker) (result : Result Copied NoMemory) : Type 0 where
   pub pieces : List (List ℕ)
   pub ending : List Call
   pub calls : Gained old new (copy_calls from to 0 pieces ++ ending)

@@ -2,7 +2,7 @@
 use Rattle.std.specs.Prelude.{nat_lt, Bool, true, ◌≡◌, ℕ, ◌≤◌, ◌+◌, ◌-◌, ◌⊎◌, List, [], ◌∷◌, ◌++◌, length, Option, Result, Ok, Err}
 use Rattle.std.specs.List.{concat, list_all}
 use Rattle.ann_key.specs.declared.bytes.NoMemory.{NoMemory}
-use Rattle.ann_outside.specs.Calls.{Gained}
+use Rattle.ann_outside.specs.Calls.{Log, Gained}
 use Rattle.ann_outside.specs.Files.{Files, WhereTold}
 use Rattle.ann_outside.specs.declared.file_desk.Call.{Call}
 use Rattle.ann_outside.specs.declared.file_desk.Call.TheVariants.{Create, ReadAt}
@@ -19,7 +19,7 @@ reads_before to _ = true
 
 -- These calls and then pieces of the one file, from the range's begin on, in their order and of no more bytes than it has, were read and
 -- appended to the other.
-pub record CopiesRange (before_them : List Call) (old new : Option (List Call)) (file : List ℕ) (from to : ℕ) (name : List ℕ) (result : Result Copied NoMemory) : Type 0 where
+pub record CopiesRange (before_them : List Call) (old new : Option Log) (file : List ℕ) (from to : ℕ) (name : List ℕ) (result : Result Copied NoMemory) : Type 0 where
   pub pieces : List (List ℕ)
   pub ending : List Call
   pub calls : Gained old new (before_them ++ copy_calls file name from pieces ++ ending)
@@ -29,7 +29,7 @@ pub record CopiesRange (before_them : List Call) (old new : Option (List Call)) 
   pub within : list_all (reads_before to) (copy_calls file name from pieces ++ ending) ≡ true
 
 -- The named file was made, got the range, and holds what it got. Where it wasn't made, nothing was read.
-abbrev pub CopiesOut : Option (List Call) → Option (List Call) → Option Files → Option Files → List ℕ → ℕ → ℕ → List ℕ → Result Copied NoMemory → Type 0
+abbrev pub CopiesOut : Option Log → Option Log → Option Files → Option Files → List ℕ → ℕ → ℕ → List ℕ → Result Copied NoMemory → Type 0
 CopiesOut old new before after file from to name result =
     (CopiesRange (Create name (Ok tt) ∷ []) old new file from to name result × WhereTold before after (HoldsRange file name from to result))
     ⊎ (IsNotBegun (λ answer. Create name answer) old new result × WhereTold before after (IsUnmade name result))

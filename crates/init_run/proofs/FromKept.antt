@@ -2,8 +2,8 @@
 use Rattle.std.proofs.Common.{◌≡◌, ℕ, List, [], refl, subst}
 use Rattle.std.specs.Prelude.{Option, Some, None, Result, Ok, Err, IfSome}
 use Rattle.ann_key.specs.declared.bytes.NoMemory.{NoMemory}
+use Rattle.ann_outside.specs.Calls.{Log}
 use Rattle.ann_outside.specs.Files.{Files}
-use Rattle.ann_outside.specs.declared.file_desk.Call.{Call}
 use Rattle.reg_file.specs.Registers.{RegisterFile}
 use Rattle.chunk_log.specs.declared.note.Note.{Note}
 use Rattle.cli_words.specs.declared.command.InitWords.{InitWords}
@@ -26,7 +26,7 @@ told_text : (words : InitWords) (told : Option Files) (result : Result KeptRead 
 told_text words None result P f k h = (k.0, tt, k.1)
 told_text words (Some files) result P f k h = (text_at words.keep files, refl, f files h)
 
-kept_text : (old new : Option (List Call)) (name : List ℕ) (registers : RegisterFile) (notes : List Note) → IsReadAs old new name (Ok (Kept registers notes))
+kept_text : (old new : Option Log) (name : List ℕ) (registers : RegisterFile) (notes : List Note) → IsReadAs old new name (Ok (Kept registers notes))
     → (kept : List ℕ) × IsKeptOf kept (Ok (Kept registers notes))
 kept_text old new name registers notes (Ok (F.Text text), by, comes) = (text, comes)
 kept_text old new name registers notes (Ok F.Missing, by, comes) = ([], comes)
@@ -36,7 +36,7 @@ kept_text old new name registers notes (Err e, by, comes) = absurd (let bad : Ok
 
 -- ---- what it begins with
 
-pub ready : (words : InitWords) (told : Option Files) (old new : Option (List Call)) (registers : RegisterFile) (notes : List Note) (opening : Opening) → IsReadAs old new words.keep (Ok (Kept registers notes))
+pub ready : (words : InitWords) (told : Option Files) (old new : Option Log) (registers : RegisterFile) (notes : List Note) (opening : Opening) → IsReadAs old new words.keep (Ok (Kept registers notes))
     → IfSome told (λ files. IsKeptAt words.keep files (Ok (Kept registers notes))) → opening ≡ init_opening words registers notes → Begins words told (Ok (Ready opening))
 ready words told old new registers notes opening read known e =
     let found = told_text words told (Ok (Kept registers notes)) (λ kept. IsKeptOf kept (Ok (Kept registers notes))) (λ files h. h) (kept_text old new words.keep registers notes read) known in (

@@ -30,3 +30,4 @@ pub mod Steps
 pub mod NoneUnserved
 pub mod Succeeding
 pub mod Completing
+pub mod TaskFiles

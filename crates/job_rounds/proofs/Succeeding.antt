@@ -10,6 +10,7 @@ use Rattle.task_run.specs.declared.setup.Setup.{Setup}
 use Rattle.lone_work.specs.Works.{DeskTells, TaskDone}
 use Rattle.task_laws.specs.LoneWell.{AreKeysRead, ChildrenWell, IsDeskWell, IsDoneWell}
 use Rattle.task_laws.specs.RunWell.{AreAskedWell}
+use Rattle.task_laws.proofs.FilesStored.{file_keeps_stored, file_keeps_content}
 use Rattle.task_laws.proofs.OneStore.{keeps_stored_content}
 use Rattle.task_laws.proofs.Retrieving.{keeps_stored}
 use Rattle.task_laws.proofs.RunsWell.{one_succeeds}
@@ -64,5 +65,7 @@ jobs_succeed o setup limit journal past entries k desks desks' did w = desks_wel
 pub jobs_keep : (o : Opening) (setup : Setup) (journal : List Entry) → Legal o journal → JobsKeep o setup journal
 jobs_keep o setup journal legal = record {
   stored = λ told number t key stores faithful got. keeps_stored o setup told journal number t key stores faithful got;
-  content = λ told number t u key content stores faithful got plain chunks. keeps_stored_content o setup told journal number t u key content stores legal faithful got plain chunks;
+  content = λ told number t u key bytes stores faithful got plain chunks. keeps_stored_content o setup told journal number t u key bytes stores legal faithful got plain chunks;
+  stored_file = λ told number t key stores faithful played got. file_keeps_stored o setup told journal number t key stores faithful played got;
+  content_file = λ told number t u key bytes stores faithful played got plain chunks. file_keeps_content o setup told journal number t u key bytes stores legal faithful played got plain chunks;
 }

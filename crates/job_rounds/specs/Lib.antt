@@ -11,3 +11,4 @@ pub mod Posts
 pub mod PostRows
 pub mod PostLaws
 pub mod Completeness
+pub mod ToldDesks

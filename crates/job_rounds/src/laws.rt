@@ -8,6 +8,7 @@ ghost use Rattle.lone_work.specs.Works.{DeskTells};
 ghost use Rattle.job_rounds.specs.Completeness.{JobsComplete};
 ghost use Rattle.job_rounds.specs.JobsWell.{JobsSucceed, NoneUnserved};
 ghost use Rattle.job_rounds.specs.JobsKeep.{JobsKeep};
+ghost use Rattle.job_rounds.specs.ToldDesks.{TasksAreTold};
 
 /// Where all went well with the children, no task is claimed without one.
 pub fn none_unserved()
@@ -27,4 +28,9 @@ pub fn jobs_keep()
 /// Where no desk counted a fault, and all else went well from outside, each answer in the journal is a success, or says that no memory was found.
 pub fn jobs_complete()
     ensures { JobsComplete }
+{}
+
+/// Of desks on which no call was made before a run, there are files before and after each of its tasks that fit what they tell.
+pub fn tasks_are_told()
+    ensures { TasksAreTold }
 {}

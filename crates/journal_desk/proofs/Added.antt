@@ -7,7 +7,7 @@ use Rattle.std.proofs.lemmas.Bool.{le-leb}
 use Rattle.std.proofs.lemmas.List.{take_all, map-append, take-append-drop}
 use Rattle.std.proofs.lemmas.List.Concat.{flat_map-append}
 use Rattle.std.proofs.lemmas.List.Folds.{list_all-append}
-use Rattle.ann_outside.specs.Calls.{Gained, logged}
+use Rattle.ann_outside.specs.Calls.{Log, Gained, logged}
 use Rattle.ann_outside.specs.Files.{Files, content, WhereTold, CreateDoes, AppendDoes, SyncIs}
 use Rattle.ann_outside.specs.declared.file_desk.DeskError.{DeskError}
 use Rattle.ann_outside.specs.declared.file_desk.DeskError.TheVariants as E
@@ -68,7 +68,7 @@ piece_appends-append : (name : List ℕ) (xs ys : Pieces) → piece_appends name
 piece_appends-append name xs ys = map-append _ xs ys
 
 -- So many lines were taken up: some pieces of them were added, and the last one is held.
-pub record IsAdding (old new : Option (List Call)) (files files' : Option Files) (name : List ℕ) (lines : List (List ℕ)) (held : List ℕ) : Type 0 where
+pub record IsAdding (old new : Option Log) (files files' : Option Files) (name : List ℕ) (lines : List (List ℕ)) (held : List ℕ) : Type 0 where
   pub pieces : Pieces
   pub last : List (List ℕ)
   pub whole : joined pieces ++ last ≡ lines
@@ -78,7 +78,7 @@ pub record IsAdding (old new : Option (List Call)) (files files' : Option Files)
   pub calls : Gained old new (piece_appends name pieces)
   pub told : WhereTold files files' (HasGrown name (text (joined pieces)))
 
-pub adding_nothing : (log : Option (List Call)) (files : Option Files) (name held : List ℕ) → held ≡ [] → IsAdding log log files files name [] held
+pub adding_nothing : (log : Option Log) (files : Option Files) (name held : List ℕ) → held ≡ [] → IsAdding log log files files name [] held
 adding_nothing log files name held none = record {
   pieces = [];
   last = [];
@@ -110,7 +110,7 @@ small_more pieces last all one = list_all-append is_piece pieces (last ∷ []) �
 
 -- ---- a line more
 
-module _ (name : List ℕ) (line : List ℕ) (old a b : Option (List Call)) (files x y : Option Files) where
+module _ (name : List ℕ) (line : List ℕ) (old a b : Option Log) (files x y : Option Files) where
   -- it joins the piece that is held
   joins : (lines : List (List ℕ)) (held held' : List ℕ) → IsAdding old a files x name lines held → held' ≡ held ++ with_end line → held ≡ [] ⊎ length held' ≤ 65536 → b ≡ a → y ≡ x
       → IsAdding old b files y name (lines ++ line ∷ []) held'
@@ -125,7 +125,7 @@ module _ (name : List ℕ) (line : List ℕ) (old a b : Option (List Call)) (fil
         small_last =
             ⊎_elim (λ none. ap (λ (l : List (List ℕ)). is_piece (l ++ line ∷ [])) (no_lines r.last (sym r.text_is ∙ none)) ∙ one_is_piece line)
             (λ few. first_true _ _ (le-leb _ _ (subst (λ (t : List ℕ). length t ≤ 65536) text_is' few))) fits;
-        calls = subst (λ (l : Option (List Call)). Gained old l (piece_appends name r.pieces)) (sym same_log) r.calls;
+        calls = subst (λ (l : Option Log). Gained old l (piece_appends name r.pieces)) (sym same_log) r.calls;
         told = subst (λ (fs : Option Files). WhereTold files fs (HasGrown name (text (joined r.pieces)))) (sym same_files) r.told;
       }
     where
@@ -152,7 +152,7 @@ module _ (name : List ℕ) (line : List ℕ) (old a b : Option (List Call)) (fil
             (grown_more name (joined r.pieces) r.last u v w p (subst (λ (t : List ℕ). AppendDoes name t (Ok tt) v w) r.text_is q))) r.told told';
       }
 
-pub adding_more : (name : List ℕ) (lines : List (List ℕ)) (n : ℕ) (old a b : Option (List Call)) (files x y : Option Files) (held bytes held' : List ℕ)
+pub adding_more : (name : List ℕ) (lines : List (List ℕ)) (n : ℕ) (old a b : Option Log) (files x y : Option Files) (held bytes held' : List ℕ)
     → Some bytes ≡ option_map with_end (slice_get lines n) → IsAdding old a files x name (take n lines) held → TakesUp a b x y name held bytes held'
     → IsAdding old b files y name (take (n + 1) lines) held'
 adding_more name lines n old a b files x y held bytes held' is r taken =
@@ -163,7 +163,7 @@ adding_more name lines n old a b files x y held bytes held' is r taken =
 
 -- ---- the last call
 
-append_refusal : (b c : Option (List Call)) (name piece : List ℕ) (e : DeskError) → c ≡ logged b (Append name piece (Err e))
+append_refusal : (b c : Option Log) (name piece : List ℕ) (e : DeskError) → c ≡ logged b (Append name piece (Err e))
     → (ending : List Call) × IsRefusal e (Append name piece (Ok tt)) ending × Gained b c ending
 append_refusal b c name piece E.NoMemory e = ([], refl, e ∙ gained_without b (Append name piece (Err E.NoMemory)) refl)
 append_refusal b c name piece E.Failed e = (Append name piece (Err E.Failed) ∷ [], refl, e ∙ gained_call b (Append name piece (Err E.Failed)) refl)
@@ -177,7 +177,7 @@ are_pieces pieces last rest all one = record {
   small = list_all-append is_piece pieces (last ∷ singles rest) ∙ both_true _ _ all (both_true _ _ one (small_singles rest));
 }
 
-module _ (name : List ℕ) (lines : List (List ℕ)) (n : ℕ) (old a b : Option (List Call)) (files x y : Option Files) (held : List ℕ) (r : IsAdding old a files x name (take n lines) held) where
+module _ (name : List ℕ) (lines : List (List ℕ)) (n : ℕ) (old a b : Option Log) (files x y : Option Files) (held : List ℕ) (r : IsAdding old a files x name (take n lines) held) where
   -- the piece that is held was refused
   pub added_refused : (e : DeskError) → RefusesPiece a b x y name held e → AppendsLines old b name lines (Err e)
   added_refused e refused =
@@ -231,10 +231,10 @@ module _ (name : List ℕ) (lines : List (List ℕ)) (n : ℕ) (old a b : Option
         (grown_more name (joined r.pieces) r.last u v w p (subst (λ (t : List ℕ). AppendDoes name t (Ok tt) v w) r.text_is q))) r.told told'
 
 -- nothing was asked of the desk for the next line
-pub refused_nothing : (log : Option (List Call)) (files : Option Files) (name held : List ℕ) → RefusesPiece log log files files name held E.NoMemory
+pub refused_nothing : (log : Option Log) (files : Option Files) (name held : List ℕ) → RefusesPiece log log files files name held E.NoMemory
 refused_nothing log files name held = (same log, where_same (AppendDoes name held (Err E.NoMemory)) files (λ fs other. refl))
   where
-    same : (l : Option (List Call)) → l ≡ logged l (Append name held (Err E.NoMemory))
+    same : (l : Option Log) → l ≡ logged l (Append name held (Err E.NoMemory))
     same None = refl
     same (Some calls) = refl
 
@@ -245,7 +245,7 @@ module _ (name : List ℕ) (lines : List (List ℕ)) where
   each : ArePieces (singles lines) lines
   each = record { whole = joined-singles lines; small = small_singles lines }
 
-  pub made_nothing : (log : Option (List Call)) → MakesLines log log name lines (Err E.NoMemory)
+  pub made_nothing : (log : Option Log) → MakesLines log log name lines (Err E.NoMemory)
   made_nothing log = (
     singles lines,
     each,
@@ -260,7 +260,7 @@ module _ (name : List ℕ) (lines : List (List ℕ)) where
     },
   )
 
-  pub made_refused : (a b : Option (List Call)) (e : DeskError) → (e ≡ E.Missing → ⊥) → b ≡ logged a (Create name (Err e)) → MakesLines a b name lines (Err e)
+  pub made_refused : (a b : Option Log) (e : DeskError) → (e ≡ E.Missing → ⊥) → b ≡ logged a (Create name (Err e)) → MakesLines a b name lines (Err e)
   made_refused a b e there is =
       let refusal = refused e there is in (
         singles lines,
@@ -281,7 +281,7 @@ module _ (name : List ℕ) (lines : List (List ℕ)) where
       refused E.Failed there e = (Create name (Err E.Failed) ∷ [], refl, e ∙ gained_call a (Create name (Err E.Failed)) refl)
       refused E.Missing there e = absurd (there refl)
 
-  pub made_then : (a b c : Option (List Call)) (result : Result (Unit {0}) DeskError) → b ≡ logged a (Create name (Ok tt)) → AppendsLines b c name lines result → MakesLines a c name lines result
+  pub made_then : (a b c : Option Log) (result : Result (Unit {0}) DeskError) → b ≡ logged a (Create name (Ok tt)) → AppendsLines b c name lines result → MakesLines a c name lines result
   made_then a b c (Ok done) create (pieces, are, r) =
       (pieces, are, gained_more a b c (Create name (Ok tt) ∷ []) (piece_appends name pieces) (create ∙ gained_call a (Create name (Ok tt)) refl) r)
   made_then a b c (Err e) create (pieces, are, s) = (
@@ -321,11 +321,11 @@ module _ (name : List ℕ) (lines : List (List ℕ)) where
 
   -- ---- the sync of what was written
 
-  pub synced_calls : (a b c : Option (List Call)) (result : Result (Unit {0}) DeskError) → MakesLines a b name lines (Ok tt) → c ≡ b → MakesSynced a c name lines result
-  synced_calls a b c (Ok done) made same = subst (λ (x : Option (List Call)). MakesLines a x name lines (Ok tt)) (sym same) made
-  synced_calls a b c (Err e) made same = inr (subst (λ (x : Option (List Call)). MakesLines a x name lines (Ok tt)) (sym same) made)
+  pub synced_calls : (a b c : Option Log) (result : Result (Unit {0}) DeskError) → MakesLines a b name lines (Ok tt) → c ≡ b → MakesSynced a c name lines result
+  synced_calls a b c (Ok done) made same = subst (λ (x : Option Log). MakesLines a x name lines (Ok tt)) (sym same) made
+  synced_calls a b c (Err e) made same = inr (subst (λ (x : Option Log). MakesLines a x name lines (Ok tt)) (sym same) made)
 
-  pub unmade_calls : (a b : Option (List Call)) (e : DeskError) → MakesLines a b name lines (Err e) → MakesSynced a b name lines (Err e)
+  pub unmade_calls : (a b : Option Log) (e : DeskError) → MakesLines a b name lines (Err e) → MakesSynced a b name lines (Err e)
   unmade_calls a b e made = inl made
 
   pub synced_as : (result : Result (Unit {0}) DeskError) (a b c : Option Files) → WhereTold a b (IsMadeAs name (text lines) (Ok tt)) → c ≡ b → WhereTold a c (IsMadeAs name (text lines) result)

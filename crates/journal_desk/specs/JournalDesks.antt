@@ -2,7 +2,7 @@
 use Rattle.std.specs.Prelude.{ℕ, ◌≡◌, ◌≢◌, ◌≤◌, ◌⊎◌, ◌||◌, Bool, true, nat_le, length, List, [], ◌∷◌, ◌++◌, map, Option, None, Some, Result, Ok, Err}
 use Rattle.std.specs.List.{flat_map, list_all}
 use Rattle.ann_key.specs.declared.bytes.NoMemory.{NoMemory}
-use Rattle.ann_outside.specs.Calls.{logged}
+use Rattle.ann_outside.specs.Calls.{Log, logged}
 use Rattle.ann_outside.specs.Causes.{Rose}
 use Rattle.ann_outside.specs.DeskCauses.{Counts}
 use Rattle.ann_outside.specs.Files.{Files, content, AppendDoes, OthersStay, WhereTold}
@@ -46,21 +46,21 @@ abbrev pub piece_calls : List ℕ → List (List (List ℕ)) → List Call
 piece_calls name pieces = Create name (Ok tt) ∷ piece_appends name pieces
 
 -- the lines are added to the file in pieces
-abbrev pub AppendsLines : Option (List Call) → Option (List Call) → List ℕ → List (List ℕ) → Result (Unit {0}) DeskError → Type 0
+abbrev pub AppendsLines : Option Log → Option Log → List ℕ → List (List ℕ) → Result (Unit {0}) DeskError → Type 0
 AppendsLines old new name lines result = (pieces : List (List (List ℕ))) × ArePieces pieces lines × Makes old new (piece_appends name pieces) result
 
 -- a file is made anew, and the lines are added to it in pieces
-abbrev pub MakesLines : Option (List Call) → Option (List Call) → List ℕ → List (List ℕ) → Result (Unit {0}) DeskError → Type 0
+abbrev pub MakesLines : Option Log → Option Log → List ℕ → List (List ℕ) → Result (Unit {0}) DeskError → Type 0
 MakesLines old new name lines result = (pieces : List (List (List ℕ))) × ArePieces pieces lines × Makes old new (piece_calls name pieces) result
 
 -- all of these calls were made, or the first of them and then one that was refused; or all were made and the file's sync was refused,
 -- which stands in no log
-abbrev pub MakesSynced : Option (List Call) → Option (List Call) → List ℕ → List (List ℕ) → Result (Unit {0}) DeskError → Type 0
+abbrev pub MakesSynced : Option Log → Option Log → List ℕ → List (List ℕ) → Result (Unit {0}) DeskError → Type 0
 MakesSynced old new name lines (Ok done) = MakesLines old new name lines (Ok tt)
 MakesSynced old new name lines (Err e) = MakesLines old new name lines (Err e) ⊎ MakesLines old new name lines (Ok tt)
 
 -- the same of the calls that write the lines
-abbrev pub IsWrittenBy : Option (List Call) → Option (List Call) → List ℕ → List (List ℕ) → Result JournalWritten NoMemory → Type 0
+abbrev pub IsWrittenBy : Option Log → Option Log → List ℕ → List (List ℕ) → Result JournalWritten NoMemory → Type 0
 IsWrittenBy old new name lines (Ok Done) = MakesSynced old new name lines (Ok tt)
 IsWrittenBy old new name lines (Ok Fault) = MakesSynced old new name lines (Err E.Failed) ⊎ MakesSynced old new name lines (Err E.Missing)
 IsWrittenBy old new name lines (Err e) = MakesSynced old new name lines (Err E.NoMemory)
@@ -68,13 +68,13 @@ IsWrittenBy old new name lines (Err e) = MakesSynced old new name lines (Err E.N
 -- ---- on the way
 
 -- the line, with its end, joined the piece that is held; or that piece was added to the file, and the line is the next one
-abbrev pub TakesUp : Option (List Call) → Option (List Call) → Option Files → Option Files → List ℕ → List ℕ → List ℕ → List ℕ → Type 0
+abbrev pub TakesUp : Option Log → Option Log → Option Files → Option Files → List ℕ → List ℕ → List ℕ → List ℕ → Type 0
 TakesUp log log' files files' name held line held' =
     ((held' ≡ held ++ line) × (held ≡ [] ⊎ length held' ≤ 65536) × (log' ≡ log) × (files' ≡ files))
     ⊎ ((held' ≡ line) × (log' ≡ logged log (Append name held (Ok tt))) × WhereTold files files' (AppendDoes name held (Ok tt)))
 
 -- the piece that is held was refused
-abbrev pub RefusesPiece : Option (List Call) → Option (List Call) → Option Files → Option Files → List ℕ → List ℕ → DeskError → Type 0
+abbrev pub RefusesPiece : Option Log → Option Log → Option Files → Option Files → List ℕ → List ℕ → DeskError → Type 0
 RefusesPiece log log' files files' name held e = (log' ≡ logged log (Append name held (Err e))) × WhereTold files files' (AppendDoes name held (Err e))
 
 -- ---- the files

@@ -2,7 +2,7 @@
 use Rattle.std.proofs.Common.{◌≡◌, ◌⊎◌, ℕ, List, inl, inr, Option, Ok, Err}
 use Rattle.std.specs.Prelude.{Result}
 use Rattle.ann_key.specs.declared.bytes.NoMemory.{NoMemory}
-use Rattle.ann_outside.specs.declared.file_desk.Call.{Call}
+use Rattle.ann_outside.specs.Calls.{Log}
 use Rattle.ann_outside.specs.declared.file_desk.DeskError.TheVariants as E
 use Rattle.desk_file.specs.Names.{NamesOnly}
 use Rattle.desk_file.specs.Writes.{new_name}
@@ -12,10 +12,10 @@ use Rattle.keep_desk.specs.declared.reading.KeptRead.{KeptRead}
 use Rattle.keep_desk.specs.declared.writing.KeptWritten.{KeptWritten}
 use Rattle.keep_desk.specs.declared.writing.KeptWritten.TheVariants as W
 
-pub kept_read_named : {old new : Option (List Call)} (name : List ℕ) (result : Result KeptRead NoMemory) → IsReadAs old new name result → NamesOnly (λ other. other ≡ name) old new
+pub kept_read_named : {old new : Option Log} (name : List ℕ) (result : Result KeptRead NoMemory) → IsReadAs old new name result → NamesOnly (λ other. other ≡ name) old new
 kept_read_named name result (read, by, comes) = reads_named by
 
-pub kept_written_named : {old new : Option (List Call)} (name text : List ℕ) (result : Result KeptWritten NoMemory) → IsWrittenBy old new name text result → NamesOnly (λ other. (other ≡ name) ⊎ (other ≡ new_name name)) old new
+pub kept_written_named : {old new : Option Log} (name text : List ℕ) (result : Result KeptWritten NoMemory) → IsWrittenBy old new name text result → NamesOnly (λ other. (other ≡ name) ⊎ (other ≡ new_name name)) old new
 kept_written_named name text (Ok W.TooLarge) h = names_none h.1
 kept_written_named name text (Ok W.Done) h = replaces_named name text (Ok tt) h.1
 kept_written_named name text (Ok W.Fault) (inl h) = replaces_named name text (Err E.Failed) h

@@ -1,10 +1,10 @@
 -- What a kept file at a desk hands on, and how another one takes its place.
 use Rattle.std.specs.Prelude.{ℕ, ◌≡◌, ◌≢◌, ◌≤◌, ◌<◌, ◌⊎◌, ⊤, List, [], length, Option, None, Some, unwrap_or, Result, Ok, Err}
 use Rattle.ann_key.specs.declared.bytes.NoMemory.{NoMemory}
+use Rattle.ann_outside.specs.Calls.{Log}
 use Rattle.ann_outside.specs.Causes.{Rose}
 use Rattle.ann_outside.specs.DeskCauses.{Counts}
 use Rattle.ann_outside.specs.Files.{Files, content, OthersStay}
-use Rattle.ann_outside.specs.declared.file_desk.Call.{Call}
 use Rattle.ann_outside.specs.declared.file_desk.DeskError.{DeskError}
 use Rattle.ann_outside.specs.declared.file_desk.DeskError.TheVariants as E
 use Rattle.desk_file.specs.Reads.{IsReadBy}
@@ -37,7 +37,7 @@ FileComesTo (Ok F.Fault) result = result ≡ Ok Fault
 FileComesTo (Err e) result = result ≡ Err e
 
 -- the file was read whole or as far as it may be, and this is what it comes to
-abbrev pub IsReadAs : Option (List Call) → Option (List Call) → List ℕ → Result KeptRead NoMemory → Type 0
+abbrev pub IsReadAs : Option Log → Option Log → List ℕ → Result KeptRead NoMemory → Type 0
 IsReadAs old new name result = (read : Result FileRead NoMemory) × IsReadBy old new name MOST_BYTES read × FileComesTo read result
 
 -- the text of the file, which is empty where there is none
@@ -67,7 +67,7 @@ written_as (Err E.Missing) = Ok W.Fault
 written_as (Err E.NoMemory) = Err record {}
 
 -- the text is too large and nothing was asked of the desk; or it took the file's place, or a call was refused
-abbrev pub IsWrittenBy : Option (List Call) → Option (List Call) → List ℕ → List ℕ → Result KeptWritten NoMemory → Type 0
+abbrev pub IsWrittenBy : Option Log → Option Log → List ℕ → List ℕ → Result KeptWritten NoMemory → Type 0
 IsWrittenBy old new name text (Ok W.TooLarge) = (MOST_BYTES < length text) × (new ≡ old)
 IsWrittenBy old new name text (Ok W.Done) = (length text ≤ MOST_BYTES) × Replaces old new name text (Ok tt)
 IsWrittenBy old new name text (Ok W.Fault) =

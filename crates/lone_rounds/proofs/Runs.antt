@@ -1,7 +1,8 @@
 -- The tasks that are done, as the journal grows.
-use Rattle.std.proofs.Common.{◌≡◌, ℕ, ◌<◌, List, [], ◌∷◌, ◌++◌, refl, sym, ap, subst, ◌∙◌, append_assoc, append-nil, false, Some, None, Option, inl, inr}
-use Rattle.std.specs.Prelude.{map, Ok, All, option_map}
+use Rattle.std.proofs.Common.{◌≡◌, ℕ, ◌<◌, List, [], ◌∷◌, ◌++◌, refl, sym, ap, subst, ◌∙◌, append_assoc, false, inl, inr}
+use Rattle.std.specs.Prelude.{map, Ok, All}
 use Rattle.std.proofs.lemmas.List.Elements.{All-nil, All-cons}
+pub use Rattle.ann_outside.proofs.Gains.{gained_nothing, gained_more}
 use Rattle.ann_outside.specs.Calls.{Gained}
 use Rattle.ann_outside.specs.DeskCauses.{Counts}
 use Rattle.ann_outside.specs.declared.file_desk.Call.{Call}
@@ -83,14 +84,6 @@ answers_both (r ∷ xs) ys = ap (λ (l : List (ℕ × Answer)). (r.task, r.answe
 pub caused_both : (a b d : Counts) (xs ys : List TaskDone) → CausedInTurn a xs b → CausedInTurn b ys d → CausedInTurn a (xs ++ ys) d
 caused_both a b d [] ys h k = subst (λ (w : Counts). CausedInTurn w ys d) h k
 caused_both a b d (r ∷ xs) ys h k = (h.0, caused_both r.counts b d xs ys h.1 k)
-
-pub gained_nothing : (log : Option (List Call)) → Gained log log []
-gained_nothing None = refl
-gained_nothing (Some calls) = ap (λ (l : List Call). Some l) (sym (append-nil calls))
-
-pub gained_more : (a b d : Option (List Call)) (xs ys : List Call) → Gained a b xs → Gained b d ys → Gained a d (xs ++ ys)
-gained_more None b d xs ys h k = k ∙ ap (λ (o : Option (List Call)). option_map (λ (log : List Call). log ++ ys) o) h
-gained_more (Some calls) b d xs ys h k = k ∙ ap (λ (o : Option (List Call)). option_map (λ (log : List Call). log ++ ys) o) h ∙ ap (λ (l : List Call). Some l) (append_assoc calls xs ys)
 
 -- ---- one stretch after another
 

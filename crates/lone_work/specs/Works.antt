@@ -3,7 +3,7 @@ use Rattle.std.specs.Prelude.{ℕ, ◌≡◌, ◌<◌, ◌==◌, ◌&&◌, not, 
 use Rattle.std.specs.List.{list_all}
 use Rattle.task_text.specs.declared.task.Task.{Task}
 use Rattle.task_text.specs.TaskLines.{IsTask}
-use Rattle.ann_outside.specs.Calls.{Gained}
+use Rattle.ann_outside.specs.Calls.{Log, Gained}
 use Rattle.ann_outside.specs.DeskCauses.{Counts}
 use Rattle.ann_outside.specs.declared.file_desk.Call.{Call}
 use Rattle.journal_model.specs.declared.answer.Answer.{Answer}
@@ -67,10 +67,10 @@ ClaimsNext o number c old new None = (new ≡ old) × IsThrough o old c
 
 -- what a desk tells that a worker may change: its log, and its counts
 pub record DeskTells : Type 0 where
-  pub log : Option (List Call)
+  pub log : Option Log
   pub counts : Counts
 
-abbrev pub desk_tells : Option (List Call) → Counts → DeskTells
+abbrev pub desk_tells : Option Log → Counts → DeskTells
 desk_tells log counts = record { log = log; counts = counts }
 
 -- a task, the calls of its desk, its answer, and the desk's counts then

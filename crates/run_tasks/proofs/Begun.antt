@@ -5,8 +5,8 @@ use Rattle.std.proofs.lemmas.Bool.Decides.{nat_tests}
 use Rattle.std.proofs.lemmas.List.{length-map, length-replicate}
 use Rattle.std.proofs.lemmas.List.Elements.{All-head, All-tail}
 use Rattle.ann_key.specs.declared.bytes.NoMemory.{NoMemory}
+use Rattle.ann_outside.specs.Calls.{Log}
 use Rattle.ann_outside.specs.Files.{Files}
-use Rattle.ann_outside.specs.declared.file_desk.Call.{Call}
 use Rattle.task_text.specs.TaskLines.{fault_of, line_of, IsTask}
 use Rattle.task_text.specs.declared.task.Task.{Task}
 use Rattle.reg_file.specs.Registers.{RegisterFile}
@@ -62,7 +62,7 @@ module _ (words : RunWords) (told : Option Files) (name : List ℕ) (named : wor
       go (Some files) e h =
           (text_at name files, named_text words told name (text_at name files) named (subst (λ (x : Option Files). IfSome x (λ files'. text_at name files ≡ text_at name files')) (sym e) refl), at files h)
 
-  kept_text : (old new : Option (List Call)) (registers : RegisterFile) (notes : List Note) → IsReadAs old new name (Ok (K.Kept registers notes))
+  kept_text : (old new : Option Log) (registers : RegisterFile) (notes : List Note) → IsReadAs old new name (Ok (K.Kept registers notes))
       → (kept : List ℕ) × IsKeptOf kept (Ok (K.Kept registers notes))
   kept_text old new registers notes (Ok (F.Text text), by, comes) = (text, comes)
   kept_text old new registers notes (Ok F.Missing, by, comes) = ([], comes)
@@ -70,20 +70,20 @@ module _ (words : RunWords) (told : Option Files) (name : List ℕ) (named : wor
   kept_text old new registers notes (Ok F.Fault, by, comes) = absurd (let bad : Ok (K.Kept registers notes) ≡ Ok K.Fault = comes in cc)
   kept_text old new registers notes (Err e, by, comes) = absurd (let bad : Ok (K.Kept registers notes) ≡ Err e = comes in cc)
 
-  bad_text : (old new : Option (List Call)) (line : ℕ) → IsReadAs old new name (Ok (K.BadLine line)) → (kept : List ℕ) × (bad_line kept ≡ Some line)
+  bad_text : (old new : Option Log) (line : ℕ) → IsReadAs old new name (Ok (K.BadLine line)) → (kept : List ℕ) × (bad_line kept ≡ Some line)
   bad_text old new line (Ok (F.Text text), by, comes) = (text, comes)
   bad_text old new line (Ok F.Missing, by, comes) = ([], comes)
   bad_text old new line (Ok F.TooLarge, by, comes) = absurd (let bad : Ok (K.BadLine line) ≡ Ok K.TooLarge = comes in cc)
   bad_text old new line (Ok F.Fault, by, comes) = absurd (let bad : Ok (K.BadLine line) ≡ Ok K.Fault = comes in cc)
   bad_text old new line (Err e, by, comes) = absurd (let bad : Ok (K.BadLine line) ≡ Err e = comes in cc)
 
-  pub hands_on : (old new : Option (List Call)) (registers : RegisterFile) (notes : List Note) → IsReadAs old new name (Ok (K.Kept registers notes))
+  pub hands_on : (old new : Option Log) (registers : RegisterFile) (notes : List Note) → IsReadAs old new name (Ok (K.Kept registers notes))
       → IfSome told (λ files. IsKeptAt name files (Ok (K.Kept registers notes))) → HandsOn words told (record { registers = registers; notes = notes })
   hands_on old new registers notes read known =
       let f = found (Ok (K.Kept registers notes)) (λ kept. IsKeptOf kept (Ok (K.Kept registers notes))) (λ files h. h) (kept_text old new registers notes read) known in
       record { kept = f.0; text = f.1; right = f.2.0; registers = f.2.1; notes = f.2.2 }
 
-  pub has_bad_line : (old new : Option (List Call)) (line : ℕ) → IsReadAs old new name (Ok (K.BadLine line))
+  pub has_bad_line : (old new : Option Log) (line : ℕ) → IsReadAs old new name (Ok (K.BadLine line))
       → IfSome told (λ files. IsKeptAt name files (Ok (K.BadLine line))) → HasText words told (λ kept. bad_line kept ≡ Some line)
   has_bad_line old new line read known =
       found (Ok (K.BadLine line)) (λ kept. bad_line kept ≡ Some line) (λ files h. h) (bad_text old new line read) known

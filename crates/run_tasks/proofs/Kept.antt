@@ -2,10 +2,10 @@
 use Rattle.std.proofs.Common.{◌≡◌, ◌⊎◌, ℕ, List, refl, sym, ap, subst, arith, inl, inr, Some, None, Option, Ok, Err}
 use Rattle.std.specs.Prelude.{Result}
 use Rattle.ann_key.specs.declared.bytes.NoMemory.{NoMemory}
+use Rattle.ann_outside.specs.Calls.{Log}
 use Rattle.ann_outside.specs.Causes.{Rose}
 use Rattle.ann_outside.specs.DeskCauses.{Counts}
 use Rattle.ann_outside.specs.Files.{Files, WhereTold, OthersStay, content}
-use Rattle.ann_outside.specs.declared.file_desk.Call.{Call}
 use Rattle.desk_file.specs.Writes.{new_name}
 use Rattle.keep_desk.specs.declared.writing.KeptWritten.{KeptWritten}
 use Rattle.keep_desk.specs.declared.writing.KeptWritten.TheVariants as W
@@ -56,7 +56,7 @@ same_before words told table h = go told table.files h
     go (Some old) None h = absurd h
     go (Some old) (Some new) h = λ other d. ap (content other) h
 
-module _ (words : RunWords) (told : Option Files) (table : TableValue) (o : Opening) (journal : List Entry) (name text : List ℕ) (log log' : Option (List Call)) (old : Counts) (named : words.keep ≡ Some name)
+module _ (words : RunWords) (told : Option Files) (table : TableValue) (o : Opening) (journal : List Entry) (name text : List ℕ) (log log' : Option Log) (old : Counts) (named : words.keep ≡ Some name)
     (is : text ≡ kept_after o journal) where
   kept_in : (written : KeptWritten) → IsWrittenBy log log' name text (Ok written) → WhereTold told table.files (IsWrittenIn name text (Ok written)) → HasWriteCauses told old table.counts (Ok written)
       → IsKeptIn words name told table o journal written

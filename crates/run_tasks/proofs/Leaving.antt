@@ -1,9 +1,10 @@
 -- What is left of a run's programs, and which desks were asked for.
 use Rattle.std.proofs.Common.{◌≡◌, ◌≤◌, ◌+◌, inl, inr, ℕ, suc, zero, List, [], ◌∷◌, ◌++◌, length, append_assoc, refl, sym, ap, subst, ◌∙◌, arith, true, false, Some, None, Option, Ok}
-use Rattle.std.specs.Prelude.{Result, IsErr}
+use Rattle.std.specs.Prelude.{Result, IsErr, map}
 use Rattle.std.specs.List.{range_with_len}
 use Rattle.std.proofs.lemmas.List.{append-nil, length-append, map-append}
 use Rattle.ann_outside.specs.Starts.{Starts}
+use Rattle.ann_outside.specs.Calls.{IsLogFrom, log_origin}
 use Rattle.ann_outside.specs.Causes.{AddsOne, Stays}
 use Rattle.ann_outside.specs.Desks.{Made}
 use Rattle.journal_model.specs.declared.entry.Entry.{Entry}
@@ -12,8 +13,9 @@ use Rattle.child_end.specs.Wires.{WireValue, AreWires, came}
 use Rattle.child_end.specs.Programs.{ProgramsValue, told, AddsAll, HaveStarted, Leaves, RoseBy, is_failed_start}
 use Rattle.lone_rounds.proofs.Leaving.{rose_still}
 use Rattle.child_end.specs.Outsides.{TableValue}
-use Rattle.run_tasks.specs.Runs.{AddsMade}
+use Rattle.run_tasks.specs.Runs.{AddsMade, BeganAs}
 use Rattle.run_tasks.specs.Workings.{AddsWorkers}
+use Rattle.run_tasks.proofs.Origins.{began_more, began_same}
 
 -- ---- programs
 
@@ -66,20 +68,22 @@ same_stays (Some xs) = refl
 -- no worker's desk was asked for
 pub adds_no_worker : (jobs : ℕ) (made : Option (List Made)) (workers : List TableValue) → workers ≡ [] → AddsWorkers jobs made made workers
 adds_no_worker jobs made workers none =
-    subst (AddsWorkers jobs made made) (sym none) record { few = omega arith; more = []; desks = made_none made made (same_stays made); numbers = refl }
+    subst (AddsWorkers jobs made made) (sym none) record { few = omega arith; more = []; desks = made_none made made (same_stays made); numbers = refl; began = tt }
 
--- as many desks, whatever they tell now
-pub adds_as_many : (jobs : ℕ) (old new : Option (List Made)) (workers workers' : List TableValue) → length workers' ≡ length workers → AddsWorkers jobs old new workers → AddsWorkers jobs old new workers'
-adds_as_many jobs old new workers workers' same h = record {
+-- as many desks, whose logs began with the same files, whatever else they tell now
+pub adds_as_many : (jobs : ℕ) (old new : Option (List Made)) (workers workers' : List TableValue) → length workers' ≡ length workers
+    → map (λ (t : TableValue). log_origin t.log) workers' ≡ map (λ (t : TableValue). log_origin t.log) workers → AddsWorkers jobs old new workers → AddsWorkers jobs old new workers'
+adds_as_many jobs old new workers workers' same origins h = record {
   few = subst (λ (n : ℕ). n ≤ jobs) (sym same) h.few;
   more = h.more;
   desks = h.desks;
   numbers = h.numbers ∙ ap (range_with_len 1) (sym same);
+  began = began_same h.more workers workers' origins h.began;
 }
 
 -- they are within a larger number
 pub adds_within : (n jobs : ℕ) (old new : Option (List Made)) (workers : List TableValue) → n ≤ jobs → AddsWorkers n old new workers → AddsWorkers jobs old new workers
-adds_within n jobs old new workers within h = record { few = let few = h.few in omega (arith, few, within); more = h.more; desks = h.desks; numbers = h.numbers }
+adds_within n jobs old new workers within h = record { few = let few = h.few in omega (arith, few, within); more = h.more; desks = h.desks; numbers = h.numbers; began = h.began }
 
 -- no memory was found for the next one
 pub adds_stay : (n jobs : ℕ) (old mid new : Option (List Made)) (workers : List TableValue) → n ≤ jobs → Stays mid new → AddsWorkers n old mid workers → AddsWorkers jobs old new workers
@@ -101,8 +105,8 @@ range_more a (suc n) =
 
 -- the next one was asked for
 pub adds_worker : (n : ℕ) (old mid new : Option (List Made)) (workers workers' : List TableValue) (table : TableValue) (m : Made) → length workers ≡ n → workers' ≡ workers ++ table ∷ [] → m.number ≡ n + 1
-    → AddsWorkers n old mid workers → AddsOne mid new m → AddsWorkers (n + 1) old new workers'
-adds_worker n old mid new workers workers' table m long one next h adds =
+    → AddsWorkers n old mid workers → AddsOne mid new m → IsLogFrom table.log m.files → AddsWorkers (n + 1) old new workers'
+adds_worker n old mid new workers workers' table m long one next h adds from =
     let more : length workers' ≡ suc n = ap (λ (ts : List TableValue). length ts) one ∙ length-append workers (table ∷ []) ∙ (let e : length workers + 1 ≡ suc n = omega (arith, long) in e) in
     let here : m.number ≡ 1 + n = (let e : n + 1 ≡ 1 + n = omega arith in next ∙ e) in
     record {
@@ -115,6 +119,7 @@ adds_worker n old mid new workers workers' table m long one next h adds =
           ∙ ap (λ (k : ℕ). range_with_len 1 n ++ k ∷ []) here
           ∙ sym (range_more 1 n)
           ∙ ap (range_with_len 1) (sym more);
+      began = subst (BeganAs (h.more ++ m ∷ [])) (sym one) (began_more h.more workers m table h.began from);
     }
 
 -- and desk 0 before

@@ -5,3 +5,4 @@ pub mod Leaving
 pub mod Journaled
 pub mod Crews
 pub mod Naming
+pub mod Origins

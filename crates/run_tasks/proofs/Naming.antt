@@ -2,7 +2,7 @@
 use Rattle.std.proofs.Common.{◌≡◌, ◌⊎◌, ◌∙◌, ℕ, List, ap, sym, subst, inl, inr, Some, Option}
 use Rattle.std.specs.Prelude.{Result}
 use Rattle.ann_key.specs.declared.bytes.NoMemory.{NoMemory}
-use Rattle.ann_outside.specs.declared.file_desk.Call.{Call}
+use Rattle.ann_outside.specs.Calls.{Log}
 use Rattle.desk_file.specs.Names.{NamesOnly}
 use Rattle.desk_file.specs.Writes.{new_name}
 use Rattle.desk_file.proofs.Naming.{names_wider}
@@ -19,7 +19,7 @@ use Rattle.run_tasks.specs.Runs.{IsKeptFile, IsRunFile}
 kept_file : (words : RunWords) (name other : List ℕ) → words.keep ≡ Some name → (other ≡ name) ⊎ (other ≡ new_name name) → IsRunFile words other
 kept_file words name other e h = inl (subst (λ (k : Option (List ℕ)). IsKeptFile k other) (sym e) h)
 
-module _ (words : RunWords) {old new : Option (List Call)} (name : List ℕ) where
+module _ (words : RunWords) {old new : Option Log} (name : List ℕ) where
   pub read_names : (result : Result KeptRead NoMemory) → words.keep ≡ Some name → IsReadAs old new name result → NamesOnly (IsRunFile words) old new
   read_names result e by = names_wider (λ other is. kept_file words name other e (inl is)) (kept_read_named name result by)
 

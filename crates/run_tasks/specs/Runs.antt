@@ -3,9 +3,10 @@ use Rattle.std.specs.Prelude.{ℕ, ◌≡◌, ◌⊎◌, ◌==◌, ◌≤◌, �
 use Rattle.std.specs.List.{range_with_len}
 use Rattle.ann_key.specs.declared.bytes.NoMemory.{NoMemory}
 use Rattle.ann_outside.specs.Causes.{Rose}
-use Rattle.ann_outside.specs.Calls.{IsLogBlank}
+use Rattle.ann_outside.specs.Calls.{IsLogBlank, IsLogFrom}
 use Rattle.ann_outside.specs.Desks.{Made, no_counts}
 use Rattle.ann_outside.specs.Files.{Files, WhereTold, OthersStay}
+use Rattle.ann_outside.specs.Played.{ArePlayed}
 use Rattle.desk_file.specs.Names.{CallsName}
 use Rattle.desk_file.specs.Writes.{new_name, IsReplacedBy}
 use Rattle.task_text.specs.declared.task.Task.{Task}
@@ -216,8 +217,21 @@ AddsMade None (Some ys) more = ⊥
 AddsMade (Some xs) None more = ⊥
 AddsMade (Some xs) (Some ys) more = ys ≡ xs ++ more
 
--- desk 0 was asked for first, and then those of the workers, in turn, as many as the words say at most, and this came of it. Where desk 0
--- tells its calls, they name the kept file, the one in which it is made, and the journal file alone.
+-- where a worker's desk tells its calls, its log began with the files that were told of it when it was made
+abbrev pub BeganAs : List Made → List TableValue → Type 0
+BeganAs [] [] = Unit {0}
+BeganAs [] (table ∷ tables) = ⊥
+BeganAs (m ∷ more) [] = ⊥
+BeganAs (m ∷ more) (table ∷ tables) = IsLogFrom table.log m.files × BeganAs more tables
+
+-- where a desk tells its calls and its files, these are what its calls made of those that its log began with
+abbrev pub ArePlayedAt : List TableValue → Type 0
+ArePlayedAt [] = Unit {0}
+ArePlayedAt (table ∷ tables) = ∥ ArePlayed table.log table.files ∥₁ × ArePlayedAt tables
+
+-- desk 0 was asked for first, and then those of the workers, in turn, as many as the words say at most, and this came of it. Where a desk
+-- tells its calls and its files, these are what the calls made of those that it had when it was made; and where desk 0 tells its calls, they
+-- name the kept file, the one in which it is made, and the journal file alone.
 pub record IsAtDesk (words : RunWords) (clock : Option ℕ) (before : OutsideValue) (flow : InputFlow) (after : OutsideValue) (made : MadeValue) : Type 0 where
   pub told : Option Files
   pub table : TableValue
@@ -227,8 +241,10 @@ pub record IsAtDesk (words : RunWords) (clock : Option ℕ) (before : OutsideVal
   pub more : List Made
   pub desks : AddsMade before.made after.made (record { number = 0; files = told } ∷ more)
   pub numbers : map (λ m. m.number) more ≡ range_with_len 1 (length workers)
+  pub began : BeganAs more workers
+  pub played : ArePlayedAt made.tables
   pub ends : EndsRun words clock told flow table workers made made.end
-  pub named : IfSome table.log (CallsName (IsRunFile words))
+  pub named : IfSome table.log (λ log. CallsName (IsRunFile words) log.calls)
   pub none : IfUnwhole made.end (made.answers ≡ [])
   pub objects : Leaves (made.end ≡ Memory) words.program made.journal before.programs after.programs made.wires
 

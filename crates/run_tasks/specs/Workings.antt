@@ -16,7 +16,7 @@ use Rattle.child_end.specs.Outsides.{TableValue}
 use Rattle.lone_work.specs.Works.{DeskTells}
 use Rattle.job_rounds.specs.JobRuns.{RanJobs}
 use Rattle.run_tasks.specs.Inputs.{run_setup}
-use Rattle.run_tasks.specs.Runs.{AreAnswers, AreFresh, AreWritten, RunFilesStay, IsCutShort, IsRunKept, AddsMade, table_tells}
+use Rattle.run_tasks.specs.Runs.{BeganAs, AreAnswers, AreFresh, AreWritten, RunFilesStay, IsCutShort, IsRunKept, AddsMade, table_tells}
 use Rattle.run_tasks.specs.declared.made.RunEnd.{RunEnd}
 use Rattle.run_tasks.specs.declared.made.RunEnd.TheVariants.{Memory, Done}
 use Rattle.run_tasks.specs.declared.rounds.Ready.{Ready}
@@ -107,3 +107,4 @@ pub record AddsWorkers (jobs : ℕ) (old new : Option (List Made)) (workers : Li
   pub more : List Made
   pub desks : AddsMade old new more
   pub numbers : map (λ m. m.number) more ≡ range_with_len 1 (length workers)
+  pub began : BeganAs more workers

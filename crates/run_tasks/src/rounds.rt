@@ -1,6 +1,7 @@
 // The tasks of a run, with a desk for each worker.
 ghost use Rattle.std.specs.Prelude.{◌≡◌, ◌≤◌, ◌<◌, ◌*◌, [], IfOk, OnOk, false, map, vec_len, vec_capacity};
 ghost use Rattle.annex_model.specs.Lines.{has_newline};
+ghost use Rattle.ann_outside.specs.Calls.{log_origin};
 ghost use Rattle.journal_model.specs.Beginnings.{MayBegin};
 ghost use Rattle.child_end.specs.Outsides.{table_value};
 ghost use Rattle.desk_file.specs.Names.{NamesOnly};
@@ -138,6 +139,7 @@ where
     ensures ends { EndsWork words.now (D.files desk.old) (table_value D.counts D.files D.log desk.new) ready.core.opening (map (table_value D.counts D.files D.log) result.crew.items) result.journal.entries result.answers.items result.end }
     ensures calls { NamesOnly (IsRunFile words.now) (D.log desk.old) (D.log desk.new) }
     ensures crew { vec_len result.crew ≡ words.now.jobs }
+    ensures origins { map (λ k. log_origin (D.log k)) result.crew.items ≡ map (λ k. log_origin (D.log k)) crew.items }
     ensures leaves { Leaves (result.end ≡ Memory) words.now.program result.journal.entries (programs_value (P.starts programs.old) (P.faults programs.old)) (programs_value (P.starts programs.new) (P.faults programs.new)) (map (wire_value P.Inlet.taken P.Inlet.faults P.Inlet.number P.Inlet.is_open P.Outlet.given P.Outlet.left P.Outlet.faults P.Outlet.number P.Outlet.is_open) wires.new.items) }
 {
     let Ready { core, plan, tasks } = ready;

@@ -168,4 +168,6 @@ impl<R: Wait> Desk for SharedDesk<R> {
         };
         self.counted(done)
     }
+
+    ghost played = { λ d. ∣ tt ∣₁ };
 }

@@ -2,9 +2,9 @@
 use Rattle.std.proofs.Common.{◌≡◌, ◌∙◌, ℕ, List, refl, sym, ap, subst, inr, Some, None, Option, Ok}
 use Rattle.std.specs.Prelude.{Result, IfOk, IsErr, true, false}
 use Rattle.ann_key.specs.declared.bytes.NoMemory.{NoMemory}
+use Rattle.ann_outside.specs.Calls.{Log}
 use Rattle.ann_outside.specs.DeskCauses.{Counts}
 use Rattle.ann_outside.specs.Files.{Files, WhereTold, OthersStay}
-use Rattle.ann_outside.specs.declared.file_desk.Call.{Call}
 use Rattle.desk_file.specs.Writes.{new_name}
 use Rattle.keep_desk.specs.declared.writing.KeptWritten.{KeptWritten}
 use Rattle.keep_desk.specs.declared.writing.KeptWritten.TheVariants as W
@@ -52,13 +52,13 @@ is_run words told o o' journal begins e legal run =
       run = run;
     }
 
-kept_as : (words : InitWords) (told told' : Option Files) (counts : Counts) (log : Option (List Call)) (o : Opening) (journal : List Entry) (k : KeptWritten)
+kept_as : (words : InitWords) (told told' : Option Files) (counts : Counts) (log : Option Log) (o : Opening) (journal : List Entry) (k : KeptWritten)
     → IsInitKept words told (record { counts = counts; files = told'; log = None }) o journal k → IsInitKept words told (record { counts = counts; files = told'; log = log }) o journal k
 kept_as words told told' counts log o journal W.Done h = h
 kept_as words told told' counts log o journal W.TooLarge h = h
 kept_as words told told' counts log o journal W.Fault h = h
 
-pub ends_kept : (words : InitWords) (told told' : Option Files) (counts : Counts) (log : Option (List Call)) (o o' : Opening) (journal : List Entry) (end : End)
+pub ends_kept : (words : InitWords) (told told' : Option Files) (counts : Counts) (log : Option Log) (o o' : Opening) (journal : List Entry) (end : End)
     → (begins : Begins words told (Ok (Ready o))) → (e : o' ≡ o) → Legal o' journal → IsSetup journal → outcome_of journal ≡ Some Initialized → EndsKeep words told told' counts o' journal end
     → EndsInit words told (record { counts = counts; files = told'; log = log }) journal end
 unfolding is_run
@@ -68,7 +68,7 @@ ends_kept words told told' counts log o o' journal Memory begins e legal run out
 ends_kept words told told' counts log o o' journal end begins e legal run outcome h = absurd h
 
 -- what was asked of the child is kept
-pub ends_set : (words : InitWords) (told told' : Option Files) (counts : Counts) (log : Option (List Call)) (table : TableValue) (o o' : Opening) (journal journal' : List Entry) (setup : Setup) (end end' : End)
+pub ends_set : (words : InitWords) (told told' : Option Files) (counts : Counts) (log : Option Log) (table : TableValue) (o o' : Opening) (journal journal' : List Entry) (setup : Setup) (end end' : End)
     → Begins words told (Ok (Ready o)) → o' ≡ o → Legal o' journal → IsSetup journal → outcome_of journal ≡ Some setup → setup ≡ Initialized → EndsKeep words told told' counts o' journal end
     → end' ≡ end → table ≡ record { counts = counts; files = told'; log = log } → journal' ≡ journal → EndsInit words told table journal' end'
 ends_set words told told' counts log table o o' journal journal' setup end end' begins e legal run outcome is h f t j =

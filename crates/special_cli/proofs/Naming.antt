@@ -2,7 +2,7 @@
 use Rattle.std.proofs.Common.{◌≡◌, ◌⊎◌, ℕ, List, Option, subst}
 use Rattle.std.specs.Prelude.{Result}
 use Rattle.ann_key.specs.declared.bytes.NoMemory.{NoMemory}
-use Rattle.ann_outside.specs.declared.file_desk.Call.{Call}
+use Rattle.ann_outside.specs.Calls.{Log}
 use Rattle.desk_file.specs.Names.{NamesOnly}
 use Rattle.desk_file.specs.Writes.{new_name}
 use Rattle.keep_desk.specs.KeptDesks.{IsWrittenBy}
@@ -12,5 +12,5 @@ use Rattle.cli_words.specs.declared.command.InitWords.{InitWords}
 use Rattle.special_cli.specs.Setups.{IsInitFile}
 
 -- the kept file is written by the name that the words give
-pub kept_named : (words : InitWords) {old new : Option (List Call)} (name text : List ℕ) (result : Result KeptWritten NoMemory) → name ≡ words.keep → IsWrittenBy old new name text result → NamesOnly (IsInitFile words) old new
+pub kept_named : (words : InitWords) {old new : Option Log} (name text : List ℕ) (result : Result KeptWritten NoMemory) → name ≡ words.keep → IsWrittenBy old new name text result → NamesOnly (IsInitFile words) old new
 kept_named words {old} {new} name text result is by = subst (λ (n : List ℕ). NamesOnly (λ other. (other ≡ n) ⊎ (other ≡ new_name n)) old new) is (kept_written_named name text result by)

@@ -123,7 +123,7 @@ pub record IsAtDesk (words : InitWords) (before : OutsideValue) (ran : RanValue)
   pub tables : ran.left.tables ≡ table ∷ []
   pub made : AddsOne before.made ran.left.outside.made (record { number = 0; files = told })
   pub ends : EndsInit words told table ran.left.journal ran.end
-  pub named : IfSome table.log (CallsName (IsInitFile words))
+  pub named : IfSome table.log (λ log. CallsName (IsInitFile words) log.calls)
   pub none : ran.left.answers ≡ []
   pub objects : Leaves (ran.end ≡ Memory) words.program ran.left.journal before.programs ran.left.outside.programs ran.left.wires
 

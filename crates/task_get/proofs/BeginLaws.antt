@@ -4,7 +4,7 @@ use Rattle.std.specs.Prelude.{Option, Some, None, IfSome, OnOk, Result, Ok, Err,
 use Rattle.std.specs.List.{concat}
 use Rattle.ann_key.specs.declared.bytes.NoMemory.{NoMemory}
 use Rattle.ann_digest.specs.declared.checker.Checker.{Checker}
-use Rattle.ann_outside.specs.Calls.{Gained, logged}
+use Rattle.ann_outside.specs.Calls.{Log, Gained, logged}
 use Rattle.ann_outside.specs.Causes.{Rose}
 use Rattle.ann_outside.specs.DeskCauses.{Counts, HasCauses}
 use Rattle.ann_outside.specs.Files.{Files, content, SizeIs, CanCut}
@@ -28,11 +28,11 @@ use Rattle.task_get.specs.PartBegins.{Unlooked, Unmade, Made, Uncut, Unread, Res
 use Rattle.task_run.specs.Ran.{HasTaskCauses}
 use Rattle.task_run.proofs.Gains.{gained_create, gained_size_refused}
 
-pub begins_unlooked : (part : List ℕ) (size chunk : ℕ) (k : Checker) (a b : Option (List Call)) (e : DeskError) → (e ≡ E.Missing → ⊥) → b ≡ logged a (Size part (Err e))
+pub begins_unlooked : (part : List ℕ) (size chunk : ℕ) (k : Checker) (a b : Option Log) (e : DeskError) → (e ≡ E.Missing → ⊥) → b ≡ logged a (Size part (Err e))
     → Begins part size chunk k k a b (unbegun (refusal e))
 begins_unlooked part size chunk k a b e ne l = record { how = Unlooked e; calls = gained_size_refused a b part e l; result_is = refl; so = ne }
 
-pub begins_unmade : (part : List ℕ) (size chunk : ℕ) (k : Checker) (a b c : Option (List Call)) (e : DeskError) → b ≡ logged a (Size part (Err E.Missing)) → c ≡ logged b (Create part (Err e))
+pub begins_unmade : (part : List ℕ) (size chunk : ℕ) (k : Checker) (a b c : Option Log) (e : DeskError) → b ≡ logged a (Size part (Err E.Missing)) → c ≡ logged b (Create part (Err e))
     → Begins part size chunk k k a c (unbegun (refusal e))
 begins_unmade part size chunk k a b c e l m = record {
   how = Unmade e;
@@ -41,7 +41,7 @@ begins_unmade part size chunk k a b c e l m = record {
   so = tt;
 }
 
-pub begins_made : (part : List ℕ) (size chunk : ℕ) (k : Checker) (a b c : Option (List Call)) → b ≡ logged a (Size part (Err E.Missing)) → c ≡ logged b (Create part (Ok tt))
+pub begins_made : (part : List ℕ) (size chunk : ℕ) (k : Checker) (a b c : Option Log) → b ≡ logged a (Size part (Err E.Missing)) → c ≡ logged b (Create part (Ok tt))
     → Begins part size chunk k k a c (Ok (B.Held (held_of size chunk 0)))
 begins_made part size chunk k a b c l m = record {
   how = Made;
@@ -50,14 +50,14 @@ begins_made part size chunk k a b c l m = record {
   so = refl;
 }
 
-behind_size : (part : List ℕ) (n : ℕ) (a b c : Option (List Call)) (more : List Call) → b ≡ logged a (Size part (Ok n)) → Gained b c more → Gained a c (Size part (Ok n) ∷ more)
+behind_size : (part : List ℕ) (n : ℕ) (a b c : Option Log) (more : List Call) → b ≡ logged a (Size part (Ok n)) → Gained b c more → Gained a c (Size part (Ok n) ∷ more)
 behind_size part n a b c more l g = gained_more a b c (Size part (Ok n) ∷ []) more (l ∙ gained_call a (Size part (Ok n)) refl) g
 
 -- what the copy's refusals are to a get
 refused_as : (e : DeskError) → Result Begun NoMemory
 refused_as e = unbegun (refusal e)
 
-pub begins_resumed : (part : List ℕ) (size chunk n d : ℕ) (before after : Checker) (a b c : Option (List Call)) → b ≡ logged a (Size part (Ok n))
+pub begins_resumed : (part : List ℕ) (size chunk n d : ℕ) (before after : Checker) (a b c : Option Log) → b ≡ logged a (Size part (Ok n))
     → Resumes b c part (keep_of size chunk n) before after (Ok (Done d)) → Begins part size chunk before after a c (Ok (B.Held (held_of size chunk n)))
 begins_resumed part size chunk n d before after a b c l (inl r) = record {
   how = Resumed n r.pieces r.ending;
@@ -72,12 +72,12 @@ unread_calls part at left ending E.NoMemory h = h
 unread_calls part at left ending E.Failed h = h
 unread_calls part at left ending E.Missing h = h
 
-uncut_calls : (part : List ℕ) (keep : ℕ) (b c : Option (List Call)) (e : DeskError) → IsNotBegun (λ answer. Cut part keep answer) b c (refusal_of e) → Gained b c (if_made (Err e) (Cut part keep (Err e)))
+uncut_calls : (part : List ℕ) (keep : ℕ) (b c : Option Log) (e : DeskError) → IsNotBegun (λ answer. Cut part keep answer) b c (refusal_of e) → Gained b c (if_made (Err e) (Cut part keep (Err e)))
 uncut_calls part keep b c E.NoMemory h = h
 uncut_calls part keep b c E.Failed h = h
 uncut_calls part keep b c E.Missing h = h
 
-pub begins_unresumed : (part : List ℕ) (size chunk n : ℕ) (before after : Checker) (a b c : Option (List Call)) (e : DeskError) → b ≡ logged a (Size part (Ok n))
+pub begins_unresumed : (part : List ℕ) (size chunk n : ℕ) (before after : Checker) (a b c : Option Log) (e : DeskError) → b ≡ logged a (Size part (Ok n))
     → Resumes b c part (keep_of size chunk n) before after (refusal_of e) → Begins part size chunk before after a c (unbegun (refusal e))
 begins_unresumed part size chunk n before after a b c e l (inl r) = record {
   how = Unread n r.pieces e;

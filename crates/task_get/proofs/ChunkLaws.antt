@@ -4,7 +4,7 @@ use Rattle.std.specs.Prelude.{Option, Result, Ok, Err, false}
 use Rattle.std.specs.List.{concat}
 use Rattle.ann_key.specs.declared.bytes.NoMemory.{NoMemory}
 use Rattle.ann_digest.specs.declared.checker.Checker.{Checker}
-use Rattle.ann_outside.specs.Calls.{Gained, logged}
+use Rattle.ann_outside.specs.Calls.{Log, Gained, logged}
 use Rattle.ann_outside.specs.declared.file_desk.DeskError.{DeskError}
 use Rattle.ann_outside.specs.declared.file_desk.DeskError.TheVariants as E
 use Rattle.ann_outside.specs.declared.file_desk.Call.{Call}
@@ -24,7 +24,7 @@ refused_end fetch part at left ending E.NoMemory h = h
 refused_end fetch part at left ending E.Failed h = h
 refused_end fetch part at left ending E.Missing h = h
 
-pub over_uncopied : (part fetch : List ℕ) (n : ℕ) (a b : Option (List Call)) (before after : Checker) (e : DeskError) → Copies a b fetch part n before after (refusal_of e)
+pub over_uncopied : (part fetch : List ℕ) (n : ℕ) (a b : Option Log) (before after : Checker) (e : DeskError) → Copies a b fetch part n before after (refusal_of e)
     → CopiesOver part fetch n before after a b (over_with (refusal e))
 over_uncopied part fetch n a b before after e m = record {
   how = Uncopied m.pieces m.ending e;
@@ -34,7 +34,7 @@ over_uncopied part fetch n a b before after e m = record {
   so = refused_end fetch part (length (concat m.pieces)) (n - length (concat m.pieces)) m.ending e m.ends;
 }
 
-pub over_unremoved : (part fetch : List ℕ) (n k : ℕ) (a b c : Option (List Call)) (before after : Checker) (e : DeskError) → Copies a b fetch part n before after (Ok (Done k))
+pub over_unremoved : (part fetch : List ℕ) (n k : ℕ) (a b c : Option Log) (before after : Checker) (e : DeskError) → Copies a b fetch part n before after (Ok (Done k))
     → c ≡ logged b (Remove fetch (Err e)) → CopiesOver part fetch n before after a c (over_with (refusal e))
 over_unremoved part fetch n k a b c before after e m l = record {
   how = Unremoved m.pieces m.ending e;
@@ -44,7 +44,7 @@ over_unremoved part fetch n k a b c before after e m l = record {
   so = m.ends;
 }
 
-pub over_came : (part fetch : List ℕ) (n k : ℕ) (a b c : Option (List Call)) (before after : Checker) → Copies a b fetch part n before after (Ok (Done k))
+pub over_came : (part fetch : List ℕ) (n k : ℕ) (a b c : Option Log) (before after : Checker) → Copies a b fetch part n before after (Ok (Done k))
     → c ≡ logged b (Remove fetch (Ok tt)) → CopiesOver part fetch n before after a c (Ok T.Whole)
 over_came part fetch n k a b c before after m l = record {
   how = Came m.pieces m.ending;
@@ -54,11 +54,11 @@ over_came part fetch n k a b c before after m l = record {
   so = (m.ends, m.most, m.checked);
 }
 
-pub comes_unmeasured : (part fetch : List ℕ) (n : ℕ) (a b : Option (List Call)) (before : Checker) (e : DeskError) → b ≡ logged a (Size fetch (Err e))
+pub comes_unmeasured : (part fetch : List ℕ) (n : ℕ) (a b : Option Log) (before : Checker) (e : DeskError) → b ≡ logged a (Size fetch (Err e))
     → Comes part fetch n before before a b (over_with (refusal e))
 comes_unmeasured part fetch n a b before e l = record { how = Unmeasured e; calls = gained_size_refused a b fetch e l; result_is = refl; so = tt }
 
-pub comes_misfit : (part fetch : List ℕ) (n m : ℕ) (a b c : Option (List Call)) (before : Checker) (r : Outcome) (result : Result Went NoMemory)
+pub comes_misfit : (part fetch : List ℕ) (n m : ℕ) (a b c : Option Log) (before : Checker) (r : Outcome) (result : Result Went NoMemory)
     → b ≡ logged a (Size fetch (Ok m)) → (m == n) ≡ false → c ≡ logged b (Remove part r) → result ≡ come_result (Misfit m r) → Comes part fetch n before before a c result
 comes_misfit part fetch n m a b c before r result l d k is = record {
   how = Misfit m r;
@@ -74,7 +74,7 @@ behind_size part fetch n (Uncopied pieces ending e) o = refl
 behind_size part fetch n (Unremoved pieces ending e) o = refl
 behind_size part fetch n (Came pieces ending) o = refl
 
-pub comes_copied : (part fetch : List ℕ) (n : ℕ) (a b c : Option (List Call)) (before after : Checker) (result : Result Went NoMemory)
+pub comes_copied : (part fetch : List ℕ) (n : ℕ) (a b c : Option Log) (before after : Checker) (result : Result Went NoMemory)
     → b ≡ logged a (Size fetch (Ok n)) → CopiesOver part fetch n before after b c result → Comes part fetch n before after a c result
 comes_copied part fetch n a b c before after result l o = record {
   how = o.how;

@@ -6,7 +6,7 @@ use Rattle.ann_key.specs.Keys.{Parts}
 use Rattle.ann_key.specs.declared.bytes.NoMemory.{NoMemory}
 use Rattle.task_text.specs.declared.task.Task.{Task}
 use Rattle.task_text.specs.declared.task.Work.TheVariants as W
-use Rattle.ann_outside.specs.declared.file_desk.Call.{Call}
+use Rattle.ann_outside.specs.Calls.{Log}
 use Rattle.fetch_copy.proofs.CopyLaws.{gained_nothing}
 use Rattle.task_run.specs.Askers.{Asking}
 use Rattle.journal_model.specs.declared.answer.Answer.TheVariants as A
@@ -41,7 +41,7 @@ get_nothing setup t key text file layouts = record {
   answered = tt;
 }
 
-pub get_nothing_ran : (task : Task) (t : ℕ) (setup : Setup) (layouts : List (ℕ × ℕ)) (pairs : List Asking) (log : Option (List Call)) (e : NoMemory) → task.work ≡ W.Get → RanGet task t setup layouts pairs pairs log log (Err e)
+pub get_nothing_ran : (task : Task) (t : ℕ) (setup : Setup) (layouts : List (ℕ × ℕ)) (pairs : List Asking) (log : Option Log) (e : NoMemory) → task.work ≡ W.Get → RanGet task t setup layouts pairs pairs log log (Err e)
 get_nothing_ran task t setup layouts pairs log e w = record {
   asked = [];
   calls = [];

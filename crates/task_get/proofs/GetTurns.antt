@@ -14,7 +14,7 @@ use Rattle.journal_model.specs.declared.verdict.Verdict.TheVariants as V
 use Rattle.journal_model.specs.declared.answer.Answer.{Answer}
 use Rattle.journal_model.specs.declared.answer.Answer.TheVariants as A
 use Rattle.task_text.specs.declared.task.Work.TheVariants as W
-use Rattle.ann_outside.specs.Calls.{Gained}
+use Rattle.ann_outside.specs.Calls.{Log, Gained}
 use Rattle.ann_outside.specs.declared.file_desk.DeskError.TheVariants as E
 use Rattle.ann_outside.specs.declared.file_desk.Call.{Call}
 use Rattle.ann_outside.specs.declared.file_desk.Call.TheVariants.{Size, Remove}
@@ -341,11 +341,11 @@ undone_end u cur got left part n calls held bytes before after request (V.Unsupp
 undone_end u cur got left part n calls held bytes before after request (V.Ended why) text fetch w begun is few asks kind d = asked_end u cur got left part _ n calls (A.Ended why) w is few asks refl refl
 undone_end u cur got left part n calls held bytes before after request V.Unsent text fetch w begun is few asks kind d = asked_end u cur got left part _ n calls A.Unsent w is few asks refl refl
 
-pub gained_same : (old new : Option (List Call)) → new ≡ old → Gained old new []
-gained_same old new e = let P : Option (List Call) → Type 0 = λ l. Gained old l [] in subst P (sym e) (gained_nothing old)
+pub gained_same : (old new : Option Log) → new ≡ old → Gained old new []
+gained_same old new e = let P : Option Log → Type 0 = λ l. Gained old l [] in subst P (sym e) (gained_nothing old)
 
 -- what a request added
-abbrev pub grown_by : (text part fetch : List ℕ) (n : ℕ) (before after : Checker) (pairs later : List Asking) (old new : Option (List Call)) (result : Result Went NoMemory) (how : Take)
+abbrev pub grown_by : (text part fetch : List ℕ) (n : ℕ) (before after : Checker) (pairs later : List Asking) (old new : Option Log) (result : Result Went NoMemory) (how : Take)
     → TakeIs text part fetch n before after pairs later old new result how → Grown pairs later old new
 grown_by text part fetch n before after pairs later old new result Unmade so = record { asked = []; made = []; pairs_are = so.none_asked ∙ sym (append-nil pairs); log_is = gained_same old new so.none_called }
 grown_by text part fetch n before after pairs later old new result (Undone v) so =
@@ -363,7 +363,7 @@ fetched_end u cur got left part n calls held bytes len size before after request
     (record { within = w; number = is; few = omega (arith, room); asks = asks; is_done_now = d }) k s l room so
 
 pub take_end : (u : Turn) (cur : List Asking) (got left : List Part) (part : Part) (n : ℕ) (calls : List Call) (held : List (ℕ × List ℕ)) (bytes : List ℕ) (len size : ℕ) (text : List ℕ)
-    (before after : Checker) (pairs later : List Asking) (old new : Option (List Call)) (result : Result Went NoMemory) (how : Take)
+    (before after : Checker) (pairs later : List Asking) (old new : Option Log) (result : Result Went NoMemory) (how : Take)
     → (so : TakeIs text (part_of u.place.file) (fetch_at u.place n) len before after pairs later old new result how)
     → Within u cur got (part ∷ left) calls → Kept u cur got (part ∷ left) calls held bytes → n ≡ first_in u + length cur → n + length left < 2 ^ 64
     → key_reading text ≡ Some part.key → u.place.key.size ≡ Some size → len ≡ part.to - part.from
@@ -380,7 +380,7 @@ take_end u cur got left part n calls held bytes len size text before after pairs
 
 -- the same, by the names that the code has
 pub take_ran : (u : Turn) (cur : List Asking) (got left : List Part) (part : Part) (n : ℕ) (calls : List Call) (held : List (ℕ × List ℕ)) (bytes : List ℕ) (len size : ℕ) (text name fetch : List ℕ)
-    (before after : Checker) (pairs later : List Asking) (old new : Option (List Call)) (result : Result Went NoMemory) (how : Take)
+    (before after : Checker) (pairs later : List Asking) (old new : Option Log) (result : Result Went NoMemory) (how : Take)
     → (so : TakeIs text name fetch len before after pairs later old new result how) → name ≡ part_of u.place.file → fetch ≡ fetch_at u.place n
     → Within u cur got (part ∷ left) calls → Kept u cur got (part ∷ left) calls held bytes → n ≡ first_in u + length cur → n + length left < 2 ^ 64
     → key_reading text ≡ Some part.key → u.place.key.size ≡ Some size → len ≡ part.to - part.from
@@ -419,14 +419,14 @@ undone_not_whole V.Unsent e = cc
 ok_inj : (a b : Went) (x y : Result Went NoMemory) → x ≡ Ok a → y ≡ Ok b → x ≡ y → a ≡ b
 ok_inj a b x y e f g = cc
 
-pub take_most : (text part fetch : List ℕ) (n : ℕ) (before after : Checker) (pairs later : List Asking) (old new : Option (List Call)) (result : Result Went NoMemory) (how : Take)
+pub take_most : (text part fetch : List ℕ) (n : ℕ) (before after : Checker) (pairs later : List Asking) (old new : Option Log) (result : Result Went NoMemory) (how : Take)
     → TakeIs text part fetch n before after pairs later old new result how → result ≡ Ok T.Whole → taken_of after ≤ taken_of before + n
 take_most text part fetch n before after pairs later old new result Unmade so is = let e = so.no_memory in absurd cc
 take_most text part fetch n before after pairs later old new result (Undone v) so is = absurd (undone_not_whole v (ok_inj (undone_went v) T.Whole result (Ok T.Whole) so.goes refl is))
 take_most text part fetch n before after pairs later old new result (Fetched v how) so is = come_most part fetch n before after how so.so (sym so.goes ∙ is)
 
 -- a request that is answered was asked
-pub take_one : (text part fetch : List ℕ) (n : ℕ) (before after : Checker) (pairs later : List Asking) (old new : Option (List Call)) (result : Result Went NoMemory) (how : Take)
+pub take_one : (text part fetch : List ℕ) (n : ℕ) (before after : Checker) (pairs later : List Asking) (old new : Option Log) (result : Result Went NoMemory) (how : Take)
     → (so : TakeIs text part fetch n before after pairs later old new result how) → (went : Went) → result ≡ Ok went
     → length (grown_by text part fetch n before after pairs later old new result how so).asked ≡ 1
 take_one text part fetch n before after pairs later old new result Unmade so went is = let e = so.no_memory in absurd cc

@@ -10,6 +10,7 @@ use Rattle.ann_digest.specs.Fits.{IsSaidOf}
 use Rattle.ann_digest.specs.declared.fit.Fit.TheVariants as F
 use Rattle.chunk_plan.specs.Layouts.{Part}
 use Rattle.ann_outside.specs.declared.file_desk.DeskError.TheVariants as E
+use Rattle.ann_outside.specs.Calls.{Log}
 use Rattle.ann_outside.specs.declared.file_desk.Call.{Call}
 use Rattle.ann_outside.specs.declared.file_desk.Call.TheVariants.{Size, Create, Rename, Remove}
 use Rattle.fetch_copy.specs.Copies.{EndsWhole}
@@ -446,13 +447,13 @@ asked_over p past done tried request (V.Unsupported at) calls text b few asks k 
 asked_over p past done tried request (V.Ended why) calls text b few asks k d = asked_end (record { place = p; past = past; done = done; tried = tried; chunk = 0; rest = [] }) [] [] [] (whole_part p.key) _ (length past + 1) calls (A.Ended why) (plain_within p past done tried calls b) (omega arith) few asks refl refl
 asked_over p past done tried request V.Unsent calls text b few asks k d = asked_end (record { place = p; past = past; done = done; tried = tried; chunk = 0; rest = [] }) [] [] [] (whole_part p.key) _ (length past + 1) calls A.Unsent (plain_within p past done tried calls b) (omega arith) few asks refl refl
 
-pub whole_nothing : (setup : Setup) (t : ℕ) (key : Parts) (file : List ℕ) (first : ℕ) (pairs : List Asking) (log : Option (List Call)) (e : NoMemory) → WholeRan setup t key file first pairs pairs log log (Err e)
+pub whole_nothing : (setup : Setup) (t : ℕ) (key : Parts) (file : List ℕ) (first : ℕ) (pairs : List Asking) (log : Option Log) (e : NoMemory) → WholeRan setup t key file first pairs pairs log log (Err e)
 whole_nothing setup t key file first pairs log e = record {
   grown = record { asked = []; made = []; pairs_are = sym (append-nil pairs); log_is = gained_nothing log };
   goes = λ sizes past done tried calls n b. unasked_end (record { place = place_at setup t key file sizes; past = past; done = done; tried = tried; chunk = 0; rest = [] }) [] [] (whole_part key ∷ []) calls (plain_within (place_at setup t key file sizes) past done tried calls b);
 }
 
-pub whole_undone : (setup : Setup) (t : ℕ) (key : Parts) (file : List ℕ) (first : ℕ) (pairs later : List Asking) (log : Option (List Call)) (text : List ℕ) (v : Verdict) (answer : Answer) → first + 1 < 2 ^ 64 → key_reading text ≡ Some key
+pub whole_undone : (setup : Setup) (t : ℕ) (key : Parts) (file : List ℕ) (first : ℕ) (pairs later : List Asking) (log : Option Log) (text : List ℕ) (v : Verdict) (answer : Answer) → first + 1 < 2 ^ 64 → key_reading text ≡ Some key
     → AsksOne pairs later (Transfer false text (fetch_file setup t (first + 1))) v → is_verdict_of (Transfer false text (fetch_file setup t (first + 1))) v ≡ true → is_done_at v ≡ false → Some answer ≡ undone_answer v
     → WholeRan setup t key file first pairs later log log (Ok answer)
 whole_undone setup t key file first pairs later log text v answer few r a k d is = record {
@@ -467,7 +468,7 @@ whole_undone setup t key file first pairs later log text v answer few r a k d is
       subst O (sym is) (asked_over p past done tried a.request v calls text b (omega (arith, n, few)) (subst N e (asks_for_part setup t (first + 1) text key a.request v r a.kept)) (subst K e k) d);
 }
 
-pub whole_fetched : (setup : Setup) (t : ℕ) (key : Parts) (file part fetch : List ℕ) (first : ℕ) (pairs later : List Asking) (old new : Option (List Call)) (text : List ℕ) (v : Verdict) (result : Result Answer NoMemory) → first + 1 < 2 ^ 64 → key_reading text ≡ Some key
+pub whole_fetched : (setup : Setup) (t : ℕ) (key : Parts) (file part fetch : List ℕ) (first : ℕ) (pairs later : List Asking) (old new : Option Log) (text : List ℕ) (v : Verdict) (result : Result Answer NoMemory) → first + 1 < 2 ^ 64 → key_reading text ≡ Some key
     → AsksOne pairs later (Transfer false text (fetch_file setup t (first + 1))) v → is_done_at v ≡ true → part ≡ part_of file → fetch ≡ fetch_file setup t (first + 1)
     → Fetches (record { file = file; part = part; fetch = fetch }) key old new result → WholeRan setup t key file first pairs later old new result
 whole_fetched setup t key file part fetch first pairs later old new text v result few r a d p q f = record {

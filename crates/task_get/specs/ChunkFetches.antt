@@ -4,7 +4,7 @@ use Rattle.std.specs.List.{concat}
 use Rattle.ann_key.specs.declared.bytes.NoMemory.{NoMemory}
 use Rattle.ann_digest.specs.declared.checker.Checker.{Checker}
 use Rattle.annex_model.specs.Messages.{Transfer}
-use Rattle.ann_outside.specs.Calls.{Gained}
+use Rattle.ann_outside.specs.Calls.{Log, Gained}
 use Rattle.ann_outside.specs.declared.file_desk.DeskError.{DeskError}
 use Rattle.ann_outside.specs.declared.file_desk.Call.{Call}
 use Rattle.ann_outside.specs.declared.file_desk.Call.TheVariants.{Size, Remove}
@@ -64,7 +64,7 @@ ComeIs part fetch n before after (Unremoved pieces ending e) = EndsWhole fetch (
 ComeIs part fetch n before after (Came pieces ending) =
     EndsWhole fetch (length (concat pieces)) (n - length (concat pieces)) ending × (length (concat pieces) ≤ n) × Checks before after (concat pieces)
 
-pub record Comes (part fetch : List ℕ) (n : ℕ) (before after : Checker) (old new : Option (List Call)) (result : Result Went NoMemory) : Type 0 where
+pub record Comes (part fetch : List ℕ) (n : ℕ) (before after : Checker) (old new : Option Log) (result : Result Went NoMemory) : Type 0 where
   pub how : Come
   pub calls : Gained old new (come_calls part fetch n how)
   pub result_is : result ≡ come_result how
@@ -82,7 +82,7 @@ IsOfCopy (Unmeasured e) = ⊥
 IsOfCopy (Misfit m r) = ⊥
 IsOfCopy _ = Unit {0}
 
-pub record CopiesOver (part fetch : List ℕ) (n : ℕ) (before after : Checker) (old new : Option (List Call)) (result : Result Went NoMemory) : Type 0 where
+pub record CopiesOver (part fetch : List ℕ) (n : ℕ) (before after : Checker) (old new : Option Log) (result : Result Went NoMemory) : Type 0 where
   pub how : Come
   pub of_copy : IsOfCopy how
   pub calls : Gained old new (copied_calls part fetch how)
@@ -101,30 +101,30 @@ pub data Take : Type 0 where
   Fetched : (v : Verdict) (how : Come) → Take
 
 -- what is so of each, of a key's text
-pub record Unasked (pairs later : List Asking) (old new : Option (List Call)) (result : Result Went NoMemory) : Type 0 where
+pub record Unasked (pairs later : List Asking) (old new : Option Log) (result : Result Went NoMemory) : Type 0 where
   pub none_asked : later ≡ pairs
   pub none_called : new ≡ old
   pub no_memory : result ≡ Err record {}
 
-pub record IsUndone (text fetch : List ℕ) (pairs later : List Asking) (old new : Option (List Call)) (result : Result Went NoMemory) (v : Verdict) : Type 0 where
+pub record IsUndone (text fetch : List ℕ) (pairs later : List Asking) (old new : Option Log) (result : Result Went NoMemory) (v : Verdict) : Type 0 where
   pub asks : AsksOne pairs later (Transfer false text fetch) v
   pub of_kind : is_verdict_of (Transfer false text fetch) v ≡ true
   pub not_done : is_done_at v ≡ false
   pub none_called : new ≡ old
   pub goes : result ≡ Ok (undone_went v)
 
-pub record IsFetched (text part fetch : List ℕ) (n : ℕ) (before after : Checker) (pairs later : List Asking) (old new : Option (List Call)) (result : Result Went NoMemory) (v : Verdict) (how : Come) : Type 0 where
+pub record IsFetched (text part fetch : List ℕ) (n : ℕ) (before after : Checker) (pairs later : List Asking) (old new : Option Log) (result : Result Went NoMemory) (v : Verdict) (how : Come) : Type 0 where
   pub asks : AsksOne pairs later (Transfer false text fetch) v
   pub done : is_done_at v ≡ true
   pub calls : Gained old new (come_calls part fetch n how)
   pub goes : result ≡ come_result how
   pub so : ComeIs part fetch n before after how
 
-abbrev pub TakeIs : List ℕ → List ℕ → List ℕ → ℕ → Checker → Checker → List Asking → List Asking → Option (List Call) → Option (List Call) → Result Went NoMemory → Take → Type 0
+abbrev pub TakeIs : List ℕ → List ℕ → List ℕ → ℕ → Checker → Checker → List Asking → List Asking → Option Log → Option Log → Result Went NoMemory → Take → Type 0
 TakeIs text part fetch n before after pairs later old new result Unmade = Unasked pairs later old new result
 TakeIs text part fetch n before after pairs later old new result (Undone v) = IsUndone text fetch pairs later old new result v
 TakeIs text part fetch n before after pairs later old new result (Fetched v how) = IsFetched text part fetch n before after pairs later old new result v how
 
-pub record Takes (text part fetch : List ℕ) (n : ℕ) (before after : Checker) (pairs later : List Asking) (old new : Option (List Call)) (result : Result Went NoMemory) : Type 0 where
+pub record Takes (text part fetch : List ℕ) (n : ℕ) (before after : Checker) (pairs later : List Asking) (old new : Option Log) (result : Result Went NoMemory) : Type 0 where
   pub how : Take
   pub so : TakeIs text part fetch n before after pairs later old new result how

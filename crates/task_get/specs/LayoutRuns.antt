@@ -4,7 +4,7 @@ use Rattle.std.specs.List.{range_with_len}
 use Rattle.ann_key.specs.Keys.{Parts}
 use Rattle.ann_key.specs.declared.bytes.NoMemory.{NoMemory}
 use Rattle.ann_digest.specs.declared.checker.Checker.{Checker}
-use Rattle.ann_outside.specs.Calls.{Gained}
+use Rattle.ann_outside.specs.Calls.{Log, Gained}
 use Rattle.ann_outside.specs.declared.file_desk.Call.{Call}
 use Rattle.chunk_plan.specs.Layouts.{Part, chunk_part, count_of}
 use Rattle.fetch_copy.specs.Copies.{Checks}
@@ -20,7 +20,7 @@ use Rattle.task_run.specs.Ran.{answered}
 use Rattle.task_get.specs.Fronts.{Place, Turn, Within, Kept, Between, Ended}
 
 -- The pairs and the log grew by these.
-pub record Grown (pairs later : List Asking) (old new : Option (List Call)) : Type 0 where
+pub record Grown (pairs later : List Asking) (old new : Option Log) : Type 0 where
   pub asked : List Asking
   pub made : List Call
   pub pairs_are : later ≡ pairs ++ asked
@@ -77,13 +77,13 @@ NextDoes setup t key size chunk i part now before after asked made result =
     → Kept (turn_at setup t key file chunk b) cur got (chunk_part key size chunk (i + 1) ∷ left) calls held bytes
     → PartEnd (turn_at setup t key file chunk b) cur got left (chunk_part key size chunk (i + 1)) calls held bytes before after asked made result
 
-pub record NextRan (setup : Setup) (t : ℕ) (key : Parts) (size chunk i : ℕ) (part : List ℕ) (now : ℕ) (pairs later : List Asking) (old new : Option (List Call)) (before after : Checker) (result : Result Went NoMemory) : Type 0 where
+pub record NextRan (setup : Setup) (t : ℕ) (key : Parts) (size chunk i : ℕ) (part : List ℕ) (now : ℕ) (pairs later : List Asking) (old new : Option Log) (before after : Checker) (result : Result Went NoMemory) : Type 0 where
   pub grown : Grown pairs later old new
   pub goes : NextDoes setup t key size chunk i part now before after grown.asked grown.made result
   pub one : (went : Went) → result ≡ Ok went → length grown.asked ≡ 1
 
 -- what all of them promise
-pub record ChunksRan (setup : Setup) (t : ℕ) (key : Parts) (size chunk held : ℕ) (part : List ℕ) (first now : ℕ) (pairs later : List Asking) (old new : Option (List Call)) (before after : Checker) (result : Result Went NoMemory) : Type 0 where
+pub record ChunksRan (setup : Setup) (t : ℕ) (key : Parts) (size chunk held : ℕ) (part : List ℕ) (first now : ℕ) (pairs later : List Asking) (old new : Option Log) (before after : Checker) (result : Result Went NoMemory) : Type 0 where
   pub grown : Grown pairs later old new
   pub goes : (file : List ℕ) (b : Behind) (calls : List Call) (reads : List (ℕ × List ℕ)) → part ≡ part_of file → first ≡ length b.past
       → Within (turn_at setup t key file chunk b) [] [] (parts_from key size chunk held) calls
@@ -99,14 +99,14 @@ LayoutEnd u calls asked made (Ok T.Failed) =
 LayoutEnd u calls asked made (Ok (T.Over answer)) = Ended u.place (u.past ++ asked) (calls ++ made) answer
 LayoutEnd u calls asked made (Err e) = Ended u.place (u.past ++ asked) (calls ++ made) Memory
 
-pub record LayoutRan (setup : Setup) (t : ℕ) (key : Parts) (file : List ℕ) (chunk : ℕ) (first now : ℕ) (pairs later : List Asking) (old new : Option (List Call)) (result : Result Went NoMemory) : Type 0 where
+pub record LayoutRan (setup : Setup) (t : ℕ) (key : Parts) (file : List ℕ) (chunk : ℕ) (first now : ℕ) (pairs later : List Asking) (old new : Option Log) (result : Result Went NoMemory) : Type 0 where
   pub grown : Grown pairs later old new
   pub goes : (b : Behind) → first ≡ length b.past → 1 ≤ length b.rest → Between (place_at setup t key file b.sizes) b.past b.done b.tried (chunk ∷ b.rest) b.calls
       → LayoutEnd (turn_at setup t key file chunk b) b.calls grown.asked grown.made result
   pub counted : result ≡ Ok T.Failed → now ≡ first + length grown.asked
 
 -- the plain layout, after all others
-pub record WholeRan (setup : Setup) (t : ℕ) (key : Parts) (file : List ℕ) (first : ℕ) (pairs later : List Asking) (old new : Option (List Call)) (result : Result Answer NoMemory) : Type 0 where
+pub record WholeRan (setup : Setup) (t : ℕ) (key : Parts) (file : List ℕ) (first : ℕ) (pairs later : List Asking) (old new : Option Log) (result : Result Answer NoMemory) : Type 0 where
   pub grown : Grown pairs later old new
   pub goes : (sizes : List ℕ) (past : List Asking) (done : List (List Part)) (tried : List ℕ) (calls : List Call) → first ≡ length past → Between (place_at setup t key file sizes) past done tried (0 ∷ []) calls
       → Ended (place_at setup t key file sizes) (past ++ grown.asked) (calls ++ grown.made) (answered result)
@@ -118,11 +118,11 @@ TriesEnd p rest now asked made (Ok T.Failed) = (done : List (List Part)) × (tri
 TriesEnd p rest now asked made (Ok (T.Over answer)) = Ended p asked made answer
 TriesEnd p rest now asked made (Err e) = Ended p asked made Memory
 
-pub record TriesRan (setup : Setup) (t : ℕ) (key : Parts) (file : List ℕ) (layouts : List (ℕ × ℕ)) (now : ℕ) (pairs later : List Asking) (old new : Option (List Call)) (result : Result Went NoMemory) : Type 0 where
+pub record TriesRan (setup : Setup) (t : ℕ) (key : Parts) (file : List ℕ) (layouts : List (ℕ × ℕ)) (now : ℕ) (pairs later : List Asking) (old new : Option Log) (result : Result Went NoMemory) : Type 0 where
   pub grown : Grown pairs later old new
   pub goes : TriesEnd (place_at setup t key file (sizes_tried key layouts)) (0 ∷ []) now grown.asked grown.made result
 
 -- the whole get
-pub record GetRan (setup : Setup) (t : ℕ) (key : Parts) (file : List ℕ) (layouts : List (ℕ × ℕ)) (pairs later : List Asking) (old new : Option (List Call)) (result : Result Answer NoMemory) : Type 0 where
+pub record GetRan (setup : Setup) (t : ℕ) (key : Parts) (file : List ℕ) (layouts : List (ℕ × ℕ)) (pairs later : List Asking) (old new : Option Log) (result : Result Answer NoMemory) : Type 0 where
   pub grown : Grown pairs later old new
   pub goes : Ended (place_at setup t key file (sizes_tried key layouts)) grown.asked grown.made (answered result)

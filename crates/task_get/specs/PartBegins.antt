@@ -3,7 +3,7 @@ use Rattle.std.specs.Prelude.{ℕ, ◌≡◌, ◌≤◌, ◌-◌, List, [], ◌�
 use Rattle.std.specs.List.{concat}
 use Rattle.ann_key.specs.declared.bytes.NoMemory.{NoMemory}
 use Rattle.ann_digest.specs.declared.checker.Checker.{Checker}
-use Rattle.ann_outside.specs.Calls.{Gained}
+use Rattle.ann_outside.specs.Calls.{Log, Gained}
 use Rattle.ann_outside.specs.declared.file_desk.DeskError.{DeskError}
 use Rattle.ann_outside.specs.declared.file_desk.DeskError.TheVariants as E
 use Rattle.ann_outside.specs.declared.file_desk.Call.{Call}
@@ -62,7 +62,7 @@ BeginIs part size chunk before after (Unread n pieces e) = Unit {0}
 BeginIs part size chunk before after (Resumed n pieces ending) =
     EndsWhole part (length (concat pieces)) (keep_of size chunk n - length (concat pieces)) ending × (length (concat pieces) ≤ keep_of size chunk n) × Checks before after (concat pieces)
 
-pub record Begins (part : List ℕ) (size chunk : ℕ) (before after : Checker) (old new : Option (List Call)) (result : Result Begun NoMemory) : Type 0 where
+pub record Begins (part : List ℕ) (size chunk : ℕ) (before after : Checker) (old new : Option Log) (result : Result Begun NoMemory) : Type 0 where
   pub how : Begin
   pub calls : Gained old new (begin_calls part size chunk how)
   pub result_is : result ≡ begin_result size chunk how

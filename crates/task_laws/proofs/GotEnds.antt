@@ -25,7 +25,7 @@ use Rattle.task_run.specs.RunLaws.{IsGot}
 use Rattle.task_run.proofs.Texts.{apart}
 use Rattle.task_run.proofs.GotLaws.{got_needs_fit}
 
-abbrev is_other : Option Answer → Bool
+abbrev pub is_other : Option Answer → Bool
 is_other None = true
 is_other (Some answer) = not (is_got answer)
 
@@ -57,7 +57,7 @@ call_other part (Remove name answer) = result_other _ answer
 
 -- ---- of lists of stops
 
-abbrev are_other : List Answer → Bool
+abbrev pub are_other : List Answer → Bool
 are_other answers = list_all (λ a. not (is_got a)) answers
 
 all_other : {X : Type 0} (stop : X → Option Answer) → ((x : X) → is_other (stop x) ≡ true) → (xs : List X) (more : List Answer) → are_other more ≡ true → are_other (filter_map stop xs ++ more) ≡ true
@@ -76,7 +76,7 @@ all_other_last stop h (x ∷ xs) = by_case (stop x) (h x) (all_other_last stop h
     by_case None g r = r
     by_case (Some answer) g r = rw (g, r) refl
 
-stops_other : (work : Work) (part : List ℕ) (asked : List Asking) (calls : List Call) → are_other (stops_of work part asked calls) ≡ true
+pub stops_other : (work : Work) (part : List ℕ) (asked : List Asking) (calls : List Call) → are_other (stops_of work part asked calls) ≡ true
 stops_other work part asked calls =
     all_other (asking_stop work) (λ a. verdict_other (is_store work && is_question a) a.verdict) asked (filter_map (call_stop part) calls) (all_other_last (call_stop part) (call_other part) calls)
 

@@ -113,15 +113,15 @@ asks_few ask n [] (a ∷ more) h = absurd h
 asks_few ask n (key ∷ keys) (a ∷ more) h = let rest : length more ≤ length keys = asks_few ask (n + 1) keys more h.1 in omega arith
 
 -- how it decided
-record Decided (setup : Setup) (t : ℕ) (key : Parts) (sizes : List ℕ) (file : List ℕ) (asked : List Asking) (calls : List Call) : Type 0 where
-  other : failures asked ≡ length sizes → ⊥
-  begun : (is_plain_last sizes asked || length (lengths_at_begin file calls) == failures asked + 1) ≡ true
-  right : wrong_lengths setup t key.size calls (first_asked asked) (parts_last key sizes (lengths_at_begin file calls) asked) ≡ []
-  done : count_by is_done (asked_last asked) ≡ length (parts_last key sizes (lengths_at_begin file calls) asked)
-  was : IsChecked setup t key sizes file asked calls A.Got
-  kept : IsFetchKept setup t sizes file asked calls
+pub record Decided (setup : Setup) (t : ℕ) (key : Parts) (sizes : List ℕ) (file : List ℕ) (asked : List Asking) (calls : List Call) : Type 0 where
+  pub other : failures asked ≡ length sizes → ⊥
+  pub begun : (is_plain_last sizes asked || length (lengths_at_begin file calls) == failures asked + 1) ≡ true
+  pub right : wrong_lengths setup t key.size calls (first_asked asked) (parts_last key sizes (lengths_at_begin file calls) asked) ≡ []
+  pub done : count_by is_done (asked_last asked) ≡ length (parts_last key sizes (lengths_at_begin file calls) asked)
+  pub was : IsChecked setup t key sizes file asked calls A.Got
+  pub kept : IsFetchKept setup t sizes file asked calls
 
-decided : (setup : Setup) (t : ℕ) (key : Parts) (sizes : List ℕ) (file : List ℕ) (asked : List Asking) (calls : List Call) → GetAnswers setup t key sizes file asked calls A.Got → Decided setup t key sizes file asked calls
+pub decided : (setup : Setup) (t : ℕ) (key : Parts) (sizes : List ℕ) (file : List ℕ) (asked : List Asking) (calls : List Call) → GetAnswers setup t key sizes file asked calls A.Got → Decided setup t key sizes file asked calls
 decided setup t key sizes file asked calls r = by_test (failures asked == length sizes) refl r.answered
   where
     Count : Type 0

@@ -11,3 +11,8 @@ pub mod Sending
 pub mod OneStore
 pub mod NoZero
 pub mod WithinRuns
+pub mod FileHolds
+pub mod GotFiles
+pub mod LeftFiles
+pub mod FilesStored
+pub mod NoPart

@@ -8,6 +8,7 @@ use Rattle.std.proofs.lemmas.List.{take-append-drop, length-map}
 use Rattle.std.proofs.lemmas.Slice.Eq.{bytes_eq-Decides}
 use Rattle.ann_key.specs.Keys.{Parts, key_reading, with_chunk}
 use Rattle.ann_digest.specs.Fits.{FitsKey}
+use Rattle.ann_outside.specs.Files.{content as held_in}
 use Rattle.annex_model.specs.Messages.{HostMessage, Transfer, host_reading}
 use Rattle.chunk_plan.specs.Layouts.{Part, chunk_part, count_of, from_of, to_of}
 use Rattle.chunk_plan.proofs.Joined.{ranges_are_the_whole}
@@ -228,7 +229,7 @@ range_is o setup told journal t u n chunk key content stores one p a s base plac
         (ap (λ (x : Option Parts). (unwrap_or x p.key)) keys) in
         record {
           bytes =
-              ap (λ (b : Bool). if b then unwrap_or (holds (file_named s.asks) None (told.calls s.task)) [] else told.held s.at) chunking
+              ap (λ (b : Bool). if b then unwrap_or (holds (file_named s.asks) None (told.calls s.task)) [] else unwrap_or (held_in (file_named s.asks) (told.before s.task)) []) chunking
               ∙ ap (λ (m : ℕ). unwrap_or (holds (file_named s.asks) None (told.calls m)) []) of_task
               ∙ ap (λ (x : HostMessage). unwrap_or (holds (file_named x) None (told.calls u)) []) store.asks
               ∙ ap (λ (o : Option (List ℕ)). unwrap_or o []) range.bytes

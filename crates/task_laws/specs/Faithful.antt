@@ -1,6 +1,8 @@
 -- What a STORE sent, and when a remote is faithful in a run.
 use Rattle.std.specs.Prelude.{ℕ, ◌≡◌, Bool, false, if◌then◌else◌, List, [], ◌∷◌, Option, Some, None, unwrap_or}
 use Rattle.ann_key.specs.Keys.{Parts, key_reading}
+use Rattle.ann_outside.specs.Files.{Files, content, AllStay}
+use Rattle.ann_outside.specs.Played.{Played}
 use Rattle.ann_outside.specs.declared.file_desk.Call.{Call}
 use Rattle.annex_model.specs.Messages.{HostMessage, Transfer}
 use Rattle.journal_model.specs.declared.entry.Entry.{Entry}
@@ -14,11 +16,21 @@ use Rattle.task_run.specs.Runs.{is_chunked}
 use Rattle.task_laws.specs.Changes.{Request, Retrieves}
 use Rattle.task_laws.specs.Contents.{Shows}
 
--- What is told of a run's files: the calls of each task's desk; and, by the place of its request, what a desk held as the file of a task
--- that stored it whole, which no call tells.
+-- What is told of the desks of a run's tasks: the calls of each task, the files of its desk before the first of them, and those after the
+-- last.
 pub record Told : Type 0 where
   pub calls : ℕ → List Call
-  pub held : ℕ → List ℕ
+  pub before : ℕ → Files
+  pub after : ℕ → Files
+
+-- the task's calls made the files after them of those before them
+abbrev pub IsPlayed : Told → ℕ → Type 0
+IsPlayed told t = Played (told.calls t) (told.before t) (told.after t)
+
+-- At a desk that had these files at first and those at last, these tasks were done, one after the other, and nothing else.
+abbrev pub AreInTurn : Told → List ℕ → Files → Files → Type 0
+AreInTurn told [] old new = AllStay old new
+AreInTurn told (t ∷ more) old new = AllStay old (told.before t) × IsPlayed told t × AreInTurn told more (told.after t) new
 
 -- the file that a request names
 abbrev pub file_named : HostMessage → List ℕ
@@ -34,10 +46,12 @@ is_chunking setup (Some task) = of_key (key_reading task.key)
     of_key None = false
     of_key (Some key) = is_chunked setup key
 
--- What a STORE sent: of a chunk what the file that it names holds by the task's calls, and nothing where they don't say; else what was held
--- as its file.
+-- What a STORE sent: of a chunk what the file that it names holds by the task's calls, and nothing where they don't say; else what the
+-- task's desk held as that file before the task.
 abbrev pub sent : Opening → Setup → Told → Request → List ℕ
-sent o setup told s = if is_chunking setup (task_of o s.task) then unwrap_or (holds (file_named s.asks) None (told.calls s.task)) [] else told.held s.at
+sent o setup told s =
+    if is_chunking setup (task_of o s.task) then unwrap_or (holds (file_named s.asks) None (told.calls s.task)) []
+    else unwrap_or (content (file_named s.asks) (told.before s.task)) []
 
 -- What each retrieved key's file shows is what the STORE before it sent.
 abbrev pub IsFaithful : Opening → Setup → Told → List Entry → Type 0

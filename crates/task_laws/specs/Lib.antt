@@ -3,8 +3,10 @@ pub mod Contents
 pub mod Kept
 pub mod Changes
 pub mod Faithful
+pub mod FilesKept
 pub mod Retrieval
 pub mod RunWell
 pub mod Sent
 pub mod Rows
 pub mod LoneWell
+pub mod ToldDesks

@@ -1,7 +1,9 @@
 -- What a get leaves of what was stored before, where the remote is faithful.
-use Rattle.std.specs.Prelude.{ℕ, ◌≡◌, true, List, map, All, Some, None}
+use Rattle.std.specs.Prelude.{ℕ, ◌≡◌, true, List, [], ◌∷◌, ◌++◌, map, All, Some, None}
+use Rattle.std.specs.List.{concat, list_all}
 use Rattle.ann_key.specs.Keys.{Parts, key_reading}
 use Rattle.ann_digest.specs.Fits.{FitsKey}
+use Rattle.ann_outside.specs.Files.{Files, content}
 use Rattle.journal_model.specs.declared.answer.Answer.TheVariants.{Got}
 use Rattle.journal_model.specs.declared.entry.Entry.{Entry}
 use Rattle.journal_model.specs.declared.opening.Opening.{Opening}
@@ -17,7 +19,8 @@ use Rattle.task_run.specs.Runs.{is_chunked}
 use Rattle.gathering.specs.JournalRuns.{JournalRun}
 use Rattle.task_laws.specs.Changes.{Request}
 use Rattle.task_laws.specs.Contents.{Shows}
-use Rattle.task_laws.specs.Faithful.{Told, sent, IsFaithful, AreStoredFor}
+use Rattle.task_laws.specs.Faithful.{Told, sent, IsFaithful, IsPlayed, AreInTurn, AreStoredFor}
+use Rattle.task_laws.specs.FilesKept.{leaves}
 use Rattle.task_laws.specs.Kept.{is_afresh, Keeps}
 
 -- A run of task t by any number got its content, afresh, and these stored the keys of its last layout before it retrieved them.
@@ -34,6 +37,12 @@ KeepsStored =
     (o : Opening) (setup : Setup) (told : Told) (journal : List Entry) (number t : ℕ) (key : Parts) (stores : List Request) → IsFaithful o setup told journal
     → (got : GotStored o setup told journal number t key stores)
     → Keeps setup t key (sizes_tried key got.run.layouts) got.run.task.file (run_askings got.run.run) (told.calls t) (map (sent o setup told) stores)
+
+-- And where its calls were played on its desk's files, the file holds that after them.
+abbrev pub FileKeepsStored : Type 0
+FileKeepsStored =
+    (o : Opening) (setup : Setup) (told : Told) (journal : List Entry) (number t : ℕ) (key : Parts) (stores : List Request) → IsFaithful o setup told journal → IsPlayed told t
+    → (got : GotStored o setup told journal number t key stores) → content got.run.task.file (told.after t) ≡ Some (concat (map (sent o setup told) stores))
 
 -- ---- content that one task stored in chunks
 
@@ -64,3 +73,23 @@ KeepsStoredContent =
     (o : Opening) (setup : Setup) (told : Told) (journal : List Entry) (number t u : ℕ) (key : Parts) (content : List ℕ) (stores : List Request) → Legal o journal → IsFaithful o setup told journal
     → (got : GotStored o setup told journal number t key stores) → key.chunk ≡ None → StoredInChunks o setup told journal u content stores
     → KeepsContent o setup told journal number t key got.run content
+
+-- And where its calls were played on its desk's files, the get's file holds that content after them.
+abbrev pub FileKeepsContent : Type 0
+FileKeepsContent =
+    (o : Opening) (setup : Setup) (told : Told) (journal : List Entry) (number t u : ℕ) (key : Parts) (bytes : List ℕ) (stores : List Request) → Legal o journal → IsFaithful o setup told journal
+    → IsPlayed told t → (got : GotStored o setup told journal number t key stores) → key.chunk ≡ None → StoredInChunks o setup told journal u bytes stores
+    → content got.run.task.file (told.after t) ≡ Some bytes
+
+-- ---- after the task
+
+-- the calls of each of these tasks leave the file as it is
+abbrev pub AllLeave : Told → List ℕ → List ℕ → Type 0
+AllLeave told name [] = Unit {0}
+AllLeave told name (t ∷ more) = (list_all (leaves name) (told.calls t) ≡ true) × AllLeave told name more
+
+-- What a file holds after one of the tasks of a desk it holds in the end, where each later one leaves it as it is.
+abbrev pub LastsToTheEnd : Type 0
+LastsToTheEnd =
+    (told : Told) (name bytes : List ℕ) (t : ℕ) (earlier later : List ℕ) (old new : Files) → AreInTurn told (earlier ++ t ∷ later) old new
+    → content name (told.after t) ≡ Some bytes → AllLeave told name later → content name new ≡ Some bytes

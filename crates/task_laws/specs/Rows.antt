@@ -1,7 +1,9 @@
 -- Runs in which a key is stored and then got, as examples.
-use Rattle.std.specs.Prelude.{ℕ, ◌==◌, if◌then◌else◌, true, false, List, [], ◌∷◌, ◌++◌, codes, Some, None}
+use Rattle.std.specs.Prelude.{ℕ, ◌==◌, if◌then◌else◌, true, false, List, [], ◌∷◌, ◌++◌, codes, Some, None, Ok}
 use Rattle.ann_key.specs.Keys.{Parts}
+use Rattle.ann_outside.specs.Files.{Files}
 use Rattle.ann_outside.specs.declared.file_desk.Call.{Call}
+use Rattle.ann_outside.specs.declared.file_desk.Call.TheVariants.{Size, Create, Append}
 use Rattle.annex_model.specs.Messages.{Transfer}
 use Rattle.journal_model.specs.declared.answer.Answer.TheVariants.{Stored, Got as GotAnswer}
 use Rattle.journal_model.specs.declared.verdict.Verdict.TheVariants.{Done, Failed}
@@ -67,12 +69,19 @@ the_store = record { at = 11; child = 1; job = 2; task = 1; asks = Transfer true
 abbrev pub the_retrieve : Request
 the_retrieve = record { at = 17; child = 1; job = 3; task = 2; asks = Transfer false hi fetched_2_1 }
 
--- the store stored these bytes, and this is what the second task's calls did
+-- The desk of the first task holds these bytes as its file, and this is what the second task's calls did at its own, which held what was
+-- retrieved as it was found.
 abbrev pub told_of : List ℕ → List Call → Told
-told_of bytes calls = record { calls = of_task; held = λ place. bytes }
+told_of bytes calls = record { calls = of_task; before = held; after = left }
   where
     of_task : ℕ → List Call
     of_task t = if t == 2 then calls else if t == 1 then sized (codes "f") 2 else []
+
+    held : ℕ → Files
+    held t = if t == 2 then (fetched_2_1, codes "hi") ∷ [] else (codes "f", bytes) ∷ []
+
+    left : ℕ → Files
+    left t = if t == 2 then (codes "o", codes "hi") ∷ [] else (codes "f", bytes) ∷ []
 
 -- the remote sent what was stored, and another content
 abbrev pub told_hi : Told
@@ -80,6 +89,14 @@ told_hi = told_of (codes "hi") got_hi
 
 abbrev pub told_ho : Told
 told_ho = told_of (codes "ho") got_hi
+
+-- the second task's desk has these bytes as its file after it
+abbrev pub told_left : List ℕ → Told
+told_left bytes = record { calls = told_hi.calls; before = told_hi.before; after = λ t. (codes "o", bytes) ∷ [] }
+
+-- part is made and filled, and then looked up once more
+abbrev pub filled_early : List Call
+filled_early = Create (codes "o.part") (Ok tt) ∷ Append (codes "o.part") (codes "h") (Ok tt) ∷ Size (codes "o.part") (Ok 1) ∷ []
 
 -- ---- a task stores a key in chunks
 
@@ -90,9 +107,9 @@ one_store = opening_of (store_ten ∷ [])
 abbrev pub first_chunk : Request
 first_chunk = record { at = 14; child = 1; job = 3; task = 1; asks = Transfer true c1 chunk_2 }
 
--- this is what its calls did; for a plain store other bytes were held
+-- this is what its calls did at a desk that held this file before them
 abbrev pub told_calls : List Call → Told
-told_calls calls = record { calls = λ t. calls; held = λ place. codes "held" }
+told_calls calls = record { calls = λ t. calls; before = λ t. (chunk_2, codes "held") ∷ []; after = λ t. [] }
 
 -- ---- a change between
 

@@ -1,6 +1,7 @@
 // What follows from Task run: which answers come where all went well from outside, and what a get leaves in its file.
 #![tactic(auto)]
 
+pub mod files_kept;
 pub mod kept;
 pub mod lone_well;
 pub mod retrieval;

@@ -12,11 +12,12 @@ ghost use Rattle.gathering.specs.JournalRuns.{JournalRun};
 ghost use Rattle.task_run.specs.Askings.{run_askings};
 ghost use Rattle.task_laws.specs.Changes.{requests, stored_by, Retrieves};
 ghost use Rattle.task_laws.specs.Contents.{Shows};
-ghost use Rattle.task_laws.specs.Faithful.{sent, IsFaithful};
+ghost use Rattle.task_laws.specs.Faithful.{sent, IsFaithful, IsPlayed};
+ghost use Rattle.task_laws.specs.FilesKept.{HasNoPart};
 ghost use Rattle.task_laws.specs.Kept.{is_afresh};
 ghost use Rattle.task_laws.specs.Retrieval.{GotStored};
 ghost use Rattle.task_laws.specs.WentWell.{WentWell};
-ghost use Rattle.task_laws.specs.Rows.{ten_parts, worm_parts, abc_parts, hi, hi_parts, store_then_get, storing, stored_then_got, the_store, the_retrieve, told_hi, told_ho, one_store, first_chunk, told_calls, stored_again, removed, other_removed, not_stored};
+ghost use Rattle.task_laws.specs.Rows.{ten_parts, worm_parts, abc_parts, hi, hi_parts, store_then_get, storing, stored_then_got, the_store, the_retrieve, told_hi, told_ho, told_left, filled_early, one_store, first_chunk, told_calls, stored_again, removed, other_removed, not_stored};
 
 /// A store whose questions were answered in any way went well, and not one that failed, whose child was gone, or whose file shrank.
 pub fn stores_went_well()
@@ -44,6 +45,13 @@ pub fn begins_afresh()
     ensures plain { is_afresh (0 ∷ []) (codes "o") (gets_abc (Done 13)) (got_abc (codes "abc") ++ renamed) ≡ true }
     ensures missing { is_afresh (4 ∷ 0 ∷ []) (codes "o") [] (Size (codes "o.part") (Err Missing) ∷ []) ≡ true }
     ensures resumed { is_afresh (4 ∷ 0 ∷ []) (codes "o") gets_ten resumed_ten ≡ false }
+{}
+
+/// A get had no part where its desk has none before it, and none of its calls fills part before the begin of the last layout.
+pub fn had_no_part()
+    ensures none { HasNoPart (codes "o") got_hi ((fetched_2_1, codes "hi") ∷ []) }
+    ensures there { HasNoPart (codes "o") got_hi ((codes "o.part", codes "h") ∷ []) → ⊥ }
+    ensures filled { HasNoPart (codes "o") filled_early [] → ⊥ }
 {}
 
 /// A file that was read whole, or not, shows its content and no other.
@@ -74,12 +82,18 @@ pub fn what_chunks_sent()
     ensures plain { sent one_store (setup_of 0) (told_calls stored_ten) first_chunk ≡ codes "held" }
 {}
 
-/// A remote that sends what was stored is faithful, and one that sends another content isn't.
+/// A remote that sends what the storing task's desk held is faithful, and one that sends another content isn't.
 pub fn faithful_remotes()
     ensures retrieves { Retrieves stored_then_got the_retrieve the_store hi fetched_2_1 }
     ensures sent { sent store_then_get (setup_of 0) told_hi the_store ≡ codes "hi" }
     ensures same { IsFaithful store_then_get (setup_of 0) told_hi stored_then_got }
     ensures other { IsFaithful store_then_get (setup_of 0) told_ho stored_then_got → ⊥ }
+{}
+
+/// What its calls made of its desk's files is what they hold after the second task, and they hold no other bytes.
+pub fn played_at_its_desk()
+    ensures hi { IsPlayed (told_left (codes "hi")) 2 }
+    ensures ho { IsPlayed (told_left (codes "ho")) 2 → ⊥ }
 {}
 
 /// The second task of that run got what the first one stored.

@@ -6,7 +6,7 @@ use Rattle.ann_key.specs.declared.bytes.NoMemory.{NoMemory}
 use Rattle.ann_digest.specs.Fits.{IsSaidOf}
 use Rattle.ann_digest.specs.declared.fit.Fit.{Fit}
 use Rattle.ann_digest.specs.declared.fit.Fit.TheVariants as F
-use Rattle.ann_outside.specs.Calls.{Gained}
+use Rattle.ann_outside.specs.Calls.{Log, Gained}
 use Rattle.ann_outside.specs.declared.file_desk.DeskError.{DeskError}
 use Rattle.ann_outside.specs.declared.file_desk.DeskError.TheVariants as E
 use Rattle.ann_outside.specs.declared.file_desk.Call.{Call}
@@ -87,7 +87,7 @@ MoveIs names key n (NotRemoved pieces ending e) = EndsWhole names.fetch (length 
 MoveIs names key n (Settled pieces ending fit r) =
     EndsWhole names.fetch (length (concat pieces)) (n - length (concat pieces)) ending × IsSaidOf key (concat pieces) fit × (length (concat pieces) ≤ n)
 
-pub record Moves (names : Files3) (key : Parts) (n : ℕ) (old new : Option (List Call)) (result : Result Answer NoMemory) : Type 0 where
+pub record Moves (names : Files3) (key : Parts) (n : ℕ) (old new : Option Log) (result : Result Answer NoMemory) : Type 0 where
   pub how : Move
   pub calls : Gained old new (move_calls names how)
   pub result_is : result ≡ move_result how
@@ -114,7 +114,7 @@ FetchIs names key (NotSized e) = Unit {0}
 FetchIs names key (WrongSize n r) = is_size key.size n ≡ false
 FetchIs names key (Moved n how) = (is_size key.size n ≡ true) × MoveIs names key n how
 
-pub record Fetches (names : Files3) (key : Parts) (old new : Option (List Call)) (result : Result Answer NoMemory) : Type 0 where
+pub record Fetches (names : Files3) (key : Parts) (old new : Option Log) (result : Result Answer NoMemory) : Type 0 where
   pub how : Fetch
   pub calls : Gained old new (fetch_calls names how)
   pub result_is : result ≡ fetch_result how

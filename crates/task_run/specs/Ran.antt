@@ -9,7 +9,7 @@ use Rattle.task_text.specs.declared.task.Work.{Work}
 use Rattle.task_text.specs.declared.task.Work.TheVariants.{Store, Drop}
 use Rattle.ann_outside.specs.Causes.{Rose}
 use Rattle.ann_outside.specs.DeskCauses.{Counts}
-use Rattle.ann_outside.specs.Calls.{Gained}
+use Rattle.ann_outside.specs.Calls.{Log, Gained}
 use Rattle.ann_outside.specs.declared.file_desk.Call.{Call}
 use Rattle.ann_outside.specs.declared.file_desk.DeskError.{DeskError}
 use Rattle.ann_outside.specs.declared.file_desk.DeskError.TheVariants as E
@@ -31,7 +31,7 @@ behind_more n note = record { chunk = note.chunk; count = note.count; behind = n
 
 -- The pairs, the notes and, where it is kept, the log grew by those of one run of the task.
 pub record Ran (task : Task) (t : ℕ) (setup : Setup) (layouts : List (ℕ × ℕ)) (pairs_before pairs_after : List Asking)
-    (notes_before notes_after : List Noting) (log_before log_after : Option (List Call)) (result : Result Answer NoMemory) : Type 0 where
+    (notes_before notes_after : List Noting) (log_before log_after : Option Log) (result : Result Answer NoMemory) : Type 0 where
   pub asked : List Asking
   pub calls : List Call
   pub noted : List Noting
@@ -81,7 +81,7 @@ abbrev pub IsWhole : Setup → Task → Type 0
 IsWhole setup task = (key : Parts) → key_reading task.key ≡ Some key → is_chunked setup key ≡ false
 
 -- The pairs and, where it is kept, the log grew by those of one run of the task, which made no notes and stores no chunks.
-pub record RanPlain (task : Task) (t : ℕ) (layouts : List (ℕ × ℕ)) (before after : List Asking) (log_before log_after : Option (List Call)) (result : Result Answer NoMemory) : Type 0 where
+pub record RanPlain (task : Task) (t : ℕ) (layouts : List (ℕ × ℕ)) (before after : List Asking) (log_before log_after : Option Log) (result : Result Answer NoMemory) : Type 0 where
   pub asked : List Asking
   pub calls : List Call
   pub pairs_are : after ≡ before ++ asked
@@ -94,7 +94,7 @@ IsInChunks setup task = (key : Parts) → key_reading task.key ≡ Some key → 
 
 -- The pairs, the notes and, where it is kept, the log grew by those of one run of the task, whatever layouts the remote has.
 pub record RanStore (task : Task) (t : ℕ) (setup : Setup) (pairs_before pairs_after : List Asking)
-    (notes_before notes_after : List Noting) (log_before log_after : Option (List Call)) (result : Result Answer NoMemory) : Type 0 where
+    (notes_before notes_after : List Noting) (log_before log_after : Option Log) (result : Result Answer NoMemory) : Type 0 where
   pub asked : List Asking
   pub calls : List Call
   pub noted : List Noting
@@ -110,7 +110,7 @@ refusal E.Missing = Ok NoFile
 refusal E.NoMemory = Err record {}
 
 -- The pairs and, where it is kept, the log grew by those of one run of the task, which made no notes.
-pub record RanGet (task : Task) (t : ℕ) (setup : Setup) (layouts : List (ℕ × ℕ)) (before after : List Asking) (log_before log_after : Option (List Call)) (result : Result Answer NoMemory) : Type 0 where
+pub record RanGet (task : Task) (t : ℕ) (setup : Setup) (layouts : List (ℕ × ℕ)) (before after : List Asking) (log_before log_after : Option Log) (result : Result Answer NoMemory) : Type 0 where
   pub asked : List Asking
   pub calls : List Call
   pub pairs_are : after ≡ before ++ asked

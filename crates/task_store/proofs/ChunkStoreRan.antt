@@ -10,7 +10,7 @@ use Rattle.journal_model.specs.declared.answer.Answer.TheVariants as A
 use Rattle.task_text.specs.declared.task.Task.{Task}
 use Rattle.task_text.specs.declared.task.Work.TheVariants as W
 use Rattle.task_text.specs.TaskLines.{is_task_key, has_chunk}
-use Rattle.ann_outside.specs.Calls.{logged}
+use Rattle.ann_outside.specs.Calls.{Log, logged}
 use Rattle.ann_outside.specs.declared.file_desk.DeskError.{DeskError}
 use Rattle.ann_outside.specs.declared.file_desk.DeskError.TheVariants as E
 use Rattle.ann_outside.specs.declared.file_desk.Call.{Call}
@@ -110,7 +110,7 @@ other_run setup t key text file layouts n k s = record {
 
 -- ---- what was done
 
-pub refused_ran : (task : Task) (t : ℕ) (setup : Setup) (key : Parts) (pairs : List Asking) (notes : List Noting) (old new : Option (List Call)) (e : DeskError) → task.work ≡ W.Store
+pub refused_ran : (task : Task) (t : ℕ) (setup : Setup) (key : Parts) (pairs : List Asking) (notes : List Noting) (old new : Option Log) (e : DeskError) → task.work ≡ W.Store
     → key_reading task.key ≡ Some key → IsInChunks setup task → new ≡ logged old (Size task.file (Err e)) → RanStore task t setup pairs pairs notes notes old new (refusal e)
 refused_ran task t setup key pairs notes old new E.NoMemory w r k l = record {
   asked = [];
@@ -140,7 +140,7 @@ refused_ran task t setup key pairs notes old new E.Missing w r k l = record {
   run = λ layouts. store_run task t setup key layouts [] (Size task.file (Err E.Missing) ∷ []) [] A.NoFile w r (missing_run setup t key task.key task.file layouts (k key r));
 }
 
-pub other_size_ran : (task : Task) (t : ℕ) (setup : Setup) (key : Parts) (pairs : List Asking) (notes : List Noting) (old new : Option (List Call)) (size n : ℕ) → task.work ≡ W.Store
+pub other_size_ran : (task : Task) (t : ℕ) (setup : Setup) (key : Parts) (pairs : List Asking) (notes : List Noting) (old new : Option Log) (size n : ℕ) → task.work ≡ W.Store
     → key_reading task.key ≡ Some key → IsInChunks setup task → key.size ≡ Some size → (n ≡ size → ⊥) → new ≡ logged old (Size task.file (Ok n))
     → RanStore task t setup pairs pairs notes notes old new (Ok (A.Size n))
 other_size_ran task t setup key pairs notes old new size n w r k s d l = record {
@@ -153,7 +153,7 @@ other_size_ran task t setup key pairs notes old new size n w r k s d l = record 
   run = λ layouts. store_run task t setup key layouts [] (Size task.file (Ok n) ∷ []) [] (A.Size n) w r (other_run setup t key task.key task.file layouts n (k key r) (rw s (ne_eqb n size d)));
 }
 
-pub sized_ran : (task : Task) (t : ℕ) (setup : Setup) (key : Parts) (size : ℕ) (before after : List Asking) (notes notes' : List Noting) (a b d : Option (List Call)) (result : Result Answer NoMemory)
+pub sized_ran : (task : Task) (t : ℕ) (setup : Setup) (key : Parts) (size : ℕ) (before after : List Asking) (notes notes' : List Noting) (a b d : Option Log) (result : Result Answer NoMemory)
     → task.work ≡ W.Store → key_reading task.key ≡ Some key → b ≡ logged a (Size task.file (Ok size)) → StoresSized setup t key task.file size before after notes notes' b d result
     → RanStore task t setup before after notes notes' a d result
 sized_ran task t setup key size before after notes notes' a b d result w r l h = record {

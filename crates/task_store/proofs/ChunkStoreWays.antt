@@ -14,10 +14,9 @@ use Rattle.journal_model.specs.declared.verdict.Verdict.{Verdict}
 use Rattle.journal_model.specs.declared.verdict.Verdict.TheVariants.{Done as DoneAt, Failed, Absent, Unknown, Unsupported, Ended, Unsent}
 use Rattle.journal_model.specs.declared.answer.Answer.{Answer}
 use Rattle.journal_model.specs.declared.answer.Answer.TheVariants as A
-use Rattle.ann_outside.specs.Calls.{Gained, logged}
+use Rattle.ann_outside.specs.Calls.{Log, Gained, logged}
 use Rattle.ann_outside.specs.Files.{Files}
 use Rattle.ann_outside.specs.declared.file_desk.DeskError.TheVariants as E
-use Rattle.ann_outside.specs.declared.file_desk.Call.{Call}
 use Rattle.ann_outside.specs.declared.file_desk.Call.TheVariants.{Remove}
 use Rattle.fetch_copy.specs.declared.copied.Copied.TheVariants.{Done, Fault, Missing}
 use Rattle.fetch_copy.specs.CopiesOut.{CopiesOut}
@@ -53,7 +52,7 @@ chunk_from text name key before after (Ok v) k a = record { request = a.request;
 
 -- ---- copies
 
-pub copied_short : (file name : List ℕ) (from to n : ℕ) (old new : Option (List Call)) (before after : Option Files) → CopiesOut old new before after file from to name (Ok (Done n)) → (file ≡ name → n ≡ 0) → n < to - from
+pub copied_short : (file name : List ℕ) (from to n : ℕ) (old new : Option Log) (before after : Option Files) → CopiesOut old new before after file from to name (Ok (Done n)) → (file ≡ name → n ≡ 0) → n < to - from
     → NotWhole file name from to old new (Ok (Some (A.Size n)))
 copied_short file name from to n old new before after (inr h) own low = absurd h.0
 copied_short file name from to n old new before after (inl h) own low = record {
@@ -64,21 +63,21 @@ copied_short file name from to n old new before after (inl h) own low = record {
   unasked = refl;
 }
 
-pub copied_fault : (file name : List ℕ) (from to : ℕ) (old new : Option (List Call)) (before after : Option Files) → CopiesOut old new before after file from to name (Ok Fault) → NotWhole file name from to old new (Ok (Some A.FileFault))
+pub copied_fault : (file name : List ℕ) (from to : ℕ) (old new : Option Log) (before after : Option Files) → CopiesOut old new before after file from to name (Ok Fault) → NotWhole file name from to old new (Ok (Some A.FileFault))
 copied_fault file name from to old new before after (inr h) = record { how = NotMade E.Failed; calls = h.0; result_is = refl; so = λ key. tt; unasked = refl }
 copied_fault file name from to old new before after (inl h) = record { how = NotCopied h.0.pieces h.0.ending E.Failed; calls = h.0.calls; result_is = refl; so = λ key. (h.0.ends, h.0.within); unasked = refl }
 
-pub copied_missing : (file name : List ℕ) (from to : ℕ) (old new : Option (List Call)) (before after : Option Files) → CopiesOut old new before after file from to name (Ok Missing) → NotWhole file name from to old new (Ok (Some A.NoFile))
+pub copied_missing : (file name : List ℕ) (from to : ℕ) (old new : Option Log) (before after : Option Files) → CopiesOut old new before after file from to name (Ok Missing) → NotWhole file name from to old new (Ok (Some A.NoFile))
 copied_missing file name from to old new before after (inr h) = record { how = NotMade E.Missing; calls = h.0; result_is = refl; so = λ key. tt; unasked = refl }
 copied_missing file name from to old new before after (inl h) = record { how = NotCopied h.0.pieces h.0.ending E.Missing; calls = h.0.calls; result_is = refl; so = λ key. (h.0.ends, h.0.within); unasked = refl }
 
-pub copied_without : (file name : List ℕ) (from to : ℕ) (old new : Option (List Call)) (before after : Option Files) (e : NoMemory) → CopiesOut old new before after file from to name (Err e) → NotWhole file name from to old new (Err e)
+pub copied_without : (file name : List ℕ) (from to : ℕ) (old new : Option Log) (before after : Option Files) (e : NoMemory) → CopiesOut old new before after file from to name (Err e) → NotWhole file name from to old new (Err e)
 copied_without file name from to old new before after e (inr h) = record { how = NotMade E.NoMemory; calls = h.0; result_is = refl; so = λ key. tt; unasked = refl }
 copied_without file name from to old new before after e (inl h) = record { how = NotCopied h.0.pieces h.0.ending E.NoMemory; calls = h.0.calls; result_is = refl; so = λ key. (h.0.ends, h.0.within); unasked = refl }
 
 -- ---- one chunk
 
-pub not_whole : (file name : List ℕ) (from to : ℕ) (key : Parts) (pairs : List Asking) (old new : Option (List Call)) (result : Result (Option Answer) NoMemory)
+pub not_whole : (file name : List ℕ) (from to : ℕ) (key : Parts) (pairs : List Asking) (old new : Option Log) (result : Result (Option Answer) NoMemory)
     → NotWhole file name from to old new result → StoresChunk file name from to key pairs pairs old new result
 not_whole file name from to key pairs old new result h = record {
   how = h.how;
@@ -88,10 +87,10 @@ not_whole file name from to key pairs old new result h = record {
   so = h.so key;
 }
 
-pub not_begun_chunk : (file name : List ℕ) (from to : ℕ) (key : Parts) (pairs : List Asking) (log : Option (List Call)) (e : NoMemory) → StoresChunk file name from to key pairs pairs log log (Err e)
+pub not_begun_chunk : (file name : List ℕ) (from to : ℕ) (key : Parts) (pairs : List Asking) (log : Option Log) (e : NoMemory) → StoresChunk file name from to key pairs pairs log log (Err e)
 not_begun_chunk file name from to key pairs log e = record { how = NotMade E.NoMemory; pairs_are = sym (append-nil pairs); calls = gained_nothing log; result_is = refl; so = tt }
 
-pub not_asked : (file name : List ℕ) (from to : ℕ) (key : Parts) (before after : List Asking) (old new : Option (List Call)) (e : NoMemory)
+pub not_asked : (file name : List ℕ) (from to : ℕ) (key : Parts) (before after : List Asking) (old new : Option Log) (e : NoMemory)
     → CopiesChunk file name from to old new (Ok None) → after ≡ before → StoresChunk file name from to key before after old new (Err e)
 not_asked file name from to key before after old new e h same = record {
   how = Unasked h.0 h.1;
@@ -110,7 +109,7 @@ unsettled_stops (Unsupported at) h k = refl
 unsettled_stops (Ended why) h k = refl
 unsettled_stops Unsent h k = refl
 
-pub settled_chunk : (file name : List ℕ) (from to : ℕ) (key : Parts) (before after : List Asking) (a b d : Option (List Call)) (v : Verdict) (result : Result (Option Answer) NoMemory)
+pub settled_chunk : (file name : List ℕ) (from to : ℕ) (key : Parts) (before after : List Asking) (a b d : Option Log) (v : Verdict) (result : Result (Option Answer) NoMemory)
     → CopiesChunk file name from to a b (Ok None) → AsksOneFor (from_file name) key before after v → is_verdict_of (Transfer true [] []) v ≡ true → SettlesChunk name v b d result
     → StoresChunk file name from to key before after a d result
 settled_chunk file name from to key before after a b d v result h o k s = by_test (is_settled_at v) refl s
@@ -130,7 +129,7 @@ settled_chunk file name from to key before after a b d v result h o k s = by_tes
     by_test false e s = record {
       how = Undone h.0 h.1 (record { request = o.request; verdict = v });
       pairs_are = o.added;
-      calls = let P : Option (List Call) → Type 0 = λ l. Gained a l (cut_calls file name from h.0 h.1) in subst P (sym s.0) h.2;
+      calls = let P : Option Log → Type 0 = λ l. Gained a l (cut_calls file name from h.0 h.1) in subst P (sym s.0) h.2;
       result_is = s.1;
       so = (h.3, h.4, o.asks, unsettled_stops v k e);
     }

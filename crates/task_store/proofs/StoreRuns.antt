@@ -10,7 +10,7 @@ use Rattle.annex_model.specs.Lines.{has_newline}
 use Rattle.annex_model.specs.Messages.{HostMessage, Transfer}
 use Rattle.task_text.specs.declared.task.Task.{Task}
 use Rattle.task_text.specs.declared.task.Work.TheVariants as W
-use Rattle.ann_outside.specs.Calls.{logged}
+use Rattle.ann_outside.specs.Calls.{Log, logged}
 use Rattle.ann_outside.specs.declared.file_desk.DeskError.{DeskError}
 use Rattle.ann_outside.specs.declared.file_desk.DeskError.TheVariants as E
 use Rattle.ann_outside.specs.declared.file_desk.Call.{Call}
@@ -150,7 +150,7 @@ store_run task t setup asked calls answer w h =
     let P : Task → Type 0 = λ j. TaskRun j t setup [] asked calls [] answer in
     subst P (sym (as_store task w)) (of_reading task.key (λ key. RunOf setup t (store_task task.key task.file) key [] asked calls [] answer) h)
 
-pub store_refused_ran : (task : Task) (t : ℕ) (pairs : List Asking) (old new : Option (List Call)) (e : DeskError) → task.work ≡ W.Store
+pub store_refused_ran : (task : Task) (t : ℕ) (pairs : List Asking) (old new : Option Log) (e : DeskError) → task.work ≡ W.Store
     → new ≡ logged old (Size task.file (Err e)) → RanPlain task t [] pairs pairs old new (refusal e)
 store_refused_ran task t pairs old new E.NoMemory w l = record {
   asked = [];
@@ -174,7 +174,7 @@ store_refused_ran task t pairs old new E.Missing w l = record {
   run = λ setup whole. store_run task t setup [] (Size task.file (Err E.Missing) ∷ []) (answered (refusal E.Missing)) w (λ key r. store_refused setup t key task.key task.file E.Missing (whole key r) (λ e. cc));
 }
 
-pub store_unasked_ran : (task : Task) (t : ℕ) (pairs : List Asking) (old new : Option (List Call)) (n : ℕ) (e : NoMemory) → task.work ≡ W.Store
+pub store_unasked_ran : (task : Task) (t : ℕ) (pairs : List Asking) (old new : Option Log) (n : ℕ) (e : NoMemory) → task.work ≡ W.Store
     → new ≡ logged old (Size task.file (Ok n)) → RanPlain task t [] pairs pairs old new (Err e)
 store_unasked_ran task t pairs old new n e w l = record {
   asked = [];
@@ -184,7 +184,7 @@ store_unasked_ran task t pairs old new n e w l = record {
   run = λ setup whole. store_run task t setup [] (Size task.file (Ok n) ∷ []) Memory w (λ key r. store_unasked setup t key task.key task.file n (whole key r));
 }
 
-pub store_other_size_ran : (task : Task) (t : ℕ) (pairs : List Asking) (old new : Option (List Call)) (n : ℕ) (size : Option ℕ) → task.work ≡ W.Store
+pub store_other_size_ran : (task : Task) (t : ℕ) (pairs : List Asking) (old new : Option Log) (n : ℕ) (size : Option ℕ) → task.work ≡ W.Store
     → ((key : Parts) → key_reading task.key ≡ Some key → key.size ≡ size) → is_size size n ≡ false
     → new ≡ logged old (Size task.file (Ok n)) → RanPlain task t [] pairs pairs old new (Ok (SizeAnswer n))
 store_other_size_ran task t pairs old new n size w sized s l = record {
@@ -195,7 +195,7 @@ store_other_size_ran task t pairs old new n size w sized s l = record {
   run = λ setup whole. store_run task t setup [] (Size task.file (Ok n) ∷ []) (SizeAnswer n) w (λ key r. store_other_size setup t key task.key task.file n (whole key r) (rw (sized key r) s));
 }
 
-pub store_once_ran : (task : Task) (t : ℕ) (before after : List Asking) (old new : Option (List Call)) (n : ℕ) (size : Option ℕ) (v : Verdict) → task.work ≡ W.Store
+pub store_once_ran : (task : Task) (t : ℕ) (before after : List Asking) (old new : Option Log) (n : ℕ) (size : Option ℕ) (v : Verdict) → task.work ≡ W.Store
     → ((key : Parts) → key_reading task.key ≡ Some key → key.size ≡ size) → is_size size n ≡ true
     → new ≡ logged old (Size task.file (Ok n)) → AsksOne before after (Transfer true task.key task.file) v
     → is_verdict_of (Transfer true task.key task.file) v ≡ true → RanPlain task t [] before after old new (Ok (unwrap_or (change_answer Stored v) Memory))
@@ -219,7 +219,7 @@ named_in_line file is_long is_text h = by_parts is_long is_text (has_newline fil
     by_parts false b c h = apart h
 
 -- the answer that there is
-pub or_memory : (task : Task) (t : ℕ) (before after : List Asking) (old new : Option (List Call)) (answer : Answer) (o : Option Answer) → Some answer ≡ o
+pub or_memory : (task : Task) (t : ℕ) (before after : List Asking) (old new : Option Log) (answer : Answer) (o : Option Answer) → Some answer ≡ o
     → RanPlain task t [] before after old new (Ok (unwrap_or o Memory)) → RanPlain task t [] before after old new (Ok answer)
 or_memory task t before after old new answer o e r = let P : Option Answer → Type 0 = λ o. RanPlain task t [] before after old new (Ok (unwrap_or o Memory)) in subst P (sym e) r
 

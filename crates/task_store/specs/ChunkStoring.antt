@@ -7,7 +7,7 @@ use Rattle.ann_key.specs.declared.bytes.NoMemory.{NoMemory}
 use Rattle.annex_model.specs.Messages.{HostMessage, Transfer}
 use Rattle.journal_model.specs.declared.verdict.Verdict.{Verdict}
 use Rattle.journal_model.specs.declared.verdict.Verdict.TheVariants.{Done as DoneAt, Failed as FailedAt, Absent as AbsentAt, Unknown as UnknownAt, Unsupported as UnsupportedAt}
-use Rattle.ann_outside.specs.Calls.{Gained, logged}
+use Rattle.ann_outside.specs.Calls.{Log, Gained, logged}
 use Rattle.ann_outside.specs.declared.file_desk.DeskError.{DeskError}
 use Rattle.ann_outside.specs.declared.file_desk.Call.{Call}
 use Rattle.ann_outside.specs.declared.file_desk.Call.TheVariants.{Size, Create, Remove}
@@ -149,7 +149,7 @@ ChunkIs file name from to key (Undone pieces ending a) =
 ChunkIs file name from to key (Settled pieces ending a r) =
     Cut file name from to pieces ending × (length (concat pieces) ≡ to - from) × AsksFor (from_file name) 1 key a × (is_settled_at a.verdict ≡ true)
 
-pub record StoresChunk (file name : List ℕ) (from to : ℕ) (key : Parts) (before after : List Asking) (old new : Option (List Call)) (result : Result (Option Answer) NoMemory) : Type 0 where
+pub record StoresChunk (file name : List ℕ) (from to : ℕ) (key : Parts) (before after : List Asking) (old new : Option Log) (result : Result (Option Answer) NoMemory) : Type 0 where
   pub how : Chunk
   pub pairs_are : after ≡ before ++ chunk_asked how
   pub calls : Gained old new (chunk_calls file name from how)
@@ -159,7 +159,7 @@ pub record StoresChunk (file name : List ℕ) (from to : ℕ) (key : Parts) (bef
 -- ---- parts of one chunk
 
 -- copying ended the task, whatever the chunk's key is
-pub record NotWhole (file name : List ℕ) (from to : ℕ) (old new : Option (List Call)) (result : Result (Option Answer) NoMemory) : Type 0 where
+pub record NotWhole (file name : List ℕ) (from to : ℕ) (old new : Option Log) (result : Result (Option Answer) NoMemory) : Type 0 where
   pub how : Chunk
   pub calls : Gained old new (chunk_calls file name from how)
   pub result_is : result ≡ chunk_result how
@@ -167,7 +167,7 @@ pub record NotWhole (file name : List ℕ) (from to : ℕ) (old new : Option (Li
   pub unasked : chunk_asked how ≡ []
 
 -- the range was copied whole, or copying it ended the task
-abbrev pub CopiesChunk : List ℕ → List ℕ → ℕ → ℕ → Option (List Call) → Option (List Call) → Result (Option Answer) NoMemory → Type 0
+abbrev pub CopiesChunk : List ℕ → List ℕ → ℕ → ℕ → Option Log → Option Log → Result (Option Answer) NoMemory → Type 0
 CopiesChunk file name from to old new (Ok None) =
     (pieces : List (List ℕ)) × (ending : List Call) × Gained old new (cut_calls file name from pieces ending) × Cut file name from to pieces ending
     × (length (concat pieces) ≡ to - from)
@@ -175,7 +175,7 @@ CopiesChunk file name from to old new (Ok (Some answer)) = NotWhole file name fr
 CopiesChunk file name from to old new (Err e) = NotWhole file name from to old new (Err e)
 
 -- after done and failed the chunk's file is removed; else it stays
-abbrev pub SettlesChunk : List ℕ → Verdict → Option (List Call) → Option (List Call) → Result (Option Answer) NoMemory → Type 0
+abbrev pub SettlesChunk : List ℕ → Verdict → Option Log → Option Log → Result (Option Answer) NoMemory → Type 0
 SettlesChunk name v old new result =
     MatchBool (is_settled_at v) ((r : Outcome) × (new ≡ logged old (Remove name r)) × (result ≡ removal_result (undone_answer v) r))
     ((new ≡ old) × (result ≡ Ok (undone_answer v)))
@@ -200,7 +200,7 @@ pub record IsSought (key : Parts) (chunk count n : ℕ) (asked : List Asking) : 
 
 -- After the questions, and the length of the file, this makes a run of the task.
 pub record StoresFrom (setup : Setup) (t : ℕ) (key : Parts) (file : List ℕ) (size n : ℕ) (pairs_before pairs_after : List Asking)
-    (notes_before notes_after : List Noting) (old new : Option (List Call)) (result : Result Answer NoMemory) : Type 0 where
+    (notes_before notes_after : List Noting) (old new : Option Log) (result : Result Answer NoMemory) : Type 0 where
   pub asked : List Asking
   pub calls : List Call
   pub noted : List Noting
@@ -218,7 +218,7 @@ NotesChunks chunk count behind old new (Err e) = new ≡ old
 
 -- After the length of the file, which is the key's size, this makes a run of the task.
 pub record StoresSized (setup : Setup) (t : ℕ) (key : Parts) (file : List ℕ) (size : ℕ) (pairs_before pairs_after : List Asking)
-    (notes_before notes_after : List Noting) (old new : Option (List Call)) (result : Result Answer NoMemory) : Type 0 where
+    (notes_before notes_after : List Noting) (old new : Option Log) (result : Result Answer NoMemory) : Type 0 where
   pub asked : List Asking
   pub calls : List Call
   pub noted : List Noting

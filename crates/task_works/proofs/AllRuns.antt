@@ -6,6 +6,7 @@ use Rattle.ann_key.specs.declared.bytes.NoMemory.{NoMemory}
 use Rattle.task_text.specs.declared.task.Task.{Task}
 use Rattle.task_text.specs.declared.task.Work.{Work}
 use Rattle.task_text.specs.declared.task.Work.TheVariants as W
+use Rattle.ann_outside.specs.Calls.{Log}
 use Rattle.ann_outside.specs.declared.file_desk.Call.{Call}
 use Rattle.fetch_copy.proofs.CopyLaws.{gained_nothing}
 use Rattle.task_run.specs.Askers.{Asking, Noting}
@@ -17,7 +18,7 @@ use Rattle.task_run.specs.Names.{part_of}
 use Rattle.task_run.specs.Ran.{Ran, RanAsking, RanPlain, RanStore, RanGet, IsInChunks, IsWhole, answered}
 use Rattle.task_works.specs.Rounds.{RanNoting}
 
-pub from_asking : (task : Task) (t : ℕ) (setup : Setup) (layouts : List (ℕ × ℕ)) (before after : List Asking) (notes later : List Noting) (log : Option (List Call)) (result : Result Answer NoMemory)
+pub from_asking : (task : Task) (t : ℕ) (setup : Setup) (layouts : List (ℕ × ℕ)) (before after : List Asking) (notes later : List Noting) (log : Option Log) (result : Result Answer NoMemory)
     → RanAsking task t layouts before after result → later ≡ notes → Ran task t setup layouts before after notes later log log result
 from_asking task t setup layouts before after notes later log result r n = record {
   asked = r.asked;
@@ -29,7 +30,7 @@ from_asking task t setup layouts before after notes later log result r n = recor
   run = r.run setup;
 }
 
-pub from_noting : (task : Task) (t : ℕ) (setup : Setup) (layouts : List (ℕ × ℕ)) (before after : List Asking) (notes later : List Noting) (log : Option (List Call)) (result : Result Answer NoMemory)
+pub from_noting : (task : Task) (t : ℕ) (setup : Setup) (layouts : List (ℕ × ℕ)) (before after : List Asking) (notes later : List Noting) (log : Option Log) (result : Result Answer NoMemory)
     → RanNoting task t layouts before after notes later result → Ran task t setup layouts before after notes later log log result
 from_noting task t setup layouts before after notes later log result r = record {
   asked = r.asked;
@@ -41,7 +42,7 @@ from_noting task t setup layouts before after notes later log result r = record 
   run = r.run setup;
 }
 
-pub from_get : (task : Task) (t : ℕ) (setup : Setup) (layouts : List (ℕ × ℕ)) (before after : List Asking) (notes later : List Noting) (old new : Option (List Call)) (result : Result Answer NoMemory)
+pub from_get : (task : Task) (t : ℕ) (setup : Setup) (layouts : List (ℕ × ℕ)) (before after : List Asking) (notes later : List Noting) (old new : Option Log) (result : Result Answer NoMemory)
     → RanGet task t setup layouts before after old new result → later ≡ notes → Ran task t setup layouts before after notes later old new result
 from_get task t setup layouts before after notes later old new result r n = record {
   asked = r.asked;
@@ -53,7 +54,7 @@ from_get task t setup layouts before after notes later old new result r n = reco
   run = r.run;
 }
 
-pub from_store : (task : Task) (t : ℕ) (setup : Setup) (layouts : List (ℕ × ℕ)) (before after : List Asking) (notes later : List Noting) (old new : Option (List Call)) (result : Result Answer NoMemory)
+pub from_store : (task : Task) (t : ℕ) (setup : Setup) (layouts : List (ℕ × ℕ)) (before after : List Asking) (notes later : List Noting) (old new : Option Log) (result : Result Answer NoMemory)
     → RanStore task t setup before after notes later old new result → Ran task t setup layouts before after notes later old new result
 from_store task t setup layouts before after notes later old new result r = record {
   asked = r.asked;
@@ -90,7 +91,7 @@ any_layouts setup t task layouts others asked calls noted answer w r = by_case (
     by_case None h = tt
     by_case (Some key) h = other_layouts setup t task key layouts others asked calls noted answer w h
 
-pub from_plain : (task : Task) (t : ℕ) (setup : Setup) (before after : List Asking) (notes later : List Noting) (old new : Option (List Call)) (result : Result Answer NoMemory)
+pub from_plain : (task : Task) (t : ℕ) (setup : Setup) (before after : List Asking) (notes later : List Noting) (old new : Option Log) (result : Result Answer NoMemory)
     → task.work ≡ W.Store → IsWhole setup task → RanPlain task t [] before after old new result → later ≡ notes → RanStore task t setup before after notes later old new result
 from_plain task t setup before after notes later old new result k w r n = record {
   asked = r.asked;

@@ -1,33 +1,33 @@
 // A desk in memory.
-ghost use Rattle.std.specs.Prelude.{◌≡◌, ◌+◌, ◌-◌, ◌<◌, ◌^◌, [], ◌∷◌, ◌++◌, ◌≢◌, ℕ, List, Some, None, option_copied, length, min, drop, vec_len, vec_capacity, IfOk, OnOk, OnErr, IfSome, MatchResult};
+ghost use Rattle.std.specs.Prelude.{◌≡◌, ◌+◌, ◌-◌, ◌<◌, ◌^◌, [], ◌≢◌, ℕ, List, Some, None, option_copied, option_map, length, min, drop, IfOk, OnErr, IfSome, MatchResult};
 ghost use Rattle.std.specs.Io.{ReadsAtMost};
 ghost use Rattle.ann_outside.specs.Calls.{logged, bytes_read};
 ghost use Rattle.ann_outside.specs.DeskCauses.{HasCauses, LeavesOther};
 ghost use Rattle.ann_outside.specs.Desks.{no_counts};
 ghost use Rattle.ann_outside.specs.Fails.{Begins};
-ghost use Rattle.ann_outside.specs.Files.{content, OthersStay, WhereTold, CanCut, SizeIs, ReadIs, CreateDoes, CreateNewDoes, AppendDoes, CutDoes, RenameDoes, RemoveDoes, SyncIs};
-ghost use Rattle.ann_outside.specs.declared.file_desk.Call.{Call};
+ghost use Rattle.ann_outside.specs.Files.{content, WhereTold, CanCut, SizeIs, ReadIs, CreateDoes, CreateNewDoes, AppendDoes, CutDoes, RenameDoes, RemoveDoes, SyncIs};
+ghost use Rattle.ann_outside.specs.Played.{Played};
 ghost use Rattle.ann_outside.specs.declared.file_desk.Call.TheVariants.{Size, ReadAt, Create, Append, Cut, Rename, Remove};
 
 use super::super::{Call, Desk, DeskError};
-use super::fails::Fails;
-use super::files::{FileList, copy_all, copy_of, find, joined, piece_of, put, size_of, take_away};
-use super::source::copy_front;
+use super::files::{FileList, find};
+use super::state::DeskState;
 use ann_key::{Bytes, NoMemory, Text};
 use std::alloc::Global;
+use std::snapshot::Snapshot;
 
 /// A desk in memory, which tells its files and keeps its log.
 #[derive(Drop)]
 pub struct MemDesk {
-    alloc: Global,
-    files: FileList,
-    log: Vec<Call>,
-    fails: Fails,
-    missing: u64,
+    state: DeskState,
+    // the files that it had before the first call of its log
+    origin: Snapshot<FileList>,
+    ghost played: { ∥ Played state.log.items origin.value.items state.files.items ∥₁ },
 }
 
 impl MemDesk {
-    ghost use Rattle.ann_outside.specs.MemDesk.{desk_fails, IsCounted, IsCountedOr, SameButLog, SameButFiles, SameButCounts, SameButRoom};
+    ghost use Rattle.ann_outside.specs.MemDesk.{desk_fails};
+    ghost use Rattle.ann_outside.specs.DeskState.{SameButLog};
 
     /// A desk with these files, of which the first of a name counts. The calls whose numbers are listed fail, counted
     /// from 1; a call that finds no memory isn't counted.
@@ -37,185 +37,66 @@ impl MemDesk {
         fails: Vec<u64>,
     ) -> Result<MemDesk, NoMemory>
         ensures files { IfOk result (λ d. ⟦<MemDesk as Desk>⟧.files d ≡ Some files.items) }
-        ensures log { IfOk result (λ d. ⟦<MemDesk as Desk>⟧.log d ≡ Some []) }
+        ensures log { IfOk result (λ d. ⟦<MemDesk as Desk>⟧.log d ≡ Some (record { origin = Some files.items; calls = [] })) }
         ensures counts { IfOk result (λ d. ⟦<MemDesk as Desk>⟧.counts d ≡ no_counts) }
         ensures fails { IfOk result (λ d. Begins (desk_fails d) fails.items) }
     {
-        Ok(MemDesk {
-            alloc,
-            files,
-            log: Vec::with_capacity(alloc, 1)?,
-            fails: Fails::new(fails),
-            missing: 0,
-        })
+        Ok(MemDesk::over(DeskState::new(alloc, files, fails)?))
+    }
+
+    // A desk on whose files no call was made.
+    fn over(state: DeskState) -> MemDesk
+        requires { state.log.items ≡ [] }
+        ensures state { result.state ≡ state }
+        ensures origin { result.origin.value.items ≡ state.files.items }
+    {
+        let origin = Snapshot::of(&state.files);
+        MemDesk { state, origin }
     }
 
     /// The bytes of the file of that name, if there is one.
     pub fn content(&self, name: &str) -> Option<&Bytes>
         ensures { IfSome (⟦<MemDesk as Desk>⟧.files self.now) (λ fs. option_copied result ≡ content name.now fs) }
     {
-        find(self.files.as_slice(), name)
+        find(self.state.files.as_slice(), name)
     }
 
     /// Its calls so far, in order, without those that found no memory.
     pub fn log(&self) -> &[Call]
-        ensures { ⟦<MemDesk as Desk>⟧.log self.now ≡ Some result.now }
+        ensures { option_map (λ log. log.calls) (⟦<MemDesk as Desk>⟧.log self.now) ≡ Some result.now }
     {
-        self.log.as_slice()
+        self.state.log.as_slice()
     }
 
-    /// Forgets its calls so far; the numbers of the calls to come go on.
+    /// Forgets its calls so far: its log begins with the files that it has. The numbers of the calls to come go on.
     pub fn forget_log(&mut self)
-        ensures log { ⟦<MemDesk as Desk>⟧.log self.new ≡ Some [] }
-        ensures same { SameButLog self.old self.new }
+        ensures log { ⟦<MemDesk as Desk>⟧.log self.new ≡ Some (record { origin = ⟦<MemDesk as Desk>⟧.files self.old; calls = [] }) }
+        ensures same { SameButLog self.old.state self.new.state }
     {
-        self.log.clear();
+        self.origin = Snapshot::of(&self.state.files);
+        self.state.log.clear();
     }
 
     // A desk with the same files, on which no call was made, and of which the same calls fail.
     pub(super) fn begun(&self) -> Result<MemDesk, NoMemory>
-        ensures files { IfOk result (λ d. d.files.items ≡ self.now.files.items) }
-        ensures fails { IfOk result (λ d. Begins (desk_fails d) self.now.fails.at.items) }
-        ensures log { IfOk result (λ d. d.log.items ≡ []) }
-        ensures missing { IfOk result (λ d. d.missing ≡ 0) }
+        ensures files { IfOk result (λ d. d.state.files.items ≡ self.now.state.files.items) }
+        ensures fails { IfOk result (λ d. Begins (desk_fails d) self.now.state.fails.at.items) }
+        ensures log { IfOk result (λ d. (d.state.log.items ≡ []) × (d.origin.value.items ≡ d.state.files.items)) }
+        ensures missing { IfOk result (λ d. d.state.missing ≡ 0) }
     {
-        Ok(MemDesk {
-            alloc: self.alloc,
-            files: copy_all(self.alloc, self.files.as_slice())?,
-            log: Vec::with_capacity(self.alloc, 1)?,
-            fails: self.fails.begun(self.alloc)?,
-            missing: 0,
-        })
-    }
-
-    // Takes room for one more call in the log, and copies its name.
-    fn begin(&mut self, name: &str) -> Result<Text, NoMemory>
-        ensures name { IfOk result (λ t. t ≡ name.now) }
-        ensures room { OnOk result (vec_len self.new.log < vec_capacity self.new.log) }
-        ensures same { SameButRoom self.old self.new }
-    {
-        self.log.reserve(1)?;
-        Text::copy(self.alloc, name)
-    }
-
-    // Takes room for one more file, and copies its name.
-    fn begin_file(&mut self, name: &str) -> Result<Text, NoMemory>
-        ensures name { IfOk result (λ t. t ≡ name.now) }
-        ensures room { OnOk result (vec_len self.new.files < vec_capacity self.new.files) }
-        ensures files { self.new.files.items ≡ self.old.files.items }
-        ensures same { SameButFiles self.old self.new }
-    {
-        self.files.reserve(1)?;
-        Text::copy(self.alloc, name)
-    }
-
-    // Logs the call.
-    fn end(&mut self, call: Call)
-        requires { vec_len self.old.log < vec_capacity self.old.log }
-        ensures log { self.new.log.items ≡ self.old.log.items ++ call ∷ [] }
-        ensures same { SameButLog self.old self.new }
-    {
-        self.log.push_reserved(call);
-    }
-
-    // Counts the call. It gives what was found for it, unless it is to fail.
-    fn settle<T: Drop>(&mut self, found: Option<T>) -> Result<T, DeskError>
-        ensures found { IfOk result (λ x. found ≡ Some x) }
-        ensures missing { result ≡ Err DeskError.Missing → found ≡ None }
-        ensures memory { result ≡ Err DeskError.NoMemory → ⊥ }
-        ensures counted { IsCounted (desk_fails self.old) (desk_fails self.new) result }
-        ensures causes { HasCauses (⟦<MemDesk as Desk>⟧.counts self.old) (⟦<MemDesk as Desk>⟧.counts self.new) result }
-        ensures apart { LeavesOther (⟦<MemDesk as Desk>⟧.counts self.old) (⟦<MemDesk as Desk>⟧.counts self.new) result }
-        ensures same { SameButCounts self.old self.new }
-    {
-        if self.fails.next() {
-            return Err(DeskError::Failed);
-        }
-        match found {
-            Some(found) => Ok(found),
-            None => {
-                self.missing = self.missing.saturating_add(1);
-                Err(DeskError::Missing)
-            }
-        }
-    }
-
-    // Counts the call, and puts the file's next bytes in the place of those that it has.
-    fn replace(&mut self, name: Text, next: Option<Bytes>) -> Result<(), DeskError>
-        requires { vec_len self.old.files < vec_capacity self.old.files }
-        ensures done { OnOk result (next ≢ None × (content name self.new.files.items ≡ next)
-            × OthersStay (λ other. other ≡ name) self.old.files.items self.new.files.items) }
-        ensures missing { result ≡ Err DeskError.Missing → next ≡ None }
-        ensures err { OnErr result (self.new.files.items ≡ self.old.files.items) }
-        ensures memory { result ≡ Err DeskError.NoMemory → ⊥ }
-        ensures counted { IsCounted (desk_fails self.old) (desk_fails self.new) result }
-        ensures causes { HasCauses (⟦<MemDesk as Desk>⟧.counts self.old) (⟦<MemDesk as Desk>⟧.counts self.new) result }
-        ensures apart { LeavesOther (⟦<MemDesk as Desk>⟧.counts self.old) (⟦<MemDesk as Desk>⟧.counts self.new) result }
-        ensures log { self.new.log ≡ self.old.log }
-    {
-        match self.settle(next) {
-            Ok(bytes) => {
-                put(&mut self.files, name, bytes);
-                Ok(())
-            }
-            Err(e) => Err(e),
-        }
-    }
-
-    // Counts the call, and makes the file where there is none of its name. One that stands is a fault.
-    fn make_new(&mut self, name: Text) -> Result<(), DeskError>
-        requires { vec_len self.old.files < vec_capacity self.old.files }
-        ensures files { CreateNewDoes name result self.old.files.items self.new.files.items }
-        ensures err { OnErr result (self.new.files.items ≡ self.old.files.items) }
-        ensures memory { result ≡ Err DeskError.NoMemory → ⊥ }
-        ensures counted { IsCountedOr (content name self.old.files.items ≢ None) (desk_fails self.old) (desk_fails self.new) result }
-        ensures causes { HasCauses (⟦<MemDesk as Desk>⟧.counts self.old) (⟦<MemDesk as Desk>⟧.counts self.new) result }
-        ensures apart { LeavesOther (⟦<MemDesk as Desk>⟧.counts self.old) (⟦<MemDesk as Desk>⟧.counts self.new) result }
-        ensures log { self.new.log ≡ self.old.log }
-    {
-        if self.fails.next() {
-            return Err(DeskError::Failed);
-        }
-        if find(self.files.as_slice(), name.view()).is_some() {
-            self.fails.count();
-            return Err(DeskError::Failed);
-        }
-        let empty = Bytes::from_vec(Vec::new(self.alloc));
-        put(&mut self.files, name, empty);
-        Ok(())
-    }
-
-    // Counts the call, and gives the file its other name.
-    fn move_file(&mut self, from: &str, to: Text, moved: Option<Bytes>) -> Result<(), DeskError>
-        requires room { vec_len self.old.files < vec_capacity self.old.files }
-        requires moved { moved ≡ content from.now self.old.files.items }
-        ensures files { RenameDoes from.now to result self.old.files.items self.new.files.items }
-        ensures err { OnErr result (self.new.files.items ≡ self.old.files.items) }
-        ensures memory { result ≡ Err DeskError.NoMemory → ⊥ }
-        ensures counted { IsCounted (desk_fails self.old) (desk_fails self.new) result }
-        ensures causes { HasCauses (⟦<MemDesk as Desk>⟧.counts self.old) (⟦<MemDesk as Desk>⟧.counts self.new) result }
-        ensures apart { LeavesOther (⟦<MemDesk as Desk>⟧.counts self.old) (⟦<MemDesk as Desk>⟧.counts self.new) result }
-        ensures log { self.new.log ≡ self.old.log }
-    {
-        match self.settle(moved) {
-            Ok(bytes) => {
-                take_away(&mut self.files, from);
-                put(&mut self.files, to, bytes);
-                Ok(())
-            }
-            Err(e) => Err(e),
-        }
+        Ok(MemDesk::over(self.state.begun()?))
     }
 }
 
 impl Desk for MemDesk {
-    ghost use Rattle.ann_outside.specs.MemDesk.{desk_fails, IsCounted, IsCountedOr};
+    ghost use Rattle.ann_outside.specs.MemDesk.{desk_fails};
+    ghost use Rattle.ann_outside.specs.DeskState.{IsCounted, IsCountedOr};
 
-    ghost counts = { λ d. record { faults = d.fails.faults; missing = d.missing } };
+    ghost counts = { λ d. record { faults = d.state.fails.faults; missing = d.state.missing } };
 
-    ghost files = { λ d. Some d.files.items };
+    ghost files = { λ d. Some d.state.files.items };
 
-    ghost log = { λ d. Some d.log.items };
+    ghost log = { λ d. Some (record { origin = Some d.origin.value.items; calls = d.state.log.items }) };
 
     fn size(&mut self, name: &str) -> Result<u64, DeskError>
         ensures files { ⟦<MemDesk as Desk>⟧.files self.new ≡ ⟦<MemDesk as Desk>⟧.files self.old }
@@ -225,16 +106,7 @@ impl Desk for MemDesk {
         ensures log { ⟦<MemDesk as Desk>⟧.log self.new ≡ logged (⟦<MemDesk as Desk>⟧.log self.old) (Size name.now result) }
         ensures counted { IsCounted (desk_fails self.old) (desk_fails self.new) result }
     {
-        let Ok(noted) = self.begin(name) else {
-            return Err(DeskError::NoMemory);
-        };
-        let size = size_of(self.files.as_slice(), name);
-        let answer = self.settle(size);
-        self.end(Call::Size {
-            name: noted,
-            answer,
-        });
-        answer
+        self.state.size(name)
     }
 
     fn read_at(&mut self, name: &str, from: u64, buf: &mut [u8]) -> Result<usize, DeskError>
@@ -251,31 +123,7 @@ impl Desk for MemDesk {
         ensures log { ⟦<MemDesk as Desk>⟧.log self.new ≡ logged (⟦<MemDesk as Desk>⟧.log self.old) (ReadAt name.now from (bytes_read buf.new result)) }
         ensures counted { IsCounted (desk_fails self.old) (desk_fails self.new) result }
     {
-        let Ok(noted) = self.begin(name) else {
-            return Err(DeskError::NoMemory);
-        };
-        let Ok(piece) = piece_of(self.alloc, self.files.as_slice(), name, from, buf.len()) else {
-            return Err(DeskError::NoMemory);
-        };
-        match self.settle(piece) {
-            Ok(piece) => {
-                let count = copy_front(piece.view(), buf);
-                self.end(Call::ReadAt {
-                    name: noted,
-                    from,
-                    answer: Ok(piece),
-                });
-                Ok(count)
-            }
-            Err(e) => {
-                self.end(Call::ReadAt {
-                    name: noted,
-                    from,
-                    answer: Err(e),
-                });
-                Err(e)
-            }
-        }
+        self.state.read_at(name, from, buf)
     }
 
     fn create(&mut self, name: &str) -> Result<(), DeskError>
@@ -287,19 +135,7 @@ impl Desk for MemDesk {
         ensures log { ⟦<MemDesk as Desk>⟧.log self.new ≡ logged (⟦<MemDesk as Desk>⟧.log self.old) (Create name.now result) }
         ensures counted { IsCounted (desk_fails self.old) (desk_fails self.new) result }
     {
-        let Ok(noted) = self.begin(name) else {
-            return Err(DeskError::NoMemory);
-        };
-        let Ok(filed) = self.begin_file(name) else {
-            return Err(DeskError::NoMemory);
-        };
-        let empty = Bytes::from_vec(Vec::new(self.alloc));
-        let answer = self.replace(filed, Some(empty));
-        self.end(Call::Create {
-            name: noted,
-            answer,
-        });
-        answer
+        self.state.create(name)
     }
 
     fn create_new(&mut self, name: &str) -> Result<(), DeskError>
@@ -311,18 +147,7 @@ impl Desk for MemDesk {
         ensures log { ⟦<MemDesk as Desk>⟧.log self.new ≡ logged (⟦<MemDesk as Desk>⟧.log self.old) (Create name.now result) }
         ensures counted { IfSome (⟦<MemDesk as Desk>⟧.files self.old) (λ fs. IsCountedOr (content name.now fs ≢ None) (desk_fails self.old) (desk_fails self.new) result) }
     {
-        let Ok(noted) = self.begin(name) else {
-            return Err(DeskError::NoMemory);
-        };
-        let Ok(filed) = self.begin_file(name) else {
-            return Err(DeskError::NoMemory);
-        };
-        let answer = self.make_new(filed);
-        self.end(Call::Create {
-            name: noted,
-            answer,
-        });
-        answer
+        self.state.create_new(name)
     }
 
     fn append(&mut self, name: &str, piece: &[u8]) -> Result<(), DeskError>
@@ -333,25 +158,7 @@ impl Desk for MemDesk {
         ensures log { ⟦<MemDesk as Desk>⟧.log self.new ≡ logged (⟦<MemDesk as Desk>⟧.log self.old) (Append name.now piece.now result) }
         ensures counted { IsCounted (desk_fails self.old) (desk_fails self.new) result }
     {
-        let Ok(noted) = self.begin(name) else {
-            return Err(DeskError::NoMemory);
-        };
-        let Ok(added) = Bytes::copy(self.alloc, piece) else {
-            return Err(DeskError::NoMemory);
-        };
-        let Ok(longer) = joined(self.alloc, self.files.as_slice(), name, piece) else {
-            return Err(DeskError::NoMemory);
-        };
-        let Ok(filed) = self.begin_file(name) else {
-            return Err(DeskError::NoMemory);
-        };
-        let answer = self.replace(filed, longer);
-        self.end(Call::Append {
-            name: noted,
-            piece: added,
-            answer,
-        });
-        answer
+        self.state.append(name, piece)
     }
 
     fn cut(&mut self, name: &str, size: u64) -> Result<(), DeskError>
@@ -363,23 +170,7 @@ impl Desk for MemDesk {
         ensures log { ⟦<MemDesk as Desk>⟧.log self.new ≡ logged (⟦<MemDesk as Desk>⟧.log self.old) (Cut name.now size result) }
         ensures counted { IsCounted (desk_fails self.old) (desk_fails self.new) result }
     {
-        let Ok(noted) = self.begin(name) else {
-            return Err(DeskError::NoMemory);
-        };
-        let room = usize::try_from(size).unwrap_or(usize::MAX);
-        let Ok(shorter) = piece_of(self.alloc, self.files.as_slice(), name, 0, room) else {
-            return Err(DeskError::NoMemory);
-        };
-        let Ok(filed) = self.begin_file(name) else {
-            return Err(DeskError::NoMemory);
-        };
-        let answer = self.replace(filed, shorter);
-        self.end(Call::Cut {
-            name: noted,
-            size,
-            answer,
-        });
-        answer
+        self.state.cut(name, size)
     }
 
     fn rename(&mut self, from: &str, to: &str) -> Result<(), DeskError>
@@ -390,25 +181,7 @@ impl Desk for MemDesk {
         ensures log { ⟦<MemDesk as Desk>⟧.log self.new ≡ logged (⟦<MemDesk as Desk>⟧.log self.old) (Rename from.now to.now result) }
         ensures counted { IsCounted (desk_fails self.old) (desk_fails self.new) result }
     {
-        let Ok(noted) = self.begin(from) else {
-            return Err(DeskError::NoMemory);
-        };
-        let Ok(noted_to) = Text::copy(self.alloc, to) else {
-            return Err(DeskError::NoMemory);
-        };
-        let Ok(moved) = copy_of(self.alloc, self.files.as_slice(), from) else {
-            return Err(DeskError::NoMemory);
-        };
-        let Ok(filed) = self.begin_file(to) else {
-            return Err(DeskError::NoMemory);
-        };
-        let answer = self.move_file(from, filed, moved);
-        self.end(Call::Rename {
-            from: noted,
-            to: noted_to,
-            answer,
-        });
-        answer
+        self.state.rename(from, to)
     }
 
     fn remove(&mut self, name: &str) -> Result<(), DeskError>
@@ -419,22 +192,7 @@ impl Desk for MemDesk {
         ensures log { ⟦<MemDesk as Desk>⟧.log self.new ≡ logged (⟦<MemDesk as Desk>⟧.log self.old) (Remove name.now result) }
         ensures counted { IsCounted (desk_fails self.old) (desk_fails self.new) result }
     {
-        let Ok(noted) = self.begin(name) else {
-            return Err(DeskError::NoMemory);
-        };
-        let size = size_of(self.files.as_slice(), name);
-        let answer = match self.settle(size) {
-            Ok(_) => {
-                take_away(&mut self.files, name);
-                Ok(())
-            }
-            Err(e) => Err(e),
-        };
-        self.end(Call::Remove {
-            name: noted,
-            answer,
-        });
-        answer
+        self.state.remove(name)
     }
 
     fn sync(&mut self, name: &str) -> Result<(), DeskError>
@@ -445,10 +203,8 @@ impl Desk for MemDesk {
         ensures log { ⟦<MemDesk as Desk>⟧.log self.new ≡ ⟦<MemDesk as Desk>⟧.log self.old }
         ensures counted { IsCounted (desk_fails self.old) (desk_fails self.new) result }
     {
-        let size = size_of(self.files.as_slice(), name);
-        match self.settle(size) {
-            Ok(_) => Ok(()),
-            Err(e) => Err(e),
-        }
+        self.state.sync(name)
     }
+
+    ghost played = { λ d. d.played };
 }

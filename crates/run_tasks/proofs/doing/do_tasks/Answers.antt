@@ -6,6 +6,7 @@ use Rattle.run_tasks.specs.Inputs.{input_flow}
 use Rattle.run_tasks.specs.Runs.{MadeValue}
 use Rattle.run_tasks.proofs.Begun.{may_begin_all}
 use Rattle.run_tasks.proofs.Leaving.{made_first}
+use Rattle.run_tasks.proofs.Origins.{played_at}
 use Rattle.run_tasks.proofs.Working.{ends_run, no_answers}
 use Rattle.desk_file.proofs.Naming.{names_all, names_both}
 use Rattle.run_tasks.proofs.doing.do_tasks.Goals as goal
@@ -48,6 +49,8 @@ returns g c =
       more = adds.more;
       desks = made_first (g.K.Desks.made c.args.desks.now) (g.K.Desks.made c.desk.new.self) (g.K.Desks.made c.go_on-worked.new.desks) (record { number = 0; files = told }) adds.more c.in-Ok-desk.ensures.made adds.desks;
       numbers = adds.numbers;
+      began = adds.began;
+      played = played_at g.K.Desk.Desk.counts g.K.Desk.Desk.files g.K.Desk.Desk.log g.met.K.Desk.Desk.played c.all_desks.result.items;
       ends =
           ends_run words (g.C.Clock.answer c.args.clock.now) told flow (g.K.Desk.Desk.counts c.in-Ok-desk.desk).faults before table workers made c.begin-begun.result c.begin-begun.ensures.files
           (ap (λ (n : Counts). n.faults) c.in-Ok-desk.ensures.fresh.0) c.begin-begun.ensures.begins c.go_on-worked.ensures.goes_on;

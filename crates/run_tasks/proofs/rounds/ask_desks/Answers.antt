@@ -15,7 +15,7 @@ workers-preserved g c =
       adds =
           adds_worker c.workers.before (g.K.Desks.made c.args.desks.now) (g.K.Desks.made c.workers.desks) (g.K.Desks.made c.desk.new.self) (map value crew.items) (map value c.push_reserved.new.self.items) (value desk)
           (record { number = c.workers.before + 1; files = g.K.Desk.Desk.files desk }) (length-map crew.items value ∙ sym crew.ok.0 ∙ c.workers.invariant.room.0)
-          (ap (map value) c.push_reserved.ensures.items ∙ map-append value crew.items (desk ∷ [])) refl c.workers.invariant.adds c.in_ok-desk.ensures.made;
+          (ap (map value) c.push_reserved.ensures.items ∙ map-append value crew.items (desk ∷ [])) refl c.workers.invariant.adds c.in_ok-desk.ensures.made c.in_ok-desk.ensures.fresh.2;
       fresh =
           fresh_more g.K.Desk.Desk.counts g.K.Desk.Desk.log crew.items c.push_reserved.new.self.items desk c.push_reserved.ensures.items c.in_ok-desk.ensures.fresh.0 c.in_ok-desk.ensures.fresh.1 c.workers.invariant.fresh;
     }

@@ -9,6 +9,7 @@ use Rattle.run_answers.proofs.Answered.{all_answered}
 use Rattle.run_tasks.proofs.Begun.{all_tasks}
 use Rattle.run_tasks.proofs.Crews.{tells_tables}
 use Rattle.run_tasks.proofs.Leaving.{leaves_named, ok_err}
+use Rattle.run_tasks.proofs.Origins.{origins_stay}
 use Rattle.run_tasks.proofs.Working.{is_worked, ends_finished, ends_wanting}
 use Rattle.desk_file.proofs.Naming.{names_none}
 use Rattle.run_tasks.proofs.rounds.do_all.Goals as goal
@@ -69,3 +70,13 @@ returns-clause-leaves g c = leaves_named (λ err. refl) c.journal_of-in-Err.ensu
 
 pub returns-clause-calls : goal.returns-clause-calls
 returns-clause-calls g c = names_none refl
+
+pub returns-in-Ok-clause-origins : goal.returns-in-Ok-clause-origins
+returns-in-Ok-clause-origins g c =
+    origins_stay g.D.Desk.counts g.D.Desk.files g.D.Desk.log c.args.ready.core.opening c.args.ready.plan.setup c.args.ready.plan.starts c.run_jobs-bench.result.0.core.journal c.args.crew.items c.run_jobs-bench.result.0.desks.items
+    c.run_jobs-bench.ensures.ran.did
+
+pub returns-clause-origins : goal.returns-clause-origins
+returns-clause-origins g c =
+    origins_stay g.D.Desk.counts g.D.Desk.files g.D.Desk.log c.args.ready.core.opening c.args.ready.plan.setup c.args.ready.plan.starts c.run_jobs-bench.result.0.core.journal c.args.crew.items c.run_jobs-bench.result.0.desks.items
+    c.run_jobs-bench.ensures.ran.did

@@ -3,6 +3,7 @@ use Rattle.std.proofs.lemmas.List.{length-map}
 use Rattle.child_end.specs.Outsides.{table_value}
 use Rattle.child_end.specs.Programs.{programs_value}
 use Rattle.run_tasks.proofs.Leaving.{leaves_nothing, adds_as_many}
+use Rattle.run_tasks.proofs.Origins.{of_tables}
 use Rattle.desk_file.proofs.Naming.{names_none}
 use Rattle.run_tasks.proofs.rounds.work.Goals as goal
 
@@ -21,7 +22,8 @@ returns-clause-desks g c =
     let asked = c.ask_desks.new.crew in
     let back = c.do_all.result.crew in
     adds_as_many c.args.words.now.jobs (g.K.Desks.made c.args.desks.now) (g.K.Desks.made c.ask_desks.new.desks) (map value asked.items) (map value back.items)
-    (length-map back.items value ∙ sym back.ok.0 ∙ c.do_all.ensures.crew ∙ sym c.in-Ok.ensures.all ∙ asked.ok.0 ∙ sym (length-map asked.items value)) c.ask_desks.ensures.desks
+    (length-map back.items value ∙ sym back.ok.0 ∙ c.do_all.ensures.crew ∙ sym c.in-Ok.ensures.all ∙ asked.ok.0 ∙ sym (length-map asked.items value))
+    (of_tables g.K.Desk.Desk.counts g.K.Desk.Desk.files g.K.Desk.Desk.log back.items ∙ c.do_all.ensures.origins ∙ sym (of_tables g.K.Desk.Desk.counts g.K.Desk.Desk.files g.K.Desk.Desk.log asked.items)) c.ask_desks.ensures.desks
 
 pub returns-in_default-clause-calls : goal.returns-in_default-clause-calls
 returns-in_default-clause-calls g c = names_none refl

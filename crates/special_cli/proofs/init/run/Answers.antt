@@ -1,5 +1,5 @@
 use Rattle.std.proofs.Common.{◌≡◌, ◌∙◌, List, Option, map, refl, sym, ap, subst, rules, arith}
-use Rattle.ann_outside.specs.declared.file_desk.Call.{Call}
+use Rattle.ann_outside.specs.Calls.{Log}
 use Rattle.desk_file.specs.Names.{NamesOnly}
 use Rattle.desk_file.proofs.Naming.{names_none}
 use Rattle.special_cli.specs.Setups.{IsInitFile}
@@ -45,7 +45,7 @@ returns-clause-ends g c =
 pub returns-clause-calls : goal.returns-clause-calls
 returns-clause-calls g c =
     elim c.match-asked.branch [
-      | in-Ok-Initialized w ↦ subst (λ (log : Option (List Call)). NamesOnly (IsInitFile c.args.words.now) (g.D.Desk.log c.args.desk.now) log) (sym (ap g.D.Desk.log w.desk-is)) w.keep-end.ensures.calls
+      | in-Ok-Initialized w ↦ subst (λ (log : Option Log). NamesOnly (IsInitFile c.args.words.now) (g.D.Desk.log c.args.desk.now) log) (sym (ap g.D.Desk.log w.desk-is)) w.keep-end.ensures.calls
       | in-Ok-Stopped w ↦ names_none (ap g.D.Desk.log w.desk-is)
       | in-Err w ↦ names_none (ap g.D.Desk.log w.desk-is)
     ]

@@ -1,0 +1,68 @@
+-- The file that a get leaves holds what was stored, and goes on to.
+use Rattle.std.proofs.Common.{◌≡◌, ◌∙◌, ℕ, List, [], ◌∷◌, ◌++◌, ap, subst}
+use Rattle.std.specs.Prelude.{map, Some}
+use Rattle.std.proofs.lemmas.List.{map-append}
+use Rattle.ann_key.specs.Keys.{Parts}
+use Rattle.ann_outside.specs.Files.{Files, content}
+use Rattle.journal_model.specs.declared.answer.Answer.{Answer}
+use Rattle.journal_model.specs.declared.answer.Answer.TheVariants as A
+use Rattle.journal_model.specs.declared.entry.Entry.{Entry}
+use Rattle.journal_model.specs.declared.opening.Opening.{Opening}
+use Rattle.lone_work.specs.Works.{TaskDone}
+use Rattle.task_run.specs.declared.setup.Setup.{Setup}
+use Rattle.task_run.specs.Askings.{run_askings, run_notings}
+use Rattle.task_run.specs.Layouts.{sizes_tried}
+use Rattle.task_run.specs.Runs.{TaskRun}
+use Rattle.task_laws.specs.Changes.{Request}
+use Rattle.task_laws.specs.Faithful.{Told, IsPlayed, AreInTurn, sent}
+use Rattle.task_laws.specs.FilesKept.{HoldsChecked}
+use Rattle.task_laws.specs.Kept.{Keeps}
+use Rattle.task_laws.specs.Retrieval.{AllLeave, GotStored, KeepsContent, FileKeepsStored, FileKeepsContent, LastsToTheEnd}
+use Rattle.task_laws.specs.ToldDesks.{DeskHolds}
+use Rattle.task_laws.proofs.GotFiles.{got_holds}
+use Rattle.task_laws.proofs.LeftFiles.{left_shows}
+use Rattle.task_laws.proofs.OneStore.{keeps_stored_content}
+use Rattle.task_laws.proofs.Retrieving.{keeps_stored}
+
+module _ (o : Opening) (setup : Setup) (told : Told) (journal : List Entry) (number t : ℕ) (key : Parts) (stores : List Request) (played : IsPlayed told t) (got : GotStored o setup told journal number t key stores) where
+  file_holds : HoldsChecked setup t key (sizes_tried key got.run.layouts) got.run.task.file (run_askings got.run.run) (told.calls t) (told.after t)
+  file_holds =
+      let P : Answer → Type 0 = λ x. TaskRun got.run.task t setup got.run.layouts (run_askings got.run.run) (told.calls t) (run_notings got.run.run) x in
+      got_holds got.run.task t setup got.run.layouts (run_askings got.run.run) (told.calls t) (run_notings got.run.run) key (told.before t) (told.after t) got.keyed (subst P got.got got.run.ran) played
+
+pub file_keeps_stored : FileKeepsStored
+file_keeps_stored o setup told journal number t key stores faithful played got =
+    let kept : Keeps setup t key (sizes_tried key got.run.layouts) got.run.task.file (run_askings got.run.run) (told.calls t) (map (sent o setup told) stores) = keeps_stored o setup told journal number t key stores faithful got in
+    (file_holds o setup told journal number t key stores played got).holds ∙ ap (λ (bytes : List ℕ). Some bytes) kept.checked_are
+
+pub file_keeps_content : FileKeepsContent
+file_keeps_content o setup told journal number t u key bytes stores legal faithful played got base one =
+    let kept : KeepsContent o setup told journal number t key got.run bytes = keeps_stored_content o setup told journal number t u key bytes stores legal faithful got base one in
+    (file_holds o setup told journal number t key stores played got).holds ∙ ap (λ (held : List ℕ). Some held) kept.checked_are
+
+-- ---- after the task
+
+-- what is so of the files after the task, and of those in the end
+later_tasks : (told : Told) (t : ℕ) (earlier later : List ℕ) (old new : Files) → AreInTurn told (earlier ++ t ∷ later) old new → AreInTurn told later (told.after t) new
+later_tasks told t [] later old new h = h.2
+later_tasks told t (u ∷ more) later old new h = later_tasks told t more later (told.after u) new h.2
+
+lasts : (told : Told) (name bytes : List ℕ) (tasks : List ℕ) (old new : Files) → AreInTurn told tasks old new → content name old ≡ Some bytes → AllLeave told name tasks → content name new ≡ Some bytes
+lasts told name bytes [] old new h is left = h name ∙ is
+lasts told name bytes (u ∷ more) old new h is left =
+    lasts told name bytes more (told.after u) new h.2 (left_shows name bytes (told.calls u) (told.before u) (told.after u) left.0 h.1 (h.0 name ∙ is)).1 left.1
+
+pub lasts_to_the_end : LastsToTheEnd
+lasts_to_the_end told name bytes t earlier later old new h is left = lasts told name bytes later (told.after t) new (later_tasks told t earlier later old new h) is left
+
+played_one : (told : Told) (t : ℕ) (earlier later : List ℕ) (old new : Files) → AreInTurn told (earlier ++ t ∷ later) old new → IsPlayed told t
+played_one told t [] later old new h = h.1
+played_one told t (u ∷ more) later old new h = played_one told t more later (told.after u) new h.2
+
+pub desk_holds : DeskHolds
+desk_holds told earlier later r old new h =
+    let turn : AreInTurn told (map (λ (d : TaskDone). d.task) earlier ++ r.task ∷ map (λ (d : TaskDone). d.task) later) old new =
+    subst (λ (ts : List ℕ). AreInTurn told ts old new) (map-append (λ (d : TaskDone). d.task) earlier (r ∷ later)) h.turn in (
+      played_one told r.task (map (λ (d : TaskDone). d.task) earlier) (map (λ (d : TaskDone). d.task) later) old new turn,
+      λ name bytes is left. lasts_to_the_end told name bytes r.task (map (λ (d : TaskDone). d.task) earlier) (map (λ (d : TaskDone). d.task) later) old new turn is left,
+    )
