@@ -38,4 +38,4 @@ abbrev pub TasksAreTold : Type 0
 TasksAreTold =
     (o : Opening) (setup : Setup) (limit : ℕ) (journal : List Entry) (desks desks' : List DeskTells) (files : List (Option Files)) → Legal o journal → AreBlank desks
     → (did : DesksDid o setup limit journal [] journal 1 desks desks') → ArePlayedNow desks' files
-    → ∥ (told : Told) × AreToldAt told o setup limit journal [] journal 1 desks desks' did files ∥₁
+    → ∥ ((told : Told) × AreToldAt told o setup limit journal [] journal 1 desks desks' did files) ∥₁
