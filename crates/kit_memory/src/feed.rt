@@ -64,7 +64,8 @@ pub fn turn_over<V: Voice, S: Feed, W: Mouth>(
     requires sink { (W.is_open sink.old ≡ true) × (W.is_flushed sink.old ≡ true) }
     requires limit { splitter.old.limit ≡ longest_line }
     requires live { V.is_over voice.old ≡ false }
-    ensures goes { OnOk result ((begun : V) (old : Bytes) (turns : ℕ) → Talking V.spoke begun old (record { given = Some (S.heard source.old); taken = W.taken sink.old }) voice.old splitter.old.bytes turns
+    ensures goes { OnOk result ((begun : V) (old : Bytes) (turns : ℕ)
+        → Talking V.spoke begun old (record { given = Some (S.heard source.old); taken = W.taken sink.old }) voice.old splitter.old.bytes turns
         → Talking V.spoke begun old (record { given = Some (S.heard source.new); taken = W.taken sink.new }) voice.new splitter.new.bytes (turns + 1)) }
     ensures ended { IfErr result (λ end. (begun : V) (old : Bytes) (turns : ℕ)
         → Talking V.spoke begun old (record { given = Some (S.heard source.old); taken = W.taken sink.old }) voice.old splitter.old.bytes turns

@@ -229,7 +229,8 @@ impl<'a, T: Wait> Sink for PipeInlet<'a, T> {
         requires { ⟦<PipeInlet<'a, T> as Sink>⟧.is_open self.old ≡ true }
         ensures closed { ⟦<PipeInlet<'a, T> as Sink>⟧.is_open self.new ≡ false }
         ensures bytes { ⟦<PipeInlet<'a, T> as Sink>⟧.taken self.new ≡ ⟦<PipeInlet<'a, T> as Sink>⟧.taken self.old }
-        ensures counts { (⟦<PipeInlet<'a, T> as Sink>⟧.faults self.new ≡ ⟦<PipeInlet<'a, T> as Sink>⟧.faults self.old) × (⟦<PipeInlet<'a, T> as Sink>⟧.number self.new ≡ ⟦<PipeInlet<'a, T> as Sink>⟧.number self.old) }
+        ensures counts { (⟦<PipeInlet<'a, T> as Sink>⟧.faults self.new ≡ ⟦<PipeInlet<'a, T> as Sink>⟧.faults self.old)
+            × (⟦<PipeInlet<'a, T> as Sink>⟧.number self.new ≡ ⟦<PipeInlet<'a, T> as Sink>⟧.number self.old) }
         ensures pipe { SameProducer self.old.ring self.new.ring }
     {
         let rt = self.rt;

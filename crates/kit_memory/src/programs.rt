@@ -84,7 +84,9 @@ impl<'a, T: Wait, R: Remote> KitOutlet<'a, T, R> {
     where
         R: Drop,
         requires { IsPair inlet.old.ring self.child.source.ring }
-        ensures heard { (rest : List ℕ) × (⟦<PipeInlet<'a, T> as Sink>⟧.taken inlet.new ≡ Some (⟦<PipeOutlet<'a, T> as Feed>⟧.heard self.entry.child.source ++ rest)) × (self.entry.child.end ≡ Some Eof → rest ≡ []) }
+        ensures heard { (rest : List ℕ)
+            × (⟦<PipeInlet<'a, T> as Sink>⟧.taken inlet.new ≡ Some (⟦<PipeOutlet<'a, T> as Feed>⟧.heard self.entry.child.source ++ rest))
+            × (self.entry.child.end ≡ Some Eof → rest ≡ []) }
         ensures same { ⟦<PipeInlet<'a, T> as Sink>⟧.taken inlet.new ≡ ⟦<PipeInlet<'a, T> as Sink>⟧.taken inlet.old }
     {
         self.stands();
@@ -114,9 +116,12 @@ impl<'a, T: Wait, R: Remote> Source for KitOutlet<'a, T, R> {
         ensures bound { ReadsAtMost result buf.new }
         ensures bytes { ReadConsumes (⟦<KitOutlet<'a, T, R> as Source>⟧.left self.old) (⟦<KitOutlet<'a, T, R> as Source>⟧.left self.new) result buf.new }
         ensures given { WriteAppends (⟦<KitOutlet<'a, T, R> as Source>⟧.given self.old) (⟦<KitOutlet<'a, T, R> as Source>⟧.given self.new) result buf.new }
-        ensures silent { StaysUntold (⟦<KitOutlet<'a, T, R> as Source>⟧.left self.old) (⟦<KitOutlet<'a, T, R> as Source>⟧.left self.new) × StaysUntold (⟦<KitOutlet<'a, T, R> as Source>⟧.given self.old) (⟦<KitOutlet<'a, T, R> as Source>⟧.given self.new) }
+        ensures silent { StaysUntold (⟦<KitOutlet<'a, T, R> as Source>⟧.left self.old) (⟦<KitOutlet<'a, T, R> as Source>⟧.left self.new)
+            × StaysUntold (⟦<KitOutlet<'a, T, R> as Source>⟧.given self.old) (⟦<KitOutlet<'a, T, R> as Source>⟧.given self.new) }
         ensures cause { HasCause (⟦<KitOutlet<'a, T, R> as Source>⟧.faults self.old) (⟦<KitOutlet<'a, T, R> as Source>⟧.faults self.new) result }
-        ensures stays { (⟦<KitOutlet<'a, T, R> as Source>⟧.is_open self.new ≡ true) × (⟦<KitOutlet<'a, T, R> as Source>⟧.number self.new ≡ ⟦<KitOutlet<'a, T, R> as Source>⟧.number self.old) × SameConsumer self.old.child.source.ring self.new.child.source.ring }
+        ensures stays { (⟦<KitOutlet<'a, T, R> as Source>⟧.is_open self.new ≡ true)
+            × (⟦<KitOutlet<'a, T, R> as Source>⟧.number self.new ≡ ⟦<KitOutlet<'a, T, R> as Source>⟧.number self.old)
+            × SameConsumer self.old.child.source.ring self.new.child.source.ring }
         ensures ended { IfOk result (λ n. n ≡ 0 → 0 < length buf.new → (self.new.child.end ≡ None → ⊥) × IsReadOut self.new.child) }
     {
         let rt = self.rt;
@@ -132,8 +137,10 @@ impl<'a, T: Wait, R: Remote> Source for KitOutlet<'a, T, R> {
     fn close(&mut self)
         requires { ⟦<KitOutlet<'a, T, R> as Source>⟧.is_open self.old ≡ true }
         ensures closed { ⟦<KitOutlet<'a, T, R> as Source>⟧.is_open self.new ≡ false }
-        ensures told { (⟦<KitOutlet<'a, T, R> as Source>⟧.left self.new ≡ ⟦<KitOutlet<'a, T, R> as Source>⟧.left self.old) × (⟦<KitOutlet<'a, T, R> as Source>⟧.given self.new ≡ ⟦<KitOutlet<'a, T, R> as Source>⟧.given self.old) }
-        ensures counts { (⟦<KitOutlet<'a, T, R> as Source>⟧.faults self.new ≡ ⟦<KitOutlet<'a, T, R> as Source>⟧.faults self.old) × (⟦<KitOutlet<'a, T, R> as Source>⟧.number self.new ≡ ⟦<KitOutlet<'a, T, R> as Source>⟧.number self.old) }
+        ensures told { (⟦<KitOutlet<'a, T, R> as Source>⟧.left self.new ≡ ⟦<KitOutlet<'a, T, R> as Source>⟧.left self.old)
+            × (⟦<KitOutlet<'a, T, R> as Source>⟧.given self.new ≡ ⟦<KitOutlet<'a, T, R> as Source>⟧.given self.old) }
+        ensures counts { (⟦<KitOutlet<'a, T, R> as Source>⟧.faults self.new ≡ ⟦<KitOutlet<'a, T, R> as Source>⟧.faults self.old)
+            × (⟦<KitOutlet<'a, T, R> as Source>⟧.number self.new ≡ ⟦<KitOutlet<'a, T, R> as Source>⟧.number self.old) }
         ensures child { self.new.child ≡ self.old.child }
     {
         self.is_open = false;
@@ -162,7 +169,8 @@ impl<'a, T: Wait + Sync, M: Maker> Programs for KitPrograms<'a, T, M> {
         ensures inlet { IfOk result (λ s. (⟦<PipeInlet<'a, T> as Sink>⟧.is_open s.inlet ≡ true) × (⟦<PipeInlet<'a, T> as Sink>⟧.faults s.inlet ≡ 0)
             × IsBlank (⟦<PipeInlet<'a, T> as Sink>⟧.taken s.inlet) × IsNumbered (⟦<KitPrograms<'a, T, M> as Programs>⟧.starts self.new) (⟦<PipeInlet<'a, T> as Sink>⟧.number s.inlet)) }
         ensures outlet { IfOk result (λ s. (⟦<KitOutlet<'a, T, M::Remote> as Source>⟧.is_open s.outlet ≡ true) × (⟦<KitOutlet<'a, T, M::Remote> as Source>⟧.faults s.outlet ≡ 0)
-            × IsBlank (⟦<KitOutlet<'a, T, M::Remote> as Source>⟧.given s.outlet) × IsNumbered (⟦<KitPrograms<'a, T, M> as Programs>⟧.starts self.new) (⟦<KitOutlet<'a, T, M::Remote> as Source>⟧.number s.outlet)) }
+            × IsBlank (⟦<KitOutlet<'a, T, M::Remote> as Source>⟧.given s.outlet)
+            × IsNumbered (⟦<KitPrograms<'a, T, M> as Programs>⟧.starts self.new) (⟦<KitOutlet<'a, T, M::Remote> as Source>⟧.number s.outlet)) }
         ensures pair { IfOk result (λ s. IsPair s.inlet.ring s.outlet.child.source.ring) }
     {
         let _any = program;
