@@ -1,9 +1,7 @@
-pub mod Children
 pub mod DescribedVoices
 pub mod Fields
 pub mod KeyLines
 pub mod KitVoices
-pub mod PipeLemmas
 pub mod Talks
 pub mod Texts
 pub mod WholeLines

@@ -1,9 +1,7 @@
-pub mod Children
 pub mod Describing
 pub mod Ends
 pub mod Limits
 pub mod LineSinks
-pub mod Pipes
 pub mod Sessions
 pub mod Telling
 pub mod Turns

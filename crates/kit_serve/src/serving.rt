@@ -35,8 +35,8 @@ pub struct Served<R> {
     pub remote: R,
 }
 
-// What the voice says to one line is written and handed on.
-pub(super) fn hear<V: Voice, W: Mouth>(voice: &mut V, sink: &mut W, line: &[u8]) -> Result<(), End>
+/// What the voice says to one line is written and handed on.
+pub fn hear<V: Voice, W: Mouth>(voice: &mut V, sink: &mut W, line: &[u8]) -> Result<(), End>
     requires open { W.is_open sink.old ≡ true }
     requires line { has_newline line.now ≡ false }
     requires live { V.is_over voice.old ≡ false }

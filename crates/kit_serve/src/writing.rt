@@ -23,8 +23,8 @@ pub fn write_line<W: Sink>(sink: &mut W, line: &[u8]) -> Result<(), Failed>
     write_all(sink, b"\n")
 }
 
-// Writes the first line that a remote says, and hands it on. After `Failed` the sink has taken the first bytes of it.
-pub(super) fn write_version<W: Mouth>(sink: &mut W) -> Result<(), Failed>
+/// Writes the first line that a remote says, and hands it on. After `Failed` the sink has taken the first bytes of it.
+pub fn write_version<W: Mouth>(sink: &mut W) -> Result<(), Failed>
     requires { W.is_open sink.old ≡ true }
     ensures ok { OnOk result (Appends (W.taken sink.old) (W.taken sink.new) (codes "VERSION 1" ++ 10 ∷ [])) }
     ensures prefix { (n : ℕ) × Appends (W.taken sink.old) (W.taken sink.new) (take n (codes "VERSION 1" ++ 10 ∷ [])) }

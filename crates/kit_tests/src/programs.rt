@@ -5,7 +5,7 @@ ghost use Rattle.std.specs.Prelude.{◌≡◌, true};
 use crate::Empty;
 use ann_key::NoMemory;
 use ann_outside::{Programs, Sink, Source, Started, write_all};
-use kit_serve::{KitPrograms, Maker};
+use kit_memory::{KitPrograms, Maker};
 use std::alloc::{AllocError, Global};
 use std::process::Abort;
 use std::test::Fail;

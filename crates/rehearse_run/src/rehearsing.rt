@@ -20,7 +20,7 @@ use job_rounds::{Bench, run_jobs};
 use journal_audit::{Audit, audit};
 use journal_look::Journal;
 use journal_model::Answer;
-use kit_serve::KitPrograms;
+use kit_memory::KitPrograms;
 use rehearse_plan::{MOST_TASKS, files_of};
 use run_answers::answers_of;
 use shared_desks::{SharedDesk, SharedDesks};

@@ -2,7 +2,7 @@
 use ann_key::NoMemory;
 use ann_outside::Desks;
 use dir_remote::DirRemote;
-use kit_serve::Maker;
+use kit_memory::Maker;
 use shared_desks::{SharedDesk, SharedDesks};
 use std::alloc::Global;
 use std::marker::{Send, Sync};

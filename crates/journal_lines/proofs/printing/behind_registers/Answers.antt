@@ -1,6 +1,7 @@
 use Rattle.std.proofs.Common.{◌≡◌, ◌-◌, Some, Option, IfOk, List, ℕ, Bor, map, length, sym, ap, subst, ◌∙◌, arith}
 use Rattle.std.specs.List.{slice_get}
 use Rattle.std.specs.Prelude.{option_map}
+use Rattle.chunk_log.specs.NoteBooks.{IsNote}
 use Rattle.chunk_log.specs.declared.note.Note.{Note}
 use Rattle.chunk_log.proofs.Kept.{lent}
 use Rattle.keep_text.specs.KeptFiles.{written_note}
@@ -9,13 +10,18 @@ use Rattle.journal_lines.proofs.Sections.{mapped_first, mapped_behind, get-map, 
 use Rattle.journal_lines.proofs.printing.behind_registers.Goals as goal
 
 pub noted_line-requires : goal.noted_line-requires
-noted_line-requires c = lent c.args.notes.now c.args.opening.now.notes c.requires c.line-known.ensures.notes c.args.n _ (omega arith)
+noted_line-requires c =
+    let note : Bor Note = c.index-notes-n.result in
+    subst (λ (n : Bor Note). IsNote n.now) (sym c.index-notes-n.is) (lent c.args.notes.now c.args.opening.now.notes c.requires c.line-known.ensures.notes c.args.n note (omega arith))
 
 pub returns-in_ok-line : goal.returns-in_ok-line
 returns-in_ok-line c =
+    let note : Bor Note = c.index-notes-n.result in
+    let found : slice_get c.args.opening.now.notes c.args.n ≡ Some note.now =
+    found_in (λ (n : Bor Note). n.now) c.args.notes.now c.args.opening.now.notes c.args.n note c.requires (omega arith) ∙ ap (λ (n : Bor Note). Some n.now) (sym c.index-notes-n.is) in
     ap (λ (b : List ℕ). Some b) c.in_ok-line.ensures
-    ∙ sym (mapped_first keep_line (map written_note c.args.opening.now.notes) (last_lines c.args.journal.now.entries) c.args.n _
-    (get-map written_note c.args.opening.now.notes c.args.n ∙ ap (option_map written_note) (found_in (λ (note : Bor Note). note.now) c.args.notes.now c.args.opening.now.notes c.args.n _ c.requires (omega arith))))
+    ∙ sym (mapped_first keep_line (map written_note c.args.opening.now.notes) (last_lines c.args.journal.now.entries) c.args.n (written_note note.now)
+    (get-map written_note c.args.opening.now.notes c.args.n ∙ ap (option_map written_note) found))
 
 pub returns-else-n-count : goal.returns-else-n-count
 returns-else-n-count c =
