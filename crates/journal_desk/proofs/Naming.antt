@@ -1,5 +1,5 @@
 -- Which file writing a journal file names.
-use Rattle.std.proofs.Common.{◌≡◌, ◌⊎◌, ℕ, List, [], ◌∷◌, refl, inl, inr, Option, Ok, Err}
+use Rattle.std.proofs.Common.{◌≡◌, ℕ, List, [], ◌∷◌, refl, inl, inr, Option, Ok, Err}
 use Rattle.std.specs.Prelude.{Result}
 use Rattle.ann_key.specs.declared.bytes.NoMemory.{NoMemory}
 use Rattle.ann_outside.specs.Calls.{Log}

@@ -16,3 +16,6 @@ returns-in_default-clause-calls g c = made_nothing c.args.name.now (journal_line
 
 pub returns-in_default-line_count-clause-calls : goal.returns-in_default-line_count-clause-calls
 returns-in_default-line_count-clause-calls g c = made_nothing c.args.name.now (journal_lines c.args.opening.now c.args.journal.now.entries) (g.D.Desk.log c.args.desk.now)
+
+pub returns-in_default-lines-clause-calls : goal.returns-in_default-lines-clause-calls
+returns-in_default-lines-clause-calls g c = made_nothing c.args.name.now (journal_lines c.args.opening.now c.args.journal.now.entries) (g.D.Desk.log c.args.desk.now)

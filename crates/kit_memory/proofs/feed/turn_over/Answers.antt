@@ -1,4 +1,4 @@
-use Rattle.std.proofs.Common.{◌<◌, ◌≤◌, ℕ, List, Some, not, length, IsTrue, refl, ap, ◌∙◌, subst}
+use Rattle.std.proofs.Common.{◌<◌, ◌≤◌, ℕ, List, Some, not, length, IsTrue, ap, ◌∙◌, subst}
 use Rattle.annex_model.specs.Lines.{has_newline}
 use Rattle.kit_core.proofs.FirstLines.{before_whole}
 use Rattle.wire_line.specs.HeldBytes.{has_line}

@@ -1,4 +1,4 @@
-use Rattle.std.proofs.Common.{◌+◌, ap, ◌∙◌, arith}
+use Rattle.std.proofs.Common.{ap, ◌∙◌, arith}
 use Rattle.rtrb.specs.Ring.{sent}
 use Rattle.kit_memory.specs.Pipes.{bytes_in, has_end}
 use Rattle.kit_memory.proofs.PipeLemmas.{byte_unended, producer_both, put_more}

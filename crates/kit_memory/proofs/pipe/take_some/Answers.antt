@@ -1,4 +1,4 @@
-use Rattle.std.proofs.Common.{◌≡◌, ◌++◌, ◌∷◌, [], ℕ, List, Option, None, Some, ap, sym, ◌∙◌, subst, length-set, arith}
+use Rattle.std.proofs.Common.{◌≡◌, ◌++◌, ◌∷◌, [], ℕ, Option, None, Some, ap, sym, ◌∙◌, subst, length-set, arith}
 use Rattle.rtrb.specs.Ring.{received}
 use Rattle.kit_memory.specs.Pipes.{bytes_in, has_end}
 use Rattle.kit_memory.proofs.PipeLemmas.{byte_unended, consumer_both, end_ends, end_more, took_more}

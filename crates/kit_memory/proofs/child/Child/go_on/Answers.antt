@@ -1,4 +1,4 @@
-use Rattle.std.proofs.Common.{◌≡◌, ◌+◌, Some, None, Option, List, ap, sym, ◌∙◌, subst}
+use Rattle.std.proofs.Common.{◌≡◌, ◌+◌, Some, None, Option, ap, sym, ◌∙◌, subst}
 use Rattle.kit_memory.specs.Children.{ChildValue, StandsAt, nothing_told}
 use Rattle.kit_serve.specs.Voices.{Bytes}
 use Rattle.kit_serve.specs.declared.end.End.{End}

@@ -1,4 +1,4 @@
-use Rattle.std.proofs.Common.{◌≡◌, ℕ, Bool, true, false, List, Option, Some, ap, ◌∙◌, subst}
+use Rattle.std.proofs.Common.{◌≡◌, ℕ, Bool, true, false, List, Some, ap, ◌∙◌, subst}
 use Rattle.rtrb.specs.Ring.{sent}
 use Rattle.kit_memory.specs.Pipes.{bytes_in, is_stream}
 use Rattle.kit_memory.proofs.PipeLemmas.{end_more, stream_open, stream_closes}
