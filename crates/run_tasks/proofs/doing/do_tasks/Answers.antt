@@ -40,6 +40,8 @@ returns g c =
       tables = map value c.all_desks.result.items;
       end = c.go_on-worked.result.end;
     } in
+    -- the law of each desk, here and now
+    let law = (g.met.K.Desk.Desk g.world.𝓛 g.world.𝓜 g.world.𝓡 ((λ s x. x), (λ x. x), (λ x. x), λ x. x)).played in
     inr record {
       told = told;
       table = table;
@@ -50,7 +52,7 @@ returns g c =
       desks = made_first (g.K.Desks.made c.args.desks.now) (g.K.Desks.made c.desk.new.self) (g.K.Desks.made c.go_on-worked.new.desks) (record { number = 0; files = told }) adds.more c.in-Ok-desk.ensures.made adds.desks;
       numbers = adds.numbers;
       began = adds.began;
-      played = played_at g.K.Desk.Desk.counts g.K.Desk.Desk.files g.K.Desk.Desk.log g.met.K.Desk.Desk.played c.all_desks.result.items;
+      played = played_at g.K.Desk.Desk.counts g.K.Desk.Desk.files g.K.Desk.Desk.log law c.all_desks.result.items;
       ends =
           ends_run words (g.C.Clock.answer c.args.clock.now) told flow (g.K.Desk.Desk.counts c.in-Ok-desk.desk).faults before table workers made c.begin-begun.result c.begin-begun.ensures.files
           (ap (λ (n : Counts). n.faults) c.in-Ok-desk.ensures.fresh.0) c.begin-begun.ensures.begins c.go_on-worked.ensures.goes_on;
