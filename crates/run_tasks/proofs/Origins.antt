@@ -22,6 +22,10 @@ gained_origin old new calls g = ap log_origin g ∙ same old
     same None = refl
     same (Some told) = refl
 
+-- so it began with the same files
+pub from_gained : (old new : Option Log) (calls : List Call) (files : Option Files) → Gained old new calls → IsLogFrom old files → IsLogFrom new files
+from_gained old new calls files g from = subst (λ (x : Option (Option Files)). IfSome x (λ origin. origin ≡ files)) (sym (gained_origin old new calls g)) from
+
 abbrev tells_origins : List DeskTells → List (Option (Option Files))
 tells_origins ds = map (λ (d : DeskTells). log_origin d.log) ds
 

@@ -217,7 +217,7 @@ AddsMade None (Some ys) more = ⊥
 AddsMade (Some xs) None more = ⊥
 AddsMade (Some xs) (Some ys) more = ys ≡ xs ++ more
 
--- where a worker's desk tells its calls, its log began with the files that were told of it when it was made
+-- where a desk tells its calls, its log began with the files that were told of it when it was made
 abbrev pub BeganAs : List Made → List TableValue → Type 0
 BeganAs [] [] = Unit {0}
 BeganAs [] (table ∷ tables) = ⊥
@@ -241,7 +241,7 @@ pub record IsAtDesk (words : RunWords) (clock : Option ℕ) (before : OutsideVal
   pub more : List Made
   pub desks : AddsMade before.made after.made (record { number = 0; files = told } ∷ more)
   pub numbers : map (λ m. m.number) more ≡ range_with_len 1 (length workers)
-  pub began : BeganAs more workers
+  pub began : BeganAs (record { number = 0; files = told } ∷ more) (table ∷ workers)
   pub played : ArePlayedAt made.tables
   pub ends : EndsRun words clock told flow table workers made made.end
   pub named : IfSome table.log (λ log. CallsName (IsRunFile words) log.calls)

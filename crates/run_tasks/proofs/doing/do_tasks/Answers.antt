@@ -6,7 +6,7 @@ use Rattle.run_tasks.specs.Inputs.{input_flow}
 use Rattle.run_tasks.specs.Runs.{MadeValue}
 use Rattle.run_tasks.proofs.Begun.{may_begin_all}
 use Rattle.run_tasks.proofs.Leaving.{made_first}
-use Rattle.run_tasks.proofs.Origins.{played_at}
+use Rattle.run_tasks.proofs.Origins.{from_gained, played_at}
 use Rattle.run_tasks.proofs.Working.{ends_run, no_answers}
 use Rattle.desk_file.proofs.Naming.{names_all, names_both}
 use Rattle.run_tasks.proofs.doing.do_tasks.Goals as goal
@@ -40,6 +40,7 @@ returns g c =
       tables = map value c.all_desks.result.items;
       end = c.go_on-worked.result.end;
     } in
+    let names = names_both c.begin-begun.ensures.calls c.go_on-worked.ensures.calls in
     -- the law of each desk, here and now
     let law = (g.met.K.Desk.Desk g.world.𝓛 g.world.𝓜 g.world.𝓡 ((λ s x. x), (λ x. x), (λ x. x), λ x. x)).played in
     inr record {
@@ -51,12 +52,12 @@ returns g c =
       more = adds.more;
       desks = made_first (g.K.Desks.made c.args.desks.now) (g.K.Desks.made c.desk.new.self) (g.K.Desks.made c.go_on-worked.new.desks) (record { number = 0; files = told }) adds.more c.in-Ok-desk.ensures.made adds.desks;
       numbers = adds.numbers;
-      began = adds.began;
+      began = (from_gained (g.K.Desk.Desk.log c.in-Ok-desk.desk) (g.K.Desk.Desk.log c.go_on-worked.new.desk) names.calls told names.gained c.in-Ok-desk.ensures.fresh.2, adds.began);
       played = played_at g.K.Desk.Desk.counts g.K.Desk.Desk.files g.K.Desk.Desk.log law c.all_desks.result.items;
       ends =
           ends_run words (g.C.Clock.answer c.args.clock.now) told flow (g.K.Desk.Desk.counts c.in-Ok-desk.desk).faults before table workers made c.begin-begun.result c.begin-begun.ensures.files
           (ap (λ (n : Counts). n.faults) c.in-Ok-desk.ensures.fresh.0) c.begin-begun.ensures.begins c.go_on-worked.ensures.goes_on;
-      named = names_all c.in-Ok-desk.ensures.fresh.1 (names_both c.begin-begun.ensures.calls c.go_on-worked.ensures.calls);
+      named = names_all c.in-Ok-desk.ensures.fresh.1 names;
       none = no_answers words before table workers made.journal made.answers c.begin-begun.result made.end c.go_on-worked.ensures.goes_on;
       objects = c.go_on-worked.ensures.leaves;
     }
