@@ -1,15 +1,18 @@
 // The event that appends an entry, where one does.
-ghost use Rattle.std.specs.Prelude.{ℕ, IfOk, Some};
+ghost use Rattle.std.specs.Prelude.{ℕ, ◌≡◌, List, IfOk, Some, false, option_map};
+ghost use Rattle.annex_model.specs.Messages.{Export, host_reading};
+ghost use Rattle.journal_model.specs.Journal.{addressed};
 ghost use Rattle.journal_model.specs.declared.entry.What.TheVariants.{Ask, Got, End, Lost};
-ghost use Rattle.journal_look.specs.Shown.{what_shown};
-ghost use Rattle.journal_audit.specs.Replays.{Suits};
+ghost use Rattle.journal_look.specs.Shown.{what_shown, entry_shown};
+ghost use Rattle.journal_audit.specs.Replays.{Pairs, SaysName, Suits, is_name};
 
 use crate::requests;
-use ann_key::{Bytes, NoMemory};
+use ann_key::{Bytes, NoMemory, Text};
 use host_core::{Core, Event};
-use journal_look::WhatRef;
+use journal_look::{EntryRef, WhatRef, asking_task};
 use journal_model::Why;
 use std::alloc::Global;
+use std::str;
 use talk_serial::Request;
 use wire_msg::read_host;
 
@@ -20,7 +23,7 @@ fn ask_event(
     task: u32,
     line: &[u8],
 ) -> Result<Option<Event>, NoMemory>
-    ensures { IfOk result (λ event. (job : ℕ) → Suits core.now.opening core.now.journal (Ask child job task line.now) event) }
+    ensures { IfOk result (λ event. (by job : ℕ) → Suits core.now.opening core.now.journal by (Ask child job task line.now) event) }
 {
     let Some(message) = read_host(requests::text_of(core, child, line)) else {
         return Ok(None);
@@ -37,7 +40,7 @@ fn ask_event(
 }
 
 fn lost_event(alloc: Global, core: &Core, child: u32, task: u32) -> Result<Option<Event>, NoMemory>
-    ensures { IfOk result (Suits core.now.opening core.now.journal (Lost child task)) }
+    ensures { IfOk result (λ event. (by : ℕ) → Suits core.now.opening core.now.journal by (Lost child task) event) }
 {
     let request = requests::some_request(alloc, core.journal(), child)?;
     Ok(Some(Event::Ask {
@@ -48,7 +51,7 @@ fn lost_event(alloc: Global, core: &Core, child: u32, task: u32) -> Result<Optio
 }
 
 fn got_event(alloc: Global, core: &Core, child: u32, line: &[u8]) -> Result<Option<Event>, NoMemory>
-    ensures { IfOk result (Suits core.now.opening core.now.journal (Got child line.now)) }
+    ensures { IfOk result (λ event. (by : ℕ) → Suits core.now.opening core.now.journal by (Got child line.now) event) }
 {
     let line = Bytes::copy(alloc, line)?;
     Ok(Some(Event::Got { child, line }))
@@ -56,7 +59,7 @@ fn got_event(alloc: Global, core: &Core, child: u32, line: &[u8]) -> Result<Opti
 
 // A full journal ends a child in place of any line that it says.
 fn end_event(alloc: Global, core: &Core, child: u32, why: Why) -> Result<Option<Event>, NoMemory>
-    ensures { IfOk result (Suits core.now.opening core.now.journal (End child why)) }
+    ensures { IfOk result (λ event. (by : ℕ) → Suits core.now.opening core.now.journal by (End child why) event) }
 {
     match why {
         Why::Full => {
@@ -67,13 +70,75 @@ fn end_event(alloc: Global, core: &Core, child: u32, why: Why) -> Result<Option<
     }
 }
 
-/// The event that appends the entry, if it may come; and else any, or none.
+/// The event that appends the name with the request that comes next, where that may stand after it; and else any, or none.
+pub(super) fn pair_event(
+    alloc: Global,
+    core: &Core,
+    child: u32,
+    name: &[u8],
+    next: Option<EntryRef<'_>>,
+) -> Result<Option<Event>, NoMemory>
+    ensures { IfOk result (λ event. (by job : ℕ) → (line : List ℕ) → host_reading (addressed core.now.journal child line).1 ≡ Some (Export name.now) → Pairs core.now.opening core.now.journal by child job line (option_map entry_shown next.entry) event) }
+{
+    let Some(next) = next else {
+        return Ok(None);
+    };
+    match next.what {
+        WhatRef::Ask {
+            child: asked,
+            task,
+            line,
+            ..
+        } => {
+            if asked != child {
+                return Ok(None);
+            }
+            match requests::asked_after(alloc, core, child, name, line)? {
+                Some(request) => Ok(Some(Event::Ask {
+                    child,
+                    task,
+                    request,
+                })),
+                None => Ok(None),
+            }
+        }
+        _ => Ok(None),
+    }
+}
+
+/// The event that appends the name with some request, if it may stand; and else any, or none.
+pub(super) fn name_event(
+    alloc: Global,
+    core: &Core,
+    by: u32,
+    child: u32,
+    name: &[u8],
+) -> Result<Option<Event>, NoMemory>
+    ensures { IfOk result (λ event. (job : ℕ) → (line : List ℕ) → host_reading (addressed core.now.journal child line).1 ≡ Some (Export name.now) → SaysName core.now.opening core.now.journal by child job line event) }
+{
+    let Ok(name) = str::from_utf8(name) else {
+        return Ok(None);
+    };
+    let Some(task) = asking_task(core.journal(), by, child) else {
+        return Ok(None);
+    };
+    let name = Text::copy(alloc, name)?;
+    let key = requests::some_key(alloc)?;
+    let request = Request::CheckExport { key, name };
+    Ok(Some(Event::Ask {
+        child,
+        task,
+        request,
+    }))
+}
+
+/// The event that appends the entry, if it may stand and says no name; and else any, or none.
 pub(super) fn event_of(
     alloc: Global,
     core: &Core,
     what: WhatRef<'_>,
 ) -> Result<Option<Event>, NoMemory>
-    ensures { IfOk result (Suits core.now.opening core.now.journal (what_shown what.entry)) }
+    ensures { IfOk result (λ event. (by : ℕ) → is_name (what_shown what.entry) ≡ false → Suits core.now.opening core.now.journal by (what_shown what.entry) event) }
 {
     match what {
         WhatRef::Claim { child, .. } => Ok(Some(Event::Claim { child: child })),
@@ -102,6 +167,6 @@ pub(super) fn event_of(
             chunk: chunk,
             count: count,
         })),
-        WhatRef::Put { .. } | WhatRef::Verdict { .. } => Ok(None),
+        WhatRef::Lead { .. } | WhatRef::Put { .. } | WhatRef::Verdict { .. } => Ok(None),
     }
 }

@@ -1,15 +1,16 @@
-// The text of an entry's line, and a request that may be asked next.
+// The text of an entry's line, and requests: one that a line asks after a name, and one that may be asked next.
 ghost use Rattle.std.specs.Prelude.{◌≡◌, true, IfOk, length};
-ghost use Rattle.annex_model.specs.Messages.{is_sent_key};
+ghost use Rattle.annex_model.specs.Messages.{is_sent_key, host_reading};
 ghost use Rattle.journal_model.specs.Journal.{addressed};
-ghost use Rattle.journal_audit.specs.Replays.{MayBeNext};
+ghost use Rattle.journal_audit.specs.Replays.{AsksAfter, MayBeNext};
 
-use ann_key::{Key, KeyRef, NoMemory};
+use ann_key::{Key, KeyRef, NoMemory, Text};
 use host_core::Core;
 use journal_look::{Journal, is_offered, next_job};
 use std::alloc::Global;
+use std::str;
 use talk_serial::Request;
-use wire_msg::untag;
+use wire_msg::{read_host, untag};
 
 /// The text of a line of the child, without its tag.
 pub(super) fn text_of<'a>(core: &Core, child: u32, line: &'a [u8]) -> &'a [u8]
@@ -24,8 +25,31 @@ pub(super) fn text_of<'a>(core: &Core, child: u32, line: &'a [u8]) -> &'a [u8]
     }
 }
 
+/// The request that the line asks of the child after the name.
+pub(super) fn asked_after(
+    alloc: Global,
+    core: &Core,
+    child: u32,
+    name: &[u8],
+    line: &[u8],
+) -> Result<Option<Request>, NoMemory>
+    ensures { IfOk result (AsksAfter name.now (host_reading (addressed core.now.journal child line.now).1)) }
+{
+    let Some(message) = read_host(text_of(core, child, line)) else {
+        return Ok(None);
+    };
+    let Ok(name) = str::from_utf8(name) else {
+        return Ok(None);
+    };
+    let name = Text::copy(alloc, name)?;
+    match Request::read(alloc, &message)? {
+        Some(request) => Ok(request.with_name(name)),
+        None => Ok(None),
+    }
+}
+
 /// A key that can stand in a request.
-fn some_key(alloc: Global) -> Result<Key, NoMemory>
+pub(super) fn some_key(alloc: Global) -> Result<Key, NoMemory>
     ensures { IfOk result (λ key. is_sent_key key ≡ true) }
 {
     match KeyRef::read(b"WORM--a") {

@@ -1,15 +1,16 @@
 // What the journal says of the tasks.
-ghost use Rattle.std.specs.Prelude.{◌≡◌, ◌≤◌, ◌<◌, ◌-◌, ◌^◌, ◌&&◌, filter, find, length, not};
-ghost use Rattle.std.specs.List.{list_any, list_all, range_with_len};
+ghost use Rattle.std.specs.Prelude.{ℕ, ◌≡◌, ◌⊎◌, ◌≤◌, ◌<◌, ◌-◌, ◌^◌, ◌&&◌, [], filter, find, length, not, false, true, None, Some, IfSome, IsNone};
+ghost use Rattle.std.specs.List.{list_any, list_all, range_with_len, cons_option};
 ghost use Rattle.journal_model.specs.Limits.{most_tasks};
-ghost use Rattle.journal_model.specs.Legality.{is_claimed, holder, is_busy, task_of, both_conflict, numbers_of, is_free, least_free, is_claimed_by, is_held_for, has_open_job, may_work, has_busy_task};
+ghost use Rattle.journal_model.specs.Legality.{is_claimed, holder, is_busy, task_of, both_conflict, numbers_of, is_free, least_free, is_claimed_by, is_held_for, has_open_job, may_work, has_busy_task, claimed_for};
+ghost use Rattle.journal_model.specs.Journal.{each_of};
 ghost use Rattle.journal_look.specs.Holds.{held_of};
 ghost use Rattle.journal_look.specs.Marks.{AreClaimed};
 
 use crate::held::{self, Held};
 use crate::jobs;
 use crate::journal::Journal;
-use journal_model::{Entry, Holder, Opening};
+use journal_model::{Entry, Holder, Opening, What};
 use journal_scan::claims::{
     has_busy, has_open, holder, is_busy, is_claimed, is_held_by, is_held_for,
 };
@@ -140,6 +141,68 @@ pub(super) fn may_work(journal: &Journal, by: u32, task: u32, child: u32) -> boo
         || is_claimed_by(journal, by, task)
             && is_held_for(holder_of(journal, task), child)
             && !has_open_job(journal, task)
+}
+
+/// The first of the held tasks for which the number may make a request over the child.
+#[tactic(auto, using(crate::proofs::Working::found_so, crate::proofs::Working::none_found))]
+fn held_work(journal: &Journal, held: &[Held], by: u32, child: u32) -> Option<u32>
+    ensures some { IfSome result (λ t. may_work journal.now.entries by t child ≡ true) }
+    ensures none { IsNone result → list_any (λ h. may_work journal.now.entries by h.task child) held.now ≡ false }
+{
+    match held.iter().find(|h| may_work(journal, by, h.task, child)) {
+        Some(h) => Some(h.task),
+        None => None,
+    }
+}
+
+/// Whether the entry claims a task for the child, for which the number may make a request over it.
+fn is_work(journal: &Journal, what: &What, by: u32, child: u32) -> bool
+    ensures { result ≡ list_any (λ t. may_work journal.now.entries by t child) (cons_option (claimed_for child what.now) []) }
+{
+    match what {
+        What::Claim { task, child: held } => *held == child && may_work(journal, by, *task, child),
+        _ => false,
+    }
+}
+
+/// The task that the entry claims, if it claims one.
+fn claimed_task(what: &What) -> Option<u32>
+    ensures some { (c : ℕ) → IfSome result (λ t. (claimed_for c what.now ≡ None) ⊎ (claimed_for c what.now ≡ Some t)) }
+    ensures none { (c : ℕ) → IsNone result → claimed_for c what.now ≡ None }
+{
+    match what {
+        What::Claim { task, .. } => Some(*task),
+        _ => None,
+    }
+}
+
+/// The task of the first entry that claims one for the child, for which the number may make a request over it.
+fn first_work(journal: &Journal, by: u32, child: u32) -> Option<u32>
+    ensures some { IfSome result (λ t. may_work journal.now.entries by t child ≡ true) }
+    ensures none { IsNone result → list_any (λ t. may_work journal.now.entries by t child) (each_of (claimed_for child) journal.now.entries) ≡ false }
+{
+    match journal
+        .entries()
+        .iter()
+        .find(|e| is_work(journal, &e.what, by, child))
+    {
+        Some(e) => claimed_task(&e.what),
+        None => None,
+    }
+}
+
+/// A task for which the number may make a request over the child: its own work for task 0, or a task that it holds.
+pub(super) fn work_for(journal: &Journal, by: u32, child: u32) -> Option<u32>
+    ensures some { IfSome result (λ t. may_work journal.now.entries by t child ≡ true) }
+    ensures none { IsNone result → (t : ℕ) → may_work journal.now.entries by t child ≡ false }
+{
+    if may_work(journal, by, 0, child) {
+        return Some(0);
+    }
+    match journal.held() {
+        Some(held) => held_work(journal, held, by, child),
+        None => first_work(journal, by, child),
+    }
 }
 
 fn has_held_task(held: &[Held], child: u32) -> bool

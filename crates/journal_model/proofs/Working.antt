@@ -10,7 +10,7 @@ use Rattle.journal_model.specs.declared.verdict.Verdict.{Verdict}
 use Rattle.journal_model.specs.declared.verdict.Verdict.TheVariants.{Ended}
 use Rattle.journal_model.specs.declared.holder.Holder.{Holder}
 use Rattle.journal_model.specs.declared.entry.What.{What}
-use Rattle.journal_model.specs.declared.entry.What.TheVariants.{Claim, Start, NoStart, Ask, Put, Sent, Mute, Got, End, Verdict as Settled, Lost, Answer as Answered, Note as Noted}
+use Rattle.journal_model.specs.declared.entry.What.TheVariants.{Claim, Start, NoStart, Lead, Ask, Put, Sent, Mute, Got, End, Verdict as Settled, Lost, Answer as Answered, Note as Noted}
 use Rattle.journal_model.specs.declared.entry.Entry.{Entry}
 use Rattle.journal_model.specs.declared.opening.Opening.{Opening}
 use Rattle.journal_model.specs.Journal.{any, each_of, asks, asked_jobs, addressed, is_open, open_jobs, is_settled, settles, is_live, is_started, is_ended, is_mute, is_tagged, verdict_of}
@@ -241,6 +241,7 @@ takes o past by t (Noted task chunk count) pos may of =
     inr (subst (λ (x : ℕ). is_taken_by past by x ≡ true) at (held_taken past by task s.0), subst (λ (x : ℕ). is_busy past x ≡ true) at (held_busy by (holder past task) s.0), refl)
 takes o past by t (Start child slot offer) pos may of = absurd cc
 takes o past by t (NoStart slot) pos may of = absurd cc
+takes o past by t (Lead child job line) pos may of = absurd cc
 takes o past by t (Put child job line) pos may of = absurd cc
 takes o past by t (Sent child) pos may of = absurd cc
 takes o past by t (Mute child) pos may of = absurd cc

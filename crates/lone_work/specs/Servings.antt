@@ -3,7 +3,7 @@ use Rattle.std.specs.Prelude.{ℕ, ◌≡◌, ◌==◌, ◌&&◌, Bool, true, Li
 use Rattle.std.specs.Str.{is_utf8}
 use Rattle.annex_model.specs.Messages.{HostMessage, Transfer}
 use Rattle.journal_model.specs.declared.entry.What.{What}
-use Rattle.journal_model.specs.declared.entry.What.TheVariants.{Ask, Lost, Note}
+use Rattle.journal_model.specs.declared.entry.What.TheVariants.{Lead, Ask, Lost, Note}
 use Rattle.journal_model.specs.declared.entry.Entry.{Entry}
 use Rattle.journal_model.specs.declared.opening.Opening.{Opening}
 use Rattle.journal_model.specs.Journal.{is_started, open_jobs}
@@ -30,8 +30,9 @@ pub record Serves (o : Opening) (number : ℕ) (alone : Bool) (c t : ℕ) (seen 
   pub book : IsBook o.notes
   pub turn : alone ≡ true → HasTurn seen c t
 
--- requests for t over c, which may be lost, notes of t, and what c's link does
+-- requests for t over c, with the names before them, which may be lost, notes of t, and what c's link does
 abbrev pub by_server : ℕ → ℕ → What → Bool
+by_server c t (Lead child job line) = child == c
 by_server c t (Ask child job task line) = child == c && task == t
 by_server c t (Lost child task) = child == c && task == t
 by_server c t (Note task chunk count) = task == t

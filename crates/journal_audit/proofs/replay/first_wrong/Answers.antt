@@ -15,9 +15,9 @@ returns-then-not-branch-clause-wrong c =
     let made = c.may_stand.new.core.journal in
     let e : Entry = entry_shown c.in-Some.entry in
     let is = read_there items c.loop-at.at e c.in-Some.ensures in
-    let next = next_here c.args.opening.now c.loop-at.core.opening items c.loop-at.core.journal made c.loop-at.at e c.in_ok-may_stand.field-0 false
-    c.loop-at.invariant.opening less c.loop-at.invariant.replayed c.in_ok-may_stand.ensures.next c.if-not-branch.true in
-    wrong_here c.args.opening.now items items made c.loop-at.at c.kind_of.result e refl less is c.loop-at.invariant.replayed.stands next c.kind_of.ensures
+    let next = next_here c.args.opening.now c.loop-at.core.opening items c.loop-at.core.journal made c.loop-at.at e (slice_get items (c.loop-at.at + 1)) c.in_ok-may_stand.field-0 false
+    c.loop-at.invariant.opening less (here c.loop-at.invariant.replayed) (tells c.in_ok-may_stand.ensures.next) c.if-not-branch.true in
+    wrong_here c.args.opening.now items items made c.loop-at.at c.kind_of.result e (slice_get items (c.loop-at.at + 1)) refl less is c.loop-at.invariant.replayed.stands next c.kind_of.ensures
 
 pub loop-at-preserved : goal.loop-at-preserved
 loop-at-preserved c =
@@ -26,13 +26,15 @@ loop-at-preserved c =
     let made = c.may_stand.new.core.journal in
     let e : Entry = entry_shown c.in-Some.entry in
     let is = read_there items c.loop-at.at e c.in-Some.ensures in
-    let next = next_here c.args.opening.now c.loop-at.core.opening items c.loop-at.core.journal made c.loop-at.at e c.in_ok-may_stand.field-0 true
-    c.loop-at.invariant.opening less c.loop-at.invariant.replayed c.in_ok-may_stand.ensures.next c.if-not-branch.false in
+    let next = next_here c.args.opening.now c.loop-at.core.opening items c.loop-at.core.journal made c.loop-at.at e (slice_get items (c.loop-at.at + 1)) c.in_ok-may_stand.field-0 true
+    c.loop-at.invariant.opening less (here c.loop-at.invariant.replayed) (tells c.in_ok-may_stand.ensures.next) c.if-not-branch.false in
     record {
       opening = c.may_stand.ensures.opening ∙ c.loop-at.invariant.opening;
-      replayed = replayed_more c.args.opening.now items made c.loop-at.at e less is next;
+      replayed = replayed_more c.args.opening.now items made c.loop-at.at e (slice_get items (c.loop-at.at + 1)) less is next;
     }
 
 pub returns-clause-whole : goal.returns-clause-whole
 returns-clause-whole c none =
     replayed_whole c.args.opening.now c.args.journal.now.entries c.loop-at.core.journal c.loop-at.at (omega (arith, c.loop-at-test.false, c.len-at-end.ensures)) c.loop-at.invariant.replayed
+
+-- Open: `here` puts `Some e` for the entry at this place, and `tells` puts the entry at the next place for what the journal lends there.
