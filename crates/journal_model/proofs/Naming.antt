@@ -3,11 +3,11 @@ use Rattle.std.proofs.Common.{◌≡◌, ℕ, List, [], ◌∷◌, ◌++◌, ref
 use Rattle.std.specs.Prelude.{IfSome}
 use Rattle.journal_model.specs.declared.verdict.Verdict.{Verdict}
 use Rattle.annex_model.specs.declared.final_line.Final.{Final}
-use Rattle.annex_model.specs.Messages.{HostMessage, RemoteMessage, host_reading}
+use Rattle.annex_model.specs.Messages.{HostMessage, RemoteMessage, Export, host_reading}
 use Rattle.annex_model.specs.Talks.{Item, Host, IsLead, said, final_of}
 use Rattle.annex_model.proofs.Leads.{plain_asked}
 use Rattle.journal_model.specs.declared.opening.Opening.{Opening}
-use Rattle.journal_model.specs.declared.entry.What.TheVariants.{Ask}
+use Rattle.journal_model.specs.declared.entry.What.TheVariants.{Lead, Ask}
 use Rattle.journal_model.specs.declared.entry.Entry.{Entry}
 use Rattle.journal_model.specs.Journal.{addressed, verdict_of}
 use Rattle.journal_model.specs.Parts.{part, part_from}
@@ -64,4 +64,30 @@ module _ (o : Opening) (past more : List Entry) (c by job task : ℕ) (line : Li
   named legal fresh reads after v is =
       let journal : List Entry = past ++ asked ∷ more in
       by_part (replies_at o journal) q (part journal c job) v (first legal fresh reads (unled legal reads after))
+      (subst (λ (x : Option Verdict). Fits (replies_at o journal) (part journal c job) x) is (parts_fit o journal after c job))
+
+-- the same of a request after a name
+module _ (o : Opening) (past more : List Entry) (c by job task : ℕ) (said line name : List ℕ) (q : HostMessage) where
+  abbrev lead : Entry
+  lead = record { by = by; what = Lead c job said }
+
+  abbrev led : Entry
+  led = record { by = by; what = Ask c job task line }
+
+  first_led : Legal o past → is_asked past c job ≡ false → host_reading (addressed past c said).1 ≡ Some (Export name) → host_reading (addressed (past ++ lead ∷ []) c line).1 ≡ Some q
+      → request_in (part (past ++ lead ∷ led ∷ more) c job) ≡ Some q
+  first_led legal fresh names reads =
+      let mid : List Entry = past ++ lead ∷ [] in
+      let none : part past c job ≡ [] = (asked_parts o past legal c job).1 fresh in
+      let rest : List Item = record { side = Host; at = length mid; text = (addressed mid c line).1 } ∷ part_from c job (mid ++ led ∷ []) more in
+      let own : part_from c job past (lead ∷ led ∷ more) ≡ record { side = Host; at = length past; text = (addressed past c said).1 } ∷ rest = rw (same c, same job) refl in
+      let whole : part (past ++ lead ∷ led ∷ more) c job ≡ part past c job ++ part_from c job past (lead ∷ led ∷ more) =
+      part_from-append c job [] past (lead ∷ led ∷ more) (λ p. refl) in
+      rw (whole, none, own) (ap (λ (r : Option HostMessage). asked_by r rest) names ∙ reads)
+
+  pub named_led : Legal o past → is_asked past c job ≡ false → host_reading (addressed past c said).1 ≡ Some (Export name) → host_reading (addressed (past ++ lead ∷ []) c line).1 ≡ Some q
+      → Legal o (past ++ lead ∷ led ∷ more) → (v : Verdict) → verdict_of (past ++ lead ∷ led ∷ more) c job ≡ Some v → IsNamed q v
+  named_led legal fresh names reads after v is =
+      let journal : List Entry = past ++ lead ∷ led ∷ more in
+      by_part (replies_at o journal) q (part journal c job) v (first_led legal fresh names reads)
       (subst (λ (x : Option Verdict). Fits (replies_at o journal) (part journal c job) x) is (parts_fit o journal after c job))

@@ -43,9 +43,11 @@ pub record ServesOn (o : Opening) (number : ℕ) (alone : Bool) (c t : ℕ) (old
   pub serves : Serves o number alone c t new
   pub moved : Moved number alone (by_server c t) (is_of_child c) old new Before After
 
--- the file that the message names, if it names one, is named by text
+-- the files that the message names are named by text
 abbrev pub names_text : HostMessage → Bool
 names_text (Transfer store key file) = is_utf8 file
+names_text (Transferexport store key file) = is_utf8 file
+names_text (Renameexport key onto) = is_utf8 onto
 names_text q = true
 
 -- what an asker over a link and a door made of both: they are the same, and it serves the same task still

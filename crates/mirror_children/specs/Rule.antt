@@ -48,7 +48,7 @@ IsTold q old new v = IfSome (final_in v) (λ f. Ends (replies_at new.opening new
 
 -- the request was put to the child, as its next job, and came to this verdict, or it was lost, since the child had ended or was mute
 pub record IsAsked (q : HostMessage) (old new : ChildValue) (v : Verdict) : Type 0 where
-  pub asked : AskedAlone old.opening old.journal new.journal 0 1 0 q v
+  pub asked : AskedAlone old.opening old.journal new.journal 0 1 0 None q v
   pub told : IsTold q old new v
   pub opening : new.opening ≡ old.opening
   pub number : new.number ≡ old.number
