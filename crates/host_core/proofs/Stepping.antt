@@ -38,7 +38,7 @@ use Rattle.host_core.proofs.Wiring.{wired_text, wired_turn, few_jobs}
 
 -- ---- what a step may append: nothing; an entry that is no name and needs none, with what it makes due; or a name and the request that it leads
 
-pub abbrev stands_plain : Opening → List Entry → ℕ → What → Bool
+abbrev pub stands_plain : Opening → List Entry → ℕ → What → Bool
 stands_plain o past by w = not (is_lead w) && (not (needs_lead past w) && may_come o past by w)
 
 pub plain_may : (o : Opening) (past : List Entry) (by : ℕ) (w : What) → stands_plain o past by w ≡ true → may_come o past by w ≡ true
@@ -54,7 +54,7 @@ pub record Leads (o : Opening) (past : List Entry) (by : ℕ) (s : Step) : Type 
   pub led : Led o past by child job task name line
   pub is : s.group ≡ pair by child job task name line
 
-pub abbrev Came : Opening → List Entry → ℕ → Step → Type 0
+abbrev pub Came : Opening → List Entry → ℕ → Step → Type 0
 Came o past by s = (s.group ≡ []) ⊎ ((w : What) × (stands_plain o past by w ≡ true) × (s.group ≡ group_of o past by w)) ⊎ Leads o past by s
 
 claim_comes : (o : Opening) (past : List Entry) (by child : ℕ) (free : Option ℕ)
@@ -133,8 +133,13 @@ asks_keep o past by task child r true true false false few b w e m = by_name (na
     small : j < 2 ^ 64
     small = let f = few_jobs past child in omega (arith, few, f)
 
+    t : ((is_started past child && may_ask past by task child && is_in_turn past child j q) ≡ true) × (is_askable q ≡ true)
     t = both (is_started past child && may_ask past by task child && is_in_turn past child j q) (is_askable q) b
+
+    u : ((is_started past child && may_ask past by task child) ≡ true) × (is_in_turn past child j q ≡ true)
     u = both (is_started past child && may_ask past by task child) (is_in_turn past child j q) t.0
+
+    v : (is_started past child ≡ true) × (may_ask past by task child ≡ true)
     v = both (is_started past child) (may_ask past by task child) u.0
 
     turn : asks_in_turn past child j line (host_reading (addressed past child line).1) ≡ true

@@ -14,8 +14,8 @@ use Rattle.journal_model.specs.declared.entry.What.TheVariants.{Claim, Lead, Ask
 use Rattle.journal_model.specs.declared.entry.Entry.{Entry}
 use Rattle.journal_model.specs.declared.opening.Opening.{Opening}
 use Rattle.journal_model.specs.Due.{made_by}
-use Rattle.journal_model.specs.Journal.{is_started, is_ended, is_mute, is_live, is_full, addressed, on_wire}
-use Rattle.journal_model.specs.Legality.{MayStand, asks_job, is_led, least_free, is_prepared, is_in_turn, is_text, may_ask, may_come, may_lead, is_number, asks_in_turn, needs_lead, says_name}
+use Rattle.journal_model.specs.Journal.{each_of, is_started, is_ended, is_mute, is_live, is_full, addressed, on_wire}
+use Rattle.journal_model.specs.Legality.{MayStand, asks_job, claimed_for, is_led, least_free, is_prepared, is_in_turn, is_text, may_ask, may_come, may_lead, is_number, asks_in_turn, needs_lead, says_name}
 use Rattle.journal_model.proofs.Looks.{entry, same_number, both}
 use Rattle.journal_model.proofs.Named.{same_addressed, same_ask}
 use Rattle.annex_model.proofs.Classes.{askable_test}
@@ -103,9 +103,16 @@ module _ (o : Opening) (past : List Entry) (by child task : ℕ) (r : Request) (
 
 -- the parts of what is said of a request that may come
 module _ (o : Opening) (past : List Entry) (by child job task : ℕ) (line : List ℕ) (may : may_come o past by (Ask child job task line) ≡ true) where
+  all : ((is_live past child && not (is_mute past child) && job == next_job past child && asks_in_turn past child job line (host_reading (addressed past child line).1)) ≡ true) × (may_ask past by task child ≡ true)
   all = both (is_live past child && not (is_mute past child) && job == next_job past child && asks_in_turn past child job line (host_reading (addressed past child line).1)) (may_ask past by task child) may
+
+  turned : ((is_live past child && not (is_mute past child) && job == next_job past child) ≡ true) × (asks_in_turn past child job line (host_reading (addressed past child line).1) ≡ true)
   turned = both (is_live past child && not (is_mute past child) && job == next_job past child) (asks_in_turn past child job line (host_reading (addressed past child line).1)) all.0
+
+  next : ((is_live past child && not (is_mute past child)) ≡ true) × ((job == next_job past child) ≡ true)
   next = both (is_live past child && not (is_mute past child)) (job == next_job past child) turned.0
+
+  there : (is_live past child ≡ true) × (not (is_mute past child) ≡ true)
   there = both (is_live past child) (not (is_mute past child)) next.0
 
   ask_may : may_ask past by task child ≡ true
@@ -182,9 +189,16 @@ suits_lost o past by child task r next = λ h. (
 -- the parts of what is said of a name that may stand
 module _ (o : Opening) (past : List Entry) (by child job : ℕ) (line name : List ℕ) (reads : host_reading (addressed past child line).1 ≡ Some (Export name))
     (may : MayStand o past [] (entry by (Lead child job line))) where
+  name_all : ((is_live past child && not (is_mute past child) && job == next_job past child && says_name past child job line (host_reading (addressed past child line).1)) ≡ true) × (may_lead past by child ≡ true)
   name_all = both (is_live past child && not (is_mute past child) && job == next_job past child && says_name past child job line (host_reading (addressed past child line).1)) (may_lead past by child) may
+
+  name_says : ((is_live past child && not (is_mute past child) && job == next_job past child) ≡ true) × (says_name past child job line (host_reading (addressed past child line).1) ≡ true)
   name_says = both (is_live past child && not (is_mute past child) && job == next_job past child) (says_name past child job line (host_reading (addressed past child line).1)) name_all.0
+
+  name_is_next : ((is_live past child && not (is_mute past child)) ≡ true) × ((job == next_job past child) ≡ true)
   name_is_next = both (is_live past child && not (is_mute past child)) (job == next_job past child) name_says.0
+
+  name_there : (is_live past child ≡ true) × (not (is_mute past child) ≡ true)
   name_there = both (is_live past child) (not (is_mute past child)) name_is_next.0
 
   name_started : is_started past child ≡ true
@@ -199,6 +213,7 @@ module _ (o : Opening) (past : List Entry) (by child job : ℕ) (line name : Lis
   name_next : job ≡ next_job past child
   name_next = same_number job (next_job past child) name_is_next.1
 
+  name_told : (is_text name ≡ true) × (bytes_eq line (on_wire past child job (host_line (Export name))) ≡ true)
   name_told = both (is_text name) (bytes_eq line (on_wire past child job (host_line (Export name))))
       (subst (λ (x : Option HostMessage). says_name past child job line x ≡ true) reads name_says.1)
 
@@ -210,7 +225,8 @@ module _ (o : Opening) (past : List Entry) (by child job : ℕ) (line name : Lis
       ap (λ (k : ℕ). on_wire past child k (host_line (Export name))) (sym name_next)
       ∙ sym ((bytes_eq-Decides line (on_wire past child job (host_line (Export name)))).0 name_told.1)
 
-  name_lead = both (is_at Later (next_job past child)) _ name_all.1
+  name_lead : (is_at Later (next_job past child) ≡ true) × (list_any (λ t. may_ask past by t child) (0 ∷ each_of (claimed_for child) past) ≡ true)
+  name_lead = both (is_at Later (next_job past child)) (list_any (λ t. may_ask past by t child) (0 ∷ each_of (claimed_for child) past)) name_all.1
 
   -- an event that asks with this name says it first
   name_first : (task : ℕ) (r : Request) (q : HostMessage) → message_of r ≡ q → name_of r ≡ Some name → may_request past by task child q ≡ true
@@ -266,8 +282,13 @@ module _ (o : Opening) (past : List Entry) (by child job : ℕ) (line : List ℕ
   abbrev named : List Entry
   named = past ++ entry by (Lead child job line) ∷ []
 
+  led_come : ((f.by == by && asks_job child job f.what && needs_lead named f.what) ≡ true) × (may_come o named f.by f.what ≡ true)
   led_come = both (f.by == by && asks_job child job f.what && needs_lead named f.what) (may_come o named f.by f.what) due
+
+  led_needs : ((f.by == by && asks_job child job f.what) ≡ true) × (needs_lead named f.what ≡ true)
   led_needs = both (f.by == by && asks_job child job f.what) (needs_lead named f.what) led_come.0
+
+  led_asks : ((f.by == by) ≡ true) × (asks_job child job f.what ≡ true)
   led_asks = both (f.by == by) (asks_job child job f.what) led_needs.0
 
   led_mine : f.by ≡ by

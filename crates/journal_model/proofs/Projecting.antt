@@ -9,7 +9,7 @@ use Rattle.journal_model.specs.declared.verdict.Verdict.{Verdict}
 use Rattle.journal_model.specs.declared.verdict.Verdict.TheVariants.{Done as DoneAt}
 use Rattle.annex_model.specs.declared.final_line.Final.{Final}
 use Rattle.annex_model.specs.declared.final_line.Final.TheVariants.{Done, Failed, Absent, Unknown, Unsupported}
-use Rattle.annex_model.specs.Messages.{RemoteMessage, HostMessage, IsAskable, remote_reading}
+use Rattle.annex_model.specs.Messages.{RemoteMessage, HostMessage, IsAskable, host_reading, remote_reading}
 use Rattle.annex_model.specs.Talks.{Item, Conv, Talking, is_aside, final_of, awaits, said, item_is_aside, spells_aside}
 use Rattle.annex_model.proofs.TalksGrow.{Conv-push, Talking-aside, said-push, replied-push, from_remote, from_host}
 use Rattle.annex_model.proofs.Fronts.{front_of}

@@ -1,7 +1,7 @@
 -- How a number stands that serves a task over a child, and what serving makes.
 use Rattle.std.specs.Prelude.{ℕ, ◌≡◌, ◌==◌, ◌&&◌, Bool, true, List, []}
 use Rattle.std.specs.Str.{is_utf8}
-use Rattle.annex_model.specs.Messages.{HostMessage, Transfer}
+use Rattle.annex_model.specs.Messages.{HostMessage, Transfer, Transferexport, Renameexport}
 use Rattle.journal_model.specs.declared.entry.What.{What}
 use Rattle.journal_model.specs.declared.entry.What.TheVariants.{Lead, Ask, Lost, Note}
 use Rattle.journal_model.specs.declared.entry.Entry.{Entry}
