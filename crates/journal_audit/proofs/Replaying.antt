@@ -1,6 +1,7 @@
 -- One entry of a journal that is made again.
 use Rattle.std.proofs.Common.{◌≡◌, ℕ, List, [], ◌∷◌, ◌++◌, ◌+◌, ◌<◌, ◌^◌, refl, sym, ap, subst, ◌∙◌, Bool, true, false, Option, Some, None, arith, inl, inr, ◌⊎◌, length, append_assoc, append-nil, slice_get}
-use Rattle.std.specs.Prelude.{IsTrue, ◌↔◌}
+use Rattle.std.specs.Prelude.{IsTrue, ◌↔◌, OnOk, Result, Ok, Err}
+use Rattle.ann_key.specs.declared.bytes.NoMemory.{NoMemory}
 use Rattle.std.proofs.lemmas.Option.{slice_get_past}
 use Rattle.std.proofs.lemmas.List.{length-append}
 use Rattle.journal_model.specs.declared.entry.What.{What}
@@ -14,7 +15,7 @@ use Rattle.journal_model.proofs.Looks.{entry}
 use Rattle.host_core.specs.declared.event.Event.{Event}
 use Rattle.host_core.specs.Steps.{Step, step_of, group_of, Comes}
 use Rattle.host_core.proofs.Stepping.{step_comes}
-use Rattle.journal_audit.specs.Replays.{IsLedBy, IsNext, IsReplayed, IsTold, Owes, Pairs, SaysName, Suits, group_by, is_name}
+use Rattle.journal_audit.specs.Replays.{IsLedBy, IsNext, IsReplayed, IsTold, Owes, Pairs, Says, SaysName, Suits, Unpaired, group_by, is_name}
 
 -- ---- what the core is told
 
@@ -43,18 +44,25 @@ told_none o past e next plain suits = record {
   led = λ may child job line is f there due. absurd (suits may);
 }
 
+same_lead : (o : Opening) (past : List Entry) (by child job : ℕ) (line : List ℕ) (k j : ℕ) (x : List ℕ) → Lead child job line ≡ Lead k j x → (f : Entry) → IsLedBy o past by k j x f → IsLedBy o past by child job line f
+same_lead o past by child job line k j x is f due =
+    let c : k ≡ child = cc is in
+    let n : j ≡ job = cc is in
+    let t : x ≡ line = cc is in
+    subst (λ (y : List ℕ). IsLedBy o past by child job y f) t
+    (subst (λ (i : ℕ). IsLedBy o past by child i x f) n (subst (λ (i : ℕ). IsLedBy o past by i j x f) c due))
+
+none_more : (past group : List Entry) → length (past ++ group) ≡ length past → group ≡ []
+none_more past [] h = refl
+none_more past (x ∷ group) h = absurd (let e = length-append past (x ∷ group) in omega (arith, e, h))
+
 -- a name that was told with the next entry
 module _ (o : Opening) (past : List Entry) (by child job : ℕ) (line : List ℕ) (next : Option Entry) (pair : Option Event) (pairs : Pairs o past by child job line next pair) where
-  l : Entry
+  abbrev l : Entry
   l = entry by (Lead child job line)
 
   same_name : (k j : ℕ) (x : List ℕ) → l.what ≡ Lead k j x → (f : Entry) → IsLedBy o past by k j x f → IsLedBy o past by child job line f
-  same_name k j x is f due =
-      let c : k ≡ child = cc is in
-      let n : j ≡ job = cc is in
-      let t : x ≡ line = cc is in
-      subst (λ (y : List ℕ). IsLedBy o past by child job y f) t
-      (subst (λ (i : ℕ). IsLedBy o past by child i x f) n (subst (λ (i : ℕ). IsLedBy o past by i j x f) c due))
+  same_name k j x is f due = same_lead o past by child job line k j x is f due
 
   -- it appended something
   pub told_pair : (made : List Entry) → length past < 2 ^ 64 → made ≡ past ++ group_by o past by pair → (length made ≡ length past → ⊥) → IsTold o past l next made
@@ -68,14 +76,48 @@ module _ (o : Opening) (past : List Entry) (by child job : ℕ) (line : List ℕ
       comes (inl none) = absurd (more (ap length (grown ∙ ap (λ (g : List Entry). past ++ g) none ∙ append-nil past)))
       comes (inr some) = (some.0, grown ∙ ap (λ (g : List Entry). past ++ g) some.1)
 
-  -- it appended nothing, and the name was told with another request
-  pub told_name : (event : Option Event) (made : List Entry) → length past < 2 ^ 64 → group_by o past by pair ≡ [] → SaysName o past by child job line event
-      → made ≡ past ++ group_by o past by event → IsTold o past l next made
-  told_name event made few nothing says grown = record {
-    comes = λ may. (let s = says may in (s.0, grown ∙ ap (λ (g : List Entry). past ++ g) s.1));
-    one = one_group o past by event made few grown;
-    led = λ may k j x is f there due. absurd (let bad : l ∷ f ∷ [] ≡ [] = sym (pairs.both may f there (same_name k j x is f due)) ∙ nothing in cc);
-  }
+  -- told with counts of what was there before and is there now
+  pub pair_told : (made : List Entry) (before after : ℕ) → length past < 2 ^ 64 → made ≡ past ++ group_by o past by pair → before ≡ length past → after ≡ length made → (after ≡ before → ⊥)
+      → IsTold o past l next made
+  pair_told made before after few grown first last more = told_pair made few grown (λ e. more (last ∙ e ∙ sym first))
+
+  -- it appended nothing, so the name doesn't lead the next entry
+  pub pair_untold : (made : List Entry) (before after : ℕ) → made ≡ past ++ group_by o past by pair → before ≡ length past → after ≡ length made → after ≡ before
+      → Unpaired o past by child job line next
+  pair_untold made before after grown first last same may f there due =
+      let nothing : group_by o past by pair ≡ [] = none_more past (group_by o past by pair) (ap length (sym grown) ∙ sym last ∙ same ∙ first) in
+      let bad : l ∷ f ∷ [] ≡ [] = sym (pairs.both may f there due) ∙ nothing in
+      cc
+
+-- and the journal is as it was
+pub made_same : (past group made : List Entry) (before after : ℕ) → made ≡ past ++ group → before ≡ length past → after ≡ length made → after ≡ before → made ≡ past
+made_same past group made before after grown first last same =
+    grown ∙ ap (λ (g : List Entry). past ++ g) (none_more past group (ap length (sym grown) ∙ sym last ∙ same ∙ first)) ∙ append-nil past
+
+-- the name was told with another request
+pub told_name : (o : Opening) (past : List Entry) (by child job : ℕ) (line : List ℕ) (next : Option Entry) (event : Option Event) (made : List Entry) → length past < 2 ^ 64
+    → Unpaired o past by child job line next → SaysName o past by child job line event → made ≡ past ++ group_by o past by event → IsTold o past (entry by (Lead child job line)) next made
+told_name o past by child job line next event made few unpaired says grown = record {
+  comes = λ may. (let s = says may in (s.0, grown ∙ ap (λ (g : List Entry). past ++ g) s.1));
+  one = one_group o past by event made few grown;
+  led = λ may k j x is f there due. absurd (unpaired may f there (same_lead o past by child job line k j x is f due));
+}
+
+-- what was told of a core that a pair left as it was
+pub told_after : (o p : Opening) (past mid : List Entry) (by child job : ℕ) (line name : List ℕ) (next : Option Entry) (event : Option Event) (made : List Entry) → p ≡ o → mid ≡ past → length past < 2 ^ 64
+    → Says past child line name → Unpaired o past by child job line next → (Says mid child line name → SaysName p mid by child job line event) → made ≡ mid ++ group_by p mid by event
+    → IsTold o past (entry by (Lead child job line)) next made
+told_after o p past mid by child job line name next event made same still few reads unpaired says grown =
+    told_name o past by child job line next event made few unpaired
+    (subst (λ (q : Opening). SaysName q past by child job line event) same
+    (subst (λ (x : List Entry). SaysName p x by child job line event) still (says (subst (λ (x : List Entry). Says x child line name) (sym still) reads))))
+    (subst (λ (q : Opening). made ≡ past ++ group_by q past by event) same (subst (λ (x : List Entry). made ≡ x ++ group_by p x by event) still grown))
+
+-- what was told of an entry that says no name
+pub told_plain : (o : Opening) (past : List Entry) (e : Entry) (next : Option Entry) (event : Option Event) (made : List Entry) → length past < 2 ^ 64 → is_name e.what ≡ false → Suits o past e.by e.what event
+    → made ≡ past ++ group_by o past e.by event → IsTold o past e next made
+told_plain o past e next (Some event) made few plain suits grown = told_event o past e next event made few plain suits grown
+told_plain o past e next None made few plain suits grown = subst (IsTold o past e next) (sym (grown ∙ append-nil past)) (told_none o past e next plain suits)
 
 -- no line that reads otherwise says a name
 pub told_no_name : (o : Opening) (past : List Entry) (by child job : ℕ) (line : List ℕ) (next : Option Entry) → (MayStand o past [] (entry by (Lead child job line)) → ⊥)
@@ -85,6 +127,11 @@ told_no_name o past by child job line next never = record {
   one = inl refl;
   led = λ may k j x is f there due. absurd (never may);
 }
+
+-- what holds where there is a value makes something else hold there
+pub on_ok : {P Q : Type 0} (r : Result (Unit {0}) NoMemory) → OnOk r P → (P → Q) → OnOk r Q
+on_ok (Ok u) p f = f p
+on_ok (Err e) p f = tt
 
 -- ---- the entry at a place
 

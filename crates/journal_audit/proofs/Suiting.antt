@@ -1,6 +1,6 @@
 -- The event that is made for a claim, a request, a name or a line appends it, if it may stand. The other kinds need no lemma.
 use Rattle.std.proofs.Common.{◌≡◌, ◌⊎◌, inl, inr, ℕ, List, [], ◌∷◌, ◌++◌, refl, sym, ap, subst, ◌∙◌, Bool, true, false, cond, not, Option, Some, None}
-use Rattle.std.specs.Prelude.{◌&&◌, ◌||◌, ◌==◌, IfSome, IsNone, IsTrue, bytes_eq}
+use Rattle.std.specs.Prelude.{◌&&◌, ◌||◌, ◌==◌, option_and_then, IfSome, IsNone, IsTrue, bytes_eq}
 use Rattle.std.specs.Str.{is_utf8}
 use Rattle.std.specs.List.{list_any}
 use Rattle.std.proofs.lemmas.Slice.Eq.{bytes_eq-Decides}
@@ -29,7 +29,7 @@ use Rattle.host_core.specs.declared.event.Event.{Event}
 use Rattle.host_core.specs.declared.event.Event.TheVariants.{Claim as ClaimEvent, Ask as AskEvent, Got as GotEvent}
 use Rattle.host_core.specs.declared.event.Reply.TheVariants.{Job}
 use Rattle.host_core.specs.Steps.{step_of, group_of, append, asking, odd, gone, is_named_well, next_job, next_on_wire, may_request}
-use Rattle.journal_audit.specs.Replays.{AsksAfter, IsLedBy, MayBeNext, Pairs, SaysName, Suits, group_by}
+use Rattle.journal_audit.specs.Replays.{AsksAfter, IsLedBy, MayBeNext, Pairs, SaysName, Suits, group_by, name_in}
 
 is_not : (b : Bool) → not b ≡ true → b ≡ false
 is_not true h = absurd cc
@@ -245,6 +245,26 @@ module _ (o : Opening) (past : List Entry) (by child job : ℕ) (line name : Lis
           → ((step_of o past by (AskEvent child task r)).group ≡ []) ⊎ ((rest : List Entry) × ((step_of o past by (AskEvent child task r)).group ≡ entry by (Lead child job line) ∷ rest))
       go true h = inr (entry by (Ask child job task (next_on_wire past child (message_of r))) ∷ [], name_first task r (message_of r) refl says h)
       go false h = inl (refused o past by child task r (message_of r) (Some name) refl says (rw h refl))
+
+-- a line of which a name is read says it
+pub said : (r : Option HostMessage) (name : List ℕ) → Some name ≡ option_and_then name_in r → r ≡ Some (Export name)
+said (Some (Export n)) name h = let same : name ≡ n = cc in ap (λ (x : List ℕ). Some (Export x)) (sym same)
+said (Some q) name h = absurd cc
+said None name h = absurd cc
+
+-- and one of which none is read may not stand as a name
+pub unsaid : (o : Opening) (past : List Entry) (by child job : ℕ) (line : List ℕ) → None ≡ option_and_then name_in (host_reading (addressed past child line).1)
+    → MayStand o past [] (entry by (Lead child job line)) → ⊥
+unsaid o past by child job line none may = go (host_reading (addressed past child line).1) none says
+  where
+    says : says_name past child job line (host_reading (addressed past child line).1) ≡ true
+    says = (both (is_live past child && not (is_mute past child) && job == next_job past child) (says_name past child job line (host_reading (addressed past child line).1))
+        (both (is_live past child && not (is_mute past child) && job == next_job past child && says_name past child job line (host_reading (addressed past child line).1)) (may_lead past by child) may).0).1
+
+    go : (r : Option HostMessage) → None ≡ option_and_then name_in r → says_name past child job line r ≡ true → ⊥
+    go (Some (Export n)) none h = cc
+    go (Some q) none h = cc
+    go None none h = cc
 
 -- no task may ask, so no name may be said
 pub no_name : (o : Opening) (past : List Entry) (by child : ℕ) (name : List ℕ) → ((t : ℕ) → may_ask past by t child ≡ false) → (job : ℕ) (line : List ℕ)

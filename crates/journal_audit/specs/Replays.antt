@@ -1,7 +1,7 @@
 -- Words for the audit's code: the event for an entry, and a core that makes the journal again.
 use Rattle.std.specs.Prelude.{ℕ, ◌≡◌, ◌⊎◌, ◌&&◌, Bool, true, false, List, [], ◌∷◌, ◌++◌, Option, Some, None}
 use Rattle.std.specs.Str.{is_utf8}
-use Rattle.annex_model.specs.Messages.{HostMessage, is_askable}
+use Rattle.annex_model.specs.Messages.{HostMessage, Export, host_reading, is_askable}
 use Rattle.annex_model.specs.Talks.{has_lead}
 use Rattle.talk_serial.specs.declared.request.Request.{Request}
 use Rattle.talk_serial.specs.Requests.{is_request, message_of, name_of}
@@ -9,6 +9,7 @@ use Rattle.journal_model.specs.declared.entry.What.{What}
 use Rattle.journal_model.specs.declared.entry.What.TheVariants.{Lead, Ask}
 use Rattle.journal_model.specs.declared.entry.Entry.{Entry}
 use Rattle.journal_model.specs.declared.opening.Opening.{Opening}
+use Rattle.journal_model.specs.Journal.{addressed}
 use Rattle.journal_model.specs.Legality.{IsDue, IsGroup, is_in_turn, StandsFrom, MayStand, owed_after}
 use Rattle.host_core.specs.declared.event.Event.{Event}
 use Rattle.host_core.specs.Steps.{step_of, group_of, next_job}
@@ -28,6 +29,15 @@ AsksAfter name reading (Some r) = (reading ≡ Some (message_of r)) × (name_of 
 abbrev pub is_name : What → Bool
 is_name (Lead child job line) = true
 is_name w = false
+
+-- the name that the message says
+abbrev pub name_in : HostMessage → Option (List ℕ)
+name_in (Export name) = Some name
+name_in q = None
+
+-- the line says this name to c
+abbrev pub Says : List Entry → ℕ → List ℕ → List ℕ → Type 0
+Says past c line name = host_reading (addressed past c line).1 ≡ Some (Export name)
 
 -- what the event appends, if there is one
 abbrev pub group_by : Opening → List Entry → ℕ → Option Event → List Entry
@@ -56,6 +66,11 @@ pub record Pairs (o : Opening) (past : List Entry) (by child job : ℕ) (line : 
       → (group_by o past by event ≡ []) ⊎ ((rest : List Entry) × (group_by o past by event ≡ record { by = by; what = Lead child job line } ∷ rest))
   pub both : MayStand o past [] (record { by = by; what = Lead child job line }) → (f : Entry) → next ≡ Some f → IsLedBy o past by child job line f
       → group_by o past by event ≡ record { by = by; what = Lead child job line } ∷ f ∷ []
+
+-- if the name may stand, it doesn't lead the next entry
+abbrev pub Unpaired : Opening → List Entry → ℕ → ℕ → ℕ → List ℕ → Option Entry → Type 0
+Unpaired o past by child job line next =
+    MayStand o past [] (record { by = by; what = Lead child job line }) → (f : Entry) → next ≡ Some f → IsLedBy o past by child job line f → ⊥
 
 -- After past the core has made the entry first, if it may stand there, and the next one after it, if that is led by it; and has made
 -- one group at most.

@@ -1,8 +1,9 @@
 // The text of an entry's line, and requests: one that a line asks after a name, and one that may be asked next.
-ghost use Rattle.std.specs.Prelude.{◌≡◌, true, IfOk, length};
+ghost use Rattle.std.specs.Prelude.{◌≡◌, true, IfOk, length, option_and_then, option_map};
 ghost use Rattle.annex_model.specs.Messages.{is_sent_key, host_reading};
 ghost use Rattle.journal_model.specs.Journal.{addressed};
-ghost use Rattle.journal_audit.specs.Replays.{AsksAfter, MayBeNext};
+ghost use Rattle.wire_msg.specs.Shown.{host_shown};
+ghost use Rattle.journal_audit.specs.Replays.{AsksAfter, MayBeNext, name_in};
 
 use ann_key::{Key, KeyRef, NoMemory, Text};
 use host_core::Core;
@@ -10,7 +11,7 @@ use journal_look::{Journal, is_offered, next_job};
 use std::alloc::Global;
 use std::str;
 use talk_serial::Request;
-use wire_msg::{read_host, untag};
+use wire_msg::{HostMsg, read_host, untag};
 
 /// The text of a line of the child, without its tag.
 pub(super) fn text_of<'a>(core: &Core, child: u32, line: &'a [u8]) -> &'a [u8]
@@ -22,6 +23,26 @@ pub(super) fn text_of<'a>(core: &Core, child: u32, line: &'a [u8]) -> &'a [u8]
     match untag(line) {
         Some((_, text)) => text,
         None => line,
+    }
+}
+
+/// The name that the message says.
+fn exported<'a>(message: &HostMsg<'a>) -> Option<&'a [u8]>
+    ensures { option_map (λ n. n.now) result ≡ name_in (host_shown message.now) }
+{
+    match message {
+        HostMsg::Export(name) => Some(name),
+        _ => None,
+    }
+}
+
+/// The name that the line says to the child, where it says one.
+pub(super) fn name_said<'a>(core: &Core, child: u32, line: &'a [u8]) -> Option<&'a [u8]>
+    ensures { option_map (λ n. n.now) result ≡ option_and_then name_in (host_reading (addressed core.now.journal child line.entry.now).1) }
+{
+    match read_host(text_of(core, child, line)) {
+        Some(message) => exported(&message),
+        None => None,
     }
 }
 

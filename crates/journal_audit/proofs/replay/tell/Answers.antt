@@ -1,9 +1,17 @@
-use Rattle.std.proofs.Common.{Option, subst}
+use Rattle.std.proofs.Common.{subst, sym}
 use Rattle.std.specs.Prelude.{option_map}
-use Rattle.host_core.specs.declared.event.Event.{Event}
-use Rattle.journal_look.specs.Shown.{what_shown, entry_shown}
-use Rattle.journal_audit.specs.Replays.{Suits}
-use Rattle.journal_audit.proofs.Replaying.{told_event}
+use Rattle.journal_model.specs.declared.entry.What.{What}
+use Rattle.journal_look.specs.Shown.{entry_shown}
+use Rattle.journal_audit.specs.Replays.{IsTold}
+use Rattle.journal_audit.proofs.Replaying.{on_ok}
 use Rattle.journal_audit.proofs.replay.tell.Goals as goal
 
--- The arm of a name gives what tell_name says, at the entry's job. The other arm is told_event, or told_none where there is no event.
+pub returns-in-Some-clause-told : goal.returns-in-Some-clause-told
+returns-in-Some-clause-told c =
+    on_ok c.tell_name.result c.tell_name.ensures.told (λ told.
+    subst (λ (w : What). IsTold c.args.core.now.opening c.args.core.now.journal (record { by = c.args.entry.by; what = w }) (option_map entry_shown c.args.next) c.tell_name.new.core.journal)
+    (sym c.in-Some.ensures.some) (told c.in-Some.field-0.1))
+
+pub returns-in-None-clause-told : goal.returns-in-None-clause-told
+returns-in-None-clause-told c =
+    on_ok c.tell_plain.result c.tell_plain.ensures.told (λ told. told (c.in-None.ensures.none tt) (option_map entry_shown c.args.next))
