@@ -1,6 +1,7 @@
 -- The event that is made for a claim, a request, a name or a line appends it, if it may stand. The other kinds need no lemma.
 use Rattle.std.proofs.Common.{◌≡◌, ◌⊎◌, inl, inr, ℕ, List, [], ◌∷◌, ◌++◌, refl, sym, ap, subst, ◌∙◌, Bool, true, false, cond, not, Option, Some, None}
-use Rattle.std.specs.Prelude.{◌&&◌, ◌||◌, ◌==◌, option_and_then, IfSome, IsNone, IsTrue, bytes_eq}
+use Rattle.std.specs.Prelude.{◌&&◌, ◌||◌, ◌==◌, option_and_then, IfOk, IfSome, IsNone, Result, Ok, Err, bytes_eq}
+use Rattle.ann_key.specs.declared.bytes.NoMemory.{NoMemory}
 use Rattle.std.specs.Str.{is_utf8}
 use Rattle.std.specs.List.{list_any}
 use Rattle.std.proofs.lemmas.Slice.Eq.{bytes_eq-Decides}
@@ -21,15 +22,13 @@ use Rattle.journal_model.proofs.Named.{same_addressed, same_ask}
 use Rattle.annex_model.proofs.Classes.{askable_test}
 use Rattle.journal_model.proofs.Asking.{read_askable}
 use Rattle.host_core.proofs.Opened.{turn_asks}
-use Rattle.host_core.proofs.Stepping.{named as later_named}
 use Rattle.talk_serial.specs.declared.request.Request.{Request}
 use Rattle.talk_serial.specs.declared.request.Request.TheVariants.{TransferExport, CheckExport, RemoveExport, RenameExport}
 use Rattle.talk_serial.specs.Requests.{message_of, name_of, is_request}
-use Rattle.host_core.specs.declared.event.Event.{Event}
 use Rattle.host_core.specs.declared.event.Event.TheVariants.{Claim as ClaimEvent, Ask as AskEvent, Got as GotEvent}
 use Rattle.host_core.specs.declared.event.Reply.TheVariants.{Job}
 use Rattle.host_core.specs.Steps.{step_of, group_of, append, asking, odd, gone, is_named_well, next_job, next_on_wire, may_request}
-use Rattle.journal_audit.specs.Replays.{AsksAfter, IsLedBy, MayBeNext, Pairs, SaysName, Suits, group_by, name_in}
+use Rattle.journal_audit.specs.Replays.{AsksAfter, IsLedBy, MayBeNext, Pairs, Says, SaysName, Suits, name_in}
 
 is_not : (b : Bool) → not b ≡ true → b ≡ false
 is_not true h = absurd cc
@@ -279,12 +278,23 @@ no_name o past by child name none job line reads = λ may. absurd (
     nobody (x ∷ xs) = rw (none x, nobody xs) refl
 
 -- nor may one that is no text
-pub no_text_name : (o : Opening) (past : List Entry) (by child : ℕ) (name : List ℕ) → is_utf8 name ≡ false → (job : ℕ) (line : List ℕ)
-    → host_reading (addressed past child line).1 ≡ Some (Export name) → SaysName o past by child job line None
-no_text_name o past by child name bad job line reads = λ may. absurd (
+no_text_name : (o : Opening) (past : List Entry) (by child job : ℕ) (line name : List ℕ) → is_utf8 name ≡ false → Says past child line name → MayStand o past [] (entry by (Lead child job line)) → ⊥
+no_text_name o past by child job line name bad reads may =
     let text = both (is_utf8 name) (not (has_newline name)) (name_well o past by child job line name reads may) in
     let no : false ≡ true = sym bad ∙ text.0 in
-    cc)
+    cc
+
+pub text_says : (past : List Entry) (c : ℕ) (line bytes : List ℕ) (r : Result (Option (List ℕ)) NoMemory) → Says past c line bytes → IfOk r (λ x. IfSome x (λ t. t ≡ bytes))
+    → IfOk r (λ x. IfSome x (λ t. Says past c line t))
+text_says past c line bytes (Ok (Some t)) reads same = subst (λ (n : List ℕ). Says past c line n) (sym same) reads
+text_says past c line bytes (Ok None) reads same = tt
+text_says past c line bytes (Err e) reads same = tt
+
+pub text_never : (o : Opening) (past : List Entry) (c : ℕ) (line bytes : List ℕ) (r : Result (Option (List ℕ)) NoMemory) → Says past c line bytes → IfOk r (λ x. IsNone x → is_utf8 bytes ≡ false)
+    → IfOk r (λ x. IsNone x → (by job : ℕ) → MayStand o past [] (record { by = by; what = Lead c job line }) → ⊥)
+text_never o past c line bytes (Ok (Some t)) reads bad = λ none. absurd cc
+text_never o past c line bytes (Ok None) reads bad = λ none by job may. no_text_name o past by c job line bytes (bad none) reads may
+text_never o past c line bytes (Err e) reads bad = tt
 
 -- some task may ask, by a check of this name
 pub some_name : (o : Opening) (past : List Entry) (by child task : ℕ) (key name : List ℕ) → may_ask past by task child ≡ true → is_askable (Checkpresentexport key) ≡ true
@@ -294,6 +304,37 @@ some_name o past by child task key name ask sendable job line reads = λ may. (
     let request : may_request past by task child (Checkpresentexport key) ≡ true = rw (name_started o past by child job line name reads may, ask, later, sendable) refl in
     (entry by (Ask child job task (next_on_wire past child (Checkpresentexport key))) ∷ [],
      name_first o past by child job line name reads may task (CheckExport key name) (Checkpresentexport key) refl refl request))
+
+-- ---- what is asked after a name
+
+leadless : (r : Request) → name_of r ≡ None → has_lead (message_of r) ≡ false
+leadless (TransferExport store key file name) h = absurd cc
+leadless (CheckExport key name) h = absurd cc
+leadless (RemoveExport key name) h = absurd cc
+leadless (RenameExport key name onto) h = absurd cc
+leadless r h = refl
+
+pub after_unread : (name : List ℕ) (reading : Option HostMessage) → None ≡ reading → AsksAfter name reading None
+after_unread name reading none = λ q is. absurd (let bad : None ≡ Some q = none ∙ is in cc)
+
+pub after_none : (name : List ℕ) (reading : Option HostMessage) (m : HostMessage) → Some m ≡ reading → is_request m ≡ false → AsksAfter name reading None
+after_none name reading m is no = λ q there. (
+    let found : Some m ≡ Some q = is ∙ there in
+    let same : m ≡ q = cc in
+    subst (λ (x : HostMessage). (has_lead x && is_request x) ≡ false) same (right (has_lead m) (is_request m) no))
+  where
+    right : (a b : Bool) → b ≡ false → (a && b) ≡ false
+    right true b h = h
+    right false b h = refl
+
+pub after_named : (name : List ℕ) (reading : Option HostMessage) (m : HostMessage) (r : Request) (n : List ℕ) (x : Option Request) → Some m ≡ reading → message_of r ≡ m → n ≡ name
+    → IfSome x (λ y. message_of y ≡ message_of r) → IfSome x (λ y. name_of y ≡ Some n) → (IsNone x → name_of r ≡ None) → AsksAfter name reading x
+after_named name reading m r n (Some y) is asks same keeps named none = (sym is ∙ ap Some (sym asks) ∙ ap Some (sym keeps), named ∙ ap Some same)
+after_named name reading m r n None is asks same keeps named none = λ q there. (
+    let found : Some m ≡ Some q = is ∙ there in
+    let same : m ≡ q = cc in
+    let plain : has_lead q ≡ false = ap has_lead (sym same) ∙ ap has_lead (sym asks) ∙ leadless r (none refl) in
+    (rw plain refl))
 
 -- ---- a name and the next entry
 
@@ -363,14 +404,13 @@ module _ (o : Opening) (past : List Entry) (by child job : ℕ) (line name : Lis
           let came = came_after b k task asks d in
           let lead : is_led (host_reading (addressed past child asks).1) ≡ true =
           ap (λ (x : Option ℕ × List ℕ). is_led (host_reading x.1)) (sym (same_addressed past by child job line child asks)) ∙ (led_needs o past by child job line (entry b (Ask child k task asks)) d).1 in
-          let text = both (is_utf8 name) (not (has_newline name)) (name_well o past by child job line name reads may) in
-          by_reading (host_reading (addressed past child asks).1) refl lead text.0 came
+          by_reading (host_reading (addressed past child asks).1) refl lead came
         where
-          by_reading : (x : Option HostMessage) → host_reading (addressed past child asks).1 ≡ x → is_led x ≡ true → is_utf8 name ≡ true → may_come o past by (Ask child k task asks) ≡ true → ⊥
-          by_reading None is lead text came = cc
-          by_reading (Some q) is lead text came =
+          by_reading : (x : Option HostMessage) → host_reading (addressed past child asks).1 ≡ x → is_led x ≡ true → may_come o past by (Ask child k task asks) ≡ true → ⊥
+          by_reading None is lead came = cc
+          by_reading (Some q) is lead came =
               let request : is_request q ≡ true = turn_asks past child k q (ask_turn o past by child k task asks came q is).0 in
-              let no : false ≡ true = sym (none q is) ∙ (rw (lead, request, text) refl) in
+              let no : false ≡ true = sym (none q is) ∙ (rw (lead, request) refl) in
               cc
 
 -- nor another entry

@@ -1,6 +1,5 @@
 -- Words for the audit's code: the event for an entry, and a core that makes the journal again.
 use Rattle.std.specs.Prelude.{ℕ, ◌≡◌, ◌⊎◌, ◌&&◌, Bool, true, false, List, [], ◌∷◌, ◌++◌, Option, Some, None}
-use Rattle.std.specs.Str.{is_utf8}
 use Rattle.annex_model.specs.Messages.{HostMessage, Export, host_reading, is_askable}
 use Rattle.annex_model.specs.Talks.{has_lead}
 use Rattle.talk_serial.specs.declared.request.Request.{Request}
@@ -22,7 +21,7 @@ pub record MayBeNext (past : List Entry) (c : ℕ) (r : Request) : Type 0 where
 
 -- the request asks what the line reads, with this name said before it; none does where no such request is read
 abbrev pub AsksAfter : List ℕ → Option HostMessage → Option Request → Type 0
-AsksAfter name reading None = (q : HostMessage) → reading ≡ Some q → (has_lead q && is_request q && is_utf8 name) ≡ false
+AsksAfter name reading None = (q : HostMessage) → reading ≡ Some q → (has_lead q && is_request q) ≡ false
 AsksAfter name reading (Some r) = (reading ≡ Some (message_of r)) × (name_of r ≡ Some name)
 
 -- the entry says a name

@@ -12,7 +12,6 @@ use host_core::{Core, Event};
 use journal_look::{EntryRef, WhatRef, asking_task};
 use journal_model::Why;
 use std::alloc::Global;
-use std::str;
 use talk_serial::Request;
 use wire_msg::read_host;
 
@@ -75,7 +74,7 @@ pub(super) fn pair_event(
     alloc: Global,
     core: &Core,
     child: u32,
-    name: &[u8],
+    name: &Text,
     next: Option<EntryRef<'_>>,
 ) -> Result<Option<Event>, NoMemory>
     ensures { IfOk result (λ event. (by job : ℕ) → (line : List ℕ) → host_reading (addressed core.now.journal child line).1 ≡ Some (Export name.now) → Pairs core.now.opening core.now.journal by child job line (option_map entry_shown next.entry) event) }
@@ -112,17 +111,14 @@ pub(super) fn name_event(
     core: &Core,
     by: u32,
     child: u32,
-    name: &[u8],
+    name: &Text,
 ) -> Result<Option<Event>, NoMemory>
     ensures { IfOk result (λ event. (job : ℕ) → (line : List ℕ) → host_reading (addressed core.now.journal child line).1 ≡ Some (Export name.now) → SaysName core.now.opening core.now.journal by child job line event) }
 {
-    let Ok(name) = str::from_utf8(name) else {
-        return Ok(None);
-    };
     let Some(task) = asking_task(core.journal(), by, child) else {
         return Ok(None);
     };
-    let name = Text::copy(alloc, name)?;
+    let name = Text::copy(alloc, name.view())?;
     let key = requests::some_key(alloc)?;
     let request = Request::CheckExport { key, name };
     Ok(Some(Event::Ask {

@@ -9,7 +9,7 @@ ghost use Rattle.journal_audit.specs.Replays.{IsTold, IsReplayed, IsNext, Says, 
 
 use crate::found::Audit;
 use crate::{equal, events, kind, requests};
-use ann_key::NoMemory;
+use ann_key::{NoMemory, Text};
 use host_core::{Core, Event};
 use journal_look::{EntryRef, Journal, WhatRef};
 use journal_model::Opening;
@@ -35,7 +35,7 @@ fn tell_pair(
     core: &mut Core,
     by: u32,
     child: u32,
-    name: &[u8],
+    name: &Text,
     next: Option<EntryRef<'_>>,
 ) -> Result<bool, NoMemory>
     requires { length core.old.journal < 2 ^ 64 }
@@ -67,13 +67,13 @@ fn tell_name(
     ensures told { OnOk result ((job : ℕ) → IsTold core.old.opening core.old.journal (record { by = by; what = Lead child job line.now }) (option_map entry_shown next.entry) core.new.journal) }
     ensures opening { core.new.opening ≡ core.old.opening }
 {
-    let Some(name) = requests::name_said(core, child, line) else {
+    let Some(name) = requests::name_text(alloc, core, child, line)? else {
         return Ok(());
     };
-    if tell_pair(alloc, core, by, child, name, next)? {
+    if tell_pair(alloc, core, by, child, &name, next)? {
         return Ok(());
     }
-    let event = events::name_event(alloc, core, by, child, name)?;
+    let event = events::name_event(alloc, core, by, child, &name)?;
     step(core, by, event)
 }
 

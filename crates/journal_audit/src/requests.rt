@@ -1,9 +1,12 @@
 // The text of an entry's line, and requests: one that a line asks after a name, and one that may be asked next.
-ghost use Rattle.std.specs.Prelude.{◌≡◌, true, IfOk, length, option_and_then, option_map};
+ghost use Rattle.std.specs.Prelude.{ℕ, ◌≡◌, [], true, false, IfOk, IfSome, IsNone, length, option_and_then, option_map};
+ghost use Rattle.std.specs.Str.{is_utf8};
 ghost use Rattle.annex_model.specs.Messages.{is_sent_key, host_reading};
 ghost use Rattle.journal_model.specs.Journal.{addressed};
 ghost use Rattle.wire_msg.specs.Shown.{host_shown};
-ghost use Rattle.journal_audit.specs.Replays.{AsksAfter, MayBeNext, name_in};
+ghost use Rattle.journal_model.specs.Legality.{MayStand};
+ghost use Rattle.journal_model.specs.declared.entry.What.TheVariants.{Lead};
+ghost use Rattle.journal_audit.specs.Replays.{AsksAfter, MayBeNext, Says, name_in};
 
 use ann_key::{Key, KeyRef, NoMemory, Text};
 use host_core::Core;
@@ -37,7 +40,7 @@ fn exported<'a>(message: &HostMsg<'a>) -> Option<&'a [u8]>
 }
 
 /// The name that the line says to the child, where it says one.
-pub(super) fn name_said<'a>(core: &Core, child: u32, line: &'a [u8]) -> Option<&'a [u8]>
+fn name_said<'a>(core: &Core, child: u32, line: &'a [u8]) -> Option<&'a [u8]>
     ensures { option_map (λ n. n.now) result ≡ option_and_then name_in (host_reading (addressed core.now.journal child line.entry.now).1) }
 {
     match read_host(text_of(core, child, line)) {
@@ -46,12 +49,40 @@ pub(super) fn name_said<'a>(core: &Core, child: u32, line: &'a [u8]) -> Option<&
     }
 }
 
+/// The text; None where the bytes are none.
+#[tactic(auto, using(talk_serial::proofs::Reading::no_text))]
+fn text(alloc: Global, bytes: &[u8]) -> Result<Option<Text>, NoMemory>
+    ensures same { IfOk result (λ r. IfSome r (λ t. t ≡ bytes.now)) }
+    ensures none { IfOk result (λ r. IsNone r → is_utf8 bytes.now ≡ false) }
+{
+    match str::from_utf8(bytes) {
+        Ok(text) => Ok(Some(Text::copy(alloc, text)?)),
+        Err(_) => Ok(None),
+    }
+}
+
+/// The same as text. None where the line may not stand as one that says a name.
+pub(super) fn name_text(
+    alloc: Global,
+    core: &Core,
+    child: u32,
+    line: &[u8],
+) -> Result<Option<Text>, NoMemory>
+    ensures some { IfOk result (λ r. IfSome r (λ name. Says core.now.journal child line.now name)) }
+    ensures none { IfOk result (λ r. IsNone r → (by job : ℕ) → MayStand core.now.opening core.now.journal [] (record { by = by; what = Lead child job line.now }) → ⊥) }
+{
+    match name_said(core, child, line) {
+        Some(name) => text(alloc, name),
+        None => Ok(None),
+    }
+}
+
 /// The request that the line asks of the child after the name.
 pub(super) fn asked_after(
     alloc: Global,
     core: &Core,
     child: u32,
-    name: &[u8],
+    name: &Text,
     line: &[u8],
 ) -> Result<Option<Request>, NoMemory>
     ensures { IfOk result (AsksAfter name.now (host_reading (addressed core.now.journal child line.now).1)) }
@@ -59,10 +90,7 @@ pub(super) fn asked_after(
     let Some(message) = read_host(text_of(core, child, line)) else {
         return Ok(None);
     };
-    let Ok(name) = str::from_utf8(name) else {
-        return Ok(None);
-    };
-    let name = Text::copy(alloc, name)?;
+    let name = Text::copy(alloc, name.view())?;
     match Request::read(alloc, &message)? {
         Some(request) => Ok(request.with_name(name)),
         None => Ok(None),

@@ -1,4 +1,4 @@
-use Rattle.std.proofs.Common.{subst, sym}
+use Rattle.std.proofs.Common.{refl, subst, sym}
 use Rattle.std.specs.Prelude.{option_map}
 use Rattle.journal_model.specs.declared.entry.What.{What}
 use Rattle.journal_look.specs.Shown.{entry_shown}
@@ -14,4 +14,4 @@ returns-in-Some-clause-told c =
 
 pub returns-in-None-clause-told : goal.returns-in-None-clause-told
 returns-in-None-clause-told c =
-    on_ok c.tell_plain.result c.tell_plain.ensures.told (λ told. told (c.in-None.ensures.none tt) (option_map entry_shown c.args.next))
+    on_ok c.tell_plain.result c.tell_plain.ensures.told (λ told. told (c.in-None.ensures.none refl) (option_map entry_shown c.args.next))
