@@ -1,5 +1,5 @@
 -- The event that is made for a claim, a request, a name or a line appends it, if it may stand. The other kinds need no lemma.
-use Rattle.std.proofs.Common.{◌≡◌, ◌⊎◌, inl, inr, ℕ, List, [], ◌∷◌, ◌++◌, refl, sym, ap, subst, ◌∙◌, Bool, true, false, cond, not, Option, Some, None}
+use Rattle.std.proofs.Common.{◌≡◌, ◌≢◌, ◌⊎◌, inl, inr, ℕ, List, [], ◌∷◌, ◌++◌, refl, sym, ap, subst, ◌∙◌, Bool, true, false, cond, not, Option, Some, None}
 use Rattle.std.specs.Prelude.{◌&&◌, ◌||◌, ◌==◌, option_and_then, IfOk, IfSome, IsNone, Result, Ok, Err, bytes_eq}
 use Rattle.ann_key.specs.declared.bytes.NoMemory.{NoMemory}
 use Rattle.std.specs.Str.{is_utf8}
@@ -17,7 +17,7 @@ use Rattle.journal_model.specs.declared.opening.Opening.{Opening}
 use Rattle.journal_model.specs.Due.{made_by}
 use Rattle.journal_model.specs.Journal.{each_of, is_started, is_ended, is_mute, is_live, is_full, addressed, on_wire}
 use Rattle.journal_model.specs.Legality.{MayStand, asks_job, claimed_for, is_led, least_free, is_prepared, is_in_turn, is_text, may_ask, may_come, may_lead, is_number, asks_in_turn, needs_lead, says_name}
-use Rattle.journal_model.proofs.Looks.{entry, same_number, both}
+use Rattle.journal_model.proofs.Looks.{differ, entry, same_number, both}
 use Rattle.journal_model.proofs.Named.{same_addressed, same_ask}
 use Rattle.annex_model.proofs.Classes.{askable_test}
 use Rattle.journal_model.proofs.Asking.{read_askable}
@@ -413,6 +413,19 @@ module _ (o : Opening) (past : List Entry) (by child job : ℕ) (line name : Lis
               let no : false ≡ true = sym (none q is) ∙ (rw (lead, request) refl) in
               cc
 
+-- the next entry asks this child
+pub pairs_led : (o : Opening) (past : List Entry) (by child job : ℕ) (line name : List ℕ) (f : Entry) (asked k task : ℕ) (asks : List ℕ) (r : Request) → f.what ≡ Ask asked k task asks → asked ≡ child
+    → AsksAfter name (host_reading (addressed past child asks).1) (Some r) → Says past child line name → Pairs o past by child job line (Some f) (Some (AskEvent child task r))
+pairs_led o past by child job line name f asked k task asks r is mine after reads =
+    let what : f.what ≡ Ask child k task asks = is ∙ ap (λ (c : ℕ). Ask c k task asks) mine in
+    subst (λ (w : What). Pairs o past by child job line (Some (entry f.by w)) (Some (AskEvent child task r))) (sym what) (pairs_ask o past by child job line name reads f.by k task asks r after)
+
+pub pairs_unled : (o : Opening) (past : List Entry) (by child job : ℕ) (line name : List ℕ) (f : Entry) (asked k task : ℕ) (asks : List ℕ) → f.what ≡ Ask asked k task asks → asked ≡ child
+    → AsksAfter name (host_reading (addressed past child asks).1) None → Says past child line name → Pairs o past by child job line (Some f) None
+pairs_unled o past by child job line name f asked k task asks is mine after reads =
+    let what : f.what ≡ Ask child k task asks = is ∙ ap (λ (c : ℕ). Ask c k task asks) mine in
+    subst (λ (w : What). Pairs o past by child job line (Some (entry f.by w)) None) (sym what) (pairs_unread o past by child job line name reads f.by k task asks after)
+
 -- nor another entry
 pub pairs_other : (o : Opening) (past : List Entry) (by child job : ℕ) (line : List ℕ) (f : Entry) → asks_job child job f.what ≡ false → Pairs o past by child job line (Some f) None
 pairs_other o past by child job line f other = record { first = λ may. inl refl; both = λ may g is due. absurd (go g is due) }
@@ -423,6 +436,12 @@ pairs_other o past by child job line f other = record { first = λ may. inl refl
         let d : IsLedBy o past by child job line f = subst (IsLedBy o past by child job line) (sym same) due in
         let no : false ≡ true = sym other ∙ (led_asks o past by child job line f d).1 in
         cc
+
+-- nor one that asks another child
+pub pairs_elsewhere : (o : Opening) (past : List Entry) (by child job : ℕ) (line : List ℕ) (f : Entry) (asked k task : ℕ) (asks : List ℕ) → f.what ≡ Ask asked k task asks → asked ≢ child
+    → Pairs o past by child job line (Some f) None
+pairs_elsewhere o past by child job line f asked k task asks is other =
+    pairs_other o past by child job line f (ap (asks_job child job) is ∙ (rw (differ asked child other) refl))
 
 pub pairs_nothing : (o : Opening) (past : List Entry) (by child job : ℕ) (line : List ℕ) → Pairs o past by child job line None None
 pairs_nothing o past by child job line = record { first = λ may. inl refl; both = λ may f is due. absurd cc }

@@ -1,10 +1,9 @@
 // The event that appends an entry, where one does.
-ghost use Rattle.std.specs.Prelude.{ℕ, ◌≡◌, List, IfOk, Some, false, option_map};
-ghost use Rattle.annex_model.specs.Messages.{Export, host_reading};
-ghost use Rattle.journal_model.specs.Journal.{addressed};
+ghost use Rattle.std.specs.Prelude.{ℕ, ◌≡◌, List, IfOk, IfSome, IsNone, Some, false, option_map};
+ghost use Rattle.journal_model.specs.Legality.{asks_job};
 ghost use Rattle.journal_model.specs.declared.entry.What.TheVariants.{Ask, Got, End, Lost};
 ghost use Rattle.journal_look.specs.Shown.{what_shown, entry_shown};
-ghost use Rattle.journal_audit.specs.Replays.{Pairs, SaysName, Suits, is_name};
+ghost use Rattle.journal_audit.specs.Replays.{Pairs, Says, SaysName, Suits, is_name};
 
 use crate::requests;
 use ann_key::{Bytes, NoMemory, Text};
@@ -69,7 +68,50 @@ fn end_event(alloc: Global, core: &Core, child: u32, why: Why) -> Result<Option<
     }
 }
 
+/// The child, the job, the task and the line of an entry that asks.
+fn asked_of(what: WhatRef<'_>) -> Option<(u32, u64, u32, &[u8])>
+    ensures some { IfSome result (λ a. what_shown what.entry ≡ Ask a.0 a.1 a.2 a.3.now) }
+    ensures none { IsNone result → (child job : ℕ) → asks_job child job (what_shown what.entry) ≡ false }
+{
+    match what {
+        WhatRef::Ask {
+            child,
+            job,
+            task,
+            line,
+        } => Some((child, job, task, line)),
+        _ => None,
+    }
+}
+
+/// The event that appends the name with this entry, where that is a request that may stand after it; and else any, or none.
+fn pair_of(
+    alloc: Global,
+    core: &Core,
+    child: u32,
+    name: &Text,
+    next: EntryRef<'_>,
+) -> Result<Option<Event>, NoMemory>
+    ensures { IfOk result (λ event. (by job : ℕ) → (line : List ℕ) → Says core.now.journal child line name.now → Pairs core.now.opening core.now.journal by child job line (Some (entry_shown next.entry)) event) }
+{
+    let Some((asked, _, task, line)) = asked_of(next.what) else {
+        return Ok(None);
+    };
+    if asked != child {
+        return Ok(None);
+    }
+    match requests::asked_after(alloc, core, child, name, line)? {
+        Some(request) => Ok(Some(Event::Ask {
+            child,
+            task,
+            request,
+        })),
+        None => Ok(None),
+    }
+}
+
 /// The event that appends the name with the request that comes next, where that may stand after it; and else any, or none.
+#[tactic(auto, using(crate::proofs::Suiting::pairs_nothing))]
 pub(super) fn pair_event(
     alloc: Global,
     core: &Core,
@@ -77,31 +119,11 @@ pub(super) fn pair_event(
     name: &Text,
     next: Option<EntryRef<'_>>,
 ) -> Result<Option<Event>, NoMemory>
-    ensures { IfOk result (λ event. (by job : ℕ) → (line : List ℕ) → host_reading (addressed core.now.journal child line).1 ≡ Some (Export name.now) → Pairs core.now.opening core.now.journal by child job line (option_map entry_shown next.entry) event) }
+    ensures { IfOk result (λ event. (by job : ℕ) → (line : List ℕ) → Says core.now.journal child line name.now → Pairs core.now.opening core.now.journal by child job line (option_map entry_shown next.entry) event) }
 {
-    let Some(next) = next else {
-        return Ok(None);
-    };
-    match next.what {
-        WhatRef::Ask {
-            child: asked,
-            task,
-            line,
-            ..
-        } => {
-            if asked != child {
-                return Ok(None);
-            }
-            match requests::asked_after(alloc, core, child, name, line)? {
-                Some(request) => Ok(Some(Event::Ask {
-                    child,
-                    task,
-                    request,
-                })),
-                None => Ok(None),
-            }
-        }
-        _ => Ok(None),
+    match next {
+        Some(next) => pair_of(alloc, core, child, name, next),
+        None => Ok(None),
     }
 }
 
@@ -113,7 +135,7 @@ pub(super) fn name_event(
     child: u32,
     name: &Text,
 ) -> Result<Option<Event>, NoMemory>
-    ensures { IfOk result (λ event. (job : ℕ) → (line : List ℕ) → host_reading (addressed core.now.journal child line).1 ≡ Some (Export name.now) → SaysName core.now.opening core.now.journal by child job line event) }
+    ensures { IfOk result (λ event. (job : ℕ) → (line : List ℕ) → Says core.now.journal child line name.now → SaysName core.now.opening core.now.journal by child job line event) }
 {
     let Some(task) = asking_task(core.journal(), by, child) else {
         return Ok(None);

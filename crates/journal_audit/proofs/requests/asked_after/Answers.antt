@@ -13,7 +13,7 @@ pub returns-in-Some-match : goal.returns-in-Some-match
 returns-in-Some-match c =
     after_named c.args.name.now (host_reading (addressed c.args.core.now.journal c.args.child c.args.line.now).1) (host_shown c.in-Some.message) c.in-Some-match.request c.in_ok-name.name c.with_name.result
     (c.in-Some.ensures.reading ∙ ap host_reading c.text_of.ensures) (read_asks c.in_ok-match.match (host_shown c.in-Some.message) c.in-Some-match.request c.in_ok-match.ensures.asks c.in-Some-match.is)
-    c.in_ok-name.ensures c.with_name.ensures.asks c.with_name.ensures.named c.with_name.ensures.none
+    (c.in_ok-name.ensures ∙ c.view.ensures) c.with_name.ensures.asks c.with_name.ensures.named c.with_name.ensures.none
 
 pub returns-in-None : goal.returns-in-None
 returns-in-None c =
