@@ -25,6 +25,7 @@ use Rattle.host_core.proofs.Opened.{turn_asks}
 use Rattle.talk_serial.specs.declared.request.Request.{Request}
 use Rattle.talk_serial.specs.declared.request.Request.TheVariants.{TransferExport, CheckExport, RemoveExport, RenameExport}
 use Rattle.talk_serial.specs.Requests.{message_of, name_of, is_request}
+use Rattle.talk_serial.proofs.Reading.{unnamed}
 use Rattle.host_core.specs.declared.event.Event.TheVariants.{Claim as ClaimEvent, Ask as AskEvent, Got as GotEvent}
 use Rattle.host_core.specs.declared.event.Reply.TheVariants.{Job}
 use Rattle.host_core.specs.Steps.{step_of, group_of, append, asking, odd, gone, is_named_well, next_job, next_on_wire, may_request}
@@ -38,14 +39,6 @@ live : (past : List Entry) (c : ℕ) → is_live past c ≡ true → (is_started
 live past c h =
     let t = both (is_started past c) (not (is_ended past c)) h in
     (t.0, is_not (is_ended past c) t.1)
-
--- a request of a message that needs no name says none
-unnamed : (r : Request) → has_lead (message_of r) ≡ false → name_of r ≡ None
-unnamed (TransferExport store key file name) h = absurd cc
-unnamed (CheckExport key name) h = absurd cc
-unnamed (RemoveExport key name) h = absurd cc
-unnamed (RenameExport key name onto) h = absurd cc
-unnamed r h = refl
 
 -- ---- the claim of the least free task
 
