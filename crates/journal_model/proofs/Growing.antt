@@ -49,6 +49,12 @@ asks_ask : (c j : ℕ) (w : What) → asks_job c j w ≡ true → is_ask w ≡ t
 asks_ask c j (Ask child job task line) h = refl
 asks_ask c j w h = absurd cc
 
+-- what comes where a request is due asks
+due_asks : (c j : ℕ) (numbered led may : Bool) (w : What) → (numbered && asks_job c j w && led && may) ≡ true → is_ask w ≡ true
+due_asks c j numbered led may w h =
+    let asking : Bool = numbered && asks_job c j w in
+    asks_ask c j w (both numbered (asks_job c j w) (both asking led (both (asking && led) may h).0).0).1
+
 -- none of the entries asks
 abbrev pub none_asks : List Entry → Bool
 none_asks xs = list_all (λ e. not (is_ask e.what)) xs
@@ -156,12 +162,22 @@ due_group o past e may plain = record {
         ∙ ap (λ (y : Entry). owed_from o (past ++ y ∷ []) (still_owed o past [] y) xs) first
         ∙ nothing)
 
+-- a request that a name leads is the one that is due
+led_due : (o : Opening) (past : List Entry) (by child job task : ℕ) (line : List ℕ) → needs_lead past (Ask child job task line) ≡ true
+    → may_come o past by (Ask child job task line) ≡ true
+    → IsDue o past (Ask child job 0 []) (entry by (Ask child job 0 [])) (entry by (Ask child job task line))
+led_due o past by child job task line led comes =
+    all (by == by) (child == child) (job == job) (needs_lead past (Ask child job task line)) (may_come o past by (Ask child job task line)) (same by) (same child) (same job) led comes
+  where
+    all : (a b c d e : Bool) → a ≡ true → b ≡ true → c ≡ true → d ≡ true → e ≡ true → (a && (b && c) && d && e) ≡ true
+    all a b c d e p q r s t = rw (p, q, r, s, t) refl
+
 -- and so are a name and the request that it leads
 pub pair_group : (o : Opening) (past : List Entry) (by child job task : ℕ) (name line : List ℕ) → Led o past by child job task name line
     → IsGroup o past (pair by child job task name line)
 pair_group o past by child job task name line l = record {
   some = λ h. cc;
-  stands = (l.first, (rw (same by, same child, same job, l.led, l.second) refl, tt));
+  stands = (l.first, (led_due o (past ++ entry by (Lead child job name) ∷ []) by child job task line l.led l.second, tt));
   whole = refl;
   one = one;
 }
@@ -190,86 +206,88 @@ pub record Steps (o : Opening) (P : List Entry → Type 0) : Type 0 where
   pub plain : (p : List Entry) (e : Entry) → P p → MayStand o p [] e → is_lead e.what ≡ false → P (p ++ e ∷ due_after o p e)
   pub pairs : (p : List Entry) (by child job task : ℕ) (name line : List ℕ) → P p → Led o p by child job task name line → P (p ++ pair by child job task name line)
 
+-- A name was said that may come, and a request that it leads is due.
+record Waiting (o : Opening) (P : List Entry → Type 0) (past owed : List Entry) : Type 0 where
+  front : List Entry
+  by : ℕ
+  child : ℕ
+  job : ℕ
+  name : List ℕ
+  is : past ≡ front ++ entry by (Lead child job name) ∷ []
+  owes : owed ≡ entry by (Ask child job 0 []) ∷ []
+  held : P front
+  may : may_come o front by (Lead child job name) ≡ true
+
+-- How far a group has come: what is due is known, and all of it is kept; or a name waits for its request.
+abbrev Stage : Opening → (List Entry → Type 0) → List Entry → List Entry → Type 0
+Stage o P past owed = ((none_asks owed ≡ true) × P (past ++ owed)) ⊎ Waiting o P past owed
+
 module _ (o : Opening) (P : List Entry → Type 0) (steps : Steps o P) where
-  -- what comes after the first entry of a group: more of it, or the next group
-  abbrev Later : List Entry → List Entry → Type 0
-  Later past rest = (owed : List Entry) → none_asks owed ≡ true → P (past ++ owed) → StandsFrom o past owed rest → owed_from o past owed rest ≡ [] → P (past ++ rest)
+  abbrev Comes : List Entry → ℕ → ℕ → ℕ → ℕ → List ℕ → Type 0
+  Comes past by child job task line =
+      needs_lead past (Ask child job task line) ≡ true → may_come o past by (Ask child job task line) ≡ true → P (past ++ entry by (Ask child job task line) ∷ [])
 
-  abbrev Nexts : List Entry → ℕ → What → List Entry → Type 0
-  Nexts past by w rest = StandsFrom o (past ++ entry by w ∷ []) (still_owed o past [] (entry by w)) rest
-      → owed_from o (past ++ entry by w ∷ []) (still_owed o past [] (entry by w)) rest ≡ [] → P (past ++ entry by w ∷ rest)
+  -- the request that a name leads
+  named_comes : (front : List Entry) (by child job : ℕ) (name : List ℕ) (b : ℕ) (w : What) → P front → may_come o front by (Lead child job name) ≡ true
+      → IsDue o (front ++ entry by (Lead child job name) ∷ []) (Ask child job 0 []) (entry by (Ask child job 0 [])) (entry b w)
+      → P ((front ++ entry by (Lead child job name) ∷ []) ++ entry b w ∷ [])
+  named_comes front by child job name b (Ask c j task line) held may due =
+      let lead : List Entry = entry by (Lead child job name) ∷ [] in
+      let mid : List Entry = front ++ lead in
+      let three = both _ _ due in
+      let two = both _ _ three.0 in
+      let one = both _ _ two.0 in
+      let number = both (c == child) (j == job) one.1 in
+      let its : Comes mid by child job task line =
+      λ led comes. subst P (sym (append_assoc front lead (entry by (Ask child job task line) ∷ [])))
+      (steps.pairs front by child job task name line held (record { first = may; led = led; second = comes })) in
+      let of_job : Comes mid by child j task line = subst (λ (x : ℕ). Comes mid by child x task line) (sym (same_number j job number.1)) its in
+      let of_child : Comes mid by c j task line = subst (λ (x : ℕ). Comes mid by x j task line) (sym (same_number c child number.0)) of_job in
+      let of_number : Comes mid b c j task line = subst (λ (x : ℕ). Comes mid x c j task line) (sym (same_number b by one.0)) of_child in
+      of_number two.1 three.1
+  named_comes front by child job name b w held may due =
+      absurd (let mid : List Entry = front ++ entry by (Lead child job name) ∷ [] in
+      let bad : is_ask w ≡ true = due_asks child job (b == by) (needs_lead mid w) (may_come o mid b w) w due in
+      cc)
 
-  plain_first : (past : List Entry) (e : Entry) (rest : List Entry) → P past → MayStand o past [] e → is_lead e.what ≡ false → Later (past ++ e ∷ []) rest
-      → StandsFrom o (past ++ e ∷ []) (still_owed o past [] e) rest → owed_from o (past ++ e ∷ []) (still_owed o past [] e) rest ≡ [] → P (past ++ e ∷ rest)
-  plain_first past e rest h may plain later s n =
-      let owes = unled o past e plain in
-      let there : P ((past ++ e ∷ []) ++ due_after o past e) = subst P (sym (append_assoc past (e ∷ []) (due_after o past e))) (steps.plain past e h may plain) in
-      subst P (append_assoc past (e ∷ []) rest)
-      (later (due_after o past e) (due_none_asks o past e) there
-      (subst (λ (ds : List Entry). StandsFrom o (past ++ e ∷ []) ds rest) owes s)
-      (subst (λ (ds : List Entry). owed_from o (past ++ e ∷ []) ds rest ≡ []) owes n))
+  -- an entry that may stand
+  first_comes : (past : List Entry) (by : ℕ) (w : What) → P past → MayStand o past [] (entry by w) → Stage o P (past ++ entry by w ∷ []) (still_owed o past [] (entry by w))
+  first_comes past by (Lead child job name) held may =
+      inr (record { front = past; by = by; child = child; job = job; name = name; is = refl; owes = refl; held = held; may = may })
+  first_comes past by w held may =
+      let e : Entry = entry by w in
+      let there : P ((past ++ e ∷ []) ++ due_after o past e) = subst P (sym (append_assoc past (e ∷ []) (due_after o past e))) (steps.plain past e held may refl) in
+      subst (λ (ds : List Entry). Stage o P (past ++ e ∷ []) ds) (sym (unled o past e refl)) (inl (due_none_asks o past e, there))
 
-  lead_first : (past : List Entry) (by child job : ℕ) (name : List ℕ) (a : Entry) (rest : List Entry) → P past → may_come o past by (Lead child job name) ≡ true
-      → Later ((past ++ entry by (Lead child job name) ∷ []) ++ a ∷ []) rest → Nexts past by (Lead child job name) (a ∷ rest)
-  lead_first past by child job name a rest h may later s n = go a.by a.what s.0 later s.1 n
+  next_comes : (past owed : List Entry) (e : Entry) → Stage o P past owed → MayStand o past owed e → Stage o P (past ++ e ∷ []) (still_owed o past owed e)
+  next_comes past [] e (inl h) may = first_comes past e.by e.what (subst P (append-nil past) h.1) may
+  next_comes past (d ∷ ds) e (inl h) may =
+      let q = no_request d ds h.0 in
+      inl (q.1, subst P (ap (λ (x : Entry). past ++ x ∷ ds) (sym (owed_is o past d e q.0 may)) ∙ sym (append_assoc past (e ∷ []) ds)) h.1)
+  next_comes past owed e (inr w) may = there
     where
-      l : Entry
-      l = entry by (Lead child job name)
+      mid : List Entry
+      mid = w.front ++ entry w.by (Lead w.child w.job w.name) ∷ []
 
-      go : (b : ℕ) (w : What) → (b == by && asks_job child job w && needs_lead (past ++ l ∷ []) w && may_come o (past ++ l ∷ []) b w) ≡ true
-          → Later ((past ++ l ∷ []) ++ entry b w ∷ []) rest → StandsFrom o ((past ++ l ∷ []) ++ entry b w ∷ []) [] rest
-          → owed_from o ((past ++ l ∷ []) ++ entry b w ∷ []) [] rest ≡ [] → P (past ++ l ∷ entry b w ∷ rest)
-      go b (Ask c j task line) due later s n =
-          let w : What = Ask c j task line in
-          let three = both _ _ due in
-          let two = both _ _ three.0 in
-          let one = both _ _ two.0 in
-          let number = both (c == child) (j == job) one.1 in
-          let there = held b c j task line (same_number b by one.0) (same_number c child number.0) (same_number j job number.1) two.1 three.1 in
-          let back = append_assoc past (l ∷ []) (entry b w ∷ []) in
-          subst P (append_assoc (past ++ l ∷ []) (entry b w ∷ []) rest ∙ append_assoc past (l ∷ []) (entry b w ∷ rest))
-          (later [] refl (subst P (sym (append-nil ((past ++ l ∷ []) ++ entry b w ∷ []))) (subst P (sym back) there)) s n)
-        where
-          held : (b c j task : ℕ) (line : List ℕ) → b ≡ by → c ≡ child → j ≡ job → needs_lead (past ++ l ∷ []) (Ask c j task line) ≡ true
-              → may_come o (past ++ l ∷ []) b (Ask c j task line) ≡ true → P (past ++ l ∷ entry b (Ask c j task line) ∷ [])
-          held b c j task line B C J led comes =
-              let at_b : P (past ++ l ∷ entry by (Ask child job task line) ∷ []) = steps.pairs past by child job task name line h record {
-                first = may;
-                led = subst (λ (x : ℕ). needs_lead (past ++ l ∷ []) (Ask x job task line) ≡ true) C (subst (λ (x : ℕ). needs_lead (past ++ l ∷ []) (Ask c x task line) ≡ true) J led);
-                second = subst (λ (x : ℕ). may_come o (past ++ l ∷ []) x (Ask child job task line) ≡ true) B
-                    (subst (λ (x : ℕ). may_come o (past ++ l ∷ []) b (Ask x job task line) ≡ true) C (subst (λ (x : ℕ). may_come o (past ++ l ∷ []) b (Ask c x task line) ≡ true) J comes));
-              } in
-              subst (λ (x : ℕ). P (past ++ l ∷ entry x (Ask c j task line) ∷ [])) (sym B)
-              (subst (λ (x : ℕ). P (past ++ l ∷ entry by (Ask x j task line) ∷ [])) (sym C)
-              (subst (λ (x : ℕ). P (past ++ l ∷ entry by (Ask child x task line) ∷ [])) (sym J) at_b))
-      go b w due later s n = absurd (let bad : is_ask w ≡ true = asks_ask child job w (both _ _ (both _ _ (both _ _ due).0).0).1 in cc)
+      due : IsDue o mid (Ask w.child w.job 0 []) (entry w.by (Ask w.child w.job 0 [])) e
+      due = subst (λ (p : List Entry). MayStand o p (entry w.by (Ask w.child w.job 0 []) ∷ []) e) w.is (subst (λ (ds : List Entry). MayStand o past ds e) w.owes may)
+
+      held : P ((past ++ e ∷ []) ++ [])
+      held =
+          subst P (sym (append-nil (past ++ e ∷ [])))
+          (subst (λ (p : List Entry). P (p ++ e ∷ [])) (sym w.is) (named_comes w.front w.by w.child w.job w.name e.by e.what w.held w.may due))
+
+      there : Stage o P (past ++ e ∷ []) (still_owed o past owed e)
+      there = subst (λ (ds : List Entry). Stage o P (past ++ e ∷ []) (still_owed o past ds e)) (sym w.owes) (inl (refl, held))
+
+  stages : (past owed rest : List Entry) → Stage o P past owed → StandsFrom o past owed rest → owed_from o past owed rest ≡ [] → P (past ++ rest)
+  stages past owed [] (inl h) s n = subst (λ (ds : List Entry). P (past ++ ds)) n h.1
+  stages past owed [] (inr w) s n = absurd (let bad : entry w.by (Ask w.child w.job 0 []) ∷ [] ≡ [] = sym w.owes ∙ n in cc)
+  stages past owed (e ∷ rest) stage s n =
+      subst P (append_assoc past (e ∷ []) rest) (stages (past ++ e ∷ []) (still_owed o past owed e) rest (next_comes past owed e stage s.0) s.1 n)
 
   pub groups_from : (past owed rest : List Entry) → none_asks owed ≡ true → P (past ++ owed) → StandsFrom o past owed rest → owed_from o past owed rest ≡ [] → P (past ++ rest)
-  groups_from past [] [] real h s n = h
-  groups_from past (d ∷ ds) [] real h s n = absurd (cc)
-  groups_from past (d ∷ ds) (e ∷ rest) real h s n =
-      let q = no_request d ds real in
-      let is : e ≡ d = owed_is o past d e q.0 s.0 in
-      let h' : P ((past ++ e ∷ []) ++ ds) = subst P (ap (λ (x : Entry). past ++ x ∷ ds) (sym is) ∙ sym (append_assoc past (e ∷ []) ds)) h in
-      subst P (append_assoc past (e ∷ []) rest) (groups_from (past ++ e ∷ []) ds rest q.1 h' s.1 n)
-  groups_from past [] (e ∷ []) real h s n = by_kind e.by e.what s.0 n
-    where
-      by_kind : (by : ℕ) (w : What) → MayStand o past [] (entry by w) → still_owed o past [] (entry by w) ≡ [] → P (past ++ entry by w ∷ [])
-      by_kind by (Lead child job name) may n = absurd (cc)
-      by_kind by w may n =
-          subst (λ (ds : List Entry). P (past ++ entry by w ∷ ds)) (sym (unled o past (entry by w) refl) ∙ n)
-          (steps.plain past (entry by w) (subst P (append-nil past) h) may refl)
-  groups_from past [] (e ∷ a ∷ rest) real h s n =
-      by_kind e.by e.what s.0 (λ owed q k t m. groups_from (past ++ e ∷ []) owed (a ∷ rest) q k t m)
-      (λ owed q k t m. groups_from ((past ++ e ∷ []) ++ a ∷ []) owed rest q k t m) s.1 n
-    where
-      here : P past
-      here = subst P (append-nil past) h
-
-      by_kind : (by : ℕ) (w : What) → MayStand o past [] (entry by w) → Later (past ++ entry by w ∷ []) (a ∷ rest)
-          → Later ((past ++ entry by w ∷ []) ++ a ∷ []) rest → Nexts past by w (a ∷ rest)
-      by_kind by (Lead child job name) may next later s n = lead_first past by child job name a rest here may later s n
-      by_kind by w may next later s n = plain_first past (entry by w) (a ∷ rest) here may refl next s n
+  groups_from past owed rest real h s n = stages past owed rest (inl (real, h)) s n
 
 -- what holds of the empty journal, and is kept by each group of a legal journal, holds of each legal journal
 pub groups_induction : (o : Opening) (P : List Entry → Type 0) → P []
@@ -408,7 +426,10 @@ module _ (o : Opening) (past : List Entry) where
     where
       go : (b : ℕ) (w : What) → IsDue o (past ++ entry by (Lead child job name) ∷ []) (Ask child job 0 []) (entry by (Ask child job 0 [])) (entry b w) → P (entry b w ∷ [])
       go b (Ask c j t line) due = ask b c j t line
-      go b w due = absurd (let bad : is_ask w ≡ true = asks_ask child job w (both _ _ (both _ _ (both _ _ due).0).0).1 in cc)
+      go b w due =
+          absurd (let mid : List Entry = past ++ entry by (Lead child job name) ∷ [] in
+          let bad : is_ask w ≡ true = due_asks child job (b == by) (needs_lead mid w) (may_come o mid b w) w due in
+          cc)
 
 -- ---- the other forms
 

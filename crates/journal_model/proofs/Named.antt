@@ -1,11 +1,11 @@
 -- A name at a journal's end says nothing of a child or a task: what may be asked there may be asked without it.
-use Rattle.std.proofs.Common.{◌≡◌, ◌∙◌, ℕ, zero, suc, ◌+◌, ◌<◌, List, [], ◌∷◌, ◌++◌, refl, sym, ap, subst, Bool, true, false, not, ◌==◌, cond, Some, None, Option, length, append-nil, arith, inl, inr}
+use Rattle.std.proofs.Common.{◌≡◌, ◌∙◌, ℕ, zero, suc, List, [], ◌∷◌, ◌++◌, refl, sym, ap, subst, Bool, true, false, not, ◌==◌, cond, Some, None, Option, length, append-nil, inl, inr}
 use Rattle.std.specs.Prelude.{◌&&◌, ◌||◌, ◌⊎◌, filter, fold, slice_get, bytes_eq}
 use Rattle.std.specs.List.{list_any, cons_option}
 use Rattle.annex_model.specs.Extensions.{names_of}
-use Rattle.annex_model.specs.Messages.{HostMessage, AskExtensions, host_line, host_reading}
+use Rattle.annex_model.specs.Messages.{HostMessage, AskExtensions, host_line, host_reading, remote_reading}
 use Rattle.annex_model.specs.Tags.{names_async, untag, tagged_line}
-use Rattle.annex_model.specs.Messages.{remote_reading}
+use Rattle.annex_model.specs.Turns.{turn_of, is_at}
 use Rattle.journal_model.specs.declared.holder.Holder.{Holder}
 use Rattle.journal_model.specs.declared.verdict.Verdict.{Verdict}
 use Rattle.journal_model.specs.declared.verdict.Verdict.TheVariants.{Done as DoneAt, Failed, Absent, Unknown, Unsupported, Ended, Unsent}
@@ -14,10 +14,9 @@ use Rattle.journal_model.specs.declared.entry.What.{What}
 use Rattle.journal_model.specs.declared.entry.What.TheVariants.{Claim, Start, NoStart, Lead, Ask, Put, Sent, Mute, Got, End, Verdict as Settled, Lost, Answer as Answered, Note as Noted}
 use Rattle.journal_model.specs.declared.entry.Entry.{Entry}
 use Rattle.journal_model.specs.Journal.{any, each_of, first_of, offers, got_line, line_at, accepts_async, is_tagged, starts, ends, mutes, settles, asks, verdict_in, line_from, asked_jobs, open_jobs, is_open, is_settled, is_started, is_ended, is_mute, is_live, got_lines, verdict_of, addressed, by_tag, on_wire}
-use Rattle.journal_model.specs.Legality.{may_come, may_ask, may_work, is_greeted, is_prepared, said_version, prepares, is_claimed_by, is_held_by, is_held_for, is_busy_with, has_open_job, job_for, holder, turned, turned_by, claimed_for, is_empty, asks_in_turn, is_in_turn, suits_child, offered_names, is_done}
+use Rattle.journal_model.specs.Legality.{may_come, may_ask, may_work, is_greeted, is_prepared, said_version, prepares, is_claimed_by, is_held_by, is_held_for, is_busy_with, has_open_job, job_for, holder, turned, turned_by, claimed_for, is_empty, asks_in_turn, is_in_turn, suits_child, is_done}
 use Rattle.journal_model.proofs.Looks.{entry, same_number, any-append, each_of-append}
 use Rattle.journal_model.proofs.Working.{holder_apart}
-
 
 or_false : (b : Bool) → (b || false) ≡ b
 or_false true = refl
@@ -26,6 +25,16 @@ or_false false = refl
 or_right : (b c : Bool) → c ≡ true → (b || c) ≡ true
 or_right true c h = refl
 or_right false c h = h
+
+-- tests of equal parts are equal
+and_three : (a a' b b' c c' : Bool) → a ≡ a' → b ≡ b' → c ≡ c' → (a && b && c) ≡ (a' && b' && c')
+and_three a a' b b' c c' p q r = rw (p, q, r) refl
+
+and_five : (a a' b b' c c' d d' e e' : Bool) → a ≡ a' → b ≡ b' → c ≡ c' → d ≡ d' → e ≡ e' → (a && b && c && d && e) ≡ (a' && b' && c' && d' && e')
+and_five a a' b b' c c' d d' e e' p q r s t = rw (p, q, r, s, t) refl
+
+choice_of_three : (a b x x' y y' z z' : Bool) → x ≡ x' → y ≡ y' → z ≡ z' → cond a x (cond b y z) ≡ cond a x' (cond b y' z')
+choice_of_three a b x x' y y' z z' p q r = rw (p, q, r) refl
 
 pub filter_alike : (p q : ℕ → Bool) → ((j : ℕ) → p j ≡ q j) → (xs : List ℕ) → filter p xs ≡ filter q xs
 filter_alike p q e [] = refl
@@ -91,8 +100,8 @@ module _ (past : List Entry) (by child job : ℕ) (name : List ℕ) where
   same_any p h = any-append p past (entry by (Lead child job name) ∷ []) ∙ ap (λ (b : Bool). any p past || (b || false)) h ∙ or_false (any p past)
 
   same_each : {X : Type 0} (f : What → Option X) → f (Lead child job name) ≡ None → each_of f named ≡ each_of f past
-  same_each f h =
-      each_of-append f past (entry by (Lead child job name) ∷ []) ∙ ap (λ (o : Option _). each_of f past ++ cons_option o []) h ∙ append-nil (each_of f past)
+  same_each {X = X} f h =
+      each_of-append f past (entry by (Lead child job name) ∷ []) ∙ ap (λ (o : Option X). each_of f past ++ cons_option o []) h ∙ append-nil (each_of f past)
 
   pub same_verdict : (c j : ℕ) → verdict_of named c j ≡ verdict_of past c j
   same_verdict c j = ap first_of (same_each (verdict_in c j) refl)
@@ -158,29 +167,46 @@ module _ (past : List Entry) (by child job : ℕ) (name : List ℕ) where
 
   pub same_turn : (c j : ℕ) (line : List ℕ) (r : Option HostMessage) → asks_in_turn named c j line r ≡ asks_in_turn past c j line r
   same_turn c j line None = refl
-  same_turn c j line (Some q) = rw (same_suits c q, same_wire c j (host_line q)) refl
+  same_turn c j line (Some q) =
+      ap (λ (b : Bool). (is_at (turn_of q) j && b) && bytes_eq line (on_wire named c j (host_line q))) (same_suits c q)
+      ∙ ap (λ (l : List ℕ). is_in_turn past c j q && bytes_eq line l) (same_wire c j (host_line q))
 
   same_greeted : (c j : ℕ) → is_greeted named c j ≡ is_greeted past c j
   same_greeted c j =
       let lines : got_lines named c ≡ got_lines past c = same_each (line_from c) refl in
-      let settled = same_settled c 0 in
-      let second = same_verdict c 1 in
-      let prepared = same_any (prepares c) refl in
-      rw (lines, settled, second, prepared) refl
+      let version : said_version named c ≡ said_version past c = rw lines refl in
+      let prepared : is_prepared named c ≡ is_prepared past c =
+      ap (λ (v : Option Verdict). is_done v && any (prepares c) named) (same_verdict c 1) ∙ ap (λ (b : Bool). is_done (verdict_of past c 1) && b) (same_any (prepares c) refl) in
+      choice_of_three (j == 0) (j == 1) (said_version named c) (said_version past c) (is_settled named c 0) (is_settled past c 0) (is_prepared named c) (is_prepared past c)
+      version (same_settled c 0) prepared
 
   same_work : (t c : ℕ) → may_work named by t c ≡ may_work past by t c
-  same_work t c = rw (same_holder t, same_job t) refl
+  same_work t c =
+      ap (λ (h : Option Holder). (t == 0 && by == 0) || (is_held_by by h && is_held_for c h && not (has_open_job named t))) (same_holder t)
+      ∙ ap (λ (b : Bool). (t == 0 && by == 0) || (is_claimed_by past by t && is_busy_with past c t && not b)) (same_job t)
 
   pub same_may_ask : (t c : ℕ) → may_ask named by t c ≡ may_ask past by t c
-  same_may_ask t c = rw (same_asked c, same_greeted c (length (asked_jobs past c)), same_work t c, same_tag c, same_open c) refl
+  same_may_ask t c =
+      let jobs = asked_jobs past c in
+      and_three (is_greeted named c (length (asked_jobs named c))) (is_greeted past c (length jobs)) (may_work named by t c) (may_work past by t c)
+      (is_tagged named c || is_empty (open_jobs named c)) (is_tagged past c || is_empty (open_jobs past c))
+      (ap (λ (ks : List ℕ). is_greeted named c (length ks)) (same_asked c) ∙ same_greeted c (length jobs))
+      (same_work t c)
+      (ap (λ (b : Bool). b || is_empty (open_jobs named c)) (same_tag c) ∙ ap (λ (ks : List ℕ). is_tagged past c || is_empty ks) (same_open c))
 
   -- a request may come after a name exactly where it may without it
   pub same_ask : (o : Opening) (c j t : ℕ) (line : List ℕ) → may_come o named by (Ask c j t line) ≡ may_come o past by (Ask c j t line)
   same_ask o c j t line =
       let started : is_started named c ≡ is_started past c = same_any (starts c) refl in
       let ended : is_ended named c ≡ is_ended past c = same_any (ends c) refl in
-      let mute : is_mute named c ≡ is_mute past c = same_any (mutes c) refl in
-      rw (started, ended, mute, same_asked c, same_addressed c line, same_turn c j line (host_reading (addressed past c line).1), same_may_ask t c) refl
+      let read : Option HostMessage = host_reading (addressed past c line).1 in
+      and_five (is_live named c) (is_live past c) (not (is_mute named c)) (not (is_mute past c)) (j == length (asked_jobs named c)) (j == length (asked_jobs past c))
+      (asks_in_turn named c j line (host_reading (addressed named c line).1)) (asks_in_turn past c j line read) (may_ask named by t c) (may_ask past by t c)
+      (ap (λ (b : Bool). b && not (is_ended named c)) started ∙ ap (λ (b : Bool). is_started past c && not b) ended)
+      (ap not (same_any (mutes c) refl))
+      (ap (λ (ks : List ℕ). j == length ks) (same_asked c))
+      (ap (λ (a : Option ℕ × List ℕ). asks_in_turn named c j line (host_reading a.1)) (same_addressed c line) ∙ same_turn c j line read)
+      (same_may_ask t c)
 
 -- ---- a name may be said where a request may be asked
 

@@ -1,5 +1,5 @@
 -- A job's verdict is one that its request may have.
-use Rattle.std.proofs.Common.{◌≡◌, ℕ, List, [], ◌∷◌, ◌++◌, refl, sym, ap, subst, ◌∙◌, not, false, Some, None, Option, length}
+use Rattle.std.proofs.Common.{◌≡◌, ℕ, List, [], ◌∷◌, ◌++◌, refl, sym, ap, subst, ◌∙◌, not, true, false, Some, None, Option, length}
 use Rattle.std.specs.Prelude.{IfSome}
 use Rattle.journal_model.specs.declared.verdict.Verdict.{Verdict}
 use Rattle.annex_model.specs.declared.final_line.Final.{Final}
