@@ -30,25 +30,6 @@ none_found p (y ∷ ys) h = go (p y) refl h
     go true e h = absurd cc
     go false e h = none_found p ys h
 
--- ---- the entries that claim a task
-
-any_of_one : (q : ℕ → Bool) (o : Option ℕ) (xs : List ℕ) → list_any q (cons_option o []) ≡ false → list_any q xs ≡ false → list_any q (cons_option o xs) ≡ false
-any_of_one q None xs h r = r
-any_of_one q (Some n) xs h r = go (q n) h
-  where
-    go : (b : Bool) → (b || false) ≡ false → (b || list_any q xs) ≡ false
-    go true h = absurd cc
-    go false h = r
-
-pub none_each : (q : ℕ → Bool) (f : What → Option ℕ) (past : List Entry) → list_any (λ e. list_any q (cons_option (f e.what) [])) past ≡ false → list_any q (each_of f past) ≡ false
-none_each q f [] h = refl
-none_each q f (e ∷ past) h = go (list_any q (cons_option (f e.what) [])) refl h
-  where
-    go : (b : Bool) → list_any q (cons_option (f e.what) []) ≡ b → (b || list_any (λ (x : Entry). list_any q (cons_option (f x.what) [])) past) ≡ false
-        → list_any q (cons_option (f e.what) (each_of f past)) ≡ false
-    go true is h = absurd cc
-    go false is h = any_of_one q (f e.what) (each_of f past) is (none_each q f past h)
-
 -- ---- no task at all
 
 never : (b : Bool) → (b ≡ true → ⊥) → b ≡ false

@@ -1,6 +1,6 @@
 // What the journal says of the tasks.
-ghost use Rattle.std.specs.Prelude.{ℕ, ◌≡◌, ◌⊎◌, ◌≤◌, ◌<◌, ◌-◌, ◌^◌, ◌&&◌, [], filter, find, length, not, false, true, None, Some, IfSome, IsNone};
-ghost use Rattle.std.specs.List.{list_any, list_all, range_with_len, cons_option};
+ghost use Rattle.std.specs.Prelude.{ℕ, ◌≡◌, ◌≤◌, ◌<◌, ◌-◌, ◌^◌, ◌&&◌, filter, find, length, not, false, true, IfSome, IsNone};
+ghost use Rattle.std.specs.List.{list_any, list_all, range_with_len};
 ghost use Rattle.journal_model.specs.Limits.{most_tasks};
 ghost use Rattle.journal_model.specs.Legality.{is_claimed, holder, is_busy, task_of, both_conflict, numbers_of, is_free, least_free, is_claimed_by, is_held_for, has_open_job, may_work, has_busy_task, claimed_for};
 ghost use Rattle.journal_model.specs.Journal.{each_of};
@@ -10,9 +10,9 @@ ghost use Rattle.journal_look.specs.Marks.{AreClaimed};
 use crate::held::{self, Held};
 use crate::jobs;
 use crate::journal::Journal;
-use journal_model::{Entry, Holder, Opening, What};
+use journal_model::{Entry, Holder, Opening};
 use journal_scan::claims::{
-    has_busy, has_open, holder, is_busy, is_claimed, is_held_by, is_held_for,
+    claimed_for, has_busy, has_open, holder, is_busy, is_claimed, is_held_by, is_held_for,
 };
 use journal_scan::conflicts::both_conflict;
 
@@ -155,40 +155,15 @@ fn held_work(journal: &Journal, held: &[Held], by: u32, child: u32) -> Option<u3
     }
 }
 
-/// Whether the entry claims a task for the child, for which the number may make a request over it.
-fn is_work(journal: &Journal, what: &What, by: u32, child: u32) -> bool
-    ensures { result ≡ list_any (λ t. may_work journal.now.entries by t child) (cons_option (claimed_for child what.now) []) }
-{
-    match what {
-        What::Claim { task, child: held } => *held == child && may_work(journal, by, *task, child),
-        _ => false,
-    }
-}
-
-/// The task that the entry claims, if it claims one.
-fn claimed_task(what: &What) -> Option<u32>
-    ensures some { (c : ℕ) → IfSome result (λ t. (claimed_for c what.now ≡ None) ⊎ (claimed_for c what.now ≡ Some t)) }
-    ensures none { (c : ℕ) → IsNone result → claimed_for c what.now ≡ None }
-{
-    match what {
-        What::Claim { task, .. } => Some(*task),
-        _ => None,
-    }
-}
-
-/// The task of the first entry that claims one for the child, for which the number may make a request over it.
+/// The first task that was claimed for the child and for which the number may make a request over it.
 fn first_work(journal: &Journal, by: u32, child: u32) -> Option<u32>
-    ensures some { IfSome result (λ t. may_work journal.now.entries by t child ≡ true) }
-    ensures none { IsNone result → list_any (λ t. may_work journal.now.entries by t child) (each_of (claimed_for child) journal.now.entries) ≡ false }
+    ensures { result ≡ find (λ t. may_work journal.now.entries by t child) (each_of (claimed_for child) journal.now.entries) }
 {
-    match journal
+    journal
         .entries()
         .iter()
-        .find(|e| is_work(journal, &e.what, by, child))
-    {
-        Some(e) => claimed_task(&e.what),
-        None => None,
-    }
+        .filter_map(|e| claimed_for(&e.what, child))
+        .find(|t| may_work(journal, by, *t, child))
 }
 
 /// A task for which the number may make a request over the child: its own work for task 0, or a task that it holds.
