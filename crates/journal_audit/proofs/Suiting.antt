@@ -28,7 +28,7 @@ use Rattle.talk_serial.specs.Requests.{message_of, name_of, is_request}
 use Rattle.talk_serial.proofs.Reading.{unnamed}
 use Rattle.host_core.specs.declared.event.Event.TheVariants.{Claim as ClaimEvent, Ask as AskEvent, Got as GotEvent}
 use Rattle.host_core.specs.declared.event.Reply.TheVariants.{Job}
-use Rattle.host_core.specs.Steps.{step_of, group_of, append, asking, odd, gone, is_named_well, next_job, next_on_wire, may_request}
+use Rattle.host_core.specs.Steps.{Step, step_of, group_of, append, asking, odd, gone, is_named_well, next_job, next_on_wire, may_request}
 use Rattle.journal_audit.specs.Replays.{AsksAfter, IsLedBy, MayBeNext, Pairs, Says, SaysName, Suits, name_in}
 
 is_not : (b : Bool) → not b ≡ true → b ≡ false
@@ -75,6 +75,23 @@ read_none o m none is = none (subst (λ (x : Option Request). IsNone x) (sym is)
 
 -- ---- what an event that asks appends, where the child is there
 
+-- a step by its tests
+may_be_asked : (may well ended mute : Bool) (lost made : Step) → may ≡ true → well ≡ true → ended ≡ false → mute ≡ false → (cond (may && well) (cond (ended || mute) lost made) odd).group ≡ made.group
+may_be_asked true true false false lost made p q r s = refl
+may_be_asked true true false true lost made p q r s = absurd cc
+may_be_asked true true true mute lost made p q r s = absurd cc
+may_be_asked true false ended mute lost made p q r s = absurd cc
+may_be_asked false well ended mute lost made p q r s = absurd cc
+
+may_be_lost : (may gone : Bool) (lost made : Step) → may ≡ true → gone ≡ true → (cond (may && true) (cond gone lost made) odd).group ≡ lost.group
+may_be_lost true true lost made p q = refl
+may_be_lost true false lost made p q = absurd cc
+may_be_lost false gone lost made p q = absurd cc
+
+may_not : (may : Bool) (s : Step) → may ≡ false → (cond may s odd).group ≡ []
+may_not true s h = absurd cc
+may_not false s h = refl
+
 module _ (o : Opening) (past : List Entry) (by child task : ℕ) (r : Request) (q : HostMessage) (n : Option (List ℕ)) (is : message_of r ≡ q) (says : name_of r ≡ n) where
   abbrev Stepped : HostMessage → Option (List ℕ) → List Entry
   Stepped x k = (cond (may_request past by task child x && is_named_well k) (cond (is_ended past child || is_mute past child) (append o past by (Lost child task) (gone past child))
@@ -88,10 +105,17 @@ module _ (o : Opening) (past : List Entry) (by child task : ℕ) (r : Request) (
 
   asked : may_request past by task child q ≡ true → is_named_well n ≡ true → is_ended past child ≡ false → is_mute past child ≡ false
       → (step_of o past by (AskEvent child task r)).group ≡ made_by by (asking past task child n q)
-  asked may well e m = stepped ∙ rw (may, well, e, m) refl
+  asked may well e m =
+      stepped
+      ∙ may_be_asked (may_request past by task child q) (is_named_well n) (is_ended past child) (is_mute past child) (append o past by (Lost child task) (gone past child))
+      (record { reply = Job (next_job past child); group = made_by by (asking past task child n q) }) may well e m
 
   refused : (may_request past by task child q && is_named_well n) ≡ false → (step_of o past by (AskEvent child task r)).group ≡ []
-  refused no = stepped ∙ rw no refl
+  refused never =
+      stepped
+      ∙ may_not (may_request past by task child q && is_named_well n)
+      (cond (is_ended past child || is_mute past child) (append o past by (Lost child task) (gone past child))
+      (record { reply = Job (next_job past child); group = made_by by (asking past task child n q) })) never
 
 -- the parts of what is said of a request that may come
 module _ (o : Opening) (past : List Entry) (by child job task : ℕ) (line : List ℕ) (may : may_come o past by (Ask child job task line) ≡ true) where
@@ -174,7 +198,9 @@ suits_lost o past by child task r next = λ h. (
     let t = both (is_started past child && (is_ended past child || is_mute past child)) (may_ask past by task child) h in
     let u = both (is_started past child) (is_ended past child || is_mute past child) t.0 in
     let request : may_request past by task child (message_of r) ≡ true = rw (u.0, t.1, next.turn, next.askable) refl in
-    stepped o past by child task r (message_of r) None refl next.plain ∙ rw (request, u.1) refl)
+    stepped o past by child task r (message_of r) None refl next.plain
+    ∙ may_be_lost (may_request past by task child (message_of r)) (is_ended past child || is_mute past child) (append o past by (Lost child task) (gone past child))
+    (record { reply = Job (next_job past child); group = made_by by (asking past task child None (message_of r)) }) request u.1)
 
 -- ---- a name
 
@@ -263,7 +289,7 @@ pub no_name : (o : Opening) (past : List Entry) (by child : ℕ) (name : List �
     → host_reading (addressed past child line).1 ≡ Some (Export name) → SaysName o past by child job line None
 no_name o past by child name none job line reads = λ may. absurd (
     let lead = (name_lead o past by child job line name reads may).1 in
-    let no : false ≡ true = sym (nobody _) ∙ lead in
+    let no : false ≡ true = sym (nobody (0 ∷ each_of (claimed_for child) past)) ∙ lead in
     cc)
   where
     nobody : (xs : List ℕ) → list_any (λ (t : ℕ). may_ask past by t child) xs ≡ false
@@ -311,10 +337,10 @@ pub after_unread : (name : List ℕ) (reading : Option HostMessage) → None ≡
 after_unread name reading none = λ q is. absurd (let bad : None ≡ Some q = none ∙ is in cc)
 
 pub after_none : (name : List ℕ) (reading : Option HostMessage) (m : HostMessage) → Some m ≡ reading → is_request m ≡ false → AsksAfter name reading None
-after_none name reading m is no = λ q there. (
+after_none name reading m is never = λ q there. (
     let found : Some m ≡ Some q = is ∙ there in
     let same : m ≡ q = cc in
-    subst (λ (x : HostMessage). (has_lead x && is_request x) ≡ false) same (right (has_lead m) (is_request m) no))
+    subst (λ (x : HostMessage). (has_lead x && is_request x) ≡ false) same (right (has_lead m) (is_request m) never))
   where
     right : (a b : Bool) → b ≡ false → (a && b) ≡ false
     right true b h = h
