@@ -1,8 +1,7 @@
 -- A task for which a number may make a request.
 use Rattle.std.proofs.Common.{◌≡◌, ◌∙◌, ℕ, List, [], ◌∷◌, ◌++◌, refl, sym, ap, subst, Bool, true, false, cond, Option, Some, None, inl, inr}
-use Rattle.std.specs.Prelude.{◌==◌, ◌&&◌, ◌||◌, ◌⊎◌, not, find, option_map, is_some}
-use Rattle.std.specs.List.{list_any, cons_option}
-use Rattle.journal_model.specs.declared.entry.What.{What}
+use Rattle.std.specs.Prelude.{◌==◌, ◌&&◌, ◌||◌, ◌⊎◌, not, find, option_map, is_some, IfSome, IsNone}
+use Rattle.std.specs.List.{list_any}
 use Rattle.journal_model.specs.declared.entry.Entry.{Entry}
 use Rattle.journal_model.specs.Journal.{each_of}
 use Rattle.journal_model.specs.Legality.{claimed_for, has_open_job, holder, is_busy_with, is_claimed_by, is_held_for, may_work}
@@ -16,19 +15,28 @@ use Rattle.journal_look.proofs.InWay.{found_any, held_found}
 
 pub found_so : {X : Type 0} (p : X → Bool) (xs : List X) (x : X) → find p xs ≡ Some x → p x ≡ true
 found_so p [] x h = absurd cc
-found_so p (y ∷ ys) x h = go (p y) refl h
+found_so {X = X} p (y ∷ ys) x h = go (p y) refl h (found_so p ys x)
   where
-    go : (b : Bool) → p y ≡ b → cond b (Some y) (find p ys) ≡ Some x → p x ≡ true
-    go true e h = let same : y ≡ x = cc in subst (λ z. p z ≡ true) same e
-    go false e h = found_so p ys x h
+    go : (b : Bool) → p y ≡ b → cond b (Some y) (find p ys) ≡ Some x → (find p ys ≡ Some x → p x ≡ true) → p x ≡ true
+    go true e h r = let same : y ≡ x = cc in subst (λ (z : X). p z ≡ true) same e
+    go false e h r = r h
 
 pub none_found : {X : Type 0} (p : X → Bool) (xs : List X) → find p xs ≡ None → list_any p xs ≡ false
 none_found p [] h = refl
-none_found p (y ∷ ys) h = go (p y) refl h
+none_found p (y ∷ ys) h = go (p y) h (none_found p ys)
   where
-    go : (b : Bool) → p y ≡ b → cond b (Some y) (find p ys) ≡ None → (b || list_any p ys) ≡ false
-    go true e h = absurd cc
-    go false e h = none_found p ys h
+    go : (b : Bool) → cond b (Some y) (find p ys) ≡ None → (find p ys ≡ None → list_any p ys ≡ false) → (b || list_any p ys) ≡ false
+    go true h r = absurd cc
+    go false h r = r h
+
+-- the same of what is found
+pub find_some : (p : ℕ → Bool) (xs : List ℕ) (o : Option ℕ) → o ≡ find p xs → IfSome o (λ t. p t ≡ true)
+find_some p xs None h = tt
+find_some p xs (Some x) h = found_so p xs x (sym h)
+
+pub find_none : (p : ℕ → Bool) (xs : List ℕ) (o : Option ℕ) → o ≡ find p xs → IsNone o → list_any p xs ≡ false
+find_none p xs None h none = none_found p xs (sym h)
+find_none p xs (Some x) h none = absurd cc
 
 -- ---- no task at all
 

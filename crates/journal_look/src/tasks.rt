@@ -1,5 +1,5 @@
 // What the journal says of the tasks.
-ghost use Rattle.std.specs.Prelude.{ℕ, ◌≡◌, ◌≤◌, ◌<◌, ◌-◌, ◌^◌, ◌&&◌, filter, find, length, not, false, true, IfSome, IsNone};
+ghost use Rattle.std.specs.Prelude.{ℕ, ◌≡◌, ◌≤◌, ◌<◌, ◌-◌, ◌^◌, ◌&&◌, filter, find, length, not, false, true, IfSome, IsNone, option_copied};
 ghost use Rattle.std.specs.List.{list_any, list_all, range_with_len};
 ghost use Rattle.journal_model.specs.Limits.{most_tasks};
 ghost use Rattle.journal_model.specs.Legality.{is_claimed, holder, is_busy, task_of, both_conflict, numbers_of, is_free, least_free, is_claimed_by, is_held_for, has_open_job, may_work, has_busy_task, claimed_for};
@@ -143,13 +143,19 @@ pub(super) fn may_work(journal: &Journal, by: u32, task: u32, child: u32) -> boo
             && !has_open_job(journal, task)
 }
 
+/// The first of the held tasks for which the number may make a request over the child, with its holder.
+fn find_work<'a>(journal: &Journal, held: &'a [Held], by: u32, child: u32) -> Option<&'a Held>
+    ensures { option_copied result ≡ find (λ h. may_work journal.now.entries by h.task child) held.entry.now }
+{
+    held.iter().find(|h| may_work(journal, by, h.task, child))
+}
+
 /// The first of the held tasks for which the number may make a request over the child.
-#[tactic(auto, using(crate::proofs::Working::found_so, crate::proofs::Working::none_found))]
 fn held_work(journal: &Journal, held: &[Held], by: u32, child: u32) -> Option<u32>
     ensures some { IfSome result (λ t. may_work journal.now.entries by t child ≡ true) }
     ensures none { IsNone result → list_any (λ h. may_work journal.now.entries by h.task child) held.now ≡ false }
 {
-    match held.iter().find(|h| may_work(journal, by, h.task, child)) {
+    match find_work(journal, held, by, child) {
         Some(h) => Some(h.task),
         None => None,
     }
