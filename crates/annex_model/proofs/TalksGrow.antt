@@ -94,13 +94,17 @@ Talking-aside replies q part at text rs aside replied h =
     rw aside (ap (λ xs. shown i ∷ xs) (shown_hosts rs ∙ ap (map (λ line. (Host, line))) replied) ∙ sym (append-nil (shown i ∷ map (λ line. (Host, line)) (replies at)))) in
     let lead : List (List ℕ) = h.replied.lead in
     record {
-      replied = record { lead = lead; leads = h.replied.leads; lines =
-          map-append shown part (i ∷ map from_host rs)
-          ∙ ap (λ xs. xs ++ (shown i ∷ map shown (map from_host rs))) h.replied.lines
-          ∙ append_assoc (of_host (request_lines lead q)) (flat_map (with_replies replies) (remote_items part)) (shown i ∷ map shown (map from_host rs))
-          ∙ ap (λ xs. of_host (request_lines lead q) ++ xs)
-          (ap (λ xs. flat_map (with_replies replies) (remote_items part) ++ xs) one
-          ∙ sym (flat_map-append (with_replies replies) (remote_items part) (i ∷ []))
-          ∙ ap (flat_map (with_replies replies)) (sym items)) };
+      replied = record {
+        lead = lead;
+        leads = h.replied.leads;
+        lines =
+            map-append shown part (i ∷ map from_host rs)
+            ∙ ap (λ xs. xs ++ (shown i ∷ map shown (map from_host rs))) h.replied.lines
+            ∙ append_assoc (of_host (request_lines lead q)) (flat_map (with_replies replies) (remote_items part)) (shown i ∷ map shown (map from_host rs))
+            ∙ ap (λ xs. of_host (request_lines lead q) ++ xs)
+            (ap (λ xs. flat_map (with_replies replies) (remote_items part) ++ xs) one
+            ∙ sym (flat_map-append (with_replies replies) (remote_items part) (i ∷ []))
+            ∙ ap (flat_map (with_replies replies)) (sym items));
+      };
       waits = subst (λ (ms : List (Option RemoteMessage)). awaits q ms ≡ true) (sym told) h.waits;
     }

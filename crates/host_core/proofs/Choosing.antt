@@ -140,7 +140,7 @@ lead_chosen o past by child job line (Some (Export name)) s e m j says may =
       AskEvent child t.0 (CheckExport (codes "WORM--a") name),
       record { by = by; what = Ask child (next_job past child) t.0 (next_on_wire past child (Checkpresentexport (codes "WORM--a"))) } ∷ [],
       rw (request, n.0, e, m) (ap (λ (x : List ℕ). made_by by (Lead child (next_job past child) x ∷ Ask child (next_job past child) t.0 (next_on_wire past child (Checkpresentexport (codes "WORM--a"))) ∷ [])) written
-      ∙ ap (λ (k : ℕ). record { by = by; what = Lead child k line } ∷ record { by = by; what = Ask child (next_job past child) t.0 (next_on_wire past child (Checkpresentexport (codes "WORM--a"))) } ∷ []) (sym j)),
+          ∙ ap (λ (k : ℕ). record { by = by; what = Lead child k line } ∷ record { by = by; what = Ask child (next_job past child) t.0 (next_on_wire past child (Checkpresentexport (codes "WORM--a"))) } ∷ []) (sym j)),
     )
 lead_chosen o past by child job line (Some q) s e m j says may = absurd cc
 

@@ -313,9 +313,9 @@ module _ (o : Opening) where
       let r : Both past = groups_from o Both record {
         plain = λ p e b may plain. (Legal-group o p e b.0 may plain, plain_step p e.by e.what b.0 b.1 may plain);
         pairs = λ p by child job task name line b l. (
-            group_keeps o p (pair by child job task name line) b.0 (pair_group o p by child job task name line l),
-            pair_step p by child job task name line b.0 b.1 l,
-          );
+          group_keeps o p (pair by child job task name line) b.0 (pair_group o p by child job task name line l),
+          pair_step p by child job task name line b.0 b.1 l,
+        );
       } [] [] past refl (record { stands = tt; nothing_due = refl }, λ c j h. absurd cc) legal.stands legal.nothing_due in
       r.1
 

@@ -210,7 +210,9 @@ fn ask(
     ensures reply { IfOk result (λ m. IsDueReply journal.now.entries m.what m.due) }
     ensures free { is_free (step_of opening.now journal.now.entries by (Event.Ask child task request.now)) ≡ true → IsOk result }
 {
-    if !requests::may_request(journal, by, task, child, request) || !requests::is_named_well(request) {
+    if !requests::may_request(journal, by, task, child, request)
+        || !requests::is_named_well(request)
+    {
         return Ok(only(Reply::Odd));
     }
     if is_gone(journal, child) {

@@ -134,8 +134,8 @@ pub due_end : (o : Opening) (journal made : List Entry) → IsReplayed o journal
 due_end o journal made r more = record {
   stands = r.stands;
   due = λ none. (
-    let nothing : r.rest ≡ [] = subst (λ (ds : List Entry). Owes o journal None ds r.rest) none r.owes in
-    more (ap length (r.whole ∙ ap (λ (es : List Entry). journal ++ es) nothing ∙ append-nil journal)));
+      let nothing : r.rest ≡ [] = subst (λ (ds : List Entry). Owes o journal None ds r.rest) none r.owes in
+      more (ap length (r.whole ∙ ap (λ (es : List Entry). journal ++ es) nothing ∙ append-nil journal)));
 }
 
 pub replayed_whole : (o : Opening) (items made : List Entry) (at : ℕ) → length items ≤ at → IsReplayed o (take at items) (slice_get items at) made → IsReplayed o items None made

@@ -201,11 +201,15 @@ module _ (o : Opening) (past : List Entry) (e : Entry) (next : Option Entry) (ma
   owes_after may = by_kind e.by e.what refl refl (group_follows o past e rest group).1
     where
       by_kind : (by : ℕ) (w : What) → e.by ≡ by → e.what ≡ w → Follows o past (entry by w) rest → Owes o (past ++ entry by w ∷ []) next (still_owed o past [] (entry by w)) rest
-      by_kind by (Lead child job line) n k follows =
-          (follows.0, follows.1, follows.2, λ f there due. (
+      by_kind by (Lead child job line) n k follows = (
+        follows.0,
+        follows.1,
+        follows.2,
+        λ f there due. (
             let mine : IsLedBy o past e.by child job line f = subst (λ (m : ℕ). IsLedBy o past m child job line f) (sym n) due in
             let both : past ++ e ∷ f ∷ [] ≡ past ++ e ∷ follows.0 ∷ [] = sym (told.led may child job line k f there mine) ∙ is ∙ ap (λ (xs : List Entry). past ++ e ∷ xs) follows.1 in
-            second past e f follows.0 both))
+            second past e f follows.0 both),
+      )
         where
           second : (past : List Entry) (e f g : Entry) → past ++ e ∷ f ∷ [] ≡ past ++ e ∷ g ∷ [] → f ≡ g
           second [] e f g h = cc

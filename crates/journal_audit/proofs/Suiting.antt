@@ -320,9 +320,10 @@ pub some_name : (o : Opening) (past : List Entry) (by child task : ℕ) (key nam
     → (job : ℕ) (line : List ℕ) → host_reading (addressed past child line).1 ≡ Some (Export name) → SaysName o past by child job line (Some (AskEvent child task (CheckExport key name)))
 some_name o past by child task key name ask sendable job line reads = λ may. (
     let later : is_at Later (next_job past child) ≡ true = (name_lead o past by child job line name reads may).0 in
-    let request : may_request past by task child (Checkpresentexport key) ≡ true = rw (name_started o past by child job line name reads may, ask, later, sendable) refl in
-    (entry by (Ask child job task (next_on_wire past child (Checkpresentexport key))) ∷ [],
-     name_first o past by child job line name reads may task (CheckExport key name) (Checkpresentexport key) refl refl request))
+    let request : may_request past by task child (Checkpresentexport key) ≡ true = rw (name_started o past by child job line name reads may, ask, later, sendable) refl in (
+      entry by (Ask child job task (next_on_wire past child (Checkpresentexport key))) ∷ [],
+      name_first o past by child job line name reads may task (CheckExport key name) (Checkpresentexport key) refl refl request,
+    ))
 
 -- ---- what is asked after a name
 

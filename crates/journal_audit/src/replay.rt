@@ -78,12 +78,7 @@ fn tell_name(
 }
 
 /// Tells the core the event that appends the entry, which says no name, where one does.
-fn tell_plain(
-    alloc: Global,
-    core: &mut Core,
-    by: u32,
-    what: WhatRef<'_>,
-) -> Result<(), NoMemory>
+fn tell_plain(alloc: Global, core: &mut Core, by: u32, what: WhatRef<'_>) -> Result<(), NoMemory>
     requires { length core.old.journal < 2 ^ 64 }
     ensures told { OnOk result (is_name (what_shown what.entry) ≡ false → (next : Option Entry) → IsTold core.old.opening core.old.journal (record { by = by; what = what_shown what.entry }) next core.new.journal) }
     ensures opening { core.new.opening ≡ core.old.opening }

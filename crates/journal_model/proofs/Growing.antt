@@ -331,9 +331,10 @@ Near-induction o P base step journal near = by_kind near
         let lead : Entry = entry by (Lead child job name) in
         let named : P (p ++ lead ∷ []) = step p lead (inl b.0) b.1 led.first in
         let near : Near o (p ++ lead ∷ []) = inr record { front = p; by = by; child = child; job = job; name = name; is = refl; legal = b.0; may = led.first } in
-        let asked : P ((p ++ lead ∷ []) ++ entry by (Ask child job task line) ∷ []) = step (p ++ lead ∷ []) (entry by (Ask child job task line)) near named led.second in
-        (group_keeps o p (pair by child job task name line) b.0 (pair_group o p by child job task name line led),
-        subst P (append_assoc p (lead ∷ []) (entry by (Ask child job task line) ∷ [])) asked)
+        let asked : P ((p ++ lead ∷ []) ++ entry by (Ask child job task line) ∷ []) = step (p ++ lead ∷ []) (entry by (Ask child job task line)) near named led.second in (
+          group_keeps o p (pair by child job task name line) b.0 (pair_group o p by child job task name line led),
+          subst P (append_assoc p (lead ∷ []) (entry by (Ask child job task line) ∷ [])) asked,
+        )
 
     of_legal : (j : List Entry) → Legal o j → P j
     of_legal j l =

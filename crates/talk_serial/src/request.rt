@@ -18,7 +18,9 @@ use wire_msg::HostMsg;
 #[derive(Drop)]
 pub enum Request {
     /// Which extensions of the protocol the remote knows. The host knows INFO and GETGITREMOTENAME, and offers ASYNC or not.
-    Extensions { offer: bool },
+    Extensions {
+        offer: bool,
+    },
     /// To get ready.
     Prepare,
     /// To set up the remote, or to check how it is set up.
@@ -32,13 +34,23 @@ pub enum Request {
     /// What is to be told of the remote.
     GetInfo,
     /// To store the file's content as the key's, or to retrieve the key's content into the file.
-    Transfer { store: bool, key: Key, file: Text },
+    Transfer {
+        store: bool,
+        key: Key,
+        file: Text,
+    },
     /// Whether the remote has the key's content.
-    CheckPresent { key: Key },
+    CheckPresent {
+        key: Key,
+    },
     /// To remove the key's content.
-    Remove { key: Key },
+    Remove {
+        key: Key,
+    },
     /// Where the key's content can be found.
-    WhereIs { key: Key },
+    WhereIs {
+        key: Key,
+    },
     /// Whether the remote can keep files under names of their own: exports.
     ExportSupported,
     /// To store the file's content, which is the key's, under the name, or to retrieve into the file what is there.
@@ -49,11 +61,21 @@ pub enum Request {
         name: Text,
     },
     /// Whether the key's content is there under the name.
-    CheckExport { key: Key, name: Text },
+    CheckExport {
+        key: Key,
+        name: Text,
+    },
     /// To remove the key's content under the name.
-    RemoveExport { key: Key, name: Text },
+    RemoveExport {
+        key: Key,
+        name: Text,
+    },
     /// To give the key's content under the name another one.
-    RenameExport { key: Key, name: Text, onto: Text },
+    RenameExport {
+        key: Key,
+        name: Text,
+        onto: Text,
+    },
 }
 
 /// The names of extensions that an EXTENSIONS of the host lists, with ASYNC where it is offered.
@@ -143,11 +165,7 @@ fn transfer_export(
 }
 
 /// The request that renames, without the name that it has, where the new one is text.
-fn rename_export(
-    alloc: Global,
-    key: KeyRef<'_>,
-    onto: &[u8],
-) -> Result<Option<Request>, NoMemory>
+fn rename_export(alloc: Global, key: KeyRef<'_>, onto: &[u8]) -> Result<Option<Request>, NoMemory>
     ensures asks { IfOk result (λ r. IfSome r (λ r. message_of r ≡ Renameexport (text_of key.entry) onto.now)) }
     ensures none { IfOk result (λ r. IsNone r → is_utf8 onto.now ≡ false) }
 {
@@ -253,7 +271,10 @@ impl Request {
     {
         match self {
             Request::TransferExport {
-                store, key, file, ..
+                store,
+                key,
+                file,
+                ..
             } => Some(Request::TransferExport {
                 store,
                 key,
@@ -312,7 +333,10 @@ impl Request {
             Request::WhereIs { key } => HostMsg::Whereis(key.view()),
             Request::ExportSupported => HostMsg::Exportsupported,
             Request::TransferExport {
-                store, key, file, ..
+                store,
+                key,
+                file,
+                ..
             } => HostMsg::Transferexport(*store, key.view(), file.view().as_bytes()),
             Request::CheckExport { key, .. } => HostMsg::Checkpresentexport(key.view()),
             Request::RemoveExport { key, .. } => HostMsg::Removeexport(key.view()),
