@@ -91,7 +91,8 @@ legal_before o past by c slot offer l =
     go : (ds : List Entry) → owed_after o past ≡ ds → MayStand o past ds (entry by (Start c slot offer)) → owed_after o past ≡ []
     go [] e h = e
     go (d ∷ ds) e h =
-        let owing : list_all (λ (x : Entry). is_owing x.what) (d ∷ ds) ≡ true = subst (λ (l : List Entry). list_all (λ (x : Entry). is_owing x.what) l ≡ true) e (all_owed o [] [] past refl) in
+        let owing : list_all (λ (x : Entry). is_owing x.what) (d ∷ ds) ≡ true =
+        subst (λ (l : List Entry). list_all (λ (x : Entry). is_owing x.what) l ≡ true) e (all_owed o [] [] past refl) in
         absurd (no_start_due o past by c slot offer d (both (is_owing d.what) (list_all (λ (x : Entry). is_owing x.what) ds) owing).0 h)
 
 -- ---- children are numbered in turn
