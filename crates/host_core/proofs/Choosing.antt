@@ -144,20 +144,22 @@ lead_chosen o past by child job line (Some (Export name)) s e m j says may =
     )
 lead_chosen o past by child job line (Some q) s e m j says may = absurd cc
 
--- a request that may be asked as this job
-some_request : (past : List Entry) (c job : ℕ) → (r : Request) × (is_in_turn past c job (message_of r) ≡ true) × (is_askable (message_of r) ≡ true)
+-- a request without a name that may be asked as this job
+some_request : (past : List Entry) (c job : ℕ)
+    → (r : Request) × (is_in_turn past c job (message_of r) ≡ true) × (is_askable (message_of r) ≡ true) × (name_of r ≡ None)
 some_request past c job = go (job == 0) refl (job == 1) refl
   where
     offered : (b : Bool) → bytes_eq (names_of b) (names_of b) ≡ true
     offered true = refl
     offered false = refl
 
-    go : (a : Bool) → (job == 0) ≡ a → (b : Bool) → (job == 1) ≡ b → (r : Request) × (is_in_turn past c job (message_of r) ≡ true) × (is_askable (message_of r) ≡ true)
-    go true e b f = (Extensions (any (offers c) past), rw e (offered (any (offers c) past)), refl)
-    go false e true f = (PrepareRequest, rw f refl, refl)
+    go : (a : Bool) → (job == 0) ≡ a → (b : Bool) → (job == 1) ≡ b
+        → (r : Request) × (is_in_turn past c job (message_of r) ≡ true) × (is_askable (message_of r) ≡ true) × (name_of r ≡ None)
+    go true e b f = (Extensions (any (offers c) past), rw e (offered (any (offers c) past)), refl, refl)
+    go false e true f = (PrepareRequest, rw f refl, refl, refl)
     go false e false f =
         let later : nat_lt 1 job ≡ true = grind (arith, nat_tests) in
-        (CheckPresent (codes "WORM--a"), rw later refl, refl)
+        (CheckPresent (codes "WORM--a"), rw later refl, refl, refl)
 
 lost_chosen : (o : Opening) (past : List Entry) (by child task : ℕ) → is_started past child ≡ true → (is_ended past child || is_mute past child) ≡ true
     → may_ask past by task child ≡ true → Gives o past by (Lost child task)
@@ -165,7 +167,7 @@ lost_chosen o past by child task s g may =
     let r = some_request past child (next_job past child) in
     let q = message_of r.0 in
     let request : (is_started past child && may_ask past by task child && is_in_turn past child (next_job past child) q && is_askable q) ≡ true = rw (s, may, r.1, r.2) refl in
-    (AskEvent child task r.0, rw (request, g) refl)
+    (AskEvent child task r.0, rw (request, r.3, g) refl)
 
 -- ---- an end
 

@@ -13,6 +13,6 @@ line_of-requires c =
     let past = c.args.journal.now.entries in
     let child = c.args.child in
     let q = message_of c.args.request.now in
-    ap is_askable c.message.ensures
+    ap is_askable c.message-message.ensures
     ∙ and_right (is_started past child && may_ask past c.args.by c.args.task child && is_in_turn past child (next_job past child) q) (is_askable q)
     (sym c.may_request.ensures ∙ c.if-not-may_request.false)
