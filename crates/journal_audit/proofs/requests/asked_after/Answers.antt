@@ -12,7 +12,7 @@ returns-in_default c =
 pub returns-in-Some-2 : goal.returns-in-Some-2
 returns-in-Some-2 c =
     after_named c.args.name.now (host_reading (addressed c.args.core.now.journal c.args.child c.args.line.now).1) (host_shown c.in-Some.message) c.in-Some-2.request c.in_ok-name.name c.with_name.result
-    (c.in-Some.ensures.reading ∙ ap host_reading c.text_of.ensures) (read_asks c.in_ok-request.field-0 (host_shown c.in-Some.message) c.in-Some-2.request c.in_ok-request.ensures.asks c.in-Some-2.is)
+    (c.in-Some.ensures.reading ∙ ap host_reading c.text_of.ensures) (read_asks c.in_ok-request.field-0 c.in-Some-2.request (host_shown c.in-Some.message) c.in_ok-request.ensures.asks c.in-Some-2.is)
     (c.in_ok-name.ensures ∙ c.view.ensures) c.with_name.ensures.asks c.with_name.ensures.named c.with_name.ensures.none
 
 pub returns-in-None : goal.returns-in-None
