@@ -20,7 +20,7 @@ returns-then-not-branch-clause-wrong c =
     let here = subst (λ (n : Option Entry). IsReplayed c.args.opening.now (take c.loop-at.at items) n c.loop-at.core.journal) (sym c.in-Some.ensures) c.loop-at.invariant.replayed in
     let next = next_here c.args.opening.now c.loop-at.core.opening items c.loop-at.core.journal made c.loop-at.at e after c.in_ok-may_stand.field-0 false c.loop-at.invariant.opening less here
     (λ past count before.
-    subst (λ (n : Option Entry). IsNext c.loop-at.core.opening past e n made c.in_ok-may_stand.field-0) c.entry-2.ensures (c.in_ok-may_stand.ensures.next past count before))
+    subst (λ (n : Option Entry). IsNext c.loop-at.core.opening past e n made c.in_ok-may_stand.field-0) c.entry-in-loop-at.ensures (c.in_ok-may_stand.ensures.next past count before))
     c.if-not-branch.true in
     wrong_here c.args.opening.now items items made c.loop-at.at c.kind_of.result e after refl less is c.loop-at.invariant.replayed.stands next c.kind_of.ensures
 
@@ -35,7 +35,7 @@ loop-at-preserved c =
     let here = subst (λ (n : Option Entry). IsReplayed c.args.opening.now (take c.loop-at.at items) n c.loop-at.core.journal) (sym c.in-Some.ensures) c.loop-at.invariant.replayed in
     let next = next_here c.args.opening.now c.loop-at.core.opening items c.loop-at.core.journal made c.loop-at.at e after c.in_ok-may_stand.field-0 true c.loop-at.invariant.opening less here
     (λ past count before.
-    subst (λ (n : Option Entry). IsNext c.loop-at.core.opening past e n made c.in_ok-may_stand.field-0) c.entry-2.ensures (c.in_ok-may_stand.ensures.next past count before))
+    subst (λ (n : Option Entry). IsNext c.loop-at.core.opening past e n made c.in_ok-may_stand.field-0) c.entry-in-loop-at.ensures (c.in_ok-may_stand.ensures.next past count before))
     c.if-not-branch.false in
     record {
       opening = c.may_stand.ensures.opening ∙ c.loop-at.invariant.opening;

@@ -10,7 +10,7 @@ pub returns-in-Some-clause-told : goal.returns-in-Some-clause-told
 returns-in-Some-clause-told c =
     on_ok c.tell_name.result c.tell_name.ensures.told (λ told.
     subst (λ (w : What). IsTold c.args.core.now.opening c.args.core.now.journal (record { by = c.args.entry.by; what = w }) (option_map entry_shown c.args.next) c.tell_name.new.core.journal)
-    (sym c.in-Some.ensures.some) (told c.in-Some.field-0.1))
+    (sym c.in-Some.ensures.some) (told c.in-Some.field-0-1))
 
 pub returns-in-None-clause-told : goal.returns-in-None-clause-told
 returns-in-None-clause-told c =

@@ -9,13 +9,13 @@ pub returns-in_default : goal.returns-in_default
 returns-in_default c =
     after_unread c.args.name.now (host_reading (addressed c.args.core.now.journal c.args.child c.args.line.now).1) (c.in_default.ensures.reading ∙ ap host_reading c.text_of.ensures)
 
-pub returns-in-Some-match : goal.returns-in-Some-match
-returns-in-Some-match c =
-    after_named c.args.name.now (host_reading (addressed c.args.core.now.journal c.args.child c.args.line.now).1) (host_shown c.in-Some.message) c.in-Some-match.request c.in_ok-name.name c.with_name.result
-    (c.in-Some.ensures.reading ∙ ap host_reading c.text_of.ensures) (read_asks c.in_ok-match.match (host_shown c.in-Some.message) c.in-Some-match.request c.in_ok-match.ensures.asks c.in-Some-match.is)
+pub returns-in-Some-2 : goal.returns-in-Some-2
+returns-in-Some-2 c =
+    after_named c.args.name.now (host_reading (addressed c.args.core.now.journal c.args.child c.args.line.now).1) (host_shown c.in-Some.message) c.in-Some-2.request c.in_ok-name.name c.with_name.result
+    (c.in-Some.ensures.reading ∙ ap host_reading c.text_of.ensures) (read_asks c.in_ok-request.field-0 c.in-Some-2.request (host_shown c.in-Some.message) c.in_ok-request.ensures.asks c.in-Some-2.is)
     (c.in_ok-name.ensures ∙ c.view.ensures) c.with_name.ensures.asks c.with_name.ensures.named c.with_name.ensures.none
 
 pub returns-in-None : goal.returns-in-None
 returns-in-None c =
     after_none c.args.name.now (host_reading (addressed c.args.core.now.journal c.args.child c.args.line.now).1) (host_shown c.in-Some.message)
-    (c.in-Some.ensures.reading ∙ ap host_reading c.text_of.ensures) (read_none c.in_ok-match.match (host_shown c.in-Some.message) c.in_ok-match.ensures.none c.in-None.is)
+    (c.in-Some.ensures.reading ∙ ap host_reading c.text_of.ensures) (read_none c.in_ok-request.field-0 (host_shown c.in-Some.message) c.in_ok-request.ensures.none c.in-None.is)
