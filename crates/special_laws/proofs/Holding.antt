@@ -41,7 +41,7 @@ pub run_is_told : RunIsTold
 run_is_told words clock before input left end at run =
     let all : ArePlayedAt (at.table ∷ at.workers) = subst ArePlayedAt at.tables at.played in
     tasks_are_told run.opening (run_setup words run.stamp) words.starts left.journal run.before (map table_tells at.workers) (map (λ (table : TableValue). table.files) at.workers)
-        run.ran.legal (blank_desks run.before run.fresh) run.ran.did (played_desks at.workers all.1)
+    run.ran.legal (blank_desks run.before run.fresh) run.ran.did (played_desks at.workers all.1)
 
 -- ---- what the files hold
 
@@ -63,11 +63,11 @@ module _ (o : Opening) (setup : Setup) (told : Told) (journal : List Entry) (leg
     sent_is = λ earlier later r key stores is got leave.
         let holds = desk_holds told earlier later r old new (subst (λ (d : List TaskDone). AreToldSo told d old new) is so) in
         holds.1 got.run.task.file (concat (map (sent o setup told) stores))
-            (file_keeps_stored o setup told journal got.number r.task key stores faithful holds.0 (got_afresh r.task key stores holds.0 got)) leave;
+        (file_keeps_stored o setup told journal got.number r.task key stores faithful holds.0 (got_afresh r.task key stores holds.0 got)) leave;
     content_is = λ earlier later r u key bytes stores is got base one leave.
         let holds = desk_holds told earlier later r old new (subst (λ (d : List TaskDone). AreToldSo told d old new) is so) in
         holds.1 got.run.task.file bytes
-            (file_keeps_content o setup told journal got.number r.task u key bytes stores legal faithful holds.0 (got_afresh r.task key stores holds.0 got) base one) leave;
+        (file_keeps_content o setup told journal got.number r.task u key bytes stores legal faithful holds.0 (got_afresh r.task key stores holds.0 got) base one) leave;
   }
 
   desk_keeps : (done : List TaskDone) (log : Option Log) (files : Option Files) → IsToldAt told done log files → FilesHoldAt o setup told journal done log files
