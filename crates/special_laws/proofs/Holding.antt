@@ -1,10 +1,10 @@
 -- What the files of a run's desks hold in the end.
-use Rattle.std.proofs.Common.{◌≡◌, ◌∙◌, ℕ, ◌+◌, List, [], ◌∷◌, ◌++◌, ap, subst, sym}
+use Rattle.std.proofs.Common.{◌≡◌, ℕ, ◌+◌, List, [], ◌∷◌, subst}
 use Rattle.std.specs.Prelude.{map, Option, Some, None}
 use Rattle.std.specs.List.{concat}
 use Rattle.ann_key.specs.Keys.{Parts}
 use Rattle.ann_outside.specs.Calls.{Log}
-use Rattle.ann_outside.specs.Files.{Files, WhereTold, content}
+use Rattle.ann_outside.specs.Files.{Files}
 use Rattle.child_end.specs.Outsides.{TableValue}
 use Rattle.job_rounds.specs.Desks.{DesksDid}
 use Rattle.job_rounds.specs.ToldDesks.{AreBlank, ArePlayedNow, AreToldAt}
@@ -16,10 +16,10 @@ use Rattle.journal_model.specs.Legality.{Legal}
 use Rattle.lone_work.specs.Works.{DeskTells, TaskDone}
 use Rattle.run_tasks.specs.Inputs.{run_setup}
 use Rattle.run_tasks.specs.Runs.{AreFresh, ArePlayedAt, table_tells}
-use Rattle.special_laws.specs.FilesHold.{AllHold, FilesHold, FilesHoldAt, GotAnew, RunIsTold, RunKeeps}
+use Rattle.special_laws.specs.FilesHold.{AllHold, FilesHold, FilesHoldAt, FilesHoldFrom, GotAnew, RunIsTold, RunKeeps}
 use Rattle.task_laws.specs.Changes.{Request}
 use Rattle.task_laws.specs.Faithful.{IsFaithful, IsPlayed, Told, sent}
-use Rattle.task_laws.specs.Retrieval.{AllLeave, GotStored, StoredInChunks}
+use Rattle.task_laws.specs.Retrieval.{GotStored}
 use Rattle.task_laws.specs.ToldDesks.{AreToldFrom, AreToldSo, IsToldAt}
 use Rattle.task_laws.proofs.FilesStored.{desk_holds, file_keeps_content, file_keeps_stored}
 use Rattle.task_laws.proofs.NoPart.{no_part_is_afresh}
@@ -59,6 +59,7 @@ module _ (o : Opening) (setup : Setup) (told : Told) (journal : List Entry) (leg
       }
 
   files_hold : (done : List TaskDone) (old new : Files) → AreToldSo told done old new → FilesHold o setup told journal done new
+  unfolding got_afresh
   files_hold done old new so = record {
     sent_is = λ earlier later r key stores is got leave.
         let holds = desk_holds told earlier later r old new (subst (λ (d : List TaskDone). AreToldSo told d old new) is so) in
@@ -74,7 +75,7 @@ module _ (o : Opening) (setup : Setup) (told : Told) (journal : List Entry) (leg
   desk_keeps done None files so = tt
   desk_keeps done (Some log) files so = by_origin log.origin files so
     where
-      by_origin : (origin now : Option Files) → AreToldFrom told done origin now → WhereTold origin now (λ old new. FilesHold o setup told journal done new)
+      by_origin : (origin now : Option Files) → AreToldFrom told done origin now → FilesHoldFrom o setup told journal done origin now
       by_origin (Some old) (Some new) x = files_hold done old new x
       by_origin (Some old) None x = tt
       by_origin None now x = tt

@@ -3,7 +3,7 @@ use Rattle.std.specs.Prelude.{ℕ, ◌≡◌, ◌+◌, List, [], ◌∷◌, ◌+
 use Rattle.std.specs.List.{concat}
 use Rattle.ann_key.specs.Keys.{Parts, key_reading}
 use Rattle.ann_outside.specs.Calls.{Log}
-use Rattle.ann_outside.specs.Files.{Files, WhereTold, content}
+use Rattle.ann_outside.specs.Files.{Files, content}
 use Rattle.child_end.specs.Outsides.{OutsideValue, TableValue}
 use Rattle.cli_words.specs.declared.command.RunWords.{RunWords}
 use Rattle.gathering.specs.JournalRuns.{JournalRun}
@@ -48,10 +48,16 @@ pub record FilesHold (o : Opening) (setup : Setup) (told : Told) (journal : List
       → key.chunk ≡ None → StoredInChunks o setup told journal u bytes stores
       → AllLeave told got.run.task.file (map (λ (d : TaskDone). d.task) later) → content got.run.task.file new ≡ Some bytes
 
+-- so it is where the files at first and in the end are told
+abbrev pub FilesHoldFrom : Opening → Setup → Told → List Entry → List TaskDone → Option Files → Option Files → Type 0
+FilesHoldFrom o setup told journal done (Some old) (Some new) = FilesHold o setup told journal done new
+FilesHoldFrom o setup told journal done (Some old) None = Unit {0}
+FilesHoldFrom o setup told journal done None files = Unit {0}
+
 -- so it is where the desk tells both its calls and its files
 abbrev pub FilesHoldAt : Opening → Setup → Told → List Entry → List TaskDone → Option Log → Option Files → Type 0
 FilesHoldAt o setup told journal done None files = Unit {0}
-FilesHoldAt o setup told journal done (Some log) files = WhereTold log.origin files (λ old new. FilesHold o setup told journal done new)
+FilesHoldAt o setup told journal done (Some log) files = FilesHoldFrom o setup told journal done log.origin files
 
 -- so it is at each desk
 abbrev pub AllHold : (told : Told) (o : Opening) (setup : Setup) (limit : ℕ) (journal past entries : List Entry) (k : ℕ) (desks : List DeskTells) (tables : List TableValue)
