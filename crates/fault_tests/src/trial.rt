@@ -1,51 +1,32 @@
 // A call of `special` over objects in memory.
+use crate::rows::{Command, Object, Row};
 use ann_key::{Bytes, NoMemory};
 use ann_outside::{MemChild, MemClock, MemDesk, MemDesks, MemPrograms, MemSink, MemSource};
 use special_cli::special;
-use std::alloc::Global;
+use std::alloc::{AllocError, Global};
 use std::marker::Sync;
+use std::str;
 use std::sync::Wait;
 use std::thread::Threads;
 
-/// The object of which a call fails. Calls are counted from 1; call 0 is none.
-#[derive(Clone, Copy, PartialEq, Eq)]
-pub enum Object {
-    Input,
-    Out,
-    /// The first desk that is asked for.
-    Desk,
-    /// What the child is told.
-    Inlet,
-    /// What the child says.
-    Outlet,
-}
+static CHECK: [&str; 3] = ["check", "p", "WORM--a"];
 
-/// What `special` is asked, and its input, a piece a read.
-#[derive(Clone, Copy)]
-pub struct Case {
-    pub words: &'static [&'static str],
-    pub input: &'static [&'static str],
-}
+static RUN: [&str; 9] = [
+    "run",
+    "--program",
+    "p",
+    "--uuid",
+    "c0ffee00-0000-4000-8000-000000000001",
+    "--jobs",
+    "1",
+    "--keep",
+    "k",
+];
 
-/// What was printed on out and on err, the status, and how many entries the journal has.
-#[derive(Drop)]
-pub struct Outcome {
-    pub out: MemSink,
-    pub err: MemSink,
-    pub status: u8,
-    pub entries: u64,
-}
+// The input of a run, a piece a read.
+static TASKS: [&str; 2] = ["check WOR", "M--a\n"];
 
-impl Outcome {
-    /// Whether it ended so.
-    pub fn is(&self, status: u8, out: &str, err: &str) -> bool {
-        self.status == status
-            && self.out.taken() == out.as_bytes()
-            && self.err.taken() == err.as_bytes()
-    }
-}
-
-// What the child says, a line a read.
+// What the child says, a line a read. It has the key WORM--a.
 static SAYS: [&str; 4] = [
     "VERSION 1\n",
     "EXTENSIONS\n",
@@ -69,44 +50,55 @@ fn words(alloc: Global, texts: &'static [&'static str]) -> Result<Vec<String>, N
     Ok(list)
 }
 
-// The number of the object's call that fails.
-fn fails(alloc: Global, object: Object, failing: (Object, u64)) -> Result<Vec<u64>, NoMemory> {
-    let call = if failing.0 == object { failing.1 } else { 0 };
-    Ok(Vec::from_slice(alloc, &[call])?)
+// The number of the object's call that fails, as a list.
+fn fails(alloc: Global, row: Row, object: Object) -> Result<Vec<u64>, NoMemory> {
+    Ok(Vec::from_slice(alloc, &[row.fails_at(object)])?)
 }
 
-fn programs(alloc: Global, failing: (Object, u64)) -> Result<MemPrograms, NoMemory> {
+fn programs(alloc: Global, row: Row) -> Result<MemPrograms, NoMemory> {
     let mut children = Vec::new(alloc);
     children.push(MemChild {
         says: pieces(alloc, &SAYS)?,
-        read_fails: fails(alloc, Object::Outlet, failing)?,
-        write_fails: fails(alloc, Object::Inlet, failing)?,
+        read_fails: fails(alloc, row, Object::Outlet)?,
+        write_fails: fails(alloc, row, Object::Inlet)?,
     })?;
     Ok(MemPrograms::new(alloc, children, Vec::new(alloc)))
 }
 
-fn desks(alloc: Global, failing: (Object, u64)) -> Result<MemDesks, NoMemory> {
+fn desks(alloc: Global, row: Row) -> Result<MemDesks, NoMemory> {
     let mut desks = Vec::new(alloc);
-    let fails = fails(alloc, Object::Desk, failing)?;
+    let fails = fails(alloc, row, Object::Desk)?;
     desks.push(MemDesk::new(alloc, Vec::new(alloc), fails)?)?;
     Ok(MemDesks::new(alloc, desks))
 }
 
-/// What comes of the case where that call of that object fails. The child has the key WORM--a.
-pub fn tried<R: Threads + Wait + Sync>(
+// The words, and the pieces of the input.
+fn asked(alloc: Global, row: Row) -> Result<(Vec<String>, Vec<Bytes>), NoMemory> {
+    match row.command {
+        Command::Check => Ok((words(alloc, &CHECK)?, Vec::new(alloc))),
+        Command::Run => Ok((words(alloc, &RUN)?, pieces(alloc, &TASKS)?)),
+    }
+}
+
+// What a stream took, as text.
+fn taken(stream: &MemSink) -> &str {
+    str::from_utf8(stream.taken()).unwrap_or("?")
+}
+
+/// Adds what comes of the row: the status, what was printed on out and on err, and how many entries the journal has.
+pub(crate) fn tell<R: Threads + Wait + Sync>(
     rt: &R,
     alloc: Global,
-    case: &Case,
-    failing: (Object, u64),
-) -> Result<Outcome, NoMemory> {
-    let programs = programs(alloc, failing)?;
-    let desks = desks(alloc, failing)?;
-    let words = words(alloc, case.words)?;
-    let input = pieces(alloc, case.input)?;
-    let mut input = MemSource::new(input, fails(alloc, Object::Input, failing)?);
-    let mut out = MemSink::new(alloc, 7, fails(alloc, Object::Out, failing)?);
+    text: &mut String,
+    row: Row,
+) -> Result<(), NoMemory> {
+    let (words, input) = asked(alloc, row)?;
+    let mut input = MemSource::new(input, fails(alloc, row, Object::Input)?);
+    let mut out = MemSink::new(alloc, 7, fails(alloc, row, Object::Out)?);
     let mut err = MemSink::new(alloc, 7, Vec::new(alloc));
     let mut clock = MemClock::new(1_700_000_000_000_000);
+    let programs = programs(alloc, row)?;
+    let desks = desks(alloc, row)?;
     let closing = special(
         rt,
         alloc,
@@ -118,10 +110,17 @@ pub fn tried<R: Threads + Wait + Sync>(
         &mut err,
         &mut clock,
     );
-    Ok(Outcome {
-        out,
-        err,
-        status: closing.status,
-        entries: closing.journal.len(),
-    })
+    let (status, entries) = (closing.status, closing.journal.len());
+    Ok(tell_end(text, status, &out, &err, entries)?)
+}
+
+fn tell_end(
+    text: &mut String,
+    status: u8,
+    out: &MemSink,
+    err: &MemSink,
+    entries: u64,
+) -> Result<(), AllocError> {
+    let (out, err) = (taken(out), taken(err));
+    write!(text, " => {status} {out:?} {err:?} {entries} entries")
 }

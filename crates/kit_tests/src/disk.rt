@@ -56,7 +56,7 @@ type Row = (
     Option<usize>,
 );
 
-const FAULTS: [Row; 10] = [
+static FAULTS: [Row; 10] = [
     // create, twice a read and an append, a read at the end, rename
     (
         b"TRANSFER STORE WORM-s3--there new\n",

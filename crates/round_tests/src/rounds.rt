@@ -119,12 +119,13 @@ fn round<R: Threads + Wait + Abort + Sync>(
     alloc: Global,
     threads: usize,
 ) -> Result<TaggedRound<MemSink, MemSource, MemDesk>, NoMemory> {
+    let setup = setup(alloc)?;
+    let desks = two_desks(alloc)?;
     let mut programs = programs(alloc)?;
     let opening = opening(alloc)?;
     let tasks = opening.tasks.copy(alloc)?;
+    // The core comes last, so that no path that fails drops one: that takes long to check.
     let mut core = Core::new(alloc, opening)?;
-    let setup = setup(alloc)?;
-    let desks = two_desks(alloc)?;
     let link = ready(rt, alloc, &mut programs, &mut core);
     Ok(round_tagged_some(rt, alloc, threads, core, tasks.view(), &setup, link, desks))
 }

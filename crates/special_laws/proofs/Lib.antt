@@ -2,3 +2,4 @@ pub mod Alone
 pub mod AtZero
 pub mod Mains
 pub mod Completing
+pub mod Holding

@@ -20,6 +20,7 @@ ghost use Rattle.run_tasks.specs.Runs.{IsRunOf};
 ghost use Rattle.special_cli.specs.Informs.{IsInformed};
 ghost use Rattle.special_cli.specs.Setups.{IsSetup};
 ghost use Rattle.special_laws.specs.Completeness.{IdleLacksMemory, RunCompletes};
+ghost use Rattle.special_laws.specs.FilesHold.{RunIsTold, RunKeeps};
 ghost use Rattle.special_laws.specs.Rows.{gone_early, unstarted, present_wire, HasWires};
 
 /// A check that found its key is told by its one answer, whole, or cut off where a write failed; by no other answer and with no
@@ -102,4 +103,12 @@ pub fn one_thread_serves_alone()
 pub fn run_completes()
     ensures begun { RunCompletes }
     ensures idle { IdleLacksMemory }
+{}
+
+/// There are files before and after each task of a run that fit what its desks tell. Where the remote was faithful to these, the file of a
+/// get that had no part at its begin holds in the end, at the desk that is left, what the stores of its keys sent; and where one task
+/// stored all of them in chunks, the content of that task's file.
+pub fn run_keeps()
+    ensures told { RunIsTold }
+    ensures kept { RunKeeps }
 {}

@@ -1,0 +1,93 @@
+-- What the files of a run's desks hold in the end.
+use Rattle.std.proofs.Common.{◌≡◌, ℕ, ◌+◌, List, [], ◌∷◌, subst}
+use Rattle.std.specs.Prelude.{map, Option, Some, None}
+use Rattle.std.specs.List.{concat}
+use Rattle.ann_key.specs.Keys.{Parts}
+use Rattle.ann_outside.specs.Calls.{Log}
+use Rattle.ann_outside.specs.Files.{Files}
+use Rattle.child_end.specs.Outsides.{TableValue}
+use Rattle.job_rounds.specs.Desks.{DesksDid}
+use Rattle.job_rounds.specs.ToldDesks.{AreBlank, ArePlayedNow, AreToldAt}
+use Rattle.job_rounds.proofs.TaskFiles.{tasks_are_told}
+use Rattle.journal_model.specs.declared.answer.Answer.{Answer}
+use Rattle.journal_model.specs.declared.entry.Entry.{Entry}
+use Rattle.journal_model.specs.declared.opening.Opening.{Opening}
+use Rattle.journal_model.specs.Legality.{Legal}
+use Rattle.lone_work.specs.Works.{DeskTells, TaskDone}
+use Rattle.run_tasks.specs.Inputs.{run_setup}
+use Rattle.run_tasks.specs.Runs.{AreFresh, ArePlayedAt, table_tells}
+use Rattle.special_laws.specs.FilesHold.{AllHold, FilesHold, FilesHoldAt, FilesHoldFrom, GotAnew, RunIsTold, RunKeeps}
+use Rattle.task_laws.specs.Changes.{Request}
+use Rattle.task_laws.specs.Faithful.{IsFaithful, IsPlayed, Told, sent}
+use Rattle.task_laws.specs.Retrieval.{GotStored}
+use Rattle.task_laws.specs.ToldDesks.{AreToldFrom, AreToldSo, IsToldAt}
+use Rattle.task_laws.proofs.FilesStored.{desk_holds, file_keeps_content, file_keeps_stored}
+use Rattle.task_laws.proofs.NoPart.{no_part_is_afresh}
+use Rattle.task_run.specs.Askings.{run_askings, run_notings}
+use Rattle.task_run.specs.Runs.{TaskRun}
+use Rattle.task_run.specs.declared.setup.Setup.{Setup}
+
+-- ---- what is told
+
+blank_desks : (desks : List DeskTells) → AreFresh desks → AreBlank desks
+blank_desks [] fresh = tt
+blank_desks (desk ∷ desks) fresh = (fresh.0.blank, blank_desks desks fresh.1)
+
+played_desks : (tables : List TableValue) → ArePlayedAt tables → ArePlayedNow (map table_tells tables) (map (λ (table : TableValue). table.files) tables)
+played_desks [] played = tt
+played_desks (table ∷ tables) played = (played.0, played_desks tables played.1)
+
+pub run_is_told : RunIsTold
+run_is_told words clock before input left end at run =
+    let all : ArePlayedAt (at.table ∷ at.workers) = subst ArePlayedAt at.tables at.played in
+    tasks_are_told run.opening (run_setup words run.stamp) words.starts left.journal run.before (map table_tells at.workers) (map (λ (table : TableValue). table.files) at.workers)
+    run.ran.legal (blank_desks run.before run.fresh) run.ran.did (played_desks at.workers all.1)
+
+-- ---- what the files hold
+
+module _ (o : Opening) (setup : Setup) (told : Told) (journal : List Entry) (legal : Legal o journal) (faithful : IsFaithful o setup told journal) where
+  got_afresh : (t : ℕ) (key : Parts) (stores : List Request) → IsPlayed told t → (got : GotAnew o setup told journal t key stores) → GotStored o setup told journal got.number t key stores
+  got_afresh t key stores played got =
+      let P : Answer → Type 0 = λ x. TaskRun got.run.task t setup got.run.layouts (run_askings got.run.run) (told.calls t) (run_notings got.run.run) x in
+      record {
+        run = got.run;
+        keyed = got.keyed;
+        got = got.got;
+        afresh = no_part_is_afresh got.run.task t setup got.run.layouts (run_askings got.run.run) (told.calls t) (run_notings got.run.run) key (told.before t) (told.after t)
+            got.keyed (subst P got.got got.run.ran) played got.unheld;
+        stored = got.stored;
+      }
+
+  files_hold : (done : List TaskDone) (old new : Files) → AreToldSo told done old new → FilesHold o setup told journal done new
+  unfolding got_afresh
+  files_hold done old new so = record {
+    sent_is = λ earlier later r key stores is got leave.
+        let holds = desk_holds told earlier later r old new (subst (λ (d : List TaskDone). AreToldSo told d old new) is so) in
+        holds.1 got.run.task.file (concat (map (sent o setup told) stores))
+        (file_keeps_stored o setup told journal got.number r.task key stores faithful holds.0 (got_afresh r.task key stores holds.0 got)) leave;
+    content_is = λ earlier later r u key bytes stores is got base one leave.
+        let holds = desk_holds told earlier later r old new (subst (λ (d : List TaskDone). AreToldSo told d old new) is so) in
+        holds.1 got.run.task.file bytes
+        (file_keeps_content o setup told journal got.number r.task u key bytes stores legal faithful holds.0 (got_afresh r.task key stores holds.0 got) base one) leave;
+  }
+
+  desk_keeps : (done : List TaskDone) (log : Option Log) (files : Option Files) → IsToldAt told done log files → FilesHoldAt o setup told journal done log files
+  desk_keeps done None files so = tt
+  desk_keeps done (Some log) files so = by_origin log.origin files so
+    where
+      by_origin : (origin now : Option Files) → AreToldFrom told done origin now → FilesHoldFrom o setup told journal done origin now
+      by_origin (Some old) (Some new) x = files_hold done old new x
+      by_origin (Some old) None x = tt
+      by_origin None now x = tt
+
+  all_hold : (limit : ℕ) (past entries : List Entry) (k : ℕ) (ds : List DeskTells) (tables : List TableValue) (did : DesksDid o setup limit journal past entries k ds (map table_tells tables))
+      → AreToldAt told o setup limit journal past entries k ds (map table_tells tables) did (map (λ (table : TableValue). table.files) tables) → AllHold told o setup limit journal past entries k ds tables did
+  all_hold limit past entries k [] [] did so = tt
+  all_hold limit past entries k [] (table ∷ tables) did so = tt
+  all_hold limit past entries k (d ∷ ds) [] did so = tt
+  all_hold limit past entries k (d ∷ ds) (table ∷ tables) did so =
+      (desk_keeps did.0.done table.log table.files so.0, all_hold limit past entries (k + 1) ds tables did.1 so.1)
+
+pub run_keeps : RunKeeps
+run_keeps words clock before input left end at run told so faithful =
+    all_hold run.opening (run_setup words run.stamp) told left.journal run.ran.legal faithful words.starts [] left.journal 1 run.before at.workers run.ran.did so

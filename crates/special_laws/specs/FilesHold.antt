@@ -1,0 +1,91 @@
+-- What the files of a run's desks hold in the end, where the remote was faithful.
+use Rattle.std.specs.Prelude.{ℕ, ◌≡◌, ◌+◌, List, [], ◌∷◌, ◌++◌, map, Option, Some, None}
+use Rattle.std.specs.List.{concat}
+use Rattle.ann_key.specs.Keys.{Parts, key_reading}
+use Rattle.ann_outside.specs.Calls.{Log}
+use Rattle.ann_outside.specs.Files.{Files, content}
+use Rattle.child_end.specs.Outsides.{OutsideValue, TableValue}
+use Rattle.cli_words.specs.declared.command.RunWords.{RunWords}
+use Rattle.gathering.specs.JournalRuns.{JournalRun}
+use Rattle.job_rounds.specs.Desks.{DesksDid}
+use Rattle.job_rounds.specs.ToldDesks.{AreToldAt}
+use Rattle.journal_model.specs.declared.answer.Answer.TheVariants.{Got}
+use Rattle.journal_model.specs.declared.entry.Entry.{Entry}
+use Rattle.journal_model.specs.declared.opening.Opening.{Opening}
+use Rattle.lone_work.specs.Works.{DeskTells, TaskDone}
+use Rattle.run_tasks.specs.Inputs.{InputFlow, run_setup}
+use Rattle.run_tasks.specs.Runs.{IsAtDesk, IsRunOf, table_tells}
+use Rattle.run_tasks.specs.declared.made.RunEnd.{RunEnd}
+use Rattle.special_cli.specs.Doings.{made_in}
+use Rattle.special_cli.specs.Left.{Left}
+use Rattle.task_laws.specs.Changes.{Request}
+use Rattle.task_laws.specs.Faithful.{AreStoredFor, IsFaithful, Told, sent}
+use Rattle.task_laws.specs.FilesKept.{HasNoPart}
+use Rattle.task_laws.specs.Retrieval.{AllLeave, StoredInChunks}
+use Rattle.task_run.specs.Askings.{run_askings}
+use Rattle.task_run.specs.Gets.{asked_last}
+use Rattle.task_run.specs.declared.setup.Setup.{Setup}
+
+-- ---- one get
+
+-- Task t was answered Got and had no part till its last layout, and these stored the keys of that layout before it retrieved them.
+pub record GotAnew (o : Opening) (setup : Setup) (told : Told) (journal : List Entry) (t : ℕ) (key : Parts) (stores : List Request) : Type 0 where
+  pub number : ℕ
+  pub run : JournalRun o setup (told.calls t) number t journal
+  pub keyed : key_reading run.task.key ≡ Some key
+  pub got : run.run.answer ≡ Got
+  pub unheld : HasNoPart run.task.file (told.calls t) (told.before t)
+  pub stored : AreStoredFor journal t (asked_last (run_askings run.run)) stores
+
+-- ---- one desk
+
+-- The file of each such get of a desk that its later tasks leave as it is: it holds in the end what those stores sent, one after the other;
+-- and where one task stored all of them in chunks, the content of that task's file.
+pub record FilesHold (o : Opening) (setup : Setup) (told : Told) (journal : List Entry) (done : List TaskDone) (new : Files) : Type 0 where
+  pub sent_is : (earlier later : List TaskDone) (r : TaskDone) (key : Parts) (stores : List Request) → done ≡ earlier ++ r ∷ later → (got : GotAnew o setup told journal r.task key stores)
+      → AllLeave told got.run.task.file (map (λ (d : TaskDone). d.task) later) → content got.run.task.file new ≡ Some (concat (map (sent o setup told) stores))
+  pub content_is : (earlier later : List TaskDone) (r : TaskDone) (u : ℕ) (key : Parts) (bytes : List ℕ) (stores : List Request) → done ≡ earlier ++ r ∷ later → (got : GotAnew o setup told journal r.task key stores)
+      → key.chunk ≡ None → StoredInChunks o setup told journal u bytes stores
+      → AllLeave told got.run.task.file (map (λ (d : TaskDone). d.task) later) → content got.run.task.file new ≡ Some bytes
+
+-- so it is where the files at first and in the end are told
+abbrev pub FilesHoldFrom : Opening → Setup → Told → List Entry → List TaskDone → Option Files → Option Files → Type 0
+FilesHoldFrom o setup told journal done (Some old) (Some new) = FilesHold o setup told journal done new
+FilesHoldFrom o setup told journal done (Some old) None = Unit {0}
+FilesHoldFrom o setup told journal done None files = Unit {0}
+
+-- so it is where the desk tells both its calls and its files
+abbrev pub FilesHoldAt : Opening → Setup → Told → List Entry → List TaskDone → Option Log → Option Files → Type 0
+FilesHoldAt o setup told journal done None files = Unit {0}
+FilesHoldAt o setup told journal done (Some log) files = FilesHoldFrom o setup told journal done log.origin files
+
+-- so it is at each desk
+abbrev pub AllHold : (told : Told) (o : Opening) (setup : Setup) (limit : ℕ) (journal past entries : List Entry) (k : ℕ) (desks : List DeskTells) (tables : List TableValue)
+    → DesksDid o setup limit journal past entries k desks (map table_tells tables) → Type 0
+AllHold told o setup limit journal past entries k [] [] did = Unit {0}
+AllHold told o setup limit journal past entries k [] (table ∷ tables) did = Unit {0}
+AllHold told o setup limit journal past entries k (d ∷ ds) [] did = Unit {0}
+AllHold told o setup limit journal past entries k (d ∷ ds) (table ∷ tables) did =
+    FilesHoldAt o setup told journal did.0.done table.log table.files × AllHold told o setup limit journal past entries (k + 1) ds tables did.1
+
+-- ---- a run
+
+-- this is told of the tasks of the run's desks, which are left in the end
+abbrev pub IsToldOfRun : (told : Told) (words : RunWords) (clock : Option ℕ) (files : Option Files) (input : InputFlow) (workers : List TableValue) (journal : List Entry)
+    → IsRunOf words clock files input workers journal → Type 0
+IsToldOfRun told words clock files input workers journal run =
+    AreToldAt told run.opening (run_setup words run.stamp) words.starts journal [] journal 1 run.before (map table_tells workers) run.ran.did (map (λ (table : TableValue). table.files) workers)
+
+-- There are files before and after each task of a run that fit what its desks tell.
+abbrev pub RunIsTold : Type 0
+RunIsTold =
+    (words : RunWords) (clock : Option ℕ) (before : OutsideValue) (input : InputFlow) (left : Left) (end : RunEnd) (at : IsAtDesk words clock before input left.outside (made_in left end))
+    (run : IsRunOf words clock at.told input at.workers left.journal) → ∥ ((told : Told) × IsToldOfRun told words clock at.told input at.workers left.journal run) ∥₁
+
+-- Where the remote was faithful to these, the files of the desks that are left hold what was stored.
+abbrev pub RunKeeps : Type 0
+RunKeeps =
+    (words : RunWords) (clock : Option ℕ) (before : OutsideValue) (input : InputFlow) (left : Left) (end : RunEnd) (at : IsAtDesk words clock before input left.outside (made_in left end))
+    (run : IsRunOf words clock at.told input at.workers left.journal) (told : Told) → IsToldOfRun told words clock at.told input at.workers left.journal run
+    → IsFaithful run.opening (run_setup words run.stamp) told left.journal
+    → AllHold told run.opening (run_setup words run.stamp) words.starts left.journal [] left.journal 1 run.before at.workers run.ran.did
