@@ -1,3 +1,4 @@
 pub mod Files
-pub mod Spaces
+pub mod Marks
+pub mod Parts
 pub mod Spelled
