@@ -3,7 +3,7 @@ use Rattle.std.proofs.Common.{◌≡◌, ℕ, ◌==◌, ◌&&◌, ◌||◌, Bool
 use Rattle.std.specs.Prelude.{find, nat_lt, MatchResult}
 use Rattle.std.specs.Str.{bytes_eq}
 use Rattle.std.specs.List.{list_any, before_first, after_first}
-use Rattle.std.proofs.lemmas.Bool.{false≢true, and_parts, not-true, not-false, and_from, eqb-true}
+use Rattle.std.proofs.lemmas.Bool.{false≢true, and_parts, not-true, not-false, and_from, or_from, or_parts, eqb-true}
 use borrow.Author.Tests.{ltb-true}
 use Rattle.std.proofs.lemmas.Slice.Eq.{bytes_eq-Decides}
 use Rattle.std.proofs.lemmas.List.{append-nil, nil_from_length}
@@ -160,28 +160,37 @@ onto_read line word rest key file name onto work read = read.onto_is ∙ ap (λ 
 pub work_read : (line word rest key file name onto : List ℕ) (work : Work) → AreRead line word rest key file name onto work → work_at line ≡ Some work
 work_read line word rest key file name onto work read = sym (read.work_is ∙ ap work_of read.word_is)
 
+-- a text is read of bytes where it is wanted, and is right then
+pub record IsText (wanted : Bool) (is_right : List ℕ → Bool) (bytes text : List ℕ) : Type 0 where
+  pub text_is : text ≡ (if wanted then bytes else [])
+  pub class : (wanted && not (is_right bytes)) ≡ false
+
+pub text_read : (wanted wanted' : Bool) (is_right : List ℕ → Bool) (bytes text : List ℕ) → wanted ≡ wanted'
+    → (text ≡ (if wanted then bytes else [])) × ((wanted && not (is_right bytes)) ≡ false) → IsText wanted' is_right bytes text
+text_read wanted wanted' is_right bytes text same read = record {
+  text_is = read.0 ∙ ap (λ b. if b then bytes else []) same;
+  class = ap (λ b. b && not (is_right bytes)) (sym same) ∙ read.1;
+}
+
 -- what is read of a line with whose parts nothing is wrong
 pub spells_read : (line word rest key file name onto k f n o : List ℕ) (work : Work) → AreRead line word rest key file name onto work
-    → k ≡ key → is_task_key key ≡ true
-    → f ≡ (if names_file work then file else []) → (names_file work && not (is_file file)) ≡ false
-    → n ≡ (if has_name work then name else []) → (has_name work && not (is_name name)) ≡ false
-    → o ≡ (if has_onto work then onto else []) → (has_onto work && not (is_name onto)) ≡ false
-    → SpellsTask (record { work = work; key = k; file = f; name = n; onto = o }) line
-spells_read line word rest key file name onto k f n o work read is_k key_class is_f file_class is_n name_class is_o onto_class =
+    → k ≡ key → is_task_key key ≡ true → IsText (names_file work) is_file file f → IsText (has_name work) is_name name n
+    → IsText (has_onto work) is_name onto o → SpellsTask (record { work = work; key = k; file = f; name = n; onto = o }) line
+spells_read line word rest key file name onto k f n o work read is_k key_class as_file as_name as_onto =
     let key_is = key_read line word rest key file name onto work read in
     let file_is = file_read line word rest key file name onto work read in
     let name_is = name_read line word rest key file name onto work read in
     let onto_is = onto_read line word rest key file name onto work read in
     let same = same_task work work k (key_at work line) f (file_at work line) n (name_at work line) o (onto_at work line) refl
     (is_k ∙ key_is)
-    (is_f ∙ ap (λ x. if names_file work then x else []) file_is ∙ file_wanted work (words_at line))
-    (is_n ∙ ap (λ x. if has_name work then x else []) name_is ∙ name_wanted work (words_at line))
-    (is_o ∙ ap (λ x. if has_onto work then x else []) onto_is ∙ onto_wanted work (words_at line)) in
+    (as_file.text_is ∙ ap (λ x. if names_file work then x else []) file_is ∙ file_wanted work (words_at line))
+    (as_name.text_is ∙ ap (λ x. if has_name work then x else []) name_is ∙ name_wanted work (words_at line))
+    (as_onto.text_is ∙ ap (λ x. if has_onto work then x else []) onto_is ∙ onto_wanted work (words_at line)) in
     let right : IsRight work line = record {
       key_class = ap is_task_key (sym key_is) ∙ key_class;
-      file_class = ap (λ x. names_file work && not (is_file x)) (sym file_is) ∙ file_class;
-      name_class = ap (λ x. has_name work && not (is_name x)) (sym name_is) ∙ name_class;
-      onto_class = ap (λ x. has_onto work && not (is_name x)) (sym onto_is) ∙ onto_class;
+      file_class = ap (λ x. names_file work && not (is_file x)) (sym file_is) ∙ as_file.class;
+      name_class = ap (λ x. has_name work && not (is_name x)) (sym name_is) ∙ as_name.class;
+      onto_class = ap (λ x. has_onto work && not (is_name x)) (sym onto_is) ∙ as_onto.class;
     } in
     subst (λ (t : Task). SpellsTask t line) (sym same) (spells_parts line work (work_read line word rest key file name onto work read) right)
 
@@ -196,10 +205,7 @@ no_fault_in line work right =
     let class = and_parts _ _ right.key_class in
     let sent = and_parts _ _ class.1 in
     all_right _ _ _ _ _ (ap not class.0) (ap not sent.0) (not-true _ sent.1) right.file_class
-    (neither (has_name work && not (is_name (name_at work line))) _ right.name_class right.onto_class)
-  where
-    neither : (a b : Bool) → a ≡ false → b ≡ false → (a || b) ≡ false
-    neither a b p q = rw (p, q) refl
+    (or_from (has_name work && not (is_name (name_at work line))) _ right.name_class right.onto_class)
 
 pub no_fault : (line : List ℕ) (task : Task) → SpellsTask task line → fault_of line ≡ None
 no_fault line task spells =
@@ -224,10 +230,6 @@ cond_none : {A : Type 0} (b : Bool) (x : A) (o : Option A) → cond b (Some x) o
 cond_none true x o h = cc
 cond_none false x o h = (refl, h)
 
-neither_of : (a b : Bool) → (a || b) ≡ false → (a ≡ false) × (b ≡ false)
-neither_of true b h = absurd (false≢true (sym h))
-neither_of false b h = (refl, h)
-
 -- a line with no fault spells a task
 pub spelled : (line : List ℕ) → fault_of line ≡ None → (task : Task) × SpellsTask task line
 spelled line none = by (work_at line) refl none
@@ -240,7 +242,7 @@ spelled line none = by (work_at line) refl none
         let chunk = cond_none _ ChunkKey _ sent.1 in
         let file = cond_none _ File _ chunk.1 in
         let name = cond_none _ Name _ file.1 in
-        let names = neither_of (has_name work && not (is_name (name_at work line))) _ name.0 in (
+        let names = or_parts (has_name work && not (is_name (name_at work line))) _ name.0 in (
           _,
           spells_parts line work at (record {
             key_class = and_from _ _ (not-false _ key.0) (and_from _ _ (not-false _ sent.0) (ap not chunk.0));
