@@ -1,56 +1,15 @@
--- The first thing that is wrong with a line.
-use Rattle.std.proofs.Common.{◌≡◌, ℕ, ◌&&◌, ◌||◌, Bool, true, false, not, cond, List, Option, Some, None, Err, refl, sym, ap, ◌∙◌}
-use Rattle.std.proofs.lemmas.Bool.{and_parts, not-true}
-use Rattle.ann_key.specs.Keys.{is_key, is_sendable}
+-- Lines whose first fault is a name.
+use Rattle.std.proofs.Common.{◌≡◌, ℕ, ◌&&◌, ◌||◌, Bool, true, false, not, cond, List, Some, None, refl, sym, ap, ◌∙◌}
+use Rattle.std.proofs.lemmas.Bool.{and_parts, not-true, or_left, or_right}
 use Rattle.task_text.specs.Works.{names_file, has_name, has_onto}
-use Rattle.task_text.specs.TaskLines.{has_chunk, is_task_key, is_file, is_name, work_at, key_at, file_at, name_at, onto_at, fault_in, fault_of, IsKeyFault, IsReading}
+use Rattle.task_text.specs.TaskLines.{is_task_key, is_file, is_name, work_at, key_at, file_at, name_at, onto_at, fault_in, fault_of}
 use Rattle.task_text.specs.declared.task.Work.{Work}
-use Rattle.task_text.specs.declared.error.TaskError.{TaskError}
-use Rattle.task_text.specs.declared.error.TaskError.TheVariants.{Word, Key, Unsendable, ChunkKey, File, Name, NoMemory}
-
-at_key : (a b c d e : Bool) → a ≡ true
-    → cond a (Some Key) (cond b (Some Unsendable) (cond c (Some ChunkKey) (cond d (Some File) (cond e (Some Name) None)))) ≡ Some Key
-at_key a b c d e p = rw p refl
-
-at_unsendable : (a b c d e : Bool) → a ≡ false → b ≡ true
-    → cond a (Some Key) (cond b (Some Unsendable) (cond c (Some ChunkKey) (cond d (Some File) (cond e (Some Name) None)))) ≡ Some Unsendable
-at_unsendable a b c d e p q = rw (p, q) refl
-
-at_chunk : (a b c d e : Bool) → a ≡ false → b ≡ false → c ≡ true
-    → cond a (Some Key) (cond b (Some Unsendable) (cond c (Some ChunkKey) (cond d (Some File) (cond e (Some Name) None)))) ≡ Some ChunkKey
-at_chunk a b c d e p q r = rw (p, q, r) refl
-
-at_file : (a b c d e : Bool) → a ≡ false → b ≡ false → c ≡ false → d ≡ true
-    → cond a (Some Key) (cond b (Some Unsendable) (cond c (Some ChunkKey) (cond d (Some File) (cond e (Some Name) None)))) ≡ Some File
-at_file a b c d e p q r s = rw (p, q, r, s) refl
+use Rattle.task_text.specs.declared.error.TaskError.TheVariants.{Key, Unsendable, ChunkKey, File, Name}
+use Rattle.task_text.proofs.Spelled.{AreRead, IsText, work_read, key_read, file_read, name_read, onto_read}
 
 at_name : (a b c d e : Bool) → a ≡ false → b ≡ false → c ≡ false → d ≡ false → e ≡ true
     → cond a (Some Key) (cond b (Some Unsendable) (cond c (Some ChunkKey) (cond d (Some File) (cond e (Some Name) None)))) ≡ Some Name
 at_name a b c d e p q r s t = rw (p, q, r, s, t) refl
-
--- of a line of this work: its key is none that can be asked for
-pub key_fault : (line key : List ℕ) (work : Work) → work_at line ≡ Some work → key ≡ key_at work line
-    → (fault : TaskError) → IsKeyFault key fault → IsReading line (Err fault)
-key_fault line key work at is Key wrong = ap (λ w. fault_in w line) at ∙ at_key _ _ _ _ _ (ap not (ap is_key (sym is) ∙ wrong))
-key_fault line key work at is Unsendable wrong =
-    ap (λ w. fault_in w line) at
-    ∙ at_unsendable _ _ _ _ _ (ap not (ap is_key (sym is) ∙ wrong.0)) (ap not (ap is_sendable (sym is) ∙ wrong.1))
-key_fault line key work at is ChunkKey wrong =
-    ap (λ w. fault_in w line) at
-    ∙ at_chunk _ _ _ _ _ (ap not (ap is_key (sym is) ∙ wrong.0)) (ap not (ap is_sendable (sym is) ∙ wrong.1))
-        (ap has_chunk (sym is) ∙ wrong.2)
-key_fault line key work at is Word wrong = absurd wrong
-key_fault line key work at is File wrong = absurd wrong
-key_fault line key work at is Name wrong = absurd wrong
-key_fault line key work at is NoMemory wrong = absurd wrong
-
--- a file is wanted, and there is none
-pub file_fault : (line : List ℕ) (work : Work) → work_at line ≡ Some work → is_task_key (key_at work line) ≡ true
-    → (names_file work && not (is_file (file_at work line))) ≡ true → fault_of line ≡ Some File
-file_fault line work at key wrong =
-    let class = and_parts _ _ key in
-    let sent = and_parts _ _ class.1 in
-    ap (λ w. fault_in w line) at ∙ at_file _ _ _ _ _ (ap not class.0) (ap not sent.0) (not-true _ sent.1) wrong
 
 -- a name or a new name is wanted, and there is none
 pub name_fault : (line : List ℕ) (work : Work) → work_at line ≡ Some work → is_task_key (key_at work line) ≡ true
@@ -61,3 +20,26 @@ name_fault line work at key file wrong =
     let class = and_parts _ _ key in
     let sent = and_parts _ _ class.1 in
     ap (λ w. fault_in w line) at ∙ at_name _ _ _ _ _ (ap not class.0) (ap not sent.0) (not-true _ sent.1) file wrong
+
+-- the same of the parts that were read of a line
+pub name_missing : (line word rest key file name onto f : List ℕ) (work : Work) → AreRead line word rest key file name onto work
+    → is_task_key key ≡ true → IsText (names_file work) is_file file f → (wanted : Bool) → wanted ≡ has_name work
+    → (wanted && not (is_name name)) ≡ true → fault_of line ≡ Some Name
+name_missing line word rest key file name onto f work read key_class as_file wanted same lacking =
+    name_fault line work (work_read line word rest key file name onto work read)
+    (ap is_task_key (sym (key_read line word rest key file name onto work read)) ∙ key_class)
+    (ap (λ x. names_file work && not (is_file x)) (sym (file_read line word rest key file name onto work read)) ∙ as_file.class)
+    (or_left _ _
+    (ap (λ x. has_name work && not (is_name x)) (sym (name_read line word rest key file name onto work read))
+    ∙ ap (λ b. b && not (is_name name)) (sym same) ∙ lacking))
+
+pub onto_missing : (line word rest key file name onto f : List ℕ) (work : Work) → AreRead line word rest key file name onto work
+    → is_task_key key ≡ true → IsText (names_file work) is_file file f → (wanted : Bool) → wanted ≡ has_onto work
+    → (wanted && not (is_name onto)) ≡ true → fault_of line ≡ Some Name
+onto_missing line word rest key file name onto f work read key_class as_file wanted same lacking =
+    name_fault line work (work_read line word rest key file name onto work read)
+    (ap is_task_key (sym (key_read line word rest key file name onto work read)) ∙ key_class)
+    (ap (λ x. names_file work && not (is_file x)) (sym (file_read line word rest key file name onto work read)) ∙ as_file.class)
+    (or_right (has_name work && not (is_name (name_at work line))) _
+    (ap (λ x. has_onto work && not (is_name x)) (sym (onto_read line word rest key file name onto work read))
+    ∙ ap (λ b. b && not (is_name onto)) (sym same) ∙ lacking))

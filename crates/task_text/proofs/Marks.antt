@@ -1,7 +1,7 @@
 -- A list cut at its first space or byte 9: the first element that passes p, where p passes nothing but the mark m.
 use Rattle.std.proofs.Common.{◌≡◌, ℕ, suc, ◌+◌, ◌<◌, ◌||◌, Bool, true, false, not, cond, List, [], ◌∷◌, ◌++◌, length, take, drop, refl, sym, ap, ◌∙◌, arith, ⊎_elim}
 use Rattle.std.specs.List.{list_any, position_or_len, before_first, after_first}
-use Rattle.std.proofs.lemmas.Bool.{false≢true, cases_lt, eqb-true}
+use Rattle.std.proofs.lemmas.Bool.{false≢true, cases_lt, eqb-true, or_from}
 use Rattle.std.proofs.lemmas.List.{take_at, drop_all}
 use Rattle.std.proofs.Math.Seq.{drop-append-add}
 use Rattle.std.proofs.lemmas.List.Sums.{passes_at_first, split_at_first}
@@ -67,4 +67,4 @@ none_before p (x ∷ xs) = by (p x) refl (none_before p xs)
     by : (b : Bool) → p x ≡ b → list_any p (before_first p xs) ≡ false
         → list_any p (take (cond (not b) (1 + position_or_len p xs) 0) (x ∷ xs)) ≡ false
     by true is later = refl
-    by false is later = rw is later
+    by false is later = or_from (p x) _ is later

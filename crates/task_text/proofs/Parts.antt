@@ -165,12 +165,15 @@ file_apart _ words = refl
 
 -- a part that the work hasn't is empty
 pub file_wanted : (work : Work) (words : List ℕ) → (if names_file work then file_in work words else []) ≡ file_in work words
+file_wanted Store words = refl
 file_wanted _ words = refl
 
 pub name_wanted : (work : Work) (words : List ℕ) → (if has_name work then name_in work words else []) ≡ name_in work words
+name_wanted Store words = refl
 name_wanted _ words = refl
 
 pub onto_wanted : (work : Work) (words : List ℕ) → (if has_onto work then onto_in work words else []) ≡ onto_in work words
+onto_wanted Store words = refl
 onto_wanted _ words = refl
 
 -- what is right, or isn't wanted, isn't lacking
