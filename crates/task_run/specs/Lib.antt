@@ -10,6 +10,7 @@ pub mod Drops
 pub mod Stores
 pub mod Gets
 pub mod Runs
+pub mod Exports
 pub mod Rows
 pub mod TaskRuns
 pub mod Ran

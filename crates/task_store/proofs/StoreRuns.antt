@@ -40,7 +40,7 @@ store_calls : (setup : Setup) (t : ℕ) (file : List ℕ) (asked : List Asking) 
 store_calls setup t file asked r = record { names = rw (same_name file) refl; changes = refl; lengths = rw (same_name file) refl }
 
 abbrev store_task : List ℕ → List ℕ → Task
-store_task text file = record { work = W.Store; key = text; file = file }
+store_task text file = record { work = W.Store; key = text; file = file; name = []; onto = [] }
 
 store_refused : (setup : Setup) (t : ℕ) (key : Parts) (text file : List ℕ) (e : DeskError) → is_chunked setup key ≡ false → (e ≡ E.NoMemory → ⊥)
     → RunOf setup t (store_task text file) key [] [] (Size file (Err e) ∷ []) [] (answered (refusal e))

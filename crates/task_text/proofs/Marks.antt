@@ -59,6 +59,9 @@ pub split_at_tab : (bytes : List ℕ) → (after_first is_tab bytes ≡ [] → �
     → bytes ≡ before_first is_tab bytes ++ 9 ∷ after_first is_tab bytes
 split_at_tab = split_at_mark is_tab 9 (λ b is. eqb-true b 9 is)
 
+one_up : (n : ℕ) → 1 + n ≡ suc n
+one_up n = omega arith
+
 -- nothing that stands before the first passes
 pub none_before : (p : ℕ → Bool) (bytes : List ℕ) → list_any p (before_first p bytes) ≡ false
 none_before p [] = refl
@@ -67,4 +70,4 @@ none_before p (x ∷ xs) = by (p x) refl (none_before p xs)
     by : (b : Bool) → p x ≡ b → list_any p (before_first p xs) ≡ false
         → list_any p (take (cond (not b) (1 + position_or_len p xs) 0) (x ∷ xs)) ≡ false
     by true is later = refl
-    by false is later = or_from (p x) _ is later
+    by false is later = rw (one_up (position_or_len p xs)) (or_from (p x) _ is later)

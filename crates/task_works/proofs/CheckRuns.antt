@@ -287,7 +287,7 @@ stop_answers Unsent e = refl
 -- ---- runs
 
 abbrev check_task : List ℕ → List ℕ → Task
-check_task text file = record { work = W.Check; key = text; file = file }
+check_task text file = record { work = W.Check; key = text; file = file; name = []; onto = [] }
 
 module _ (setup : Setup) (t : ℕ) (key : Parts) (text file : List ℕ) (layouts : List (ℕ × ℕ)) where
   going : (asked : List Asking) (answer : Answer) → list_all goes_on asked ≡ true → RoundsAsk present_request 1 (layouts_tried key layouts) (rounds asked)

@@ -183,7 +183,7 @@ removed_all a b notes later key sizes i h m = let P : List ℕ → Type 0 = λ s
 -- ---- runs
 
 abbrev drop_task : List ℕ → List ℕ → Task
-drop_task text file = record { work = W.Drop; key = text; file = file }
+drop_task text file = record { work = W.Drop; key = text; file = file; name = []; onto = [] }
 
 module _ (setup : Setup) (t : ℕ) (key : Parts) (text file : List ℕ) (layouts : List (ℕ × ℕ)) where
   going : (asked : List Asking) (noted : List Noting) (answer : Answer) → list_all goes_on asked ≡ true → DropAsks key (sizes_tried key layouts) asked noted
