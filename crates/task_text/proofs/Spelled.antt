@@ -1,15 +1,14 @@
 -- Lines that spell tasks.
-use Rattle.std.proofs.Common.{◌≡◌, ℕ, ◌==◌, ◌&&◌, ◌||◌, Bool, true, false, not, cond, List, [], ◌∷◌, ◌++◌, length, Option, Some, None, Result, Ok, Err, refl, sym, ap, subst, ◌∙◌, arith, if◌then◌else◌}
+use Rattle.std.proofs.Common.{◌≡◌, ℕ, ◌==◌, ◌&&◌, Bool, true, false, not, cond, List, [], ◌∷◌, ◌++◌, length, Option, Some, None, Result, Ok, Err, refl, sym, ap, subst, ◌∙◌, arith, if◌then◌else◌}
 use Rattle.std.specs.Prelude.{find, nat_lt, MatchResult}
 use Rattle.std.specs.Str.{bytes_eq}
 use Rattle.std.specs.List.{list_any, before_first, after_first}
-use Rattle.std.proofs.lemmas.Bool.{false≢true, and_parts, not-true, not-false, and_from, or_from, or_parts, eqb-true}
+use Rattle.std.proofs.lemmas.Bool.{and_parts, not-true, not-false, and_from, or_from, or_parts, eqb-true}
 use borrow.Author.Tests.{ltb-true}
 use Rattle.std.proofs.lemmas.Slice.Eq.{bytes_eq-Decides}
-use Rattle.std.proofs.lemmas.List.{append-nil, nil_from_length}
-use Rattle.ann_key.specs.Keys.{is_key, is_sendable}
+use Rattle.ann_key.specs.Keys.{is_sendable}
 use Rattle.task_text.specs.Works.{word_of, work_of, names_file, has_name, has_onto}
-use Rattle.task_text.specs.TaskLines.{SpellsTask, is_task_key, is_file, is_name, is_space, is_tab, behind_key, work_at, key_in, file_in, name_in, onto_in, key_at, words_at, file_at, name_at, onto_at, fault_in, fault_of, IsReading}
+use Rattle.task_text.specs.TaskLines.{SpellsTask, is_task_key, is_file, is_name, is_space, behind_key, work_at, key_in, file_in, name_in, onto_in, key_at, words_at, file_at, name_at, onto_at, fault_in, fault_of, IsReading}
 use Rattle.task_text.specs.declared.task.Work.{Work}
 use Rattle.task_text.specs.declared.task.Work.TheVariants.{Store, Get, Check, Drop, XStore, XGet, XCheck, XDrop, XRename}
 use Rattle.task_text.specs.declared.task.Task.{Task}
@@ -85,8 +84,8 @@ parts_of_line task line spells =
       work_is = ap work_of front ∙ work_of-word_of work;
       parts =
           parts_of_rest work task.key task.file task.name task.onto (after_first is_space line)
-              (ap (after_first is_space) spells.whole ∙ after_space (word_of work) rest (spaceless_word work))
-              (spaceless_key task.key sendable) class.file_class class.name_class class.onto_class class.apart;
+          (ap (after_first is_space) spells.whole ∙ after_space (word_of work) rest (spaceless_word work))
+          (spaceless_key task.key sendable) class.file_class class.name_class class.onto_class class.apart;
     }
 
 same_task : (w w' : Work) (k k' f f' n n' o o' : List ℕ) → w ≡ w' → k ≡ k' → f ≡ f' → n ≡ n' → o ≡ o'

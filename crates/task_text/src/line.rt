@@ -35,7 +35,14 @@ fn read_parts(alloc: Global, line: &[u8]) -> Result<Task, TaskError>
     make_task(alloc, work, key, file, name, onto)
 }
 
-fn make_task(alloc: Global, work: Work, key: KeyRef<'_>, file: &str, name: &str, onto: &str) -> Result<Task, TaskError>
+fn make_task(
+    alloc: Global,
+    work: Work,
+    key: KeyRef<'_>,
+    file: &str,
+    name: &str,
+    onto: &str,
+) -> Result<Task, TaskError>
     ensures { MatchResult result (λ task. task ≡ record { work = work; key = text_of key.entry; file = file.now; name = name.now; onto = onto.now }) (λ fault. fault ≡ TaskError.NoMemory) }
 {
     let key = Key::copy(alloc, key)?;

@@ -1,8 +1,7 @@
-use Rattle.std.proofs.Common.{sym, ◌∙◌}
 use Rattle.std.proofs.lemmas.Result.{err_from_is_err_and}
 use Rattle.task_text.specs.Works.{names_file, has_name, has_onto}
 use Rattle.task_text.specs.TaskLines.{is_file, is_name}
-use Rattle.task_text.proofs.Spelled.{AreRead, reading_of, spells_read, text_read}
+use Rattle.task_text.proofs.Spelled.{reading_of, spells_read, text_read}
 use Rattle.task_text.proofs.Faults.{name_missing, onto_missing}
 use Rattle.task_text.proofs.line.read_parts.Goals as goal
 
