@@ -1,7 +1,7 @@
 -- What a task of an export asks, reads and fetches, and how it is answered. Nothing names these definitions yet.
-use Rattle.std.specs.Prelude.{ℕ, ◌≡◌, ◌&&◌, nat_le, nat_lt, Bool, true, false, if◌then◌else◌, List, [], ◌∷◌, length, map, Option, Some, None, is_some, count_by}
+use Rattle.std.specs.Prelude.{ℕ, ◌≡◌, ◌&&◌, nat_le, nat_lt, Bool, true, false, if◌then◌else◌, List, [], ◌∷◌, length, map, Option, Some, None, IfSome, is_some, count_by}
 use Rattle.std.specs.Bool.{MatchBool}
-use Rattle.ann_key.specs.Keys.{Parts}
+use Rattle.ann_key.specs.Keys.{Parts, key_reading}
 use Rattle.annex_model.specs.Messages.{HostMessage, Transferexport, Checkpresentexport, Removeexport, Renameexport}
 use Rattle.task_text.specs.declared.task.Work.{Work}
 use Rattle.task_text.specs.declared.task.Work.TheVariants.{XStore, XGet, XCheck, XDrop, XRename}
@@ -11,10 +11,10 @@ use Rattle.task_run.specs.Askers.{Asking, Noting}
 use Rattle.journal_model.specs.declared.answer.Answer.{Answer}
 use Rattle.journal_model.specs.declared.answer.Answer.TheVariants.{Dropped}
 use Rattle.task_run.specs.declared.setup.Setup.{Setup}
-use Rattle.task_run.specs.Stops.{is_done, last_failed}
-use Rattle.task_run.specs.Names.{fetch_file}
+use Rattle.task_run.specs.Stops.{asking_stop, call_stop, is_stop_last, stops_of, AnsweredBy, is_done, last_failed}
+use Rattle.task_run.specs.Names.{fetch_file, part_of}
 use Rattle.task_run.specs.Requests.{AskInOrder}
-use Rattle.task_run.specs.Discipline.{size_of_only}
+use Rattle.task_run.specs.Discipline.{size_of_only, are_found}
 use Rattle.task_run.specs.Reads.{lengths_found}
 use Rattle.task_run.specs.Checks.{CheckAnswers}
 use Rattle.task_run.specs.Stores.{begins_with_size, fits_length, PlainStoreAnswers}
@@ -88,3 +88,18 @@ ExportAnswers renamed setup t task key XCheck asked calls answer = CheckAnswers 
 ExportAnswers renamed setup t task key XDrop asked calls answer = DoneOrFailed Dropped asked answer
 ExportAnswers renamed setup t task key XRename asked calls answer = DoneOrFailed renamed asked answer
 ExportAnswers renamed setup t task key _ asked calls answer = ⊥
+
+-- ---- a run
+
+pub record ExportRunOf (renamed : Answer) (setup : Setup) (t : ℕ) (task : Task) (key : Parts) (asked : List Asking) (said : List (Option (List ℕ))) (calls : List Call) (noted : List Noting) (answer : Answer) : Type 0 where
+  -- as of any task: nothing is asked after a verdict that ends it, no call follows one that does, and each file that a call needs is there
+  pub asked_till_stop : is_stop_last (asking_stop task.work) asked ≡ true
+  pub calls_till_stop : is_stop_last (call_stop (part_of task.file)) calls ≡ true
+  pub found : are_found (part_of task.file) [] calls ≡ true
+  pub work : ExportAsks setup t task key task.work asked said calls noted
+  pub answered : AnsweredBy (stops_of task.work (part_of task.file) asked calls) answer (ExportAnswers renamed setup t task key task.work asked calls answer)
+
+-- The run of task number t of an export: its settled requests, what was said before each, its desk's calls, its notes, and its answer.
+abbrev pub ExportRun : Answer → Task → ℕ → Setup → List Asking → List (Option (List ℕ)) → List Call → List Noting → Answer → Type 0
+ExportRun renamed task t setup asked said calls noted answer =
+    IfSome (key_reading task.key) (λ key. ExportRunOf renamed setup t task key asked said calls noted answer)
