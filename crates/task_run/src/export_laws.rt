@@ -1,12 +1,12 @@
 // Laws over the runs of tasks of exports, each the contract of a function with nothing to do.
-ghost use Rattle.std.specs.Prelude.{[], ◌∷◌, ◌++◌, codes, Ok, Some, None, true};
+ghost use Rattle.std.specs.Prelude.{[], ◌∷◌, ◌++◌, codes, drop, Some, None, true, false};
 ghost use Rattle.annex_model.specs.Messages.{Transfer};
 ghost use Rattle.journal_model.specs.declared.verdict.Verdict.TheVariants.{Done, Failed, Absent, Unknown, Unsupported, Unsent};
-ghost use Rattle.journal_model.specs.declared.answer.Answer.TheVariants.{Stored, Present, Dropped, Memory, Absent as AbsentAnswer, Unknown as UnknownAnswer, Unsupported as UnsupportedAnswer, Unsent as UnsentAnswer, Failed as FailedAnswer, Size as SizeAnswer};
+ghost use Rattle.journal_model.specs.declared.answer.Answer.TheVariants.{Stored, Got, Present, Dropped, Memory, Absent as AbsentAnswer, Unknown as UnknownAnswer, Unsupported as UnsupportedAnswer, Unsent as UnsentAnswer, Failed as FailedAnswer, Size as SizeAnswer};
 ghost use Rattle.task_text.specs.declared.task.Work.TheVariants.{XCheck, XDrop};
 ghost use Rattle.task_run.specs.Exports.{ExportRun};
-ghost use Rattle.task_run.specs.Rows.{asks, setup_of, sized};
-ghost use Rattle.task_run.specs.ExportRows.{checks_docs, docs_said, docs_task, drops_docs, rename_docs, renames_docs, store_docs, stores_docs};
+ghost use Rattle.task_run.specs.Rows.{asks, fetched_1, got_abc, part_gone, renamed, setup_of, sized};
+ghost use Rattle.task_run.specs.ExportRows.{checks_docs, docs_said, docs_task, drops_docs, get_docs, gets_docs, rename_docs, renames_docs, store_docs, stores_docs};
 
 /// A file is stored once, behind its name, and where its length is the key's size. Without that name, behind another, or by a request that
 /// is of no export, it is no run.
@@ -39,4 +39,18 @@ pub fn export_name_runs()
     ensures other_request { ExportRun Stored (docs_task XDrop) 1 (setup_of 0) (checks_docs (Done 14)) docs_said [] [] Dropped → ⊥ }
     ensures other_onto { ExportRun Stored rename_docs 1 (setup_of 0) (renames_docs (codes "c") (Done 14)) docs_said [] [] Stored → ⊥ }
     ensures looked { ExportRun Stored (docs_task XDrop) 1 (setup_of 0) (drops_docs (Done 14)) docs_said (sized (codes "f") 2) [] Dropped → ⊥ }
+{}
+
+/// A get fetches into a file of the task's own, behind the name, moves that to part, and renames part where what was read fits the key.
+pub fn export_get_runs()
+    ensures wrong_length { ExportRun Stored get_docs 1 (setup_of 0) (gets_docs (Done 14)) docs_said (sized fetched_1 2 ++ part_gone) [] (SizeAnswer 2) }
+    ensures failed { ExportRun Stored get_docs 1 (setup_of 0) (gets_docs (Failed 14)) docs_said [] [] (FailedAnswer 14) }
+    ensures memory { ExportRun Stored get_docs 1 (setup_of 0) (gets_docs (Done 14)) docs_said (got_abc (codes "abc")) [] Memory }
+    ensures nameless { ExportRun Stored get_docs 1 (setup_of 0) (gets_docs (Done 14)) (None ∷ []) (sized fetched_1 2 ++ part_gone) [] (SizeAnswer 2) → ⊥ }
+    ensures plain { ExportRun Stored get_docs 1 (setup_of 0) (asks (Transfer false (codes "WORM-s3--a") fetched_1) (Done 14) ∷ []) docs_said (sized fetched_1 2 ++ part_gone) [] (SizeAnswer 2) → ⊥ }
+    ensures part_stays { ExportRun Stored get_docs 1 (setup_of 0) (gets_docs (Done 14)) docs_said (sized fetched_1 2) [] (SizeAnswer 2) → ⊥ }
+    ensures unasked { ExportRun Stored get_docs 1 (setup_of 0) [] [] (got_abc (codes "abc") ++ renamed) [] Got → ⊥ }
+    ensures never_sized { ExportRun Stored get_docs 1 (setup_of 0) (gets_docs (Done 14)) docs_said (drop 1 (got_abc (codes "abc")) ++ renamed) [] Got → ⊥ }
+    ensures never_renamed { ExportRun Stored get_docs 1 (setup_of 0) (gets_docs (Done 14)) docs_said (got_abc (codes "abc")) [] Got → ⊥ }
+    ensures other_size { ExportRun Stored get_docs 1 (setup_of 0) (gets_docs (Done 14)) docs_said (got_abc (codes "ab") ++ renamed) [] Got → ⊥ }
 {}
