@@ -1,6 +1,5 @@
 use Rattle.std.proofs.Common.{rules, refl}
 use Rattle.std.specs.Fmt.{digits}
-use Rattle.task_run.proofs.NamedRuns.{with_names}
 use Rattle.task_run.proofs.export_laws.export_get_runs.Goals as goal
 
 pub returns-clause-wrong_length : goal.returns-clause-wrong_length
