@@ -88,7 +88,9 @@ fn task_file(alloc: Global, work: Work, key: u32, task: u32) -> Result<Text, NoM
         Work::Get => target_of(alloc, task),
         Work::Check | Work::Drop => Text::copy(alloc, ""),
         // no rehearsal has tasks of exports
-        Work::XStore | Work::XGet | Work::XCheck | Work::XDrop | Work::XRename => Text::copy(alloc, ""),
+        Work::XStore | Work::XGet | Work::XCheck | Work::XDrop | Work::XRename => Text::copy(
+            alloc, "",
+        ),
     }
 }
 

@@ -1,6 +1,6 @@
 -- Runs of tasks of exports, as examples.
-use Rattle.std.specs.Prelude.{ℕ, true, false, List, [], ◌∷◌, ◌++◌, codes, Option, Some}
-use Rattle.annex_model.specs.Messages.{HostMessage, Transferexport, Checkpresentexport, Removeexport, Renameexport}
+use Rattle.std.specs.Prelude.{ℕ, true, false, List, [], ◌∷◌, codes, Option, Some}
+use Rattle.annex_model.specs.Messages.{Transferexport, Checkpresentexport, Removeexport, Renameexport}
 use Rattle.journal_model.specs.declared.verdict.Verdict.{Verdict}
 use Rattle.task_text.specs.declared.task.Work.{Work}
 use Rattle.task_text.specs.declared.task.Work.TheVariants.{XStore, XGet, XRename}
@@ -15,8 +15,8 @@ docs_name = codes "docs/a b.txt"
 abbrev pub docs_said : List (Option (List ℕ))
 docs_said = Some docs_name ∷ []
 
-abbrev pub store_docs : List ℕ → Task
-store_docs key = record { work = XStore; key = key; file = codes "f"; name = docs_name; onto = [] }
+abbrev pub store_docs : Task
+store_docs = record { work = XStore; key = codes "WORM-s2--a"; file = codes "f"; name = docs_name; onto = [] }
 
 abbrev pub stores_docs : Verdict → List Asking
 stores_docs v = asks (Transferexport true (codes "WORM-s2--a") (codes "f")) v ∷ []

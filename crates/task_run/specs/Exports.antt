@@ -1,5 +1,5 @@
 -- What a task of an export asks, reads and fetches, and how it is answered. Nothing names these definitions yet.
-use Rattle.std.specs.Prelude.{ℕ, ◌≡◌, ◌&&◌, nat_le, nat_lt, Bool, true, false, if◌then◌else◌, List, [], ◌∷◌, length, map, Option, Some, None, IfSome, is_some, count_by}
+use Rattle.std.specs.Prelude.{ℕ, ◌≡◌, ◌&&◌, nat_le, nat_lt, true, false, if◌then◌else◌, List, [], ◌∷◌, length, map, Option, Some, None, IfSome, is_some, count_by}
 use Rattle.std.specs.Bool.{MatchBool}
 use Rattle.ann_key.specs.Keys.{Parts, key_reading}
 use Rattle.annex_model.specs.Messages.{HostMessage, Transferexport, Checkpresentexport, Removeexport, Renameexport}
@@ -91,7 +91,8 @@ ExportAnswers renamed setup t task key _ asked calls answer = ⊥
 
 -- ---- a run
 
-pub record ExportRunOf (renamed : Answer) (setup : Setup) (t : ℕ) (task : Task) (key : Parts) (asked : List Asking) (said : List (Option (List ℕ))) (calls : List Call) (noted : List Noting) (answer : Answer) : Type 0 where
+pub record ExportRunOf (renamed : Answer) (setup : Setup) (t : ℕ) (task : Task) (key : Parts) (asked : List Asking)
+    (said : List (Option (List ℕ))) (calls : List Call) (noted : List Noting) (answer : Answer) : Type 0 where
   -- as of any task: nothing is asked after a verdict that ends it, no call follows one that does, and each file that a call needs is there
   pub asked_till_stop : is_stop_last (asking_stop task.work) asked ≡ true
   pub calls_till_stop : is_stop_last (call_stop (part_of task.file)) calls ≡ true

@@ -11,19 +11,19 @@ ghost use Rattle.task_run.specs.ExportRows.{checks_docs, docs_said, docs_task, d
 /// A file is stored once, behind its name, and where its length is the key's size. Without that name, behind another, or by a request that
 /// is of no export, it is no run.
 pub fn export_store_runs()
-    ensures stored { ExportRun Stored (store_docs (codes "WORM-s2--a")) 1 (setup_of 0) (stores_docs (Done 14)) docs_said (sized (codes "f") 2) [] Stored }
-    ensures failed { ExportRun Stored (store_docs (codes "WORM-s2--a")) 1 (setup_of 0) (stores_docs (Failed 14)) docs_said (sized (codes "f") 2) [] (FailedAnswer 14) }
-    ensures unknown { ExportRun Stored (store_docs (codes "WORM-s2--a")) 1 (setup_of 0) (stores_docs (Unsupported 14)) docs_said (sized (codes "f") 2) [] UnsupportedAnswer }
-    ensures size { ExportRun Stored (store_docs (codes "WORM-s2--a")) 1 (setup_of 0) [] [] (sized (codes "f") 3) [] (SizeAnswer 3) }
-    ensures memory { ExportRun Stored (store_docs (codes "WORM-s2--a")) 1 (setup_of 0) [] [] (sized (codes "f") 2) [] Memory }
-    ensures gone { ExportRun Stored (store_docs (codes "WORM-s2--a")) 1 (setup_of 0) (record { request = None; verdict = Unsent } ∷ []) (None ∷ []) (sized (codes "f") 2) [] UnsentAnswer }
-    ensures nameless { ExportRun Stored (store_docs (codes "WORM-s2--a")) 1 (setup_of 0) (stores_docs (Done 14)) (None ∷ []) (sized (codes "f") 2) [] Stored → ⊥ }
-    ensures other_name { ExportRun Stored (store_docs (codes "WORM-s2--a")) 1 (setup_of 0) (stores_docs (Done 14)) (Some (codes "docs/a") ∷ []) (sized (codes "f") 2) [] Stored → ⊥ }
-    ensures not_stored { ExportRun Stored (store_docs (codes "WORM-s2--a")) 1 (setup_of 0) (stores_docs (Failed 14)) docs_said (sized (codes "f") 2) [] Stored → ⊥ }
-    ensures plain { ExportRun Stored (store_docs (codes "WORM-s2--a")) 1 (setup_of 0) (asks (Transfer true (codes "WORM-s2--a") (codes "f")) (Done 14) ∷ []) docs_said (sized (codes "f") 2) [] Stored → ⊥ }
-    ensures twice { ExportRun Stored (store_docs (codes "WORM-s2--a")) 1 (setup_of 0) (stores_docs (Done 14) ++ stores_docs (Done 19)) (docs_said ++ docs_said) (sized (codes "f") 2) [] Stored → ⊥ }
-    ensures too_long { ExportRun Stored (store_docs (codes "WORM-s2--a")) 1 (setup_of 0) (stores_docs (Done 14)) docs_said (sized (codes "f") 3) [] Stored → ⊥ }
-    ensures unsized_file { ExportRun Stored (store_docs (codes "WORM-s2--a")) 1 (setup_of 0) (stores_docs (Done 14)) docs_said [] [] Stored → ⊥ }
+    ensures stored { ExportRun Stored store_docs 1 (setup_of 0) (stores_docs (Done 14)) docs_said (sized (codes "f") 2) [] Stored }
+    ensures failed { ExportRun Stored store_docs 1 (setup_of 0) (stores_docs (Failed 14)) docs_said (sized (codes "f") 2) [] (FailedAnswer 14) }
+    ensures unknown { ExportRun Stored store_docs 1 (setup_of 0) (stores_docs (Unsupported 14)) docs_said (sized (codes "f") 2) [] UnsupportedAnswer }
+    ensures size { ExportRun Stored store_docs 1 (setup_of 0) [] [] (sized (codes "f") 3) [] (SizeAnswer 3) }
+    ensures memory { ExportRun Stored store_docs 1 (setup_of 0) [] [] (sized (codes "f") 2) [] Memory }
+    ensures gone { ExportRun Stored store_docs 1 (setup_of 0) (record { request = None; verdict = Unsent } ∷ []) (None ∷ []) (sized (codes "f") 2) [] UnsentAnswer }
+    ensures nameless { ExportRun Stored store_docs 1 (setup_of 0) (stores_docs (Done 14)) (None ∷ []) (sized (codes "f") 2) [] Stored → ⊥ }
+    ensures other_name { ExportRun Stored store_docs 1 (setup_of 0) (stores_docs (Done 14)) (Some (codes "docs/a") ∷ []) (sized (codes "f") 2) [] Stored → ⊥ }
+    ensures not_stored { ExportRun Stored store_docs 1 (setup_of 0) (stores_docs (Failed 14)) docs_said (sized (codes "f") 2) [] Stored → ⊥ }
+    ensures plain { ExportRun Stored store_docs 1 (setup_of 0) (asks (Transfer true (codes "WORM-s2--a") (codes "f")) (Done 14) ∷ []) docs_said (sized (codes "f") 2) [] Stored → ⊥ }
+    ensures twice { ExportRun Stored store_docs 1 (setup_of 0) (stores_docs (Done 14) ++ stores_docs (Done 19)) (docs_said ++ docs_said) (sized (codes "f") 2) [] Stored → ⊥ }
+    ensures too_long { ExportRun Stored store_docs 1 (setup_of 0) (stores_docs (Done 14)) docs_said (sized (codes "f") 3) [] Stored → ⊥ }
+    ensures unsized_file { ExportRun Stored store_docs 1 (setup_of 0) (stores_docs (Done 14)) docs_said [] [] Stored → ⊥ }
 {}
 
 /// A check, a drop and a new name are one request each, and no call.
