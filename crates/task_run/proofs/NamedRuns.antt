@@ -1,5 +1,5 @@
 -- A run depends on the names of its task only where it is one of an export.
-use Rattle.std.proofs.Common.{◌≡◌, ℕ, List, [], refl}
+use Rattle.std.proofs.Common.{ℕ, List, []}
 use Rattle.std.specs.Prelude.{Option, Some, None, IfSome}
 use Rattle.ann_key.specs.Keys.{Parts, key_reading}
 use Rattle.task_text.specs.declared.task.Task.{Task}
